@@ -339,6 +339,11 @@ uint32_t nr_evict_id(nr_id_writer *writer, uint64_t id) {
   return writer ? proved_nr_evict_id(writer, id) : NR_CLOSED;
 }
 
+uint32_t proved_nr_invalidate_id(nr_id_writer *writer, uint64_t id);
+uint32_t nr_invalidate_id(nr_id_writer *writer, uint64_t id) {
+  return writer ? proved_nr_invalidate_id(writer, id) : NR_CLOSED;
+}
+
 uint32_t proved_nr_uses_id(nr_id_writer *writer, uint64_t id);
 uint32_t nr_uses_id(nr_id_writer *writer, uint64_t id) {
   return writer ? proved_nr_uses_id(writer, id) : NR_CLOSED;

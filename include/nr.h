@@ -210,7 +210,7 @@ typedef struct nr_poster {
 /* The sizes of a map over ids: 1 to 536,870,911 groups of eight ways, 1 to 4,194,303 slots and 1 to 65,534
    readers. An id may have `rows` rows, 1 to 254. `key` decides which group an id has: draw it at random where strangers
    choose ids. Ticket numbers begin at `first_number`: set it to 0. With 8 * groups + readers + 2 slots no fill or
-   replacement answers NR_NO_SLOT or NR_ALL_FILLED. A group takes 464 bytes, a slot 16 * rows + 50, and a
+   replacement answers NR_NO_SLOT or NR_ALL_FILLED. A group takes 528 bytes, a slot 16 * rows + 50, and a
    reader 10,640. */
 typedef struct nr_id_shape {
   uint32_t groups;
@@ -221,11 +221,13 @@ typedef struct nr_id_shape {
   uint64_t first_number;
 } nr_id_shape;
 
-/* An upquery that nr_admit opened, by its numbers: whose rows it asks for, and which answer fits. */
+/* An upquery that nr_admit opened, by its numbers: whose rows it asks for, and which answer fits. `count` says which of
+   the map's admissions opened it: 1 for the first, and it stays at 2^64 - 1. */
 typedef struct nr_upquery {
   uint64_t id;
   uint64_t number;
   uint32_t way;
+  uint64_t count;
 } nr_upquery;
 
 typedef struct nr_id_writer {
@@ -560,8 +562,8 @@ uint32_t nr_admit(nr_id_writer *writer, uint64_t id, nr_upquery *upquery);
 
 /* Fills an open upquery's id with n rows in ascending order, each `a` above 0. NR_TOO_MANY, NR_NOT_SORTED, NR_BAD_ROW,
    and NR_STALE if no upquery with these numbers is open, without a step; NR_DONE, NR_NO_SLOT or NR_ALL_FILLED after W
-   steps and those of nr_fill for n + 1 rows. After the last two the upquery stays open. Owed: use each answer to an
-   upquery once, as of nr_fill; embed/c/ids.c tells a second one by a count. */
+   steps and those of nr_fill for n + 1 rows. After the last two the upquery stays open. So an answer that comes a
+   second time is NR_STALE, also after an eviction and a new admission. */
 uint32_t nr_fill_id(nr_id_writer *writer, const nr_upquery *upquery, const nr_row *rows, size_t n);
 
 /* Takes an open upquery and its id's way back. NR_CANCELLED after W + 3 steps: wake those who wait for the id.
@@ -589,6 +591,10 @@ uint32_t nr_reap_id(nr_id_writer *writer, nr_rows *had);
 /* Takes an id's rows and its way: NR_EVICTED after W + 3 steps. NR_NOTHING after W or W + 1, if the id has no way or an
    open upquery. */
 uint32_t nr_evict_id(nr_id_writer *writer, uint64_t id);
+
+/* To be called after a write in the base. Withdraws the id's upquery if one is open, as nr_withdraw_id: NR_CANCELLED,
+   and its answer is stale, or NR_WORN. If none is it evicts the id, as nr_evict_id: NR_EVICTED or NR_NOTHING. */
+uint32_t nr_invalidate_id(nr_id_writer *writer, uint64_t id);
 
 /* Two hints for a choice of what to evict. Whether the id's rows were found since this was asked last, by anything but
    nr_again_id: NR_DONE after W + 2 steps, and NR_NOTHING after W + 1, or 8 if the id has no way. */

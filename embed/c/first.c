@@ -15,7 +15,7 @@ int main(void) {
     /* The thread that writes admits the id, queries the base, and fills. */
     if (nr_admit(&writer, user, &upquery) == NR_SEND && nr_fill_id(&writer, &upquery, answer, 2) != NR_DONE) return 1;
   if (nr_find_id(&reader, user, &rows) != NR_ROWS || rows.count != 2) return 1;
-  if (nr_evict_id(&writer, user) != NR_EVICTED) return 1; /* the base changed */
+  if (nr_invalidate_id(&writer, user) != NR_EVICTED) return 1; /* the base changed */
   nr_close_id_reader(&reader);
   nr_close_id_writer(&writer);
   puts("found");

@@ -30,7 +30,7 @@ static nr_upquery admitted(nr_id_writer *writer, nr_id_reader *reader, uint64_t 
 
 static void test_life(nr_id_writer *writer, nr_id_reader *reader) {
   const nr_delta batch[] = {{{1, 5}, false}, {{3, 7}, true}};
-  nr_upquery other = {USER, 0, 0}, upquery;
+  nr_upquery other = {.id = USER}, upquery;
   WANTS(NR_NOT_ASKED, nr_admit(writer, USER, &other));
   WANTS(NR_HOLE, nr_look_id(writer, USER, &rows));
   WANTS(NR_NOTHING, nr_evict_id(writer, USER));
@@ -60,38 +60,37 @@ static void test_life(nr_id_writer *writer, nr_id_reader *reader) {
   WANTS(NR_DONE, nr_fill_id(writer, &other, ORDERS, 2));
 }
 
-/* An eviction keeps the ticket number, so an answer that arrives twice would fill a later absence too. Where one may,
-   the thread that writes counts its queries, keeps the count that each way waits for, and takes no other's answer. */
-typedef struct {
-  nr_upquery upquery;
-  uint64_t count;
-} query;
-enum { GROUPS = 2 };
-static uint64_t queries, awaited[8 * GROUPS];
-
-static query begun(nr_id_writer *writer, nr_id_reader *reader, uint64_t id) {
-  query it = {admitted(writer, reader, id), ++queries};
-  awaited[it.upquery.way] = it.count;
-  return it;
-}
-
-static uint32_t answered(nr_id_writer *writer, const query *it, const nr_row *row, size_t n) {
-  if (awaited[it->upquery.way] != it->count) return NR_STALE;
-  uint32_t answer = nr_fill_id(writer, &it->upquery, row, n);
-  if (answer == NR_DONE) awaited[it->upquery.way] = 0;
-  return answer;
-}
-
+/* An eviction keeps the ticket number, and each admission has a count of its own: an answer that comes twice fills no
+   later absence. */
 static void test_twice(nr_id_writer *writer, nr_id_reader *reader) {
-  query first = begun(writer, reader, 5);
-  WANTS(NR_DONE, answered(writer, &first, ORDERS, 1));
+  nr_upquery first = admitted(writer, reader, 5), second;
+  WANTS(NR_DONE, nr_fill_id(writer, &first, ORDERS, 1));
   WANTS(NR_EVICTED, nr_evict_id(writer, 5));
-  WANTS(NR_STALE, answered(writer, &first, ORDERS, 1));
-  query second = begun(writer, reader, 5);
-  WANTS(NR_STALE, answered(writer, &first, ORDERS, 1));
+  WANTS(NR_STALE, nr_fill_id(writer, &first, ORDERS, 1));
+  second = admitted(writer, reader, 5);
+  if (second.way != first.way || second.number != first.number) WANTS(NR_SEND, NR_OTHER);
+  if (second.count != first.count + 1) WANTS(NR_SEND, NR_OTHER);
+  WANTS(NR_STALE, nr_fill_id(writer, &first, ORDERS, 1));
+  WANTS(NR_STALE, nr_withdraw_id(writer, &first));
   WANTS(NR_ASKED, nr_look_id(writer, 5, &rows));
-  WANTS(NR_DONE, answered(writer, &second, ORDERS, 2));
+  WANTS(NR_DONE, nr_fill_id(writer, &second, ORDERS, 2));
   WANTS(NR_EVICTED, nr_evict_id(writer, 5));
+}
+
+/* After a write in the base: neither the rows that are there nor those on their way outlive it. */
+static void test_invalidation(nr_id_writer *writer, nr_id_reader *reader) {
+  WANTS(NR_NOTHING, nr_invalidate_id(writer, 5));
+  nr_upquery first = admitted(writer, reader, 5), second;
+  WANTS(NR_NOTHING, nr_invalidate_id(writer, 6));
+  WANTS(NR_CANCELLED, nr_invalidate_id(writer, 5));
+  WANTS(NR_STALE, nr_fill_id(writer, &first, ORDERS, 1));
+  WANTS(NR_NOTHING, nr_invalidate_id(writer, 5));
+  second = admitted(writer, reader, 5);
+  WANTS(NR_STALE, nr_fill_id(writer, &first, ORDERS, 1));
+  WANTS(NR_DONE, nr_fill_id(writer, &second, ORDERS, 2));
+  WANTS(NR_EVICTED, nr_invalidate_id(writer, 5));
+  WANTS(NR_HOLE, nr_find_id(reader, 5, &rows));
+  WANTS(NR_NO_KEY, nr_invalidate_id(writer, 0));
 }
 
 static void test_refusals(nr_id_writer *writer, nr_id_reader *reader) {
@@ -317,6 +316,7 @@ static void test_closed(nr_id_writer *writer, nr_id_reader *reader) {
   WANTS(NR_CLOSED, nr_withdraw_id(writer, &upquery));
   WANTS(NR_CLOSED, nr_replace_id(writer, USER, ORDERS, 1));
   WANTS(NR_CLOSED, nr_evict_id(writer, USER));
+  WANTS(NR_CLOSED, nr_invalidate_id(writer, USER));
   WANTS(NR_CLOSED, nr_update_id_reclaiming(writer, USER, NULL, 0, &rows));
   WANTS(NR_CLOSED, nr_reap_id(writer, &rows));
   nr_close_id_reader(reader);
@@ -334,6 +334,7 @@ static void test_slots(void) {
   WANTS(NR_DONE, nr_fill_id(&writer, &one, ORDERS, 1));
   WANTS(NR_ALL_FILLED, nr_fill_id(&writer, &two, ORDERS, 1));
   WANTS(NR_WORN, nr_withdraw_id(&writer, &two));
+  WANTS(NR_WORN, nr_invalidate_id(&writer, 2));
   WANTS(NR_EVICTED, nr_evict_id(&writer, 1));
   WANTS(NR_DONE, nr_fill_id(&writer, &two, ORDERS, 1));
   nr_close_id_writer(&writer);
@@ -342,8 +343,7 @@ static void test_slots(void) {
 }
 
 int main(void) {
-  const nr_id_shape shape = {
-    .groups = GROUPS, .slots = GROUPS * 8 + 1 + 2, .readers = 1, .rows = 3, .key = 0x9e3779b97f4a7c15};
+  const nr_id_shape shape = {.groups = 2, .slots = 2 * 8 + 1 + 2, .readers = 1, .rows = 3, .key = 0x9e3779b97f4a7c15};
   const nr_id_shape none = {.groups = 0, .slots = 1, .readers = 1, .rows = 1};
   nr_id_writer writer = {0};
   nr_id_reader reader = {0}, second = {0};
@@ -357,6 +357,7 @@ int main(void) {
   WANTS(NR_NO_READER, nr_open_id_reader(&writer, &second));
   test_life(&writer, &reader);
   test_twice(&writer, &reader);
+  test_invalidation(&writer, &reader);
   test_refusals(&writer, &reader);
   test_full(&shape, &writer, &reader);
   nr_close_id_reader(&reader);

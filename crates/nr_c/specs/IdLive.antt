@@ -1,10 +1,11 @@
 -- What a call by id from C keeps of a handle, and what its token gains.
-use Rattle.std.specs.Prelude.{ℕ, ◌≡◌, ◌<◌, ◌⊎◌, List, [], ◌∷◌, Option}
+use Rattle.std.specs.Prelude.{ℕ, ◌≡◌, ◌<◌, ◌⊎◌, List, [], ◌∷◌}
 use Rattle.nr_idmap.specs.IdHands.{IdHanded, reader_of}
-use Rattle.nr_idmap.specs.Keepers.{IdCaller, Keeper, OwesSame, Sent}
+use Rattle.nr_idmap.specs.Keepers.{IdCaller, Keeper, OwesSame}
 use Rattle.nr_c.specs.declared.id_reader_side.IdReaderSide.{IdReaderSide}
 use Rattle.nr_c.specs.declared.id_writer_side.IdWriterSide.{IdWriterSide}
 use Rattle.nr_c.specs.Hands.{HoldsAnId, HoldsNoId}
+use Rattle.nr_c.specs.Ledgers.{Entries}
 use Rattle.nr_c.specs.Live.{IsLive, RefusesHand, WhenLive}
 use Rattle.nr_c.specs.Numbers.{answer_holding, answer_no_key, answer_not_holding}
 
@@ -47,7 +48,7 @@ IdReaderCalls became before after = IdHandTurns (StaysIdle became) before after
 
 -- the writer's tokens and the upqueries that are kept
 abbrev pub Turn : Type 1
-Turn = Keeper → List (Option Sent) → Keeper → List (Option Sent) → Type 0
+Turn = Keeper → Entries → Keeper → Entries → Type 0
 
 -- and the writer's, whose readers without a handle stay
 pub record IdWriterTurns (became : Turn) (before after : List IdWriterSide) : Type 0 where
@@ -60,7 +61,7 @@ pub record IdWriterTurns (became : Turn) (before after : List IdWriterSide) : Ty
   pub made : became old.writer old.ledger new.writer new.ledger
 
 -- no upquery is opened or closed, here or in the library
-pub record OwesAll (became : Keeper → Keeper → Type 0) (old : Keeper) (kept : List (Option Sent)) (new : Keeper) (kept' : List (Option Sent)) : Type 0 where
+pub record OwesAll (became : Keeper → Keeper → Type 0) (old : Keeper) (kept : Entries) (new : Keeper) (kept' : Entries) : Type 0 where
   pub became_so : became old new
   pub owes : OwesSame old new
   pub asker : new.asker ≡ old.asker

@@ -1,5 +1,5 @@
 -- What opens a map over ids and its handles.
-use Rattle.std.specs.Prelude.{ℕ, ◌≡◌, ◌↔◌, ◌⊎◌, List, [], ◌∷◌, ◌++◌, None, replicate}
+use Rattle.std.specs.Prelude.{ℕ, ◌≡◌, ◌↔◌, ◌⊎◌, List, [], ◌∷◌, ◌++◌}
 use Rattle.nr_idmap.specs.declared.id_map.IdShape.{IdShape}
 use Rattle.nr_idmap.specs.IdHands.{idle_by_id}
 use Rattle.nr_idmap.specs.IdOpenings.{IsBadIdShape, OpensIds}
@@ -7,6 +7,7 @@ use Rattle.nr_idmap.specs.Keepers.{IdCaller}
 use Rattle.nr_c.specs.declared.id_reader_side.IdReaderSide.{IdReaderSide}
 use Rattle.nr_c.specs.declared.id_shape.NrIdShape.{NrIdShape}
 use Rattle.nr_c.specs.declared.id_writer_side.IdWriterSide.{IdWriterSide}
+use Rattle.nr_c.specs.Ledgers.{no_entries}
 use Rattle.nr_c.specs.Numbers.{answer_bad_size, answer_done, answer_no_memory, answer_no_reader}
 
 abbrev pub id_shape_of : NrIdShape → IdShape
@@ -15,7 +16,7 @@ id_shape_of shape = record { groups = shape.groups; key = shape.key; slots = sha
 -- the writer's side of a new map over ids: its writer, its readers, none of which has a handle, and no upquery
 pub record IsNewIdWriter (shape : IdShape) (side : IdWriterSide) : Type 0 where
   pub opens : OpensIds shape side.map.value side.writer side.spare.items
-  pub none_kept : side.ledger ≡ replicate side.map.value.map.shape.keys None
+  pub none_kept : side.ledger ≡ no_entries side.map.value.map.shape.keys
 
 -- the handle leads to the side of a new map, or nowhere
 abbrev pub LeadsToIds : IdShape → ℕ → List IdWriterSide → Type 0

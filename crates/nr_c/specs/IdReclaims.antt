@@ -1,5 +1,5 @@
 -- What the calls by id say that also give sets out, by their codes.
-use Rattle.std.specs.Prelude.{ℕ, ◌≡◌, ◌⊎◌, List, ◌∷◌, Option, Some, Result, Ok, Err, set}
+use Rattle.std.specs.Prelude.{ℕ, ◌≡◌, ◌⊎◌, List, ◌∷◌, Result, Ok, Err}
 use Rattle.nr_model.specs.declared.batches.Delta.{Delta}
 use Rattle.nr_model.specs.declared.rows.Row.{Row}
 use Rattle.nr_model.specs.Batches.{IsBatch}
@@ -22,7 +22,7 @@ use Rattle.nr_c.specs.Codes.{no_slot_code, reaped_code, reclaimed_code, replace_
 use Rattle.nr_c.specs.IdLive.{OwesAll}
 use Rattle.nr_c.specs.IdRows.{AreIdDeltasRefused, AreIdRowsRefused}
 use Rattle.nr_c.specs.IdUpqueries.{IsStale, RefusesIdRows}
-use Rattle.nr_c.specs.Ledgers.{GivesUp}
+use Rattle.nr_c.specs.Ledgers.{Entries, GivesUp, keeps}
 use Rattle.nr_c.specs.Numbers.{answer_nothing, answer_stale}
 use Rattle.nr_c.specs.RowCells.{ShowsSet}
 
@@ -41,23 +41,23 @@ id_replace_reclaiming_code (Ok given) = reclaimed_code given
 id_replace_reclaiming_code (Err fault.Absent) = answer_nothing
 id_replace_reclaiming_code (Err (fault.Refused why)) = replace_code (Err why)
 
--- one that comes back is kept again
-abbrev pub kept_unfilled_reclaiming : Result Reclaimed Unfilled → List (Option Sent) → List (Option Sent)
-kept_unfilled_reclaiming (Ok given) kept = kept
-kept_unfilled_reclaiming (Err unfilled.Closed) kept = kept
-kept_unfilled_reclaiming (Err (unfilled.NoSlot upquery counts)) kept = set kept upquery.owed.way (Some upquery)
+-- one that comes back is kept again, under its count
+abbrev pub kept_unfilled_reclaiming : ℕ → Result Reclaimed Unfilled → Entries → Entries
+kept_unfilled_reclaiming count (Ok given) kept = kept
+kept_unfilled_reclaiming count (Err unfilled.Closed) kept = kept
+kept_unfilled_reclaiming count (Err (unfilled.NoSlot upquery counts)) kept = keeps count upquery kept
 
 -- the one that was kept is the map's fill, which shows what it gives out
-pub record FillsKeptReclaiming (wanted : NrUpquery) (rows : List Row) (before after : NrRows) (code : ℕ) (old : Keeper) (kept : List (Option Sent)) (new : Keeper) (kept' : List (Option Sent)) : Type 0 where
+pub record FillsKeptReclaiming (wanted : NrUpquery) (rows : List Row) (before after : NrRows) (code : ℕ) (old : Keeper) (kept : Entries) (new : Keeper) (kept' : Entries) : Type 0 where
   pub upquery : Sent
-  pub rest : List (Option Sent)
+  pub rest : Entries
   pub gives_up : GivesUp wanted upquery kept rest
   pub answer : Result Reclaimed Unfilled
   pub code_is : code ≡ filled_reclaiming_code answer
   pub fills : FillsIdReclaiming ShowsSet upquery.owed rows old before new after answer
-  pub keeps : kept' ≡ kept_unfilled_reclaiming answer rest
+  pub keeps : kept' ≡ kept_unfilled_reclaiming wanted.count answer rest
 
-abbrev pub FillsIdReclaimingByCode : NrUpquery → List Row → NrRows → NrRows → ℕ → Keeper → List (Option Sent) → Keeper → List (Option Sent) → Type 0
+abbrev pub FillsIdReclaimingByCode : NrUpquery → List Row → NrRows → NrRows → ℕ → Keeper → Entries → Keeper → Entries → Type 0
 FillsIdReclaimingByCode wanted rows before after code old kept new kept' =
     (RefusesIdRows rows code old kept new kept' × (after ≡ before))
     ⊎ (IsIdSet (id_rows old.table) rows × ((IsStale wanted code old kept new kept' × (after ≡ before)) ⊎ FillsKeptReclaiming wanted rows before after code old kept new kept'))
@@ -70,7 +70,7 @@ UpdatesWayReclaiming id deltas before after code old new =
     × CallsWay (λ way o n r. UpdatesReclaiming ShowsSet old.table.map.shape.rows way deltas o before n after r) id old new answer
     × (answer ≡ Err fault.Absent → after ≡ before)
 
-abbrev pub UpdatesIdReclaimingByCode : ℕ → List Delta → NrRows → NrRows → ℕ → Keeper → List (Option Sent) → Keeper → List (Option Sent) → Type 0
+abbrev pub UpdatesIdReclaimingByCode : ℕ → List Delta → NrRows → NrRows → ℕ → Keeper → Entries → Keeper → Entries → Type 0
 UpdatesIdReclaimingByCode id deltas before after code =
     OwesAll (λ old new. (AreIdDeltasRefused deltas code × (new ≡ old) × (after ≡ before)) ⊎ ((IsBatch deltas × AreIdDeltas deltas) × UpdatesWayReclaiming id deltas before after code old new))
 
@@ -81,11 +81,11 @@ ReplacesWayReclaiming id rows before after code old new =
     × CallsWay (λ way o n r. ReplacesReclaiming ShowsSet way (tag_of id ∷ rows) o before n after r) id old new answer
     × (answer ≡ Err fault.Absent → after ≡ before)
 
-abbrev pub ReplacesIdReclaimingByCode : ℕ → List Row → NrRows → NrRows → ℕ → Keeper → List (Option Sent) → Keeper → List (Option Sent) → Type 0
+abbrev pub ReplacesIdReclaimingByCode : ℕ → List Row → NrRows → NrRows → ℕ → Keeper → Entries → Keeper → Entries → Type 0
 ReplacesIdReclaimingByCode id rows before after code =
     OwesAll (λ old new. (AreIdRowsRefused (id_rows old.table) rows code × (new ≡ old) × (after ≡ before)) ⊎ (IsIdSet (id_rows old.table) rows × ReplacesWayReclaiming id rows before after code old new))
 
 -- a set that no find reads comes out, as the map's reap, and the directory isn't asked
-abbrev pub ReapsIdByCode : NrRows → NrRows → ℕ → Keeper → List (Option Sent) → Keeper → List (Option Sent) → Type 0
+abbrev pub ReapsIdByCode : NrRows → NrRows → ℕ → Keeper → Entries → Keeper → Entries → Type 0
 ReapsIdByCode before after code =
     OwesAll (λ old new. (answer : Reaped) × (code ≡ reaped_code answer) × ReapsIn ShowsSet old.writer before new.writer after answer × (new.clerk ≡ old.clerk))

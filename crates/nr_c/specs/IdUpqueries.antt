@@ -1,5 +1,5 @@
 -- What the calls of the writer by id say that open and close upqueries, by their codes.
-use Rattle.std.specs.Prelude.{ℕ, ◌≡◌, ◌⊎◌, List, Option, Some, Result, Ok, Err, set}
+use Rattle.std.specs.Prelude.{ℕ, ◌≡◌, ◌⊎◌, List, Result, Ok, Err}
 use Rattle.nr_model.specs.declared.rows.Row.{Row}
 use Rattle.nr_ids.specs.declared.admissions.Refused.{Refused}
 use Rattle.nr_idmap.specs.declared.upqueries.Unfilled.{Unfilled}
@@ -12,74 +12,75 @@ use Rattle.nr_idmap.specs.Tags.{IsIdSet}
 use Rattle.nr_c.specs.declared.kept_upquery.NrUpquery.{NrUpquery}
 use Rattle.nr_c.specs.IdCodes.{filled_code, refused_code, withdrawn_code}
 use Rattle.nr_c.specs.IdRows.{AreIdRowsRefused}
-use Rattle.nr_c.specs.Ledgers.{GivesUp, KeepsNone, owed_of}
+use Rattle.nr_c.specs.Ledgers.{Entries, GivesUp, KeepsNone, keeps, keeps_new, next_count, owed_of}
 use Rattle.nr_c.specs.Numbers.{answer_send, answer_stale}
 
--- the upquery that the map opened is kept, and its numbers are told
-pub record AdmitsAndKeeps (id : ℕ) (told : NrUpquery) (code : ℕ) (old : Keeper) (kept : List (Option Sent)) (new : Keeper) (kept' : List (Option Sent)) : Type 0 where
+-- the upquery that the map opened is kept under a count of its own, and its numbers are told
+pub record AdmitsAndKeeps (id : ℕ) (told : NrUpquery) (code : ℕ) (old : Keeper) (kept : Entries) (new : Keeper) (kept' : Entries) : Type 0 where
   pub code_is : code ≡ answer_send
   pub upquery : Sent
   pub admits : AdmitsId id old upquery.owed new
   pub numbers : owed_of told ≡ upquery.owed
-  pub keeps : kept' ≡ set kept upquery.owed.way (Some upquery)
+  pub count : told.count ≡ next_count kept
+  pub keeps : kept' ≡ keeps_new upquery kept
 
 -- the directory refuses, and nothing else happened
-pub record AdmitsNot (id : ℕ) (before after : NrUpquery) (code : ℕ) (old : Keeper) (kept : List (Option Sent)) (new : Keeper) (kept' : List (Option Sent)) : Type 0 where
+pub record AdmitsNot (id : ℕ) (before after : NrUpquery) (code : ℕ) (old : Keeper) (kept : Entries) (new : Keeper) (kept' : Entries) : Type 0 where
   pub why : Refused
   pub code_is : code ≡ refused_code why
   pub refuses : RefusesId id old why new
   pub stays : after ≡ before
   pub keeps : kept' ≡ kept
 
-abbrev pub AdmitsByCode : ℕ → NrUpquery → NrUpquery → ℕ → Keeper → List (Option Sent) → Keeper → List (Option Sent) → Type 0
+abbrev pub AdmitsByCode : ℕ → NrUpquery → NrUpquery → ℕ → Keeper → Entries → Keeper → Entries → Type 0
 AdmitsByCode id before after code old kept new kept' = AdmitsAndKeeps id after code old kept new kept' ⊎ AdmitsNot id before after code old kept new kept'
 
 -- no upquery with these numbers is open
-pub record IsStale (wanted : NrUpquery) (code : ℕ) (old : Keeper) (kept : List (Option Sent)) (new : Keeper) (kept' : List (Option Sent)) : Type 0 where
+pub record IsStale (wanted : NrUpquery) (code : ℕ) (old : Keeper) (kept : Entries) (new : Keeper) (kept' : Entries) : Type 0 where
   pub code_is : code ≡ answer_stale
   pub stays : new ≡ old
   pub none : KeepsNone wanted kept kept'
 
--- one that comes back is kept again
-abbrev pub kept_unfilled : Result (Unit {0}) Unfilled → List (Option Sent) → List (Option Sent)
-kept_unfilled (Ok done) kept = kept
-kept_unfilled (Err unfilled.Closed) kept = kept
-kept_unfilled (Err (unfilled.NoSlot upquery counts)) kept = set kept upquery.owed.way (Some upquery)
+-- one that comes back is kept again, under its count
+abbrev pub kept_unfilled : ℕ → Result (Unit {0}) Unfilled → Entries → Entries
+kept_unfilled count (Ok done) kept = kept
+kept_unfilled count (Err unfilled.Closed) kept = kept
+kept_unfilled count (Err (unfilled.NoSlot upquery counts)) kept = keeps count upquery kept
 
-abbrev pub kept_worn : Withdrawn → List (Option Sent) → List (Option Sent)
-kept_worn withdrawn.Done kept = kept
-kept_worn withdrawn.Closed kept = kept
-kept_worn (withdrawn.Worn upquery) kept = set kept upquery.owed.way (Some upquery)
+abbrev pub kept_worn : ℕ → Withdrawn → Entries → Entries
+kept_worn count withdrawn.Done kept = kept
+kept_worn count withdrawn.Closed kept = kept
+kept_worn count (withdrawn.Worn upquery) kept = keeps count upquery kept
 
 -- the one that was kept is the map's fill
-pub record FillsKept (wanted : NrUpquery) (rows : List Row) (code : ℕ) (old : Keeper) (kept : List (Option Sent)) (new : Keeper) (kept' : List (Option Sent)) : Type 0 where
+pub record FillsKept (wanted : NrUpquery) (rows : List Row) (code : ℕ) (old : Keeper) (kept : Entries) (new : Keeper) (kept' : Entries) : Type 0 where
   pub upquery : Sent
-  pub rest : List (Option Sent)
+  pub rest : Entries
   pub gives_up : GivesUp wanted upquery kept rest
   pub answer : Result (Unit {0}) Unfilled
   pub code_is : code ≡ filled_code answer
   pub fills : FillsId upquery.owed rows old new answer
-  pub keeps : kept' ≡ kept_unfilled answer rest
+  pub keeps : kept' ≡ kept_unfilled wanted.count answer rest
 
 -- rows that are no id's change nothing
-pub record RefusesIdRows (rows : List Row) (code : ℕ) (old : Keeper) (kept : List (Option Sent)) (new : Keeper) (kept' : List (Option Sent)) : Type 0 where
+pub record RefusesIdRows (rows : List Row) (code : ℕ) (old : Keeper) (kept : Entries) (new : Keeper) (kept' : Entries) : Type 0 where
   pub refused : AreIdRowsRefused (id_rows old.table) rows code
   pub stays : new ≡ old
   pub keeps : kept' ≡ kept
 
-abbrev pub FillsIdByCode : NrUpquery → List Row → ℕ → Keeper → List (Option Sent) → Keeper → List (Option Sent) → Type 0
+abbrev pub FillsIdByCode : NrUpquery → List Row → ℕ → Keeper → Entries → Keeper → Entries → Type 0
 FillsIdByCode wanted rows code old kept new kept' =
     RefusesIdRows rows code old kept new kept'
     ⊎ (IsIdSet (id_rows old.table) rows × (IsStale wanted code old kept new kept' ⊎ FillsKept wanted rows code old kept new kept'))
 
-pub record WithdrawsKept (wanted : NrUpquery) (code : ℕ) (old : Keeper) (kept : List (Option Sent)) (new : Keeper) (kept' : List (Option Sent)) : Type 0 where
+pub record WithdrawsKept (wanted : NrUpquery) (code : ℕ) (old : Keeper) (kept : Entries) (new : Keeper) (kept' : Entries) : Type 0 where
   pub upquery : Sent
-  pub rest : List (Option Sent)
+  pub rest : Entries
   pub gives_up : GivesUp wanted upquery kept rest
   pub answer : Withdrawn
   pub code_is : code ≡ withdrawn_code answer
   pub withdraws : WithdrawsId upquery.owed old new answer
-  pub keeps : kept' ≡ kept_worn answer rest
+  pub keeps : kept' ≡ kept_worn wanted.count answer rest
 
-abbrev pub WithdrawsByCode : NrUpquery → ℕ → Keeper → List (Option Sent) → Keeper → List (Option Sent) → Type 0
+abbrev pub WithdrawsByCode : NrUpquery → ℕ → Keeper → Entries → Keeper → Entries → Type 0
 WithdrawsByCode wanted code old kept new kept' = IsStale wanted code old kept new kept' ⊎ WithdrawsKept wanted code old kept new kept'

@@ -42,4 +42,5 @@ pub mod IdMany
 pub mod IdChoices
 pub mod IdWrites
 pub mod IdUpqueries
+pub mod IdInvalidations
 pub mod IdReclaims

@@ -43,7 +43,7 @@ pub extern "C" fn nr_fill_id_reclaiming(
         Ok(given) => of_reclaimed(given),
         Err(Unfilled::Closed) => NR_STALE,
         Err(Unfilled::NoSlot(opened, counts)) => {
-            side.ledger.keep(opened);
+            side.ledger.keep(upquery.count, opened);
             of_no_slot(counts)
         }
     }

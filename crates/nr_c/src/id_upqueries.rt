@@ -10,6 +10,7 @@ use crate::codes::{
 use crate::id_codes::of_refused;
 use crate::id_rows::id_refusal;
 use crate::id_writer_handle::NrIdWriter;
+use crate::id_writer_side::IdWriterSide;
 use crate::kept_upquery::NrUpquery;
 use nr_idmap::{Unfilled, Withdrawn};
 use nr_model::Row;
@@ -32,8 +33,7 @@ pub extern "C" fn nr_admit(writer: &mut NrIdWriter, id: u64, upquery: &mut NrUpq
     let side = writer.side();
     match side.map.admit(&mut side.writer, id) {
         Ok(opened) => {
-            *upquery = NrUpquery::of(&opened);
-            side.ledger.keep(opened);
+            *upquery = side.ledger.keep_new(opened);
             NR_SEND
         }
         Err(why) => of_refused(why),
@@ -62,7 +62,7 @@ pub extern "C" fn nr_fill_id(writer: &mut NrIdWriter, upquery: &NrUpquery, rows:
         Ok(()) => NR_DONE,
         Err(Unfilled::Closed) => NR_STALE,
         Err(Unfilled::NoSlot(opened, counts)) => {
-            side.ledger.keep(opened);
+            side.ledger.keep(upquery.count, opened);
             of_no_slot(counts)
         }
     }
@@ -79,15 +79,23 @@ pub extern "C" fn nr_withdraw_id(writer: &mut NrIdWriter, upquery: &NrUpquery) -
     if !writer.is_live() {
         return NR_CLOSED;
     }
-    let side = writer.side();
-    let Some(opened) = side.ledger.give_up(*upquery) else {
+    take_back(writer.side(), *upquery)
+}
+
+/// Takes an upquery back that a writer opened, where these are its numbers.
+pub fn take_back(side: &mut IdWriterSide, upquery: NrUpquery) -> u32
+    ensures withdraws { WithdrawsByCode upquery result side.old.writer side.old.ledger side.new.writer side.new.ledger }
+    ensures map { side.new.map ≡ side.old.map }
+    ensures spare { side.new.spare ≡ side.old.spare }
+{
+    let Some(opened) = side.ledger.give_up(upquery) else {
         return NR_STALE;
     };
     match side.map.withdraw(&mut side.writer, opened) {
         Withdrawn::Done => NR_CANCELLED,
         Withdrawn::Closed => NR_STALE,
         Withdrawn::Worn(opened) => {
-            side.ledger.keep(opened);
+            side.ledger.keep(upquery.count, opened);
             NR_WORN
         }
     }

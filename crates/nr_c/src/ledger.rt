@@ -1,48 +1,64 @@
 //! The open upqueries of a map over ids, of which C has the numbers.
-ghost use Rattle.std.specs.Prelude.{◌≡◌, ◌↔◌, IfOk, IsTrue, MatchOption, None, Some, replicate, set};
-ghost use Rattle.nr_c.specs.Ledgers.{GivesUp, IsKept, KeepsNone};
+ghost use Rattle.std.specs.Prelude.{◌≡◌, ◌↔◌, IfOk, IsTrue, MatchOption, None, replicate};
+ghost use Rattle.nr_c.specs.Ledgers.{GivesUp, IsAt, IsIn, IsKept, KeepsNone, Tells, keeps, keeps_new, next_count, no_entries, owed_of};
 
 use crate::kept_upquery::{KeptUpquery, NrUpquery};
 use nr_idmap::Upquery;
 use std::alloc::{AllocError, Global};
 use std::marker::Model;
 
-/// Each open upquery at its way's place.
+// How many ways a group has.
+const WAYS: usize = 8;
+
+/// Each open upquery at its way's place, and how many admissions have opened one.
 #[derive(Drop)]
 pub struct Ledger {
+    count: u64,
     places: Vec<Option<KeptUpquery>, Global>,
 }
 
 impl Model for Ledger {
-    ghost use Rattle.std.specs.Prelude.{List, Option};
-    ghost use Rattle.nr_idmap.specs.Keepers.{Sent};
+    ghost use Rattle.nr_c.specs.Ledgers.{Entries};
 
-    ghost Value = { List (Option Sent) };
+    ghost Value = { Entries };
 
-    ghost view = { λ ledger. ledger.places.items };
+    ghost view = { λ ledger. record { count = ledger.count; places = ledger.places.items } };
 }
 
 impl Ledger {
     /// A place for each way, and no upquery.
     pub fn empty(alloc: Global, ways: u32) -> Result<Ledger, AllocError>
-        ensures { IfOk result (λ ledger. ledger ≡ replicate ways None) }
+        ensures { IfOk result (λ ledger. ledger ≡ no_entries ways) }
     {
         let mut places = Vec::with_capacity(alloc, ways as usize)?;
         for _way in 0..ways {
             places.push_reserved(None);
         }
-        Ok(Ledger { places })
+        Ok(Ledger { count: 0, places })
     }
 
-    /// Keeps an upquery at its way's place, where there is one.
-    pub fn keep(&mut self, upquery: Upquery)
-        ensures { self.new ≡ set self.old upquery.owed.way (Some upquery) }
+    /// Counts an admission, keeps the upquery that it opened, and tells its numbers.
+    pub fn keep_new(&mut self, upquery: Upquery) -> NrUpquery
+        ensures numbers { owed_of result ≡ upquery.owed }
+        ensures count { result.count ≡ next_count self.old }
+        ensures keeps { self.new ≡ keeps_new upquery self.old }
+    {
+        let count = self.count.saturating_add(1);
+        self.count = count;
+        let told = NrUpquery::of(count, &upquery);
+        self.keep(count, upquery);
+        told
+    }
+
+    /// Keeps an upquery, which that admission opened, at its way's place, where there is one.
+    pub fn keep(&mut self, count: u64, upquery: Upquery)
+        ensures { self.new ≡ keeps count upquery self.old }
     {
         let way = upquery.way() as usize;
         if way < self.places.len() {
-            self.places[way] = Some(KeptUpquery::of(upquery));
+            self.places[way] = Some(KeptUpquery::of(count, upquery));
         } else {
-            drop(KeptUpquery::of(upquery));
+            drop(KeptUpquery::of(count, upquery));
         }
     }
 
@@ -57,6 +73,34 @@ impl Ledger {
         match self.places[way].take() {
             Some(kept) => Some(kept.into_upquery()),
             None => unreachable!(),
+        }
+    }
+
+    /// The numbers of an id's open upquery, if it is kept at a way of this group.
+    pub fn find(&self, group: u32, id: u64) -> Option<NrUpquery>
+        ensures { Tells (IsIn group id) self.now result }
+    {
+        let first = WAYS * group as usize;
+        for way in first..first + WAYS {
+            if let Some(upquery) = self.find_at(way, id) {
+                return Some(upquery);
+            }
+        }
+        None
+    }
+
+    // The numbers of the id's upquery, if it is kept at this way.
+    fn find_at(&self, way: usize, id: u64) -> Option<NrUpquery>
+        ensures { Tells (IsAt way id) self.now result }
+    {
+        let upquery = match self.places.get(way) {
+            Some(Some(kept)) => kept.numbers(),
+            Some(None) | None => return None,
+        };
+        if upquery.way as usize == way && upquery.id == id {
+            Some(upquery)
+        } else {
+            None
         }
     }
 

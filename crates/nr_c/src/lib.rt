@@ -14,6 +14,7 @@
 mod codes;
 mod id_choices;
 mod id_codes;
+mod id_invalidations;
 mod id_many;
 mod id_open;
 mod id_pins;

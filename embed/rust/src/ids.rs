@@ -30,6 +30,7 @@ pub struct Upquery {
     id: u64,
     number: u64,
     way: u32,
+    count: u64,
 }
 
 impl Upquery {

@@ -1,12 +1,12 @@
-use Rattle.std.proofs.Common.{rules, ◌≡◌, ◌∙◌, List, Option, subst, sym}
+use Rattle.std.proofs.Common.{rules, ◌≡◌, ◌∙◌, subst, sym}
 use Rattle.std.specs.Prelude.{All}
-use Rattle.nr_idmap.specs.Keepers.{IdTable, Sent, id_table_of}
-use Rattle.nr_c.specs.Ledgers.{AreOf}
+use Rattle.nr_idmap.specs.Keepers.{IdTable, id_table_of}
+use Rattle.nr_c.specs.Ledgers.{AreOf, Entries}
 use Rattle.nr_c.proofs.LedgerLemmas.{none_is_of_any}
 use Rattle.nr_c.proofs.id_open.opened_ids.Goals as goal
 
 pub invariant_of-side-clause-owed : goal.invariant_of-side-clause-owed
-invariant_of-side-clause-owed c = let table = c.in_ok-map-2.map.value in subst (λ (kept : List (Option Sent)). AreOf table kept) (sym c.in-Ok.ensures) (none_is_of_any table c.ways.result)
+invariant_of-side-clause-owed c = let table = c.in_ok-map-2.map.value in subst (λ (kept : Entries). AreOf table kept) (sym c.in-Ok.ensures) (none_is_of_any table c.ways.result)
 
 pub invariant_of-side-clause-spares : goal.invariant_of-side-clause-spares
 invariant_of-side-clause-spares c =

@@ -20,7 +20,7 @@ returns-in-Ok c = inr (inr (
     is = refl;
     map = refl;
     spare = refl;
-    made = inl (record { code_is = refl; upquery = c.in-Ok.opened; admits = c.in-Ok.ensures.admits.1; numbers = c.of.ensures; keeps = c.keep.ensures });
+    made = inl (record { code_is = refl; upquery = c.in-Ok.opened; admits = c.in-Ok.ensures.admits.1; numbers = c.keep_new.ensures.numbers; count = c.keep_new.ensures.count; keeps = c.keep_new.ensures.keeps });
   },
 ))
 

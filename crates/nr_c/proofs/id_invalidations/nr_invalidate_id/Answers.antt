@@ -1,0 +1,43 @@
+use Rattle.std.proofs.Common.{ap, arith, inl, inr, refl, subst, sym, ◌∙◌}
+use Rattle.std.specs.Prelude.{ℕ, None, Some}
+use Rattle.nr_ids.specs.Groups.{group_of}
+use Rattle.nr_idmap.specs.Keepers.{IdTable}
+use Rattle.nr_c.specs.Ledgers.{IsIn, Tells}
+use Rattle.nr_c.proofs.id_invalidations.nr_invalidate_id.Goals as goal
+
+pub returns-then-id-eq0 : goal.returns-then-id-eq0
+returns-then-id-eq0 c = let (side, is) = c.if-not-is_live.ensures.live in inr (inl (
+  refl,
+  c.if-id-eq0.true,
+  tt,
+  (side, ap (λ handle. handle.live) (sym c.is_live.ensures.same) ∙ is),
+  ap (λ handle. handle.live) c.is_live.ensures.same,
+))
+
+pub returns-in-Some : goal.returns-in-Some
+returns-in-Some c = let side = c.side-side.result.now in let group = c.group_of-group.ensures ∙ ap (λ (table : IdTable). group_of table.directory.plan c.args.id) (c.deref.ensures ∙ sym side.own) in inr (inr (
+  omega (arith, c.if-id-eq0.false),
+  record {
+    old = side;
+    new = _;
+    was = ap (λ handle. handle.live) (sym c.is_live.ensures.same) ∙ c.side-side.ensures.value;
+    is = refl;
+    map = c.take_back.ensures.map;
+    spare = c.take_back.ensures.spare;
+    made = inl (c.in-Some.upquery, subst (λ (g : ℕ). Tells (IsIn g c.args.id) side.ledger (Some c.in-Some.upquery)) group c.in-Some.ensures, c.take_back.ensures.withdraws);
+  },
+))
+
+pub returns-in-None : goal.returns-in-None
+returns-in-None c = let side = c.side-side.result.now in let group = c.group_of-group.ensures ∙ ap (λ (table : IdTable). group_of table.directory.plan c.args.id) (c.deref.ensures ∙ sym side.own) in inr (inr (
+  omega (arith, c.if-id-eq0.false),
+  record {
+    old = side;
+    new = _;
+    was = ap (λ handle. handle.live) (sym c.is_live.ensures.same) ∙ c.side-side.ensures.value;
+    is = refl;
+    map = refl;
+    spare = refl;
+    made = inr (subst (λ (g : ℕ). Tells (IsIn g c.args.id) side.ledger None) group c.in-None.ensures, record { became_so = (c.evict.result, c.of_evict.ensures, c.evict.ensures.evicts); owes = c.evict.ensures.owes; asker = c.evict.ensures.asker; keeps = refl });
+  },
+))
