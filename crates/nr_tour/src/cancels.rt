@@ -1,9 +1,11 @@
 //! A request is taken back.
 ghost use Rattle.std.specs.Prelude.{◌≡◌, ◌<◌};
 
+use crate::calls::{ROWS, ask, set_of};
+use crate::opening::opened;
+use crate::page::Page;
 use nr_map::{Reader, ReaderMap, Writer};
 use nr_model::OpenFault;
-use nr_tour_parts::{Page, ROWS, ask, opened, set_of};
 use std::alloc::Global;
 
 // An upquery was lost on its way, or so the dataflow thinks: it takes the request back, and the next

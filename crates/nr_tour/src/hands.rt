@@ -1,10 +1,46 @@
 //! A reader that keeps the set that it found, from one find to the next.
 ghost use Rattle.std.specs.Prelude.{◌≡◌, ◌<◌, None};
 
+use crate::opening::opened_filled;
+use crate::page::Page;
 use nr_map::{Asked, Hand, Reader, ReaderMap, Writer};
 use nr_model::{Batch, OpenFault, RowSet};
-use nr_tour_parts::{Page, opened_filled};
 use std::alloc::Global;
+
+// The second find is one load and writes nothing, since the key has the set that the hand holds.
+fn find_twice(map: &ReaderMap, hand: &mut Hand, page: &mut Page)
+    requires own { hand.old.reader.table ≡ map.now }
+    requires key { 0 < map.now.shape.keys }
+    ensures own { hand.new.reader.table ≡ map.now }
+{
+    let mut rows = RowSet::new();
+    let first = hand.find_kept(map, 0, &mut rows);
+    let second = hand.find_kept(map, 0, &mut rows);
+    page.line("it finds ", &[first, second]);
+    page.more(": ", &rows.as_slice());
+}
+
+// A hand hears notes and makes them too, whether it holds a set or not.
+fn hear_and_tell(map: &ReaderMap, writer: &mut Writer, hand: &mut Hand)
+    requires own { (hand.old.reader.table ≡ map.now) × (writer.old.table ≡ map.now) }
+    ensures own { hand.new.reader.table ≡ map.now }
+{
+    hand.hear(map, map.note_writer(writer));
+    map.hear_writer(writer, hand.note(map));
+}
+
+// Now the key has another set: the hand lets the old one go, and holds the new one.
+fn find_new(map: &ReaderMap, hand: &mut Hand, page: &mut Page)
+    requires own { hand.old.reader.table ≡ map.now }
+    requires key { 0 < map.now.shape.keys }
+    ensures own { hand.new.reader.table ≡ map.now }
+{
+    let mut rows = RowSet::new();
+    let third = hand.find_kept(map, 0, &mut rows);
+    page.line("after an update ", &third);
+    page.more(": ", &rows.as_slice());
+    page.line("it holds the set of ", &hand.key());
+}
 
 fn keep_over_update(
     map: &ReaderMap,
@@ -13,27 +49,14 @@ fn keep_over_update(
     change: &Batch,
     page: &mut Page,
 )
-    requires hand { hand.old.reader.table ≡ map.now }
-    requires writer { writer.old.table ≡ map.now }
+    requires own { (hand.old.reader.table ≡ map.now) × (writer.old.table ≡ map.now) }
     requires key { 0 < map.now.shape.keys }
     ensures own { hand.new.reader.table ≡ map.now }
 {
-    let mut before = RowSet::new();
-    let mut after = RowSet::new();
-    let first = hand.find_kept(map, 0, &mut before);
-    // The key has the set that the hand holds: one load finds it, and nothing is written.
-    let second = hand.find_kept(map, 0, &mut before);
+    find_twice(map, hand, page);
     map.update(writer, 0, change).ok();
-    // A hand hears notes and makes them too, whether it holds a set or not.
-    hand.hear(map, map.note_writer(writer));
-    map.hear_writer(writer, hand.note(map));
-    // Now it has another: the hand lets the old one go, and holds the new one.
-    let third = hand.find_kept(map, 0, &mut after);
-    let held = hand.key();
-    page.line("it finds ", &[first, second, third]);
-    page.more(": ", &before.as_slice());
-    page.line("and after an update ", &after.as_slice());
-    page.line("it holds the set of ", &held);
+    hear_and_tell(map, writer, hand);
+    find_new(map, hand, page);
 }
 
 // What a hand holds can be kept as a pin for a while, and be given back to a hand.
@@ -77,26 +100,41 @@ fn is_filled(map: &ReaderMap, hand: &mut Hand) -> bool
     }
 }
 
-fn pin_anew(map: &ReaderMap, mut hand: Hand, page: &mut Page)
-    requires own { hand.reader.table ≡ map.now }
+// A hand that is to hold nothing for a while is released, so that no slot waits for it.
+fn pin_anew(map: &ReaderMap, hand: &mut Hand, page: &mut Page)
+    requires own { hand.old.reader.table ≡ map.now }
     requires key { 0 < map.now.shape.keys }
+    ensures own { hand.new.reader.table ≡ map.now }
 {
-    let mut after = RowSet::new();
-    // A hand that is to hold nothing for a while is released, so that no slot waits for it.
     hand.release(map);
     let pinned = hand.pin(map, 0);
-    let again = copy_again(map, &mut hand, &mut after);
     page.line(
         "it pins the key anew, and its rows: ",
         &(pinned, hand.len()),
     );
-    page.line("the key has this set still: ", &again);
-    // Whichever key it is taken for, the set stays as it is.
+    let mut rows = RowSet::new();
+    page.line(
+        "the key has this set still: ",
+        &copy_again(map, hand, &mut rows),
+    );
+}
+
+// Whichever key it is taken for, the set stays as it is.
+fn show_first(map: &ReaderMap, hand: &mut Hand, page: &mut Page)
+    requires own { hand.old.reader.table ≡ map.now }
+    ensures own { hand.new.reader.table ≡ map.now }
+{
     hand.hold_for(1);
     if hand.key().is_some() && 0 < hand.len() {
         page.line("its first row: ", &hand.row(map, 0));
     }
-    let once = hand.find(map, 0, &mut after);
+}
+
+fn find_and_ask(map: &ReaderMap, mut hand: Hand, page: &mut Page)
+    requires own { hand.reader.table ≡ map.now }
+    requires key { 0 < map.now.shape.keys }
+{
+    let once = hand.find(map, 0, &mut RowSet::new());
     page.line("a find that keeps nothing: ", &once);
     page.more(", ", &hand.key());
     page.line(
@@ -119,7 +157,10 @@ fn keep_and_pin(
 {
     let mut hand = Hand::of(reader);
     keep_over_update(map, writer, &mut hand, change, page);
-    pin_anew(map, through_pin(map, hand), page);
+    let mut hand = through_pin(map, hand);
+    pin_anew(map, &mut hand, page);
+    show_first(map, &mut hand, page);
+    find_and_ask(map, hand, page);
 }
 
 /// One reader finds key 0 three times, with an update before the last.

@@ -1,9 +1,11 @@
 //! A key is missing, is asked for once, and is found once it is filled.
 ghost use Rattle.std.specs.Prelude.{◌≡◌, ◌<◌};
 
+use crate::calls::{ask, fill};
+use crate::opening::opened;
+use crate::page::Page;
 use nr_map::{Reader, ReaderMap, Writer};
 use nr_model::{OpenFault, RowSet};
-use nr_tour_parts::{Page, ask, fill, opened};
 use std::alloc::Global;
 
 // Two readers want key 0.

@@ -1,10 +1,16 @@
 //! Several keys that are looked up by one call.
 ghost use Rattle.std.specs.Prelude.{◌≡◌, ◌<◌};
 
+use crate::calls::{ask, fill};
+use crate::opening::opened_filled;
+use crate::page::Page;
 use nr_map::{Reader, ReaderMap, Wanted, Writer};
 use nr_model::{OpenFault, RowSet};
-use nr_tour_parts::{Page, ask, fill, opened_filled};
 use std::alloc::Global;
+
+fn show_found(wanted: &[Wanted<RowSet>; 3], page: &mut Page) {
+    page.more(": ", &[wanted[0].found, wanted[1].found, wanted[2].found]);
+}
 
 // Each key has a room of its own, and a key that stands twice is found twice.
 fn find_together(map: &ReaderMap, writer: &mut Writer, reader: &mut Reader, page: &mut Page)
@@ -17,14 +23,13 @@ fn find_together(map: &ReaderMap, writer: &mut Writer, reader: &mut Reader, page
         Wanted::of(1, RowSet::new()),
     ];
     map.find_each(reader, &mut wanted);
-    let before = [wanted[0].found, wanted[1].found, wanted[2].found];
     page.line("keys ", &[wanted[0].key, wanted[1].key, wanted[2].key]);
-    page.more(": ", &before);
+    show_found(&wanted, page);
     page.line("the rows of key 0: ", &wanted[1].rows.as_slice());
-    let _filled = fill(map, writer, 1);
+    let filled = fill(map, writer, 1);
     map.find_each(reader, &mut wanted);
-    let after = [wanted[0].found, wanted[1].found, wanted[2].found];
-    page.line("once key 1 is filled: ", &after);
+    page.line("once key 1 is filled, ", &filled);
+    show_found(&wanted, page);
 }
 
 // What finds of both keys will need is loaded while there is something else to do.

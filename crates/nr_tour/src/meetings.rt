@@ -4,9 +4,11 @@ ghost use Rattle.nr_model.specs.Histories.{entries_of};
 ghost use Rattle.nr_board.specs.Meetings.{with_step};
 ghost use Rattle.nr_board.specs.Rule.{StartsWith};
 
+use crate::calls::{ask, fill};
+use crate::opening::opened;
+use crate::page::Page;
 use nr_map::{Pin, Reader, ReaderMap, Writer};
 use nr_model::{OpenFault, RowSet};
-use nr_tour_parts::{Page, ask, fill, opened};
 use std::alloc::Global;
 
 // The writer learns what a reader did: its history then has exactly the reader's calls, and the

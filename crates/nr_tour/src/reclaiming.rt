@@ -1,10 +1,11 @@
 //! Rows that refer to texts, which are freed when nobody can see their set any more.
 ghost use Rattle.std.specs.Prelude.{◌≡◌, ◌<◌};
 
+use crate::calls::ask;
+use crate::page::Page;
 use crate::texts::Texts;
 use nr_map::{FillFault, Pin, Reader, ReaderMap, Reaped, Reclaimed, Remains, Writer};
 use nr_model::{Delta, OpenFault, Pile, Row};
-use nr_tour_parts::{Page, ask};
 use std::alloc::Global;
 
 const FIRST: [Row; 1] = [Row { a: 1, b: 0 }];

@@ -2,10 +2,12 @@
 ghost use Rattle.std.specs.Prelude.{◌≡◌, ◌<◌, IsTrue};
 ghost use Rattle.nr_model.specs.Rows.{is_ascending};
 
+use crate::calls::ask;
+use crate::opening::opened_filled;
+use crate::page::Page;
 use crate::upkeep::CHANGE;
 use nr_map::{FillFault, Reader, ReaderMap, ReplaceFault, Writer};
 use nr_model::{OpenFault, Pile, Row};
-use nr_tour_parts::{Page, ask, opened_filled};
 use std::alloc::Global;
 
 // A fill from a slice whose rows are in order. None where they are more than a key may have.

@@ -7,9 +7,10 @@ ghost use Rattle.nr_model.specs.Rows.{IsRowSet};
 ghost use Rattle.nr_board.specs.Callers.{map_seen};
 ghost use Rattle.nr_map.specs.SlotBounds.{HasRoomForAll};
 
+use crate::calls::{ask, fill};
+use crate::page::Page;
 use nr_map::{KeyKind, NoSlot, Reader, ReaderMap, Shape, UpdateFault, Writer, laws};
 use nr_model::{Batch, Delta, OpenFault, Row};
-use nr_tour_parts::{Page, ask, fill};
 use std::alloc::Global;
 
 /// A change that only brings a row.

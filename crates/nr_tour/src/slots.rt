@@ -1,9 +1,11 @@
 //! What to do where there is no slot.
 ghost use Rattle.std.specs.Prelude.{◌≡◌, ◌<◌};
 
+use crate::calls::{ask, fill};
+use crate::opening::opened_filled;
+use crate::page::Page;
 use nr_map::{Reader, ReaderMap, Writer};
 use nr_model::{Batch, OpenFault};
-use nr_tour_parts::{Page, ask, fill, opened_filled};
 use std::alloc::Global;
 
 // Of two slots key 0 has one, and a pin holds its old set in the other: there is none for key 1 until

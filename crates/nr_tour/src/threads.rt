@@ -1,9 +1,11 @@
 //! A token for each thread: the map is shared, and a token moves to the thread that calls with it.
 ghost use Rattle.std.specs.Prelude.{◌≡◌, ◌<◌};
 
+use crate::calls::{Told, ask, fill};
+use crate::opening::opened;
+use crate::page::Page;
 use nr_map::{Found, Reader, ReaderMap, Writer};
 use nr_model::{OpenFault, RowSet};
-use nr_tour_parts::{Page, Told, ask, fill, opened};
 use std::alloc::Global;
 use std::thread::{Threads, join};
 

@@ -1,9 +1,11 @@
 //! What the dataflow does to a filled key.
 ghost use Rattle.std.specs.Prelude.{◌≡◌, ◌<◌};
 
+use crate::calls::set_of;
+use crate::opening::opened_filled;
+use crate::page::Page;
 use nr_map::{ReaderMap, Writer};
 use nr_model::{Batch, Delta, OpenFault, Row, RowSet};
-use nr_tour_parts::{Page, opened_filled, set_of};
 use std::alloc::Global;
 
 /// A change of the rows that a fill brings: one goes and another comes.

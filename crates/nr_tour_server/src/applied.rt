@@ -8,7 +8,7 @@ use crate::queue::{Server, opened_server};
 use crate::source::Shelf;
 use nr_model::{OpenFault, Row, RowSet};
 use nr_serve::{Applied, Client, Dataflow, Lobby, Measure, OpenGate, Service};
-use nr_tour_parts::{Page, ask_and_fill, set_of};
+use nr_tour::{Page, ask_and_fill, set_of};
 use std::alloc::Global;
 use std::marker::Brand;
 use std::sync::Wait;
@@ -39,6 +39,23 @@ fn apply_and_tell<M: Measure, R: Wait>(
     }
 }
 
+fn wait_and_get<M: Measure, R: Wait>(
+    rt: &R,
+    client: &mut Client<'_, OpenGate>,
+    applied: &Applied<'_, M>,
+    page: &mut Page,
+)
+    requires key { 0 < client.old.map.shape.keys }
+    requires lobby { applied.now ≡ client.old.guest.lobby }
+    requires notes { (amount : _) (note : _) → M.reached amount note → note.table ≡ client.old.map }
+{
+    let told = client.wait_applied(rt, applied, 1);
+    page.line("a client that waits for 1 hears of ", &told);
+    let mut rows = RowSet::new();
+    client.get(rt, 0, 1, &mut rows);
+    page.line("it finds ", &rows.as_slice());
+}
+
 fn tell_and_wait<M: Measure, R: Wait>(rt: &R, server: Server, lobby: Lobby, page: &mut Page)
     requires map { (server.writer.table ≡ server.map) × (server.reader.table ≡ server.map) × (server.map.shape.keys ≡ 2) }
     requires poster { (server.poster.queue ≡ server.triggers.id) × (server.poster.keys ≡ 2) }
@@ -61,12 +78,8 @@ fn tell_and_wait<M: Measure, R: Wait>(rt: &R, server: Server, lobby: Lobby, page
     let mut flow = Dataflow::open(&service, writer, taker, Shelf { b: 100 });
     let after = set_of(service.map(), &AFTER);
     if apply_and_tell(rt, &mut flow, &applied, &after) {
-        let told = client.wait_applied(rt, &applied, 1);
-        page.line("a client that waits for 1 hears of ", &told);
+        wait_and_get(rt, &mut client, &applied, page);
     }
-    let mut rows = RowSet::new();
-    client.get(rt, 0, 1, &mut rows);
-    page.line("it finds ", &rows.as_slice());
     end(client, flow);
 }
 

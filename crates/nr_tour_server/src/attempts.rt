@@ -4,7 +4,7 @@ ghost use Rattle.std.specs.Prelude.{◌≡◌, ◌<◌, ◌≤◌, MatchOption};
 use crate::queue::{Server, opened_server};
 use nr_map::{Asked, FillFault, Reader, ReaderMap, Writer};
 use nr_model::OpenFault;
-use nr_tour_parts::{Page, ROWS, set_of};
+use nr_tour::{Page, ROWS, set_of};
 use nr_trigger::{PostFault, Poster, Taker, Triggers, Upquery};
 use std::alloc::Global;
 
@@ -61,31 +61,49 @@ fn try_answer(
     Some((trigger.into_key(), filled))
 }
 
-// Two requests and room for one, as in the chapter before.
+// The dataflow's part: a request that is left is posted once the first was taken.
+fn answer_in_turn(
+    map: &ReaderMap,
+    triggers: &Triggers,
+    poster: &mut Poster,
+    left: Option<Upquery>,
+    writer: &mut Writer,
+    taker: &mut Taker,
+    page: &mut Page,
+)
+    requires own { writer.old.table ≡ map.now }
+    requires poster { poster.old.queue ≡ triggers.now.id }
+    requires key { MatchOption left (Unit {0}) (λ upquery. upquery.key < poster.old.keys) }
+    requires taker { (taker.old.queue ≡ triggers.now.id) × (taker.old.keys ≤ map.now.shape.keys) }
+{
+    page.line("an answer: ", &try_answer(map, triggers, writer, taker));
+    page.line("it is left: ", &try_post(triggers, poster, left));
+    page.line("another: ", &try_answer(map, triggers, writer, taker));
+    page.line("a third: ", &try_answer(map, triggers, writer, taker));
+}
+
+// Two requests and room for one, as in the chapter before. The second is left.
 fn post_in_turn(
     map: &ReaderMap,
     triggers: &Triggers,
     reader: &mut Reader,
     poster: &mut Poster,
-    writer: &mut Writer,
-    taker: &mut Taker,
     page: &mut Page,
-)
-    requires map { (reader.old.table ≡ map.now) × (writer.old.table ≡ map.now) × (map.now.shape.keys ≡ 2) }
-    requires poster { (poster.old.queue ≡ triggers.now.id) × (poster.old.keys ≡ 2) }
-    requires taker { (taker.old.queue ≡ triggers.now.id) × (taker.old.keys ≡ 2) }
+) -> Option<Upquery>
+    requires own { (reader.old.table ≡ map.now) × (map.now.shape.keys ≡ 2) }
+    requires queue { (poster.old.queue ≡ triggers.now.id) × (poster.old.keys ≡ 2) }
+    ensures queue { poster.new.queue ≡ triggers.now.id }
+    ensures key { MatchOption result (Unit {0}) (λ upquery. upquery.key < poster.new.keys) }
 {
     let first = request(map, reader, 0);
+    page.line(
+        "of the first request is left: ",
+        &try_post(triggers, poster, first),
+    );
     let second = request(map, reader, 1);
-    let first = try_post(triggers, poster, first);
-    let back = try_post(triggers, poster, second);
-    page.line("the second request: ", &back);
-    let one = try_answer(map, triggers, writer, taker);
-    let second = try_post(triggers, poster, back);
-    let two = try_answer(map, triggers, writer, taker);
-    let none = try_answer(map, triggers, writer, taker);
-    page.line("answers: ", &[one, two, none]);
-    page.line("requests left: ", &[first, second]);
+    let left = try_post(triggers, poster, second);
+    page.line("of the second: ", &left);
+    left
 }
 
 /// Nobody else calls here, so no attempt fails for a thread that is in the way.
@@ -99,11 +117,12 @@ pub fn passed_on(alloc: Global) -> Result<Page, OpenFault> {
         mut taker,
     } = opened_server(alloc, 1)?;
     let mut page = Page::titled(alloc, "One attempt");
-    post_in_turn(
+    let left = post_in_turn(&map, &triggers, &mut reader, &mut poster, &mut page);
+    answer_in_turn(
         &map,
         &triggers,
-        &mut reader,
         &mut poster,
+        left,
         &mut writer,
         &mut taker,
         &mut page,

@@ -6,7 +6,7 @@ use crate::source::Shelf;
 use nr_map::{Reader, Writer};
 use nr_model::{OpenFault, RowSet};
 use nr_serve::{Client, Dataflow, Got, Lobby, OpenGate, Service, Turn};
-use nr_tour_parts::Page;
+use nr_tour::Page;
 use nr_trigger::{Poster, Taker};
 use std::alloc::Global;
 use std::sync::Wait;

@@ -1,12 +1,12 @@
 //! A get with a limit of time.
 ghost use Rattle.std.specs.Prelude.{◌≡◌};
 
-use crate::flow::end;
+use crate::flow::{end, take_turn};
 use crate::queue::{Server, opened_server};
 use crate::source::Shelf;
 use nr_model::{OpenFault, RowSet};
 use nr_serve::{Client, Dataflow, Got, Lobby, OpenGate, Service};
-use nr_tour_parts::Page;
+use nr_tour::Page;
 use std::alloc::Global;
 use std::sync::Wait;
 use std::time::{Clock, Instant};
@@ -27,6 +27,22 @@ fn get_until<R: Wait + Clock>(
     }
 }
 
+fn get_twice<R: Wait + Clock>(
+    rt: &R,
+    client: &mut Client<'_, OpenGate>,
+    flow: &mut Dataflow<'_, Shelf>,
+    until: Instant,
+    page: &mut Page,
+)
+    requires { client.old.map.shape.keys ≡ 2 }
+{
+    let mut rows = RowSet::new();
+    page.line("too late: ", &get_until(rt, client, &mut rows, until));
+    page.line("a turn: ", &take_turn(rt, flow));
+    page.line("in time: ", &get_until(rt, client, &mut rows, until));
+    page.more(": ", &rows.as_slice());
+}
+
 // From here on there is no way out by a `?`.
 fn work<R: Wait + Clock>(rt: &R, server: Server, lobby: Lobby, until: Instant, page: &mut Page)
     requires map { (server.writer.table ≡ server.map) × (server.reader.table ≡ server.map) × (server.map.shape.keys ≡ 2) }
@@ -44,11 +60,7 @@ fn work<R: Wait + Clock>(rt: &R, server: Server, lobby: Lobby, until: Instant, p
     let service = Service::of(map, triggers, lobby);
     let mut client = Client::open(&service, reader, poster, &OpenGate);
     let mut flow = Dataflow::open(&service, writer, taker, Shelf { b: 100 });
-    let mut rows = RowSet::new();
-    page.line("too late: ", &get_until(rt, &mut client, &mut rows, until));
-    page.line("a turn: ", &flow.turn(rt));
-    page.line("in time: ", &get_until(rt, &mut client, &mut rows, until));
-    page.more(": ", &rows.as_slice());
+    get_twice(rt, &mut client, &mut flow, until, page);
     end(client, flow);
 }
 

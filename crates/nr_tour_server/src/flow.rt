@@ -4,9 +4,10 @@ ghost use Rattle.std.specs.Prelude.{◌≡◌};
 
 use crate::queue::{Server, opened_server};
 use crate::source::Shelf;
+use nr_map::UpdateFault;
 use nr_model::{Batch, Delta, OpenFault, Row, RowSet};
 use nr_serve::{Client, Dataflow, Got, Lobby, OpenGate, Service, Turn};
-use nr_tour_parts::Page;
+use nr_tour::Page;
 use std::alloc::Global;
 use std::sync::Wait;
 
@@ -22,7 +23,7 @@ pub const RISE: [Delta; 2] = [
     },
 ];
 
-// One get of key 1, and one turn.
+// One get of key 1.
 fn get_once<R: Wait>(rt: &R, client: &mut Client<'_, OpenGate>, rows: &mut RowSet) -> Got
     requires { client.old.map.shape.keys ≡ 2 }
     ensures { client.new.map ≡ client.old.map }
@@ -30,15 +31,33 @@ fn get_once<R: Wait>(rt: &R, client: &mut Client<'_, OpenGate>, rows: &mut RowSe
     client.get(rt, 1, 1, rows)
 }
 
-fn take_turn<R: Wait>(rt: &R, flow: &mut Dataflow<'_, Shelf>) -> Turn
+/// One turn.
+pub fn take_turn<R: Wait>(rt: &R, flow: &mut Dataflow<'_, Shelf>) -> Turn
     ensures { flow.new.map ≡ flow.old.map }
 {
     flow.turn(rt)
 }
 
-// The client misses key 1 and the dataflow fills it. Then the rows change: the dataflow changes its
-// source, from which later turns have them, and applies the same change to the filled key. The
-// client hears the dataflow's note of that, so its next get comes after the change.
+// The rows change: the dataflow changes its source, from which later turns have them, and applies the
+// same change to the filled key. The client hears the dataflow's note of that, so its next get comes
+// after the change.
+fn change_and_tell(
+    client: &mut Client<'_, OpenGate>,
+    flow: &mut Dataflow<'_, Shelf>,
+    change: &Batch,
+) -> Result<(), UpdateFault>
+    requires flow { flow.old.map.shape.keys ≡ 2 }
+    requires map { flow.old.map ≡ client.old.map }
+    ensures client { client.new.map ≡ client.old.map }
+    ensures flow { flow.new.map ≡ flow.old.map }
+{
+    flow.source().b = 200;
+    let applied = flow.apply(1, change);
+    client.hear(flow.note());
+    applied
+}
+
+// The client misses key 1 and the dataflow fills it. Then its rows change.
 fn change<R: Wait>(
     rt: &R,
     client: &mut Client<'_, OpenGate>,
@@ -46,7 +65,6 @@ fn change<R: Wait>(
     change: &Batch,
     page: &mut Page,
 )
-    requires client { client.old.map.shape.keys ≡ 2 }
     requires flow { flow.old.map.shape.keys ≡ 2 }
     requires map { flow.old.map ≡ client.old.map }
     ensures client { client.new.map ≡ client.old.map }
@@ -55,22 +73,26 @@ fn change<R: Wait>(
     let mut rows = RowSet::new();
     get_once(rt, client, &mut rows);
     page.line("a turn: ", &take_turn(rt, flow));
-    flow.source().b = 200;
-    let applied = flow.apply(1, change);
-    client.hear(flow.note());
-    client.get(rt, 1, 1, &mut rows);
-    let replaced = flow.replace(1, &RowSet::new());
-    let evicted = flow.evict(1);
-    let dropped = flow.apply_rows(1, &RISE);
+    let applied = change_and_tell(client, flow, change);
+    get_once(rt, client, &mut rows);
     page.line("a change: ", &applied);
     page.more(", to ", &rows.as_slice());
+}
+
+// The key loses its rows, and then its set.
+fn evict(flow: &mut Dataflow<'_, Shelf>, page: &mut Page)
+    requires { flow.old.map.shape.keys ≡ 2 }
+    ensures { flow.new.map ≡ flow.old.map }
+{
+    let replaced = flow.replace(1, &RowSet::new());
     page.line("a replacement by no rows: ", &replaced);
-    page.line("an eviction: ", &evicted);
+    page.line("an eviction: ", &flow.evict(1));
+    let dropped = flow.apply_rows(1, &RISE);
     page.line("a change of the hole: ", &dropped);
 }
 
 // The client misses the key again, and the dataflow takes the request back. So the client's next get
-// sends a new one, and the trigger of the first has nothing to fill.
+// sends a new one.
 fn give_up<R: Wait>(
     rt: &R,
     client: &mut Client<'_, OpenGate>,
@@ -79,13 +101,27 @@ fn give_up<R: Wait>(
 )
     requires client { client.old.map.shape.keys ≡ 2 }
     requires flow { flow.old.map.shape.keys ≡ 2 }
+    ensures client { client.new.map ≡ client.old.map }
+    ensures flow { flow.new.map ≡ flow.old.map }
 {
     let mut rows = RowSet::new();
     page.line("a get: ", &get_once(rt, client, &mut rows));
     page.line("its request is taken back: ", &flow.cancel(rt, 1));
     page.line("the next get: ", &get_once(rt, client, &mut rows));
+}
+
+// The trigger of the first request has nothing to fill.
+fn fill_again<R: Wait>(
+    rt: &R,
+    client: &mut Client<'_, OpenGate>,
+    flow: &mut Dataflow<'_, Shelf>,
+    page: &mut Page,
+)
+    requires { client.old.map.shape.keys ≡ 2 }
+{
     page.line("two turns: ", &take_turn(rt, flow));
     page.more(", ", &take_turn(rt, flow));
+    let mut rows = RowSet::new();
     page.line("a get: ", &get_once(rt, client, &mut rows));
     page.more(": ", &rows.as_slice());
     page.line("requests to be sent: ", &client.sends());
@@ -126,11 +162,12 @@ fn work<R: Wait>(rt: &R, server: Server, lobby: Lobby, by: &Batch, page: &mut Pa
         poster,
         taker,
     } = server;
-    let source = Shelf { b: 100 };
     let service = Service::of(map, triggers, lobby);
     let mut client = Client::open(&service, reader, poster, &OpenGate);
-    let mut flow = Dataflow::open(&service, writer, taker, source);
+    let mut flow = Dataflow::open(&service, writer, taker, Shelf { b: 100 });
     change(rt, &mut client, &mut flow, by, page);
+    evict(&mut flow, page);
     give_up(rt, &mut client, &mut flow, page);
+    fill_again(rt, &mut client, &mut flow, page);
     end(client, flow);
 }

@@ -5,7 +5,7 @@ use crate::queue::{Server, opened_server};
 use nr_map::Reader;
 use nr_model::{OpenFault, RowSet};
 use nr_serve::{Client, Gate, Got, Lobby, Service};
-use nr_tour_parts::{Page, ask_and_fill};
+use nr_tour::{Page, ask_and_fill};
 use nr_trigger::Poster;
 use std::alloc::Global;
 use std::sync::Wait;

@@ -1,7 +1,7 @@
 //! A map with more keys and slots than `open_with` gives, and a queue for it.
 use nr_map::{ReaderMap, Shape};
 use nr_model::OpenFault;
-use nr_tour_parts::Page;
+use nr_tour::Page;
 use nr_trigger::Triggers;
 use std::alloc::Global;
 

@@ -1,6 +1,6 @@
-//! A tour of the queue and the server for their users: a chapter in each file, and what it prints in
-//! `stdout` beside this folder. Each chapter opens a map of its own, makes its calls, and writes a page
-//! of what they answered. Chapters on the map alone are in `nr_tour`.
+//! A tour of the queue and the server for their users: a chapter in each file, after those of `nr_tour`
+//! on the map alone, and what all print in `stdout` beside this folder. Each chapter opens a map of its
+//! own, makes its calls, and writes a page of what they answered.
 #![tactic(auto)]
 
 mod applied;
@@ -19,6 +19,7 @@ mod upqueries;
 
 use crate::flow::RISE;
 use nr_model::Batch;
+use nr_tour::show_map;
 use std::io::Print;
 use std::sync::Wait;
 use std::thread::Threads;
@@ -50,6 +51,7 @@ fn show_server<R: AllocGlobal + Clock + Print + Threads + Wait + Sync>(
 }
 
 fn main(rt: HostRuntime) -> anyhow::Result<()> {
+    show_map(&rt)?;
     show_queue(&rt)?;
     show_server(&rt)
 }

@@ -3,9 +3,9 @@ ghost use Rattle.std.specs.Prelude.{◌≡◌, ◌<◌, IfOk};
 ghost use Rattle.nr_board.specs.Meetings.{HearsNote};
 ghost use Rattle.nr_map.specs.Written.{FindsAfter, answered};
 
-use nr_map::{Asked, FillFault, Found, Note, Reader, ReaderMap, Writer, laws};
+use nr_map::{Asked, FillFault, Found, Note, Pin, Reader, ReaderMap, Writer, laws};
 use nr_model::{OpenFault, RowSet};
-use nr_tour_parts::{Page, ROWS, opened, set_of};
+use nr_tour::{Page, ROWS, opened, set_of};
 use nr_trigger::{Poster, Taker, Triggers};
 use std::alloc::Global;
 use std::sync::Wait;
@@ -115,26 +115,51 @@ fn found_there<R: Threads + Sync>(rt: &R, map: &ReaderMap, reader: Reader, note:
     found
 }
 
-// A reader that was told tells the writer, and the writer tells a pin. A pin makes a note and hears one
-// as its reader does, and keeps its set. Where the key is a hole there is nothing to tell.
-fn hold_meanwhile(
+// The request and its answer go by a queue of their own.
+fn fill_by_queue<R: Wait>(
+    rt: &R,
+    alloc: Global,
     map: &ReaderMap,
+    reader: &mut Reader,
     writer: &mut Writer,
-    mut reader: Reader,
-    note: Note,
-    page: &mut Page,
-)
-    requires own { (reader.table ≡ map.now) × (writer.old.table ≡ map.now) × (note.table ≡ map.now) }
+) -> Result<Option<Result<(), FillFault>>, OpenFault>
+    requires own { (reader.old.table ≡ map.now) × (writer.old.table ≡ map.now) }
+    requires key { 0 < map.now.shape.keys }
+    ensures own { (reader.new.table ≡ map.now) × (writer.new.table ≡ map.now) }
+{
+    let (triggers, mut poster, mut taker) = queue_for(alloc, map)?;
+    ask_and_tell(rt, map, &triggers, reader, &mut poster);
+    Ok(hear_and_fill(rt, map, &triggers, writer, &mut taker))
+}
+
+// A reader that was told tells the writer.
+fn tell_back(map: &ReaderMap, writer: &mut Writer, reader: &mut Reader, note: Note)
+    requires own { (reader.old.table ≡ map.now) × (writer.old.table ≡ map.now) × (note.table ≡ map.now) }
+    ensures own { (reader.new.table ≡ map.now) × (writer.new.table ≡ map.now) }
+{
+    hear(map, reader, note);
+    map.hear_writer(writer, map.note(reader));
+}
+
+// A pin makes a note and hears one as its reader does, and keeps its set.
+fn tell_holder(map: &ReaderMap, writer: &mut Writer, pin: &mut Pin)
+    requires own { (pin.old.reader.table ≡ map.now) × (writer.old.table ≡ map.now) }
+    ensures own { pin.new.reader.table ≡ map.now }
+{
+    map.hear_writer(writer, map.note_pin(pin));
+    map.hear_pin(pin, acknowledge(map, writer));
+}
+
+// Where the key is a hole there is nothing to tell.
+fn hold_meanwhile(map: &ReaderMap, writer: &mut Writer, reader: Reader, page: &mut Page)
+    requires own { (reader.table ≡ map.now) × (writer.old.table ≡ map.now) }
     requires key { 0 < map.now.shape.keys }
 {
-    hear(map, &mut reader, note);
-    map.hear_writer(writer, map.note(&mut reader));
     let mut pin = match map.pin(reader, 0) {
         Ok(pin) => pin,
         Err(_) => return,
     };
-    map.hear_writer(writer, map.note_pin(&mut pin));
-    map.hear_pin(&mut pin, acknowledge(map, writer));
+    tell_holder(map, writer, &mut pin);
     let mut rows = RowSet::new();
     pin.copy_to(map, &mut rows);
     page.line("a pin that told and heard has ", &rows.as_slice());
@@ -148,15 +173,14 @@ pub fn written_and_read<R: Threads + Wait + Sync>(
     alloc: Global,
 ) -> Result<Page, OpenFault> {
     let (map, mut writer, mut one, two) = opened(alloc, 2, 5)?;
-    let (triggers, mut poster, mut taker) = queue_for(alloc, &map)?;
     let mut page = Page::titled(alloc, "An acknowledged write");
-    ask_and_tell(rt, &map, &triggers, &mut one, &mut poster);
-    let filled = hear_and_fill(rt, &map, &triggers, &mut writer, &mut taker);
+    let filled = fill_by_queue(rt, alloc, &map, &mut one, &mut writer)?;
     page.line("the fill: ", &filled);
     let note = acknowledge(&map, &mut writer);
     let (note, other) = map.split_note(&mut one, note);
     let found = found_there(rt, &map, two, note);
     page.line("the thread that heard of it finds ", &found);
-    hold_meanwhile(&map, &mut writer, one, other, &mut page);
+    tell_back(&map, &mut writer, &mut one, other);
+    hold_meanwhile(&map, &mut writer, one, &mut page);
     Ok(page)
 }

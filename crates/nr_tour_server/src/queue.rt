@@ -3,7 +3,7 @@ ghost use Rattle.std.specs.Prelude.{◌≡◌, ◌<◌, ◌≤◌, IfOk, MatchOp
 
 use nr_map::{Asked, FillFault, Reader, ReaderMap, Ticket, Writer};
 use nr_model::OpenFault;
-use nr_tour_parts::{Page, ROWS, opened, set_of};
+use nr_tour::{Page, ROWS, opened, set_of};
 use nr_trigger::{Poster, Taker, Triggers};
 use std::alloc::Global;
 use std::sync::Wait;
@@ -65,15 +65,24 @@ fn post<R: Wait>(
     triggers.post(rt, poster, ticket?).err()
 }
 
-// Requests a key, and gives the ticket of a request that is to be sent.
-fn request(map: &ReaderMap, reader: &mut Reader, key: u32) -> Option<Ticket>
+// Requests a key, and posts the ticket of a request that is to be sent.
+fn request<R: Wait>(
+    rt: &R,
+    map: &ReaderMap,
+    triggers: &Triggers,
+    reader: &mut Reader,
+    poster: &mut Poster,
+    key: u32,
+) -> Option<Ticket>
     requires own { reader.old.table ≡ map.now }
-    requires key { key < map.now.shape.keys }
+    requires queue { poster.old.queue ≡ triggers.now.id }
+    requires key { (key < map.now.shape.keys) × (key < poster.old.keys) }
     ensures own { reader.new.table ≡ map.now }
-    ensures key { MatchOption result (Unit {0}) (λ ticket. ticket.key ≡ key) }
+    ensures queue { (poster.new.queue ≡ triggers.now.id) × (poster.new.keys ≡ poster.old.keys) }
+    ensures key { MatchOption result (Unit {0}) (λ ticket. ticket.key < poster.new.keys) }
 {
     match map.ask(reader, key) {
-        Asked::Send(ticket) => Some(ticket),
+        Asked::Send(ticket) => post(rt, triggers, poster, Some(ticket)),
         Asked::Waiting | Asked::Filled => None,
     }
 }
@@ -109,32 +118,53 @@ fn spend(ticket: Option<Ticket>) -> bool {
     }
 }
 
-// Two tickets and room for one: the second is posted once the first was taken.
+// The dataflow's part: a ticket that came back is posted once the first was taken.
+fn answer_in_turn<R: Wait>(
+    rt: &R,
+    map: &ReaderMap,
+    triggers: &Triggers,
+    poster: &mut Poster,
+    back: Option<Ticket>,
+    writer: &mut Writer,
+    taker: &mut Taker,
+    page: &mut Page,
+)
+    requires own { writer.old.table ≡ map.now }
+    requires poster { poster.old.queue ≡ triggers.now.id }
+    requires key { MatchOption back (Unit {0}) (λ ticket. ticket.key < poster.old.keys) }
+    requires taker { (taker.old.queue ≡ triggers.now.id) × (taker.old.keys ≤ map.now.shape.keys) }
+{
+    page.line(
+        "an answer: ",
+        &answer_next(rt, map, triggers, writer, taker),
+    );
+    page.line(
+        "a ticket is left: ",
+        &spend(post(rt, triggers, poster, back)),
+    );
+    page.line("another: ", &answer_next(rt, map, triggers, writer, taker));
+    page.line("a third: ", &answer_next(rt, map, triggers, writer, taker));
+}
+
+// Two tickets and room for one.
 fn post_in_turn<R: Wait>(
     rt: &R,
     map: &ReaderMap,
     triggers: &Triggers,
     reader: &mut Reader,
     poster: &mut Poster,
-    writer: &mut Writer,
-    taker: &mut Taker,
     page: &mut Page,
-)
-    requires map { (reader.old.table ≡ map.now) × (writer.old.table ≡ map.now) × (map.now.shape.keys ≡ 2) }
-    requires poster { (poster.old.queue ≡ triggers.now.id) × (poster.old.keys ≡ 2) }
-    requires taker { (taker.old.queue ≡ triggers.now.id) × (taker.old.keys ≡ 2) }
+) -> Option<Ticket>
+    requires own { (reader.old.table ≡ map.now) × (map.now.shape.keys ≡ 2) }
+    requires queue { (poster.old.queue ≡ triggers.now.id) × (poster.old.keys ≡ 2) }
+    ensures queue { poster.new.queue ≡ triggers.now.id }
+    ensures key { MatchOption result (Unit {0}) (λ ticket. ticket.key < poster.new.keys) }
 {
-    let first = request(map, reader, 0);
-    let second = request(map, reader, 1);
-    let first = post(rt, triggers, poster, first);
-    let second = post(rt, triggers, poster, second);
-    page.line("the second ticket comes back: ", &second.is_some());
-    let one = answer_next(rt, map, triggers, writer, taker);
-    let second = post(rt, triggers, poster, second);
-    let two = answer_next(rt, map, triggers, writer, taker);
-    let none = answer_next(rt, map, triggers, writer, taker);
-    page.line("answers: ", &[one, two, none]);
-    page.line("tickets left: ", &(spend(first), spend(second)));
+    let first = request(rt, map, triggers, reader, poster, 0);
+    page.line("the first ticket comes back: ", &spend(first));
+    let second = request(rt, map, triggers, reader, poster, 1);
+    page.line("the second: ", &second.is_some());
+    second
 }
 
 /// Reader 1 misses both keys, and the dataflow answers in the order of the tickets.
@@ -148,12 +178,13 @@ pub fn passed_on<R: Wait>(rt: &R, alloc: Global) -> Result<Page, OpenFault> {
         mut taker,
     } = opened_server(alloc, 1)?;
     let mut page = Page::titled(alloc, "A queue of one");
-    post_in_turn(
+    let back = post_in_turn(rt, &map, &triggers, &mut reader, &mut poster, &mut page);
+    answer_in_turn(
         rt,
         &map,
         &triggers,
-        &mut reader,
         &mut poster,
+        back,
         &mut writer,
         &mut taker,
         &mut page,

@@ -5,7 +5,7 @@ use crate::queue::{Server, opened_server};
 use nr_map::{Asked, Reader};
 use nr_model::OpenFault;
 use nr_serve::{Lobby, Service};
-use nr_tour_parts::Page;
+use nr_tour::Page;
 use nr_trigger::Poster;
 use std::alloc::Global;
 use std::sync::Wait;

@@ -8,7 +8,7 @@ use crate::source::Shelf;
 use nr_map::ReaderMap;
 use nr_model::{Batch, OpenFault, Row, RowSet};
 use nr_serve::{Client, Dataflow, Lobby, OpenGate, Service, Spent};
-use nr_tour_parts::{Page, set_of};
+use nr_tour::{Page, set_of};
 use nr_trigger::Trigger;
 use std::alloc::Global;
 use std::sync::Wait;
@@ -60,8 +60,53 @@ fn fail<R: Wait>(rt: &R, flow: &mut Dataflow<'_, Shelf>, trigger: Option<Trigger
     }
 }
 
-// The client misses both keys. The rows of key 1 were read before it changes: the map drops that change,
-// so the caller keeps it, and makes it after the fill. Those of key 0 can't be had.
+// The next trigger.
+fn take<R: Wait>(rt: &R, flow: &mut Dataflow<'_, Shelf>) -> Option<Trigger>
+    ensures map { flow.new.map ≡ flow.old.map }
+    ensures key { IfSome result (λ trigger. trigger.upquery.key < flow.old.map.shape.keys) }
+{
+    flow.take(rt)
+}
+
+// Fills key 1 with rows that were read before it changes. The map drops the change of a key that is
+// asked for, so the caller keeps it, and makes it after the fill.
+fn fill_late<R: Wait>(
+    rt: &R,
+    map: &ReaderMap,
+    flow: &mut Dataflow<'_, Shelf>,
+    trigger: Option<Trigger>,
+    change: &Batch,
+    page: &mut Page,
+)
+    requires flow { (flow.old.map ≡ map.now) × (map.now.shape.keys ≡ 2) }
+    requires key { IfSome trigger (λ trigger. trigger.upquery.key < flow.old.map.shape.keys) }
+    ensures { flow.new.map ≡ flow.old.map }
+{
+    let dropped = flow.apply(1, change);
+    let filled = fill(rt, flow, trigger, &set_of(map, &BEFORE));
+    let applied = flow.apply(1, change);
+    page.line("key 1: ", &filled);
+    page.line("its change, before and after: ", &(dropped, applied));
+}
+
+fn show_rows<R: Wait>(rt: &R, client: &mut Client<'_, OpenGate>, page: &mut Page)
+    requires { client.old.map.shape.keys ≡ 2 }
+{
+    let mut rows = RowSet::new();
+    client.get(rt, 1, 1, &mut rows);
+    page.more(", to ", &rows.as_slice());
+}
+
+fn miss_both<R: Wait>(rt: &R, client: &mut Client<'_, OpenGate>)
+    requires { client.old.map.shape.keys ≡ 2 }
+    ensures { client.new.map ≡ client.old.map }
+{
+    let mut rows = RowSet::new();
+    client.get(rt, 0, 1, &mut rows);
+    client.get(rt, 1, 1, &mut rows);
+}
+
+// The client misses both keys. The rows of key 1 come late, and those of key 0 can't be had.
 fn serve<R: Wait>(
     rt: &R,
     map: &ReaderMap,
@@ -73,20 +118,12 @@ fn serve<R: Wait>(
     requires client { client.old.map.shape.keys ≡ 2 }
     requires flow { (flow.old.map ≡ map.now) × (map.now.shape.keys ≡ 2) }
 {
-    let mut rows = RowSet::new();
-    client.get(rt, 0, 1, &mut rows);
-    client.get(rt, 1, 1, &mut rows);
-    let first = flow.take(rt);
-    let second = flow.take(rt);
-    let dropped = flow.apply(1, change);
-    let filled = fill(rt, flow, second, &set_of(map, &BEFORE));
-    let applied = flow.apply(1, change);
-    let failed = fail(rt, flow, first);
-    client.get(rt, 1, 1, &mut rows);
-    page.line("key 1: ", &filled);
-    page.line("its change, before and after: ", &(dropped, applied));
-    page.more(", to ", &rows.as_slice());
-    page.line("key 0: ", &failed);
+    miss_both(rt, client);
+    let first = take(rt, flow);
+    let second = take(rt, flow);
+    fill_late(rt, map, flow, second, change, page);
+    show_rows(rt, client, page);
+    page.line("key 0: ", &fail(rt, flow, first));
     page.line("failures, told to the client: ", &client.failures_for(0));
 }
 

@@ -1,13 +1,16 @@
-//! A tour of the map for its users: a chapter in each file, and what it prints in `stdout` beside
-//! this folder. Each chapter opens a map of its own, makes its calls, and writes a page of what they
-//! answered. Chapters over a queue and a server are in `nr_tour_server`.
+//! A tour of the map for its users: a chapter in each file. Each chapter opens a map of its own, makes
+//! its calls, and writes a page of what they answered. The program `nr_tour_server` prints them, and
+//! goes on with the queue and the server.
 #![tactic(auto)]
 
+mod calls;
 mod cancels;
 mod hands;
 mod lookups;
 mod many;
 mod meetings;
+mod opening;
+mod page;
 mod pins;
 mod reclaiming;
 mod rooms;
@@ -17,11 +20,23 @@ mod texts;
 mod threads;
 mod upkeep;
 
+pub use crate::calls::{ROWS, ask_and_fill, set_of};
+pub use crate::opening::opened;
+pub use crate::page::Page;
 use crate::sizes::MORE;
 use crate::upkeep::CHANGE;
 use nr_model::Batch;
 use std::io::Print;
 use std::thread::Threads;
+
+/// Prints each chapter.
+pub fn show_map<R: AllocGlobal + Print + Threads + Sync>(rt: &R) -> anyhow::Result<()> {
+    let change = Batch::of(&CHANGE)?;
+    show_reads(rt)?;
+    show_changes(rt, &change)?;
+    show_places(rt, &change)?;
+    show_meetings(rt)
+}
 
 // Finds and requests.
 fn show_reads<R: AllocGlobal + Print + Threads + Sync>(rt: &R) -> anyhow::Result<()> {
@@ -54,12 +69,4 @@ fn show_meetings<R: AllocGlobal + Print>(rt: &R) -> anyhow::Result<()> {
     let alloc = rt.alloc();
     cancels::chapter(alloc)?.print(rt)?;
     meetings::chapter(alloc)?.print(rt)
-}
-
-fn main(rt: HostRuntime) -> anyhow::Result<()> {
-    let change = Batch::of(&CHANGE)?;
-    show_reads(&rt)?;
-    show_changes(&rt, &change)?;
-    show_places(&rt, &change)?;
-    show_meetings(&rt)
 }
