@@ -163,7 +163,7 @@ goes_on_each capacity id found.Moved old missed new goes = request_each capacity
 goes_on_each capacity id found.Absent old missed new goes = request_each capacity id old missed new goes
 
 -- TRIES AND GETS
-miss_each : (capacity id : ℕ) (old : IdHands) (missed : Missed) (new : IdHands) → MissesOnce capacity id old missed new → PostsEach old new
+pub miss_each : (capacity id : ℕ) (old : IdHands) (missed : Missed) (new : IdHands) → MissesOnce capacity id old missed new → PostsEach old new
 miss_each capacity id old missed new tried =
     let mid = with_id_reader tried.posted tried.reader in
     each_both old tried.posted new (first_each capacity old tried.posted tried.posts)

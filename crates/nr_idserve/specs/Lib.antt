@@ -7,4 +7,5 @@ pub mod IdFlows
 pub mod IdTakes
 pub mod IdEnds
 pub mod IdTurns
+pub mod IdApplied
 pub mod IdLedger

@@ -4,11 +4,13 @@ ghost use Rattle.nr_ids.specs.Groups.{group_of};
 ghost use Rattle.nr_idmap.specs.IdNotes.{HearsIdNote, known_to_reader, note_table_of, with_steps_of_note};
 ghost use Rattle.nr_idmap.specs.Keepers.{id_table_of};
 ghost use Rattle.nr_serve.specs.Counts.{IsNew, OnlyLooks, failed_at};
+ghost use Rattle.nr_idserve.specs.IdApplied.{HearsIdApplied};
 ghost use Rattle.nr_idserve.specs.IdGets.{GetsId, GetsIdInTime};
 ghost use Rattle.nr_idserve.specs.IdHands.{IsReadyFor, with_id_reader};
 ghost use Rattle.nr_idserve.specs.IdRings.{RingsFor};
 
 use crate::answers::GotId;
+use crate::applied::{IdApplied, IdMeasure};
 use crate::hands::IdHands;
 use crate::service::IdService;
 use crate::tries::get_by_tries;
@@ -168,6 +170,34 @@ impl<'a> IdClient<'a> {
     {
         match &mut self.hands {
             Some(hands) => self.service.map().hear(&mut hands.reader, note),
+            None => unreachable!(),
+        }
+    }
+
+    /// Sleeps until the dataflow told that it has applied so much at least, hears the note that tells it, in
+    /// 4 steps of the map and 5 of the directory, and gives the amount that was told. A get after that finds
+    /// what was applied then, or later rows (`laws::gets_what_was_applied`). None, and no step, where the
+    /// lobby was closed and nothing had told it.
+    pub fn wait_applied<M: IdMeasure, R: Wait>(
+        &mut self,
+        rt: &R,
+        applied: &IdApplied<'_, M>,
+        least: u64,
+    ) -> Option<u64>
+        requires lobby { applied.now ≡ self.old.guest.lobby }
+        requires notes { (amount : _) (note : _) → M.reached amount note → note_table_of note ≡ self.old.map }
+        ensures hears { HearsIdApplied M.reached least self.old.hands.reader result self.new.guest self.new.hands.reader }
+        ensures looks { OnlyLooks self.old.guest self.new.guest }
+        ensures rest { self.new ≡ record self.old { hands = with_id_reader self.old.hands self.new.hands.reader; guest = self.new.guest } }
+    {
+        match &mut self.hands {
+            Some(hands) => applied.wait(
+                rt,
+                self.service.map(),
+                &mut self.lobby,
+                &mut hands.reader,
+                least,
+            ),
             None => unreachable!(),
         }
     }

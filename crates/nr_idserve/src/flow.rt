@@ -1,16 +1,19 @@
 //! The dataflow by id: it admits the ids whose claims were posted, fills them, and keeps their rows right.
-ghost use Rattle.std.specs.Prelude.{◌≡◌, None};
+ghost use Rattle.std.specs.Prelude.{◌≡◌, ◌∷◌, [], None};
 ghost use Rattle.nr_board.specs.Meetings.{known_to, with_step};
 ghost use Rattle.nr_ids.specs.Tokens as ids;
 ghost use Rattle.nr_idmap.specs.IdNotes.{WriterHears, note_table_of};
 ghost use Rattle.nr_idmap.specs.Keepers.{OwesSame};
-ghost use Rattle.nr_serve.specs.Counts.{IsNew};
+ghost use Rattle.nr_serve.specs.Counts.{IsNew, Raises, told_at};
+ghost use Rattle.nr_idserve.specs.IdApplied.{known_to_keeper};
 
+use crate::applied::{IdApplied, IdMeasure};
 use crate::service::IdService;
 use nr_idmap::{IdNote, IdWriter, Upquery};
 use nr_serve::Raiser;
 use nr_trigger::Taker;
 use std::marker::Model;
+use std::sync::Wait;
 
 /// The one writer of a map over ids, with the taker of its queue of claims. It can't be dropped, since it
 /// may keep an upquery: it must be ended.
@@ -50,6 +53,29 @@ impl<'a> IdDataflow<'a> {
             kept: None,
             refused: None,
         }
+    }
+
+    /// Tells those who wait for it that so much was applied: with a note of what the writer has seen now, in
+    /// a step on each of its map's tables, and so after all that it applied before. Less than was told
+    /// before tells nothing.
+    pub fn tell_applied<M: IdMeasure, R: Wait>(
+        &mut self,
+        rt: &R,
+        applied: &IdApplied<'_, M>,
+        amount: u64,
+    )
+        requires lobby { applied.now ≡ self.old.lobby }
+        requires reached { note_table_of (known_to_keeper self.old.writer) ≡ self.old.map → M.reached amount (known_to_keeper self.old.writer) }
+        ensures raised { Raises self.old.guest (told_at ∷ []) self.new.guest }
+        ensures map { self.new.writer.writer ≡ with_step self.old.writer.writer }
+        ensures clerk { self.new.writer.clerk ≡ ids.with_step self.old.writer.clerk }
+        ensures asker { self.new.writer.asker ≡ self.old.writer.asker }
+        ensures owes { OwesSame self.old.writer self.new.writer }
+        ensures rest { self.new ≡ record self.old { writer = self.new.writer; guest = self.new.guest } }
+    {
+        let note = self.note();
+        applied.raise(rt, amount, note);
+        self.raiser.tell(rt);
     }
 
     /// A note of what the dataflow has seen, in a step of its writer on each of its map's tables. It goes

@@ -1,7 +1,9 @@
 //! Laws over the definitions alone. Nothing runs here: each function's contract is the law.
+ghost use Rattle.nr_idserve.specs.IdApplied.{GetsIdWhatWasApplied};
 ghost use Rattle.nr_idserve.specs.IdClaims.{EachClaimIsPosted};
 ghost use Rattle.nr_idserve.specs.IdLedger.{EachUpqueryEndsOnce};
 
+use crate::applied::IdMeasure;
 use nr_model::RowRoom;
 
 /// No claim is lost: those that a client was granted in a get, after the one that it kept, are what it
@@ -19,4 +21,14 @@ pub fn each_upquery_ends_once()
     ensures { EachUpqueryEndsOnce }
 {
     nr_idmap::laws::one_upquery();
+}
+
+/// A client that waited until so much was applied, by when an id's way had its name and had been put, and
+/// then gets the id, finds in the way the rows of that put or of a later one, or a hole where the way was
+/// evicted since, in each of the get's finds, unless the way lost the name since. It may make other calls
+/// between.
+pub fn gets_what_was_applied<M: IdMeasure, R: RowRoom>()
+    ensures { GetsIdWhatWasApplied M.reached R.shows }
+{
+    nr_idmap::laws::finds_what_it_heard::<R>();
 }

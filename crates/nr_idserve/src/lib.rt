@@ -3,6 +3,7 @@
 #![tactic(auto)]
 
 mod answers;
+mod applied;
 mod client;
 mod ends;
 mod flow;
@@ -17,6 +18,7 @@ mod victims;
 mod watched;
 
 pub use answers::GotId;
+pub use applied::{IdApplied, IdMeasure};
 pub use client::IdClient;
 pub use flow::IdDataflow;
 pub use service::IdService;

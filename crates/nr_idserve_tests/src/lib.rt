@@ -4,6 +4,8 @@
 #[cfg(test)]
 mod absences;
 #[cfg(test)]
+mod applied;
+#[cfg(test)]
 mod changes;
 #[cfg(test)]
 mod claims;
