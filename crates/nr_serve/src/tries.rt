@@ -22,6 +22,9 @@ use std::thread;
 /// How often a gate is asked before a get is barred.
 const MAX_PASSES: u32 = 1_000_000;
 
+/// After how many of them it yields, which takes milliseconds on a busy machine.
+const PASSES_A_YIELD: u32 = 1_000;
+
 // Posts the ticket that is kept, which stays where the queue is full.
 #[inline(always)]
 #[tactic(auto, using(crate::proofs::Ringing::rings_same, crate::proofs::Ringing::rings_once, crate::proofs::Ringing::rings_none))]
@@ -106,11 +109,13 @@ fn request<R: Wait>(
 fn lets_pass<G: Gate>(places: &Places<'_, G>, get: u64) -> bool
     ensures { G.lets places.now.gate.now places.now.reader get result }
 {
-    for _asked in 0..MAX_PASSES {
+    for asked in 0..MAX_PASSES {
         if places.gate.pass(places.reader, get) {
             return true;
         }
-        thread::yield_now();
+        if asked % PASSES_A_YIELD == 0 {
+            thread::yield_now();
+        }
     }
     false
 }
