@@ -5,7 +5,7 @@ but those that they call. A wrong body stands in a copy of its function, with th
 that the others call the right one. A function of a trait is edited in its place, by one body a check. A wrong body is
 refused where a goal of its own function is open. Where it stands in no function, or another one's goal shows it, a line
 `refused in: NAME` of the edit, which rt passes over, names that one, and the wrong body has a check for itself. What isn't
-refused so is tried as rt must-fail does. All checks of a crate keep what they proved in one folder, for the next.
+refused so is tried as rt must-fail does. Where a crate has several checks, each keeps what it proved in one folder, for the next.
 The kit has no check of several wrong bodies at once, so all of this stands here.
 """
 import collections
@@ -193,14 +193,15 @@ def put(rt, room, group):
 
 
 def try_group(rt, crate, group, kept):
-    """What is said of each wrong body that is refused, all being tried by one check over what is kept."""
+    """What is said of each wrong body that is refused, all being tried by one check, over what is kept, if anything is."""
     with tempfile.TemporaryDirectory(prefix="rt-edit-") as room:
         for part in rt.rtlib.PARTS:
             if os.path.isdir(f"{crate.folder}/{part}"):
                 shutil.copytree(f"{crate.folder}/{part}", f"{room}/{part}")
         tried, later = put(rt, room, group)
         only = [word for body in tried for name in body.functions for word in ("--only", name)]
-        words = [rt.rtlib.RATTLE, "check", *crate.words(["--jobs", "1", *only], keeps=False), "--incremental", kept]
+        over = ["--incremental", kept] if kept else []
+        words = [rt.rtlib.RATTLE, "check", *crate.words(["--jobs", "1", *only], keeps=False), *over]
         how = {"cwd": room, "stdin": subprocess.DEVNULL, "stdout": subprocess.PIPE, "stderr": subprocess.STDOUT}
         ran = subprocess.run([*rt.rtlib.guarded(), *words], text=True, errors="replace", **how)
     said = ran.stdout.split("\n")
@@ -224,8 +225,10 @@ def try_all(rt, crate, edits, kept):
     # A function's goals wait for those that it calls, so where one of these had a wrong body in its place, it is tried again
     # after it. No function calls a copy.
     while left and is_waiting:
-        for group in groups(left):
-            refused = try_group(rt, crate, group, kept)
+        tries = groups(left)
+        for group in tries:
+            # What one check keeps takes it longer, and serves only the next.
+            refused = try_group(rt, crate, group, kept if len(tries) > 1 else None)
             for edit, line in refused.items():
                 kit.say(f"must-fail {crate.name}/{pathlib.Path(edit).name}: refused: {line[:160]}")
             found.update(refused)
