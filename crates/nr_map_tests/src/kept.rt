@@ -2,6 +2,7 @@
 ghost use Rattle.std.specs.Prelude.{◌≡◌, ◌<◌};
 
 use crate::calls::{Told, ask, fill, rows_of};
+use crate::same::{are_same, is_same};
 use crate::worked::{next, of_sizes};
 use nr_map::{Found, Hand, MAX_LARGE_READERS, Reader, ReaderMap, Writer};
 use nr_model::RowSet;
@@ -16,12 +17,16 @@ fn finds_three_times<R: Abort>(rt: &R, map: &ReaderMap, hand: &mut Hand, key: u3
     let mut rows = RowSet::new();
     let first = hand.find_kept(map, key, &mut rows);
     let second = hand.find_kept(map, key, &mut rows);
-    assert_eq!(rt; hand.key(), Some(key));
+    is_same(rt, &hand.key(), &Some(key));
     hand.release(map);
-    assert_eq!(rt; hand.key(), None);
+    is_same(rt, &hand.key(), &None);
     let third = hand.find_kept(map, key, &mut rows);
-    assert_eq!(rt; [first, second, third], [Found::Rows; 3]);
-    assert_eq!(rt; rows.as_slice(), rows_of(&[(u64::from(key), 7)]).as_slice());
+    is_same(rt, &[first, second, third], &[Found::Rows; 3]);
+    are_same(
+        rt,
+        rows.as_slice(),
+        rows_of(&[(u64::from(key), 7)]).as_slice(),
+    );
 }
 
 fn fills<R: Abort>(rt: &R, map: &ReaderMap, writer: &mut Writer, reader: &mut Reader, key: u32)
@@ -30,9 +35,9 @@ fn fills<R: Abort>(rt: &R, map: &ReaderMap, writer: &mut Writer, reader: &mut Re
     requires key { key < map.now.shape.keys }
     ensures reader { reader.new.table ≡ map.now }
 {
-    assert_eq!(rt; ask(map, reader, key), Told::Send(key, 0));
+    is_same(rt, &ask(map, reader, key), &Told::Send(key, 0));
     let filled = fill(map, writer, key, 0, &rows_of(&[(u64::from(key), 7)]));
-    assert_eq!(rt; filled, Some(Ok(())));
+    is_same(rt, &filled, &Some(Ok(())));
 }
 
 fn works<R: Abort>(rt: &R, map: &ReaderMap, mut writer: Writer, mut reader: Reader)
@@ -43,7 +48,7 @@ fn works<R: Abort>(rt: &R, map: &ReaderMap, mut writer: Writer, mut reader: Read
     assert!(rt; key < map.keys());
     fills(rt, map, &mut writer, &mut reader, key);
     let mut hand = Hand::of(reader);
-    assert_eq!(rt; hand.number(), MAX_LARGE_READERS);
+    is_same(rt, &hand.number(), &MAX_LARGE_READERS);
     finds_three_times(rt, map, &mut hand, key);
     hand.into_reader(map);
 }

@@ -14,6 +14,8 @@ mod pins;
 #[cfg(test)]
 mod reclaiming;
 #[cfg(test)]
+mod same;
+#[cfg(test)]
 mod slots;
 #[cfg(test)]
 mod threads;

@@ -3,6 +3,7 @@ ghost use Rattle.std.specs.Prelude.{◌≡◌, ◌<◌};
 ghost use Rattle.nr_board.specs.Meetings.{Known};
 
 use crate::calls::{Told, UPDATED, fill, find, pairs_are, plus, rows_of, update};
+use crate::same::is_same;
 use crate::worked::Worked;
 use crossbeam_channel::{Receiver, Sender, unbounded};
 use nr_map::{Found, Note, Reader, ReaderMap, Writer};
@@ -147,9 +148,10 @@ fn a_note_goes_by_a_channel(rt: HostRuntime) -> Result<(), Fail> {
         writer,
         reader,
     } = worked;
-    assert_eq!(rt;
-        both_of_map(&rt, rt.alloc(), &map, writer, reader)?,
-        (true, true)
+    is_same(
+        &rt,
+        &both_of_map(&rt, rt.alloc(), &map, writer, reader)?,
+        &(true, true),
     );
     Ok(())
 }

@@ -2,6 +2,7 @@
 ghost use Rattle.std.specs.Prelude.{◌≡◌, ◌<◌};
 
 use crate::calls::{Told, UPDATED, ask, minus, plus, update};
+use crate::same::is_same;
 use crate::worked::Worked;
 use nr_map::{KeyKind, Reader, ReaderMap, Writer};
 use nr_model::Row;
@@ -142,9 +143,10 @@ fn holds_beside<R: Abort + Threads + Sync>(rt: &R, worked: Worked, two: Reader) 
     let ((held, reader), ((updated, writer), (asked, two))) = all_three(
         rt, &map, &flags, reader, two, writer,
     );
-    assert_eq!(rt;
-        (held, updated, asked),
-        (Some(Row { a: 5, b: 6 }), true, true)
+    is_same(
+        rt,
+        &(held, updated, asked),
+        &(Some(Row { a: 5, b: 6 }), true, true),
     );
     let worked = Worked {
         map,

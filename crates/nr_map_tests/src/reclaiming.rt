@@ -2,6 +2,7 @@
 ghost use Rattle.std.specs.Prelude.{◌≡◌, ◌<◌};
 
 use crate::calls::{Told, pairs_are, rows_of};
+use crate::same::is_same;
 use crate::worked::Worked;
 use nr_map::{Reader, ReaderMap, Reaped, Reclaimed, Writer};
 use nr_model::RowSet;
@@ -43,7 +44,7 @@ fn gave<R: Abort>(
     wanted: Reclaimed,
     pairs: &[(u64, u64)],
 ) {
-    assert_eq!(rt; given, Some(wanted));
+    is_same(rt, &given, &Some(wanted));
     assert!(rt; pairs_are(had, pairs));
 }
 
@@ -77,7 +78,7 @@ fn reaps<R: Abort>(
     ensures own { writer.new.table ≡ map.now }
 {
     let mut had = RowSet::new();
-    assert_eq!(rt; map.reap(writer, &mut had), wanted);
+    is_same(rt, &map.reap(writer, &mut had), &wanted);
     assert!(rt; pairs_are(&had, pairs));
 }
 

@@ -3,6 +3,7 @@
 ghost use Rattle.std.specs.Prelude.{◌≡◌, ◌<◌};
 
 use crate::calls::{Told, UPDATED, minus, plus, update};
+use crate::same::is_same;
 use crate::worked::{Worked, next};
 use nr_map::{Reader, ReaderMap, Shape, Writer};
 use std::process::Abort;
@@ -150,9 +151,10 @@ fn are_all_done<R: Abort + AllocGlobal + Threads + Sync>(rt: &R, words: bool) {
         writer,
         reader: one,
     } = worked;
-    assert_eq!(rt;
-        update_beside(rt, &map, writer, one, two, three),
-        (TURNS, (TURNS, (TURNS, TURNS)))
+    is_same(
+        rt,
+        &update_beside(rt, &map, writer, one, two, three),
+        &(TURNS, (TURNS, (TURNS, TURNS))),
     );
 }
 

@@ -2,6 +2,7 @@
 ghost use Rattle.std.specs.Prelude.{◌≡◌, ◌<◌};
 
 use crate::calls::{Told, ask, find, pairs_are, rows_of};
+use crate::same::is_same;
 use crate::worked::{Worked, of_sizes};
 use nr_map::{Evict, Found, Reader, ReaderMap, Writer};
 use nr_model::RowSet;
@@ -150,7 +151,7 @@ fn are_found_whole<R: Abort + Threads + Sync>(rt: &R, mut worked: Worked)
         writer,
         reader,
     } = worked;
-    assert_eq!(rt; both_at_once(rt, &map, writer, reader), (true, true));
+    is_same(rt, &both_at_once(rt, &map, writer, reader), &(true, true));
 }
 
 #[test]

@@ -3,6 +3,7 @@
 ghost use Rattle.std.specs.Prelude.{◌≡◌, ◌<◌, All};
 
 use crate::calls::{Told, ask, evict, fill, find, look, pairs_are, rows_of, state, update};
+use crate::same::{are_same, is_same};
 use nr_map::{Evict, Found, KeyKind, Reader, ReaderMap, Shape, UpdateFault, Writer};
 use nr_model::{Delta, RowSet};
 use std::marker::Model;
@@ -133,7 +134,7 @@ impl Worked {
         ensures { self.new ≡ self.old }
     {
         is_key(rt, &self.map, key);
-        assert_eq!(rt; ask(&self.map, &mut self.reader, key), told);
+        is_same(rt, &ask(&self.map, &mut self.reader, key), &told);
     }
 
     /// Finds a key, and writes its rows into the set.
@@ -157,7 +158,7 @@ impl Worked {
         ensures { self.new ≡ self.old }
     {
         let mut rows = RowSet::new();
-        assert_eq!(rt; self.find(rt, key, &mut rows), Found::Rows);
+        is_same(rt, &self.find(rt, key, &mut rows), &Found::Rows);
         rows
     }
 
@@ -170,14 +171,14 @@ impl Worked {
     pub(crate) fn finds_set<R: Abort>(&mut self, rt: &R, key: u32, rows: &RowSet)
         ensures { self.new ≡ self.old }
     {
-        assert_eq!(rt; self.found(rt, key).as_slice(), rows.as_slice());
+        are_same(rt, self.found(rt, key).as_slice(), rows.as_slice());
     }
 
     pub(crate) fn looks<R: Abort>(&mut self, rt: &R, key: u32, pairs: &[(u64, u64)])
         ensures { self.new ≡ self.old }
     {
         let mut rows = RowSet::new();
-        assert_eq!(rt; self.look(rt, key, &mut rows), Found::Rows);
+        is_same(rt, &self.look(rt, key, &mut rows), &Found::Rows);
         rows_are(rt, &rows, pairs);
     }
 
@@ -188,7 +189,7 @@ impl Worked {
         let mut rows = RowSet::new();
         let looked = self.look(rt, key, &mut rows);
         let found = self.find(rt, key, &mut rows);
-        assert_eq!(rt; (looked, found), (Found::Hole, Found::Hole));
+        is_same(rt, &(looked, found), &(Found::Hole, Found::Hole));
     }
 
     pub(crate) fn fills_set<R: Abort>(&mut self, rt: &R, key: u32, number: u64, rows: &RowSet)
@@ -196,7 +197,7 @@ impl Worked {
     {
         is_key(rt, &self.map, key);
         let filled = fill(&self.map, &mut self.writer, key, number, rows);
-        assert_eq!(rt; filled, Some(Ok(())));
+        is_same(rt, &filled, &Some(Ok(())));
     }
 
     pub(crate) fn fills<R: Abort>(&mut self, rt: &R, key: u32, number: u64, pairs: &[(u64, u64)])
@@ -216,20 +217,20 @@ impl Worked {
     {
         is_key(rt, &self.map, key);
         let updated = update(&self.map, &mut self.writer, key, deltas);
-        assert_eq!(rt; updated, Some(answer));
+        is_same(rt, &updated, &Some(answer));
     }
 
     pub(crate) fn evicts<R: Abort>(&mut self, rt: &R, key: u32, answer: Evict)
         ensures { self.new ≡ self.old }
     {
         is_key(rt, &self.map, key);
-        assert_eq!(rt; evict(&self.map, &mut self.writer, key), answer);
+        is_same(rt, &evict(&self.map, &mut self.writer, key), &answer);
     }
 
     pub(crate) fn stands<R: Abort>(&mut self, rt: &R, key: u32, kind: KeyKind)
         ensures { self.new ≡ self.old }
     {
         is_key(rt, &self.map, key);
-        assert_eq!(rt; state(&self.map, &mut self.writer, key), kind);
+        is_same(rt, &state(&self.map, &mut self.writer, key), &kind);
     }
 }
