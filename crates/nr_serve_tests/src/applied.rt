@@ -2,6 +2,7 @@
 ghost use Rattle.std.specs.Prelude.{◌≡◌};
 
 use crate::opened::{Opened, Plain, end_client, end_flow, one_row};
+use crate::same::is_same;
 use nr_map::{Asked, Reader, ReaderMap, Writer};
 use nr_model::{Delta, Row, RowSet};
 use nr_serve::{Applied, Client, Dataflow, Got, Measure, OpenGate, Service};
@@ -127,5 +128,5 @@ fn waits<R: Threads + Wait + Clock + Sync>(rt: &R, opened: Opened) -> Heard {
 #[test]
 fn who_waits_until_so_much_was_applied_finds_it(rt: HostRuntime) {
     let heard = waits(&rt, Opened::open(&rt, 4));
-    assert_eq!(rt; heard, (Some(4), Got::Rows, Some(ADDED)));
+    is_same(&rt, &heard, &(Some(4), Got::Rows, Some(ADDED)));
 }

@@ -2,6 +2,7 @@
 ghost use Rattle.std.specs.Prelude.{◌≡◌, ◌<◌};
 
 use crate::opened::{Opened, Plain, end_client, end_flow, one_row};
+use crate::same::is_same;
 use nr_map::{Reader, Writer};
 use nr_model::{Row, RowSet};
 use nr_serve::{Client, Dataflow, Got, OpenGate, Service, Turn};
@@ -52,12 +53,16 @@ fn is_late_and_filled<R: Abort + Wait + Clock>(
     requires flow { flow.old.map ≡ client.old.map }
 {
     let unchanged = Some(Row { a: 9, b: 9 });
-    assert_eq!(rt; gets_in(rt, client, 20, 10), (None, unchanged));
-    assert_eq!(rt; gets_in(rt, client, 0, 10), (None, unchanged));
-    assert_eq!(rt; gets_in(rt, client, 0, 1), (Some(Got::GaveUp), unchanged));
-    assert_eq!(rt; (client.sends(), flow.turn(rt)), (1, Turn::Filled(0)));
+    is_same(rt, &gets_in(rt, client, 20, 10), &(None, unchanged));
+    is_same(rt, &gets_in(rt, client, 0, 10), &(None, unchanged));
+    is_same(
+        rt,
+        &gets_in(rt, client, 0, 1),
+        &(Some(Got::GaveUp), unchanged),
+    );
+    is_same(rt, &(client.sends(), flow.turn(rt)), &(1, Turn::Filled(0)));
     let filled = Some(Row { a: 0, b: 5 });
-    assert_eq!(rt; gets_in(rt, client, 0, 10), (Some(Got::Rows), filled));
+    is_same(rt, &gets_in(rt, client, 0, 10), &(Some(Got::Rows), filled));
 }
 
 // Calls that with a client and a dataflow of what was opened.
@@ -73,7 +78,7 @@ fn is_late<R: Abort + Wait + Clock>(rt: &R, opened: Opened) {
     let mut client = Client::open(&service, reader, poster, &gate);
     let mut flow = Dataflow::open(&service, writer, taker, Plain { bound: 0 });
     is_late_and_filled(rt, &mut client, &mut flow);
-    assert_eq!(rt; (end_client(client), end_flow(flow)), (false, false));
+    is_same(rt, &(end_client(client), end_flow(flow)), &(false, false));
 }
 
 // Gets key 0 within a minute.
@@ -141,5 +146,5 @@ fn a_get_that_sleeps_too_long_is_too_late(rt: HostRuntime) {
 #[test]
 fn a_fill_ends_a_sleep_before_its_time(rt: HostRuntime) {
     let ended = is_woken(&rt, Opened::open(&rt, 4));
-    assert_eq!(rt; ended, (Some(Got::Rows), Some(Row { a: 0, b: 5 })));
+    is_same(&rt, &ended, &(Some(Got::Rows), Some(Row { a: 0, b: 5 })));
 }

@@ -2,6 +2,7 @@
 ghost use Rattle.std.specs.Prelude.{◌≡◌};
 
 use crate::opened::{Opened, Plain, end_client, end_flow};
+use crate::same::is_same;
 use nr_map::{Reader, Writer};
 use nr_model::RowSet;
 use nr_serve::{Client, Dataflow, Got, OpenGate, Service, Turn};
@@ -136,5 +137,5 @@ fn beside<R: Threads + Wait + Clock + Sync>(
 #[test]
 fn the_post_of_a_kept_ticket_wakes_a_dataflow(rt: HostRuntime) {
     let woken = plays(&rt, Opened::with_room(&rt, 4, 1));
-    assert_eq!(rt; woken, Some((true, Got::Rows)));
+    is_same(&rt, &woken, &Some((true, Got::Rows)));
 }

@@ -19,6 +19,8 @@ mod opened;
 #[cfg(test)]
 mod queues;
 #[cfg(test)]
+mod same;
+#[cfg(test)]
 mod scenes;
 #[cfg(test)]
 mod sleepers;

@@ -2,7 +2,9 @@
 ghost use Rattle.std.specs.Prelude.{◌≡◌};
 
 use crate::opened::Opened;
+use crate::same::is_same;
 use nr_serve::{Guest, Lobby, NoLimit, Raiser, Watched};
+use nr_trigger::{Taker, Triggers};
 use std::process::Abort;
 use std::sync::Wait;
 
@@ -10,19 +12,20 @@ fn counts<R: Abort>(rt: &R, lobby: &Lobby, guest: &mut Guest, count: u64, is_clo
     requires { guest.old.lobby ≡ lobby.now }
     ensures { guest.new.lobby ≡ lobby.now }
 {
-    assert_eq!(rt;
-        (lobby.count(guest), lobby.is_closed(guest)),
-        (count, is_closed)
+    is_same(
+        rt,
+        &(lobby.count(guest), lobby.is_closed(guest)),
+        &(count, is_closed),
     );
 }
 
 fn counts_and_closes<R: Abort + Wait>(rt: &R, lobby: &Lobby) {
     let mut guest = lobby.guest();
     lobby.raise(rt, &mut guest);
-    assert_eq!(rt; lobby.wait_past(rt, &mut guest, 0), 1);
+    is_same(rt, &lobby.wait_past(rt, &mut guest, 0), &1);
     counts(rt, lobby, &mut guest, 1, false);
     lobby.close(&mut guest);
-    assert_eq!(rt; lobby.wait_past(rt, &mut guest, 7), 1);
+    is_same(rt, &lobby.wait_past(rt, &mut guest, 7), &1);
     counts(rt, lobby, &mut guest, 1, true);
 }
 
@@ -36,7 +39,7 @@ fn counts_for<R: Abort>(rt: &R, lobby: &Lobby, guest: &mut Guest, key: u32, coun
     requires { guest.old.lobby ≡ lobby.now }
     ensures { guest.new.lobby ≡ lobby.now }
 {
-    assert_eq!(rt; lobby.count_for(guest, key), count);
+    is_same(rt, &lobby.count_for(guest, key), &count);
 }
 
 fn raises_for_a_key<R: Abort + Wait>(rt: &R, lobby: &Lobby) {
@@ -45,7 +48,7 @@ fn raises_for_a_key<R: Abort + Wait>(rt: &R, lobby: &Lobby) {
     counts_for(rt, lobby, &mut guest, 67, 1);
     counts_for(rt, lobby, &mut guest, 4, 0);
     lobby.raise(rt, &mut guest);
-    assert_eq!(rt; lobby.wait_past_for(rt, &mut guest, 67, 1), 2);
+    is_same(rt, &lobby.wait_past_for(rt, &mut guest, 67, 1), &2);
     counts(rt, lobby, &mut guest, 2, false);
 }
 
@@ -56,7 +59,41 @@ fn a_raise_for_a_key_counts_for_its_group_and_the_whole(rt: HostRuntime) {
     raises_for_a_key(&rt, &lobby);
 }
 
-// A client and a dataflow of another crate have a guest each. The bell was rung before the dataflow would sleep.
+// What is raised for a key, and that a source failed, counts for its group.
+fn is_raised<R: Abort + Wait>(rt: &R, watched: &mut Watched<'_>, raiser: &mut Raiser<'_>) {
+    raiser.raise_for(rt, 3);
+    raiser.fail_for(rt, 67);
+    is_same(rt, &watched.group_count(3), &2);
+    is_same(rt, &watched.failures_for(3), &1);
+    assert!(rt; watched.wait_within(rt, 3, 1, &NoLimit).is_ok());
+}
+
+fn is_told<R: Abort + Wait>(rt: &R, watched: &mut Watched<'_>, raiser: &mut Raiser<'_>) {
+    raiser.tell(rt);
+    watched.wait_for_telling(rt, 0);
+    is_same(rt, &watched.tellings(), &1);
+    is_same(rt, &watched.is_closed(), &false);
+}
+
+// The bell was rung before the dataflow would sleep.
+fn is_rung<R: Abort + Wait>(
+    rt: &R,
+    triggers: &Triggers,
+    taker: &mut Taker,
+    watched: &mut Watched<'_>,
+    raiser: &mut Raiser<'_>,
+)
+    requires own { taker.old.queue ≡ triggers.now.id }
+{
+    let rung = raiser.rings(taker);
+    watched.ring(rt);
+    match triggers.take(rt, taker) {
+        None => raiser.wait_for_ring(rt, &rung, taker),
+        Some(_trigger) => panic!(rt; "no ticket"),
+    }
+}
+
+// A client and a dataflow of another crate have a guest each.
 fn serves_another_crate<R: Abort + Wait>(rt: &R, opened: Opened) {
     let Opened {
         service,
@@ -67,19 +104,15 @@ fn serves_another_crate<R: Abort + Wait>(rt: &R, opened: Opened) {
     } = opened;
     let mut watched = Watched::of(service.lobby());
     let mut raiser = Raiser::of(service.lobby());
-    raiser.raise_for(rt, 3);
-    raiser.fail_for(rt, 67);
-    assert_eq!(rt; (watched.group_count(3), watched.failures_for(3)), (2, 1));
-    assert!(rt; watched.wait_within(rt, 3, 1, &NoLimit).is_ok());
-    raiser.tell(rt);
-    watched.wait_for_telling(rt, 0);
-    assert_eq!(rt; (watched.tellings(), watched.is_closed()), (1, false));
-    let rung = raiser.rings(&taker);
-    watched.ring(rt);
-    match service.triggers().take(rt, &mut taker) {
-        None => raiser.wait_for_ring(rt, &rung, &taker),
-        Some(_trigger) => panic!(rt; "no ticket"),
-    }
+    is_raised(rt, &mut watched, &mut raiser);
+    is_told(rt, &mut watched, &mut raiser);
+    is_rung(
+        rt,
+        service.triggers(),
+        &mut taker,
+        &mut watched,
+        &mut raiser,
+    );
 }
 
 #[test]

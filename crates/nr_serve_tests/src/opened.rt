@@ -2,6 +2,7 @@
 ghost use Rattle.std.specs.Prelude.{◌≡◌, ◌<◌, ◌≤◌, All, length};
 
 use crate::gates::Noting;
+use crate::same::is_same;
 use nr_map::{Reader, ReaderMap, Shape, Writer};
 use nr_model::{Row, RowSet};
 use nr_serve::{Client, Dataflow, Gate, Got, Lobby, Service, Source, SourceFault, Turn};
@@ -181,7 +182,7 @@ pub(crate) fn gets<R: Abort + Wait>(
     requires { key < client.old.map.shape.keys }
     ensures { client.new.map ≡ client.old.map }
 {
-    assert_eq!(rt; client.get(rt, key, 1, rows), got);
+    is_same(rt, &client.get(rt, key, 1, rows), &got);
 }
 
 // A get of one try that finds a hole.
@@ -195,5 +196,5 @@ pub(crate) fn misses<R: Abort + Wait>(rt: &R, client: &mut Client<'_, Noting>, k
 pub(crate) fn turns<R: Abort + Wait>(rt: &R, flow: &mut Dataflow<'_, Plain>, turn: Turn)
     ensures { flow.new.map ≡ flow.old.map }
 {
-    assert_eq!(rt; flow.turn(rt), turn);
+    is_same(rt, &flow.turn(rt), &turn);
 }

@@ -3,6 +3,7 @@ ghost use Rattle.std.specs.Prelude.{◌≡◌};
 
 use crate::gates::Noting;
 use crate::opened::{Opened, Plain, end_client, end_flow, gets, misses, turns};
+use crate::same::is_same;
 use nr_map::{Evict, NoSlot};
 use nr_model::{Delta, Row, RowSet};
 use nr_serve::{Client, Dataflow, Got, Lobby, Turn};
@@ -25,7 +26,7 @@ fn gives_up<R: Abort + Wait>(rt: &R, lobby: &Lobby, client: &mut Client<'_, Noti
     requires { client.old.map.shape.keys ≡ 2 }
 {
     lobby.close(&mut lobby.guest());
-    assert_eq!(rt; client.get(rt, 0, 3, &mut RowSet::new()), Got::GaveUp);
+    is_same(rt, &client.get(rt, 0, 3, &mut RowSet::new()), &Got::GaveUp);
 }
 
 // The gate lets nobody pass, and then everybody.
@@ -40,9 +41,9 @@ fn is_barred_and_passes<R: Abort + Wait>(
     misses(rt, client, 0);
     turns(rt, flow, Turn::Filled(0));
     gets(rt, client, 0, &mut RowSet::new(), Got::Barred);
-    assert_eq!(rt; gate.noted(), (1_000_000, 0));
+    is_same(rt, &gate.noted(), &(1_000_000, 0));
     gets(rt, client, 0, &mut RowSet::new(), Got::Rows);
-    assert_eq!(rt; gate.noted(), (1_000_001, 1));
+    is_same(rt, &gate.noted(), &(1_000_001, 1));
 }
 
 // There is one slot, which key 0 has until it is evicted. The source was told the map's bound on rows.
@@ -58,10 +59,10 @@ fn keeps_its_trigger<R: Abort + Wait>(
     misses(rt, client, 1);
     turns(rt, flow, Turn::Filled(0));
     turns(rt, flow, Turn::Kept(NoSlot { live: 1, held: 0 }));
-    assert_eq!(rt; flow.evict(0), Evict::Evicted);
+    is_same(rt, &flow.evict(0), &Evict::Evicted);
     turns(rt, flow, Turn::Filled(1));
     let bound = flow.source().bound;
-    assert_eq!(rt; bound, 15);
+    is_same(rt, &bound, &15);
 }
 
 // The client is told of what the dataflow applied, and finds it.
@@ -83,7 +84,7 @@ fn hears_and_finds<R: Abort + Wait>(
     client.hear(flow.note());
     let mut rows = RowSet::new();
     gets(rt, client, 0, &mut rows, Got::Rows);
-    assert_eq!(rt; (applied.is_ok(), rows.get(1)), (true, Some(ADDED)));
+    is_same(rt, &(applied.is_ok(), rows.get(1)), &(true, Some(ADDED)));
 }
 
 impl Scene {

@@ -1,5 +1,6 @@
 //! Threads that sleep in a lobby, and what wakes them: each is given time to fall asleep, and then must come back by
 //! one call alone. On a slow machine it may not sleep yet, and what is asserted holds all the same.
+use crate::same::is_same;
 use nr_serve::Lobby;
 use std::alloc::{AllocError, Global};
 use std::process::Abort;
@@ -160,7 +161,7 @@ fn all_wake<R: Threads + Wait + Clock + Sync + AllocGlobal + Abort>(
     deed: Deed,
 ) {
     let lobby = Lobby::open(rt.alloc()).expect(rt, "a lobby");
-    assert_eq!(rt; are_woken(rt, &lobby, sleepers, deed), Some(true));
+    is_same(rt, &are_woken(rt, &lobby, sleepers, deed), &Some(true));
 }
 
 #[test]

@@ -3,6 +3,7 @@ ghost use Rattle.std.specs.Prelude.{◌≡◌, ◌<◌, IfSome, None};
 
 use crate::gates::Noting;
 use crate::opened::{Opened, end_client, end_flow, gets, misses, one_row};
+use crate::same::{are_same, is_same};
 use nr_map::{Cancel, Evict};
 use nr_model::{Row, RowSet};
 use nr_serve::{Client, Dataflow, Got, Lobby, Source, SourceFault, Spent, Turn};
@@ -74,21 +75,21 @@ fn comes_to<R: Abort + Wait>(
     requires sizes { (flow.old.map.shape.keys ≡ 2) × (flow.old.map.shape.rows ≡ 15) }
     ensures { flow.new.map ≡ flow.old.map }
 {
-    assert_eq!(rt; ends(rt, flow, trigger, act), wanted);
+    is_same(rt, &ends(rt, flow, trigger, act), &wanted);
 }
 
 // The next turn.
 fn turns<R: Abort + Wait>(rt: &R, flow: &mut Flow<'_>, wanted: Turn)
     ensures { flow.new.map ≡ flow.old.map }
 {
-    assert_eq!(rt; flow.turn(rt), wanted);
+    is_same(rt, &flow.turn(rt), &wanted);
 }
 
 // How often the client was told that the source failed for key 0.
 fn failures<R: Abort>(rt: &R, client: &mut Client<'_, Noting>, wanted: u64)
     ensures { client.new.map ≡ client.old.map }
 {
-    assert_eq!(rt; client.failures_for(0), wanted);
+    is_same(rt, &client.failures_for(0), &wanted);
 }
 
 // The next trigger.
@@ -111,7 +112,7 @@ fn finds<R: Abort + Wait>(rt: &R, client: &mut Client<'_, Noting>, key: u32, b: 
         a: u64::from(key),
         b,
     };
-    assert_eq!(rt; rows.as_slice(), [row].as_slice());
+    are_same(rt, rows.as_slice(), [row].as_slice());
 }
 
 // Two triggers are under way, and the second is filled first.
@@ -141,7 +142,7 @@ fn source_fails<R: Abort + Wait>(rt: &R, client: &mut Client<'_, Noting>, flow: 
     failures(rt, client, 1);
     misses(rt, client, 0);
     turns(rt, flow, Turn::Filled(0));
-    assert_eq!(rt; client.sends(), 2);
+    is_same(rt, &client.sends(), &2);
     finds(rt, client, 0, 5);
 }
 
@@ -157,7 +158,7 @@ fn comes_late<R: Abort + Wait>(
 {
     misses(rt, client, 0);
     let late = takes(rt, flow);
-    assert_eq!(rt; flow.cancel(rt, 0), Cancel::Cancelled);
+    is_same(rt, &flow.cancel(rt, 0), &Cancel::Cancelled);
     misses(rt, client, 0);
     comes_to(rt, flow, late, act, Some(Spent::Passed));
     misses(rt, client, 0);
@@ -177,7 +178,7 @@ fn finds_no_slot<R: Abort + Wait>(rt: &R, client: &mut Client<'_, Noting>, flow:
     let two = takes(rt, flow);
     comes_to(rt, flow, one, Act::Fill, Some(Spent::Filled));
     comes_to(rt, flow, two, Act::Fill, None);
-    assert_eq!(rt; flow.evict(0), Evict::Evicted);
+    is_same(rt, &flow.evict(0), &Evict::Evicted);
     let two = takes(rt, flow);
     comes_to(rt, flow, two, Act::Fill, Some(Spent::Filled));
     finds(rt, client, 1, 7);
@@ -266,7 +267,7 @@ fn play_in<R: Abort + Wait>(rt: &R, scene: Scene, opened: Opened) {
     let mut client = Client::open(&service, reader, poster, &gate);
     let mut flow = Dataflow::open(&service, writer, taker, Faulty { faults: 0 });
     scene.play(rt, service.lobby(), &mut client, &mut flow);
-    assert_eq!(rt; (end_client(client), end_flow(flow)), (false, false));
+    is_same(rt, &(end_client(client), end_flow(flow)), &(false, false));
 }
 
 fn play<R: Abort + Wait + AllocGlobal>(rt: &R, scene: Scene) {

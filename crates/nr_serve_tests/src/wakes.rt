@@ -4,6 +4,7 @@
 ghost use Rattle.std.specs.Prelude.{◌≡◌};
 
 use crate::opened::{Opened, Plain, end_client, end_flow};
+use crate::same::is_same;
 use nr_map::{Cancel, Reader, Writer};
 use nr_model::RowSet;
 use nr_serve::{Client, Dataflow, Got, OpenGate, Service, Turn};
@@ -320,36 +321,36 @@ fn ended(got: Got, sends: u64) -> Slept {
 #[test]
 fn a_cancel_and_a_fill_wake_a_client(rt: HostRuntime) {
     let woken = client_is_woken(&rt, Opened::open(&rt, 4), Cause::Work);
-    assert_eq!(rt; woken, Some((ended(Got::Rows, 2), true)));
+    is_same(&rt, &woken, &Some((ended(Got::Rows, 2), true)));
 }
 
 #[test]
 fn a_close_wakes_a_client(rt: HostRuntime) {
     let woken = client_is_woken(&rt, Opened::open(&rt, 4), Cause::Close);
-    assert_eq!(rt; woken, Some((ended(Got::GaveUp, 1), true)));
+    is_same(&rt, &woken, &Some((ended(Got::GaveUp, 1), true)));
 }
 
 // A client that waits for a second has a processor for next to none of it.
 #[test]
 fn a_client_that_waits_is_idle(rt: HostRuntime) {
     let woken = client_is_woken(&rt, Opened::open(&rt, 4), Cause::LateClose);
-    assert_eq!(rt; woken, Some((ended(Got::GaveUp, 1), true)));
+    is_same(&rt, &woken, &Some((ended(Got::GaveUp, 1), true)));
 }
 
 #[test]
 fn a_post_wakes_a_dataflow(rt: HostRuntime) {
     let woken = flow_is_woken(&rt, Opened::open(&rt, 4), Cause::Work);
-    assert_eq!(rt; woken, Some((true, true)));
+    is_same(&rt, &woken, &Some((true, true)));
 }
 
 #[test]
 fn a_close_wakes_a_dataflow(rt: HostRuntime) {
     let woken = flow_is_woken(&rt, Opened::open(&rt, 4), Cause::Close);
-    assert_eq!(rt; woken, Some((true, true)));
+    is_same(&rt, &woken, &Some((true, true)));
 }
 
 #[test]
 fn a_dataflow_that_waits_is_idle(rt: HostRuntime) {
     let woken = flow_is_woken(&rt, Opened::open(&rt, 4), Cause::LateClose);
-    assert_eq!(rt; woken, Some((true, true)));
+    is_same(&rt, &woken, &Some((true, true)));
 }
