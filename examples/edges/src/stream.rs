@@ -80,7 +80,7 @@ impl Stream {
         Ok(First { snapshot, place: place.parse().map_err(|_| End::Lost)? })
     }
 
-    /// With the same slot. A server that was restarted may be another one, or have lost what it told.
+    /// With the same slot. A server that was started anew may be another one, or have lost what it told.
     fn go_on(&self, start: String, made_in: &mut Option<String>) -> Result<(), End> {
         *made_in = Some(start.clone());
         let mut connection = self.connect()?;
@@ -164,9 +164,11 @@ impl Place {
     }
 }
 
-/// When the server was started.
+/// When the server was started, or has recovered by itself, as it does where one of its processes is killed: then it counts
+/// these statistics anew.
 fn start_of(connection: &mut Connection) -> Result<String, Fault> {
-    connection.run("SELECT pg_postmaster_start_time()").map(|tables| tables[0][0].concat())
+    let sql = "SELECT pg_postmaster_start_time(), stats_reset FROM pg_stat_bgwriter";
+    connection.run(sql).map(|tables| tables[0][0].concat())
 }
 
 /// Drops a slot, where there is one, and ends who has it.

@@ -16,7 +16,7 @@ struct Case {
 }
 
 /// A name, and what happens.
-const CASES: [(&str, fn(&mut Case)); 11] = [
+const CASES: [(&str, fn(&mut Case)); 12] = [
     ("log", a_commit_that_no_snapshot_sees_yet),
     ("first_snapshot", a_commit_that_the_new_slot_does_not_carry),
     ("early", an_answer_that_is_older_than_the_slot),
@@ -26,6 +26,7 @@ const CASES: [(&str, fn(&mut Case)); 11] = [
     ("limit", a_slot_that_is_too_far_behind),
     ("truncate", a_table_that_is_truncated_or_changed),
     ("restart", a_server_that_is_restarted),
+    ("crash", a_server_that_recovers_by_itself),
     ("killed", an_edge_that_is_killed),
     ("tokens", a_token_that_is_not_reached),
 ];
@@ -296,6 +297,24 @@ fn a_server_that_is_restarted(case: &mut Case) {
     case.base = Connection::open(&case.address).unwrap();
     let now = case.write("INSERT INTO votes VALUES ('u', 1, 1)");
     assert_eq!(edge.ask(&format!("GET u {now}")), "1:1");
+    assert_eq!(edge.count("losses"), 1);
+}
+
+/// A snapshot sees a commit that isn't on the disk yet, and is lost where one of PostgreSQL's processes is killed.
+fn a_server_that_recovers_by_itself(case: &mut Case) {
+    let edge = case.following(&[]);
+    let walwriter = case.sql("SELECT pid FROM pg_stat_activity WHERE backend_type = 'walwriter'");
+    signal("STOP", &walwriter);
+    let mut early = Connection::open(&format!("{} options='-c synchronous_commit=off'", case.address)).unwrap();
+    last(&mut early, "INSERT INTO votes VALUES ('c', 1, 1)");
+    assert_eq!(edge.ask("GET c"), "1:1");
+    signal("KILL", &last(&mut early, "SELECT pg_backend_pid()").concat().concat());
+    until("PostgreSQL ends its other processes", || case.base.run("SELECT 1").is_err());
+    signal("CONT", &walwriter);
+    until("PostgreSQL is there", || Connection::open(&case.address).map(|base| case.base = base).is_ok());
+    assert_eq!(rows_in_table(&mut case.base, "c"), "", "the commit is lost");
+    let now = case.write("INSERT INTO votes VALUES ('d', 1, 1)");
+    assert_eq!(edge.ask(&format!("GET c {now}")), "");
     assert_eq!(edge.count("losses"), 1);
 }
 
