@@ -19,9 +19,12 @@ import time
 
 from articles import Article, at_failure, fails
 from clients import Client, Leaver, Reader, Writer
+from early import Early
 
 ARTICLES = 60
-LOOKS = 60
+READERS = 24
+LOOKS = 30
+EARLY = "answer of before a slot"
 
 
 class Server:
@@ -48,7 +51,19 @@ class Server:
             self.process.wait()
             self.bed.counts["not started"] += 1
         self.port = int(line.rsplit(":")[-1])
+        self.work_at_once()
         (room / f"{self.name}.pid").write_text(str(self.process.pid))
+
+    def work_at_once(self):
+        """Has each session of it work, so that its memory isn't the more the more clients once came together."""
+        try:
+            clients = [Client(self.port, patience=5) for _ in range(READERS)]
+            for client in clients:
+                client.send("UNVOTE nothing 0 0")
+            for client in clients:
+                client.reply()
+        except OSError:
+            self.bed.counts["not warm"] += 1
 
     def mend(self):
         """What is refused memory ends, as each program of Rust does."""
@@ -114,22 +129,33 @@ class Bed:
     def rest(self):
         """Has all workers rest, and looks whether one is forgotten."""
         self.rests.set()
-        looks, last = 0, None
-        while late := [worker for worker in self.workers if not worker.is_at_rest]:
-            for server in self.servers:
-                server.mend()
-            forgotten = [worker for worker in late if worker.awaits and self.is_told(worker.awaits)]
-            state = forgotten, sum(self.counts.values())
-            # Who was woken, or waits for a processor, doesn't sleep for the system: so looks are enough.
-            looks = (looks if state == last else 0) + all(server.sleeps() for server in self.servers)
-            last = state
-            if forgotten and looks >= LOOKS:
-                fails("asleep", f"nobody answers a GET of {forgotten[0].awaits.name}")
-            time.sleep(0.02)
+        self.await_all(self.workers)
+        self.at_rest()
         for article in self.articles:
             self.is_told(article)
         self.rests.clear()
         self.counts["rests"] += 1
+
+    def at_rest(self):
+        pass
+
+    def await_all(self, workers):
+        """Until they rest. One is forgotten that is still without an answer some time after another was told the article."""
+        looks, last, forgotten = 0, None, []
+        while late := [worker for worker in workers if not worker.is_at_rest]:
+            for server in self.servers:
+                server.mend()
+            time.sleep(0.02)
+            state = late, sum(self.counts.values())
+            if state != last:
+                looks, last, forgotten = 0, state, []
+            # Who was woken, or waits for a processor, doesn't sleep for the system: so looks are enough.
+            looks += all(server.sleeps() for server in self.servers)
+            if looks == LOOKS and forgotten:
+                fails("asleep", f"nobody answers a GET of {forgotten[0].awaits.name}")
+            if looks == LOOKS:
+                # Who asks a server wakes it, and so it is looked at again.
+                looks, forgotten = 0, [worker for worker in late if worker.awaits and self.is_told(worker.awaits)]
 
     def is_told(self, article):
         """Whether somebody else is told the article at each server, and rightly."""
@@ -148,6 +174,7 @@ class Bed:
 
     def run(self, is_over):
         """Each fault comes once before one comes again."""
+        self.rest()
         while not is_over.is_set():
             faults = [self.kill, self.lock, self.lock, self.rest, *self.others()]
             for fault in self.dice.sample(faults, len(faults)):
@@ -196,16 +223,17 @@ class ViewServer(Bed):
 
 
 class Edges(Bed):
-    has_tokens, pause = True, 1.5
+    has_tokens, pause, connections = True, 1.5, 4
 
     def begin(self):
         script = [str(pathlib.Path(__file__).parent / "postgres"), str(pathlib.Path(self.program).parents[2])]
         self.base = subprocess.Popen(script, stdin=subprocess.PIPE, stdout=subprocess.PIPE, text=True)
         self.address = self.base.stdout.readline().strip()
         self.folder = pathlib.Path(self.address.split()[0].removeprefix("host="))
-        sizes = ["--readers", "24", "--keys", "50", "--rows", "15", "--limit", "20", "--slots", "30"]
+        sizes = f"--readers {READERS} --keys 50 --rows 15 --limit 20 --slots 30 --connections {self.connections}".split()
         # The second one's ticket numbers begin next to their end.
         numbers = [0, 4194300]
+        self.counts["ticket numbers next to 2^22"] += 1
         for name, number in zip(["edge_1", "edge_2"], numbers):
             words = [self.program, f"{self.address} application_name={name}", name, *sizes, "--number", str(number)]
             self.servers.append(Server(self, name, words))
@@ -232,12 +260,29 @@ class Edges(Bed):
         self.tell("lock")
         self.counts["base locked"] += 1
 
+    def at_rest(self):
+        """Each edge in turn, which may end or refuse a thread, is told late what was asked before its slot."""
+        for _ in range(3):
+            server = self.servers[self.counts[EARLY] % 2]
+            server.mend()
+            try:
+                Early(self, server).run()
+            except OSError:
+                continue
+            self.counts[EARLY] += 1
+            return
+
     def others(self):
-        return [self.restart, self.drop, self.drop]
+        return [self.restart, self.crash, self.drop, self.drop]
 
     def restart(self):
         self.tell("restart")
         self.counts["base restarted"] += 1
+
+    def crash(self):
+        """The base ends its other processes and recovers by itself."""
+        self.tell("crash")
+        self.counts["base's process killed"] += 1
 
     def drop(self):
         """Each edge begins anew with a new slot, while processes stop that answer upqueries of before."""
