@@ -216,6 +216,11 @@ uint32_t nr_id_group(const nr_id_shape *shape, uint64_t id) {
   return proved_nr_id_group(shape, id);
 }
 
+uint32_t proved_nr_id_second_group(const nr_id_shape *shape, uint64_t id);
+uint32_t nr_id_second_group(const nr_id_shape *shape, uint64_t id) {
+  return proved_nr_id_second_group(shape, id);
+}
+
 uint32_t proved_nr_open_ids(const nr_id_shape *shape, nr_id_writer *writer);
 uint32_t nr_open_ids(const nr_id_shape *shape, nr_id_writer *writer) {
   return writer ? proved_nr_open_ids(shape, writer) : NR_CLOSED;

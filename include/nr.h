@@ -479,21 +479,23 @@ uint32_t nr_post(nr_poster *poster, uint32_t key, uint64_t number);
    was empty at one moment of the call, and NR_IN_THE_WAY leave them as they were. */
 uint32_t nr_take(nr_taker *taker, uint32_t *key, uint64_t *number);
 
-/* A MAP OVER IDS, numbers from 1 on, of which at most as many have rows as there are slots. A group of ids has eight
-   ways; an id has one of them while it has rows or an open upquery. Each call with an id answers NR_NO_KEY for 0.
+/* A MAP OVER IDS, numbers from 1 on, of which at most as many have rows as there are slots. A group has eight ways. An
+   id has one, of its group or of its second group, while it has rows or an open upquery. Each call with an id answers
+   NR_NO_KEY for 0.
    A get. Find the id. At NR_HOLE or NR_OTHER request it; who gets NR_SEND passes the id to the thread that writes,
    which admits it, gets the rows, and fills. At NR_ASKED, NR_WAITING or NR_NAMED wait and find again. After a fill, a
    withdrawal and an eviction wake those who wait.
-   A full group. At NR_FULL evict an id whose nr_id_group is the same, as nr_choose_id tells one, and admit again: the
-   claim stays open.
+   Full groups. At NR_FULL evict the id that nr_choose_id tells, and admit again: the claim stays open.
    Dropping an id's rows, because the base changed. Withdraw its upquery, if one is open, and evict it: a late fill is
    NR_STALE. embed/c/ids.c is a whole program.
    Holding. nr_find_id, nr_find_each_id and nr_pin_id answer NR_HOLDING if the reader holds a set, and nr_row_at_id,
    nr_copy_id, nr_again_id and nr_release_id NR_NOT_HOLDING if it holds none. Then there was no step, and nothing has
    changed. Hot ids, and rows that refer to data, are as those of keys. */
 
-/* The group of an id in a map of that shape, from 0. 0 if the shape has no groups, or too many. No step. */
+/* The two groups of an id in a map of that shape, from 0; a map of two groups or more gives it two. 0 if the shape has
+   no groups, or too many. No step. */
 uint32_t nr_id_group(const nr_id_shape *shape, uint64_t id);
+uint32_t nr_id_second_group(const nr_id_shape *shape, uint64_t id);
 
 /* Opens a map over ids, and makes the writer's handle live: NR_DONE. NR_LIVE if it is live already, NR_BAD_SIZE or
    NR_NO_MEMORY leave it as it was. */
@@ -509,12 +511,12 @@ uint32_t nr_open_id_reader(nr_id_writer *writer, nr_id_reader *reader);
 void nr_close_id_reader(nr_id_reader *reader);
 void nr_close_id_writer(nr_id_writer *writer);
 
-/* Looks an id up. It takes W steps, one for each way's name that it looks at, up to the id's own; W is 8 if no way has
-   the id. NR_ROWS after 2n + 7 more for n rows, and 1 for the found way's use bit, or 2 if that isn't set yet, and
-   `rows` has them; NR_ASKED after 1 more, if its upquery is open or it was evicted within the call; NR_OTHER if its way
-   became another id's within the call; NR_HOLE if it had no way at a moment within the call. If the writer wrote the
-   way meanwhile, NR_ROWS and NR_ASKED take more steps as nr_find does. Any answer but NR_ROWS leaves `rows` as it
-   was. */
+/* Looks an id up. It takes 1 step, and W, one for each way's name that it looks at, up to the id's own: W is 1 to 8 in
+   the id's group, 9 to 16 in its second group, and 16 if no way has the id. NR_ROWS after 2n + 7 more for n rows, and 1
+   for the found way's use bit, or 2 if that isn't set yet, and `rows` has them; NR_ASKED after 1 more, if its upquery
+   is open or it was evicted within the call; NR_OTHER if its way became another id's within the call; NR_HOLE if it had
+   no way at a moment within the call. If the writer wrote the way meanwhile, NR_ROWS and NR_ASKED take more steps as
+   nr_find does. Any answer but NR_ROWS leaves `rows` as it was. */
 uint32_t nr_find_id(nr_id_reader *reader, uint64_t id, nr_rows *rows);
 
 /* Finds n ids, as nr_find_id does, in the given order: NR_DONE, and each nr_wanted_id has its answer and its rows. An
@@ -547,17 +549,17 @@ uint32_t nr_find_kept_id(nr_id_reader *reader, uint64_t id, nr_rows *rows);
 /* Ends the hold, in 1 step: NR_DONE. */
 uint32_t nr_release_id(nr_id_reader *reader);
 
-/* Requests an id. NR_SEND after 10 steps: the caller has the claim of its group, and passes the id to the thread that
-   writes. Until that thread admits an id of the group others get NR_WAITING, after 1 or 10. NR_NAMED after 2 to 9.
+/* Requests an id. NR_SEND after 18 steps: the caller has the claim of its group, and passes the id to the thread that
+   writes. Until that thread admits an id of the group others get NR_WAITING, after 1 or 18. NR_NAMED after 2 to 17.
    NR_WORN after 1, once its group has had 2^61 claims. What the reader holds stays held. */
 uint32_t nr_request_id(nr_id_reader *reader, uint64_t id);
 
 /* The writer's own find: as nr_find_id, but never NR_OTHER, and NR_ROWS after W + 2n + 4 steps. */
 uint32_t nr_look_id(nr_id_writer *writer, uint64_t id, nr_rows *rows);
 
-/* Gives an id of a claimed group a way, and opens an upquery for it: NR_SEND after 16 steps, and `upquery` has its
-   numbers. NR_NOT_ASKED after 1, if no claim of the group is open; NR_NAMED after 2 to 9; NR_FULL after 9, if each way
-   of the group is another id's. These three leave `upquery` as it was. */
+/* Gives an id of a claimed group a way, and opens an upquery for it: NR_SEND after 24 steps, and `upquery` has its
+   numbers. NR_NOT_ASKED after 1, if no claim of the group is open; NR_NAMED after 2 to 17; NR_FULL after 17, if each
+   way of the id's two groups is another's. These three leave `upquery` as it was. */
 uint32_t nr_admit(nr_id_writer *writer, uint64_t id, nr_upquery *upquery);
 
 /* Fills an open upquery's id with n rows in ascending order, each `a` above 0. NR_TOO_MANY, NR_NOT_SORTED, NR_BAD_ROW,
@@ -571,8 +573,8 @@ uint32_t nr_fill_id(nr_id_writer *writer, const nr_upquery *upquery, const nr_ro
    number, and only its own fill ends it. */
 uint32_t nr_withdraw_id(nr_id_writer *writer, const nr_upquery *upquery);
 
-/* As nr_update and nr_replace, of an id's rows, each `a` above 0: else NR_BAD_ROW without a step. NR_NOTHING after 8 if
-   the id has no way; NR_DROPPED if its upquery is open. */
+/* As nr_update and nr_replace, of an id's rows, each `a` above 0: else NR_BAD_ROW without a step. NR_NOTHING after 16
+   if the id has no way; NR_DROPPED if its upquery is open. */
 uint32_t nr_update_id(nr_id_writer *writer, uint64_t id, const nr_delta *deltas, size_t n);
 uint32_t nr_replace_id(nr_id_writer *writer, uint64_t id, const nr_row *rows, size_t n);
 
@@ -597,11 +599,11 @@ uint32_t nr_evict_id(nr_id_writer *writer, uint64_t id);
 uint32_t nr_invalidate_id(nr_id_writer *writer, uint64_t id);
 
 /* Two hints for a choice of what to evict. Whether the id's rows were found since this was asked last, by anything but
-   nr_again_id: NR_DONE after W + 2 steps, and NR_NOTHING after W + 1, or 8 if the id has no way. */
+   nr_again_id: NR_DONE after W + 2 steps, and NR_NOTHING after W + 1, or 16 if the id has no way. */
 uint32_t nr_uses_id(nr_id_writer *writer, uint64_t id);
 
-/* An id of the same group, by second chance: NR_DONE after 3 steps, and `chosen` is the first from the last choice
-   on that wasn't found since. NR_NOTHING if the chosen way is nobody's, and `chosen` stays as it was. Where the
+/* The id of a way of that id's group, by second chance: NR_DONE after 3 steps, and `chosen` is the first from the last
+   choice on that wasn't found since. NR_NOTHING if the chosen way is nobody's, and `chosen` stays as it was. Where the
    chosen id's upquery is open nr_evict_id answers NR_NOTHING; then choose again. */
 uint32_t nr_choose_id(nr_id_writer *writer, uint64_t id, uint64_t *chosen);
 

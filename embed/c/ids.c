@@ -110,24 +110,26 @@ static void test_refusals(nr_id_writer *writer, nr_id_reader *reader) {
   WANTS(NR_DONE, nr_fill_id(writer, &upquery, ORDERS, 0));
 }
 
-/* The ids of a full group: one makes room. */
+/* Ids of one group, whose second is the other: they fill both, and then one makes room. */
 static void test_full(const nr_id_shape *shape, nr_id_writer *writer, nr_id_reader *reader) {
-  uint64_t ids[9], found = 0;
+  enum { WAYS = 2 * 8 };
+  uint64_t ids[WAYS + 1], found = 0;
   nr_upquery upquery;
-  for (uint64_t id = 1000; found < 9; id++)
+  for (uint64_t id = 1000; found < WAYS + 1; id++)
     if (nr_id_group(shape, id) == 1) ids[found++] = id;
   WANTS(NR_EVICTED, nr_evict_id(writer, USER));
   WANTS(NR_EVICTED, nr_evict_id(writer, 7));
-  for (int next = 0; next < 8; next++) {
+  for (int next = 0; next < WAYS; next++) {
+    if (nr_id_second_group(shape, ids[next]) != 0) WANTS(NR_DONE, NR_OTHER);
     upquery = admitted(writer, reader, ids[next]);
     WANTS(NR_DONE, nr_fill_id(writer, &upquery, ORDERS, 1));
   }
-  WANTS(NR_SEND, nr_request_id(reader, ids[8]));
-  WANTS(NR_FULL, nr_admit(writer, ids[8], &upquery));
+  WANTS(NR_SEND, nr_request_id(reader, ids[WAYS]));
+  WANTS(NR_FULL, nr_admit(writer, ids[WAYS], &upquery));
   WANTS(NR_EVICTED, nr_evict_id(writer, ids[3]));
-  WANTS(NR_SEND, nr_admit(writer, ids[8], &upquery));
+  WANTS(NR_SEND, nr_admit(writer, ids[WAYS], &upquery));
   WANTS(NR_DONE, nr_fill_id(writer, &upquery, ORDERS, 2));
-  for (int next = 0; next < 9; next++) WANTS(next == 3 ? NR_HOLE : NR_ROWS, nr_find_id(reader, ids[next], &rows));
+  for (int next = 0; next <= WAYS; next++) WANTS(next == 3 ? NR_HOLE : NR_ROWS, nr_find_id(reader, ids[next], &rows));
 }
 
 /* Sets come back with the id that they were of. */

@@ -1,8 +1,9 @@
-/* This map over ids, by the calls of include/nr.h. It is opened with as few groups as leave no id without a way. */
+/* This map over ids, by the calls of include/nr.h. It is opened with as few groups as leave no id without a way, from
+   five ids a group on. */
 #include "contestant.h"
 #include "nr.h"
 
-enum { SPARE = 64, WAYS = 8, TRIES = 16 };
+enum { SPARE = 64, WAYS = 8, AMPLE = 3, TRIES = 16 };
 
 typedef struct {
   nr_id_writer writer;
@@ -19,19 +20,24 @@ static void rows_of(uint64_t id, uint64_t version, nr_row row[ROWS]) {
   memcpy(row, &v, sizeof v);
 }
 
+/* Whether each id finds a way, as nr_admit looks for one. */
 static bool has_room(const plan *p, const nr_id_shape *shape) {
   uint8_t *ids = calloc(shape->groups, 1);
   if (!ids) stop_for("there is no memory");
   bool fits = true;
-  for (uint64_t i = 0; i < p->keys && fits; i++) fits = ++ids[nr_id_group(shape, key_at(p, i))] <= WAYS;
+  for (uint64_t i = 0; i < p->keys && fits; i++) {
+    uint8_t *here = &ids[nr_id_group(shape, key_at(p, i))], *there = &ids[nr_id_second_group(shape, key_at(p, i))];
+    uint8_t *at = *here <= WAYS - AMPLE || *here <= *there ? here : there;
+    fits = ++*at <= WAYS;
+  }
   free(ids);
   return fits;
 }
 
 static nr_id_shape shape_for(const plan *p) {
   uint32_t readers = 4 * MOST_READERS, keys = (uint32_t)p->keys;
-  nr_id_shape shape = {keys / 4 + 1, keys + readers + SPARE, readers, ROWS, 0, 0};
-  for (;; shape.groups += keys / 16 + 1)
+  nr_id_shape shape = {keys / 5 + 1, keys + readers + SPARE, readers, ROWS, 0, 0};
+  for (;; shape.groups += keys / 32 + 1)
     for (shape.key = 1; shape.key <= TRIES; shape.key++)
       if (has_room(p, &shape)) return shape;
 }

@@ -1,5 +1,5 @@
 -- The open upqueries of a map over ids, of which C has the numbers: each is kept at its way's place, with a count that tells it from all others.
-use Rattle.std.specs.Prelude.{ℕ, ◌≡◌, ◌+◌, List, All, Option, Some, None, get_or, min, replicate, set}
+use Rattle.std.specs.Prelude.{ℕ, ◌≡◌, ◌+◌, ◌⊎◌, List, All, Option, Some, None, get_or, min, replicate, set}
 use Rattle.nr_ids.specs.Groups.{group_of_way}
 use Rattle.nr_idmap.specs.Keepers.{IdTable, Owed, Sent}
 use Rattle.nr_c.specs.declared.kept_upquery.NrUpquery.{NrUpquery}
@@ -66,6 +66,9 @@ IsAt way id upquery = (upquery.way ≡ way) × (upquery.id ≡ id)
 
 abbrev pub IsIn : ℕ → ℕ → NrUpquery → Type 0
 IsIn group id upquery = (group_of_way upquery.way ≡ group) × (upquery.id ≡ id)
+
+abbrev pub IsInEither : ℕ → ℕ → ℕ → NrUpquery → Type 0
+IsInEither first second id upquery = IsIn first id upquery ⊎ IsIn second id upquery
 
 -- what was looked for among those that are kept: the numbers of one, or there is none
 abbrev pub Tells : (NrUpquery → Type 0) → Entries → Option NrUpquery → Type 0

@@ -9,7 +9,7 @@ use crate::id_writer_handle::NrIdWriter;
 
 /// Whether an id's rows were found since this was asked last: `NR_DONE`, or `NR_NOTHING`. It is a hint: a
 /// find that comes meanwhile may count or not, and `nr_again_id` doesn't. Answers `NR_NO_KEY` for the id
-/// 0, with no step. Takes 1 to 8 looks at names, and then 1 step, or 2 where the answer is `NR_DONE`.
+/// 0, with no step. Takes 1 to 16 looks at names, and then 1 step, or 2 where the answer is `NR_DONE`.
 #[unsafe(no_mangle)]
 pub extern "C" fn nr_uses_id(writer: &mut NrIdWriter, id: u64) -> u32
     ensures { WhenLive result ⊤ (WithId id result ⊤ (IdWriterCalls (UsesIdByCode id result))) writer.old.live writer.new.live }
@@ -25,7 +25,7 @@ pub extern "C" fn nr_uses_id(writer: &mut NrIdWriter, id: u64) -> u32
     if used { NR_DONE } else { NR_NOTHING }
 }
 
-/// An id of another's group, which may be evicted in its favour: `NR_DONE`, and `chosen` is the first from
+/// The id of a way of another's group, which may be evicted in its favour: `NR_DONE`, and `chosen` is the first from
 /// the last choice on that wasn't found since. `NR_NOTHING` where the way that was chosen has no id, and
 /// `chosen` stays. `NR_NO_KEY` for the id 0, with no step. Takes 3 steps.
 #[unsafe(no_mangle)]

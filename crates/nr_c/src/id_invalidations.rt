@@ -23,8 +23,9 @@ pub extern "C" fn nr_invalidate_id(writer: &mut NrIdWriter, id: u64) -> u32
         return NR_NO_KEY;
     }
     let side = writer.side();
-    let group = side.map.group_of(id);
-    match side.ledger.find(group, id) {
+    let first = side.map.group_of(id);
+    let second = side.map.second_of(id);
+    match side.ledger.find(first, second, id) {
         Some(upquery) => take_back(side, upquery),
         None => of_evict(side.map.evict(&mut side.writer, id)),
     }

@@ -13,9 +13,9 @@ use crate::rows::NrRows;
 /// answer: `NR_ROWS`; `NR_ASKED` where its way was a hole, since its upquery is under way or it was
 /// evicted within the call; `NR_HOLE` where within the call it had no way; `NR_OTHER` where its way
 /// became another id's; or, with no step, `NR_NO_KEY` for the id 0, and `NR_HOLDING` where the reader
-/// holds a set. Takes a step for each look at a way's name, up to the one that has the id's, of eight
-/// ways in all; then 1 where that is a hole, and else 2n + 7 for n rows, more where the way is written
-/// meanwhile, and 1 or 2 at the mark of a found way.
+/// holds a set. Takes 1 load, and a step for each look at a way's name, up to the one that has the id's,
+/// of the eight of its group and then the eight of its second group; then 1 where that is a hole, and
+/// else 2n + 7 for n rows, more where the way is written meanwhile, and 1 or 2 at the mark of a found way.
 #[unsafe(no_mangle)]
 pub extern "C" fn nr_find_id(reader: &mut NrIdReader, id: u64, rows: &mut NrRows) -> u32
     ensures { ByIdleIdReader id result (rows.new ≡ rows.old) (IdReaderCalls (FindsIdByCode id rows.old rows.new result)) reader.old.live reader.new.live }
@@ -36,8 +36,8 @@ pub extern "C" fn nr_find_id(reader: &mut NrIdReader, id: u64, rows: &mut NrRows
 /// Requests an id that has no way. Answers `NR_SEND` where the claim of its group is this caller's, whose
 /// id goes to the writer; `NR_WAITING` where a claim of its group is open, or was within the call;
 /// `NR_NAMED` where the id has a way; `NR_WORN` where its group had the last of its claims; or
-/// `NR_NO_KEY` for the id 0, with no step. Takes 10 steps where the claim is granted or another was within
-/// the call, 2 to 9 where a way has the name, else 1. A set that the reader holds stays held.
+/// `NR_NO_KEY` for the id 0, with no step. Takes 18 steps where the claim is granted or another was within
+/// the call, 2 to 17 where a way has the name, else 1. A set that the reader holds stays held.
 #[unsafe(no_mangle)]
 pub extern "C" fn nr_request_id(reader: &mut NrIdReader, id: u64) -> u32
     ensures { WhenLive result ⊤ (WithId id result ⊤ (IdHandTurns (RequestsByCode id result))) reader.old.live reader.new.live }

@@ -1,6 +1,6 @@
-//! The sizes of a map over ids as C has them, and the group of an id.
+//! The sizes of a map over ids as C has them, and the two groups of an id.
 ghost use Rattle.std.specs.Prelude.{◌≡◌};
-ghost use Rattle.nr_c.specs.IdGroups.{TellsGroup};
+ghost use Rattle.nr_c.specs.IdGroups.{TellsGroup, TellsSecondGroup};
 ghost use Rattle.nr_c.specs.IdOpenings.{id_shape_of};
 
 use nr_idmap::IdShape;
@@ -34,7 +34,7 @@ impl NrIdShape {
     }
 }
 
-/// The group of an id in a map of that shape, from 0: its ways are those from 8 times the group on. 0
+/// The group of an id in a map of that shape, from 0: a group's ways are those from 8 times it on. 0
 /// where the shape has no groups, or too many. No step.
 #[unsafe(no_mangle)]
 pub extern "C" fn nr_id_group(shape: &NrIdShape, id: u64) -> u32
@@ -48,4 +48,19 @@ pub extern "C" fn nr_id_group(shape: &NrIdShape, id: u64) -> u32
         return 0;
     }
     plan.group_of(id)
+}
+
+/// The second group of an id, as `nr_id_group` tells the first. No step.
+#[unsafe(no_mangle)]
+pub extern "C" fn nr_id_second_group(shape: &NrIdShape, id: u64) -> u32
+    ensures { TellsSecondGroup shape.now id result }
+{
+    let plan = Plan {
+        groups: shape.groups,
+        key: shape.key,
+    };
+    if plan.is_bad() {
+        return 0;
+    }
+    plan.second_of(id)
 }

@@ -17,9 +17,9 @@ use nr_model::Row;
 
 /// Answers the open claim of the id's group: the id gets a way, and an upquery is open, whose numbers
 /// are told. Answers `NR_SEND`; `NR_NOT_ASKED` where no claim of its group is open; `NR_NAMED` where the
-/// id has a way; `NR_FULL` where each way of its group has a name; or `NR_NO_KEY` for the id 0, with no
-/// step. `upquery` stays with each answer but the first. Takes 11 steps of the directory, 2 of the map's
-/// writer and 3 of its reader; refused, 1 to 9 of the directory.
+/// id has a way; `NR_FULL` where each way of its two groups has a name; or `NR_NO_KEY` for the id 0, with no
+/// step. `upquery` stays with each answer but the first. Takes 19 steps of the directory, 2 of the map's
+/// writer and 3 of its reader; refused, 1 to 17 of the directory.
 #[unsafe(no_mangle)]
 pub extern "C" fn nr_admit(writer: &mut NrIdWriter, id: u64, upquery: &mut NrUpquery) -> u32
     ensures { WhenLive result (upquery.new ≡ upquery.old) (WithId id result (upquery.new ≡ upquery.old) (IdWriterTurns (AdmitsByCode id upquery.old upquery.new result))) writer.old.live writer.new.live }
@@ -43,7 +43,7 @@ pub extern "C" fn nr_admit(writer: &mut NrIdWriter, id: u64, upquery: &mut NrUpq
 /// Answers an upquery with the id's rows, in ascending order. Answers `NR_TOO_MANY`, `NR_NOT_SORTED` and
 /// `NR_BAD_ROW` for rows that aren't an id's, with no step; `NR_STALE` where the upquery isn't open,
 /// with no step; `NR_DONE`; or `NR_NO_SLOT` where readers hold slots, and else `NR_ALL_FILLED`, and it is
-/// open still. Takes 1 to 8 steps of the directory, and those of the map's fill for a row more.
+/// open still. Takes 1 to 16 steps of the directory, and those of the map's fill for a row more.
 #[unsafe(no_mangle)]
 pub extern "C" fn nr_fill_id(writer: &mut NrIdWriter, upquery: &NrUpquery, rows: &[Row]) -> u32
     ensures { WhenLive result ⊤ (IdWriterTurns (FillsIdByCode upquery.now rows.now result)) writer.old.live writer.new.live }
@@ -70,7 +70,7 @@ pub extern "C" fn nr_fill_id(writer: &mut NrIdWriter, upquery: &NrUpquery, rows:
 
 /// Takes an upquery back: its id has no way then, and may be claimed again. Answers `NR_CANCELLED`;
 /// `NR_STALE` where it isn't open, with no step; or `NR_WORN` where its ticket number is the last one,
-/// and it is open still. Takes 1 to 8 steps of the directory, 2 of the map, and 1 of the directory; 1 of
+/// and it is open still. Takes 1 to 16 steps of the directory, 2 of the map, and 1 of the directory; 1 of
 /// the map and no more where it is worn.
 #[unsafe(no_mangle)]
 pub extern "C" fn nr_withdraw_id(writer: &mut NrIdWriter, upquery: &NrUpquery) -> u32

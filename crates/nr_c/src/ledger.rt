@@ -1,6 +1,6 @@
 //! The open upqueries of a map over ids, of which C has the numbers.
 ghost use Rattle.std.specs.Prelude.{◌≡◌, ◌↔◌, IfOk, IsTrue, MatchOption, None, replicate};
-ghost use Rattle.nr_c.specs.Ledgers.{GivesUp, IsAt, IsIn, IsKept, KeepsNone, Tells, keeps, keeps_new, next_count, no_entries, owed_of};
+ghost use Rattle.nr_c.specs.Ledgers.{GivesUp, IsAt, IsIn, IsInEither, IsKept, KeepsNone, Tells, keeps, keeps_new, next_count, no_entries, owed_of};
 
 use crate::kept_upquery::{KeptUpquery, NrUpquery};
 use nr_idmap::Upquery;
@@ -76,8 +76,18 @@ impl Ledger {
         }
     }
 
-    /// The numbers of an id's open upquery, if it is kept at a way of this group.
-    pub fn find(&self, group: u32, id: u64) -> Option<NrUpquery>
+    /// The numbers of an id's open upquery, if it is kept at a way of one of these groups.
+    pub fn find(&self, first: u32, second: u32, id: u64) -> Option<NrUpquery>
+        ensures { Tells (IsInEither first second id) self.now result }
+    {
+        match self.find_in(first, id) {
+            Some(upquery) => Some(upquery),
+            None => self.find_in(second, id),
+        }
+    }
+
+    // The numbers of the id's upquery, if it is kept at a way of this group.
+    fn find_in(&self, group: u32, id: u64) -> Option<NrUpquery>
         ensures { Tells (IsIn group id) self.now result }
     {
         let first = WAYS * group as usize;

@@ -1,5 +1,5 @@
 -- A way without a name that the writer's own reader asked for is asked for, as the writer knows it then, and its upquery is the only one that was opened.
-use Rattle.std.proofs.Common.{◌≡◌, ◌≢◌, ℕ, ◌+◌, ◌%◌, ◌<◌, ◌⊎◌, ⊎_elim, inl, inr, List, [], ◌∷◌, ◌++◌, drop, refl, sym, ap, ◌∙◌, subst, arith, append_assoc, append-nil, Ok, Err}
+use Rattle.std.proofs.Common.{◌≡◌, ◌≢◌, ℕ, ◌+◌, ◌<◌, ◌⊎◌, ⊎_elim, inl, inr, List, [], ◌∷◌, ◌++◌, drop, refl, sym, ap, ◌∙◌, subst, arith, append_assoc, append-nil, Ok, Err}
 use Rattle.std.proofs.lemmas.Bool.{cases_eq}
 use Rattle.std.proofs.lemmas.List.{length-replicate}
 use Rattle.nr_model.specs.declared.calls.Call.TheVariants.{Ask}
@@ -21,7 +21,7 @@ use Rattle.nr_ids.specs.Answers.{Admits}
 use Rattle.nr_ids.specs.Events.{cleared, named, looks, name_of}
 use Rattle.nr_ids.specs.Looking.{group_for}
 use Rattle.nr_ids.specs.Tokens.{Opened, Token}
-use Rattle.nr_ids.specs.Groups.{ways}
+use Rattle.nr_ids.specs.Groups.{places, ways}
 use Rattle.nr_ids.specs.Tokens as ids
 use Rattle.nr_ids.proofs.Calls.{clerk_looks, clerk_names, grows_none}
 use Rattle.nr_ids.proofs.Logs.{cond_else, looks_names}
@@ -192,8 +192,8 @@ module _ (w a w' a' : Caller) (c c' : Token) (tied : IsTied (keeper_of w a c)) (
   stays = asks_stays way a w a' w' (rested_of w a c tied) asks
 
   name_else : (k : ℕ) → k ≢ way → name_of c'.seen k ≡ name_of c.seen k
-  name_else k other = clerk_names c (cleared (group_for c id) ∷ named way id ∷ looks 9 c.number) c' k tied.names.1 admits.0
-      ∙ cond_else id (name_of (looks 9 c.number ++ c.seen) k) way k (λ e. other (sym e)) ∙ looks_names 9 c.number c.seen k
+  name_else k other = clerk_names c (cleared (group_for c id) ∷ named way id ∷ looks (places + 1) c.number) c' k tied.names.1 admits.0
+      ∙ cond_else id (name_of (looks (places + 1) c.number ++ c.seen) k) way k (λ e. other (sym e)) ∙ looks_names (places + 1) c.number c.seen k
 
   near : way < w.table.shape.keys
   near = omega (arith, admits.2.inside, ap (λ (d : Opened). ways d.plan) admits.0.directory, tied.ways_are)
@@ -212,7 +212,7 @@ module _ (w a w' a' : Caller) (c c' : Token) (tied : IsTied (keeper_of w a c)) (
       (cases_eq way k)
 
   pub admitted_tied : IsTied (keeper_of w' a' c')
-  admitted_tied = retied w a w' a' c c' (cleared (group_for c id) ∷ named way id ∷ looks 9 c.number) tied stays.rested
+  admitted_tied = retied w a w' a' c c' (cleared (group_for c id) ∷ named way id ∷ looks (places + 1) c.number) tied stays.rested
       asks.hears.learns.table
       (ap (λ (r : Caller). r.table) asks.told ∙ asks.asks.table ∙ asks.meets.learns.table, subst KnowsOwn (sym asks.told) asks.asks.own)
       admits.0 agrees_now
@@ -236,8 +236,8 @@ module _ (w a w' a' : Caller) (c c' : Token) (tied : IsTied (keeper_of w a c)) (
 -- a refusal is a few looks
 refused_looks : (id : ℕ) (c c' : Token) (why : Refused) → Admits id c c' (Err why) → (count : ℕ) × ids.Grows c (looks count c.number) c'
 refused_looks id c c' refused.NoClaim h = (1, h.0)
-refused_looks id c c' (refused.Named way) h = (way % 8 + 2, h.0)
-refused_looks id c c' refused.Full h = (9, h.0)
+refused_looks id c c' (refused.Named way) h = (h.place + 2, h.grows)
+refused_looks id c c' refused.Full h = (places + 1, h.0)
 
 pub unadmitted : (w a : Caller) (c c' : Token) (id : ℕ) (why : Refused) → IsTied (keeper_of w a c) → Admits id c c' (Err why) →
     IsTied (keeper_of w a c') × RefusesId id (keeper_of w a c) why (keeper_of w a c')

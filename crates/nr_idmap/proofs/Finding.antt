@@ -8,7 +8,7 @@ use Rattle.nr_ids.specs.Marks.{Marks}
 use Rattle.nr_ids.specs.Tokens.{Token}
 use Rattle.nr_idmap.specs.declared.finds.FoundId.{FoundId}
 use Rattle.nr_idmap.specs.declared.finds.FoundId.TheVariants as found
-use Rattle.nr_idmap.specs.IdFinds.{FindsById}
+use Rattle.nr_idmap.specs.IdFinds.{FindsByName}
 use Rattle.nr_idmap.specs.IdFindsEach.{FindsInside}
 use Rattle.nr_idmap.specs.Keepers.{IdCaller}
 use Rattle.nr_idmap.specs.Tags.{CopiesBehind}
@@ -16,7 +16,7 @@ use Rattle.nr_idmap.specs.Tags.{CopiesBehind}
 -- with the look-up before it
 pub finds_by_way : {Room : Type 0} (shows : Room → List Row → Type 0) (id way : ℕ) (old new : IdCaller) (looked : Token) (before after : Room)
     (result : FoundId) → LooksUp id old.ids looked (Some way) →
-    FindsInside shows id way (record { caller = old.caller; ids = looked }) before new after result → FindsById shows id old before new after result
+    FindsInside shows id way (record { caller = old.caller; ids = looked }) before new after result → FindsByName shows id old before new after result
 finds_by_way shows id way old new looked before after found.Rows looks finds =
     (way, finds.0, looked, (looks, finds.1), finds.2, finds.3)
 finds_by_way shows id way old new looked before after found.Pending looks finds =

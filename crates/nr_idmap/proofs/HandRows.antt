@@ -21,7 +21,7 @@ use Rattle.nr_ids.specs.Laws.{FindsWhatItKnew}
 use Rattle.nr_ids.specs.Tokens.{HasName, Token}
 use Rattle.nr_idmap.specs.declared.finds.FoundId.{FoundId}
 use Rattle.nr_idmap.specs.declared.finds.FoundId.TheVariants as found
-use Rattle.nr_idmap.specs.IdHands.{AgainById, HoldsAnew, HoldsById, IdHanded, KeepsWay, PinsById}
+use Rattle.nr_idmap.specs.IdHands.{AgainById, HoldsAnew, HoldsById, HoldsByName, IdHanded, KeepsWay, PinsById, with_line_loaded}
 use Rattle.nr_idmap.specs.IdHeard.{IsUnnamedSince, PinsItsRows}
 use Rattle.nr_idmap.specs.Keepers.{IdTable}
 use Rattle.nr_idmap.specs.Tags.{tag_of}
@@ -132,25 +132,28 @@ module _ (law : FindsWhatItKnew) (old new : IdHanded) (id way number : ℕ) (row
   at_way : (at : ℕ) (from to : Handed) (told : Reply) → Some at ≡ Some way → FoundOnce at from to told → FoundOnce way from to told
   at_way at from to told same once = subst (λ (k : ℕ). FoundOnce k from to told) (some_way at way same) once
 
-  anew_rows : (asked : IdHanded) (answer : FoundId) → Asked old asked → HoldsAnew id asked new answer → Unnamed ⊎ (answer ≡ found.Rows)
-  anew_rows asked found.Rows first anew = inr refl
-  anew_rows asked found.Pending first anew = ⊎_elim
+  named_rows : (asked : IdHanded) (answer : FoundId) → Asked old asked → HoldsByName id asked new answer → Unnamed ⊎ (answer ≡ found.Rows)
+  named_rows asked found.Rows first anew = inr refl
+  named_rows asked found.Pending first anew = ⊎_elim
       (λ gone. inl gone)
       (λ (same : Some anew.0 ≡ Some way). let has = told_rows asked new.hand reply.Hole first
       (at_way anew.0 asked.hand new.hand reply.Hole same (found_hole anew.0 asked.hand new.hand anew.2)) refl in let e : reply.Hole ≡ reply.Rows (tag_of id ∷ has.0) = has.1 in
       absurd (cc (e)))
       (looked_there asked (Some anew.0) first anew.1)
-  anew_rows asked found.Moved first anew = let mid : Handed = anew.1 in ⊎_elim
+  named_rows asked found.Moved first anew = let mid : Handed = anew.1 in ⊎_elim
       (λ gone. inl gone)
       (λ (same : Some anew.0 ≡ Some way). let has = told_rows asked anew.1 (reply.Rows anew.1.rows) first
       (at_way anew.0 asked.hand anew.1 (reply.Rows anew.1.rows) same (found_rows anew.0 asked.hand anew.1 anew.3)) anew.5.rests.seen in
       let e : anew.1.rows ≡ tag_of id ∷ has.0 = cc (has.1) in
       absurd (anew.4 has.0 e))
       (looked_there asked (Some anew.0) first anew.2)
-  anew_rows asked found.Absent first anew = ⊎_elim
+  named_rows asked found.Absent first anew = ⊎_elim
       (λ gone. inl gone)
       (λ (there : None ≡ Some way). absurd (cc (there)))
       (looked_there asked None first anew.0)
+
+  anew_rows : (asked : IdHanded) (answer : FoundId) → Asked old asked → HoldsAnew id asked new answer → Unnamed ⊎ (answer ≡ found.Rows)
+  anew_rows asked answer first anew = named_rows (with_line_loaded asked) answer (record { table = first.table; more = first.more; seen = first.seen; ids = first.ids }) anew
 
   held_rows : (answer : FoundId) → HoldsById id old new answer → Unnamed ⊎ (answer ≡ found.Rows)
   held_rows answer holds = ⊎_elim

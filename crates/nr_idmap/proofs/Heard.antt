@@ -15,7 +15,7 @@ use Rattle.nr_ids.specs.Marks.{Marks}
 use Rattle.nr_ids.specs.Tokens.{Token}
 use Rattle.nr_idmap.specs.declared.finds.FoundId.{FoundId}
 use Rattle.nr_idmap.specs.declared.finds.FoundId.TheVariants as found
-use Rattle.nr_idmap.specs.IdFinds.{FindsById}
+use Rattle.nr_idmap.specs.IdFinds.{FindsByName, with_line}
 use Rattle.nr_idmap.specs.IdHeard.{FindsIdHeard, FindsIdPut, HeardIdBefore, IsUnnamedSince, TellsOfWay}
 use Rattle.nr_idmap.specs.IdNotes.{IdKnown}
 use Rattle.nr_idmap.specs.Keepers.{IdCaller}
@@ -39,6 +39,13 @@ marks_on told way old new marks gone = subst (IsUnnamedSince told way) (sym mark
 some_way : (a b : ℕ) → Some a ≡ Some b → a ≡ b
 some_way a b e = cc (e)
 
+-- the load of a line tells nothing
+heard_with_line : (old asking : IdCaller) (note : IdKnown) → HeardIdBefore old note asking → HeardIdBefore old note (with_line asking)
+heard_with_line old asking note heard = record {
+  map = record { steps = heard.map.steps; heard = heard.map.heard; hears = heard.map.hears; table = heard.map.table; seen = heard.map.seen };
+  ids = heard.ids;
+}
+
 module _ {Room : Type 0} (shows : Room → List Row → Type 0) (of_map : FindsWhatItHeard) (of_ids : ids.FindsWhatItHeard) where
   module _ (old asking : IdCaller) (note : IdKnown) (id way : ℕ) (before since : List Entry) (put : Entry)
       (near : way < old.caller.table.shape.keys) (real : 0 < id) (named : name_of note.ids.seen way ≡ id)
@@ -60,7 +67,7 @@ module _ {Room : Type 0} (shows : Room → List Row → Type 0) (of_map : FindsW
         (λ gone. inl gone)
         (of_ids note.ids id way asking.ids looked (Some at) real named heard.ids looks)
 
-    by_answer : (new : IdCaller) (room after : Room) (answer : FoundId) → FindsById shows id asking room new after answer →
+    by_answer : (new : IdCaller) (room after : Room) (answer : FoundId) → FindsByName shows id asking room new after answer →
         IsUnnamedSince note.ids.seen way new.ids.seen ⊎ FindsIdPut shows id way old asking new written since after answer
     by_answer new room after found.Rows finds =
         let looked : Token = finds.2 in ⊎_elim
@@ -77,5 +84,8 @@ module _ {Room : Type 0} (shows : Room → List Row → Type 0) (of_map : FindsW
         (of_ids note.ids id way asking.ids new.ids None real named heard.ids finds.0)
 
   pub finds_id_heard : FindsIdHeard shows
-  finds_id_heard old asking new note id way before since put room after answer near real named told puts heard finds =
-      by_answer old asking note id way before since put near real named told puts heard new room after answer finds
+  finds_id_heard old asking new note id way before since put room after answer near real named told puts heard finds = ⊎_elim
+      (λ gone. inl gone)
+      (λ (found : FindsIdPut shows id way old (with_line asking) new (before ++ put ∷ []) since after answer).
+      inr (record { told = found.told; tells = found.tells; more = found.more; seen = found.seen; finds = found.finds }))
+      (by_answer old (with_line asking) note id way before since put near real named told puts (heard_with_line old asking note heard) new room after answer finds)

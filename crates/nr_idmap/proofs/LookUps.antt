@@ -15,4 +15,4 @@ one_more_looked (first ∷ ids) id found old mid new looked looks =
 pub looked_inside : (id keys : ℕ) (old new : Token) (directory : Opened) (found : Option ℕ) → LooksUp id old new found → new.directory ≡ directory →
     ways directory.plan ≡ keys → IfSome found (λ (key : ℕ). key < keys)
 looked_inside id keys old new directory None looks own size = tt
-looked_inside id keys old new directory (Some way) looks own size = omega (arith, looks.1.inside, ap (λ (d : Opened). ways d.plan) own, size)
+looked_inside id keys old new directory (Some way) looks own size = omega (arith, looks.named.inside, ap (λ (d : Opened). ways d.plan) own, size)

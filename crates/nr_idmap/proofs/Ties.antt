@@ -1,5 +1,5 @@
 -- The tie between the two tables, and the ledger, over a call on one way: the other ways keep theirs.
-use Rattle.std.proofs.Common.{◌≡◌, ◌≢◌, ℕ, zero, suc, ◌+◌, ◌%◌, ◌<◌, ⊎_elim, Bool, true, false, ◌==◌, List, ◌∷◌, refl, sym, ap, ◌∙◌, subst, arith, ne_eqb, eq-eqb, Result, Ok, Err, Option, Some, None}
+use Rattle.std.proofs.Common.{◌≡◌, ◌≢◌, ℕ, zero, suc, ◌+◌, ◌<◌, ⊎_elim, Bool, true, false, ◌==◌, List, ◌∷◌, refl, sym, ap, ◌∙◌, subst, arith, ne_eqb, eq-eqb, Result, Ok, Err, Option, Some, None}
 use Rattle.std.specs.Prelude.{if◌then◌else◌}
 use Rattle.std.proofs.lemmas.Bool.{cases_eq}
 use Rattle.nr_model.specs.declared.rows.Row.{Row}
@@ -17,7 +17,7 @@ use Rattle.nr_board.specs.Callers.{Caller, KnowsOwn, Table, map_seen}
 use Rattle.nr_ids.specs.declared.plan.Plan.{Plan}
 use Rattle.nr_ids.specs.Answers.{FindsWay}
 use Rattle.nr_ids.specs.Events.{Event, IsLegal, looks, name_of}
-use Rattle.nr_ids.specs.Groups.{ways}
+use Rattle.nr_ids.specs.Groups.{places, ways}
 use Rattle.nr_ids.specs.Tokens.{Opened, Token}
 use Rattle.nr_ids.specs.Tokens as ids
 use Rattle.nr_ids.proofs.Calls.{clerk_looks}
@@ -176,8 +176,8 @@ retied w a w' a' c c' acts tied rested table asker grows agrees = record {
 
 -- a search by the clerk changes no name
 pub found_looks : (id : ℕ) (c c' : Token) (found : Option ℕ) → FindsWay id c c' found → (count : ℕ) × ids.Grows c (looks count c.number) c'
-found_looks id c c' (Some way) finds = (way % 8 + 1, finds.0)
-found_looks id c c' None finds = (8, finds.0)
+found_looks id c c' (Some way) finds = (finds.place + 1, finds.grows)
+found_looks id c c' None finds = (places, finds.0)
 
 pub found_names : (w a : Caller) (id : ℕ) (c c' : Token) (found : Option ℕ) → IsTied (keeper_of w a c) → FindsWay id c c' found →
     (way : ℕ) → name_of c'.seen way ≡ name_of c.seen way
@@ -239,4 +239,4 @@ module _ (w a w' : Caller) (c c' : Token) (call : Call) (answer : Reply) (tied :
 
 -- the way that the clerk found is a key
 pub near_of : (w a : Caller) (id way : ℕ) (c c' : Token) → IsTied (keeper_of w a c) → FindsWay id c c' (Some way) → way < w.table.shape.keys
-near_of w a id way c c' tied finds = omega (arith, finds.1.inside, ap (λ (d : Opened). ways d.plan) finds.0.directory, tied.ways_are)
+near_of w a id way c c' tied finds = omega (arith, finds.named.inside, ap (λ (d : Opened). ways d.plan) finds.grows.directory, tied.ways_are)

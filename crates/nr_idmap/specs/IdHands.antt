@@ -4,6 +4,7 @@ use Rattle.nr_model.specs.declared.rows.Row.{Row}
 use Rattle.nr_model.specs.Rows.{IsRowSet}
 use Rattle.nr_board.specs.declared.answers.Found.{Found}
 use Rattle.nr_board.specs.declared.answers.Found.TheVariants as answer
+use Rattle.nr_map.specs.FindsEach.{with_loads}
 use Rattle.nr_map.specs.Hands.{AsksInVain, FindsHeld, FindsKept, Handed, LetsGo, idle}
 use Rattle.nr_ids.specs.Answers.{LooksUp}
 use Rattle.nr_ids.specs.Marks.{Marks}
@@ -99,11 +100,18 @@ abbrev pub KeepsWay : ℕ → Handed → Handed → Found → Type 0
 KeepsWay way old new told = (before set : List Row) × FindsKept (λ (pile : List Row) (rows : List Row). pile ≡ rows) way old before new set told
 
 -- by the id's name: the set is held that has the id's tag; else nothing is, since the way was a hole or had another's set, or there was a moment at which the id had no way
+abbrev pub HoldsByName : ℕ → IdHanded → IdHanded → FoundId → Type 0
+HoldsByName id old new found.Rows = (way : ℕ) × (rows : List Row) × LooksUp id old.ids new.ids (Some way) × KeepsWay way old.hand new.hand answer.Rows × (new.hand.rows ≡ tag_of id ∷ rows) × (new.id ≡ Some id)
+HoldsByName id old new found.Pending = (way : ℕ) × LooksUp id old.ids new.ids (Some way) × KeepsWay way old.hand new.hand answer.Hole × (new.id ≡ None)
+HoldsByName id old new found.Moved = (way : ℕ) × (kept : Handed) × LooksUp id old.ids new.ids (Some way) × KeepsWay way old.hand kept answer.Rows × ((rows : List Row) → kept.rows ≢ tag_of id ∷ rows) × LetsGo kept new.hand × (new.id ≡ None)
+HoldsByName id old new found.Absent = LooksUp id old.ids new.ids None × LetsGo old.hand new.hand × (new.id ≡ None)
+
+-- a word of the line that has the words of the id's group was loaded, as by a find
+abbrev pub with_line_loaded : IdHanded → IdHanded
+with_line_loaded old = record old { hand = record old.hand { reader = with_loads 1 old.hand.reader } }
+
 abbrev pub HoldsAnew : ℕ → IdHanded → IdHanded → FoundId → Type 0
-HoldsAnew id old new found.Rows = (way : ℕ) × (rows : List Row) × LooksUp id old.ids new.ids (Some way) × KeepsWay way old.hand new.hand answer.Rows × (new.hand.rows ≡ tag_of id ∷ rows) × (new.id ≡ Some id)
-HoldsAnew id old new found.Pending = (way : ℕ) × LooksUp id old.ids new.ids (Some way) × KeepsWay way old.hand new.hand answer.Hole × (new.id ≡ None)
-HoldsAnew id old new found.Moved = (way : ℕ) × (kept : Handed) × LooksUp id old.ids new.ids (Some way) × KeepsWay way old.hand kept answer.Rows × ((rows : List Row) → kept.rows ≢ tag_of id ∷ rows) × LetsGo kept new.hand × (new.id ≡ None)
-HoldsAnew id old new found.Absent = LooksUp id old.ids new.ids None × LetsGo old.hand new.hand × (new.id ≡ None)
+HoldsAnew id old new told = HoldsByName id (with_line_loaded old) new told
 
 -- by the set that is held already, where the way has it still; else by the name
 abbrev pub HoldsById : ℕ → IdHanded → IdHanded → FoundId → Type 0

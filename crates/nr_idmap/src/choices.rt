@@ -7,7 +7,7 @@ use crate::tokens::IdWriter;
 
 impl IdMap {
     /// Whether an id's rows were found since this was asked last. It is a hint: a find that comes
-    /// meanwhile may count or not, and a hand's `again` doesn't. Takes 1 to 8 looks at names, and then 1
+    /// meanwhile may count or not, and a hand's `again` doesn't. Takes 1 to 16 looks at names, and then 1
     /// step, or 2 where the answer is yes.
     pub fn uses(&self, writer: &mut IdWriter, id: u64) -> bool
         requires own { writer.old.table ≡ self.now }
@@ -22,8 +22,8 @@ impl IdMap {
         self.directory.take_mark(&mut writer.clerk, way)
     }
 
-    /// An id of another's group, which may be evicted in its favour: by second chance, the first from the
-    /// last choice on that wasn't found since. `None`: the way that was chosen has no id. An id whose
+    /// The id of a way of another's group, which may be evicted in its favour: by second chance, the first
+    /// from the last choice on that wasn't found since. `None`: the way that was chosen has no id. An id whose
     /// upquery is open can't be evicted; then the next call chooses the next. Takes 3 steps.
     pub fn choose(&self, writer: &mut IdWriter, id: u64) -> Option<u64>
         requires own { writer.old.table ≡ self.now }

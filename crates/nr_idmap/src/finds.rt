@@ -29,16 +29,19 @@ impl IdMap {
     ghost use Rattle.nr_idmap.specs.IdFindsEach.{FindsInside};
 
     /// Looks an id up, and writes its rows into the caller's room, which stays as it is unless the
-    /// answer is `Rows`. Takes a step for each look at a way's name, up to the one that has the id's,
-    /// of eight ways in all; then the steps of the map's find, of one row more: by the counts 1 where the
-    /// way is a hole, and else 2n + 5 for n rows; and 1 at the mark of a way whose rows were found, or 2
-    /// where it isn't marked yet.
+    /// answer is `Rows`. Takes 1 load of a word that lies in the line of the id's key; a step for each look
+    /// at a way's name, up to the one that has the id's, of the eight ways of its group and then the eight
+    /// of its second group; the steps of the map's find, of one row more: by the counts 1 where the way is
+    /// a hole, and else 2n + 5 for n rows; and 1 at the mark of a way whose rows were found, or 2 where it
+    /// isn't marked yet.
     pub fn find<R: RowRoom>(&self, reader: &mut IdReader, id: u64, rows: &mut R) -> FoundId
         requires own { id_table_of reader.old ≡ self.now }
         requires id { 0 < id }
         ensures own { id_table_of reader.new ≡ self.now }
         ensures finds { FindsById R.shows id reader.old rows.old reader.new rows.new result }
     {
+        let first = self.directory.plan().first_way(id);
+        self.map.load_key(&mut reader.reader, first);
         let Some(way) = self.directory.look_up(&mut reader.ids, id) else {
             return FoundId::Absent;
         };
@@ -76,8 +79,8 @@ impl IdMap {
 
     /// Requests an id that has no way. The first such request of the id's group is `Granted` a claim,
     /// whose id must go to the writer, which admits it; until then the others are `Busy` or `Outrun`.
-    /// `Named`: the id has a way. Takes 10 steps where the claim is granted or another was within the
-    /// call, 2 to 9 where a way has the name, else 1.
+    /// `Named`: the id has a way. Takes 18 steps where the claim is granted or another was within the
+    /// call, 2 to 17 where a way has the name, else 1.
     pub fn request(&self, reader: &mut IdReader, id: u64) -> Requested
         requires own { id_table_of reader.old ≡ self.now }
         requires id { 0 < id }

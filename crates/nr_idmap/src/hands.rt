@@ -131,9 +131,9 @@ impl IdHand {
     }
 
     /// Finds an id and holds its set, whose rows `rows` shows; nothing is held where the answer isn't
-    /// `Rows`. Where it holds the id's set already it finds it again, by `again`. Else it takes the looks
-    /// of `find` at ways' names, and the steps of the map's `find_kept` with a row more; 1 more where the
-    /// set that was found is let go, since it is another id's. At `Rows` it marks the way, as `find` does.
+    /// `Rows`. Where it holds the id's set already it finds it again, by `again`. Else it takes 1 load
+    /// and the looks of `find` at ways' names, and the steps of the map's `find_kept` with a row more; 1
+    /// more where the set that was found is let go, since it is another id's. At `Rows` it marks the way, as `find` does.
     pub fn pin(&mut self, map: &IdMap, id: u64) -> FoundId
         requires own { hand_table_of self.old ≡ map.now }
         requires id { 0 < id }
@@ -205,6 +205,8 @@ impl IdHand {
         ensures own { hand_table_of self.new ≡ map.now }
         ensures holds { HoldsAnew id self.old self.new result }
     {
+        let first = map.directory.plan().first_way(id);
+        self.hand.load_key(&map.map, first);
         let Some(way) = map.directory.look_up(&mut self.ids, id) else {
             self.release(map);
             return FoundId::Absent;

@@ -28,8 +28,8 @@ impl Model for IdMap {
     ghost invariant = { λ map. (ways map.directory.plan ≡ map.map.shape.keys) × (0 < map.map.shape.rows) × (map.map.shape.rows ≤ MAX_ROWS) };
 }
 
-/// The sizes of a map over ids. An id has one of the eight ways of its group, by a hash with that key,
-/// which should be drawn at random and told to nobody who may choose ids. At most as many ids are
+/// The sizes of a map over ids. An id has one of the eight ways of its group, or of its second group, by a
+/// hash with that key, which should be drawn at random and told to nobody who may choose ids. At most as many ids are
 /// filled as there are slots. Ticket numbers begin at `first_number`.
 #[derive(Clone, Copy, Debug)]
 pub struct IdShape {
@@ -72,7 +72,7 @@ impl IdShape {
 }
 
 impl IdMap {
-    ghost use Rattle.nr_ids.specs.Groups.{group_of};
+    ghost use Rattle.nr_ids.specs.Groups.{group_of, second_of};
     ghost use Rattle.nr_idmap.specs.Keepers.{id_rows};
 
     /// How many rows an id may have.
@@ -87,6 +87,13 @@ impl IdMap {
         ensures { result ≡ group_of self.now.directory.plan id }
     {
         self.directory.plan().group_of(id)
+    }
+
+    /// The second group of an id, of which it may have a way where its own is well filled.
+    pub fn second_of(&self, id: u64) -> u32
+        ensures { result ≡ second_of self.now.directory.plan id }
+    {
+        self.directory.plan().second_of(id)
     }
 
     /// How many ways there are: that many ids can have one.

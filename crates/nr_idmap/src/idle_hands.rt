@@ -22,6 +22,8 @@ impl IdHand {
         ensures idle { self.new.id ≡ None }
         ensures finds { FindsById R.shows id (reader_of self.old) rows.old (reader_of self.new) rows.new result }
     {
+        let first = map.directory.plan().first_way(id);
+        self.hand.load_key(&map.map, first);
         let Some(way) = map.directory.look_up(&mut self.ids, id) else {
             return FoundId::Absent;
         };

@@ -120,8 +120,8 @@ impl IdMap {
 
     /// Answers the open claim of the id's group: the id gets a way, which the writer's own reader asks
     /// for, and its upquery is open. Refused where no claim is open, where a way has the id's name, and
-    /// where each way of the group has a name. Takes 11 steps of the directory, 2 of the map's writer,
-    /// and 3 of its reader; refused, 1 to 9 of the directory.
+    /// where each way of its two groups has a name. Takes 19 steps of the directory, 2 of the map's writer,
+    /// and 3 of its reader; refused, 1 to 17 of the directory.
     pub fn admit(&self, writer: &mut IdWriter, id: u64) -> Result<Upquery, Refused>
         requires own { writer.old.table ≡ self.now }
         requires id { 0 < id }
@@ -135,7 +135,7 @@ impl IdMap {
     }
 
     /// Answers an upquery with at most as many of the id's rows as it may have. Refused where the
-    /// upquery isn't open, and where there is no slot. Takes 1 to 8 steps of the directory, and those of
+    /// upquery isn't open, and where there is no slot. Takes 1 to 16 steps of the directory, and those of
     /// the map's `fill` for a row more.
     pub fn fill(
         &self,
@@ -171,7 +171,7 @@ impl IdMap {
     }
 
     /// Takes an upquery back: its way has the next ticket number and no name, and its answer comes too
-    /// late. Takes 1 to 8 steps of the directory, 2 of the map, and 1 of the directory.
+    /// late. Takes 1 to 16 steps of the directory, 2 of the map, and 1 of the directory.
     pub fn withdraw(&self, writer: &mut IdWriter, upquery: Upquery) -> Withdrawn
         requires own { writer.old.table ≡ self.now }
         requires upquery { upquery.table ≡ self.now }

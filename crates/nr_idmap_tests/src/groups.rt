@@ -1,4 +1,4 @@
-//! The groups of ids. What is expected was computed in Python.
+//! The two groups of ids. What is expected was computed in Python.
 use crate::office::{KEY, Office};
 use crate::view::is_same;
 use nr_ids::Plan;
@@ -7,18 +7,22 @@ use std::process::Abort;
 #[test]
 fn groups_are_those_of_the_hash(rt: HostRuntime) {
     let rows = [
-        (1, 0, 1, 0),
-        (1_000, 0, 1, 747),
-        (1_000, 0, 2, 494),
-        (1_000, 7, 1, 232),
-        (1_000, KEY, 1, 806),
-        (1_000, KEY, 2, 116),
-        (1_000, KEY, u64::MAX, 573),
-        (536_870_911, KEY, 123_456_789, 436_191_126),
+        (1, 0, 1, 0, 0),
+        (1_000, 0, 1, 747, 386),
+        (1_000, 0, 2, 494, 773),
+        (1_000, 7, 1, 232, 709),
+        (1_000, KEY, 1, 806, 848),
+        (1_000, KEY, 2, 116, 199),
+        (1_000, KEY, u64::MAX, 573, 112),
+        (536_870_911, KEY, 123_456_789, 436_191_126, 399_477_586),
     ];
-    for (groups, key, id, group) in rows {
+    for (groups, key, id, first, second) in rows {
         let plan = Plan { groups, key };
-        is_same(&rt, &plan.group_of(id), &group);
+        is_same(
+            &rt,
+            &(plan.group_of(id), plan.second_of(id), plan.first_way(id)),
+            &(first, second, 8 * first),
+        );
     }
 }
 
@@ -32,5 +36,5 @@ fn even_ids_spread(rt: HostRuntime) {
             without += 1;
         }
     }
-    is_same(&rt, &without, &39);
+    is_same(&rt, &without, &1);
 }

@@ -3,16 +3,17 @@ use Rattle.std.proofs.Common.{◌≡◌, ◌≢◌, ℕ, zero, suc, ◌+◌, ◌
 use Rattle.std.specs.Prelude.{IfNone, IfSome}
 use Rattle.std.specs.Option.{ok_or}
 use mathlib.Core.Logic.{dite}
-use native.Mathlib.Decide.{ℕ_discrete}
+use native.Mathlib.Decide.{dec_le, ℕ_discrete}
 use Rattle.nr_ids.specs.declared.plan.Plan.{Plan}
-use Rattle.nr_ids.specs.Groups.{group_of, group_of_way, ways}
+use Rattle.nr_ids.specs.Groups.{IsWayOf, group_at, group_of, group_of_way, places, second_of, way_at, ways}
 use Rattle.nr_ids.specs.Events.{Event, named, unnamed, cleared, claimed, looked, own, looks, name_of, turn_of, MayName, IsLegal, IsAbsent, IsOpen, IsClosed}
 use Rattle.nr_ids.specs.Scans.{Passed}
 use Rattle.nr_ids.specs.declared.admissions.Refused.{Refused}
 use Rattle.nr_ids.specs.declared.admissions.Refused.TheVariants as refused
-use Rattle.nr_ids.specs.Looking.{WasAbsent, Ahead, PassedByClerk, Missed, HasRoom, Rooms, Scans, group_for}
+use Rattle.nr_ids.specs.declared.admissions.Room.{Room}
+use Rattle.nr_ids.specs.Looking.{WasAbsent, Ahead, FindsAt, PassedByClerk, Missed, HasRoom, LooksForRoom, Rooms, SeesRoom, group_for, way_for, way_in}
 use Rattle.nr_ids.specs.Answers.{WasOpen, Admits}
-use Rattle.nr_ids.specs.Tokens.{Opened, Token, Grows, HasName, Newest, WinsClaim, Within}
+use Rattle.nr_ids.specs.Tokens.{Opened, Token, Grows, Newest, WinsClaim, Within}
 use Rattle.nr_ids.proofs.Logs.{ClearsNothing, cond_same, cond_else, exact_names, looks_clear_nothing, looks_names, named_inside, one_way, own_append, quiet_turn, was_odd}
 
 pub grows_none : (old : Token) → IsLegal old.directory.plan old.seen → Grows old [] old
@@ -88,22 +89,18 @@ was_open id old mid new rest grows is closed changed =
     }
 
 module _ (plan : Plan) (id : ℕ) (real : 0 < id) where
-  abbrev group : ℕ
-  group = group_of plan id
-
   -- the first way of those that has the name, or none has it
-  search_ways : (log : List Event) (count : ℕ) → ((i : ℕ) × (i < count) × (name_of log (8 * group + i) ≡ id)) ⊎ ((i : ℕ) → i < count → name_of log (8 * group + i) ≢ id)
+  search_ways : (log : List Event) (count : ℕ) → ((i : ℕ) × (i < count) × (name_of log (way_at plan id i) ≡ id)) ⊎ ((i : ℕ) → i < count → name_of log (way_at plan id i) ≢ id)
   search_ways log zero = inr (λ i below. absurd (omega arith))
   search_ways log (suc count) = ⊎_elim
-      (λ (t : (i : ℕ) × (i < count) × (name_of log (8 * group + i) ≡ id)). inl (t.0, omega (arith, t.1), t.2))
-      (λ (t : (i : ℕ) → i < count → name_of log (8 * group + i) ≢ id). dite (ℕ_discrete (name_of log (8 * group + count)) id)
+      (λ (t : (i : ℕ) × (i < count) × (name_of log (way_at plan id i) ≡ id)). inl (t.0, omega (arith, t.1), t.2))
+      (λ (t : (i : ℕ) → i < count → name_of log (way_at plan id i) ≢ id). dite (ℕ_discrete (name_of log (way_at plan id count)) id)
       (λ e. inl (count, omega arith, e))
-      (λ ne. inr (λ i below. dite (ℕ_discrete i count) (λ (e : i ≡ count). λ h. ne (ap (λ (k : ℕ). name_of log (8 * group + k)) (sym e) ∙ h)) (λ other. t i (omega arith)))))
+      (λ ne. inr (λ i below. dite (ℕ_discrete i count) (λ (e : i ≡ count). λ h. ne (ap (λ (k : ℕ). name_of log (way_at plan id k)) (sym e) ∙ h)) (λ other. t i (omega arith)))))
       (search_ways log count)
 
-  pub none_has : (log : List Event) → IsLegal plan log → ((i : ℕ) → i < 8 → name_of log (8 * group + i) ≢ id) → IsAbsent log id
-  none_has log legal none way has = let of_group : way / 8 ≡ group = (named_inside plan log way id legal real has).1 in
-      let is : 8 * group + (way - 8 * group) ≡ way = omega arith in none (way - 8 * group) (omega arith) (ap (name_of log) is ∙ has)
+  pub none_has : (log : List Event) → IsLegal plan log → ((i : ℕ) → i < places → name_of log (way_at plan id i) ≢ id) → IsAbsent log id
+  none_has log legal none way has = let at : IsWayOf plan id way = (named_inside plan log way id legal real has).1 in none at.0 at.1 (ap (name_of log) at.2 ∙ has)
 
   -- one event: a name stays in its way, or no way has it then
   moves_off : (event : Event) (log : List Event) (way : ℕ) → IsLegal plan (event ∷ log) → name_of log way ≡ id → IsAbsent (event ∷ log) id ⊎ (name_of (event ∷ log) way ≡ id)
@@ -130,16 +127,16 @@ module _ (plan : Plan) (id : ℕ) (real : 0 < id) where
 
 -- a scan goes on by one look, which found another name
 module _ (id : ℕ) (real : 0 < id) (old mid new : Token) (place : ℕ) (so_far : Grows old (looks place old.number) mid) (look : Grows mid (looked mid.number ∷ []) new)
-    (other : name_of new.seen (8 * group_for old id + place) ≢ id) where
+    (other : name_of new.seen (way_for old id place) ≢ id) where
   abbrev plan : Plan
   plan = old.directory.plan
 
   whole : Grows old (looks (place + 1) old.number) new
   whole = looks_on old mid new place so_far look
 
-  pub passed_on : ((at : ℕ) → at < place → Passed old.seen mid.seen (8 * group_for old id + at) id) → (at : ℕ) → at < place + 1 → Passed old.seen new.seen (8 * group_for old id + at) id
+  pub passed_on : ((at : ℕ) → at < place → Passed old.seen mid.seen (way_for old id at) id) → (at : ℕ) → at < place + 1 → Passed old.seen new.seen (way_for old id at) id
   passed_on passed at below = dite (ℕ_discrete at place)
-      (λ (e : at ≡ place). record { moment = new.seen; later = []; until = refl; since = whole.rest; from = whole.seen; other = λ has. other (ap (λ (k : ℕ). name_of new.seen (8 * group_for old id + k)) (sym e) ∙ has) })
+      (λ (e : at ≡ place). record { moment = new.seen; later = []; until = refl; since = whole.rest; from = whole.seen; other = λ has. other (ap (λ (k : ℕ). name_of new.seen (way_for old id k)) (sym e) ∙ has) })
       (λ ne. let pass = passed at (omega arith) in record {
         moment = pass.moment;
         later = look.rest ++ pass.later;
@@ -156,23 +153,23 @@ module _ (id : ℕ) (real : 0 < id) (old mid new : Token) (place : ℕ) (so_far 
     where
       begins : place ≡ 0 → Ahead id old (place + 1) new
       begins e = let one : place + 1 ≡ suc place = omega arith in ⊎_elim
-          (λ (t : (i : ℕ) × (i < 8) × (name_of new.seen (8 * group_of plan id + i) ≡ id)).
-          let apart : t.0 ≢ place = λ same. other (ap (λ (k : ℕ). name_of new.seen (8 * group_of plan id + k)) (sym same) ∙ t.2) in inr (t.0, omega arith, t.1, t.2))
+          (λ (t : (i : ℕ) × (i < places) × (name_of new.seen (way_at plan id i) ≡ id)).
+          let apart : t.0 ≢ place = λ same. other (ap (λ (k : ℕ). name_of new.seen (way_at plan id k)) (sym same) ∙ t.2) in inr (t.0, omega arith, t.1, t.2))
           (λ none. inl (record {
             moment = new.seen;
             within = within_between old new new _ (looks place old.number) [] [] new.seen (subst (λ (k : ℕ). Grows old (looks k old.number) new) one whole) refl refl;
             absent = none_has plan id real new.seen whole.legal none;
-          })) (search_ways plan id real new.seen 8)
+          })) (search_ways plan id real new.seen places)
 
       goes : 0 < place → Ahead id old (place + 1) new
       goes some = let again : place ≡ suc (place - 1) = omega arith in let before : Grows old (looks (suc (place - 1)) old.number) mid = subst (λ (k : ℕ). Grows old (looks k old.number) mid) again so_far in ⊎_elim
           (λ (gone : WasAbsent id old mid). inl (record { moment = gone.moment; within = within_on old mid new gone.moment look.rest gone.within look.seen; absent = gone.absent }))
-          (λ (t : (at : ℕ) × (place ≤ at) × (at < 8) × (name_of mid.seen (8 * group_of plan id + at) ≡ id)). ⊎_elim
+          (λ (t : (at : ℕ) × (place ≤ at) × (at < places) × (name_of mid.seen (way_at plan id at) ≡ id)). ⊎_elim
           (λ gap. inl (record { moment = gap.0; within = within_between old mid new _ (looks (place - 1) old.number) gap.2 gap.1 gap.0 before gap.4 (look.seen ∙ gap.3); absent = gap.5 }))
-          (λ still. let here : name_of new.seen (8 * group_of plan id + t.0) ≡ id = ap (λ (l : List Event). name_of l (8 * group_of plan id + t.0)) look.seen ∙ still in
-          let apart : t.0 ≢ place = λ same. other (ap (λ (k : ℕ). name_of new.seen (8 * group_of plan id + k)) (sym same) ∙ here) in
+          (λ still. let here : name_of new.seen (way_at plan id t.0) ≡ id = ap (λ (l : List Event). name_of l (way_at plan id t.0)) look.seen ∙ still in
+          let apart : t.0 ≢ place = λ same. other (ap (λ (k : ℕ). name_of new.seen (way_at plan id k)) (sym same) ∙ here) in
           inr (t.0, (let from = t.1 in omega arith), t.2, here))
-          (moved_off plan id real look.rest mid.seen (8 * group_of plan id + t.0) (subst (IsLegal plan) look.seen whole.legal) t.3))
+          (moved_off plan id real look.rest mid.seen (way_at plan id t.0) (subst (IsLegal plan) look.seen whole.legal) t.3))
           (ahead some)
 
 -- what the clerk knows of names: those that it knew, after its own steps
@@ -189,18 +186,18 @@ pub clerk_turn : (old : Token) (acts : List Event) (new : Token) (group : ℕ) �
 clerk_turn old acts new group clerk grows quiet odd = let plan = old.directory.plan in ap (λ (l : List Event). turn_of plan l group) grows.seen
     ∙ quiet_turn plan grows.rest old.seen group (subst ClearsNothing (sym grows.acts_are ∙ ap (λ (k : ℕ). own k grows.rest) clerk) quiet) (subst (IsLegal plan) grows.seen grows.legal) odd
 
-pub clerk_on : (group name : ℕ) (old mid new : Token) (count : ℕ) → mid.number ≡ old.number → Grows mid (looked mid.number ∷ []) new → name_of new.seen (8 * group + count) ≢ name
-    → PassedByClerk group name old count mid → PassedByClerk group name old (count + 1) new
-clerk_on group name old mid new count same look other passed clerk at below = dite (ℕ_discrete at count)
-    (λ (e : at ≡ count). λ has. other (ap (λ (k : ℕ). name_of new.seen (8 * group + k)) (sym e) ∙ has))
-    (λ ne. λ has. passed clerk at (omega arith) (sym (clerk_looks mid 1 mid.number new (8 * group + at) (same ∙ clerk) look) ∙ has))
+pub clerk_on : (way : ℕ → ℕ) (name : ℕ) (old mid new : Token) (count : ℕ) → mid.number ≡ old.number → Grows mid (looked mid.number ∷ []) new → name_of new.seen (way count) ≢ name
+    → PassedByClerk way name old count mid → PassedByClerk way name old (count + 1) new
+clerk_on way name old mid new count same look other passed clerk at below = dite (ℕ_discrete at count)
+    (λ (e : at ≡ count). λ has. other (ap (λ (k : ℕ). name_of new.seen (way k)) (sym e) ∙ has))
+    (λ ne. λ has. passed clerk at (omega arith) (sym (clerk_looks mid 1 mid.number new (way at) (same ∙ clerk) look) ∙ has))
 
--- a scan of all eight ways
-pub missed : (id : ℕ) → 0 < id → (old new : Token) → Grows old (looks 8 old.number) new → Ahead id old 8 new → ((at : ℕ) → at < 8 → Passed old.seen new.seen (8 * group_for old id + at) id) → PassedByClerk (group_for old id) id old 8 new
-    → Missed id old new
+-- a scan of all places
+pub missed : (id : ℕ) → 0 < id → (old new : Token) → Grows old (looks places old.number) new → Ahead id old places new
+    → ((at : ℕ) → at < places → Passed old.seen new.seen (way_for old id at) id) → PassedByClerk (way_for old id) id old places new → Missed id old new
 missed id real old new grows ahead passed by_clerk = record {
   grows = grows;
-  absent = ⊎_elim (λ gone. gone) (λ (t : (at : ℕ) × (8 ≤ at) × (at < 8) × (name_of new.seen (8 * group_for old id + at) ≡ id)). let low = t.1 in let high = t.2 in absurd (omega arith)) ahead;
+  absent = ⊎_elim (λ gone. gone) (λ (t : (at : ℕ) × (places ≤ at) × (at < places) × (name_of new.seen (way_for old id at) ≡ id)). let low = t.1 in let high = t.2 in absurd (omega arith)) ahead;
   passed = passed;
   exact = λ clerk. none_has old.directory.plan id real new.seen grows.legal (by_clerk clerk);
 }
@@ -215,63 +212,170 @@ place_is of place low = omega arith
 pub way_inside : (of groups place : ℕ) → of < groups → place < 8 → 8 * of + place < 8 * groups
 way_inside of groups place low near = omega arith
 
--- an id is admitted: a look at the turn, eight at names, a name and a clearing
+-- the first eight places of an id are ways of its group, and the others of its second group
+module _ (plan : Plan) (id : ℕ) where
+  pub way_at_first : (place : ℕ) → place < 8 → way_at plan id place ≡ 8 * group_of plan id + place
+  way_at_first place low = let half : place / 8 ≡ 0 = omega arith in let rest : place % 8 ≡ place = omega arith in
+      ap (λ (k : ℕ). 8 * group_at plan id k + place % 8) half ∙ ap (λ (k : ℕ). 8 * group_of plan id + k) rest
+
+  pub way_at_second : (place : ℕ) → 8 ≤ place → place < places → way_at plan id place ≡ 8 * second_of plan id + (place - 8)
+  way_at_second place high low = let half : place / 8 ≡ 1 = omega arith in let rest : place % 8 ≡ place - 8 = omega arith in
+      ap (λ (k : ℕ). 8 * group_at plan id k + place % 8) half ∙ ap (λ (k : ℕ). 8 * second_of plan id + k) rest
+
+  -- the way that a pair of groups has at a place
+  module _ (first second : ℕ) (first_is : first ≡ group_of plan id) (second_is : second ≡ second_of plan id) (place way : ℕ) (near : place < places)
+      (low : place < 8 → way ≡ 8 * first + place) (high : 8 ≤ place → way ≡ 8 * second + (place - 8)) where
+    pub pair_way : way ≡ way_at plan id place
+    pair_way = dite (dec_le 8 place)
+        (λ (far : 8 ≤ place). high far ∙ ap (λ (g : ℕ). 8 * g + (place - 8)) second_is ∙ sym (way_at_second place far near))
+        (λ few. let before : place < 8 = omega arith in low before ∙ ap (λ (g : ℕ). 8 * g + place) first_is ∙ sym (way_at_first place before))
+
+    pub pair_inside : first < plan.groups → second < plan.groups → way < ways plan
+    pair_inside a b = dite (dec_le 8 place)
+        (λ (far : 8 ≤ place). let is = high far in omega arith)
+        (λ few. let is = low (omega arith) in omega arith)
+
+  -- a way of one of the groups is at a place
+  pub at_first : (way : ℕ) → group_of_way way ≡ group_of plan id → IsWayOf plan id way
+  at_first way is = let place : ℕ = way % 8 in let low : place < 8 = omega arith in (place, omega arith, way_at_first place low ∙ omega arith)
+
+  pub at_second : (way : ℕ) → group_of_way way ≡ second_of plan id → IsWayOf plan id way
+  at_second way is = let place : ℕ = 8 + way % 8 in let high : 8 ≤ place = omega arith in let low : place < places = omega arith in (place, low, way_at_second place high low ∙ omega arith)
+
+-- an id is admitted: a look at the turn, one at each place, a name and a clearing
 module _ (id way : ℕ) (real : 0 < id) (old first second third last : Token) (clerk : old.number ≡ 0) (turn : Grows old (looked old.number ∷ []) first) (room : HasRoom id way first second) where
   of_id : group_for first id ≡ group_for old id
   of_id = ap (λ (d : Opened). group_of d.plan id) turn.directory
 
-  both : Grows old (looks 9 old.number) second
-  both = then_looks old first second 8 turn room.grows
+  both : Grows old (looks (places + 1) old.number) second
+  both = then_looks old first second places turn room.grows
 
   pub admission : Grows second (named way id ∷ []) third → Grows third (cleared (group_for old id) ∷ []) last → Admits id old last (Ok way)
   admission names clears =
-      let named_so = grows_on old second third (looks 9 old.number) (named way id ∷ []) both names in
-      let whole = grows_on old third last (named way id ∷ looks 9 old.number) (cleared (group_for old id) ∷ []) named_so clears in
-      let has : name_of last.seen way ≡ id = clerk_names old (cleared (group_for old id) ∷ named way id ∷ looks 9 old.number) last way clerk whole ∙ cond_same id (name_of (looks 9 old.number ++ old.seen) way) way way refl in (
+      let named_so = grows_on old second third (looks (places + 1) old.number) (named way id ∷ []) both names in
+      let whole = grows_on old third last (named way id ∷ looks (places + 1) old.number) (cleared (group_for old id) ∷ []) named_so clears in
+      let has : name_of last.seen way ≡ id = clerk_names old (cleared (group_for old id) ∷ named way id ∷ looks (places + 1) old.number) last way clerk whole ∙ cond_same id (name_of (looks (places + 1) old.number ++ old.seen) way) way way refl in (
         whole,
-        sym (clerk_looks old 9 old.number second way clerk both) ∙ room.free,
+        sym (clerk_looks old (places + 1) old.number second way clerk both) ∙ room.free,
         record { inside = subst (λ (d : Opened). way < ways d.plan) (sym whole.directory) (named_inside old.directory.plan last.seen way id whole.legal real has).0; has = has },
       )
 
   module _ (odd : IsOpen first.directory.plan first.seen (group_for first id)) where
     known : turn_of first.directory.plan second.seen (group_for first id) ≡ turn_of first.directory.plan first.seen (group_for first id)
-    known = clerk_turn first (looks 8 first.number) second (group_for first id) (turn.number ∙ clerk) room.grows (looks_clear_nothing 8 first.number) odd
+    known = clerk_turn first (looks places first.number) second (group_for first id) (turn.number ∙ clerk) room.grows (looks_clear_nothing places first.number) odd
 
-    pub may_admit : group_for first id < first.directory.plan.groups → MayName first.directory.plan second.seen way id
-    may_admit low = record {
-      inside = (let in_group = room.in_group in omega arith);
+    pub may_admit : MayName first.directory.plan second.seen way id
+    may_admit = record {
+      inside = room.inside;
       real = real;
-      group = room.in_group;
+      place = room.place;
       free = room.free;
       open_claim = ap (λ (k : ℕ). k % 2) known ∙ odd;
       absent = room.absent;
     }
 
     pub still_open : Grows second (named way id ∷ []) third → turn_of first.directory.plan third.seen (group_for first id) ≡ turn_of first.directory.plan first.seen (group_for first id)
-    still_open names = clerk_turn first (named way id ∷ looks 8 first.number) third (group_for first id) (turn.number ∙ clerk)
-        (grows_on first second third (looks 8 first.number) (named way id ∷ []) room.grows names) (looks_clear_nothing 8 first.number) odd
+    still_open names = clerk_turn first (named way id ∷ looks places first.number) third (group_for first id) (turn.number ∙ clerk)
+        (grows_on first second third (looks places first.number) (named way id ∷ []) room.grows names) (looks_clear_nothing places first.number) odd
 
 -- a look at the turn, and then a scan that finds the name
-pub then_found : (id way : ℕ) (old first second : Token) → Grows old (looked old.number ∷ []) first → Scans id first second (Some way) → Grows old (looks (way % 8 + 2) old.number) second × HasName second way id
-then_found id way old first second turn scan = let more : way % 8 + 1 + 1 ≡ way % 8 + 2 = omega arith in
-    (subst (λ (k : ℕ). Grows old (looks k old.number) second) more (then_looks old first second (way % 8 + 1) turn scan.0), scan.1)
+pub then_found : (id way : ℕ) (old first second : Token) → Grows old (looked old.number ∷ []) first → FindsAt id 1 first second way → FindsAt id 2 old second way
+then_found id way old first second turn scan = let more : scan.place + 1 + 1 ≡ scan.place + 2 = omega arith in record {
+  place = scan.place;
+  inside = scan.inside;
+  way_is = scan.way_is ∙ ap (λ (d : Opened). way_at d.plan id scan.place) turn.directory;
+  grows = subst (λ (k : ℕ). Grows old (looks k old.number) second) more (then_looks old first second (scan.place + 1) turn scan.grows);
+  named = scan.named;
+}
 
 -- an id isn't admitted where there is no room
 pub no_admission : (id : ℕ) (old first second : Token) (why : Refused) → Grows old (looked old.number ∷ []) first → Rooms id first second (Err why) → Admits id old second (Err why)
 no_admission id old first second refused.NoClaim turn none = absurd none
 no_admission id old first second (refused.Named way) turn has = then_found id way old first second turn has
-no_admission id old first second refused.Full turn full = (then_looks old first second 8 turn full.0, full.1)
+no_admission id old first second refused.Full turn full = (then_looks old first second places turn full.0, full.1)
 
--- what was found of room
-pub room_found : (id : ℕ) (old new : Token) (room : Option ℕ) → old.number ≡ 0 → 0 < id → Grows old (looks 8 old.number) new → PassedByClerk (group_for old id) id old 8 new
-    → IfSome room (λ way. (group_of_way way ≡ group_for old id) × (name_of new.seen way ≡ 0)) → IfNone room (PassedByClerk (group_for old id) 0 old 8 new) → Rooms id old new (ok_or room refused.Full)
-room_found id old new (Some way) clerk real grows passed free full = record { grows = grows; in_group = free.0; free = free.1; absent = none_has old.directory.plan id real new.seen grows.legal (passed clerk) }
-room_found id old new None clerk real grows passed free full = (
-  grows,
-  λ way in_group has. let of = group_for old id in
-      let same : group_for new id ≡ group_for old id = ap (λ (d : Opened). group_of d.plan id) grows.directory in
-      let here : 8 * group_for old id + (way - 8 * group_for old id) ≡ way = omega arith in full clerk (way - 8 * group_for old id) (omega arith) (ap (name_of new.seen) here ∙ has),
-)
+-- the clerk sees a group, and then the other
+looks_both : (count more by : ℕ) → looks more by ++ looks count by ≡ looks (count + more) by
+looks_both count zero by = ap (λ (k : ℕ). looks k by) (omega arith)
+looks_both count (suc more) by = let k : suc (count + more) ≡ count + suc more = omega arith in ap (λ (l : List Event). looked by ∷ l) (looks_both count more by) ∙ ap (λ (n : ℕ). looks n by) k
+
+pub looks_after : (old mid new : Token) (count more : ℕ) → Grows old (looks count old.number) mid → Grows mid (looks more mid.number) new → Grows old (looks (count + more) old.number) new
+looks_after old mid new count more a b = subst (λ (l : List Event). Grows old l new) (ap (λ (by : ℕ). looks more by ++ looks count old.number) a.number ∙ looks_both count more old.number)
+    (grows_on old mid new (looks count old.number) (looks more mid.number) a b)
+
+-- a name that the clerk didn't see there isn't there after other looks
+still_passed : (way : ℕ → ℕ) (name : ℕ) (old mid new : Token) (more : ℕ) → old.number ≡ 0 → mid.number ≡ 0 → Grows mid (looks more mid.number) new → PassedByClerk way name old 8 mid → PassedByClerk way name old 8 new
+still_passed way name old mid new more clerk same b passed _ at below has = passed clerk at below (sym (clerk_looks mid more mid.number new (way at) same b) ∙ has)
+
+module _ (id first second : ℕ) (old mid new : Token) where
+  -- the name was in the first group
+  pub refused_first : first ≡ group_for old id → (why : Refused) → LooksForRoom id first old mid (Err why) → Rooms id old mid (Err why)
+  refused_first is refused.NoClaim none = absurd none
+  refused_first is refused.Full none = absurd none
+  refused_first is (refused.Named way) h = let in_group = h.0 in record {
+    place = way % 8;
+    inside = omega arith;
+    way_is = omega (arith, in_group) ∙ ap (λ (g : ℕ). 8 * g + way % 8) is ∙ sym (way_at_first old.directory.plan id (way % 8) (omega arith));
+    grows = h.1;
+    named = h.2;
+  }
+
+  -- or in the second
+  pub refused_second : second ≡ second_of old.directory.plan id → (here : Room) → SeesRoom id first old mid here → (why : Refused) → LooksForRoom id second mid new (Err why) → Rooms id old new (Err why)
+  refused_second is here a refused.NoClaim none = absurd none
+  refused_second is here a refused.Full none = absurd none
+  refused_second is here a (refused.Named way) h = let in_group = h.0 in let place : ℕ = 8 + way % 8 in record {
+    place = place;
+    inside = omega arith;
+    way_is = omega (arith, in_group) ∙ ap (λ (g : ℕ). 8 * g + (place - 8)) is ∙ sym (way_at_second old.directory.plan id place (omega arith) (omega arith));
+    grows = subst (λ (k : ℕ). Grows old (looks k old.number) new) (omega arith) (looks_after old mid new 8 (way % 8 + 1) a.grows h.1);
+    named = h.2;
+  }
+
+module _ (id first second : ℕ) (real : 0 < id) (old mid new : Token) (clerk : old.number ≡ 0) (first_is : first ≡ group_for old id) (second_is : second ≡ second_of old.directory.plan id)
+    (low : (first < old.directory.plan.groups) × (second < old.directory.plan.groups)) where
+  abbrev of : Plan
+  of = old.directory.plan
+
+  module _ (here there : Room) (a : SeesRoom id first old mid here) (b : SeesRoom id second mid new there) where
+    both_grow : Grows old (looks places old.number) new
+    both_grow = looks_after old mid new 8 8 a.grows b.grows
+
+    mid_clerk : mid.number ≡ 0
+    mid_clerk = a.grows.number ∙ clerk
+
+    -- what was passed in both groups was passed at each place
+    passed_both : (name : ℕ) → PassedByClerk (way_in first) name old 8 mid → PassedByClerk (way_in second) name mid 8 new → (place : ℕ) → place < places → name_of new.seen (way_for old id place) ≢ name
+    passed_both name in_first in_second place near has = dite (dec_le 8 place)
+        (λ (far : 8 ≤ place). let at : way_at of id place ≡ way_in second (place - 8) = way_at_second of id place far near ∙ ap (λ (g : ℕ). 8 * g + (place - 8)) (sym second_is) in
+        in_second mid_clerk (place - 8) (omega arith) (ap (name_of new.seen) (sym at) ∙ has))
+        (λ few. let before : place < 8 = omega arith in let at : way_at of id place ≡ way_in first place = way_at_first of id place before ∙ ap (λ (g : ℕ). 8 * g + place) (sym first_is) in
+        still_passed (way_in first) name old mid new 8 clerk mid_clerk b.grows in_first clerk place before (ap (name_of new.seen) (sym at) ∙ has))
+
+    no_way : IsAbsent new.seen id
+    no_way = none_has of id real new.seen both_grow.legal (passed_both id a.passed b.passed)
+
+    room_at : (way : ℕ) → IsWayOf of id way → way < ways of → name_of new.seen way ≡ 0 → HasRoom id way old new
+    room_at way place inside free = record { grows = both_grow; inside = inside; place = place; free = free; absent = no_way }
+
+    some_of : (r : Option ℕ) (way : ℕ) (P : ℕ → Type 0) → r ≡ Some way → IfSome r P → P way
+    some_of r way P is h = subst (λ (o : Option ℕ). IfSome o P) is h
+
+    none_of : (r : Option ℕ) (P : Type 0) → r ≡ None → IfNone r P → P
+    none_of r P is h = subst (λ (o : Option ℕ). IfNone o P) is h
+
+    -- one of the rooms that were found, or none was
+    pub room_found : (found : Option ℕ) → IfSome found (λ way. (here.way ≡ Some way) ⊎ (there.way ≡ Some way)) → (found ≡ None → (here.way ≡ None) × (there.way ≡ None)) → Rooms id old new (ok_or found refused.Full)
+    room_found (Some way) some none = ⊎_elim
+        (λ (is : here.way ≡ Some way). let h = some_of here.way way _ is a.free in
+        room_at way (at_first of id way (h.0 ∙ first_is)) (let e = h.0 in let l = low.0 in omega arith) (clerk_looks mid 8 mid.number new way mid_clerk b.grows ∙ h.1))
+        (λ (is : there.way ≡ Some way). let h = some_of there.way way _ is b.free in
+        room_at way (at_second of id way (h.0 ∙ second_is)) (let e = h.0 in let l = low.1 in omega arith) h.1) some
+    room_found None some none = let both = none refl in (
+      both_grow,
+      λ place near has. let same : way_for new id place ≡ way_for old id place = ap (λ (d : Opened). way_at d.plan id place) both_grow.directory in
+          passed_both 0 (none_of here.way _ both.0 a.full) (none_of there.way _ both.1 b.full) place near (ap (name_of new.seen) (sym same) ∙ has),
+    )
 
 -- the turn that a call found
 module _ (now : Opened) (id of found : ℕ) (first : Token) (own : first.directory ≡ now) (of_is : of ≡ group_for first id) (value : found ≡ turn_of now.plan first.seen of) where
@@ -282,23 +386,23 @@ module _ (now : Opened) (id of found : ℕ) (first : Token) (own : first.directo
   turn_is = turn_there first.seen ∙ sym value
 
   -- and a claim that is granted, or another was
-  module _ (old second third : Token) (turn : Grows old (looked old.number ∷ []) first) (scan : Grows first (looks 8 first.number) second) where
-    nine : Grows old (looks 9 old.number) second
-    nine = then_looks old first second 8 turn scan
+  module _ (old second third : Token) (turn : Grows old (looked old.number ∷ []) first) (scan : Grows first (looks places first.number) second) where
+    looked_all : Grows old (looks (places + 1) old.number) second
+    looked_all = then_looks old first second places turn scan
 
-    pub granted : WinsClaim id [] second third → WinsClaim id (looks 9 old.number) old third
+    pub granted : WinsClaim id [] second third → WinsClaim id (looks (places + 1) old.number) old third
     granted won = record {
-      grows = subst (λ (by : ℕ). Grows old (claimed by id ∷ looks 9 old.number) third) nine.number (grows_on old second third (looks 9 old.number) (claimed second.number id ∷ []) nine won.grows);
+      grows = subst (λ (by : ℕ). Grows old (claimed by id ∷ looks (places + 1) old.number) third) looked_all.number (grows_on old second third (looks (places + 1) old.number) (claimed second.number id ∷ []) looked_all won.grows);
       before = won.before;
-      last = won.last ∙ ap (λ (by : ℕ). claimed by id ∷ won.before) nine.number;
+      last = won.last ∙ ap (λ (by : ℕ). claimed by id ∷ won.before) looked_all.number;
       absent = won.absent;
     }
 
-    pub outrun : found % 2 ≡ 0 → Grows second (looked second.number ∷ []) third → turn_of now.plan third.seen of ≢ found → Grows old (looks 10 old.number) third × WasOpen id old third
+    pub outrun : found % 2 ≡ 0 → Grows second (looked second.number ∷ []) third → turn_of now.plan third.seen of ≢ found → Grows old (looks (places + 2) old.number) third × WasOpen id old third
     outrun even look changed =
         let same : group_for first id ≡ group_for old id = ap (λ (d : Opened). group_of d.plan id) turn.directory in
         let at = λ (seen : List Event). ap (λ (d : Opened). turn_of d.plan seen (group_of d.plan id)) (sym turn.directory) in (
-          looks_on old second third 9 nine look,
+          looks_on old second third (places + 1) looked_all look,
           was_open id old first third (look.rest ++ scan.rest) turn (look.seen ∙ ap (λ (l : List Event). look.rest ++ l) scan.seen ∙ sym (append_assoc look.rest scan.rest first.seen))
               (ap (λ (k : ℕ). k % 2) (at first.seen ∙ turn_is) ∙ even)
               (λ still. changed (sym (turn_there third.seen) ∙ sym (at third.seen) ∙ still ∙ at first.seen ∙ turn_is)),

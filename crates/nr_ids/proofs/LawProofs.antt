@@ -80,8 +80,8 @@ has_after : (event : Event) (since before : List Event) → Has event since → 
 has_after event since before has = (has.0, has.1 ++ before, ap (λ (l : List Event). l ++ before) has.2 ∙ append_assoc has.0 (event ∷ has.1) before)
 
 pub finds_what_it_knew : FindsWhatItKnew
-finds_what_it_knew id way old new (Some found) real knows looks = let grows = looks.0 in let plan = old.directory.plan in ⊎_elim
-    (λ still. inl (ap Some (one_way plan new.seen found way id grows.legal real looks.1.has (ap (λ (l : List Event). name_of l way) grows.seen ∙ still))))
+finds_what_it_knew id way old new (Some found) real knows looks = let grows = looks.grows in let plan = old.directory.plan in ⊎_elim
+    (λ still. inl (ap Some (one_way plan new.seen found way id grows.legal real looks.named.has (ap (λ (l : List Event). name_of l way) grows.seen ∙ still))))
     (λ gone. inr (grows.rest, grows.seen, gone))
     (stays plan grows.rest old.seen way id (subst (IsLegal plan) grows.seen grows.legal) real knows.has)
 finds_what_it_knew id way old new None real knows looks = let grows = looks.0 in let plan = old.directory.plan in let absent = looks.1 in let within = absent.within in
@@ -93,7 +93,7 @@ finds_what_it_knew id way old new None real knows looks = let grows = looks.0 in
 
 -- what a look-up adds
 grown : (id : ℕ) (old new : Token) (found : Option ℕ) → LooksUp id old new found → (rest : List Event) × (new.seen ≡ rest ++ old.seen) × IsLegal old.directory.plan old.seen
-grown id old new (Some way) looks = (looks.0.rest, looks.0.seen, legal_end old.directory.plan looks.0.rest old.seen (subst (IsLegal old.directory.plan) looks.0.seen looks.0.legal))
+grown id old new (Some way) looks = (looks.grows.rest, looks.grows.seen, legal_end old.directory.plan looks.grows.rest old.seen (subst (IsLegal old.directory.plan) looks.grows.seen looks.grows.legal))
 grown id old new None looks = (looks.0.rest, looks.0.seen, legal_end old.directory.plan looks.0.rest old.seen (subst (IsLegal old.directory.plan) looks.0.seen looks.0.legal))
 
 pub finds_what_it_heard : FindsWhatItHeard

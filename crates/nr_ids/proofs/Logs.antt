@@ -3,7 +3,7 @@ use Rattle.std.proofs.Common.{◌≡◌, ◌≢◌, ℕ, zero, suc, ◌+◌, ◌
 use mathlib.Core.Logic.{dite}
 use native.Mathlib.Decide.{ℕ_discrete}
 use Rattle.nr_ids.specs.declared.plan.Plan.{Plan}
-use Rattle.nr_ids.specs.Groups.{group_of, group_of_way, ways}
+use Rattle.nr_ids.specs.Groups.{IsWayOf, group_of, ways}
 use Rattle.nr_ids.specs.Events.{Event, named, unnamed, cleared, claimed, looked, maker, own, looks, name_of, turn_of, May, IsLegal, IsOpen, IsClosed, last_turn}
 
 module _ {A : Type 0} (x y : A) where
@@ -74,12 +74,12 @@ module _ (plan : Plan) where
   legal_end [] log legal = legal
   legal_end (event ∷ rest) log legal = legal_end rest log legal.1
 
-  -- a name stands in a way of its id's group
-  pub named_inside : (log : List Event) (way id : ℕ) → IsLegal plan log → 0 < id → name_of log way ≡ id → (way < ways plan) × (group_of_way way ≡ group_of plan id)
+  -- a name stands at a place of its id
+  pub named_inside : (log : List Event) (way id : ℕ) → IsLegal plan log → 0 < id → name_of log way ≡ id → (way < ways plan) × IsWayOf plan id way
   named_inside [] way id legal real at = absurd (omega arith)
   named_inside (named other i ∷ log) way id legal real at = dite (ℕ_discrete other way)
       (λ (e : other ≡ way). let same : i ≡ id = sym (cond_same i (name_of log way) other way e) ∙ at in let may = legal.0 in
-      (subst (λ (w : ℕ). w < ways plan) e may.inside, ap group_of_way (sym e) ∙ may.group ∙ ap (group_of plan) same))
+      (subst (λ (w : ℕ). w < ways plan) e may.inside, subst (λ (k : ℕ). IsWayOf plan k way) same (subst (IsWayOf plan i) e may.place)))
       (λ ne. named_inside log way id legal.1 real (sym (cond_else i (name_of log way) other way ne) ∙ at))
   named_inside (unnamed other ∷ log) way id legal real at = dite (ℕ_discrete other way)
       (λ (e : other ≡ way). let none : 0 ≡ id = sym (cond_same 0 (name_of log way) other way e) ∙ at in absurd (omega arith))

@@ -11,7 +11,7 @@ use Rattle.atomic_table.specs.declared.shared.Seat.{Seat}
 use Rattle.atomic_table.specs.Table.{State, Act, Allows, Valid, carried_after, keeps, opening, step, stepped}
 use Rattle.atomic_table.proofs.Lists.{exchanged}
 use Rattle.nr_ids.specs.declared.plan.Plan.{Plan}
-use Rattle.nr_ids.specs.Groups.{IsPlan, ways, group_of}
+use Rattle.nr_ids.specs.Groups.{group_of, places, ways, IsPlan}
 use Rattle.nr_ids.specs.Events.{Event, named, unnamed, cleared, claimed, looked, maker, own, name_of, turn_of, last_turn, May, MayName, MayClaim, IsLegal, IsOpen}
 use Rattle.nr_ids.specs.Rule.{View, Shows, Fits, Kept, opener, counted, marks_place, turn_place, total}
 use Rattle.nr_ids.specs.Plays.{Goes, has_looked_at_name, has_looked_at_turn, has_claimed, has_marked, has_named, has_unnamed, has_cleared}
@@ -130,7 +130,7 @@ module _ (table : TableId) (key : Plan) (now : Opened) (about : Stands table key
     may_name state kept at way id may = let known = names_known state kept at in record {
       inside = may.inside;
       real = may.real;
-      group = may.group;
+      place = may.place;
       free = known way ∙ may.free;
       open_claim = ap (λ (k : ℕ). k % 2) (turn_known state kept at (group_of key id) may.open_claim) ∙ may.open_claim;
       absent = λ other has. may.absent other (sym (known other) ∙ has);
@@ -184,12 +184,12 @@ module _ (table : TableId) (key : Plan) (now : Opened) (about : Stands table key
               ),
         )
 
-  pub claims_group : (group place id was : ℕ) → group ≡ group_of now.plan id → group < now.plan.groups → place ≡ turn_place now.plan group → 0 < id → was % 2 ≡ 0 → was < last_turn → Scanned now.plan seat.me.0.seen id was 8
+  pub claims_group : (group place id was : ℕ) → group ≡ group_of now.plan id → group < now.plan.groups → place ≡ turn_place now.plan group → 0 < id → was % 2 ≡ 0 → was < last_turn → Scanned now.plan seat.me.0.seen id was places
       → (seat.table_id ≡ table) × (place < table.words)
       × Allows (Kept key) table.slots seat.id seat.me place (λ n. either (n == was) (was + 1) n) (has_claimed (step table.slots place was (was + 1) (some id)) seat.me)
   claims_group group place id was group_is low is real even early scan = let wide = about.wide in
       let groups : key.groups ≡ now.plan.groups = ap (λ (plan : Plan). plan.groups) about.key_is in
-      let scan' : Scanned key seat.me.0.seen id was 8 = subst (λ (plan : Plan). Scanned plan seat.me.0.seen id was 8) (sym about.key_is) scan in
+      let scan' : Scanned key seat.me.0.seen id was places = subst (λ (plan : Plan). Scanned plan seat.me.0.seen id was places) (sym about.key_is) scan in
       let of_id : group_of key id ≡ group = ap (λ (plan : Plan). group_of plan id) about.key_is ∙ sym group_is in
       let place' : turn_place key group ≡ place = omega arith in (
         own_table,

@@ -1,7 +1,7 @@
 -- What happens to a directory, newest first: each step of each caller is one event.
 use Rattle.std.specs.Prelude.{◌≡◌, ◌≢◌, ℕ, ◌+◌, ◌%◌, ◌^◌, ◌<◌, ◌==◌, cond, List, [], ◌∷◌, replicate}
 use Rattle.nr_ids.specs.declared.plan.Plan.{Plan}
-use Rattle.nr_ids.specs.Groups.{group_of, group_of_way, ways}
+use Rattle.nr_ids.specs.Groups.{IsWayOf, group_of, ways}
 
 pub data Event : Type 0 where
   -- by the clerk: from now on a way has this name, or has none; a claim of a group is answered
@@ -61,11 +61,11 @@ last_turn = 2 ^ 62
 abbrev pub IsAbsent : List Event → ℕ → Type 0
 IsAbsent log id = (way : ℕ) → name_of log way ≢ id
 
--- a way of the id's group that has no name gets the id's, which no way has, while a claim of the group is open
+-- a way of the id's that has no name gets the id's, which no way has, while a claim of the id's group is open
 pub record MayName (plan : Plan) (log : List Event) (way id : ℕ) : Type 0 where
   pub inside : way < ways plan
   pub real : 0 < id
-  pub group : group_of_way way ≡ group_of plan id
+  pub place : IsWayOf plan id way
   pub free : name_of log way ≡ 0
   pub open_claim : IsOpen plan log (group_of plan id)
   pub absent : IsAbsent log id

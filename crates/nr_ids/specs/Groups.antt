@@ -1,5 +1,5 @@
--- The group of an id: a function of the id and of the key that the directory was opened with.
-use Rattle.std.specs.Prelude.{◌≡◌, ℕ, ◌*◌, ◌/◌, ◌%◌, ◌^◌, ◌<◌, ◌≤◌, ◌⊎◌, bit_or, bit_xor}
+-- The two groups of an id: functions of the id and of the key that the directory was opened with.
+use Rattle.std.specs.Prelude.{◌≡◌, ℕ, zero, suc, ◌+◌, ◌-◌, ◌*◌, ◌/◌, ◌%◌, ◌^◌, ◌<◌, ◌≤◌, ◌⊎◌, bit_or, bit_xor}
 use Rattle.nr_ids.specs.declared.plan.Plan.{Plan}
 use Rattle.nr_ids.specs.declared.plan.TheConstants.{MAX_GROUPS}
 
@@ -23,9 +23,28 @@ mixed key id = folded id * bit_or key 1 % 2 ^ 64
 unfoldable pub group_of : Plan → ℕ → ℕ
 group_of plan id = mixed plan.key id / 2 ^ 32 * plan.groups / 2 ^ 32
 
+-- another group where there is one: so many further on, by the low half scaled to the others, and on from the first behind the last
+unfoldable pub second_of : Plan → ℕ → ℕ
+second_of plan id = (group_of plan id + 1 + mixed plan.key id % 2 ^ 32 * (plan.groups - 1) / 2 ^ 32) % plan.groups
+
 -- ways 8g to 8g + 7 are the ways of group g
 abbrev pub ways : Plan → ℕ
 ways plan = 8 * plan.groups
 
 abbrev pub group_of_way : ℕ → ℕ
 group_of_way way = way / 8
+
+-- an id has sixteen places: the ways of its group, and then those of its second group
+abbrev pub places : ℕ
+places = 16
+
+abbrev pub group_at : Plan → ℕ → ℕ → ℕ
+group_at plan id zero = group_of plan id
+group_at plan id (suc more) = second_of plan id
+
+abbrev pub way_at : Plan → ℕ → ℕ → ℕ
+way_at plan id place = 8 * group_at plan id (place / 8) + place % 8
+
+-- the way is at one of the id's places
+abbrev pub IsWayOf : Plan → ℕ → ℕ → Type 0
+IsWayOf plan id way = (place : ℕ) × (place < places) × (way_at plan id place ≡ way)

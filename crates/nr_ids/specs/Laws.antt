@@ -1,18 +1,18 @@
 -- Laws of legal events, and of what tokens know.
 use Rattle.std.specs.Prelude.{◌≡◌, ℕ, ◌+◌, ◌<◌, ◌⊎◌, ◌==◌, cond, List, [], ◌∷◌, ◌++◌, Option, Some}
 use Rattle.nr_ids.specs.declared.plan.Plan.{Plan}
-use Rattle.nr_ids.specs.Groups.{group_of, group_of_way, ways}
+use Rattle.nr_ids.specs.Groups.{IsWayOf, group_of, ways}
 use Rattle.nr_ids.specs.Events.{Event, named, unnamed, cleared, claimed, looked, name_of, turn_of, IsLegal}
 use Rattle.nr_ids.specs.Answers.{LooksUp}
 use Rattle.nr_ids.specs.Rule.{BeginsWith}
 use Rattle.nr_ids.specs.Tokens.{Known, Token, Grows, HasName}
 
--- an id has at most one way, which is one of its group
+-- an id has at most one way, which is at one of its places
 abbrev pub OneWay : Type 0
 OneWay = (plan : Plan) (log : List Event) (way other id : ℕ) → IsLegal plan log → 0 < id → name_of log way ≡ id → name_of log other ≡ id → way ≡ other
 
-abbrev pub InGroup : Type 0
-InGroup = (plan : Plan) (log : List Event) (way id : ℕ) → IsLegal plan log → 0 < id → name_of log way ≡ id → (way < ways plan) × (group_of_way way ≡ group_of plan id)
+abbrev pub AtItsPlaces : Type 0
+AtItsPlaces = (plan : Plan) (log : List Event) (way id : ℕ) → IsLegal plan log → 0 < id → name_of log way ≡ id → (way < ways plan) × IsWayOf plan id way
 
 -- one of these events is this one
 abbrev pub Has : Event → List Event → Type 0

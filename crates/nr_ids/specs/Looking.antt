@@ -1,15 +1,19 @@
--- What a scan of a group's ways tells, of a reader and of the clerk.
-use Rattle.std.specs.Prelude.{◌≡◌, ◌≢◌, ℕ, ◌+◌, ◌*◌, ◌%◌, ◌<◌, ◌≤◌, ◌⊎◌, List, Option, Some, None, Result, Ok, Err}
+-- What a scan of an id's places tells, of a reader and of the clerk.
+use Rattle.std.specs.Prelude.{◌≡◌, ◌≢◌, ℕ, ◌+◌, ◌*◌, ◌%◌, ◌<◌, ◌≤◌, ◌⊎◌, IfNone, IfSome, List, Option, Some, None, Result, Ok, Err}
 use Rattle.nr_ids.specs.declared.admissions.Refused.{Refused}
 use Rattle.nr_ids.specs.declared.admissions.Refused.TheVariants as refused
-use Rattle.nr_ids.specs.Groups.{group_of, group_of_way}
+use Rattle.nr_ids.specs.declared.admissions.Room.{Room}
+use Rattle.nr_ids.specs.Groups.{IsWayOf, group_of, group_of_way, places, way_at, ways}
 use Rattle.nr_ids.specs.Events.{Event, looks, name_of, IsAbsent}
 use Rattle.nr_ids.specs.Scans.{Passed}
 use Rattle.nr_ids.specs.Tokens.{Token, Grows, HasName, Within}
 
--- the id's group
+-- the id's group, and the way at a place of the id's
 abbrev pub group_for : Token → ℕ → ℕ
 group_for token id = group_of token.directory.plan id
+
+abbrev pub way_for : Token → ℕ → ℕ → ℕ
+way_for token id place = way_at token.directory.plan id place
 
 -- within the call there was a moment at which the id had no way
 pub record WasAbsent (id : ℕ) (old new : Token) : Type 0 where
@@ -17,37 +21,63 @@ pub record WasAbsent (id : ℕ) (old new : Token) : Type 0 where
   pub within : Within old new moment
   pub absent : IsAbsent moment id
 
--- so far: there was such a moment, or the id has a way at that place of its group or behind it
+-- so far: there was such a moment, or the id has a way at that place or behind it
 abbrev pub Ahead : ℕ → Token → ℕ → Token → Type 0
-Ahead id old place new = WasAbsent id old new ⊎ ((at : ℕ) × (place ≤ at) × (at < 8) × (name_of new.seen (8 * group_for old id + at) ≡ id))
+Ahead id old place new = WasAbsent id old new ⊎ ((at : ℕ) × (place ≤ at) × (at < places) × (name_of new.seen (way_for old id at) ≡ id))
 
--- of a group's first ways none has the name, where the clerk looked
-abbrev pub PassedByClerk : ℕ → ℕ → Token → ℕ → Token → Type 0
-PassedByClerk group name old count new = old.number ≡ 0 → (place : ℕ) → place < count → name_of new.seen (8 * group + place) ≢ name
+-- of so many ways none has the name, where the clerk looked
+abbrev pub PassedByClerk : (ℕ → ℕ) → ℕ → Token → ℕ → Token → Type 0
+PassedByClerk way name old count new = old.number ≡ 0 → (place : ℕ) → place < count → name_of new.seen (way place) ≢ name
 
 pub record Missed (id : ℕ) (old new : Token) : Type 0 where
-  pub grows : Grows old (looks 8 old.number) new
+  pub grows : Grows old (looks places old.number) new
   pub absent : WasAbsent id old new
-  pub passed : (place : ℕ) → place < 8 → Passed old.seen new.seen (8 * group_for old id + place) id
+  pub passed : (place : ℕ) → place < places → Passed old.seen new.seen (way_for old id place) id
   pub exact : old.number ≡ 0 → IsAbsent new.seen id
 
+-- the way at a place of the id's has its name, which took a look at each place before it and so many more
+pub record FindsAt (id more : ℕ) (old new : Token) (way : ℕ) : Type 0 where
+  pub place : ℕ
+  pub inside : place < places
+  pub way_is : way ≡ way_for old id place
+  pub grows : Grows old (looks (place + more) old.number) new
+  pub named : HasName new way id
+
 abbrev pub Scans : ℕ → Token → Token → Option ℕ → Type 0
-Scans id old new (Some way) = Grows old (looks (way % 8 + 1) old.number) new × HasName new way id
+Scans id old new (Some way) = FindsAt id 1 old new way
 Scans id old new None = Missed id old new
 
--- each way of the id's group has a name
+-- at each of the id's places is a name
 abbrev pub IsFull : ℕ → Token → Type 0
-IsFull id token = (way : ℕ) → group_of_way way ≡ group_for token id → name_of token.seen way ≢ 0
+IsFull id token = (place : ℕ) → place < places → name_of token.seen (way_for token id place) ≢ 0
 
--- a way of the id's group without a name, where no way has the id's
+-- a way of the id's without a name, where no way has the id's
 pub record HasRoom (id way : ℕ) (old new : Token) : Type 0 where
-  pub grows : Grows old (looks 8 old.number) new
-  pub in_group : group_of_way way ≡ group_for old id
+  pub grows : Grows old (looks places old.number) new
+  pub inside : way < ways old.directory.plan
+  pub place : IsWayOf old.directory.plan id way
   pub free : name_of new.seen way ≡ 0
   pub absent : IsAbsent new.seen id
 
 abbrev pub Rooms : ℕ → Token → Token → Result ℕ Refused → Type 0
 Rooms id old new (Ok way) = HasRoom id way old new
 Rooms id old new (Err refused.NoClaim) = ⊥
-Rooms id old new (Err (refused.Named way)) = Grows old (looks (way % 8 + 1) old.number) new × HasName new way id
-Rooms id old new (Err refused.Full) = Grows old (looks 8 old.number) new × IsFull id new
+Rooms id old new (Err (refused.Named way)) = FindsAt id 1 old new way
+Rooms id old new (Err refused.Full) = Grows old (looks places old.number) new × IsFull id new
+
+-- the ways of a group, in their order
+abbrev pub way_in : ℕ → ℕ → ℕ
+way_in group place = 8 * group + place
+
+-- what the clerk saw of a group: none of its ways has the id's name, and one has none, or each has one
+pub record SeesRoom (id group : ℕ) (old new : Token) (room : Room) : Type 0 where
+  pub grows : Grows old (looks 8 old.number) new
+  pub passed : PassedByClerk (way_in group) id old 8 new
+  pub free : IfSome room.way (λ way. (group_of_way way ≡ group) × (name_of new.seen way ≡ 0))
+  pub full : IfNone room.way (PassedByClerk (way_in group) 0 old 8 new)
+
+abbrev pub LooksForRoom : ℕ → ℕ → Token → Token → Result Room Refused → Type 0
+LooksForRoom id group old new (Ok room) = SeesRoom id group old new room
+LooksForRoom id group old new (Err refused.NoClaim) = ⊥
+LooksForRoom id group old new (Err (refused.Named way)) = (group_of_way way ≡ group) × Grows old (looks (way % 8 + 1) old.number) new × HasName new way id
+LooksForRoom id group old new (Err refused.Full) = ⊥

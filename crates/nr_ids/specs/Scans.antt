@@ -1,7 +1,7 @@
--- What a scan of a group's ways after a look at its turn has shown.
-use Rattle.std.specs.Prelude.{◌≡◌, ◌≢◌, ℕ, ◌+◌, ◌*◌, ◌<◌, List, ◌++◌}
+-- What a scan of an id's places after a look at its group's turn has shown.
+use Rattle.std.specs.Prelude.{◌≡◌, ◌≢◌, ℕ, ◌<◌, List, ◌++◌}
 use Rattle.nr_ids.specs.declared.plan.Plan.{Plan}
-use Rattle.nr_ids.specs.Groups.{group_of}
+use Rattle.nr_ids.specs.Groups.{group_of, way_at}
 use Rattle.nr_ids.specs.Events.{Event, name_of, turn_of}
 
 -- at some moment from `start` on, and no later than `seen`, the way had not that name
@@ -13,10 +13,10 @@ pub record Passed (start seen : List Event) (way id : ℕ) : Type 0 where
   pub from : moment ≡ since ++ start
   pub other : name_of moment way ≢ id
 
--- the turn of the id's group was loaded, and since then so many ways of the group were passed
+-- the turn of the id's group was loaded, and since then so many of the id's places were passed
 pub record Scanned (plan : Plan) (seen : List Event) (id turn count : ℕ) : Type 0 where
   pub start : List Event
   pub rest : List Event
   pub is : seen ≡ rest ++ start
   pub turn_is : turn_of plan start (group_of plan id) ≡ turn
-  pub passed : (place : ℕ) → place < count → Passed start seen (8 * group_of plan id + place) id
+  pub passed : (place : ℕ) → place < count → Passed start seen (way_at plan id place) id

@@ -1,13 +1,16 @@
 //! What the clerk does: it answers claims, and takes names back.
-ghost use Rattle.std.specs.Prelude.{◌≡◌, ◌<◌, ◌*◌};
+ghost use Rattle.std.specs.Prelude.{◌≡◌, ◌<◌, ◌*◌, ◌⊎◌, IfSome, Some, None};
 ghost use Rattle.nr_ids.specs.Answers.{Admits, Clears, FindsId, FindsWay, Unnames};
-ghost use Rattle.nr_ids.specs.Groups.{ways};
-ghost use Rattle.nr_ids.specs.Looking.{Rooms};
+ghost use Rattle.nr_ids.specs.Groups.{IsPlan, ways};
+ghost use Rattle.nr_ids.specs.Looking.{LooksForRoom, Rooms};
 ghost use Rattle.nr_ids.specs.Tokens.{Sits, token};
 
 use crate::directory::{Directory, Seat};
 use crate::plan::WAYS;
 use crate::tokens::Clerk;
+
+/// An id goes to its own group while that has so much room, and else to the emptier of the two.
+const AMPLE: u32 = 3;
 
 /// Why an id isn't admitted. Then no way's name has changed, and a claim that was open still is.
 #[derive(Clone, Copy, Debug, PartialEq, Eq)]
@@ -16,13 +19,20 @@ pub enum Refused {
     NoClaim,
     /// This way has the id's name.
     Named(u32),
-    /// Each way of the group has a name.
+    /// Each way of the id's two groups has a name.
     Full,
 }
 
+/// The ways of a group that have no name: one of them, and how many they are.
+#[derive(Clone, Copy)]
+pub(crate) struct Room {
+    pub way: Option<u32>,
+    pub count: u32,
+}
+
 impl Directory {
-    /// Answers the open claim of the id's group: the way that has the id's name from now on. Takes 11
-    /// steps; refused, 1 without a claim, 2 to 9 where a way has the name, 9 where the group is full.
+    /// Answers the open claim of the id's group: the way that has the id's name from now on. Takes 19
+    /// steps; refused, 1 without a claim, 2 to 17 where a way has the name, 17 where both groups are full.
     pub fn admit(&self, clerk: &mut Clerk, id: u64) -> Result<u32, Refused>
         requires own { clerk.old.directory ≡ self.now }
         requires id { 0 < id }
@@ -68,7 +78,7 @@ impl Directory {
         self.unname_way(&mut clerk.seat, way);
     }
 
-    /// The way that has the id's name, in 1 to 8 steps, or none has it. The clerk knows this exactly.
+    /// The way that has the id's name, in 1 to 16 steps, or none has it. The clerk knows this exactly.
     pub fn way_of(&self, clerk: &mut Clerk, id: u64) -> Option<u32>
         requires own { clerk.old.directory ≡ self.now }
         requires id { 0 < id }
@@ -91,7 +101,7 @@ impl Directory {
         }
     }
 
-    /// A way of the id's group that has no name, where no way has the id's.
+    /// A way of the id's that has no name, where no way has the id's.
     fn room_for(&self, seat: &mut Seat, id: u64) -> Result<u32, Refused>
         requires clerk { Sits self.now seat.old }
         requires number { seat.old.me.0.number ≡ 0 }
@@ -99,18 +109,51 @@ impl Directory {
         ensures clerk { Sits self.now seat.new }
         ensures rooms { Rooms id (token seat.old) (token seat.new) result }
     {
-        let first = WAYS * self.plan().group_of(id);
-        let mut room = None;
+        let pair = self.plan().pair_of(id);
+        let here = self.room_in(seat, pair.first, id)?;
+        let there = self.room_in(seat, pair.second, id)?;
+        chosen(here, there).ok_or(Refused::Full)
+    }
+
+    /// The ways of a group that have no name, where none has the id's.
+    fn room_in(&self, seat: &mut Seat, group: u32, id: u64) -> Result<Room, Refused>
+        requires clerk { Sits self.now seat.old }
+        requires number { seat.old.me.0.number ≡ 0 }
+        requires plan { IsPlan self.now.plan }
+        requires group { group < self.now.plan.groups }
+        requires id { 0 < id }
+        ensures clerk { Sits self.now seat.new }
+        ensures room { LooksForRoom id group (token seat.old) (token seat.new) result }
+    {
+        let mut room = Room {
+            way: None,
+            count: 0,
+        };
         for place in 0..WAYS {
-            let way = first + place;
+            let way = WAYS * group + place;
             let name = self.look(seat, way);
             if name == id {
                 return Err(Refused::Named(way));
             }
             if name == 0 {
-                room = Some(way);
+                room = Room {
+                    way: Some(way),
+                    count: room.count + 1,
+                };
             }
         }
-        room.ok_or(Refused::Full)
+        Ok(room)
+    }
+}
+
+// A way of an id's two groups, if any has no name.
+fn chosen(here: Room, there: Room) -> Option<u32>
+    ensures some { IfSome result (λ way. (here.way ≡ Some way) ⊎ (there.way ≡ Some way)) }
+    ensures none { result ≡ None → (here.way ≡ None) × (there.way ≡ None) }
+{
+    if here.count >= AMPLE || here.count >= there.count {
+        here.way.or(there.way)
+    } else {
+        there.way.or(here.way)
     }
 }

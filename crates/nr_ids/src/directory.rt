@@ -1,7 +1,7 @@
 //! The table of names and turns. It is private to this module, whose functions make one step each.
 ghost use Rattle.std.specs.Prelude.{◌≡◌, ◌≢◌, ◌<◌, ◌%◌, true, false, IfOk, [], ◌∷◌};
 ghost use Rattle.nr_ids.specs.Events.{MayName, cleared, last_turn, looked, name_of, named, turn_of, unnamed};
-ghost use Rattle.nr_ids.specs.Groups.{IsPlan, group_of, ways};
+ghost use Rattle.nr_ids.specs.Groups.{IsPlan, group_of, places, ways};
 ghost use Rattle.nr_ids.specs.Rule.{BeginsWith, counted, marks_place, next_reader, note_of, opener, retold, total, turn_place, with_note, with_reader};
 ghost use Rattle.nr_ids.specs.Scans.{Scanned};
 ghost use Rattle.nr_ids.specs.Tokens.{Grows, Sits, WinsClaim, token};
@@ -103,7 +103,7 @@ impl Directory {
         requires id { 0 < id }
         requires closed { was % 2 ≡ 0 }
         requires early { was < last_turn }
-        requires scanned { Scanned self.now.plan seat.old.me.0.seen id was 8 }
+        requires scanned { Scanned self.now.plan seat.old.me.0.seen id was places }
         ensures caller { Sits self.now seat.new }
         ensures won { result ≡ true → WinsClaim id [] (token seat.old) (token seat.new) }
         ensures lost { result ≡ false → Grows (token seat.old) (looked seat.old.me.0.number ∷ []) (token seat.new) × (turn_of self.now.plan seat.new.me.0.seen (group_of self.now.plan id) ≢ was) }

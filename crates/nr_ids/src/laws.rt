@@ -1,14 +1,14 @@
 //! Laws over the definitions alone. Nothing runs here: each function's contract is the law.
-ghost use Rattle.nr_ids.specs.Laws.{ClerkKnows, FindsWhatItHeard, FindsWhatItKnew, InGroup, OneClaim, OneNaming, OneWay, TurnCounts};
+ghost use Rattle.nr_ids.specs.Laws.{AtItsPlaces, ClerkKnows, FindsWhatItHeard, FindsWhatItKnew, OneClaim, OneNaming, OneWay, TurnCounts};
 
 /// An id has at most one way.
 pub fn one_way()
     ensures { OneWay }
 {}
 
-/// An id's way is one of its group.
-pub fn in_group()
-    ensures { InGroup }
+/// An id's way is one of its group, or of its second group.
+pub fn at_its_places()
+    ensures { AtItsPlaces }
 {}
 
 /// A group's claim is granted once between two clearings.

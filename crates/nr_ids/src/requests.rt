@@ -6,7 +6,7 @@ ghost use Rattle.nr_ids.specs.Looking.{Scans};
 ghost use Rattle.nr_ids.specs.Tokens.{Sits, token};
 
 use crate::directory::{Directory, Seat};
-use crate::plan::WAYS;
+use crate::plan::PLACES;
 use crate::tokens::Reader;
 use std::marker::Model;
 use std::snapshot::Snapshot;
@@ -66,8 +66,9 @@ pub enum Requested {
 }
 
 impl Directory {
-    /// The way that has the id's name. Takes 1 to 8 steps, a look at each way of the id's group up to
-    /// that one. `None`: within the call there was a moment at which the id had no way.
+    /// The way that has the id's name. Takes a step for each look at a way of the id's group and of its
+    /// second group, up to that one: 1 to 8 in its group, and else 9 to 16. `None`: within the call there
+    /// was a moment at which the id had no way.
     pub fn look_up(&self, reader: &mut Reader, id: u64) -> Option<u32>
         requires own { reader.old.directory ≡ self.now }
         requires id { 0 < id }
@@ -77,8 +78,8 @@ impl Directory {
         self.scan(&mut reader.seat, id)
     }
 
-    /// Claims the id's group, where no claim of it is open and the id has no way. Takes 10 steps where
-    /// the claim is granted or another was within the call, 2 to 9 where a way has the name, else 1.
+    /// Claims the id's group, where no claim of it is open and the id has no way. Takes 18 steps where
+    /// the claim is granted or another was within the call, 2 to 17 where a way has the name, else 1.
     pub fn request(&self, reader: &mut Reader, id: u64) -> Requested
         requires own { reader.old.directory ≡ self.now }
         requires id { 0 < id }
@@ -106,7 +107,7 @@ impl Directory {
         }
     }
 
-    /// A look at each way of the id's group, up to the one that has its name.
+    /// A look at each place of the id's, up to the one whose way has its name.
     #[inline(always)]
     pub(crate) fn scan(&self, seat: &mut Seat, id: u64) -> Option<u32>
         requires caller { Sits self.now seat.old }
@@ -114,9 +115,9 @@ impl Directory {
         ensures caller { Sits self.now seat.new }
         ensures scans { Scans id (token seat.old) (token seat.new) result }
     {
-        let first = WAYS * self.plan().group_of(id);
-        for place in 0..WAYS {
-            let way = first + place;
+        let pair = self.plan().pair_of(id);
+        for place in 0..PLACES {
+            let way = pair.way_at(place);
             if self.look(seat, way) == id {
                 return Some(way);
             }

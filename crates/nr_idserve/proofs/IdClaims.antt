@@ -1,6 +1,7 @@
 -- Each claim that a client is granted is posted, or kept: try by try.
 use Rattle.std.proofs.Common.{◌≡◌, ◌+◌, ◌%◌, ℕ, zero, suc, List, [], ◌∷◌, ◌++◌, Option, None, Some, Result, Ok, Err, refl, sym, ap, ◌∙◌, subst, arith, append_assoc, append-nil}
 use Rattle.nr_model.specs.declared.rows.Row.{Row}
+use Rattle.nr_ids.specs.Groups.{places}
 use Rattle.nr_ids.specs.declared.requests.Requested.{Requested}
 use Rattle.nr_ids.specs.declared.requests.Requested.TheVariants as requested
 use Rattle.nr_ids.specs.Answers.{LooksUp, Requests}
@@ -111,8 +112,8 @@ reader_each : (old : IdHands) (reader : IdCaller) → Claims old.reader.ids [] r
 reader_each old reader claims = posts_each old (with_id_reader old reader) [] [] claims (sym (append-nil old.poster.posted)) (append-nil (ids_kept old.kept))
 
 look_none : (id : ℕ) (old new : Token) (way : Option ℕ) → LooksUp id old new way → Claims old [] new
-look_none id old new (Some way) looks_up = claims_none old new (way % 8 + 1) looks_up.0
-look_none id old new None looks_up = claims_none old new 8 looks_up.0
+look_none id old new (Some way) looks_up = claims_none old new (looks_up.place + 1) looks_up.grows
+look_none id old new None looks_up = claims_none old new places looks_up.0
 
 find_none : {Room : Type 0} (shows : Room → List Row → Type 0) (id : ℕ) (old : IdCaller) (before : Room) (new : IdCaller) (after : Room) (answer : FoundId) → FindsById shows id old before new after answer
     → Claims old.ids [] new.ids
@@ -131,9 +132,9 @@ requested_ids requested.Worn = []
 
 refused_none : (id : ℕ) (old new : Token) (answer : Requested) → requested_ids answer ≡ [] → Requests id old new answer → Claims old [] new
 refused_none id old new (requested.Granted claim) none requests = let no : claim.id ∷ [] ≡ [] = none in absurd (cc (no))
-refused_none id old new (requested.Named way) none requests = claims_none old new (way % 8 + 2) requests.0
+refused_none id old new (requested.Named way) none requests = claims_none old new (requests.place + 2) requests.grows
 refused_none id old new requested.Busy none requests = claims_none old new 1 requests.0
-refused_none id old new requested.Outrun none requests = claims_none old new 10 requests.0
+refused_none id old new requested.Outrun none requests = claims_none old new (places + 2) requests.0
 refused_none id old new requested.Worn none requests = claims_none old new 1 requests.0
 
 -- no claim was kept and none is, and nothing was posted
@@ -147,7 +148,7 @@ request_each capacity id old missed.NotRequested new requests = subst (λ (hands
 request_each capacity id old missed.Claimed new requests =
     let won = requests.requests.requests in
     post_each capacity old new (Some requests.claim) (id ∷ [])
-    (claims_of old.reader.ids new.reader.ids (claimed old.reader.ids.number id ∷ looks 9 old.reader.ids.number) (id ∷ []) won.0.grows (ap (λ (ids : List ℕ). ids ++ id ∷ []) (looks_claim_none 9 old.reader.ids.number)))
+    (claims_of old.reader.ids new.reader.ids (claimed old.reader.ids.number id ∷ looks (places + 1) old.reader.ids.number) (id ∷ []) won.0.grows (ap (λ (ids : List ℕ). ids ++ id ∷ []) (looks_claim_none (places + 1) old.reader.ids.number)))
     requests.posts (ap (λ (kept : Option Granted). ids_kept kept ++ id ∷ []) requests.requests.none ∙ ap (λ (at : ℕ). at ∷ []) (sym won.2))
 request_each capacity id old missed.Named new requests =
     quiet_each old new requests.1.requests.none requests.1.kept requests.1.poster (refused_none id old.reader.ids new.reader.ids (requested.Named requests.0) refl requests.1.requests.requests)

@@ -8,7 +8,7 @@ use Rattle.nr_board.specs.Rule.{StartsWith}
 use Rattle.nr_ids.specs.Events.{Event, name_of}
 use Rattle.nr_idmap.specs.declared.finds.FoundId.{FoundId}
 use Rattle.nr_idmap.specs.declared.finds.FoundId.TheVariants as found
-use Rattle.nr_idmap.specs.IdFinds.{FindsById}
+use Rattle.nr_idmap.specs.IdFinds.{FindsById, FindsByName, with_line}
 use Rattle.nr_idmap.specs.IdHeard.{FindsIdHeard, FindsIdPut, HeardIdBefore}
 use Rattle.nr_idmap.specs.IdNotes.{HearsIdNote, IdKnown, with_steps_of_split}
 use Rattle.nr_idmap.specs.Keepers.{IdCaller}
@@ -33,12 +33,16 @@ stays old new same = subst (λ (caller : Caller). Goes old caller) (sym same) (r
 grows : (steps : ℕ) (old : Caller) (entries : List Entry) (new : Caller) → Grows steps old entries new → Goes old new
 grows steps old entries new made = record { table = made.table; seen = record { rest = made.between ++ entries; is = made.seen ∙ append_assoc old.seen made.between entries } }
 
+named_goes : {Room : Type 0} (shows : Room → List Row → Type 0) (id : ℕ) (old : IdCaller) (before : Room) (new : IdCaller) (after : Room) (answer : FoundId) → FindsByName shows id old before new after answer
+    → Goes old.caller new.caller
+named_goes shows id old before new after found.Rows finds = grows _ old.caller _ new.caller finds.3.1.gains
+named_goes shows id old before new after found.Pending finds = grows _ old.caller _ new.caller finds.2.gains
+named_goes shows id old before new after found.Moved finds = grows _ old.caller _ new.caller finds.2.1.gains
+named_goes shows id old before new after found.Absent finds = stays old.caller new.caller finds.1
+
 find_goes : {Room : Type 0} (shows : Room → List Row → Type 0) (id : ℕ) (old : IdCaller) (before : Room) (new : IdCaller) (after : Room) (answer : FoundId) → FindsById shows id old before new after answer
     → Goes old.caller new.caller
-find_goes shows id old before new after found.Rows finds = grows _ old.caller _ new.caller finds.3.1.gains
-find_goes shows id old before new after found.Pending finds = grows _ old.caller _ new.caller finds.2.gains
-find_goes shows id old before new after found.Moved finds = grows _ old.caller _ new.caller finds.2.1.gains
-find_goes shows id old before new after found.Absent finds = stays old.caller new.caller finds.1
+find_goes shows id old before new after answer finds = let goes = named_goes shows id (with_line old) before new after answer finds in record { table = goes.table; seen = goes.seen }
 
 request_stays : (capacity id : ℕ) (old : IdHands) (said : Missed) (new : IdHands) → RequestsOnce capacity id old said new → new.reader.caller ≡ old.reader.caller
 request_stays capacity id old missed.Pending new requests = absurd requests

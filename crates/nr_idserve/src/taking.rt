@@ -26,7 +26,7 @@ pub enum Taken {
 impl<'a> IdDataflow<'a> {
     /// Takes the upquery that is kept; or else admits the claim that is kept, or the next one of the queue,
     /// which opens an upquery, and raises the lobby for the id's group, which can be claimed again. Where
-    /// each way of the group has a name, one id that `victims` chooses is evicted before. The upquery can't
+    /// each way of the id's two groups has a name, one id that `victims` chooses is evicted before. The upquery can't
     /// be dropped: `fill`, `fail`, `invalidate` or `keep` has it back, and any other may come and go before.
     /// May wait for a thread that is within a call of its own.
     pub fn take<V: Victims, R: Wait>(&mut self, rt: &R, victims: &mut V) -> Taken
@@ -80,7 +80,7 @@ impl<'a> IdDataflow<'a> {
         }
     }
 
-    // Admits an id, after an eviction where its group is full.
+    // Admits an id, after an eviction where its groups are full.
     fn admit_making_room<V: Victims, R: Wait>(
         &mut self,
         rt: &R,

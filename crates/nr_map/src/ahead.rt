@@ -37,9 +37,29 @@ impl Hand {
     {
         map.load_for(&mut self.caller.seat, keys);
     }
+
+    /// Loads a key's word, as the map's `load_key`, in 1 step. What is held stays held.
+    pub fn load_key(&mut self, map: &ReaderMap, key: u32)
+        requires own { self.old.reader.table ≡ map.now }
+        requires key { key < map.now.shape.keys }
+        ensures reader { self.new.reader ≡ with_loads 1 self.old.reader }
+        ensures held { (self.new.key ≡ self.old.key) × (self.new.rows ≡ self.old.rows) }
+    {
+        map.board.load_key(&mut self.caller.seat, key);
+    }
 }
 
 impl ReaderMap {
+    /// Loads a key's word, so that the line of memory in which it lies is near for finds of the keys
+    /// there. It tells nothing. Takes 1 step.
+    pub fn load_key(&self, reader: &mut Reader, key: u32)
+        requires own { reader.old.table ≡ self.now }
+        requires key { key < self.now.shape.keys }
+        ensures { reader.new ≡ with_loads 1 reader.old }
+    {
+        self.board.load_key(&mut reader.caller.seat, key);
+    }
+
     /// Loads words that finds of at most sixteen keys will need, so that the lines of memory in which
     /// they lie are near then: the words of the keys; two words of the set of each, eight apart; and
     /// one of each further line that its rows need, up to five lines. It tells nothing, and `find_each`

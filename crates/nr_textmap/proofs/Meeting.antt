@@ -1,5 +1,5 @@
 -- What the writer's look found of an id, its next call meets.
-use Rattle.std.proofs.Common.{◌≡◌, ◌≢◌, ℕ, ◌+◌, ◌*◌, ◌%◌, ◌<◌, ⊎_elim, List, ◌∷◌, length, refl, sym, ap, ◌∙◌, subst, Result, Ok, Err, Some, None}
+use Rattle.std.proofs.Common.{◌≡◌, ◌≢◌, ℕ, ◌+◌, ◌*◌, ◌<◌, ⊎_elim, List, ◌∷◌, length, refl, sym, ap, ◌∙◌, subst, Result, Ok, Err, Some, None}
 use Rattle.nr_model.specs.declared.rows.Row.{Row}
 use Rattle.nr_model.specs.declared.batches.ApplyFault.{ApplyFault}
 use Rattle.nr_model.specs.declared.batches.ApplyFault.TheVariants as apply
@@ -20,7 +20,7 @@ use Rattle.nr_board.specs.declared.answers.UpdateFault.TheVariants as update
 use Rattle.nr_board.specs.Callers.{Caller, Gains, Table, map_at_opening, map_seen}
 use Rattle.nr_board.specs.WriterAnswers.{ReplacesKey, UpdatesKey}
 use Rattle.nr_ids.specs.Answers.{FindsWay}
-use Rattle.nr_ids.specs.Groups.{ways}
+use Rattle.nr_ids.specs.Groups.{places, ways}
 use Rattle.nr_ids.specs.Tokens.{Opened, Token}
 use Rattle.nr_ids.proofs.Calls.{clerk_looks}
 use Rattle.nr_ids.proofs.Logs.{one_way}
@@ -45,8 +45,8 @@ near : (keeper : Keeper) (clerk : Token) (id way : ℕ) → IsTied keeper → Fi
     way < keeper.writer.table.shape.keys
 near keeper clerk id way tied finds =
     let e : ways clerk.directory.plan ≡ keeper.writer.table.shape.keys =
-    ap (λ (d : Opened). ways d.plan) (finds.0.directory ∙ tied.names.0) ∙ tied.ways_are ∙ ap (λ (t : Table). t.shape.keys) (sym tied.writes.0) in
-    subst (λ (n : ℕ). way < n) e finds.1.inside
+    ap (λ (d : Opened). ways d.plan) (finds.grows.directory ∙ tied.names.0) ∙ tied.ways_are ∙ ap (λ (t : Table). t.shape.keys) (sym tied.writes.0) in
+    subst (λ (n : ℕ). way < n) e finds.named.inside
 
 filled_still : (was now : KeyState) (number : ℕ) (rows : List Row) → was ≡ Rows number rows → IsStill was now → now ≡ Rows number rows
 filled_still was now number rows is still = ⊎_elim
@@ -58,12 +58,12 @@ filled_still was now number rows is still = ⊎_elim
 module _ (text : Named) (old mid : Keeper) (set : List Row) (tied : IsTied mid) (found : FindsSet text old mid set) where
   -- the id has its way still
   pub way_stays : (clerk : Token) → FindsWay text.id mid.clerk clerk None → ⊥
-  way_stays clerk none = none.1 found.0 (clerk_looks mid.clerk 8 mid.clerk.number clerk found.0 tied.names.1 none.0 ∙ found.2.0.1.has)
+  way_stays clerk none = none.1 found.0 (clerk_looks mid.clerk places mid.clerk.number clerk found.0 tied.names.1 none.0 ∙ found.2.0.named.has)
 
   same_way : (clerk : Token) (way : ℕ) → 0 < text.id → FindsWay text.id mid.clerk clerk (Some way) → found.0 ≡ way
   same_way clerk way real finds =
-      one_way mid.table.directory.plan mid.clerk.seen found.0 way text.id tied.legal real found.2.0.1.has
-      (sym (clerk_looks mid.clerk (way % 8 + 1) mid.clerk.number clerk way tied.names.1 finds.0) ∙ finds.1.has)
+      one_way mid.table.directory.plan mid.clerk.seen found.0 way text.id tied.legal real found.2.0.named.has
+      (sym (clerk_looks mid.clerk (finds.place + 1) mid.clerk.number clerk way tied.names.1 finds.grows) ∙ finds.named.has)
 
   -- and its set
   state_found : IsTied old → (number : ℕ) × (state_of (map_seen mid.writer) found.0 ≡ Rows number (tag_of text.id ∷ found.1))

@@ -11,7 +11,7 @@ use Rattle.nr_machine.specs.Story.{entry}
 use Rattle.nr_board.specs.Callers.{Caller, Gains, Table, map_at_opening}
 use Rattle.nr_map.specs.Hands.{Handed}
 use Rattle.nr_idmap.specs.declared.finds.FoundId.TheVariants as of_id
-use Rattle.nr_idmap.specs.IdHands.{HoldsAnew, HoldsById, IdHanded, PinsById, rows_in_hand, rows_of_id}
+use Rattle.nr_idmap.specs.IdHands.{HoldsAnew, HoldsById, HoldsByName, IdHanded, PinsById, rows_in_hand, rows_of_id, with_line_loaded}
 use Rattle.nr_idmap.specs.Tags.{IsResident, rows_behind, tag_of}
 use Rattle.nr_idmap.proofs.Entries.{legal_end}
 use Rattle.nr_idmap.proofs.HandRows.{asked_first, found_rows}
@@ -57,11 +57,14 @@ ended id set old mid new seen was = record { since = was.since; later = was.late
 shown : (id : ℕ) (rows : List Row) (hand : IdHanded) → hand.id ≡ Some id → hand.hand.rows ≡ tag_of id ∷ rows → rows_in_hand hand ≡ rows
 shown id rows hand is tagged = ap (λ (o : Option ℕ). rows_of_id o hand.hand.rows) is ∙ ap rows_behind tagged
 
-anew : (id : ℕ) (old new : IdHanded) → HoldsAnew id old new of_id.Rows → WasResident id (rows_in_hand new) old.hand.reader new.hand.reader
-anew id old new holds =
+by_name : (id : ℕ) (old new : IdHanded) → HoldsByName id old new of_id.Rows → WasResident id (rows_in_hand new) old.hand.reader new.hand.reader
+by_name id old new holds =
     let once = found_rows holds.0 old.hand new.hand holds.3 in
     subst (λ (l : List Row). WasResident id l old.hand.reader new.hand.reader) (sym (shown id holds.1 new holds.5 holds.4))
     (gained once.steps id holds.0 new.hand.rows holds.1 old.hand.reader new.hand.reader holds.4 once.gains)
+
+anew : (id : ℕ) (old new : IdHanded) → HoldsAnew id old new of_id.Rows → WasResident id (rows_in_hand new) old.hand.reader new.hand.reader
+anew id old new holds = let was = by_name id (with_line_loaded old) new holds in record { since = was.since; later = was.later; known = was.known; resident = was.resident }
 
 holds_resident : (id : ℕ) (old new : IdHanded) → HoldsById id old new of_id.Rows → WasResident id (rows_in_hand new) old.hand.reader new.hand.reader
 holds_resident id old new holds = ⊎_elim

@@ -1,12 +1,11 @@
 -- The rows that spell a text: which stands where, in which order, and what they tell.
-use Rattle.std.proofs.Common.{◌≡◌, ◌≢◌, ℕ, zero, suc, ◌+◌, ◌-◌, ◌<◌, ◌≤◌, Bool, true, false, ◌==◌, List, [], ◌∷◌, ◌++◌, length, take, drop, get_or, slice_index, refl, sym, ap, ◌∙◌, subst, arith, take_all, eq-eqb, ne_eqb}
+use Rattle.std.proofs.Common.{◌≡◌, ◌≢◌, ℕ, zero, suc, ◌+◌, ◌-◌, ◌<◌, ◌≤◌, Bool, false, ◌==◌, List, [], ◌∷◌, ◌++◌, length, take, drop, get_or, slice_index, refl, sym, ap, ◌∙◌, subst, arith, take_all, eq-eqb, ne_eqb}
 use Rattle.std.specs.Prelude.{All, IsTrue, Some, if◌then◌else◌, map, slice_get}
 use Rattle.std.proofs.lemmas.Bool.{and_parts}
 use Rattle.std.proofs.lemmas.Bool.Decides.{nat_tests}
 use Rattle.std.proofs.lemmas.List.{append_cancel_left, drop_at, length-append, length-take-le, map-append, take-append-drop, take_at, take_more, take_rest}
 use Rattle.nr_model.specs.declared.rows.Row.{Row}
 use Rattle.nr_model.specs.Rows.{IsRowSet, is_ascending, row_lt}
-use Rattle.nr_model.proofs.RowLemmas.{ascending-cons}
 use Rattle.nr_idmap.specs.Tags.{AreIdRows, IsIdSet}
 use Rattle.nr_textmap.specs.Spelling.{AreBytes, IsText, bytes_of, word_count, words_of}
 use Rattle.nr_textmap.specs.TextLaws.{TellsText}

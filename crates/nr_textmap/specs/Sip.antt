@@ -1,5 +1,5 @@
 -- SipHash-2-4, the keyed hash of Aumasson and Bernstein, of words.
-use Rattle.std.specs.Prelude.{◌≡◌, ℕ, ◌+◌, ◌*◌, ◌%◌, ◌^◌, List, length, bit_xor}
+use Rattle.std.specs.Prelude.{ℕ, ◌+◌, ◌*◌, ◌%◌, ◌^◌, List, length, bit_xor}
 use Rattle.std.specs.Int.{w64, rotate_left}
 use Rattle.std.specs.List.{fold}
 use Rattle.nr_textmap.specs.declared.sip.SipKey.{SipKey}

@@ -32,13 +32,14 @@ fn find_together(map: &ReaderMap, writer: &mut Writer, reader: &mut Reader, page
     show_found(&wanted, page);
 }
 
-// What finds of both keys will need is loaded while there is something else to do.
+// What finds of both keys will need is loaded while there is something else to do, and the word of one.
 fn load(map: &ReaderMap, reader: &mut Reader)
     requires own { reader.old.table ≡ map.now }
     requires keys { 1 < map.now.shape.keys }
     ensures own { reader.new.table ≡ map.now }
 {
     map.load_ahead(reader, &[0, 1]);
+    map.load_key(reader, 0);
 }
 
 /// Key 0 is filled, and key 1 is filled between two looks at both.

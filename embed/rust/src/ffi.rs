@@ -92,6 +92,7 @@ extern "C" {
     pub fn nr_post(poster: *mut Handle, key: u32, number: u64) -> u32;
     pub fn nr_take(taker: *mut Handle, key: *mut u32, number: *mut u64) -> u32;
     pub fn nr_id_group(shape: *const IdShape, id: u64) -> u32;
+    pub fn nr_id_second_group(shape: *const IdShape, id: u64) -> u32;
     pub fn nr_open_ids(shape: *const IdShape, writer: *mut Handle) -> u32;
     pub fn nr_open_id_reader(writer: *mut Handle, reader: *mut Handle) -> u32;
     pub fn nr_close_id_reader(reader: *mut Handle);

@@ -16,10 +16,10 @@ pub struct IdShape {
 }
 
 impl IdShape {
-    /// The group of an id: its ways are those from eight times that on.
-    pub fn group_of(&self, id: u64) -> usize {
+    /// The two groups of an id: a group's ways are those from eight times its number on.
+    pub fn groups_of(&self, id: u64) -> [usize; 2] {
         // SAFETY: the shape is laid out as the header's.
-        unsafe { ffi::nr_id_group(self, id) as usize }
+        unsafe { [ffi::nr_id_group(self, id) as usize, ffi::nr_id_second_group(self, id) as usize] }
     }
 }
 
@@ -46,7 +46,7 @@ impl Upquery {
 /// Why an id isn't admitted.
 #[derive(Clone, Copy, Debug, PartialEq, Eq)]
 pub enum Refused {
-    /// Each way of its group is another id's.
+    /// Each way of its two groups is another id's.
     Full,
     /// Nobody claimed its group since the last admission there.
     NotAsked,

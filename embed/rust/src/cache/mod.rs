@@ -72,7 +72,8 @@ impl<K: Hash + Eq, V, S: BuildHasher> Cache<K, V, S> {
     }
 
     /// Puts a value, whatever its key has. A load that is under way for the key will not be held. Whether the cache holds
-    /// the value: it doesn't where another key has its hash, where all of its group is being loaded, or during a [`Change`].
+    /// the value: it doesn't where another key has its hash, where all ways that it could have are being loaded, or during
+    /// a [`Change`].
     pub fn insert(&self, key: K, value: V) -> bool {
         let id = self.shared.id_of(&key);
         let part = self.shared.part_of(id);

@@ -16,7 +16,7 @@ pub struct CacheStats {
     pub waits: u64,
     /// Entries that made room for others or had expired.
     pub evictions: u64,
-    /// Values that were not held for want of a place: their group was full of loads, or another key has their id.
+    /// Values that were not held for want of a place: their groups were full of loads, or another key has their id.
     pub refused: u64,
     /// Values that were not held since their load began before their key's invalidation, insertion or change was over.
     pub outdated: u64,

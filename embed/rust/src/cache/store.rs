@@ -12,6 +12,11 @@ use std::ptr::NonNull;
 /// How many ways a group has.
 const WAYS: usize = 8;
 
+/// The ways of a group.
+fn ways_of(group: usize) -> Range<usize> {
+    group * WAYS..(group + 1) * WAYS
+}
+
 pub(super) type Place<K, V> = NonNull<Entry<K, V>>;
 
 /// A way whose id is filled. The id stands here too, so that who looks for one reads the group's line alone.
@@ -69,20 +74,21 @@ impl<K, V> Store<K, V> {
     }
 
     fn way_of(&self, id: u64) -> Option<usize> {
-        self.group(id).find(|&way| self.ways[way].as_ref().is_some_and(|way| way.id == id))
+        let mut ways = self.groups(id).into_iter().flatten();
+        ways.find(|&way| self.ways[way].as_ref().is_some_and(|way| way.id == id))
     }
 
-    fn group(&self, id: u64) -> Range<usize> {
-        let first = self.shape.group_of(id) * WAYS;
-        first..first + WAYS
+    /// The ways that an id can have.
+    fn groups(&self, id: u64) -> [Range<usize>; 2] {
+        self.shape.groups_of(id).map(ways_of)
     }
 
     fn place_at(&self, way: usize) -> Option<Place<K, V>> {
         self.ways[way].as_ref().map(|way| way.place)
     }
 
-    /// Opens an upquery for an id that has no way, or none where each way of its group has one. An entry of the group
-    /// makes room where there is none.
+    /// Opens an upquery for an id that has no way, or none where each way of its two groups has one. An entry of one of
+    /// these makes room where there is none.
     pub fn admit(&mut self, id: u64, seats: &Seats, expiry: &Expiry, now: Moment) -> Option<Upquery> {
         let mut has_claimed = false;
         loop {
@@ -95,7 +101,7 @@ impl<K, V> Store<K, V> {
                 }
                 Err(Refused::NotAsked | Refused::Other) => return None,
                 Err(Refused::Full) => {
-                    let victim = self.victim_in(self.group(id), expiry, now)?;
+                    let victim = self.groups(id).into_iter().find_map(|group| self.victim_in(group, expiry, now))?;
                     self.evict_way(victim, seats);
                     self.counted.evictions += 1;
                 }
@@ -168,15 +174,14 @@ impl<K, V> Store<K, V> {
 
     /// Evicts one entry: of that way's group, or of the next group that has one.
     fn make_room(&mut self, way: usize, seats: &Seats, expiry: &Expiry, now: Moment) -> bool {
-        let first = way - way % WAYS;
-        let mut victim = self.victim_in(first..first + WAYS, expiry, now);
+        let mut victim = self.victim_in(ways_of(way / WAYS), expiry, now);
         let groups = self.ways.len() / WAYS;
         for _ in 0..groups {
             if victim.is_some() {
                 break;
             }
             self.hand = (self.hand + 1) % groups;
-            victim = self.victim_in(self.hand * WAYS..(self.hand + 1) * WAYS, expiry, now);
+            victim = self.victim_in(ways_of(self.hand), expiry, now);
         }
         let Some(way) = victim else { return false };
         self.counted.evictions += 1;

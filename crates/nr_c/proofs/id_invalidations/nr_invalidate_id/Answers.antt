@@ -1,9 +1,14 @@
-use Rattle.std.proofs.Common.{ap, arith, inl, inr, refl, subst, sym, ◌∙◌}
-use Rattle.std.specs.Prelude.{ℕ, None, Some}
-use Rattle.nr_ids.specs.Groups.{group_of}
+use Rattle.std.proofs.Common.{◌≡◌, ap, arith, inl, inr, refl, subst, sym, ◌∙◌}
+use Rattle.std.specs.Prelude.{ℕ, None, Option, Some}
+use Rattle.nr_c.specs.declared.kept_upquery.NrUpquery.{NrUpquery}
+use Rattle.nr_ids.specs.Groups.{group_of, second_of}
 use Rattle.nr_idmap.specs.Keepers.{IdTable}
-use Rattle.nr_c.specs.Ledgers.{IsIn, Tells}
+use Rattle.nr_c.specs.Ledgers.{Entries, IsInEither, Tells}
 use Rattle.nr_c.proofs.id_invalidations.nr_invalidate_id.Goals as goal
+
+-- in the groups that the calls told
+in_groups : (id a b first second : ℕ) (kept : Entries) (found : Option NrUpquery) → a ≡ first → b ≡ second → Tells (IsInEither a b id) kept found → Tells (IsInEither first second id) kept found
+in_groups id a b first second kept found is too tells = subst (λ (g : ℕ). Tells (IsInEither first g id) kept found) too (subst (λ (g : ℕ). Tells (IsInEither g b id) kept found) is tells)
 
 pub returns-then-id-eq0 : goal.returns-then-id-eq0
 returns-then-id-eq0 c = let (side, is) = c.if-not-is_live.ensures.live in inr (inl (
@@ -15,29 +20,31 @@ returns-then-id-eq0 c = let (side, is) = c.if-not-is_live.ensures.live in inr (i
 ))
 
 pub returns-in-Some : goal.returns-in-Some
-returns-in-Some c = let side = c.side-side.result.now in let group = c.group_of-group.ensures ∙ ap (λ (table : IdTable). group_of table.directory.plan c.args.id) (c.deref.ensures ∙ sym side.own) in inr (inr (
-  omega (arith, c.if-id-eq0.false),
-  record {
-    old = side;
-    new = _;
-    was = ap (λ handle. handle.live) (sym c.is_live.ensures.same) ∙ c.side-side.ensures.value;
-    is = refl;
-    map = c.take_back.ensures.map;
-    spare = c.take_back.ensures.spare;
-    made = inl (c.in-Some.upquery, subst (λ (g : ℕ). Tells (IsIn g c.args.id) side.ledger (Some c.in-Some.upquery)) group c.in-Some.ensures, c.take_back.ensures.withdraws);
-  },
-))
+returns-in-Some c = let side = c.side-side.result.now in let first = c.group_of-first.ensures ∙ ap (λ (table : IdTable). group_of table.directory.plan c.args.id) (c.deref.ensures ∙ sym side.own) in
+    let second = c.second_of-second.ensures ∙ ap (λ (table : IdTable). second_of table.directory.plan c.args.id) (c.deref-2.ensures ∙ sym side.own) in inr (inr (
+      omega (arith, c.if-id-eq0.false),
+      record {
+        old = side;
+        new = _;
+        was = ap (λ handle. handle.live) (sym c.is_live.ensures.same) ∙ c.side-side.ensures.value;
+        is = refl;
+        map = c.take_back.ensures.map;
+        spare = c.take_back.ensures.spare;
+        made = inl (c.in-Some.upquery, in_groups c.args.id _ _ _ _ side.ledger (Some c.in-Some.upquery) first second c.in-Some.ensures, c.take_back.ensures.withdraws);
+      },
+    ))
 
 pub returns-in-None : goal.returns-in-None
-returns-in-None c = let side = c.side-side.result.now in let group = c.group_of-group.ensures ∙ ap (λ (table : IdTable). group_of table.directory.plan c.args.id) (c.deref.ensures ∙ sym side.own) in inr (inr (
-  omega (arith, c.if-id-eq0.false),
-  record {
-    old = side;
-    new = _;
-    was = ap (λ handle. handle.live) (sym c.is_live.ensures.same) ∙ c.side-side.ensures.value;
-    is = refl;
-    map = refl;
-    spare = refl;
-    made = inr (subst (λ (g : ℕ). Tells (IsIn g c.args.id) side.ledger None) group c.in-None.ensures, record { became_so = (c.evict.result, c.of_evict.ensures, c.evict.ensures.evicts); owes = c.evict.ensures.owes; asker = c.evict.ensures.asker; keeps = refl });
-  },
-))
+returns-in-None c = let side = c.side-side.result.now in let first = c.group_of-first.ensures ∙ ap (λ (table : IdTable). group_of table.directory.plan c.args.id) (c.deref.ensures ∙ sym side.own) in
+    let second = c.second_of-second.ensures ∙ ap (λ (table : IdTable). second_of table.directory.plan c.args.id) (c.deref-2.ensures ∙ sym side.own) in inr (inr (
+      omega (arith, c.if-id-eq0.false),
+      record {
+        old = side;
+        new = _;
+        was = ap (λ handle. handle.live) (sym c.is_live.ensures.same) ∙ c.side-side.ensures.value;
+        is = refl;
+        map = refl;
+        spare = refl;
+        made = inr (in_groups c.args.id _ _ _ _ side.ledger None first second c.in-None.ensures, record { became_so = (c.evict.result, c.of_evict.ensures, c.evict.ensures.evicts); owes = c.evict.ensures.owes; asker = c.evict.ensures.asker; keeps = refl });
+      },
+    ))

@@ -1,5 +1,4 @@
-use Rattle.std.proofs.Common.{◌≡◌, ℕ, suc, List, ◌++◌, sym, subst}
-use Rattle.nr_model.specs.declared.rows.Row.{Row}
+use Rattle.std.proofs.Common.{ℕ, suc, ◌++◌, sym, subst}
 use Rattle.nr_model.specs.Histories.{after}
 use Rattle.nr_model.specs.Maps.{opening}
 use Rattle.nr_idmap.specs.Tags.{IsResident}

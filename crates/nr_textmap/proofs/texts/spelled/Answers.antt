@@ -1,7 +1,5 @@
-use Rattle.std.proofs.Common.{◌≡◌, ℕ, List, length, take, ap, ◌∙◌, sym, subst, arith}
-use Rattle.std.proofs.lemmas.List.{take_more_set}
-use Rattle.nr_textmap.specs.Spelling.{cells_of, first_words, word_at, word_count}
-use Rattle.nr_textmap.proofs.Spelling.{length_cells}
+use Rattle.std.proofs.Common.{◌≡◌, ℕ, List, take, ap, ◌∙◌, sym, arith}
+use Rattle.nr_textmap.specs.Spelling.{cells_of, first_words, word_count}
 use Rattle.nr_textmap.proofs.texts.spelled.Goals as goal
 
 pub returns-clause-words : goal.returns-clause-words

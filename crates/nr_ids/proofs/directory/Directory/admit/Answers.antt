@@ -1,6 +1,5 @@
-use Rattle.std.proofs.Common.{◌≡◌, ◌<◌, ◌%◌, ℕ, [], ◌∷◌, ap, arith, subst, sym, ◌∙◌, Ok, Err}
+use Rattle.std.proofs.Common.{◌≡◌, ◌%◌, ℕ, [], ◌∷◌, ap, arith, subst, sym, ◌∙◌, Ok, Err}
 use Rattle.std.proofs.lemmas.Result.{err_from_is_err_and}
-use Rattle.nr_ids.specs.declared.plan.Plan.{Plan}
 use Rattle.nr_ids.specs.declared.admissions.Refused.{Refused}
 use Rattle.nr_ids.specs.Answers.{Admits}
 use Rattle.nr_ids.specs.Events.{IsOpen, MayName, cleared}
@@ -20,10 +19,8 @@ name-requires-clause-may c = let id = c.args.id in let way = c.in_ok-way.way in 
     let of_is = group_is id c.group_of-group.result c.plan.result.now c.args.self.now first own c.group_of-group.ensures.value c.plan.ensures.value in
     let odd : c.look_at_turn-turn.result % 2 ≡ 1 = omega (arith, c.if-turn-eq0.false) in
     let is_open : IsOpen first.directory.plan first.seen (group_for first id) = ap (λ (k : ℕ). k % 2) (turn_is c.args.self.now id c.group_of-group.result c.look_at_turn-turn.result first own of_is turn.value) ∙ odd in
-    let low : c.group_of-group.result < c.args.self.now.plan.groups = subst (λ (p : Plan). c.group_of-group.result < p.groups) c.plan.ensures.value c.group_of-group.ensures.inside in
-    let low' : group_for first id < first.directory.plan.groups = omega (arith, low, of_is, ap (λ (d : Opened). d.plan.groups) own) in
     subst (λ (d : Opened). MayName d.plan second.seen way id) own
-    (may_admit id way c.requires.id old first second third first clerk turn.grows c.in_ok-way.ensures.rooms is_open low')
+    (may_admit id way c.requires.id old first second third first clerk turn.grows c.in_ok-way.ensures.rooms is_open)
 
 pub close-requires-clause-was : goal.close-requires-clause-was
 close-requires-clause-was c = let id = c.args.id in let way = c.in_ok-way.way in let turn = c.look_at_turn-turn.ensures in let own = turn.caller.own in let clerk = c.clerk.invariant.1 in

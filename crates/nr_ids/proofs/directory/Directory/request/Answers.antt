@@ -1,16 +1,17 @@
-use Rattle.std.proofs.Common.{◌+◌, ◌%◌, ap, arith, refl, subst, sym, ◌∙◌}
+use Rattle.std.proofs.Common.{ap, arith, refl, subst, sym, ◌∙◌}
 use Rattle.nr_ids.specs.declared.plan.Plan.{Plan}
 use Rattle.nr_ids.specs.Groups.{group_of}
 use Rattle.nr_ids.specs.Answers.{Requests}
-use Rattle.nr_ids.specs.Events.{looks, turn_of}
-use Rattle.nr_ids.specs.Tokens.{Grows, HasName, Token, token}
+use Rattle.nr_ids.specs.Events.{turn_of}
+use Rattle.nr_ids.specs.Looking.{FindsAt}
+use Rattle.nr_ids.specs.Tokens.{Token, token}
 use Rattle.nr_ids.proofs.Calls.{granted, group_is, outrun, then_found}
 use Rattle.nr_ids.proofs.directory.Directory.request.Goals as goal
 use Rattle.nr_ids.proofs.directory.Directory.request.Goals.{then-claim, else-claim}
 
 pub returns-in-Some-clause-answer : goal.returns-in-Some-clause-answer
 returns-in-Some-clause-answer c = let second = token c.scan.new.seat in let way = c.in-Some.way in
-    subst (λ (t : Token). Grows t (looks (way % 8 + 2) t.number) second × HasName second way c.args.id) c.reader.view_is
+    subst (λ (t : Token). FindsAt c.args.id 2 t second way) c.reader.view_is
     (then_found c.args.id way (token c.reader.inside.seat) (token c.look_at_turn-turn.new.seat) second c.look_at_turn-turn.ensures.grows c.in-Some.ensures.scans)
 
 pub returns-clause-answer : goal.returns-clause-answer

@@ -1,4 +1,4 @@
-use Rattle.std.proofs.Common.{rules, ◌≡◌, ℕ, ◌-◌, ◌<◌, ◌++◌, length, arith, ◌∙◌, ap}
+use Rattle.std.proofs.Common.{rules, ◌-◌, ◌<◌, length, arith, ◌∙◌}
 use Rattle.std.proofs.lemmas.List.{length-append}
 use Rattle.nr_textmap.specs.Texts.{rows_from}
 use Rattle.nr_textmap.proofs.TextRows.{behind_at, get_some, length_rows, spelled_at}

@@ -1,6 +1,6 @@
 use Rattle.std.proofs.Common.{◌≡◌, ℕ, ◌*◌, ◌%◌, ◌^◌, List, length, ap, ◌∙◌, arith, take_all}
 use Rattle.std.specs.List.{fold}
-use Rattle.std.proofs.lemmas.Nat.{mod_below, shl_whole}
+use Rattle.std.proofs.lemmas.Nat.{shl_whole}
 use Rattle.nr_textmap.specs.declared.sip.State.{State}
 use Rattle.nr_textmap.specs.Sip.{absorbed, begun, ended, sip}
 use Rattle.nr_textmap.proofs.sip.SipKeyTextHash.hash.Goals as goal

@@ -1,8 +1,15 @@
-use Rattle.std.proofs.Common.{◌≡◌, ℕ, List, ◌++◌, true, false, sym, ◌∙◌, subst}
+use Rattle.std.proofs.Common.{◌≡◌, ℕ, List, true, false, ◌∙◌, subst}
 use Rattle.nr_model.specs.declared.rows.Row.{Row}
 use Rattle.nr_idmap.specs.declared.finds.FoundId.TheVariants as of_id
 use Rattle.nr_idmap.specs.IdHands.{PinsById}
+use Rattle.nr_textmap.specs.Texts.{HasText}
 use Rattle.nr_textmap.proofs.text_map.TextMap.pin.Goals as goal
+
+pub returns-then-begins-clause-pins : goal.returns-then-begins-clause-pins
+returns-then-begins-clause-pins c = (
+  subst (λ (n : ℕ). PinsById n c.args.hand.now c.pin.new.self of_id.Rows) c.id.ensures.value c.in-Rows.ensures.pins,
+  subst (λ (l : List Row). HasText c.args.text.now l) c.rows.ensures.rows (c.begins.ensures.0 c.if-begins.true),
+)
 
 pub returns-else-begins-clause-pins : goal.returns-else-begins-clause-pins
 returns-else-begins-clause-pins c = (

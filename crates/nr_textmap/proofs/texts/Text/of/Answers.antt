@@ -1,4 +1,4 @@
-use Rattle.std.proofs.Common.{rules, ◌≡◌, ℕ, ◌<◌, List, length, take, ap, sym, ◌∙◌, subst, arith}
+use Rattle.std.proofs.Common.{rules, ◌≡◌, ℕ, ◌<◌, List, take, ap, sym, ◌∙◌, subst, arith}
 use Rattle.std.proofs.lemmas.List.{get_or_default}
 use Rattle.std.specs.Prelude.{slice_index_or}
 use Rattle.nr_textmap.specs.Spelling.{AreBytes, IsSpelled, IsText, bytes_of, word_count, words_of}

@@ -1,4 +1,4 @@
-use Rattle.std.proofs.Common.{◌≡◌, ℕ, List, length, take, ap, sym, ◌∙◌}
+use Rattle.std.proofs.Common.{ℕ, List, length, take, ap, sym, ◌∙◌}
 use Rattle.nr_textmap.specs.Spelling.{bytes_of, word_count}
 use Rattle.nr_textmap.specs.Texts.{Named}
 use Rattle.nr_textmap.proofs.Spelling.{length_words}

@@ -1,5 +1,5 @@
 use Rattle.nr_ids.proofs.Logs.{named_inside}
-use Rattle.nr_ids.proofs.laws.in_group.Goals as goal
+use Rattle.nr_ids.proofs.laws.at_its_places.Goals as goal
 
 pub returns : goal.returns
 returns c = named_inside
