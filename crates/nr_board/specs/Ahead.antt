@@ -9,14 +9,14 @@ use Rattle.nr_board.specs.Views.{View}
 
 -- the token counts the step
 abbrev pub has_loaded : Then
-has_loaded step before found after = after.0 ≡ has_noted before.0
+has_loaded step (before, _) found (after, _) = after ≡ has_noted before
 
 -- and where it is a look at a key, what this named
 abbrev pub ahead : ℕ → ℕ → View → View
 ahead key named view = record view { steps = view.steps + 1; marks = with_look view.marks key named }
 
 abbrev pub has_looked_ahead : Then
-has_looked_ahead step before found after = after.0 ≡ ahead step.word (name_number found) before.0
+has_looked_ahead step (before, _) found (after, _) = after ≡ ahead step.word (name_number found) before
 
 -- as contracts see the token
 abbrev pub after_look : ℕ → ℕ → Caller → Caller

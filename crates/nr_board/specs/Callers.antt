@@ -11,7 +11,7 @@ use Rattle.nr_machine.specs.declared.places.Retired.{Retired}
 use Rattle.nr_machine.specs.Story.{entry, opening_map}
 use Rattle.nr_marks.specs.Marks.{Marks, Past, gripped}
 use Rattle.nr_board.specs.Entries.{AreCallers}
-use Rattle.nr_board.specs.Views.{View, desk_of, grip_of, caller_number}
+use Rattle.nr_board.specs.Views.{View, desk_of, grip_of, caller_number, view_of}
 
 -- which map it is, its sizes, and how many of its readers, the first ones, have a word of their own
 pub record Table : Type 0 where
@@ -64,7 +64,7 @@ caller_of id view = record {
 }
 
 abbrev pub token : Seat (Unit {0}) View → Caller
-token seat = caller_of seat.table_id seat.me.0
+token seat = caller_of seat.table_id (view_of seat)
 
 -- the map at opening, and after what the caller has seen
 abbrev pub map_at_opening : Table → PartialMap

@@ -3,14 +3,15 @@ use Rattle.std.specs.Prelude.{◌≡◌, ℕ, ◌+◌, ◌*◌}
 use Rattle.std.proofs.Common.{◌∙◌, refl, arith}
 use Rattle.nr_board.specs.declared.held_rows.HeldRows.{HeldRows}
 use Rattle.nr_board.specs.Callers.{Rests, token}
+use Rattle.nr_board.specs.Views.{view_of}
 
 -- that many rows were read by the same seat
 pub record Gave (first : HeldRows) (count : ℕ) (last : HeldRows) : Type 0 where
   pub name : last.seat.ghost_name ≡ first.seat.ghost_name
   pub board : last.board.now ≡ first.board.now
   pub begin : last.begin ≡ first.begin
-  pub marks : last.seat.now.me.0.marks ≡ first.seat.now.me.0.marks
-  pub says : last.seat.now.me.0.says ≡ first.seat.now.me.0.says
+  pub marks : (view_of last.seat.now).marks ≡ (view_of first.seat.now).marks
+  pub says : (view_of last.seat.now).says ≡ (view_of first.seat.now).says
   pub rests : Rests (2 * count) (token first.seat.now) (token last.seat.now)
 
 pub gives_none : (source : HeldRows) → Gave source 0 source

@@ -10,7 +10,7 @@ use Rattle.nr_marks.specs.Puts.{put_number}
 use Rattle.nr_board.specs.declared.holds.Held.{Held}
 use Rattle.nr_board.specs.Callers.{Caller, Gains, Grows, Table, token}
 use Rattle.nr_board.specs.Seats.{AnnouncesAt, HoldsAt, IdlesAt}
-use Rattle.nr_board.specs.Views.{caller_number, grip_of, rows_held}
+use Rattle.nr_board.specs.Views.{caller_number, grip_of, rows_held, view_of}
 use Rattle.nr_board.specs.WordPlays.{let_go}
 use Rattle.nr_board.specs.WriterSeats.{MapSeat}
 
@@ -80,20 +80,20 @@ FindsHole more key old new = FindsHoleAfter [] more key old new
 pub record HeldAs (table : Table) (held : Held) (seat : MapSeat) : Type 0 where
   pub holds : HoldsAt table held.begin seat
   pub begin_is : held.begin ≡ content table.shape held.slot 0
-  pub count_is : held.count ≡ length (rows_held seat.me.0.role)
-  pub says : seat.me.0.says ≡ held.says
-  pub worded : 0 < held.says → caller_number seat.me.0.role ≤ table.announcers
+  pub count_is : held.count ≡ length (rows_held (view_of seat).role)
+  pub says : (view_of seat).says ≡ held.says
+  pub worded : 0 < held.says → caller_number (view_of seat).role ≤ table.announcers
 
 -- the find of a reader whose marks were these is an entry after that many steps: the set is held, or the key was a hole and nothing is held
 pub record HeldSo (table : Table) (key steps : ℕ) (marks : Marks) (held : Held) (old new : MapSeat) : Type 0 where
   pub held_as : HeldAs table held new
-  pub gains : Gains steps (token old) (model.Find key) (reply.Rows (rows_held new.me.0.role)) (token new)
-  pub marks_are : new.me.0.marks ≡ acted marks (put_number new.me.0.seen key)
+  pub gains : Gains steps (token old) (model.Find key) (reply.Rows (rows_held (view_of new).role)) (token new)
+  pub marks_are : (view_of new).marks ≡ acted marks (put_number (view_of new).seen key)
 
 pub record HoleSo (table : Table) (key steps : ℕ) (marks : Marks) (old new : MapSeat) : Type 0 where
   pub idles : IdlesAt table new
   pub gains : Gains steps (token old) (model.Find key) reply.Hole (token new)
-  pub marks_are : new.me.0.marks ≡ acted marks (put_number new.me.0.seen key)
+  pub marks_are : (view_of new).marks ≡ acted marks (put_number (view_of new).seen key)
 
 abbrev pub IsAnswered : Table → ℕ → ℕ → Marks → MapSeat → MapSeat → Option Held → Type 0
 IsAnswered table key steps marks old new (Some held) = HeldSo table key steps marks held old new
@@ -115,7 +115,7 @@ pub record HoldsOn (made : ℕ) (earlier : List ℕ) (table : Table) (key : ℕ)
   pub steps : ℕ
   pub named : List ℕ
   pub takes : TakesSteps true answer (earlier ++ named) (made + steps)
-  pub answered : IsAnswered table key steps (looked (let_go (grip_of old.me.0.role) old.me.0.marks) key named) old new answer
+  pub answered : IsAnswered table key steps (looked (let_go (grip_of (view_of old).role) (view_of old).marks) key named) old new answer
 
 -- the slot of a word was announced, and not confirmed, since the key's newer word names another
 pub record NamesOther (table : Table) (key word newer : ℕ) (old new : MapSeat) : Type 0 where
@@ -123,7 +123,7 @@ pub record NamesOther (table : Table) (key word newer : ℕ) (old new : MapSeat)
   pub filled : is_filled newer ≡ true
   pub other : names_slot (slot_of word) newer ≡ false
   pub grows : Grows 2 (token old) [] (token new)
-  pub marks_are : new.me.0.marks ≡ with_look (let_go (grip_of old.me.0.role) old.me.0.marks) key (name_number newer)
+  pub marks_are : (view_of new).marks ≡ with_look (let_go (grip_of (view_of old).role) (view_of old).marks) key (name_number newer)
 
 -- what the look named that answered
 abbrev pub last_named : ℕ → Option Held → ℕ
@@ -137,7 +137,7 @@ SaysSlot slot None = Unit {0}
 
 -- an announcement and its confirmation, and the load or the store that follows: the find is answered, or there is a newer word
 abbrev pub TriesWord : Table → ℕ → ℕ → MapSeat → MapSeat → Result (Option Held) ℕ → Type 0
-TriesWord table key word old new (Ok answer) = SaysSlot (slot_of word) answer × IsAnswered table key 3 (with_look (let_go (grip_of old.me.0.role) old.me.0.marks) key (last_named (slot_of word) answer)) old new answer
+TriesWord table key word old new (Ok answer) = SaysSlot (slot_of word) answer × IsAnswered table key 3 (with_look (let_go (grip_of (view_of old).role) (view_of old).marks) key (last_named (slot_of word) answer)) old new answer
 TriesWord table key word old new (Err newer) = NamesOther table key word newer old new
 
 -- a reader that holds by its word finds a key by the word that a load of it gave: or that was a hole's, and it clears its word and finds anew
@@ -146,4 +146,4 @@ pub record MovesTo (table : Table) (key word : ℕ) (old new : MapSeat) (answer 
   pub named : List ℕ
   pub takes : TakesSteps true answer ((if is_filled word then name_number word ∷ [] else []) ++ named) steps
   -- but for that load
-  pub answered : IsAnswered table key (steps + (if is_filled word then 0 else 2) - 1) (looked (acted old.me.0.marks old.me.0.marks.put) key named) old new answer
+  pub answered : IsAnswered table key (steps + (if is_filled word then 0 else 2) - 1) (looked (acted (view_of old).marks (view_of old).marks.put) key named) old new answer

@@ -36,7 +36,7 @@ pub record Learned (at found : ℕ) (old new : View) : Type 0 where
   pub of_readers : LearnsOf old.role old new news
 
 abbrev pub has_learned : Then
-has_learned step before found after = Learned step.word found before.0 after.0
+has_learned step (before, _) found (after, _) = Learned step.word found before after
 
 -- what a token learnt of readers by a note
 abbrev pub HearsOf : View → View → View → Type 0

@@ -5,7 +5,7 @@ use Rattle.nr_machine.specs.declared.roles.Role.{Role}
 use Rattle.nr_machine.specs.declared.roles.Role.TheVariants.{Note}
 use Rattle.nr_core.specs.Roles.{is_reader, is_writer}
 use Rattle.nr_marks.specs.Marks.{no_marks, told_by}
-use Rattle.nr_board.specs.Views.{no_shape, View}
+use Rattle.nr_board.specs.Views.{no_shape, View, view_of, carried_by}
 
 -- a writer or a reader, and no note
 abbrev pub IsCaller : Role → Type 0
@@ -24,7 +24,7 @@ retold view = record { role = Note; shape = view.shape; announcers = view.announ
 
 -- the seat of a note that nobody has taken in
 abbrev pub IsNote : Seat (Unit {0}) View → Type 0
-IsNote seat = (seat.me.0.role ≡ Note) × (seat.me.1 ≡ [])
+IsNote seat = ((view_of seat).role ≡ Note) × (carried_by seat ≡ [])
 
 -- the token with what a note tells it
 abbrev pub told_by_note : View → View → View

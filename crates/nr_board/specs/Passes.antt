@@ -17,6 +17,7 @@ use Rattle.nr_board.specs.declared.publish.Taken.{Taken}
 use Rattle.nr_board.specs.Callers.{Grows, Table, token}
 use Rattle.nr_board.specs.SearchSeats.{SearchesIn}
 use Rattle.nr_board.specs.Spares.{held_polls, not_passed}
+use Rattle.nr_board.specs.Views.{view_of}
 use Rattle.nr_board.specs.WholeScans.{is_unheard}
 use Rattle.nr_board.specs.WriterSeats.{MapSeat, WritesAt}
 
@@ -46,12 +47,12 @@ pub record NotesTo (retired : List Retired) (flags : List Bool) (readers place f
 -- the pass before that place: each slot that it polled was held
 pub record PassedTo (table : Table) (spare : Spare) (flags : List Bool) (before now : MapSeat) (place : ℕ) : Type 0 where
   pub own : now.table_id ≡ before.table_id
-  pub role : now.me.0.role ≡ before.me.0.role
+  pub role : (view_of now).role ≡ (view_of before).role
   pub search : SearchesIn table spare now
   pub grows : Grows (polls_before spare.retired flags place) (token before) [] (token now)
-  pub notes : NotesTo spare.retired flags table.shape.readers place (length before.me.0.marks.polls) now.me.0.marks.polls
-  pub heard : now.me.0.heard ≡ before.me.0.heard
-  pub marks : now.me.0.marks ≡ with_scan before.me.0.marks now.me.0.marks.polls (before.me.0.marks.loads ++ held_polls (unflagged spare.retired flags place))
+  pub notes : NotesTo spare.retired flags table.shape.readers place (length (view_of before).marks.polls) (view_of now).marks.polls
+  pub heard : (view_of now).heard ≡ (view_of before).heard
+  pub marks : (view_of now).marks ≡ with_scan (view_of before).marks (view_of now).marks.polls ((view_of before).marks.loads ++ held_polls (unflagged spare.retired flags place))
 
 -- the pass took the slot at a place, which nobody held
 pub record PassTakes (table : Table) (spare after : Spare) (flags : List Bool) (before now : MapSeat) (taken : Taken) : Type 0 where
@@ -62,11 +63,11 @@ pub record PassTakes (table : Table) (spare after : Spare) (flags : List Bool) (
   pub no_flag : is_unheard flags entry.slot ≡ false
   pub after_is : after ≡ record spare { retired = remove spare.retired place }
   pub own : now.table_id ≡ before.table_id
-  pub writes : (desk : Desk) (call : WriterCall) (rows : List Row) → before.me.0.role ≡ Writer desk → desk.place ≡ Searching call rows 0 → WritesAt table (taking_retired desk call rows place taken.departures) now
+  pub writes : (desk : Desk) (call : WriterCall) (rows : List Row) → (view_of before).role ≡ Writer desk → desk.place ≡ Searching call rows 0 → WritesAt table (taking_retired desk call rows place taken.departures) now
   pub grows : Grows (polls_before spare.retired flags place + 1) (token before) [] (token now)
-  pub few : length before.me.0.marks.polls + polls_before spare.retired flags place ≤ table.shape.readers
-  pub heard : now.me.0.heard ≡ before.me.0.heard
-  pub marks : now.me.0.marks ≡ with_scan before.me.0.marks now.me.0.marks.polls (before.me.0.marks.loads ++ (held_polls (unflagged spare.retired flags place) ++ OfSlot entry.slot true ∷ []))
+  pub few : length (view_of before).marks.polls + polls_before spare.retired flags place ≤ table.shape.readers
+  pub heard : (view_of now).heard ≡ (view_of before).heard
+  pub marks : (view_of now).marks ≡ with_scan (view_of before).marks (view_of now).marks.polls ((view_of before).marks.loads ++ (held_polls (unflagged spare.retired flags place) ++ OfSlot entry.slot true ∷ []))
 
 abbrev pub PassesFor : Table → Spare → Spare → List Bool → MapSeat → MapSeat → Option Taken → Type 0
 PassesFor table spare after flags before now (Some taken) = PassTakes table spare after flags before now taken

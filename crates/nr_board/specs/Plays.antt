@@ -33,7 +33,7 @@ use Rattle.nr_core.specs.Core.{AreNumbers}
 use Rattle.nr_core.specs.Steps.{ask_word}
 use Rattle.nr_core.specs.Roles.{retirements}
 use Rattle.nr_machine.specs.Story.{call_of, ending, entry, map_after}
-use Rattle.nr_machine.specs.Writer.{looked, moved_to, went}
+use Rattle.nr_machine.specs.Writer.{desk_in, looked, moved_to, step_in, went}
 use Rattle.nr_machine.specs.Sums.{only, total}
 use Rattle.nr_marks.specs.MarkSteps.{ComparesPuts, GoesMarks, LooksMarks, found_again}
 use Rattle.nr_marks.specs.Marks.{Marks, Past, acted, with_look}
@@ -78,7 +78,7 @@ pub record Asked (key found : ℕ) (old new : View) : Type 0 where
   pub says : new.says ≡ old.says
 
 abbrev pub has_asked : Then
-has_asked step before found after = Asked step.word found before.0 after.0
+has_asked step (before, _) found (after, _) = Asked step.word found before after
 
 -- an arrive: the reader holds the slot with the set that the key had, or the key was a hole
 pub record Arrived (key found : ℕ) (old new : View) : Type 0 where
@@ -90,7 +90,7 @@ pub record Arrived (key found : ℕ) (old new : View) : Type 0 where
   pub says : new.says ≡ old.says
 
 abbrev pub has_arrived : Then
-has_arrived step before found after = Arrived step.word found before.0 after.0
+has_arrived step (before, _) found (after, _) = Arrived step.word found before after
 
 -- a read of a word of the held slot gives the word of the set
 pub record Read (place found : ℕ) (old new : View) : Type 0 where
@@ -101,7 +101,7 @@ pub record Read (place found : ℕ) (old new : View) : Type 0 where
   pub says : new.says ≡ old.says
 
 abbrev pub has_read_word : Then
-has_read_word step before found after = Read step.word found before.0 after.0
+has_read_word step (before, _) found (after, _) = Read step.word found before after
 
 -- a reader that holds a slot finds a key again: where the key's word names that slot, the find is an entry, and the key has the set that the reader holds; else it learns the history so far
 pub record FoundAgain (key found : ℕ) (old new : View) : Type 0 where
@@ -116,7 +116,7 @@ pub record FoundAgain (key found : ℕ) (old new : View) : Type 0 where
   pub says : new.says ≡ old.says
 
 abbrev pub has_found_again : Then
-has_found_again step before found after = FoundAgain step.word found before.0 after.0
+has_found_again step (before, _) found (after, _) = FoundAgain step.word found before after
 
 -- a departure ends the hold
 pub record Departed (old new : View) : Type 0 where
@@ -126,7 +126,7 @@ pub record Departed (old new : View) : Type 0 where
   pub says : new.says ≡ old.says
 
 abbrev pub has_departed : Then
-has_departed step before found after = Departed before.0 after.0
+has_departed step (before, _) found (after, _) = Departed before after
 
 -- THE WRITER'S STEPS
 
@@ -163,11 +163,11 @@ pub record Lacks (call : Call) (counts : NoSlot) (caller : Caller) : Type 0 wher
 
 -- a step of the writer's call leads to the desk of the outcome, and adds its entry where it ends the call with a reply
 pub record Leads (call : Call) (outcome : Desk × CallStep) (old new : View) : Type 0 where
-  pub role : new.role ≡ Writer outcome.0
-  pub advances : Advances old (ending call outcome.1) new
-  pub room : Room old.shape outcome.0
-  pub numbers : AreNumbers old.shape (map_after old.shape new.seen) outcome.0.numbers
-  pub short : (counts : NoSlot) → outcome.1 ≡ Ended (writer.NoSlot counts) → (id : TableId) → Lacks call counts (caller_of id new)
+  pub role : new.role ≡ Writer (desk_in outcome)
+  pub advances : Advances old (ending call (step_in outcome)) new
+  pub room : Room old.shape (desk_in outcome)
+  pub numbers : AreNumbers old.shape (map_after old.shape new.seen) (desk_in outcome).numbers
+  pub short : (counts : NoSlot) → step_in outcome ≡ Ended (writer.NoSlot counts) → (id : TableId) → Lacks call counts (caller_of id new)
 
 -- a look, which begins the call and its polls
 pub record Looked (desk : Desk) (call : WriterCall) (found : ℕ) (old new : View) : Type 0 where
@@ -219,17 +219,17 @@ NotesTell log polls now = (at : ℕ) (note : Past) → get_elem? now at ≡ some
 pub record Went (desk : Desk) (found : ℕ) (old new : View) : Type 0 where
   pub leads : Leads (call_at desk.place) (went old.shape desk desk.place found) old new
   pub log : List Entry
-  pub seen : new.seen ≡ log ++ ending (call_at desk.place) (went old.shape desk desk.place found).1
+  pub seen : new.seen ≡ log ++ ending (call_at desk.place) (step_in (went old.shape desk desk.place found))
   pub finds : Finds old.shape desk.place found log old.marks
   pub notes : NotesTell log old.marks.polls new.marks.polls
   pub marks : GoesMarks old.shape old.marks old.pasts desk found new.role new.seen new.marks []
   pub heard : new.heard ≡ heard_at desk.place old.heard
 
 abbrev pub has_looked : WriterCall → Then
-has_looked call step before found after = (desk : Desk) → before.0.role ≡ Writer desk → Looked desk call found before.0 after.0
+has_looked call step (before, _) found (after, _) = (desk : Desk) → before.role ≡ Writer desk → Looked desk call found before after
 
 abbrev pub has_gone : Then
-has_gone step before found after = (desk : Desk) → before.0.role ≡ Writer desk → Went desk found before.0 after.0
+has_gone step (before, _) found (after, _) = (desk : Desk) → before.role ≡ Writer desk → Went desk found before after
 
 -- the desk after a put
 abbrev pub put_place : Place → Place
@@ -253,4 +253,4 @@ pub record Put (desk : Desk) (old new : View) : Type 0 where
   pub heard : new.heard ≡ heard_at desk.place old.heard
 
 abbrev pub has_put : Then
-has_put step before found after = (desk : Desk) → before.0.role ≡ Writer desk → Put desk before.0 after.0
+has_put step (before, _) found (after, _) = (desk : Desk) → before.role ≡ Writer desk → Put desk before after

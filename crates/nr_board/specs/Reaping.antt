@@ -22,7 +22,7 @@ use Rattle.nr_board.specs.declared.reaping.Sweep.TheVariants as sweep
 use Rattle.nr_board.specs.Callers.{Caller, Table, token}
 use Rattle.nr_board.specs.Plays.{Room, Then}
 use Rattle.nr_board.specs.Spares.{held_polls, not_passed}
-use Rattle.nr_board.specs.Views.{View}
+use Rattle.nr_board.specs.Views.{View, view_of}
 use Rattle.nr_board.specs.WholeScans.{scanned_to}
 use Rattle.nr_board.specs.WordLoads.{WordsTell}
 use Rattle.nr_board.specs.WriterSeats.{MapSeat}
@@ -35,21 +35,21 @@ ProbesTo shape entry found old new = (new ≡ record old { steps = old.steps + 1
 
 -- a load of a retired slot's departures by a writer between two calls
 abbrev pub has_probed : Then
-has_probed step before found after =
-    (desk : Desk) (poll : ℕ) (entry : Retired) → before.0.role ≡ Writer desk → desk.place ≡ Idle → Room before.0.shape desk → get_elem? desk.retired poll ≡ some entry → step.word ≡ departures before.0.shape entry.slot
-    → ProbesTo before.0.shape entry found before.0 after.0
+has_probed step (before, _) found (after, _) =
+    (desk : Desk) (poll : ℕ) (entry : Retired) → before.role ≡ Writer desk → desk.place ≡ Idle → Room before.shape desk → get_elem? desk.retired poll ≡ some entry → step.word ≡ departures before.shape entry.slot
+    → ProbesTo before.shape entry found before after
 
 -- the writer's seat between two calls, which has that slot retired
 pub record ProbesAt (table : Table) (entry : Retired) (seat : MapSeat) : Type 0 where
   pub own : (token seat).table ≡ table
   pub desk : Desk
-  pub role : seat.me.0.role ≡ Writer desk
+  pub role : (view_of seat).role ≡ Writer desk
   pub idle : desk.place ≡ Idle
   pub room : Room table.shape desk
   pub poll : ℕ
   pub here : get_elem? desk.retired poll ≡ some entry
   -- all readers that have a word were heard not to say the slot
-  pub heard : table.announcers ≤ slice_index seat.me.0.heard entry.slot
+  pub heard : table.announcers ≤ slice_index (view_of seat).heard entry.slot
 
 -- THE SWEEP
 
@@ -77,21 +77,21 @@ abbrev pub ready_in : Spare → View → List Retired
 ready_in spare view = ready view.announcers view.heard spare.reaped spare.retired
 
 abbrev pub SweepsFor : Spare → MapSeat → MapSeat → Sweep → Type 0
-SweepsFor spare old new (sweep.Free slot) = (held later : List Retired) × (entry : Retired) × (notes : List Past) × (ready_in spare old.me.0 ≡ held ++ entry ∷ later) × HeldEach old.me.0.shape.readers held notes
-    × (slot ≡ entry.slot) × (slot < spare.slots) × (new.me.0 ≡ reaping slot (probed notes (held_polls held ++ OfSlot slot true ∷ []) old.me.0))
-SweepsFor spare old new sweep.Held = (notes : List Past) × (0 < length (waiting spare.reaped spare.retired)) × HeldEach old.me.0.shape.readers (ready_in spare old.me.0) notes × (new.me.0 ≡ probed notes (held_polls (ready_in spare old.me.0)) old.me.0)
-SweepsFor spare old new sweep.Nothing = (waiting spare.reaped spare.retired ≡ []) × (new.me.0 ≡ old.me.0)
+SweepsFor spare old new (sweep.Free slot) = (held later : List Retired) × (entry : Retired) × (notes : List Past) × (ready_in spare (view_of old) ≡ held ++ entry ∷ later) × HeldEach (view_of old).shape.readers held notes
+    × (slot ≡ entry.slot) × (slot < spare.slots) × (view_of new ≡ reaping slot (probed notes (held_polls held ++ OfSlot slot true ∷ []) (view_of old)))
+SweepsFor spare old new sweep.Held = (notes : List Past) × (0 < length (waiting spare.reaped spare.retired)) × HeldEach (view_of old).shape.readers (ready_in spare (view_of old)) notes × (view_of new ≡ probed notes (held_polls (ready_in spare (view_of old))) (view_of old))
+SweepsFor spare old new sweep.Nothing = (waiting spare.reaped spare.retired ≡ []) × (view_of new ≡ view_of old)
 
 -- the sweep so far
 pub record SweptTo (spare : Spare) (before now : MapSeat) (place : ℕ) (waits : Bool) : Type 0 where
   pub held : List Retired
   pub notes : List Past
-  pub split : ready_in spare before.me.0 ≡ held ++ ready before.me.0.announcers before.me.0.heard spare.reaped (drop place spare.retired)
-  pub each : HeldEach before.me.0.shape.readers held notes
+  pub split : ready_in spare (view_of before) ≡ held ++ ready (view_of before).announcers (view_of before).heard spare.reaped (drop place spare.retired)
+  pub each : HeldEach (view_of before).shape.readers held notes
   -- each of them stands before the place in the list
   pub earlier : (at : ℕ) (entry : Retired) → get_elem? held at ≡ some entry → (other : ℕ) × (other < place) × (get_elem? spare.retired other ≡ some entry)
   pub own : now.table_id ≡ before.table_id
-  pub view : now.me.0 ≡ probed notes (held_polls held) before.me.0
+  pub view : view_of now ≡ probed notes (held_polls held) (view_of before)
   -- whether a set waits
   pub some_wait : waits ≡ true → 0 < length (waiting spare.reaped spare.retired)
   pub none_wait : waits ≡ false → (notes ≡ []) × (held ≡ []) × (waiting spare.reaped spare.retired ≡ waiting spare.reaped (drop place spare.retired))
@@ -99,9 +99,9 @@ pub record SweptTo (spare : Spare) (before now : MapSeat) (place : ℕ) (waits :
 -- a sweep; or, where readers have words, one that was in vain, a scan, and another sweep
 abbrev pub SweepsHeard : Spare → MapSeat → MapSeat → Sweep → Type 0
 SweepsHeard spare old new found =
-    (SweepsFor spare old new found × (found ≡ sweep.Held → old.me.0.announcers ≡ 0))
-    ⊎ ((0 < old.me.0.announcers) × (mid last : MapSeat) × SweepsFor spare old mid sweep.Held
-    × (loads : List LoggedLoad) × WordsTell old.me.0.announcers spare.retired old.me.0.shape.slots loads last.me.0.heard × (last.me.0 ≡ scanned_to loads last.me.0.heard mid.me.0) × SweepsFor spare last new found)
+    (SweepsFor spare old new found × (found ≡ sweep.Held → (view_of old).announcers ≡ 0))
+    ⊎ ((0 < (view_of old).announcers) × (mid last : MapSeat) × SweepsFor spare old mid sweep.Held
+    × (loads : List LoggedLoad) × WordsTell (view_of old).announcers spare.retired (view_of old).shape.slots loads (view_of last).heard × (view_of last ≡ scanned_to loads (view_of last).heard (view_of mid)) × SweepsFor spare last new found)
 
 -- THE CALL
 
@@ -122,12 +122,25 @@ ScansFirst old scanned loads earlier =
     ⊎ ((0 < old.table.announcers) × HeldEach old.table.shape.readers (ready_to old old.heard) earlier
     × (scan : List LoggedLoad) × WordsTell old.table.announcers old.retired old.table.shape.slots scan scanned × (loads ≡ held_polls (ready_to old old.heard) ++ scan))
 
+-- a reap that gives out the set of that entry, by a poll of each that is ready up to it
+pub record ReapsSet {Room : Type 0} (shows : Room → List Row → Type 0) (old new : Caller) (after : Room) : Type 0 where
+  pub held : List Retired
+  pub later : List Retired
+  pub entry : Retired
+  pub notes : List Past
+  pub earlier : List Past
+  pub scanned : List ℕ
+  pub loads : List LoggedLoad
+  pub first : ScansFirst old scanned loads earlier
+  pub split : ready_to old scanned ≡ held ++ entry ∷ later
+  pub each : HeldEach old.table.shape.readers held notes
+  pub shown : shows after (set_in old.marks entry.slot)
+  pub row_set : IsRowSet old.table.shape.rows (set_in old.marks entry.slot)
+  pub new_is : new ≡ with_reap entry.slot (after_polls (earlier ++ notes) (loads ++ (held_polls held ++ OfSlot entry.slot true ∷ [])) scanned (2 * length (set_in old.marks entry.slot) + 1) old)
+
 -- A reap gives out the oldest set that waits, that no reader's word announced and that nobody holds, by a poll of each up to it and a load of each word. Or each that waits is kept back: it was announced when the words were scanned, or held at its poll, each by another reader. Or none waits. Else the token is as it was.
 abbrev pub ReapsIn : {Room : Type 0} → (Room → List Row → Type 0) → Caller → Room → Caller → Room → Reaped → Type 0
-ReapsIn shows old before new after reaped.Set = (held later : List Retired) × (entry : Retired) × (notes earlier : List Past) × (scanned : List ℕ) × (loads : List LoggedLoad) × ScansFirst old scanned loads earlier
-    × (ready_to old scanned ≡ held ++ entry ∷ later) × HeldEach old.table.shape.readers held notes
-    × shows after (set_in old.marks entry.slot) × IsRowSet old.table.shape.rows (set_in old.marks entry.slot)
-    × (new ≡ with_reap entry.slot (after_polls (earlier ++ notes) (loads ++ (held_polls held ++ OfSlot entry.slot true ∷ [])) scanned (2 * length (set_in old.marks entry.slot) + 1) old))
+ReapsIn shows old before new after reaped.Set = ReapsSet shows old new after
 ReapsIn shows old before new after reaped.Held = (notes earlier : List Past) × (scanned : List ℕ) × (loads : List LoggedLoad) × ScansFirst old scanned loads earlier × (0 < old.table.announcers → 0 < length loads)
     × (0 < length (waiting old.marks.reaped old.retired)) × HeldEach old.table.shape.readers (ready_to old scanned) notes × (new ≡ after_polls (earlier ++ notes) (loads ++ held_polls (ready_to old scanned)) scanned 0 old) × (after ≡ before)
 ReapsIn shows old before new after reaped.Nothing = (waiting old.marks.reaped old.retired ≡ []) × (new ≡ old) × (after ≡ before)

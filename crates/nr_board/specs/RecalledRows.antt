@@ -3,7 +3,7 @@ use Rattle.std.specs.Prelude.{◌≡◌, ℕ, ◌+◌, ◌*◌}
 use Rattle.std.proofs.Common.{◌∙◌, refl, arith}
 use Rattle.nr_board.specs.declared.recalls.Recalled.{Recalled}
 use Rattle.nr_board.specs.Recalls.{waited}
-use Rattle.nr_board.specs.Views.{View}
+use Rattle.nr_board.specs.Views.{View, view_of}
 
 -- that many rows were read by the same seat
 pub record GaveRecalled (first : Recalled) (count : ℕ) (last : Recalled) : Type 0 where
@@ -11,12 +11,12 @@ pub record GaveRecalled (first : Recalled) (count : ℕ) (last : Recalled) : Typ
   pub board : last.board.now ≡ first.board.now
   pub slot : last.slot ≡ first.slot
   pub own : last.seat.now.table_id ≡ first.seat.now.table_id
-  pub waits : last.seat.now.me.0 ≡ waited (2 * count) first.seat.now.me.0
+  pub waits : view_of last.seat.now ≡ waited (2 * count) (view_of first.seat.now)
 
 pub gives_none : (source : Recalled) → GaveRecalled source 0 source
-gives_none source = record { name = refl; board = refl; slot = refl; own = refl; waits = λ j. record source.seat.now.me.0 { steps = none j } }
+gives_none source = record { name = refl; board = refl; slot = refl; own = refl; waits = λ j. record (view_of source.seat.now) { steps = none j } }
   where
-    none : source.seat.now.me.0.steps ≡ source.seat.now.me.0.steps + 2 * 0
+    none : (view_of source.seat.now).steps ≡ (view_of source.seat.now).steps + 2 * 0
     none = omega arith
 
 pub gives_more : (first mid last : Recalled) (count : ℕ) → GaveRecalled first count mid → GaveRecalled mid 1 last → GaveRecalled first (count + 1) last
@@ -25,8 +25,8 @@ gives_more first mid last count a b = record {
   board = b.board ∙ a.board;
   slot = b.slot ∙ a.slot;
   own = b.own ∙ a.own;
-  waits = b.waits ∙ (λ j. waited (2 * 1) (a.waits j)) ∙ (λ j. record first.seat.now.me.0 { steps = sum j });
+  waits = b.waits ∙ (λ j. waited (2 * 1) (a.waits j)) ∙ (λ j. record (view_of first.seat.now) { steps = sum j });
 }
   where
-    sum : first.seat.now.me.0.steps + 2 * count + 2 * 1 ≡ first.seat.now.me.0.steps + 2 * (count + 1)
+    sum : (view_of first.seat.now).steps + 2 * count + 2 * 1 ≡ (view_of first.seat.now).steps + 2 * (count + 1)
     sum = omega arith

@@ -11,7 +11,7 @@ use Rattle.nr_marks.specs.Marks.{set_in}
 use Rattle.nr_board.specs.Callers.{Table, token}
 use Rattle.nr_board.specs.Notes.{has_noted}
 use Rattle.nr_board.specs.Plays.{Then}
-use Rattle.nr_board.specs.Views.{View}
+use Rattle.nr_board.specs.Views.{View, carried_by, view_of}
 use Rattle.nr_board.specs.WriterSeats.{MapSeat}
 
 -- the word at an index of the set that was put into a slot last; the index may lie behind the set
@@ -24,13 +24,13 @@ pub record Recalled (place found : ℕ) (old new : View) : Type 0 where
   pub finds : (desk : Desk) (slot index : ℕ) → old.role ≡ Writer desk → slot < old.shape.slots → Untouched slot desk.place → place ≡ content old.shape slot index → IsWordOf (bound_of old.shape) (set_in old.marks slot) index found
 
 abbrev pub has_recalled : Then
-has_recalled step before found after = Recalled step.word found before.0 after.0
+has_recalled step (before, _) found (after, _) = Recalled step.word found before after
 
 -- the writer's seat, whose call has put no word into the slot
 pub record RecallsAt (table : Table) (slot : ℕ) (seat : MapSeat) : Type 0 where
   pub own : (token seat).table ≡ table
   pub desk : Desk
-  pub role : seat.me.0.role ≡ Writer desk
+  pub role : (view_of seat).role ≡ Writer desk
   pub inside : slot < table.shape.slots
   pub untouched : Untouched slot desk.place
 
@@ -39,9 +39,9 @@ abbrev pub waited : ℕ → View → View
 waited steps view = record view { steps = view.steps + steps }
 
 abbrev pub later : ℕ → MapSeat → MapSeat
-later steps seat = record seat { me = (waited steps seat.me.0, seat.me.1) }
+later steps seat = record seat { me = (waited steps (view_of seat), carried_by seat) }
 
 -- it has read how many rows the slot's set has
 pub record RecallsRows (table : Table) (slot : ℕ) (seat : MapSeat) : Type 0 where
   pub at : RecallsAt table slot seat
-  pub row_set : IsRowSet (bound_of table.shape) (set_in seat.me.0.marks slot)
+  pub row_set : IsRowSet (bound_of table.shape) (set_in (view_of seat).marks slot)

@@ -19,6 +19,7 @@ use Rattle.nr_board.specs.declared.publish.Taken.{Taken}
 use Rattle.nr_board.specs.Callers.{Caller, Table}
 use Rattle.nr_board.specs.Recalls.{later}
 use Rattle.nr_board.specs.Spares.{spare_of}
+use Rattle.nr_board.specs.Views.{view_of}
 use Rattle.nr_board.specs.WriterAnswers.{FillsKey, KeyHad, Publishes, ReplacesKey, UpdatesKey}
 use Rattle.nr_board.specs.WriterSeats.{LacksSlot, MapSeat, PublishesSet, TakesSlot}
 
@@ -34,18 +35,20 @@ module _ {Room : Type 0} (shows : Room → List Row → Type 0) where
 
   -- the search for a slot, as it stands after those steps
   abbrev pub TakesReclaiming : Table → WriterCall → List Row → Spare → Spare → MapSeat → MapSeat → Room → Room → Result (Taken × Reclaimed) NoSlot → Type 0
-  TakesReclaiming table call rows spare after old new room then (Ok taken) = (steps : ℕ) × TakesSlot table call rows taken.0.slot taken.0.departures spare after (later steps old) new
-      × HandsOutAt table spare old.me.0.marks taken.0.slot room then steps taken.1
+  TakesReclaiming table call rows spare after old new room then (Ok (taken, given)) = (steps : ℕ) × TakesSlot table call rows taken.slot taken.departures spare after (later steps old) new
+      × HandsOutAt table spare (view_of old).marks taken.slot room then steps given
   TakesReclaiming table call rows spare after old new room then (Err counts) = LacksSlot table call counts spare after old new × (then ≡ room)
 
   abbrev pub PublishesReclaiming : Table → WriterCall → List Row → Spare → Spare → MapSeat → MapSeat → Room → Room → Result Reclaimed NoSlot → Type 0
   PublishesReclaiming table call rows spare after old new room then (Ok given) = (steps : ℕ) × (published : PublishesSet table call rows spare after (later steps old) new)
-      × HandsOutAt table spare old.me.0.marks published.slot room then steps given
+      × HandsOutAt table spare (view_of old).marks published.slot room then steps given
   PublishesReclaiming table call rows spare after old new room then (Err counts) = LacksSlot table call counts spare after old new × (then ≡ room)
 
   -- a call that put its set, besides that many other steps, and gave out what the slot had
-  abbrev pub PutsAndGives : ℕ → Caller → Call → List Row → Room → Caller → Room → Reclaimed → Type 0
-  PutsAndGives others old call rows room new then given = (steps : ℕ) × (published : Publishes (others + steps) old call rows new) × HandsOutAt old.table (spare_of old) old.marks published.slot room then steps given
+  pub record PutsAndGives (others : ℕ) (old : Caller) (call : Call) (rows : List Row) (room : Room) (new : Caller) (then : Room) (given : Reclaimed) : Type 0 where
+    pub steps : ℕ
+    pub published : Publishes (others + steps) old call rows new
+    pub gives : HandsOutAt old.table (spare_of old) old.marks published.slot room then steps given
 
   -- A call that did not put its set leaves the room as it was.
   abbrev pub FillsReclaiming : ℕ → ℕ → List Row → Caller → Room → Caller → Room → Result Reclaimed FillFault → Type 0
@@ -56,11 +59,16 @@ module _ {Room : Type 0} (shows : Room → List Row → Type 0) where
   ReplacesReclaiming key rows old room new then (Ok given) = PutsAndGives 1 old (model.Replace key rows) rows room new then given
   ReplacesReclaiming key rows old room new then (Err fault) = ReplacesKey key rows old new (Err fault) × (then ≡ room)
 
-  -- an update that looked, read that set, made so many other steps and put the rows left
-  abbrev pub PublishesUpdate : ℕ → ℕ → List Delta → List Row → List Row → Caller → Caller → Type 0
-  PublishesUpdate steps key batch set left old new = Publishes (2 * length set + 2 + steps) old (model.Update key batch) left new
+  -- an update that looked, read the key's set, put the rows left, and gave out what the slot had
+  pub record UpdatesAndGives (bound key : ℕ) (batch : List Delta) (old : Caller) (room : Room) (new : Caller) (then : Room) (given : Reclaimed) : Type 0 where
+    pub set : List Row
+    pub left : List Row
+    pub applies : applied bound set batch ≡ Ok left
+    pub steps : ℕ
+    pub published : Publishes (2 * length set + 2 + steps) old (model.Update key batch) left new
+    pub had : KeyHad key set old published.gains.between
+    pub gives : HandsOutAt old.table (spare_of old) old.marks published.slot room then steps given
 
   abbrev pub UpdatesReclaiming : ℕ → ℕ → List Delta → Caller → Room → Caller → Room → Result Reclaimed UpdateFault → Type 0
-  UpdatesReclaiming bound key batch old room new then (Ok given) = (set left : List Row) × (applied bound set batch ≡ Ok left) × (steps : ℕ) × (published : PublishesUpdate steps key batch set left old new)
-      × KeyHad key set old published.gains.between × HandsOutAt old.table (spare_of old) old.marks published.slot room then steps given
+  UpdatesReclaiming bound key batch old room new then (Ok given) = UpdatesAndGives bound key batch old room new then given
   UpdatesReclaiming bound key batch old room new then (Err fault) = UpdatesKey bound key batch old new (Err fault) × (then ≡ room)

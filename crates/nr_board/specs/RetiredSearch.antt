@@ -19,6 +19,7 @@ use Rattle.nr_marks.specs.Marks.{Past, LoggedLoad, with_scan}
 use Rattle.nr_board.specs.declared.publish.Taken.{Taken}
 use Rattle.nr_board.specs.Callers.{Grows, Table, map_seen, token}
 use Rattle.nr_board.specs.Spares.{SearchedTo, heard_all, held_polls}
+use Rattle.nr_board.specs.Views.{view_of}
 use Rattle.nr_board.specs.WordLoads.{WordsTell}
 use Rattle.nr_board.specs.WriterSeats.{MapSeat, WritesAt}
 
@@ -28,30 +29,30 @@ pub record SearchTakes (table : Table) (spare after : Spare) (before now : MapSe
   pub here : get_elem? spare.retired place ≡ some entry
   pub slot : taken.slot ≡ entry.slot
   pub after_is : after ≡ record spare { retired = remove spare.retired place }
-  pub writes : (desk : Desk) (call : WriterCall) (rows : List Row) → before.me.0.role ≡ Writer desk → desk.place ≡ Searching call rows 0 → WritesAt table (taking_retired desk call rows place taken.departures) now
+  pub writes : (desk : Desk) (call : WriterCall) (rows : List Row) → (view_of before).role ≡ Writer desk → desk.place ≡ Searching call rows 0 → WritesAt table (taking_retired desk call rows place taken.departures) now
   pub loads : List LoggedLoad
-  pub takes : SearchedTo table before.me.0.heard now.me.0.heard loads spare.retired place taken.slot
+  pub takes : SearchedTo table (view_of before).heard (view_of now).heard loads spare.retired place taken.slot
   pub grows : Grows (length loads) (token before) [] (token now)
   -- no pass polled more slots that were held than there are readers
   pub few : length loads ≤ table.shape.readers + table.announcers + (table.shape.readers + 1)
-  pub marks : now.me.0.marks ≡ with_scan before.me.0.marks now.me.0.marks.polls (before.me.0.marks.loads ++ loads)
+  pub marks : (view_of now).marks ≡ with_scan (view_of before).marks (view_of now).marks.polls ((view_of before).marks.loads ++ loads)
 
 -- there is no slot: each is a filled key's, or is retired and kept back by a reader, each by another one
 pub record SearchLacks (table : Table) (spare after : Spare) (before now : MapSeat) (counts : NoSlot) : Type 0 where
   pub same : after ≡ spare
   pub counts_are : counts ≡ none_spare spare
-  pub writes : (desk : Desk) (call : WriterCall) (rows : List Row) → before.me.0.role ≡ Writer desk → desk.place ≡ Searching call rows 0
+  pub writes : (desk : Desk) (call : WriterCall) (rows : List Row) → (view_of before).role ≡ Writer desk → desk.place ≡ Searching call rows 0
       → WritesAt table (moved_to desk Idle) now × (reply_to (map_seen (token now)) (call_of call) ≡ reply.Done)
       × (filled_count (map_seen (token now)) + length spare.retired ≡ table.shape.slots)
-  pub many : length now.me.0.marks.polls ≡ length spare.retired
-  pub apart : (reader : ℕ) → total (λ (note : Past). only reader note.reader) now.me.0.marks.polls ≤ 1
+  pub many : length (view_of now).marks.polls ≡ length spare.retired
+  pub apart : (reader : ℕ) → total (λ (note : Past). only reader note.reader) (view_of now).marks.polls ≤ 1
   pub few : length spare.retired ≤ table.shape.readers
   pub scan : List LoggedLoad
-  pub words : WordsTell table.announcers spare.retired table.shape.slots scan now.me.0.heard
+  pub words : WordsTell table.announcers spare.retired table.shape.slots scan (view_of now).heard
   pub loads : List LoggedLoad
-  pub loads_are : loads ≡ held_polls (heard_all table.announcers before.me.0.heard spare.retired) ++ (scan ++ held_polls (heard_all table.announcers now.me.0.heard spare.retired))
+  pub loads_are : loads ≡ held_polls (heard_all table.announcers (view_of before).heard spare.retired) ++ (scan ++ held_polls (heard_all table.announcers (view_of now).heard spare.retired))
   pub grows : Grows (length loads + 1) (token before) [] (token now)
-  pub marks : now.me.0.marks ≡ with_scan before.me.0.marks now.me.0.marks.polls (before.me.0.marks.loads ++ loads)
+  pub marks : (view_of now).marks ≡ with_scan (view_of before).marks (view_of now).marks.polls ((view_of before).marks.loads ++ loads)
 
 abbrev pub SearchesFor : Table → Spare → Spare → MapSeat → MapSeat → Result Taken NoSlot → Type 0
 SearchesFor table spare after before now (Ok taken) = SearchTakes table spare after before now taken

@@ -28,5 +28,5 @@ abbrev pub ScansTo : Desk → ℕ → ℕ → View → View → Type 0
 ScansTo desk own found old new = new ≡ record old { steps = old.steps + 1; marks = with_loads old.marks (old.marks.loads ++ word_load own found ∷ []); heard = heard_from desk own found old.heard 0 old.shape.slots }
 
 abbrev pub has_scanned : Then
-has_scanned step before found after =
-    (desk : Desk) (own : ℕ) → before.0.role ≡ Writer desk → own < before.0.announcers → step.word ≡ says_at before.0.shape own → ScansTo desk own found before.0 after.0
+has_scanned step (before, _) found (after, _) =
+    (desk : Desk) (own : ℕ) → before.role ≡ Writer desk → own < before.announcers → step.word ≡ says_at before.shape own → ScansTo desk own found before after

@@ -34,9 +34,9 @@ pub record Tried (desk : Desk) (call : WriterCall) (rows : List Row) (poll found
   pub heard : new.heard ≡ old.heard
 
 abbrev pub has_tried : Then
-has_tried step before found after =
-    (desk : Desk) (call : WriterCall) (rows : List Row) (poll : ℕ) → before.0.role ≡ Writer desk → desk.place ≡ Searching call rows 0 → Room before.0.shape desk → poll < length desk.retired
-    → step.word ≡ departures before.0.shape (retired_at desk poll).slot → Tried desk call rows poll found before.0 after.0
+has_tried step (before, _) found (after, _) =
+    (desk : Desk) (call : WriterCall) (rows : List Row) (poll : ℕ) → before.role ≡ Writer desk → desk.place ≡ Searching call rows 0 → Room before.shape desk → poll < length desk.retired
+    → step.word ≡ departures before.shape (retired_at desk poll).slot → Tried desk call rows poll found before after
 
 -- the word says a retired slot, of which the readers before this one were heard: this one keeps it from being heard
 abbrev pub keeps_unheard : Desk → ℕ → ℕ → List ℕ → Bool
@@ -65,9 +65,9 @@ pub record GaveUp (desk : Desk) (call : WriterCall) (old new : View) : Type 0 wh
   pub heard : new.heard ≡ old.heard
 
 abbrev pub has_searched : Then
-has_searched step before found after =
-    (desk : Desk) (call : WriterCall) (rows : List Row) (own : ℕ) → before.0.role ≡ Writer desk → desk.place ≡ Searching call rows 0 → own < before.0.announcers → step.word ≡ says_at before.0.shape own
-    → Scanned desk own found before.0 after.0
+has_searched step (before, _) found (after, _) =
+    (desk : Desk) (call : WriterCall) (rows : List Row) (own : ℕ) → before.role ≡ Writer desk → desk.place ≡ Searching call rows 0 → own < before.announcers → step.word ≡ says_at before.shape own
+    → Scanned desk own found before after
 
 abbrev pub has_given_up : Then
-has_given_up step before found after = (desk : Desk) (call : WriterCall) (rows : List Row) → before.0.role ≡ Writer desk → desk.place ≡ Searching call rows 0 → GaveUp desk call before.0 after.0
+has_given_up step (before, _) found (after, _) = (desk : Desk) (call : WriterCall) (rows : List Row) → before.role ≡ Writer desk → desk.place ≡ Searching call rows 0 → GaveUp desk call before after

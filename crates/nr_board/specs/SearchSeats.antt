@@ -13,14 +13,14 @@ use Rattle.nr_board.specs.Callers.{Table, token}
 use Rattle.nr_board.specs.Plays.{Room}
 use Rattle.nr_board.specs.Scans.{ScansTo}
 use Rattle.nr_board.specs.SearchPlays.{GaveUp, Scanned, Tried}
-use Rattle.nr_board.specs.Views.{View}
+use Rattle.nr_board.specs.Views.{View, view_of}
 use Rattle.nr_board.specs.WriterSeats.{MapSeat}
 
 -- the writer's seat, about to load the word of a reader that has one
 pub record ScansAt (table : Table) (own : ℕ) (seat : MapSeat) : Type 0 where
   pub own_table : (token seat).table ≡ table
   pub desk : Desk
-  pub role : seat.me.0.role ≡ Writer desk
+  pub role : (view_of seat).role ≡ Writer desk
   pub within : own < table.announcers
 
 abbrev pub HearsWord : ℕ → ℕ → View → View → Type 0
@@ -30,7 +30,7 @@ HearsWord own found old new = (desk : Desk) → old.role ≡ Writer desk → Sca
 pub record IsSearching (table : Table) (seat : MapSeat) : Type 0 where
   pub own : (token seat).table ≡ table
   pub desk : Desk
-  pub role : seat.me.0.role ≡ Writer desk
+  pub role : (view_of seat).role ≡ Writer desk
   pub room : Room table.shape desk
   pub call : WriterCall
   pub rows : List Row
@@ -50,7 +50,7 @@ pub record TriesAt (table : Table) (entry : Retired) (seat : MapSeat) : Type 0 w
   pub search : IsSearching table seat
   pub poll : ℕ
   pub here : get_elem? search.desk.retired poll ≡ some entry
-  pub heard : table.announcers ≤ slice_index seat.me.0.heard entry.slot
+  pub heard : table.announcers ≤ slice_index (view_of seat).heard entry.slot
 
 abbrev pub TriesTo : Retired → ℕ → View → View → Type 0
 TriesTo entry found old new =

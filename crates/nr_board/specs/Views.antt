@@ -1,5 +1,7 @@
 -- What a token knows: who its caller is, what it has seen of the history, the caller's own entries, and how many steps it has made.
 use Rattle.std.specs.Prelude.{ℕ, ◌+◌, Bool, false, List, [], replicate}
+use Rattle.atomic_table.specs.Table.{Me}
+use Rattle.atomic_table.specs.declared.shared.Seat.{Seat}
 use Rattle.nr_model.specs.declared.rows.Row.{Row}
 use Rattle.nr_model.specs.Histories.{Entry}
 use Rattle.nr_machine.specs.declared.shape.Shape.{Shape}
@@ -34,6 +36,20 @@ pub record View : Type 0 where
   pub says : ℕ
   -- of each slot how many readers, the first ones, the writer found not to say it since a key named it last
   pub heard : List ℕ
+
+module _ {S V : Type 0} where
+  abbrev pub view_in : Me S V → V
+  view_in (view, _) = view
+
+  abbrev pub carried_in : Me S V → List (ℕ × S)
+  carried_in (_, carried) = carried
+
+  -- what a seat's token knows, and the table's slots that it carries
+  abbrev pub view_of : Seat S V → V
+  view_of seat = view_in seat.me
+
+  abbrev pub carried_by : Seat S V → List (ℕ × S)
+  carried_by seat = carried_in seat.me
 
 -- the number of the caller; the writer's is 0
 abbrev pub caller_number : Role → ℕ

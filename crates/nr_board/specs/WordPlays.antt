@@ -43,7 +43,7 @@ pub record LookedUp (key found : ℕ) (old new : View) : Type 0 where
   pub marks : new.marks ≡ (if is_filled found then with_look old.marks key (name_number found) else acted (with_look old.marks key (name_number found)) (put_number new.seen key))
 
 abbrev pub has_looked_up : Then
-has_looked_up step before found after = LookedUp step.word found before.0 after.0
+has_looked_up step (before, _) found (after, _) = LookedUp step.word found before after
 
 -- the announced slot is the key's still: the reader holds it with the set that the key has, and the find is an entry
 pub record HoldsSaid (key : ℕ) (old new : View) : Type 0 where
@@ -60,7 +60,7 @@ pub record Confirmed (key found : ℕ) (old new : View) : Type 0 where
   pub other : names_slot (slot_said old) found ≡ false → LookedUp key found old new
 
 abbrev pub has_confirmed : Then
-has_confirmed step before found after = Confirmed step.word found before.0 after.0
+has_confirmed step (before, _) found (after, _) = Confirmed step.word found before after
 
 -- a reader's marks when it lets go of what it holds
 abbrev pub let_go : Grip → Marks → Marks
@@ -75,7 +75,7 @@ pub record Said (says : ℕ) (old new : View) : Type 0 where
   pub marks : new.marks ≡ let_go (grip_of old.role) old.marks
 
 abbrev pub has_said : Then
-has_said step before found after = Said step.first before.0 after.0
+has_said step (before, _) found (after, _) = Said step.first before after
 
 -- what a reader holds, it holds by its word
 abbrev pub HoldsByWord : Shape → View → Type 0

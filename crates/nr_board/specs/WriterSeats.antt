@@ -12,7 +12,7 @@ use Rattle.nr_core.specs.Core.{AreNumbers}
 use Rattle.nr_machine.specs.Slots.{content}
 use Rattle.nr_machine.specs.States.{key_of, number_at, retired_at}
 use Rattle.nr_machine.specs.Story.{call_of, ending, entry, map_after}
-use Rattle.nr_machine.specs.Writer.{moved_to, no_slot, settled, unnamed, went}
+use Rattle.nr_machine.specs.Writer.{desk_in, moved_to, no_slot, settled, step_in, unnamed, went}
 use Rattle.nr_machine.specs.declared.calls.NoSlot.{NoSlot}
 use Rattle.nr_machine.specs.declared.calls.Step.{Step}
 use Rattle.nr_machine.specs.declared.calls.Step.TheVariants.{Ended, Going}
@@ -32,7 +32,7 @@ use Rattle.nr_marks.specs.MarkSteps.{GoesMarks}
 use Rattle.nr_marks.specs.Marks.{LoggedLoad, with_loads, with_name, with_scan}
 use Rattle.nr_marks.specs.PollNotes.{Noted}
 use Rattle.nr_marks.specs.Puts.{put_count}
-use Rattle.nr_board.specs.Views.{View}
+use Rattle.nr_board.specs.Views.{View, view_of}
 
 abbrev pub MapSeat : Type 0
 MapSeat = Seat (Unit {0}) View
@@ -40,7 +40,7 @@ MapSeat = Seat (Unit {0}) View
 -- the writer's seat, at a desk whose numbers are those of the history that it knows
 pub record WritesAt (table : Table) (desk : Desk) (seat : MapSeat) : Type 0 where
   pub own : (token seat).table ≡ table
-  pub role : seat.me.0.role ≡ Writer desk
+  pub role : (view_of seat).role ≡ Writer desk
   pub room : Room table.shape desk
   pub numbers : AreNumbers table.shape (map_seen (token seat)) desk.numbers
 
@@ -71,9 +71,9 @@ pub record IsPolling (table : Table) (slot : ℕ) (seat : MapSeat) : Type 0 wher
   pub place : desk.place ≡ Searching call rows poll
   pub slot_is : slot ≡ (retired_at desk poll).slot
   -- the slots before it were polled, and found held
-  pub in_order : length seat.me.0.marks.polls ≡ poll
+  pub in_order : length (view_of seat).marks.polls ≡ poll
   -- all readers that have a word were heard not to say the slot
-  pub heard : table.announcers ≤ slice_index seat.me.0.heard slot
+  pub heard : table.announcers ≤ slice_index (view_of seat).heard slot
 
 -- about to put the word at that index of the slot whose content begins there
 pub record IsPutting (table : Table) (begin index word : ℕ) (seat : MapSeat) : Type 0 where
@@ -113,9 +113,9 @@ pub record IsWithdrawing (table : Table) (key number : ℕ) (seat : MapSeat) : T
 
 -- that many steps of a call, to the desk of the outcome, with the entry of a call that ends there with a reply
 pub record LeadsIn (steps : ℕ) (table : Table) (call : Call) (outcome : Desk × Step) (old new : MapSeat) : Type 0 where
-  pub writes : WritesAt table outcome.0 new
-  pub grows : Grows steps (token old) (ending call outcome.1) (token new)
-  pub short : (counts : NoSlot) → outcome.1 ≡ Ended (writer.NoSlot counts) → Lacks call counts (token new)
+  pub writes : WritesAt table (desk_in outcome) new
+  pub grows : Grows steps (token old) (ending call (step_in outcome)) (token new)
+  pub short : (counts : NoSlot) → step_in outcome ≡ Ended (writer.NoSlot counts) → Lacks call counts (token new)
 
 abbrev pub LeadsTo : Table → Call → Desk × Step → MapSeat → MapSeat → Type 0
 LeadsTo = LeadsIn 1
@@ -124,34 +124,34 @@ LeadsTo = LeadsIn 1
 pub record GoesTo (table : Table) (desk : Desk) (found : ℕ) (old new : MapSeat) : Type 0 where
   pub leads : LeadsTo table (call_at desk.place) (went table.shape desk desk.place found) old new
   pub log : List Entry
-  pub seen : new.me.0.seen ≡ log ++ ending (call_at desk.place) (went table.shape desk desk.place found).1
-  pub finds : Finds table.shape desk.place found log old.me.0.marks
-  pub notes : NotesTell log old.me.0.marks.polls new.me.0.marks.polls
-  pub marks : GoesMarks table.shape old.me.0.marks old.me.0.pasts desk found new.me.0.role new.me.0.seen new.me.0.marks []
-  pub heard : new.me.0.heard ≡ heard_at desk.place old.me.0.heard
+  pub seen : (view_of new).seen ≡ log ++ ending (call_at desk.place) (step_in (went table.shape desk desk.place found))
+  pub finds : Finds table.shape desk.place found log (view_of old).marks
+  pub notes : NotesTell log (view_of old).marks.polls (view_of new).marks.polls
+  pub marks : GoesMarks table.shape (view_of old).marks (view_of old).pasts desk found (view_of new).role (view_of new).seen (view_of new).marks []
+  pub heard : (view_of new).heard ≡ heard_at desk.place (view_of old).heard
 
 abbrev pub GoesOn : Table → ℕ → MapSeat → MapSeat → Type 0
-GoesOn table found old new = (desk : Desk) → old.me.0.role ≡ Writer desk → GoesTo table desk found old new
+GoesOn table found old new = (desk : Desk) → (view_of old).role ≡ Writer desk → GoesTo table desk found old new
 
 -- a put
 pub record PutsTo (table : Table) (desk : Desk) (old new : MapSeat) : Type 0 where
   pub writes : WritesAt table (next_put desk) new
   pub grows : Grows 1 (token old) [] (token new)
-  pub marks : new.me.0.marks ≡ old.me.0.marks
-  pub heard : new.me.0.heard ≡ heard_at desk.place old.me.0.heard
+  pub marks : (view_of new).marks ≡ (view_of old).marks
+  pub heard : (view_of new).heard ≡ heard_at desk.place (view_of old).heard
 
 -- the call has its set, and looks for a slot
 pub record Settles (table : Table) (call : WriterCall) (rows : List Row) (spare : Spare) (seat : MapSeat) : Type 0 where
   pub slots : spare.slots ≡ table.shape.slots
-  pub writes : WritesAt table (settled table.shape (desk_with spare Idle) call rows).0 seat
-  pub short : (counts : NoSlot) → (settled table.shape (desk_with spare Idle) call rows).1 ≡ Ended (writer.NoSlot counts) → Lacks (call_of call) counts (token seat)
+  pub writes : WritesAt table (desk_in (settled table.shape (desk_with spare Idle) call rows)) seat
+  pub short : (counts : NoSlot) → step_in (settled table.shape (desk_with spare Idle) call rows) ≡ Ended (writer.NoSlot counts) → Lacks (call_of call) counts (token seat)
   pub knows : IsSound (token seat)
-  pub polls : seat.me.0.marks.polls ≡ []
+  pub polls : (view_of seat).marks.polls ≡ []
 
 -- the key's set after the history before the step that ended a read-through
 pub record KeyHas (table : Table) (call : WriterCall) (rows : List Row) (step : Step) (seat : MapSeat) : Type 0 where
   pub log : List Entry
-  pub seen : seat.me.0.seen ≡ log ++ ending (call_of call) step
+  pub seen : (view_of seat).seen ≡ log ++ ending (call_of call) step
   pub number : ℕ
   pub state : state_of (map_after table.shape log) (key_of call) ≡ states.Rows number rows
 
@@ -163,26 +163,26 @@ swept shape desk call rows polls = (if nat_lt polls (length desk.retired) then (
 pub record TakesSlot (table : Table) (call : WriterCall) (rows : List Row) (slot departed : ℕ) (spare after : Spare) (old new : MapSeat) : Type 0 where
   pub steps : ℕ
   pub loads : List LoggedLoad
-  pub took : TookBySearch table old.me.0.heard new.me.0.heard loads slot steps spare after
+  pub took : TookBySearch table (view_of old).heard (view_of new).heard loads slot steps spare after
   pub few : AreFewSteps table steps
   pub slots : after.slots ≡ spare.slots
   pub numbers : after.numbers ≡ spare.numbers
   pub reaped : after.reaped ≡ spare.reaped
   pub writes : WritesAt table (desk_with after (Putting call rows slot departed 0)) new
   pub grows : Grows steps (token old) [] (token new)
-  pub marks : new.me.0.marks ≡ with_scan old.me.0.marks new.me.0.marks.polls (old.me.0.marks.loads ++ loads)
+  pub marks : (view_of new).marks ≡ with_scan (view_of old).marks (view_of new).marks.polls ((view_of old).marks.loads ++ loads)
 
 pub record LacksSlot (table : Table) (call : WriterCall) (counts : NoSlot) (spare after : Spare) (old new : MapSeat) : Type 0 where
   pub same : after ≡ spare
   pub writes : WritesAt table (desk_with spare Idle) new
   pub steps : ℕ
   pub loads : List LoggedLoad
-  pub searched : SearchedAll table old.me.0.heard new.me.0.heard loads spare.retired steps
+  pub searched : SearchedAll table (view_of old).heard (view_of new).heard loads spare.retired steps
   pub grows : Grows steps (token old) [] (token new)
   pub lacks : Lacks (call_of call) counts (token new)
-  pub noted : table.announcers ≡ 0 → Noted table.shape old.me.0.pasts new.me.0.marks.polls
-  pub held : table.announcers ≡ 0 → AllHeldThen old.me.0.seen new.me.0.seen new.me.0.marks.polls
-  pub marks : new.me.0.marks ≡ with_scan old.me.0.marks new.me.0.marks.polls (old.me.0.marks.loads ++ loads)
+  pub noted : table.announcers ≡ 0 → Noted table.shape (view_of old).pasts (view_of new).marks.polls
+  pub held : table.announcers ≡ 0 → AllHeldThen (view_of old).seen (view_of new).seen (view_of new).marks.polls
+  pub marks : (view_of new).marks ≡ with_scan (view_of old).marks (view_of new).marks.polls ((view_of old).marks.loads ++ loads)
 
 -- the set was published: the call's last step is its entry, and the slot that the key named before is retired
 pub record PublishesSet (table : Table) (call : WriterCall) (rows : List Row) (spare after : Spare) (old new : MapSeat) : Type 0 where
@@ -193,13 +193,13 @@ pub record PublishesSet (table : Table) (call : WriterCall) (rows : List Row) (s
   -- what was heard when the search ended, and its polls and loads of readers' words
   pub scanned : List ℕ
   pub loads : List LoggedLoad
-  pub took : TookBySearch table old.me.0.heard scanned loads slot steps spare mid
-  pub heard : new.me.0.heard ≡ slice_set scanned slot 0
+  pub took : TookBySearch table (view_of old).heard scanned loads slot steps spare mid
+  pub heard : (view_of new).heard ≡ slice_set scanned slot 0
   -- the word that the key had
   pub word : ℕ
   pub log : List Entry
-  pub seen : new.me.0.seen ≡ log ++ entry 0 (call_of call) reply.Done ∷ []
-  pub swaps : SwapsAt table.shape (key_of call) word log old.me.0.marks
+  pub seen : (view_of new).seen ≡ log ++ entry 0 (call_of call) reply.Done ∷ []
+  pub swaps : SwapsAt table.shape (key_of call) word log (view_of old).marks
   -- the slot's new set is not reaped
   pub retires : after ≡ record mid { retired = mid.retired ++ unnamed word; reaped = slice_set spare.reaped slot false }
   pub few : AreFewSteps table steps
@@ -207,9 +207,9 @@ pub record PublishesSet (table : Table) (call : WriterCall) (rows : List Row) (s
   pub numbers : after.numbers ≡ spare.numbers
   -- the set has the next put number
   pub number : ℕ
-  pub count : put_count new.me.0.seen ≡ suc number
-  pub put : slice_index new.me.0.marks.puts slot ≡ number
-  pub marks : new.me.0.marks ≡ with_name (with_loads old.me.0.marks (old.me.0.marks.loads ++ loads)) (key_of call) slot number rows
+  pub count : put_count (view_of new).seen ≡ suc number
+  pub put : slice_index (view_of new).marks.puts slot ≡ number
+  pub marks : (view_of new).marks ≡ with_name (with_loads (view_of old).marks ((view_of old).marks.loads ++ loads)) (key_of call) slot number rows
   pub writes : WritesAt table (desk_with after Idle) new
   pub grows : Grows (2 * length rows + 2 + steps) (token old) (entry 0 (call_of call) reply.Done ∷ []) (token new)
 
@@ -217,5 +217,5 @@ pub record PublishesSet (table : Table) (call : WriterCall) (rows : List Row) (s
 pub record RestsAt (table : Table) (spare : Spare) (seat : MapSeat) : Type 0 where
   pub writes : WritesAt table (desk_with spare Idle) seat
   pub slots : spare.slots ≡ table.shape.slots
-  pub reaped : spare.reaped ≡ seat.me.0.marks.reaped
+  pub reaped : spare.reaped ≡ (view_of seat).marks.reaped
   pub own : KnowsOwn (token seat)

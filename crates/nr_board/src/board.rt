@@ -18,7 +18,7 @@ ghost use Rattle.nr_machine.specs.Writer.{looked};
 ghost use Rattle.nr_machine.specs.Slots.{bound_of, content, layout, name_number, names_slot, slot_room, words_at_opening};
 ghost use Rattle.nr_core.specs.Roles.{is_writer};
 ghost use Rattle.nr_machine.specs.Sizes.{IsShape};
-ghost use Rattle.nr_board.specs.Views.{grip_of, rows_held, with_reader, next_reader, opener};
+ghost use Rattle.nr_board.specs.Views.{grip_of, rows_held, with_reader, next_reader, opener, view_of, carried_by};
 ghost use Rattle.nr_board.specs.Callers.{Gains, Grows, Rests, map_seen, token};
 ghost use Rattle.nr_marks.specs.Exact.{Lists};
 ghost use Rattle.nr_marks.specs.Marks.{acted, set_in, with_loads, with_look, with_polls};
@@ -115,8 +115,8 @@ impl Board {
         requires sizes { IsShape plan.shape }
         requires keys { 0 < plan.shape.keys }
         requires few { plan.announcers ≤ plan.shape.readers }
-        ensures board { IfOk result (λ opened. (opened.0.shape ≡ plan.shape) × (opened.0.announcers ≡ plan.announcers)) }
-        ensures seat { IfOk result (λ opened. (opened.1.table_id ≡ opened.0.id) × (opened.1.me.0 ≡ opener plan)) }
+        ensures board { IfOk result (λ (board, _). (board.shape ≡ plan.shape) × (board.announcers ≡ plan.announcers)) }
+        ensures seat { IfOk result (λ (board, seat). (seat.table_id ≡ board.id) × (view_of seat ≡ opener plan)) }
     {
         let words = words_from(alloc, plan)?;
         let (table, seat) = Table::of_words(alloc, &words, &plan)?;
@@ -176,11 +176,11 @@ impl Board {
     /// The writer makes the next reader.
     pub fn seat(&self, seat: &mut Seat) -> Seat
         requires own { seat.old.table_id ≡ self.now.id }
-        requires writer { is_writer seat.old.me.0.role ≡ 1 }
-        requires few { seat.old.me.0.made < self.now.shape.readers }
+        requires writer { is_writer (view_of seat.old).role ≡ 1 }
+        requires few { (view_of seat.old).made < self.now.shape.readers }
         ensures own { (seat.new.table_id ≡ seat.old.table_id) × (result.table_id ≡ seat.old.table_id) }
-        ensures writer { seat.new.me.0 ≡ with_reader seat.old.me.0 }
-        ensures reader { result.me.0 ≡ next_reader seat.old.me.0 }
+        ensures writer { view_of seat.new ≡ with_reader (view_of seat.old) }
+        ensures reader { view_of result ≡ next_reader (view_of seat.old) }
     {
         let words = &self.table.shared;
         words.split_seat::<Seats>(seat)
@@ -192,7 +192,7 @@ impl Board {
         requires key { key < self.now.shape.keys }
         ensures reader { IdlesAt self.now seat.new }
         ensures gains { Gains 1 (token seat.old) (model.Ask key) (ask_word result) (token seat.new) }
-        ensures marks { seat.new.me.0.marks ≡ seat.old.me.0.marks }
+        ensures marks { (view_of seat.new).marks ≡ (view_of seat.old).marks }
     {
         let words = &self.table.shared;
         words.fetch_or::<Asks>(seat, key as usize, 1)
@@ -204,9 +204,9 @@ impl Board {
         requires reader { IdlesAt self.now seat.old }
         requires key { key < self.now.shape.keys }
         ensures hole { is_filled result ≡ false → IdlesAt self.now seat.new × Gains 1 (token seat.old) (model.Find key) reply.Hole (token seat.new) }
-        ensures held { is_filled result ≡ true → HoldsAt self.now (content self.now.shape (slot_of result) 0) seat.new × Gains 1 (token seat.old) (model.Find key) (reply.Rows (rows_held seat.new.me.0.role)) (token seat.new) }
-        ensures marks { seat.new.me.0.marks ≡ acted seat.old.me.0.marks (put_number seat.new.me.0.seen key) }
-        ensures says { seat.new.me.0.says ≡ seat.old.me.0.says }
+        ensures held { is_filled result ≡ true → HoldsAt self.now (content self.now.shape (slot_of result) 0) seat.new × Gains 1 (token seat.old) (model.Find key) (reply.Rows (rows_held (view_of seat.new).role)) (token seat.new) }
+        ensures marks { (view_of seat.new).marks ≡ acted (view_of seat.old).marks (put_number (view_of seat.new).seen key) }
+        ensures says { (view_of seat.new).says ≡ (view_of seat.old).says }
     {
         let words = &self.table.shared;
         words.fetch_add::<Arrives>(seat, key as usize, ARRIVE)
@@ -220,7 +220,7 @@ impl Board {
         ensures reader { IdlesAt self.now seat.new }
         ensures hole { is_filled result ≡ false → Gains 1 (token seat.old) (model.Find key) reply.Hole (token seat.new) }
         ensures named { is_filled result ≡ true → Grows 1 (token seat.old) [] (token seat.new) }
-        ensures marks { seat.new.me.0.marks ≡ (if is_filled result then with_look seat.old.me.0.marks key (name_number result) else acted (with_look seat.old.me.0.marks key (name_number result)) (put_number seat.new.me.0.seen key)) }
+        ensures marks { (view_of seat.new).marks ≡ (if is_filled result then with_look (view_of seat.old).marks key (name_number result) else acted (with_look (view_of seat.old).marks key (name_number result)) (put_number (view_of seat.new).seen key)) }
     {
         let words = &self.table.shared;
         words.load::<LooksUp>(seat, key as usize)
@@ -230,12 +230,12 @@ impl Board {
     pub fn announce(&self, seat: &mut Seat, own: Own, slot: u32)
         requires own { (token seat.old).table ≡ self.now }
         requires place { IsOwn self.now own }
-        requires word { HasWord own.index seat.old.me.0 }
-        requires free { IsIdle seat.old.me.0.role ⊎ HoldsByWord self.now.shape seat.old.me.0 }
+        requires word { HasWord own.index (view_of seat.old) }
+        requires free { IsIdle (view_of seat.old).role ⊎ HoldsByWord self.now.shape (view_of seat.old) }
         ensures says { AnnouncesAt self.now slot seat.new }
-        ensures word { HasWord own.index seat.new.me.0 }
+        ensures word { HasWord own.index (view_of seat.new) }
         ensures rests { Rests 1 (token seat.old) (token seat.new) }
-        ensures marks { seat.new.me.0.marks ≡ let_go (grip_of seat.old.me.0.role) seat.old.me.0.marks }
+        ensures marks { (view_of seat.new).marks ≡ let_go (grip_of (view_of seat.old).role) (view_of seat.old).marks }
     {
         let words = &self.table.shared;
         words.swap::<Says>(seat, own.place as usize, slot as u64 + 1);
@@ -245,15 +245,15 @@ impl Board {
     /// names that slot still, the reader holds it, and the find is an entry.
     pub fn confirm(&self, seat: &mut Seat, own: Own, slot: u32, key: u32) -> u64
         requires reader { AnnouncesAt self.now slot seat.old }
-        requires word { HasWord own.index seat.old.me.0 }
+        requires word { HasWord own.index (view_of seat.old) }
         requires key { key < self.now.shape.keys }
-        ensures held { names_slot slot result ≡ true → HoldsAt self.now (content self.now.shape slot 0) seat.new × Gains 1 (token seat.old) (model.Find key) (reply.Rows (rows_held seat.new.me.0.role)) (token seat.new) }
+        ensures held { names_slot slot result ≡ true → HoldsAt self.now (content self.now.shape slot 0) seat.new × Gains 1 (token seat.old) (model.Find key) (reply.Rows (rows_held (view_of seat.new).role)) (token seat.new) }
         ensures hole { is_filled result ≡ false → AnnouncesAt self.now slot seat.new × Gains 1 (token seat.old) (model.Find key) reply.Hole (token seat.new) }
         ensures other { names_slot slot result ≡ false → is_filled result ≡ true → AnnouncesAt self.now slot seat.new × Grows 1 (token seat.old) [] (token seat.new) }
-        ensures says { seat.new.me.0.says ≡ seat.old.me.0.says }
-        ensures word { HasWord own.index seat.new.me.0 }
-        ensures found { (names_slot slot result ≡ true) ⊎ (is_filled result ≡ false) → seat.new.me.0.marks ≡ acted (with_look seat.old.me.0.marks key (name_number result)) (put_number seat.new.me.0.seen key) }
-        ensures not_yet { names_slot slot result ≡ false → is_filled result ≡ true → seat.new.me.0.marks ≡ with_look seat.old.me.0.marks key (name_number result) }
+        ensures says { (view_of seat.new).says ≡ (view_of seat.old).says }
+        ensures word { HasWord own.index (view_of seat.new) }
+        ensures found { (names_slot slot result ≡ true) ⊎ (is_filled result ≡ false) → (view_of seat.new).marks ≡ acted (with_look (view_of seat.old).marks key (name_number result)) (put_number (view_of seat.new).seen key) }
+        ensures not_yet { names_slot slot result ≡ false → is_filled result ≡ true → (view_of seat.new).marks ≡ with_look (view_of seat.old).marks key (name_number result) }
     {
         only_proved(own.index);
         let words = &self.table.shared;
@@ -264,12 +264,12 @@ impl Board {
     pub fn clear(&self, seat: &mut Seat, own: Own)
         requires own { (token seat.old).table ≡ self.now }
         requires place { IsOwn self.now own }
-        requires word { HasWord own.index seat.old.me.0 }
-        requires free { IsIdle seat.old.me.0.role ⊎ HoldsByWord self.now.shape seat.old.me.0 }
+        requires word { HasWord own.index (view_of seat.old) }
+        requires free { IsIdle (view_of seat.old).role ⊎ HoldsByWord self.now.shape (view_of seat.old) }
         ensures reader { IdlesAt self.now seat.new }
-        ensures word { HasWord own.index seat.new.me.0 }
+        ensures word { HasWord own.index (view_of seat.new) }
         ensures rests { Rests 1 (token seat.old) (token seat.new) }
-        ensures marks { seat.new.me.0.marks ≡ let_go (grip_of seat.old.me.0.role) seat.old.me.0.marks }
+        ensures marks { (view_of seat.new).marks ≡ let_go (grip_of (view_of seat.old).role) (view_of seat.old).marks }
     {
         let words = &self.table.shared;
         words.store::<Says>(seat, own.place as usize, 0);
@@ -287,14 +287,14 @@ impl Board {
     /// A reader reads a content word of the slot that it holds, whose first one stands at `begin`.
     pub fn read(&self, seat: &mut Seat, begin: u64, index: u64) -> u64
         requires reader { HoldsAt self.now begin seat.old }
-        requires index { index < length (encode (rows_held seat.old.me.0.role)) }
-        ensures value { result ≡ slice_index (encode (rows_held seat.old.me.0.role)) index }
+        requires index { index < length (encode (rows_held (view_of seat.old).role)) }
+        ensures value { result ≡ slice_index (encode (rows_held (view_of seat.old).role)) index }
         ensures reader { HoldsAt self.now begin seat.new }
-        ensures rows { rows_held seat.new.me.0.role ≡ rows_held seat.old.me.0.role }
+        ensures rows { rows_held (view_of seat.new).role ≡ rows_held (view_of seat.old).role }
         ensures rests { Rests 1 (token seat.old) (token seat.new) }
         ensures hold { (token seat.new).holds ≡ (token seat.old).holds }
-        ensures marks { seat.new.me.0.marks ≡ seat.old.me.0.marks }
-        ensures says { seat.new.me.0.says ≡ seat.old.me.0.says }
+        ensures marks { (view_of seat.new).marks ≡ (view_of seat.old).marks }
+        ensures says { (view_of seat.new).says ≡ (view_of seat.old).says }
     {
         let words = &self.table.shared;
         let place = begin + index;
@@ -307,12 +307,12 @@ impl Board {
         requires reader { HoldsAt self.now (content self.now.shape slot 0) seat.old }
         requires key { key < self.now.shape.keys }
         ensures reader { HoldsAt self.now (content self.now.shape slot 0) seat.new }
-        ensures role { seat.new.me.0.role ≡ seat.old.me.0.role }
-        ensures same { names_slot slot result ≡ true → Gains 1 (token seat.old) (model.Find key) (reply.Rows (rows_held seat.old.me.0.role)) (token seat.new) }
+        ensures role { (view_of seat.new).role ≡ (view_of seat.old).role }
+        ensures same { names_slot slot result ≡ true → Gains 1 (token seat.old) (model.Find key) (reply.Rows (rows_held (view_of seat.old).role)) (token seat.new) }
         ensures other { names_slot slot result ≡ false → Grows 1 (token seat.old) [] (token seat.new) }
-        ensures exact { (names_slot slot result ≡ true) ↔ HasPut key seat.old.me.0.marks.put (token seat.new) }
-        ensures marks { seat.new.me.0.marks ≡ found_again (names_slot slot result) (with_look seat.old.me.0.marks key (name_number result)) }
-        ensures says { seat.new.me.0.says ≡ seat.old.me.0.says }
+        ensures exact { (names_slot slot result ≡ true) ↔ HasPut key (view_of seat.old).marks.put (token seat.new) }
+        ensures marks { (view_of seat.new).marks ≡ found_again (names_slot slot result) (with_look (view_of seat.old).marks key (name_number result)) }
+        ensures says { (view_of seat.new).says ≡ (view_of seat.old).says }
         ensures fits { slot < 2 ^ 22 }
     {
         only_proved(slot);
@@ -325,12 +325,12 @@ impl Board {
         requires reader { HoldsAt self.now (content self.now.shape slot 0) seat.old }
         requires key { key < self.now.shape.keys }
         ensures reader { HoldsAt self.now (content self.now.shape slot 0) seat.new }
-        ensures role { seat.new.me.0.role ≡ seat.old.me.0.role }
-        ensures same { result ≡ true → Gains 1 (token seat.old) (model.Find key) (reply.Rows (rows_held seat.old.me.0.role)) (token seat.new) }
+        ensures role { (view_of seat.new).role ≡ (view_of seat.old).role }
+        ensures same { result ≡ true → Gains 1 (token seat.old) (model.Find key) (reply.Rows (rows_held (view_of seat.old).role)) (token seat.new) }
         ensures other { result ≡ false → Grows 1 (token seat.old) [] (token seat.new) }
-        ensures exact { (result ≡ true) ↔ HasPut key seat.old.me.0.marks.put (token seat.new) }
-        ensures marks { seat.new.me.0.marks ≡ found_again result (with_loads seat.old.me.0.marks seat.new.me.0.marks.loads) }
-        ensures says { seat.new.me.0.says ≡ seat.old.me.0.says }
+        ensures exact { (result ≡ true) ↔ HasPut key (view_of seat.old).marks.put (token seat.new) }
+        ensures marks { (view_of seat.new).marks ≡ found_again result (with_loads (view_of seat.old).marks (view_of seat.new).marks.loads) }
+        ensures says { (view_of seat.new).says ≡ (view_of seat.old).says }
     {
         let word = self.look_again(seat, slot, key);
         names(word, slot)
@@ -340,10 +340,10 @@ impl Board {
     /// that its own word doesn't announce.
     pub fn depart(&self, seat: &mut Seat, begin: u64)
         requires reader { HoldsAt self.now begin seat.old }
-        requires counted { seat.old.me.0.says ≡ 0 }
+        requires counted { (view_of seat.old).says ≡ 0 }
         ensures reader { IdlesAt self.now seat.new }
         ensures rests { Rests 1 (token seat.old) (token seat.new) }
-        ensures marks { seat.new.me.0.marks ≡ acted seat.old.me.0.marks seat.old.me.0.marks.put }
+        ensures marks { (view_of seat.new).marks ≡ acted (view_of seat.old).marks (view_of seat.old).marks.put }
     {
         let words = &self.table.shared;
         let place = begin - 1;
@@ -355,8 +355,8 @@ impl Board {
         requires own { (token seat.old).table ≡ self.now }
         requires key { key < self.now.shape.keys }
         ensures step { token seat.new ≡ with_step (token seat.old) }
-        ensures role { seat.new.me.0.role ≡ seat.old.me.0.role }
-        ensures says { seat.new.me.0.says ≡ seat.old.me.0.says }
+        ensures role { (view_of seat.new).role ≡ (view_of seat.old).role }
+        ensures says { (view_of seat.new).says ≡ (view_of seat.old).says }
     {
         let words = &self.table.shared;
         words.load::<Nears>(seat, key as usize)
@@ -368,8 +368,8 @@ impl Board {
         requires own { (token seat.old).table ≡ self.now }
         requires key { key < self.now.shape.keys }
         ensures step { token seat.new ≡ after_look key (name_number result) (token seat.old) }
-        ensures role { seat.new.me.0.role ≡ seat.old.me.0.role }
-        ensures says { seat.new.me.0.says ≡ seat.old.me.0.says }
+        ensures role { (view_of seat.new).role ≡ (view_of seat.old).role }
+        ensures says { (view_of seat.new).says ≡ (view_of seat.old).says }
     {
         let words = &self.table.shared;
         words.load::<LooksAhead>(seat, key as usize)
@@ -380,8 +380,8 @@ impl Board {
         requires own { (token seat.old).table ≡ self.now }
         requires place { place < total_of (layout self.now.shape) }
         ensures step { token seat.new ≡ with_step (token seat.old) }
-        ensures role { seat.new.me.0.role ≡ seat.old.me.0.role }
-        ensures says { seat.new.me.0.says ≡ seat.old.me.0.says }
+        ensures role { (view_of seat.new).role ≡ (view_of seat.old).role }
+        ensures says { (view_of seat.new).says ≡ (view_of seat.old).says }
     {
         let words = &self.table.shared;
         words.load::<Nears>(seat, place as usize)
@@ -393,9 +393,9 @@ impl Board {
         requires given { IsGivenCall (bound_of self.now.shape) G.call }
         requires call { key ≡ key_of G.call }
         requires key { key < self.now.shape.keys }
-        ensures leads { (desk : Desk) → seat.old.me.0.role ≡ Writer desk → LeadsTo self.now (call_of G.call) (looked self.now.shape desk G.call result) seat.old seat.new }
-        ensures marks { seat.new.me.0.marks ≡ with_polls seat.old.me.0.marks [] }
-        ensures heard { seat.new.me.0.heard ≡ seat.old.me.0.heard }
+        ensures leads { (desk : Desk) → (view_of seat.old).role ≡ Writer desk → LeadsTo self.now (call_of G.call) (looked self.now.shape desk G.call result) seat.old seat.new }
+        ensures marks { (view_of seat.new).marks ≡ with_polls (view_of seat.old).marks [] }
+        ensures heard { (view_of seat.new).heard ≡ (view_of seat.old).heard }
     {
         let words = &self.table.shared;
         words.load::<Looks<G>>(seat, key as usize)
@@ -427,7 +427,7 @@ impl Board {
     pub fn probe(&self, seat: &mut Seat, entry: Retired) -> u64
         requires { ProbesAt self.now entry seat.old }
         ensures own { seat.new.table_id ≡ seat.old.table_id }
-        ensures tells { ProbesTo self.now.shape entry result seat.old.me.0 seat.new.me.0 }
+        ensures tells { ProbesTo self.now.shape entry result (view_of seat.old) (view_of seat.new) }
     {
         let words = &self.table.shared;
         let place = self.layout().departures(entry.slot);
@@ -439,7 +439,7 @@ impl Board {
     pub fn scan(&self, seat: &mut Seat, own: u32) -> u64
         requires { ScansAt self.now own seat.old }
         ensures own { seat.new.table_id ≡ seat.old.table_id }
-        ensures hears { HearsWord own result seat.old.me.0 seat.new.me.0 }
+        ensures hears { HearsWord own result (view_of seat.old) (view_of seat.new) }
     {
         let words = &self.table.shared;
         let place = self.own_word(own);
@@ -451,7 +451,7 @@ impl Board {
         requires search { IsSearching self.now seat.old }
         requires within { own < self.now.announcers }
         ensures own { seat.new.table_id ≡ seat.old.table_id }
-        ensures hears { SearchesOn own result seat.old.me.0 seat.new.me.0 }
+        ensures hears { SearchesOn own result (view_of seat.old) (view_of seat.new) }
     {
         let words = &self.table.shared;
         let place = self.own_word(own);
@@ -463,7 +463,7 @@ impl Board {
     pub fn try_slot(&self, seat: &mut Seat, entry: Retired) -> u64
         requires { TriesAt self.now entry seat.old }
         ensures own { seat.new.table_id ≡ seat.old.table_id }
-        ensures tries { TriesTo entry result seat.old.me.0 seat.new.me.0 }
+        ensures tries { TriesTo entry result (view_of seat.old) (view_of seat.new) }
     {
         let words = &self.table.shared;
         let place = self.layout().departures(entry.slot);
@@ -474,7 +474,7 @@ impl Board {
     pub fn give_up(&self, seat: &mut Seat)
         requires { IsSearching self.now seat.old }
         ensures own { seat.new.table_id ≡ seat.old.table_id }
-        ensures ends { Ends seat.old.me.0 seat.new.me.0 }
+        ensures ends { Ends (view_of seat.old) (view_of seat.new) }
     {
         let words = &self.table.shared;
         words.load::<GivesUp>(seat, 0);
@@ -485,9 +485,9 @@ impl Board {
     pub fn recall(&self, seat: &mut Seat, slot: u32, index: u64) -> u64
         requires recalls { RecallsAt self.now slot seat.old }
         requires index { index < slot_room self.now.shape }
-        ensures word { IsWordOf self.now.shape.rows (set_in seat.old.me.0.marks slot) index result }
+        ensures word { IsWordOf self.now.shape.rows (set_in (view_of seat.old).marks slot) index result }
         ensures own { seat.new.table_id ≡ seat.old.table_id }
-        ensures step { seat.new.me.0 ≡ has_noted seat.old.me.0 }
+        ensures step { view_of seat.new ≡ has_noted (view_of seat.old) }
     {
         let words = &self.table.shared;
         let place = self.content(slot) + index;
@@ -498,7 +498,7 @@ impl Board {
     /// `begin`.
     pub fn put(&self, seat: &mut Seat, begin: u64, index: u64, word: u64)
         requires { IsPutting self.now begin index word seat.old }
-        ensures { (desk : Desk) → seat.old.me.0.role ≡ Writer desk → PutsTo self.now desk seat.old seat.new }
+        ensures { (desk : Desk) → (view_of seat.old).role ≡ Writer desk → PutsTo self.now desk seat.old seat.new }
     {
         let words = &self.table.shared;
         let place = begin + index;
@@ -539,8 +539,8 @@ impl Board {
     /// A note of what the token has seen, in 1 step. Else the token stays as it is.
     pub fn note(&self, seat: &mut Seat) -> Note
         requires { seat.old.table_id ≡ self.now.id }
-        ensures maker { (seat.new.table_id ≡ seat.old.table_id) × (seat.new.me ≡ (has_noted seat.old.me.0, seat.old.me.1)) }
-        ensures note { (result.table_id ≡ seat.old.table_id) × (result.me ≡ (note_of seat.old.me.0, [])) }
+        ensures maker { (seat.new.table_id ≡ seat.old.table_id) × (seat.new.me ≡ (has_noted (view_of seat.old), carried_by seat.old)) }
+        ensures note { (result.table_id ≡ seat.old.table_id) × (result.me ≡ (note_of (view_of seat.old), [])) }
     {
         let words = &self.table.shared;
         Note {
@@ -553,12 +553,12 @@ impl Board {
     pub fn hear_note(&self, seat: &mut Seat, note: Note)
         requires own { ((token seat.old).table ≡ self.now) × (note.table_id ≡ self.now.id) }
         requires note { IsNote note }
-        requires caller { IsCaller seat.old.me.0.role }
+        requires caller { IsCaller (view_of seat.old).role }
         ensures hears { HearsNote 1 (token seat.old) (known_to (token note)) (token seat.new) }
-        ensures readers { HearsOf seat.old.me.0 note.me.0 seat.new.me.0 }
-        ensures numbers { (desk : Desk) → seat.old.me.0.role ≡ Writer desk → AreNumbers self.now.shape (map_seen (token seat.new)) desk.numbers }
-        ensures role { (seat.new.table_id ≡ seat.old.table_id) × (seat.new.me.0.role ≡ seat.old.me.0.role) }
-        ensures says { seat.new.me.0.says ≡ seat.old.me.0.says }
+        ensures readers { HearsOf (view_of seat.old) (view_of note) (view_of seat.new) }
+        ensures numbers { (desk : Desk) → (view_of seat.old).role ≡ Writer desk → AreNumbers self.now.shape (map_seen (token seat.new)) desk.numbers }
+        ensures role { (seat.new.table_id ≡ seat.old.table_id) × ((view_of seat.new).role ≡ (view_of seat.old).role) }
+        ensures says { (view_of seat.new).says ≡ (view_of seat.old).says }
     {
         let words = &self.table.shared;
         let Note { seat: mut told } = note;
@@ -570,7 +570,7 @@ impl Board {
         requires own { (seat.old.table_id ≡ self.now.id) × (note.table_id ≡ self.now.id) }
         requires note { IsNote note }
         ensures own { seat.new.table_id ≡ seat.old.table_id }
-        ensures took { seat.new.me.0 ≡ with_note seat.old.me.0 note.me.0 }
+        ensures took { view_of seat.new ≡ with_note (view_of seat.old) (view_of note) }
     {
         let words = &self.table.shared;
         let Note { seat: told } = note;
@@ -581,8 +581,8 @@ impl Board {
     /// stays as it is.
     pub fn retell(&self, seat: &mut Seat) -> Note
         requires { seat.old.table_id ≡ self.now.id }
-        ensures maker { (seat.new.table_id ≡ seat.old.table_id) × (seat.new.me ≡ (has_noted seat.old.me.0, seat.old.me.1)) }
-        ensures note { (result.table_id ≡ seat.old.table_id) × (result.me ≡ (retold seat.old.me.0, [])) }
+        ensures maker { (seat.new.table_id ≡ seat.old.table_id) × (seat.new.me ≡ (has_noted (view_of seat.old), carried_by seat.old)) }
+        ensures note { (result.table_id ≡ seat.old.table_id) × (result.me ≡ (retold (view_of seat.old), [])) }
     {
         let words = &self.table.shared;
         Note {
@@ -593,13 +593,13 @@ impl Board {
     /// The token learns the history so far, by the word of a key, which shows the key's state.
     pub fn learn_at(&self, seat: &mut Seat, key: u32) -> u64
         requires own { (token seat.old).table ≡ self.now }
-        requires caller { IsCaller seat.old.me.0.role }
+        requires caller { IsCaller (view_of seat.old).role }
         requires key { key < self.now.shape.keys }
         ensures learns { Learns 1 (token seat.old) (token seat.new) }
-        ensures role { (seat.new.table_id ≡ seat.old.table_id) × (seat.new.me.0.role ≡ seat.old.me.0.role) }
-        ensures says { seat.new.me.0.says ≡ seat.old.me.0.says }
+        ensures role { (seat.new.table_id ≡ seat.old.table_id) × ((view_of seat.new).role ≡ (view_of seat.old).role) }
+        ensures says { (view_of seat.new).says ≡ (view_of seat.old).says }
         ensures state { kind_shown result ≡ kind_of (state_of (map_seen (token seat.new)) key) }
-        ensures numbers { (desk : Desk) → seat.old.me.0.role ≡ Writer desk → AreNumbers self.now.shape (map_seen (token seat.new)) desk.numbers }
+        ensures numbers { (desk : Desk) → (view_of seat.old).role ≡ Writer desk → AreNumbers self.now.shape (map_seen (token seat.new)) desk.numbers }
     {
         let words = &self.table.shared;
         words.load::<Sees>(seat, key as usize)
@@ -609,12 +609,12 @@ impl Board {
     /// history.
     pub fn learn(&self, seat: &mut Seat)
         requires own { (token seat.old).table ≡ self.now }
-        requires caller { IsCaller seat.old.me.0.role }
+        requires caller { IsCaller (view_of seat.old).role }
         ensures learns { Learns 1 (token seat.old) (token seat.new) }
-        ensures role { (seat.new.table_id ≡ seat.old.table_id) × (seat.new.me.0.role ≡ seat.old.me.0.role) }
-        ensures says { seat.new.me.0.says ≡ seat.old.me.0.says }
-        ensures lists { (desk : Desk) → seat.old.me.0.role ≡ Writer desk → Lists desk seat.old.me.0.marks self.now.shape seat.new.me.0.seen }
-        ensures numbers { (desk : Desk) → seat.old.me.0.role ≡ Writer desk → AreNumbers self.now.shape (map_seen (token seat.new)) desk.numbers }
+        ensures role { (seat.new.table_id ≡ seat.old.table_id) × ((view_of seat.new).role ≡ (view_of seat.old).role) }
+        ensures says { (view_of seat.new).says ≡ (view_of seat.old).says }
+        ensures lists { (desk : Desk) → (view_of seat.old).role ≡ Writer desk → Lists desk (view_of seat.old).marks self.now.shape (view_of seat.new).seen }
+        ensures numbers { (desk : Desk) → (view_of seat.old).role ≡ Writer desk → AreNumbers self.now.shape (map_seen (token seat.new)) desk.numbers }
     {
         let words = &self.table.shared;
         words.load::<Sees>(seat, 0);

@@ -3,7 +3,7 @@ ghost use Rattle.std.specs.Prelude.{◌≡◌, ◌<◌, ◌*◌, length, slice_g
 ghost use Rattle.nr_board.specs.Callers.{Rests, token};
 ghost use Rattle.nr_board.specs.Holds.{HeldAs};
 ghost use Rattle.nr_board.specs.Seats.{HoldsAt};
-ghost use Rattle.nr_board.specs.Views.{rows_held};
+ghost use Rattle.nr_board.specs.Views.{rows_held, view_of};
 
 use crate::board::{Board, Seat};
 use crate::holds::Held;
@@ -21,9 +21,9 @@ pub struct HeldRows<'a> {
 impl RowSource for HeldRows<'_> {
     ghost use Rattle.nr_board.specs.HeldRows.{Gave, gives_more, gives_none};
     ghost use Rattle.nr_board.specs.Seats.{HoldsAt};
-    ghost use Rattle.nr_board.specs.Views.{rows_held};
+    ghost use Rattle.nr_board.specs.Views.{rows_held, view_of};
 
-    ghost rows = { λ source. rows_held source.seat.now.me.0.role };
+    ghost rows = { λ source. rows_held (view_of source.seat.now).role };
 
     ghost is_ready = { λ source _. HoldsAt source.board.now source.begin source.seat.now };
 
@@ -46,11 +46,11 @@ impl Board {
     pub fn copy_held<R: RowRoom>(&self, seat: &mut Seat, held: Held, rows: &mut R)
         requires held { HeldAs self.now held seat.old }
         ensures held { HeldAs self.now held seat.new }
-        ensures rows { R.shows rows.new (rows_held seat.old.me.0.role) }
-        ensures same { rows_held seat.new.me.0.role ≡ rows_held seat.old.me.0.role }
-        ensures rests { Rests (2 * length (rows_held seat.old.me.0.role)) (token seat.old) (token seat.new) }
+        ensures rows { R.shows rows.new (rows_held (view_of seat.old).role) }
+        ensures same { rows_held (view_of seat.new).role ≡ rows_held (view_of seat.old).role }
+        ensures rests { Rests (2 * length (rows_held (view_of seat.old).role)) (token seat.old) (token seat.new) }
         ensures hold { (token seat.new).holds ≡ (token seat.old).holds }
-        ensures marks { seat.new.me.0.marks ≡ seat.old.me.0.marks }
+        ensures marks { (view_of seat.new).marks ≡ (view_of seat.old).marks }
     {
         self.copy_rows(seat, held.begin, held.count, rows);
     }
@@ -59,14 +59,14 @@ impl Board {
     #[inline(always)]
     fn copy_rows<R: RowRoom>(&self, seat: &mut Seat, begin: u64, count: u32, rows: &mut R)
         requires reader { HoldsAt self.now begin seat.old }
-        requires count { count ≡ length (rows_held seat.old.me.0.role) }
+        requires count { count ≡ length (rows_held (view_of seat.old).role) }
         ensures reader { HoldsAt self.now begin seat.new }
-        ensures rows { R.shows rows.new (rows_held seat.old.me.0.role) }
-        ensures held { rows_held seat.new.me.0.role ≡ rows_held seat.old.me.0.role }
-        ensures rests { Rests (2 * length (rows_held seat.old.me.0.role)) (token seat.old) (token seat.new) }
+        ensures rows { R.shows rows.new (rows_held (view_of seat.old).role) }
+        ensures held { rows_held (view_of seat.new).role ≡ rows_held (view_of seat.old).role }
+        ensures rests { Rests (2 * length (rows_held (view_of seat.old).role)) (token seat.old) (token seat.new) }
         ensures hold { (token seat.new).holds ≡ (token seat.old).holds }
-        ensures marks { seat.new.me.0.marks ≡ seat.old.me.0.marks }
-        ensures says { seat.new.me.0.says ≡ seat.old.me.0.says }
+        ensures marks { (view_of seat.new).marks ≡ (view_of seat.old).marks }
+        ensures says { (view_of seat.new).says ≡ (view_of seat.old).says }
     {
         only_proved(self.rows());
         let mut source = HeldRows {
@@ -80,14 +80,14 @@ impl Board {
     /// A row of that set.
     pub fn read_row(&self, seat: &mut Seat, begin: u64, i: u64) -> Row
         requires reader { HoldsAt self.now begin seat.old }
-        requires i { i < length (rows_held seat.old.me.0.role) }
-        ensures row { slice_get (rows_held seat.old.me.0.role) i ≡ Some result }
+        requires i { i < length (rows_held (view_of seat.old).role) }
+        ensures row { slice_get (rows_held (view_of seat.old).role) i ≡ Some result }
         ensures reader { HoldsAt self.now begin seat.new }
-        ensures rows { rows_held seat.new.me.0.role ≡ rows_held seat.old.me.0.role }
+        ensures rows { rows_held (view_of seat.new).role ≡ rows_held (view_of seat.old).role }
         ensures rests { Rests 2 (token seat.old) (token seat.new) }
         ensures hold { (token seat.new).holds ≡ (token seat.old).holds }
-        ensures marks { seat.new.me.0.marks ≡ seat.old.me.0.marks }
-        ensures says { seat.new.me.0.says ≡ seat.old.me.0.says }
+        ensures marks { (view_of seat.new).marks ≡ (view_of seat.old).marks }
+        ensures says { (view_of seat.new).says ≡ (view_of seat.old).says }
     {
         only_proved(self.rows());
         let a = self.read(seat, begin, 2 * i + 1);

@@ -8,7 +8,7 @@ ghost use Rattle.nr_board.specs.Callers.{Rests, token};
 ghost use Rattle.nr_board.specs.Holds.{HeldAs, HoldsAfter, HoldsOn, MovesTo, TriesWord, finds_by_word};
 ghost use Rattle.nr_board.specs.Plays.{IsIdle};
 ghost use Rattle.nr_board.specs.Seats.{HoldsAt, IdlesAt};
-ghost use Rattle.nr_board.specs.Views.{caller_number, rows_held};
+ghost use Rattle.nr_board.specs.Views.{caller_number, rows_held, view_of};
 ghost use Rattle.nr_board.specs.WordPlays.{HasWord, HoldsByWord, IsOwn};
 
 use crate::board::{Board, Own, Seat};
@@ -34,7 +34,7 @@ impl Board {
         requires number { (token seat.old).number ≡ suc own.index }
         requires place { IsOwn self.now own }
         requires key { key < self.now.shape.keys }
-        ensures { HoldsAfter 0 (finds_by_word (token seat.old)) self.now key seat.old.me.0.marks seat.old seat.new result }
+        ensures { HoldsAfter 0 (finds_by_word (token seat.old)) self.now key (view_of seat.old).marks seat.old seat.new result }
     {
         if own.index >= self.announcers() {
             return self.hold_by_count(seat, key);
@@ -52,8 +52,8 @@ impl Board {
     pub fn move_to(&self, seat: &mut Seat, own: Own, key: u32, word: u64) -> Option<Held>
         requires own { (token seat.old).table ≡ self.now }
         requires place { IsOwn self.now own }
-        requires word { HasWord own.index seat.old.me.0 }
-        requires holds { HoldsByWord self.now.shape seat.old.me.0 }
+        requires word { HasWord own.index (view_of seat.old) }
+        requires holds { HoldsByWord self.now.shape (view_of seat.old) }
         requires key { key < self.now.shape.keys }
         ensures { MovesTo self.now key word seat.old seat.new result }
     {
@@ -72,7 +72,7 @@ impl Board {
         requires place { IsOwn self.now own }
         ensures reader { IdlesAt self.now seat.new }
         ensures rests { Rests 1 (token seat.old) (token seat.new) }
-        ensures marks { seat.new.me.0.marks ≡ acted seat.old.me.0.marks seat.old.me.0.marks.put }
+        ensures marks { (view_of seat.new).marks ≡ acted (view_of seat.old).marks (view_of seat.old).marks.put }
     {
         if held.says > 0 {
             self.clear(seat, own);
@@ -86,8 +86,8 @@ impl Board {
     fn hold_named(&self, seat: &mut Seat, own: Own, key: u32, word: u64) -> Option<Held>
         requires own { (token seat.old).table ≡ self.now }
         requires place { IsOwn self.now own }
-        requires word { HasWord own.index seat.old.me.0 }
-        requires free { IsIdle seat.old.me.0.role ⊎ HoldsByWord self.now.shape seat.old.me.0 }
+        requires word { HasWord own.index (view_of seat.old) }
+        requires free { IsIdle (view_of seat.old).role ⊎ HoldsByWord self.now.shape (view_of seat.old) }
         requires key { key < self.now.shape.keys }
         ensures { HoldsOn 1 (suc (slot_of word) ∷ []) self.now key seat.old seat.new result }
     {
@@ -103,8 +103,8 @@ impl Board {
     fn hold_newer(&self, seat: &mut Seat, own: Own, key: u32, word: u64) -> Option<Held>
         requires own { (token seat.old).table ≡ self.now }
         requires place { IsOwn self.now own }
-        requires word { HasWord own.index seat.old.me.0 }
-        requires idle { IsIdle seat.old.me.0.role }
+        requires word { HasWord own.index (view_of seat.old) }
+        requires idle { IsIdle (view_of seat.old).role }
         requires key { key < self.now.shape.keys }
         ensures { (first : ℕ) → first ≢ slot_of word → HoldsOn 3 (suc first ∷ suc (slot_of word) ∷ []) self.now key seat.old seat.new result }
     {
@@ -121,8 +121,8 @@ impl Board {
     fn try_word(&self, seat: &mut Seat, own: Own, key: u32, word: u64) -> Result<Option<Held>, u64>
         requires own { (token seat.old).table ≡ self.now }
         requires place { IsOwn self.now own }
-        requires word { HasWord own.index seat.old.me.0 }
-        requires free { IsIdle seat.old.me.0.role ⊎ HoldsByWord self.now.shape seat.old.me.0 }
+        requires word { HasWord own.index (view_of seat.old) }
+        requires free { IsIdle (view_of seat.old).role ⊎ HoldsByWord self.now.shape (view_of seat.old) }
         requires key { key < self.now.shape.keys }
         ensures { TriesWord self.now key word seat.old seat.new result }
     {
@@ -145,7 +145,7 @@ impl Board {
     fn hold_by_count(&self, seat: &mut Seat, key: u32) -> Option<Held>
         requires reader { IdlesAt self.now seat.old }
         requires key { key < self.now.shape.keys }
-        ensures { HoldsAfter 0 false self.now key seat.old.me.0.marks seat.old seat.new result }
+        ensures { HoldsAfter 0 false self.now key (view_of seat.old).marks seat.old seat.new result }
     {
         let found = parts(self.arrive(seat, key));
         if !found.filled {
@@ -160,13 +160,13 @@ impl Board {
     fn held_at(&self, seat: &mut Seat, slot: u32, begin: u64, says: u64) -> Held
         requires reader { HoldsAt self.now begin seat.old }
         requires begin { begin ≡ content self.now.shape slot 0 }
-        requires says { seat.old.me.0.says ≡ says }
-        requires worded { 0 < says → caller_number seat.old.me.0.role ≤ self.now.announcers }
+        requires says { (view_of seat.old).says ≡ says }
+        requires worded { 0 < says → caller_number (view_of seat.old).role ≤ self.now.announcers }
         ensures held { HeldAs self.now result seat.new }
         ensures says { result.says ≡ says }
-        ensures rows { rows_held seat.new.me.0.role ≡ rows_held seat.old.me.0.role }
+        ensures rows { rows_held (view_of seat.new).role ≡ rows_held (view_of seat.old).role }
         ensures rests { Rests 1 (token seat.old) (token seat.new) }
-        ensures marks { seat.new.me.0.marks ≡ seat.old.me.0.marks }
+        ensures marks { (view_of seat.new).marks ≡ (view_of seat.old).marks }
     {
         only_proved(self.rows());
         let count = self.read(seat, begin, 0) as u32;

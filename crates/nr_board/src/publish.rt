@@ -3,7 +3,7 @@ ghost use Rattle.std.specs.Prelude.{◌≡◌, ◌<◌, ◌≤◌, ◌+◌, ◌*
 ghost use Rattle.nr_machine.specs.States.{key_of};
 ghost use Rattle.nr_machine.specs.Writer.{moved_to};
 ghost use Rattle.nr_machine.specs.declared.places.Place.TheVariants.{Putting};
-ghost use Rattle.nr_board.specs.Views.{desk_of};
+ghost use Rattle.nr_board.specs.Views.{desk_of, view_of};
 ghost use Rattle.nr_board.specs.Callers.{Grows, token, IsSound};
 ghost use Rattle.nr_board.specs.WriterSeats.{Settles, WritesAt};
 
@@ -41,11 +41,11 @@ impl Board {
         rows: &[Row],
     ) -> Result<(), NoSlot>
         requires settles { Settles self.now G.call rows.now spare.old seat.old }
-        requires flagged { IsFlagged self.now spare.old.retired seat.old.me.0.heard unheard.old }
+        requires flagged { IsFlagged self.now spare.old.retired (view_of seat.old).heard unheard.old }
         requires call { key ≡ key_of G.call }
         requires key { key < self.now.shape.keys }
         ensures publishes { PublishesFor self.now G.call rows.now spare.old spare.new seat.old seat.new result }
-        ensures flagged { IsFlagged self.now spare.new.retired seat.new.me.0.heard unheard.new }
+        ensures flagged { IsFlagged self.now spare.new.retired (view_of seat.new).heard unheard.new }
     {
         let taken = self.take_slot::<G>(seat, spare, unheard, rows)?;
         self.put_rows::<G>(seat, rows, taken);
@@ -67,9 +67,9 @@ impl Board {
         rows: &[Row],
     ) -> Result<Taken, NoSlot>
         requires settles { Settles self.now G.call rows.now spare.old seat.old }
-        requires flagged { IsFlagged self.now spare.old.retired seat.old.me.0.heard unheard.old }
+        requires flagged { IsFlagged self.now spare.old.retired (view_of seat.old).heard unheard.old }
         ensures takes { TakesFor self.now G.call rows.now spare.old spare.new seat.old seat.new result }
-        ensures flagged { IsFlagged self.now spare.old.retired seat.new.me.0.heard unheard.new }
+        ensures flagged { IsFlagged self.now spare.old.retired (view_of seat.new).heard unheard.new }
     {
         if let Some(slot) = spare.take_fresh() {
             let departures = self.shape().first_count;
@@ -89,9 +89,9 @@ impl Board {
     ) -> Result<Taken, NoSlot>
         requires settles { Settles self.now G.call rows.now spare.old seat.old }
         requires none_fresh { spare.old.slots ≤ spare.old.fresh }
-        requires flagged { IsFlagged self.now spare.old.retired seat.old.me.0.heard unheard.old }
+        requires flagged { IsFlagged self.now spare.old.retired (view_of seat.old).heard unheard.old }
         ensures takes { TakesFor self.now G.call rows.now spare.old spare.new seat.old seat.new result }
-        ensures flagged { IsFlagged self.now spare.old.retired seat.new.me.0.heard unheard.new }
+        ensures flagged { IsFlagged self.now spare.old.retired (view_of seat.new).heard unheard.new }
     {
         if self.announcers() == 0 {
             return self.poll_retired::<G>(seat, spare, rows);
@@ -153,11 +153,11 @@ impl Board {
         had: &mut R,
     ) -> Result<Reclaimed, NoSlot>
         requires settles { Settles self.now G.call rows.now spare.old seat.old }
-        requires flagged { IsFlagged self.now spare.old.retired seat.old.me.0.heard unheard.old }
+        requires flagged { IsFlagged self.now spare.old.retired (view_of seat.old).heard unheard.old }
         requires call { key ≡ key_of G.call }
         requires key { key < self.now.shape.keys }
         ensures publishes { PublishesReclaiming R.shows self.now G.call rows.now spare.old spare.new seat.old seat.new had.old had.new result }
-        ensures flagged { IsFlagged self.now spare.new.retired seat.new.me.0.heard unheard.new }
+        ensures flagged { IsFlagged self.now spare.new.retired (view_of seat.new).heard unheard.new }
     {
         let (taken, given) = self.take_reclaiming::<G, R>(seat, spare, unheard, rows, had)?;
         self.put_rows::<G>(seat, rows, taken);
@@ -180,9 +180,9 @@ impl Board {
         had: &mut R,
     ) -> Result<(Taken, Reclaimed), NoSlot>
         requires settles { Settles self.now G.call rows.now spare.old seat.old }
-        requires flagged { IsFlagged self.now spare.old.retired seat.old.me.0.heard unheard.old }
+        requires flagged { IsFlagged self.now spare.old.retired (view_of seat.old).heard unheard.old }
         ensures takes { TakesReclaiming R.shows self.now G.call rows.now spare.old spare.new seat.old seat.new had.old had.new result }
-        ensures flagged { IsFlagged self.now spare.old.retired seat.new.me.0.heard unheard.new }
+        ensures flagged { IsFlagged self.now spare.old.retired (view_of seat.new).heard unheard.new }
     {
         if let Some(slot) = spare.take_fresh() {
             let departures = self.shape().first_count;
@@ -197,12 +197,12 @@ impl Board {
     }
 
     fn put_rows<G: BegunCall>(&self, seat: &mut Seat, rows: &[Row], taken: Taken)
-        requires writer { WritesAt self.now (moved_to (desk_of seat.old.me.0.role) (Putting G.call rows.now taken.slot taken.departures 0)) seat.old }
+        requires writer { WritesAt self.now (moved_to (desk_of (view_of seat.old).role) (Putting G.call rows.now taken.slot taken.departures 0)) seat.old }
         requires knows { IsSound (token seat.old) }
-        ensures writer { WritesAt self.now (moved_to (desk_of seat.old.me.0.role) (Putting G.call rows.now taken.slot taken.departures (2 * length rows.now + 1))) seat.new }
+        ensures writer { WritesAt self.now (moved_to (desk_of (view_of seat.old).role) (Putting G.call rows.now taken.slot taken.departures (2 * length rows.now + 1))) seat.new }
         ensures grows { Grows (2 * length rows.now + 1) (token seat.old) [] (token seat.new) }
-        ensures marks { seat.new.me.0.marks ≡ seat.old.me.0.marks }
-        ensures heard { slice_set seat.new.me.0.heard taken.slot 0 ≡ slice_set seat.old.me.0.heard taken.slot 0 }
+        ensures marks { (view_of seat.new).marks ≡ (view_of seat.old).marks }
+        ensures heard { slice_set (view_of seat.new).heard taken.slot 0 ≡ slice_set (view_of seat.old).heard taken.slot 0 }
     {
         let begin = self.content(taken.slot);
         self.put(seat, begin, 0, rows.len() as u64);

@@ -5,7 +5,7 @@ ghost use Rattle.nr_machine.specs.States.{key_of};
 ghost use Rattle.nr_machine.specs.declared.places.Place.TheVariants.{Reading};
 ghost use Rattle.nr_machine.specs.Writer.{moved_to};
 ghost use Rattle.nr_board.specs.NamedRows.{ReadsAll};
-ghost use Rattle.nr_board.specs.Views.{desk_of};
+ghost use Rattle.nr_board.specs.Views.{desk_of, view_of};
 ghost use Rattle.nr_board.specs.WriterSeats.{WritesAt};
 
 use crate::board::{Board, Seat};
@@ -25,7 +25,7 @@ impl Board {
         slot: u32,
         rows: &mut R,
     )
-        requires writer { WritesAt self.now (moved_to (desk_of seat.old.me.0.role) (Reading G.call slot [])) seat.old }
+        requires writer { WritesAt self.now (moved_to (desk_of (view_of seat.old).role) (Reading G.call slot [])) seat.old }
         requires slot { slot < self.now.shape.slots }
         requires key { key_of G.call < self.now.shape.keys }
         ensures { (set : List SetRow) × R.shows rows.new set × ReadsAll self.now G.call set seat.old seat.new }

@@ -3,6 +3,7 @@ ghost use Rattle.std.specs.Prelude.{◌≡◌};
 ghost use Rattle.nr_board.specs.Callers.{token};
 ghost use Rattle.nr_board.specs.Flags.{IsFlagged};
 ghost use Rattle.nr_board.specs.Reaping.{ReapsIn, SweepsFor, SweepsHeard};
+ghost use Rattle.nr_board.specs.Views.{view_of};
 ghost use Rattle.nr_board.specs.WriterSeats.{RestsAt};
 
 use crate::answers::Reaped;
@@ -57,10 +58,10 @@ impl Board {
     // A sweep, and where it is in vain and readers have words a scan and another one.
     fn sweep_heard(&self, seat: &mut Seat, spare: &Spare, unheard: &mut Unheard) -> Sweep
         requires rests { RestsAt self.now spare.now seat.old }
-        requires flagged { IsFlagged self.now spare.now.retired seat.old.me.0.heard unheard.old }
+        requires flagged { IsFlagged self.now spare.now.retired (view_of seat.old).heard unheard.old }
         ensures own { seat.new.table_id ≡ seat.old.table_id }
         ensures sweeps { SweepsHeard spare.now seat.old seat.new result }
-        ensures flagged { IsFlagged self.now spare.now.retired seat.new.me.0.heard unheard.new }
+        ensures flagged { IsFlagged self.now spare.now.retired (view_of seat.new).heard unheard.new }
     {
         let first = self.sweep(seat, spare, unheard);
         if self.announcers() == 0 || !matches!(first, Sweep::Held) {
@@ -74,7 +75,7 @@ impl Board {
     // nobody holds.
     fn sweep(&self, seat: &mut Seat, spare: &Spare, unheard: &Unheard) -> Sweep
         requires rests { RestsAt self.now spare.now seat.old }
-        requires flagged { IsFlagged self.now spare.now.retired seat.old.me.0.heard unheard.now }
+        requires flagged { IsFlagged self.now spare.now.retired (view_of seat.old).heard unheard.now }
         ensures own { seat.new.table_id ≡ seat.old.table_id }
         ensures sweeps { SweepsFor spare.now seat.old seat.new result }
     {

@@ -3,6 +3,7 @@ ghost use Rattle.std.specs.Prelude.{◌≡◌, ◌<◌, ◌+◌, ◌*◌, length
 ghost use Rattle.nr_model.specs.Rows.{IsRowSet};
 ghost use Rattle.nr_marks.specs.Marks.{set_in};
 ghost use Rattle.nr_board.specs.Recalls.{RecallsAt, waited};
+ghost use Rattle.nr_board.specs.Views.{view_of};
 
 use crate::board::{Board, Seat};
 use crate::only_proved::only_proved;
@@ -20,8 +21,9 @@ impl RowSource for Recalled<'_> {
     ghost use Rattle.nr_marks.specs.Marks.{set_in};
     ghost use Rattle.nr_board.specs.RecalledRows.{GaveRecalled, gives_more, gives_none};
     ghost use Rattle.nr_board.specs.Recalls.{RecallsRows};
+    ghost use Rattle.nr_board.specs.Views.{view_of};
 
-    ghost rows = { λ source. set_in source.seat.now.me.0.marks source.slot };
+    ghost rows = { λ source. set_in (view_of source.seat.now).marks source.slot };
 
     ghost is_ready = { λ source _. RecallsRows source.board.now source.slot source.seat.now };
 
@@ -46,10 +48,10 @@ impl Board {
     /// each of its words.
     pub fn recall_set<R: RowRoom>(&self, seat: &mut Seat, slot: u32, rows: &mut R)
         requires recalls { RecallsAt self.now slot seat.old }
-        ensures rows { R.shows rows.new (set_in seat.old.me.0.marks slot) }
-        ensures row_set { IsRowSet self.now.shape.rows (set_in seat.old.me.0.marks slot) }
+        ensures rows { R.shows rows.new (set_in (view_of seat.old).marks slot) }
+        ensures row_set { IsRowSet self.now.shape.rows (set_in (view_of seat.old).marks slot) }
         ensures own { seat.new.table_id ≡ seat.old.table_id }
-        ensures waits { seat.new.me.0 ≡ waited (2 * length (set_in seat.old.me.0.marks slot) + 1) seat.old.me.0 }
+        ensures waits { view_of seat.new ≡ waited (2 * length (set_in (view_of seat.old).marks slot) + 1) (view_of seat.old) }
     {
         only_proved(self.rows());
         let count = self.recall(seat, slot, 0);

@@ -2,6 +2,7 @@
 ghost use Rattle.std.specs.Prelude.{◌≡◌, ◌<◌, ◌≤◌, IfOk, false, length, replicate, slice_index_or, slice_set, true};
 ghost use Rattle.nr_board.specs.SearchSeats.{SearchesIn};
 ghost use Rattle.nr_board.specs.Flags.{Flagged, OthersFlagged};
+ghost use Rattle.nr_board.specs.Views.{view_of};
 ghost use Rattle.nr_board.specs.WholeScans.{AreInside, NoneFlagged, RestsHearing, ScannedTo, announced, is_unheard};
 ghost use Rattle.nr_board.specs.WriterSeats.{RestsAt};
 
@@ -85,13 +86,13 @@ impl Board {
     /// Loads each reader's own word once, in order: what the flags tell afterwards is of this scan.
     pub fn scan_words(&self, seat: &mut Seat, spare: &Spare, unheard: &mut Unheard)
         requires search { SearchesIn self.now spare.now seat.old }
-        requires flagged { Flagged self.now spare.now.retired seat.old.me.0.heard unheard.old }
+        requires flagged { Flagged self.now spare.now.retired (view_of seat.old).heard unheard.old }
         requires some_words { 0 < self.now.announcers }
         ensures own { seat.new.table_id ≡ seat.old.table_id }
-        ensures scans { ScannedTo spare.now.retired seat.old.me.0 seat.new.me.0 unheard.new self.now.announcers }
+        ensures scans { ScannedTo spare.now.retired (view_of seat.old) (view_of seat.new) unheard.new self.now.announcers }
         ensures search { SearchesIn self.now spare.now seat.new }
         ensures few { self.now.announcers ≤ self.now.shape.readers }
-        ensures flagged { Flagged self.now spare.now.retired seat.new.me.0.heard unheard.new }
+        ensures flagged { Flagged self.now spare.now.retired (view_of seat.new).heard unheard.new }
     {
         unheard.clear_retired(spare);
         for own in 0..self.announcers() {
@@ -103,11 +104,11 @@ impl Board {
     /// As `scan_words`, by a writer between two calls.
     pub fn scan_at_rest(&self, seat: &mut Seat, spare: &Spare, unheard: &mut Unheard)
         requires rests { RestsAt self.now spare.now seat.old }
-        requires flagged { Flagged self.now spare.now.retired seat.old.me.0.heard unheard.old }
+        requires flagged { Flagged self.now spare.now.retired (view_of seat.old).heard unheard.old }
         requires some_words { 0 < self.now.announcers }
         ensures own { seat.new.table_id ≡ seat.old.table_id }
-        ensures hears { RestsHearing self.now.announcers spare.now.retired seat.old.me.0 seat.new.me.0 }
-        ensures flagged { Flagged self.now spare.now.retired seat.new.me.0.heard unheard.new }
+        ensures hears { RestsHearing self.now.announcers spare.now.retired (view_of seat.old) (view_of seat.new) }
+        ensures flagged { Flagged self.now spare.now.retired (view_of seat.new).heard unheard.new }
     {
         unheard.clear_retired(spare);
         for reader in 0..self.announcers() {

@@ -5,6 +5,7 @@ ghost use Rattle.nr_board.specs.Flags.{Flagged};
 ghost use Rattle.nr_board.specs.Passes.{AreHeard, NotesTo, PassesFor};
 ghost use Rattle.nr_board.specs.RetiredSearch.{SearchesFor};
 ghost use Rattle.nr_board.specs.SearchSeats.{SearchesIn};
+ghost use Rattle.nr_board.specs.Views.{view_of};
 
 use crate::board::{Board, Seat};
 use crate::publish::Taken;
@@ -25,10 +26,10 @@ impl Board {
         requires search { SearchesIn self.now spare.old seat.old }
         requires knows { IsSound (token seat.old) }
         requires some_words { 0 < self.now.announcers }
-        requires flagged { Flagged self.now spare.old.retired seat.old.me.0.heard unheard.old }
-        requires begins { seat.old.me.0.marks.polls ≡ [] }
+        requires flagged { Flagged self.now spare.old.retired (view_of seat.old).heard unheard.old }
+        requires begins { (view_of seat.old).marks.polls ≡ [] }
         ensures searches { SearchesFor self.now spare.old spare.new seat.old seat.new result }
-        ensures flagged { Flagged self.now spare.old.retired seat.new.me.0.heard unheard.new }
+        ensures flagged { Flagged self.now spare.old.retired (view_of seat.new).heard unheard.new }
     {
         if let Some(taken) = self.pass(seat, spare, unheard) {
             return Ok(taken);
@@ -46,8 +47,8 @@ impl Board {
         requires search { SearchesIn self.now spare.old seat.old }
         requires knows { IsSound (token seat.old) }
         requires wide { length unheard.now ≡ self.now.shape.slots }
-        requires heard { AreHeard spare.old.retired unheard.now self.now.announcers seat.old.me.0.heard }
-        requires notes { NotesTo spare.old.retired unheard.now self.now.shape.readers 0 (length seat.old.me.0.marks.polls) seat.old.me.0.marks.polls }
+        requires heard { AreHeard spare.old.retired unheard.now self.now.announcers (view_of seat.old).heard }
+        requires notes { NotesTo spare.old.retired unheard.now self.now.shape.readers 0 (length (view_of seat.old).marks.polls) (view_of seat.old).marks.polls }
         ensures { PassesFor self.now spare.old spare.new unheard.now seat.old seat.new result }
     {
         for place in 0..spare.retired_len() {

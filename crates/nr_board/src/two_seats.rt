@@ -1,6 +1,7 @@
 //! A step of two seats that is told the rule of both, which the table's base lacks.
 ghost use Rattle.std.specs.Prelude.{◌≡◌};
 ghost use Rattle.nr_board.specs.TwoSeats.{CanTakeIn};
+ghost use Rattle.nr_board.specs.Views.{carried_by, view_of};
 
 use atomic_table::{Seat, Shared, TableRule};
 use std::marker::Brand;
@@ -23,9 +24,9 @@ pub fn take_in<S, V, K, P: TableRule<S, V, K>, T: TakingIn<V>>(
     other: &mut Seat<S, V>,
 )
     requires own { (seat.old.table_id ≡ words.now.table_id) × (other.old.table_id ≡ words.now.table_id) }
-    requires can { CanTakeIn (P.holds words.now.key) seat.old.id seat.old.me.0 other.old.id other.old.me.0 T.spent (T.then seat.old.me.0 other.old.me.0) }
-    ensures own { (seat.new.table_id ≡ seat.old.table_id) × (seat.new.id ≡ seat.old.id) × (seat.new.me.1 ≡ seat.old.me.1) }
-    ensures told { T.then seat.old.me.0 other.old.me.0 seat.new.me.0 }
+    requires can { CanTakeIn (P.holds words.now.key) seat.old.id (view_of seat.old) other.old.id (view_of other.old) T.spent (T.then (view_of seat.old) (view_of other.old)) }
+    ensures own { (seat.new.table_id ≡ seat.old.table_id) × (seat.new.id ≡ seat.old.id) × (carried_by seat.new ≡ carried_by seat.old) }
+    ensures told { T.then (view_of seat.old) (view_of other.old) (view_of seat.new) }
 {
     let word = 0;
     unsafe { load::<Brand>(&raw const word, SeqCst) };

@@ -44,7 +44,7 @@ pub extern "C" fn nr_open(alloc: Global, shape: &NrShape, writer: &mut NrWriter)
 // The limits of a large map are no narrower than those of others.
 fn opened_map(alloc: Global, shape: &Shape) -> Result<(ReaderMap, Writer, Vec<Reader>), OpenFault>
     ensures bad_size { (result ≡ Err OpenFault.BadSize) ↔ IsRefused shape.now }
-    ensures ok { IfOk result (λ opened. IsOpened shape.now (words_of_large shape.now) opened.0 opened.1 opened.2.items) }
+    ensures ok { IfOk result (λ (map, writer, readers). IsOpened shape.now (words_of_large shape.now) map writer readers.items) }
 {
     ReaderMap::open_large(alloc, shape)
 }

@@ -20,7 +20,7 @@ use Rattle.nr_machine.specs.Slots.{bound_of, name_number, names_slot}
 use Rattle.nr_machine.specs.Operations.{target_of, becomes}
 use Rattle.nr_machine.specs.declared.operation.Operation.{Operation}
 use Rattle.nr_machine.specs.States.{retired_at}
-use Rattle.nr_machine.specs.Writer.{looked, moved_to, taking_retired, went}
+use Rattle.nr_machine.specs.Writer.{desk_in, looked, moved_to, step_in, taking_retired, went}
 use Rattle.nr_machine.specs.declared.places.Place.TheVariants.{Idle}
 use Rattle.nr_machine.specs.Story.{entry, call_of, ending, ending_at}
 use Rattle.nr_core.specs.Roles.{is_by, is_writer, is_reader}
@@ -91,10 +91,10 @@ Departs reader word after entries = (after ≡ Reader reader Nothing) × (entrie
 
 -- the writer's steps: the desk after, and an entry where the call ends with a reply
 abbrev pub Looks : Shape → Desk → WriterCall → Telling
-Looks shape desk call word after entries = (after ≡ Writer (looked shape desk call word).0) × (entries ≡ ending (call_of call) (looked shape desk call word).1)
+Looks shape desk call word after entries = (after ≡ Writer (desk_in (looked shape desk call word))) × (entries ≡ ending (call_of call) (step_in (looked shape desk call word)))
 
 abbrev pub Goes : Shape → Desk → Telling
-Goes shape desk word after entries = (after ≡ Writer (went shape desk desk.place word).0) × (entries ≡ ending_at desk.place (went shape desk desk.place word).1)
+Goes shape desk word after entries = (after ≡ Writer (desk_in (went shape desk desk.place word))) × (entries ≡ ending_at desk.place (step_in (went shape desk desk.place word)))
 
 -- In its search the writer polls any of the retired slots: where its departures are its arrivals it takes the slot, and else it searches on.
 abbrev pub Tries : Desk → WriterCall → List Row → ℕ → Telling

@@ -71,7 +71,7 @@ one_upquery keeper way other owed twin tied here there same =
 pub resident_way : (keeper : Keeper) (id : ℕ) (rows : List Row) → IsTied keeper → (at : IsResident (map_seen keeper.writer) id rows) →
     (0 < id) × (name_at keeper at.0 ≡ id)
 resident_way keeper id rows tied at = let its = set_named (name_at keeper at.0) (state_at keeper at.0) (record { id = id; rows = rows })
-    (tied.agrees at.0) (ap id_set_of at.2) in (omega (arith, its.0, its.1), sym its.1)
+    (tied.agrees at.0) (ap id_set_of at.1.1) in (omega (arith, its.0, its.1), sym its.1)
 
 no_set : (key number other : ℕ) (rows : List Row) (state : KeyState) → state ≡ Asked number → state ≢ Rows other rows
 no_set key number other rows state asked has = let e : Asked number ≡ Rows other rows = sym asked ∙ has in absurd (cc (e))
@@ -92,10 +92,10 @@ named_is_owed_or_resident keeper way tied real = go (state_at keeper way) refl (
     λ rows at. let its = resident_way keeper (name_at keeper way) rows tied at in
         let same : at.0 ≡ way = one_way keeper.table.directory.plan keeper.clerk.seen at.0 way (name_at keeper way) tied.legal real its.1
         refl in
-        no_set way number at.1 (tag_of (name_at keeper way) ∷ rows) (state_at keeper way) is (ap (state_at keeper) (sym same) ∙ at.2),
+        no_set way number at.1.0 (tag_of (name_at keeper way) ∷ rows) (state_at keeper way) is (ap (state_at keeper) (sym same) ∙ at.1.1),
   )
   go (Rows number rows) is agrees = let tag = subst (Agrees (name_at keeper way)) is agrees in inr (
     tag.1,
-    (way, number, is ∙ ap (Rows number) tag.2),
+    (way, (number, is ∙ ap (Rows number) tag.2)),
     ap (owed_for way (name_at keeper way)) is ∙ owed_none way (name_at keeper way) number rows,
   )

@@ -515,13 +515,13 @@ reads_as_ids keys bound number history legal tidy = reads_on history (opening ke
     (opens keys bound number) legal tidy
 
 pub one_set : OneSet
-one_set keys bound number history id rows others legal tidy a b =
+one_set keys bound number history id key other rows others legal tidy keeps keeps_too =
     let shows = (reads_as_ids keys bound number history legal tidy).1 in
     let first : IdSet = record { id = id; rows = rows } in let second : IdSet = record { id = id; rows = others } in
-    let at_a = ap id_set_of a.2 in let at_b = ap id_set_of b.2 in (
-      shows.one a.0 b.0 first second at_a at_b refl,
+    let at_key = ap id_set_of keeps.1 in let at_other = ap id_set_of keeps_too.1 in (
+      shows.one key other first second at_key at_other refl,
       some_same rows others
-          (sym (shows.present a.0 first at_a) ∙ shows.present b.0 second at_b),
+          (sym (shows.present key first at_key) ∙ shows.present other second at_other),
     )
 
 pub tidy_begins : TidyBegins

@@ -8,7 +8,7 @@ use Rattle.nr_model.specs.declared.calls.Reply.TheVariants as reply
 use Rattle.nr_model.specs.declared.states.KeyState.TheVariants.{Rows}
 use Rattle.nr_board.specs.Callers.{Caller, Gains, map_at_opening, map_seen}
 use Rattle.nr_board.specs.Rule.{StartsWith}
-use Rattle.nr_idmap.specs.Tags.{IdSet, IsResident, set_at, tag_of}
+use Rattle.nr_idmap.specs.Tags.{IdSet, IsResident, KeepsId, set_at, tag_of}
 use Rattle.nr_idmap.specs.PartialIds.{PartialIds, IsIdLegal, ids_after, no_ids, read_by_id}
 use Rattle.nr_idmap.specs.Tidy.{IsTidy}
 use Rattle.nr_idmap.specs.Keepers.{IsTied, Keeper, Owed, name_at, owed_at}
@@ -37,12 +37,12 @@ ReadsAsIds =
 -- in it an id is resident with one set, of one key
 abbrev pub OneSet : Type 0
 OneSet =
-    (keys bound number : ℕ) (history : List Entry) (id : ℕ) (rows others : List Row) →
+    (keys bound number : ℕ) (history : List Entry) (id key other : ℕ) (rows others : List Row) →
     IsLegal (opening keys (suc bound) number) history →
     IsTidy (opening keys (suc bound) number) history →
-    (a : IsResident (after (opening keys (suc bound) number) history) id rows) →
-    (b : IsResident (after (opening keys (suc bound) number) history) id others) →
-    (a.0 ≡ b.0) × (rows ≡ others)
+    KeepsId (after (opening keys (suc bound) number) history) key id rows →
+    KeepsId (after (opening keys (suc bound) number) history) other id others →
+    (key ≡ other) × (rows ≡ others)
 
 -- what a tidy history begins with is tidy
 abbrev pub TidyBegins : Type 0

@@ -29,9 +29,13 @@ id_set_of (Rows number rows) = set_told rows
 abbrev pub set_at : PartialMap → ℕ → Option IdSet
 set_at map key = id_set_of (state_of map key)
 
--- some key has the id's tag, and behind it these rows
+-- the key has the id's tag, and behind it these rows
+abbrev pub KeepsId : PartialMap → ℕ → ℕ → List Row → Type 0
+KeepsId map key id rows = (number : ℕ) × (state_of map key ≡ Rows number (tag_of id ∷ rows))
+
+-- some key has them
 abbrev pub IsResident : PartialMap → ℕ → List Row → Type 0
-IsResident map id rows = (key : ℕ) × (number : ℕ) × (state_of map key ≡ Rows number (tag_of id ∷ rows))
+IsResident map id rows = (key : ℕ) × KeepsId map key id rows
 
 -- the set begins with the id's tag
 abbrev pub HasTag : ℕ → List Row → Type 0

@@ -80,7 +80,7 @@ impl IdMap {
     pub fn split_note(&self, reader: &mut IdReader, note: IdNote) -> (IdNote, IdNote)
         requires own { (note_table_of note ≡ self.now) × (id_table_of reader.old ≡ self.now) }
         ensures reader { reader.new ≡ with_steps_of_split reader.old }
-        ensures notes { (result.0 ≡ note) × (result.1 ≡ note) }
+        ensures notes { result ≡ (note, note) }
     {
         let IdNote { map, ids } = note;
         let (one, other) = self.map.split_note(&mut reader.reader, map);

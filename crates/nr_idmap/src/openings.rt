@@ -18,7 +18,7 @@ impl IdMap {
         shape: &IdShape,
     ) -> Result<(IdMap, IdWriter, Vec<IdReader>), OpenFault>
         ensures bad_size { (result ≡ Err OpenFault.BadSize) ↔ IsBadIdShape shape.now }
-        ensures ok { IfOk result (λ opened. OpensIds shape.now opened.0 opened.1 opened.2.items) }
+        ensures ok { IfOk result (λ (map, writer, readers). OpensIds shape.now map writer readers.items) }
     {
         if shape.is_bad() {
             return Err(OpenFault::BadSize);

@@ -68,8 +68,8 @@ impl Upquery {
     }
 
     pub(crate) fn into_parts(self) -> (u32, u64, u64)
-        ensures parts { self.owed ≡ record { way = result.0; number = result.1; id = result.2 } }
-        ensures id { 0 < result.2 }
+        ensures parts { let (way, number, id) = result in self.owed ≡ record { way = way; number = number; id = id } }
+        ensures id { let (_, _, id) = result in 0 < id }
     {
         let Upquery {
             way,

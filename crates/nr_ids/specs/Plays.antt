@@ -19,11 +19,11 @@ pub record Goes (event : Event) (view next : View) : Type 0 where
   pub heard : BeginsWith next.seen view.told
 
 abbrev pub has_looked_at_name : Then
-has_looked_at_name step before found after = Goes (looked before.0.number) before.0 after.0 × (found ≡ name_of after.0.seen step.word)
+has_looked_at_name step (before, _) found (after, _) = Goes (looked before.number) before after × (found ≡ name_of after.seen step.word)
 
 abbrev pub has_looked_at_turn : Then
-has_looked_at_turn step before found after = Goes (looked before.0.number) before.0 after.0
-    × ((group : ℕ) → step.word ≡ turn_place before.0.plan group → found ≡ turn_of before.0.plan after.0.seen group)
+has_looked_at_turn step (before, _) found (after, _) = Goes (looked before.number) before after
+    × ((group : ℕ) → step.word ≡ turn_place before.plan group → found ≡ turn_of before.plan after.seen group)
 
 abbrev pub id_said : Option ℕ → ℕ
 id_said none = 0
@@ -31,18 +31,18 @@ id_said (some id) = id
 
 -- a claim, or a look where the turn was another
 abbrev pub has_claimed : Then
-has_claimed step before found after = (found ≡ step.first → Goes (claimed before.0.number (id_said step.said)) before.0 after.0)
-    × (found ≢ step.first → Goes (looked before.0.number) before.0 after.0 × (found ≡ turn_of before.0.plan after.0.seen (group_of before.0.plan (id_said step.said))))
+has_claimed step (before, _) found (after, _) = (found ≡ step.first → Goes (claimed before.number (id_said step.said)) before after)
+    × (found ≢ step.first → Goes (looked before.number) before after × (found ≡ turn_of before.plan after.seen (group_of before.plan (id_said step.said))))
 
 abbrev pub has_named : Then
-has_named step before found after = Goes (named step.word step.first) before.0 after.0
+has_named step (before, _) found (after, _) = Goes (named step.word step.first) before after
 
 abbrev pub has_unnamed : Then
-has_unnamed step before found after = Goes (unnamed step.word) before.0 after.0
+has_unnamed step (before, _) found (after, _) = Goes (unnamed step.word) before after
 
 abbrev pub has_cleared : Then
-has_cleared step before found after = (group : ℕ) → step.word ≡ turn_place before.0.plan group → Goes (cleared group) before.0 after.0
+has_cleared step (before, _) found (after, _) = (group : ℕ) → step.word ≡ turn_place before.plan group → Goes (cleared group) before after
 
 -- a step on a group's marks, which tells nothing
 abbrev pub has_marked : Then
-has_marked step before found after = Goes (looked before.0.number) before.0 after.0
+has_marked step (before, _) found (after, _) = Goes (looked before.number) before after

@@ -1,6 +1,7 @@
 -- What contracts see of a token, and what a call adds to it.
-use Rattle.std.specs.Prelude.{◌≡◌, ◌≢◌, ℕ, ◌+◌, ◌<◌, true, List, [], ◌∷◌, ◌++◌, length}
+use Rattle.std.specs.Prelude.{◌≡◌, ◌≢◌, ℕ, ◌+◌, ◌<◌, true, false, List, [], ◌∷◌, ◌++◌, length}
 use Rattle.atomic_table.specs.Seated.{TableId}
+use Rattle.atomic_table.specs.Table.{Me}
 use Rattle.atomic_table.specs.declared.shared.Seat.{Seat}
 use Rattle.nr_ids.specs.declared.plan.Plan.{Plan}
 use Rattle.nr_ids.specs.Groups.{ways}
@@ -23,14 +24,34 @@ pub record Token : Type 0 where
   -- its atomic steps since the opening
   pub steps : ℕ
 
+abbrev pub view_in : Me ℕ View → View
+view_in (view, _) = view
+
+abbrev pub carried_in : Me ℕ View → List (ℕ × ℕ)
+carried_in (_, carried) = carried
+
+-- what a seat's token knows, and the table's slots that it carries
+abbrev pub view_of : Seat ℕ View → View
+view_of seat = view_in seat.me
+
+abbrev pub carried_by : Seat ℕ View → List (ℕ × ℕ)
+carried_by seat = carried_in seat.me
+
+abbrev pub token_by : TableId → View → Token
+token_by id view = record { directory = record { id = id; plan = view.plan }; number = view.number; made = view.made; seen = view.seen; steps = view.steps }
+
 abbrev pub token : Seat ℕ View → Token
-token seat = record { directory = record { id = seat.table_id; plan = seat.me.0.plan }; number = seat.me.0.number; made = seat.me.0.made; seen = seat.me.0.seen; steps = seat.me.0.steps }
+token seat = token_by seat.table_id (view_of seat)
 
 -- the seat is a caller's of this directory
 pub record Sits (directory : Opened) (seat : Seat ℕ View) : Type 0 where
   pub own : (token seat).directory ≡ directory
-  pub calls : seat.me.0.calls ≡ true
-  pub legal : IsLegal directory.plan seat.me.0.seen
+  pub calls : (view_of seat).calls ≡ true
+  pub legal : IsLegal directory.plan (view_of seat).seen
+
+-- the seat is a note's, which makes no steps and carries nothing
+abbrev pub IsNote : Seat ℕ View → Type 0
+IsNote seat = ((view_of seat).calls ≡ false) × (carried_by seat ≡ [])
 
 -- a token that has made no step and seen nothing
 abbrev pub fresh_token : Opened → ℕ → Token

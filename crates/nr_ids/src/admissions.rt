@@ -104,7 +104,7 @@ impl Directory {
     /// A way of the id's that has no name, where no way has the id's.
     fn room_for(&self, seat: &mut Seat, id: u64) -> Result<u32, Refused>
         requires clerk { Sits self.now seat.old }
-        requires number { seat.old.me.0.number ≡ 0 }
+        requires number { (token seat.old).number ≡ 0 }
         requires id { 0 < id }
         ensures clerk { Sits self.now seat.new }
         ensures rooms { Rooms id (token seat.old) (token seat.new) result }
@@ -118,7 +118,7 @@ impl Directory {
     /// The ways of a group that have no name, where none has the id's.
     fn room_in(&self, seat: &mut Seat, group: u32, id: u64) -> Result<Room, Refused>
         requires clerk { Sits self.now seat.old }
-        requires number { seat.old.me.0.number ≡ 0 }
+        requires number { (token seat.old).number ≡ 0 }
         requires plan { IsPlan self.now.plan }
         requires group { group < self.now.plan.groups }
         requires id { 0 < id }

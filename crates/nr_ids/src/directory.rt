@@ -4,7 +4,7 @@ ghost use Rattle.nr_ids.specs.Events.{MayName, cleared, last_turn, looked, name_
 ghost use Rattle.nr_ids.specs.Groups.{IsPlan, group_of, places, ways};
 ghost use Rattle.nr_ids.specs.Rule.{BeginsWith, counted, marks_place, next_reader, note_of, opener, retold, total, turn_place, with_note, with_reader};
 ghost use Rattle.nr_ids.specs.Scans.{Scanned};
-ghost use Rattle.nr_ids.specs.Tokens.{Grows, Sits, WinsClaim, token};
+ghost use Rattle.nr_ids.specs.Tokens.{Grows, IsNote, Sits, WinsClaim, carried_by, token, view_of};
 
 use crate::plan::Plan;
 use crate::rule::{
@@ -43,8 +43,8 @@ impl Directory {
     /// The table with the clerk's token. No way has a name.
     pub(crate) fn lay(alloc: Global, plan: Plan) -> Result<(Directory, Seat), AllocError>
         requires { IsPlan plan }
-        ensures directory { IfOk result (λ opened. opened.0.plan ≡ plan) }
-        ensures seat { IfOk result (λ opened. (opened.1.table_id ≡ opened.0.id) × (opened.1.me ≡ (opener plan, []))) }
+        ensures directory { IfOk result (λ (directory, _). directory.plan ≡ plan) }
+        ensures seat { IfOk result (λ (directory, seat). (seat.table_id ≡ directory.id) × (seat.me ≡ (opener plan, []))) }
     {
         let words = vec![in alloc; 0; 10 * plan.groups as usize]?;
         let (table, seat) = Table::of_words(alloc, &words, &plan)?;
@@ -62,9 +62,9 @@ impl Directory {
     /// The clerk makes the next reader.
     pub(crate) fn seat(&self, seat: &mut Seat) -> Seat
         requires clerk { Sits self.now seat.old }
-        requires number { seat.old.me.0.number ≡ 0 }
-        ensures clerk { (seat.new.table_id ≡ seat.old.table_id) × (seat.new.me ≡ (with_reader seat.old.me.0, seat.old.me.1)) }
-        ensures reader { (result.table_id ≡ seat.old.table_id) × (result.me ≡ (next_reader seat.old.me.0, [])) }
+        requires number { (token seat.old).number ≡ 0 }
+        ensures clerk { (seat.new.table_id ≡ seat.old.table_id) × (seat.new.me ≡ (with_reader (view_of seat.old), carried_by seat.old)) }
+        ensures reader { (result.table_id ≡ seat.old.table_id) × (result.me ≡ (next_reader (view_of seat.old), [])) }
     {
         let words = &self.table.shared;
         words.split_seat::<Seats>(seat)
@@ -75,8 +75,8 @@ impl Directory {
         requires caller { Sits self.now seat.old }
         requires way { way < ways self.now.plan }
         ensures caller { Sits self.now seat.new }
-        ensures grows { Grows (token seat.old) (looked seat.old.me.0.number ∷ []) (token seat.new) }
-        ensures value { result ≡ name_of seat.new.me.0.seen way }
+        ensures grows { Grows (token seat.old) (looked (token seat.old).number ∷ []) (token seat.new) }
+        ensures value { result ≡ name_of (token seat.new).seen way }
     {
         let words = &self.table.shared;
         words.load::<LooksAtName>(seat, way as usize)
@@ -87,8 +87,8 @@ impl Directory {
         requires caller { Sits self.now seat.old }
         requires group { group < self.now.plan.groups }
         ensures caller { Sits self.now seat.new }
-        ensures grows { Grows (token seat.old) (looked seat.old.me.0.number ∷ []) (token seat.new) }
-        ensures value { result ≡ turn_of self.now.plan seat.new.me.0.seen group }
+        ensures grows { Grows (token seat.old) (looked (token seat.old).number ∷ []) (token seat.new) }
+        ensures value { result ≡ turn_of self.now.plan (token seat.new).seen group }
         ensures early { result % 2 ≡ 1 → result < last_turn }
     {
         let words = &self.table.shared;
@@ -103,10 +103,10 @@ impl Directory {
         requires id { 0 < id }
         requires closed { was % 2 ≡ 0 }
         requires early { was < last_turn }
-        requires scanned { Scanned self.now.plan seat.old.me.0.seen id was places }
+        requires scanned { Scanned self.now.plan (token seat.old).seen id was places }
         ensures caller { Sits self.now seat.new }
         ensures won { result ≡ true → WinsClaim id [] (token seat.old) (token seat.new) }
-        ensures lost { result ≡ false → Grows (token seat.old) (looked seat.old.me.0.number ∷ []) (token seat.new) × (turn_of self.now.plan seat.new.me.0.seen (group_of self.now.plan id) ≢ was) }
+        ensures lost { result ≡ false → Grows (token seat.old) (looked (token seat.old).number ∷ []) (token seat.new) × (turn_of self.now.plan (token seat.new).seen (group_of self.now.plan id) ≢ was) }
     {
         let words = &self.table.shared;
         let place = self.turn_place(self.plan.group_of(id));
@@ -118,8 +118,8 @@ impl Directory {
     /// no way has the id.
     pub(crate) fn name(&self, seat: &mut Seat, way: u32, id: u64)
         requires clerk { Sits self.now seat.old }
-        requires number { seat.old.me.0.number ≡ 0 }
-        requires may { MayName self.now.plan seat.old.me.0.seen way id }
+        requires number { (token seat.old).number ≡ 0 }
+        requires may { MayName self.now.plan (token seat.old).seen way id }
         ensures clerk { Sits self.now seat.new }
         ensures grows { Grows (token seat.old) (named way id ∷ []) (token seat.new) }
     {
@@ -130,7 +130,7 @@ impl Directory {
     /// The clerk takes a way's name.
     pub(crate) fn unname_way(&self, seat: &mut Seat, way: u32)
         requires clerk { Sits self.now seat.old }
-        requires number { seat.old.me.0.number ≡ 0 }
+        requires number { (token seat.old).number ≡ 0 }
         requires way { way < ways self.now.plan }
         ensures clerk { Sits self.now seat.new }
         ensures grows { Grows (token seat.old) (unnamed way ∷ []) (token seat.new) }
@@ -142,9 +142,9 @@ impl Directory {
     /// The clerk closes the claim of a group, whose turn is `was`.
     pub(crate) fn close(&self, seat: &mut Seat, group: u32, was: u64)
         requires clerk { Sits self.now seat.old }
-        requires number { seat.old.me.0.number ≡ 0 }
+        requires number { (token seat.old).number ≡ 0 }
         requires group { group < self.now.plan.groups }
-        requires was { turn_of self.now.plan seat.old.me.0.seen group ≡ was }
+        requires was { turn_of self.now.plan (token seat.old).seen group ≡ was }
         requires open_claim { was % 2 ≡ 1 }
         requires early { was < last_turn }
         ensures clerk { Sits self.now seat.new }
@@ -160,7 +160,7 @@ impl Directory {
         requires caller { Sits self.now seat.old }
         requires group { group < self.now.plan.groups }
         ensures caller { Sits self.now seat.new }
-        ensures grows { Grows (token seat.old) (looked seat.old.me.0.number ∷ []) (token seat.new) }
+        ensures grows { Grows (token seat.old) (looked (token seat.old).number ∷ []) (token seat.new) }
     {
         let words = &self.table.shared;
         let place = self.marks_place(group);
@@ -172,7 +172,7 @@ impl Directory {
         requires caller { Sits self.now seat.old }
         requires group { group < self.now.plan.groups }
         ensures caller { Sits self.now seat.new }
-        ensures grows { Grows (token seat.old) (looked seat.old.me.0.number ∷ []) (token seat.new) }
+        ensures grows { Grows (token seat.old) (looked (token seat.old).number ∷ []) (token seat.new) }
     {
         let words = &self.table.shared;
         let place = self.marks_place(group);
@@ -184,7 +184,7 @@ impl Directory {
         requires caller { Sits self.now seat.old }
         requires group { group < self.now.plan.groups }
         ensures caller { Sits self.now seat.new }
-        ensures grows { Grows (token seat.old) (looked seat.old.me.0.number ∷ []) (token seat.new) }
+        ensures grows { Grows (token seat.old) (looked (token seat.old).number ∷ []) (token seat.new) }
     {
         let words = &self.table.shared;
         let place = self.marks_place(group);
@@ -195,8 +195,8 @@ impl Directory {
     pub(crate) fn learn(&self, seat: &mut Seat)
         requires caller { Sits self.now seat.old }
         ensures caller { Sits self.now seat.new }
-        ensures grows { Grows (token seat.old) (looked seat.old.me.0.number ∷ []) (token seat.new) }
-        ensures heard { BeginsWith seat.new.me.0.seen seat.old.me.0.told }
+        ensures grows { Grows (token seat.old) (looked (token seat.old).number ∷ []) (token seat.new) }
+        ensures heard { BeginsWith (token seat.new).seen (view_of seat.old).told }
     {
         let words = &self.table.shared;
         words.load::<LooksAtName>(seat, 0);
@@ -205,8 +205,8 @@ impl Directory {
     /// A note of what the token has seen. Else the token stays as it is, but for the step.
     pub(crate) fn note_seat(&self, seat: &mut Seat) -> Seat
         requires { seat.old.table_id ≡ self.now.id }
-        ensures maker { (seat.new.table_id ≡ seat.old.table_id) × (seat.new.me ≡ (counted seat.old.me.0, seat.old.me.1)) }
-        ensures note { (result.table_id ≡ seat.old.table_id) × (result.me ≡ (note_of seat.old.me.0, [])) }
+        ensures maker { (seat.new.table_id ≡ seat.old.table_id) × (seat.new.me ≡ (counted (view_of seat.old), carried_by seat.old)) }
+        ensures note { (result.table_id ≡ seat.old.table_id) × (result.me ≡ (note_of (view_of seat.old), [])) }
     {
         let words = &self.table.shared;
         words.split_seat::<Notes>(seat)
@@ -215,9 +215,9 @@ impl Directory {
     /// The token takes a note in, of which its next look tells.
     pub(crate) fn take_note(&self, seat: &mut Seat, note: Seat)
         requires own { (seat.old.table_id ≡ self.now.id) × (note.table_id ≡ self.now.id) }
-        requires note { (note.me.0.calls ≡ false) × (note.me.1 ≡ []) }
+        requires note { IsNote note }
         ensures own { seat.new.table_id ≡ seat.old.table_id }
-        ensures took { seat.new.me ≡ (with_note seat.old.me.0 note.me.0, seat.old.me.1) }
+        ensures took { seat.new.me ≡ (with_note (view_of seat.old) (view_of note), carried_by seat.old) }
     {
         let words = &self.table.shared;
         words.join_seat::<Notes>(seat, note);
@@ -227,8 +227,8 @@ impl Directory {
     /// but for the step.
     pub(crate) fn retell(&self, seat: &mut Seat) -> Seat
         requires { seat.old.table_id ≡ self.now.id }
-        ensures maker { (seat.new.table_id ≡ seat.old.table_id) × (seat.new.me ≡ (counted seat.old.me.0, seat.old.me.1)) }
-        ensures note { (result.table_id ≡ seat.old.table_id) × (result.me ≡ (retold seat.old.me.0, [])) }
+        ensures maker { (seat.new.table_id ≡ seat.old.table_id) × (seat.new.me ≡ (counted (view_of seat.old), carried_by seat.old)) }
+        ensures note { (result.table_id ≡ seat.old.table_id) × (result.me ≡ (retold (view_of seat.old), [])) }
     {
         let words = &self.table.shared;
         words.split_seat::<Retells>(seat)

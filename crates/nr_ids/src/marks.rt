@@ -72,7 +72,7 @@ impl Directory {
     fn look_at_groups(&self, seat: &mut Seat, ids: &[u64])
         requires caller { Sits self.now seat.old }
         ensures caller { Sits self.now seat.new }
-        ensures grows { Grows (token seat.old) (looks (length ids.now) seat.old.me.0.number) (token seat.new) }
+        ensures grows { Grows (token seat.old) (looks (length ids.now) (token seat.old).number) (token seat.new) }
     {
         for id in ids {
             self.look(seat, WAYS * self.plan().group_of(*id));
@@ -82,14 +82,14 @@ impl Directory {
 
 // The group of a way, and its bit among the group's marks.
 fn mark_of(way: u32) -> (u32, u64)
-    ensures { result.0 ≡ group_of_way way }
+    ensures { let (group, _) = result in group ≡ group_of_way way }
 {
     (way / WAYS, 1 << (way % WAYS))
 }
 
 // The place in its group of the way that these marks choose, and the bits that change then.
 fn chosen(marks: u64) -> (u32, u64)
-    ensures { result.0 < 8 }
+    ensures { let (place, _) = result in place < 8 }
 {
     let begin = (marks / AT % 8) as u32;
     let mut passed = 0;

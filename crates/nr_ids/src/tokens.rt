@@ -32,7 +32,7 @@ impl Model for Clerk {
 
     ghost view = { λ clerk. token clerk.seat };
 
-    ghost invariant = { λ clerk. Sits (token clerk.seat).directory clerk.seat × (clerk.seat.me.0.number ≡ 0) };
+    ghost invariant = { λ clerk. Sits (token clerk.seat).directory clerk.seat × ((token clerk.seat).number ≡ 0) };
 }
 
 /// A token that looks ids up and claims groups, for one thread.
@@ -59,14 +59,13 @@ pub struct Note {
 }
 
 impl Model for Note {
-    ghost use Rattle.std.specs.Prelude.{◌≡◌, false, []};
-    ghost use Rattle.nr_ids.specs.Tokens.{Known, known_to, token};
+    ghost use Rattle.nr_ids.specs.Tokens.{IsNote, Known, known_to, token};
 
     ghost Value = { Known };
 
     ghost view = { λ note. known_to (token note.seat) };
 
-    ghost invariant = { λ note. (note.seat.me.0.calls ≡ false) × (note.seat.me.1 ≡ []) };
+    ghost invariant = { λ note. IsNote note.seat };
 }
 
 impl Directory {
@@ -74,7 +73,7 @@ impl Directory {
     /// then where there is no memory: a group takes 80 bytes, twice while it opens.
     pub fn open(alloc: Global, plan: Plan) -> Result<(Directory, Clerk), OpenFault>
         ensures bad_size { (result ≡ Err OpenFault.BadSize) ↔ IsBadPlan plan }
-        ensures ok { IfOk result (λ opened. (opened.0.plan ≡ plan) × (opened.1 ≡ fresh_token opened.0 0)) }
+        ensures ok { IfOk result (λ (directory, clerk). (directory.plan ≡ plan) × (clerk ≡ fresh_token directory 0)) }
     {
         if plan.is_bad() {
             return Err(OpenFault::BadSize);
@@ -143,7 +142,7 @@ impl Directory {
     pub fn split_note(&self, reader: &mut Reader, note: Note) -> (Note, Note)
         requires own { (note.directory ≡ self.now) × (reader.old.directory ≡ self.now) }
         ensures reader { reader.new ≡ with_steps 3 reader.old }
-        ensures notes { (result.0 ≡ note) × (result.1 ≡ note) }
+        ensures notes { result ≡ (note, note) }
     {
         let Note { seat: told } = note;
         self.take_note(&mut reader.seat, told);

@@ -43,13 +43,13 @@ pub record IsSince (heard asking : IdCaller) : Type 0 where
 -- so it is of each find of tries that found no rows: of its reader before and after, and its answer
 abbrev pub EachFind : (IdCaller → FoundId → IdCaller → Type 0) → (capacity id : ℕ) (old : IdHands) (all : List Missed) (new : IdHands) → MissesAll capacity id old all new → Type 0
 EachFind holds capacity id old [] new tries = Unit {0}
-EachFind holds capacity id old (missed ∷ before) new tries = EachFind holds capacity id old before tries.0 tries.1 × holds tries.2.posted.reader tries.2.answer tries.2.reader
+EachFind holds capacity id old (missed ∷ before) new (between, tries, last) = EachFind holds capacity id old before between tries × holds last.posted.reader last.answer last.reader
 
 module _ {Room : Type 0} (shows : Room → List Row → Type 0) where
   -- and of the find by which the get ended, if it found rows
   abbrev pub LastFind : (IdCaller → FoundId → IdCaller → Type 0) → (capacity id tries : ℕ) (answer : GotId) (missed : ℕ) (between : IdHands) (before : Room) (new : IdHands) (after : Room)
       → EndsAfter shows capacity id tries answer missed between before new after → Type 0
-  LastFind holds capacity id tries got.Rows missed between before new after ends = holds ends.1.posted.reader found.Rows new.reader
+  LastFind holds capacity id tries got.Rows missed between before new after (_, last) = holds last.posted.reader found.Rows new.reader
   LastFind holds capacity id tries got.GaveUp missed between before new after ends = Unit {0}
 
   -- the find tells of that put of the id's way or of what came after it, unless the way lost the name since the note

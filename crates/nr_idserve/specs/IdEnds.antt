@@ -34,7 +34,7 @@ abbrev pub FillsOneId : IdFlowSeen → Sent → List Row → Result Spent (Sent 
 FillsOneId old sent rows (Ok spent.Filled) new = FillsIdBy old sent rows (Ok tt) new × RaisesGroup old sent new
 FillsOneId old sent rows (Ok spent.Passed) new = FillsIdBy old sent rows (Err unfilled.Closed) new × RaisesGroup old sent new
 FillsOneId old sent rows (Ok spent.Failed) new = ⊥
-FillsOneId old sent rows (Err back) new = FillsIdBy old sent rows (Err (unfilled.NoSlot back.0 back.1)) new × (back.0 ≡ sent) × (new.guest ≡ old.guest)
+FillsOneId old sent rows (Err (back, counts)) new = FillsIdBy old sent rows (Err (unfilled.NoSlot back counts)) new × (back ≡ sent) × (new.guest ≡ old.guest)
 
 -- it is withdrawn, which was answered so
 pub record WithdrawsIdBy (old : IdFlowSeen) (sent : Sent) (answer : Withdrawn) (new : IdFlowSeen) : Type 0 where

@@ -64,7 +64,7 @@ impl<M: IdMeasure> Told<M> {
     ) -> Option<(u64, IdNote)>
         requires own { id_table_of reader.old ≡ map.now }
         requires notes { (amount : _) (note : _) → M.reached amount note → note_table_of note ≡ map.now }
-        ensures told { IfSome result (λ told. (least ≤ told.0) × M.reached told.0 told.1 × (reader.new ≡ with_steps_of_split reader.old)) }
+        ensures told { IfSome result (λ (amount, rest). (least ≤ amount) × M.reached amount rest × (reader.new ≡ with_steps_of_split reader.old)) }
         ensures none { result ≡ None → reader.new ≡ reader.old }
     {
         if self.amount < least {
@@ -122,7 +122,7 @@ impl<'a, M: IdMeasure> IdApplied<'a, M> {
     ) -> Option<(u64, IdNote)>
         requires own { id_table_of reader.old ≡ map.now }
         requires notes { (amount : _) (note : _) → M.reached amount note → note_table_of note ≡ map.now }
-        ensures told { IfSome result (λ told. (least ≤ told.0) × M.reached told.0 told.1 × (reader.new ≡ with_steps_of_split reader.old)) }
+        ensures told { IfSome result (λ (amount, rest). (least ≤ amount) × M.reached amount rest × (reader.new ≡ with_steps_of_split reader.old)) }
         ensures none { result ≡ None → reader.new ≡ reader.old }
     {
         self.told.lock(rt).of_at_least(map, reader, least)

@@ -144,11 +144,11 @@ impl<'a> IdDataflow<'a> {
 
     /// Hands out what the dataflow was opened with, the upquery that it keeps, and the id of the claim.
     pub fn end(self) -> (IdWriter, Taker, Option<Upquery>, Option<u64>)
-        ensures writer { result.0 ≡ self.entry.writer }
-        ensures taker { result.1 ≡ self.entry.taker }
-        ensures kept { result.2 ≡ self.entry.kept }
-        ensures own { (result.0.table ≡ self.entry.map) × (result.1.queue ≡ self.entry.queue.id) × IfSome result.2 (λ upquery. upquery.table ≡ self.entry.map) }
-        ensures refused { result.3 ≡ self.entry.refused }
+        ensures writer { let (writer, _, _, _) = result in writer ≡ self.entry.writer }
+        ensures taker { let (_, taker, _, _) = result in taker ≡ self.entry.taker }
+        ensures kept { let (_, _, kept, _) = result in kept ≡ self.entry.kept }
+        ensures own { let (writer, taker, kept, _) = result in (writer.table ≡ self.entry.map) × (taker.queue ≡ self.entry.queue.id) × IfSome kept (λ upquery. upquery.table ≡ self.entry.map) }
+        ensures refused { let (_, _, _, refused) = result in refused ≡ self.entry.refused }
     {
         let IdDataflow {
             service: _,

@@ -81,9 +81,9 @@ fn request<R: Wait>(
 ) -> (Missed, IdHands)
     requires ready { IsReadyFor service.now.map service.now.queue hands }
     requires id { 0 < id }
-    ensures ready { IsReadyFor service.now.map service.now.queue result.1 }
-    ensures requests { RequestsOnce service.now.queue.capacity id hands result.0 result.1 }
-    ensures rings { RingsFor hands.poster lobby.old result.1.poster lobby.new }
+    ensures ready { let (_, after) = result in IsReadyFor service.now.map service.now.queue after }
+    ensures requests { let (missed, after) = result in RequestsOnce service.now.queue.capacity id hands missed after }
+    ensures rings { let (_, after) = result in RingsFor hands.poster lobby.old after.poster lobby.new }
 {
     let IdHands {
         mut reader,
@@ -118,9 +118,9 @@ fn go_on<R: Wait>(
     requires ready { IsReadyFor service.now.map service.now.queue hands }
     requires id { 0 < id }
     requires found { found ≢ FoundId.Rows }
-    ensures ready { IsReadyFor service.now.map service.now.queue result.1 }
-    ensures goes_on { GoesOn service.now.queue.capacity id found hands result.0 result.1 }
-    ensures rings { RingsFor hands.poster lobby.old result.1.poster lobby.new }
+    ensures ready { let (_, after) = result in IsReadyFor service.now.map service.now.queue after }
+    ensures goes_on { let (missed, after) = result in GoesOn service.now.queue.capacity id found hands missed after }
+    ensures rings { let (_, after) = result in RingsFor hands.poster lobby.old after.poster lobby.new }
 {
     match found {
         FoundId::Rows => unreachable!(),
@@ -140,9 +140,9 @@ fn find<R: RowRoom>(
 ) -> (FoundId, IdHands)
     requires ready { IsReadyFor service.now.map service.now.queue hands }
     requires id { 0 < id }
-    ensures ready { IsReadyFor service.now.map service.now.queue result.1 }
-    ensures finds { FindsById R.shows id hands.reader rows.old result.1.reader rows.new result.0 }
-    ensures rest { result.1 ≡ record hands { reader = result.1.reader } }
+    ensures ready { let (_, after) = result in IsReadyFor service.now.map service.now.queue after }
+    ensures finds { let (answer, after) = result in FindsById R.shows id hands.reader rows.old after.reader rows.new answer }
+    ensures rest { let (_, after) = result in after ≡ record hands { reader = after.reader } }
 {
     let IdHands {
         mut reader,
@@ -165,9 +165,9 @@ fn try_once<R: RowRoom, W: Wait>(
 ) -> (TriedId, IdHands)
     requires ready { IsReadyFor service.now.map service.now.queue hands }
     requires id { 0 < id }
-    ensures ready { IsReadyFor service.now.map service.now.queue result.1 }
-    ensures tries { TriesOnce R.shows service.now.queue.capacity id hands rows.old result.0 result.1 rows.new }
-    ensures rings { RingsFor hands.poster lobby.old result.1.poster lobby.new }
+    ensures ready { let (_, after) = result in IsReadyFor service.now.map service.now.queue after }
+    ensures tries { let (tried, after) = result in TriesOnce R.shows service.now.queue.capacity id hands rows.old tried after rows.new }
+    ensures rings { let (_, after) = result in RingsFor hands.poster lobby.old after.poster lobby.new }
 {
     let posted = post_kept(rt, service, lobby, hands);
     let (found, hands) = find(service, id, posted, rows);
@@ -216,11 +216,11 @@ pub(crate) fn get_by_tries<R: RowRoom, L: Limit<W>, W: Wait>(
 ) -> (Result<GotId, TooLate>, IdHands)
     requires ready { IsReadyFor service.now.map service.now.queue hands }
     requires id { 0 < id }
-    ensures ready { IsReadyFor service.now.map service.now.queue result.1 }
-    ensures gets { GetsIdInTime R.shows service.now.queue.capacity id tries hands rows.old result.0 result.1 rows.new }
-    ensures late { IfErr result.0 (λ late. L.lapses limit.now late) }
-    ensures at_once { tries ≡ 0 → result.1 ≡ hands }
-    ensures rings { RingsFor hands.poster lobby.old result.1.poster lobby.new }
+    ensures ready { let (_, after) = result in IsReadyFor service.now.map service.now.queue after }
+    ensures gets { let (ended, after) = result in GetsIdInTime R.shows service.now.queue.capacity id tries hands rows.old ended after rows.new }
+    ensures late { let (ended, _) = result in IfErr ended (λ late. L.lapses limit.now late) }
+    ensures at_once { let (_, after) = result in tries ≡ 0 → after ≡ hands }
+    ensures rings { let (_, after) = result in RingsFor hands.poster lobby.old after.poster lobby.new }
 {
     let mut hands = hands;
     for i in 0..tries {

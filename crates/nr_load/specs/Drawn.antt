@@ -13,8 +13,8 @@ stream_of seed worker = started 64 multiplier_64 seed (increment_of 64 worker)
 
 -- the key that is drawn: the next word, modulo the number of keys
 unfoldable pub drawn : ℕ → Lcg → ℕ
-drawn keys generator = (pcg32 generator).0 % keys
+drawn keys generator = let (word, _) = pcg32 generator in word % keys
 
 -- the generator after it
 unfoldable pub drawn_on : Lcg → Lcg
-drawn_on generator = (pcg32 generator).1
+drawn_on generator = let (_, next) = pcg32 generator in next

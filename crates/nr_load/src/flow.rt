@@ -109,7 +109,7 @@ fn turn_on<R: Wait>(
     requires room { HasRoomForAll flow.old.map }
     requires none { (flow.old.kept ≡ None) × (under_way.old.posts ≡ []) }
     requires most { under_way.old.most ≡ ahead_of shared.now.plan.upqueries }
-    ensures { TurnsAll flow.old flow.new result.0 result.1 }
+    ensures { let (fills, fault) = result in TurnsAll flow.old flow.new fills fault }
 {
     let lobby = shared.service.lobby();
     let mut guest = lobby.guest();
@@ -134,7 +134,7 @@ fn turn_all<R: Wait>(
     requires base { flow.old.source ≡ replicate flow.old.map.shape.keys 0 }
     requires room { HasRoomForAll flow.old.map }
     requires none { flow.old.kept ≡ None }
-    ensures { TurnsAll flow.old flow.new result.0 result.1 }
+    ensures { let (fills, fault) = result in TurnsAll flow.old flow.new fills fault }
 {
     let Ok(mut under_way) = UnderWay::open(shared.alloc, shared.plan.upqueries) else {
         return (0, Some(LoadFault::Memory));

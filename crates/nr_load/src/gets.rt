@@ -116,8 +116,8 @@ fn get_drawn<R: Wait, G: Gate>(
     requires known { length known.old ≡ draws.old.keys }
     ensures places { (client.new.map ≡ client.old.map) × (client.new.queue ≡ client.old.queue) × (client.new.opened ≡ client.old.opened) }
     ensures draws { (draws.new.keys ≡ draws.old.keys) × (draws.new.generator ≡ drawn_on draws.old.generator) }
-    ensures gets { GetsKey TRIES (drawn draws.old.keys draws.old.generator) client.old.hands result.0 rows.new client.new.hands }
-    ensures judged { Judged (drawn draws.old.keys draws.old.generator) known.old result.0 rows.new result.1 known.new }
+    ensures gets { let (got, _) = result in GetsKey TRIES (drawn draws.old.keys draws.old.generator) client.old.hands got rows.new client.new.hands }
+    ensures judged { let (got, fault) = result in Judged (drawn draws.old.keys draws.old.generator) known.old got rows.new fault known.new }
 {
     let key = draws.next();
     let got = client.get(rt, key, TRIES, rows);
@@ -139,12 +139,12 @@ pub fn load_gets<R: Wait, G: Gate>(
     lobby: &Lobby,
 ) -> (Worked, Guest)
     requires { draws.old.keys ≤ client.old.map.shape.keys }
-    ensures works { Works TRIES draws.old.keys result.0.made draws.old.generator result.0.answered (replicate draws.old.keys 0) (of_gets result.0.fault) client.old.hands client.new.hands draws.new.generator }
-    ensures memory { result.0.fault ≡ Some LoadFault.Memory → result.0.made ≡ 0 }
-    ensures few { (result.0.made ≤ gets) × (result.0.answered ≤ result.0.made) }
-    ensures all { result.0.stopped ≡ false → result.0.fault ≡ None → result.0.made ≡ gets }
-    ensures guest { result.1.lobby ≡ lobby.now }
-    ensures stopped { result.0.stopped ≡ true → 0 < slice_index result.1.seen closed_at }
+    ensures works { let (worked, _) = result in Works TRIES draws.old.keys worked.made draws.old.generator worked.answered (replicate draws.old.keys 0) (of_gets worked.fault) client.old.hands client.new.hands draws.new.generator }
+    ensures memory { let (worked, _) = result in worked.fault ≡ Some LoadFault.Memory → worked.made ≡ 0 }
+    ensures few { let (worked, _) = result in (worked.made ≤ gets) × (worked.answered ≤ worked.made) }
+    ensures all { let (worked, _) = result in worked.stopped ≡ false → worked.fault ≡ None → worked.made ≡ gets }
+    ensures guest { let (_, guest) = result in guest.lobby ≡ lobby.now }
+    ensures stopped { let (worked, guest) = result in worked.stopped ≡ true → 0 < slice_index guest.seen closed_at }
     ensures places { (client.new.map ≡ client.old.map) × (client.new.queue ≡ client.old.queue) × (client.new.opened ≡ client.old.opened) }
 {
     let mut guest = lobby.guest();

@@ -112,11 +112,11 @@ fn collect(outcomes: Vec<Outcome>, mut readers: Vec<Reader>) -> (Sums, Vec<Reade
     requires made { made_in outcomes.items < 2 ^ 64 }
     requires sends { sends_in outcomes.items < 2 ^ 64 }
     requires answered { answered_in outcomes.items < 2 ^ 64 }
-    ensures made { result.0.made ≡ made_in outcomes.items }
-    ensures sends { result.0.sends ≡ sends_in outcomes.items }
-    ensures answered { result.0.answered ≡ answered_in outcomes.items }
-    ensures fault { result.0.fault ≡ earliest None outcomes.items }
-    ensures readers { result.1.items ≡ each_of reader_of outcomes.items }
+    ensures made { let (sums, _) = result in sums.made ≡ made_in outcomes.items }
+    ensures sends { let (sums, _) = result in sums.sends ≡ sends_in outcomes.items }
+    ensures answered { let (sums, _) = result in sums.answered ≡ answered_in outcomes.items }
+    ensures fault { let (sums, _) = result in sums.fault ≡ earliest None outcomes.items }
+    ensures readers { let (_, all) = result in all.items ≡ each_of reader_of outcomes.items }
 {
     let mut made: u64 = 0;
     let mut sends: u64 = 0;

@@ -16,7 +16,7 @@ use Rattle.nr_machine.specs.States.{State, Event, Arrive, Read, Depart, Ask, Fin
 use Rattle.nr_machine.specs.Slots.{names_slot}
 use Rattle.nr_machine.specs.Refusals.{refusal}
 use Rattle.nr_machine.specs.Operations.{target_of, becomes, operation}
-use Rattle.nr_machine.specs.Writer.{looked, went}
+use Rattle.nr_machine.specs.Writer.{desk_in, looked, step_in, went}
 
 -- what a reader holds after an arrive that found this word
 abbrev pub arrive_hold : ℕ → Hold
@@ -45,8 +45,8 @@ desk_after state (Read reader index) found = state.desk
 desk_after state (Depart reader) found = state.desk
 desk_after state (Ask reader key) found = state.desk
 desk_after state (FindAgain reader key) found = state.desk
-desk_after state (Start call) found = (looked state.shape state.desk call found).0
-desk_after state Go found = (went state.shape state.desk state.desk.place found).0
+desk_after state (Start call) found = desk_in (looked state.shape state.desk call found)
+desk_after state Go found = desk_in (went state.shape state.desk state.desk.place found)
 
 -- the word that an event's operation finds
 abbrev pub found_by : State → Event → ℕ
@@ -108,8 +108,8 @@ find_again_answer state reader key = or_refusal (refusal state (FindAgain reader
 
 -- what the first step of a call of the writer comes to, or the refusal
 abbrev pub start_answer : State → WriterCall → Result Step Refusal
-start_answer state call = or_refusal (refusal state (Start call)) (looked state.shape state.desk call (found_by state (Start call))).1
+start_answer state call = or_refusal (refusal state (Start call)) (step_in (looked state.shape state.desk call (found_by state (Start call))))
 
 -- what the next step of the call comes to, or the refusal
 abbrev pub go_answer : State → Result Step Refusal
-go_answer state = or_refusal (refusal state Go) (went state.shape state.desk state.desk.place (found_by state Go)).1
+go_answer state = or_refusal (refusal state Go) (step_in (went state.shape state.desk state.desk.place (found_by state Go)))

@@ -23,7 +23,7 @@ use Rattle.nr_machine.specs.Slots.{bound_of, slot_content}
 use Rattle.nr_machine.specs.States.{Arrive, Ask, Depart, Event, FindAgain, Go, Read, Start, State, hold_of, number_at, opening_state, retired_at, word}
 use Rattle.nr_words.specs.SetWords.{decode}
 use Rattle.nr_machine.specs.Refusals.{refusal}
-use Rattle.nr_machine.specs.Writer.{looked, went}
+use Rattle.nr_machine.specs.Writer.{looked, step_in, went}
 use Rattle.nr_machine.specs.Machine.{found_by, names_held, unless, next_state}
 
 -- the map at opening, and the map that a history leaves
@@ -79,8 +79,8 @@ told state (Read reader index) = []
 told state (Depart reader) = []
 told state (Ask reader at) = answering reader (model.Ask at) ask_reply (shown state at)
 told state (FindAgain reader at) = (if names_held (hold_of state reader) (found_by state (FindAgain reader at)) then answering reader (model.Find at) find_reply (shown state at) else [])
-told state (Start call) = ending (call_of call) (looked state.shape state.desk call (found_by state (Start call))).1
-told state Go = ending_at state.desk.place (went state.shape state.desk state.desk.place (found_by state Go)).1
+told state (Start call) = ending (call_of call) (step_in (looked state.shape state.desk call (found_by state (Start call))))
+told state Go = ending_at state.desk.place (step_in (went state.shape state.desk state.desk.place (found_by state Go)))
 
 -- a poll that found its slot held, and the readers that held it then
 pub record Poll : Type 0 where

@@ -25,6 +25,13 @@ use Rattle.nr_words.specs.SetWords.{decode}
 abbrev pub moved_to : Desk → Place → Desk
 moved_to desk place = record desk { place = place }
 
+-- where a step leads: to a desk, and to what the step comes to
+abbrev pub desk_in : Desk × Step → Desk
+desk_in (desk, _) = desk
+
+abbrev pub step_in : Desk × Step → Step
+step_in (_, step) = step
+
 abbrev pub ended : Reply → Step
 ended answer = Ended (writer.Reply answer)
 

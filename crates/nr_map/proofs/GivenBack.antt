@@ -169,11 +169,12 @@ module _ {Room : Type 0} (shows : Room → List Row → Type 0) (others : ℕ) (
 -- A REAP
 
 module _ {Room : Type 0} (shows : Room → List Row → Type 0) (old new : Caller) (before after : Room) (put : List (List Row)) (given : List Given) (books : Books old put given) where
-  reap_goes_on : (reaps : ReapsIn shows old before new after reaped.Set) → Books new (put ++ []) (given ++ given_at old reaps.2.slot ∷ [])
-  reap_goes_on (held, later, entry, notes, earlier, scanned, loads, first, waits, each, shown, row_set, is) =
-      let slot : ℕ = entry.slot in let one = given_at old slot in let there = ready_there old scanned held later entry waits in
+  reap_goes_on : (reaps : ReapsIn shows old before new after reaped.Set) → Books new (put ++ []) (given ++ given_at old reaps.entry.slot ∷ [])
+  reap_goes_on reaps =
+      let entry = reaps.entry in let is = reaps.new_is in
+      let slot : ℕ = entry.slot in let one = given_at old slot in let there = ready_there old reaps.scanned reaps.held reaps.later entry reaps.split in
       let low = books.ledger.taken slot (inr (there.0, entry, there.1, refl)) in let has = stands_so old put given slot books low there.2 in
-      let ledger = reaped_once_lem held later entry (earlier ++ notes) _ scanned _ old new (numbers given) waits is books.ledger in
+      let ledger = reaped_once_lem reaps.held reaps.later entry (reaps.earlier ++ reaps.notes) _ reaps.scanned _ old new (numbers given) reaps.split is books.ledger in
       subst (λ (l : List (List Row)). Books new l (given ++ one ∷ [])) (sym (append-nil put)) (subst (λ (c : Caller). Ledger c (numbers given ++ one.number ∷ []) → Books c put (given ++ one ∷ [])) (sym is)
       (λ goes. record {
         writes = books.writes;
@@ -190,8 +191,8 @@ module _ {Room : Type 0} (shows : Room → List Row → Type 0) (old new : Calle
       no_flag : (flags : List Bool) (i : ℕ) → get_or flags i false ≡ false → get_or flags i false ≡ true → ⊥
       no_flag flags i kept gone = let clash : false ≡ true = sym kept ∙ gone in absurd (cc)
 
-      only_one : (at : ℕ) (which : Given) → get_elem? (given_at old entry.slot ∷ []) at ≡ some which → HasItsRows put (given_at old entry.slot) → HasItsRows put which
-      only_one zero which there has = subst (HasItsRows put) (some-injective (given_at old entry.slot) which there) has
+      only_one : (at : ℕ) (which : Given) → get_elem? (given_at old reaps.entry.slot ∷ []) at ≡ some which → HasItsRows put (given_at old reaps.entry.slot) → HasItsRows put which
+      only_one zero which there has = subst (HasItsRows put) (some-injective (given_at old reaps.entry.slot) which there) has
       only_one (suc at) which there has = absurd (some-ne-none which (sym there))
 
 -- CALLS THAT LEAVE THE SETS
@@ -264,11 +265,11 @@ module _ (old new : Caller) (put : List (List Row)) (given : List Given) (books 
 
 module _ {Room : Type 0} (shows : Room → List Row → Type 0) where
   deal_goes_on : {old new : Caller} {more : List (List Row)} {out : List Given} (put : List (List Row)) (given : List Given) → Deals shows old more out new → Books old put given → Books new (put ++ more) (given ++ out)
-  deal_goes_on put given (Fills key number rows old new before after back done) books = gave_back shows 1 (model.Fill key number rows) rows old new before after put given books done.0 done.1 back done.2
+  deal_goes_on put given (Fills key number rows old new before after back done) books = gave_back shows 1 (model.Fill key number rows) rows old new before after put given books done.steps done.published back done.gives
   deal_goes_on put given (FillRefused key number rows old new before after fault says) books = fill_refused old new put given books key number rows fault says.0
-  deal_goes_on put given (Updates bound key batch old new before after back done) books = gave_back shows (2 * length done.0 + 2) (model.Update key batch) done.1 old new before after put given books done.3 done.4 back done.6
+  deal_goes_on put given (Updates bound key batch old new before after back done) books = gave_back shows (2 * length done.set + 2) (model.Update key batch) done.left old new before after put given books done.steps done.published back done.gives
   deal_goes_on put given (UpdateRefused bound key batch old new before after fault says) books = update_refused old new put given books bound key batch fault says.0
-  deal_goes_on put given (Replaces key rows old new before after back done) books = gave_back shows 1 (model.Replace key rows) rows old new before after put given books done.0 done.1 back done.2
+  deal_goes_on put given (Replaces key rows old new before after back done) books = gave_back shows 1 (model.Replace key rows) rows old new before after put given books done.steps done.published back done.gives
   deal_goes_on put given (ReplaceRefused key rows old new before after fault says) books = replace_refused old new put given books key rows fault says.0
   deal_goes_on put given (Reaps old new before after done) books = reap_goes_on shows old new before after put given books done
   deal_goes_on put given (ReapHeld old new before after says) books = same_goes_on old new put given books _ _ _ _ says.8

@@ -210,8 +210,8 @@ gathered_stands_lem writer reader current slot holds = let placed = current.plac
 pub stands_after_reap_lem : {Room : Type 0} (shows : Room → List Row → Type 0) → StandsAfterReap shows
 stands_after_reap_lem shows old new before after reader = (
   λ reaps stands other.
-      subst (λ (c : Caller). StandsYet c reader) (sym reaps.12)
-      (λ slot holds. let was = stands slot holds in (was.0, was.1, get_or-set_other old.marks.reaped reaps.2.slot slot true false (λ same. other (holds ∙ ap (λ (n : ℕ). Some n) same)) ∙ was.2)),
+      subst (λ (c : Caller). StandsYet c reader) (sym reaps.new_is)
+      (λ slot holds. let was = stands slot holds in (was.0, was.1, get_or-set_other old.marks.reaped reaps.entry.slot slot true false (λ same. other (holds ∙ ap (λ (n : ℕ). Some n) same)) ∙ was.2)),
   λ held stands. subst (λ (c : Caller). StandsYet c reader) (sym held.8) stands,
   λ nothing stands. subst (λ (c : Caller). StandsYet c reader) (sym nothing.1) stands,
 )

@@ -2,6 +2,7 @@
 use Rattle.std.specs.Prelude.{◌≡◌, ℕ, ◌+◌, ◌-◌, ◌*◌, ◌/◌, ◌%◌, ◌==◌, if◌then◌else◌, min, List, [], ◌∷◌, length, None}
 use Rattle.nr_model.specs.declared.rows.Row.{Row}
 use Rattle.nr_board.specs.Callers.{Caller, token}
+use Rattle.nr_board.specs.Views.{view_of}
 use Rattle.nr_board.specs.WriterSeats.{MapSeat}
 use Rattle.nr_map.specs.Answers.{FindsIn, acts_of}
 use Rattle.nr_map.specs.declared.wanted.Wanted.{Wanted}
@@ -19,7 +20,7 @@ with_loads loads caller = record caller { steps = caller.steps + loads }
 
 -- a seat made so many of them: it holds what it held, and its word says what it said
 abbrev pub LoadsNear : ℕ → MapSeat → MapSeat → Type 0
-LoadsNear loads old new = (token new ≡ with_loads loads (token old)) × (new.me.0.role ≡ old.me.0.role) × (new.me.0.says ≡ old.me.0.says)
+LoadsNear loads old new = (token new ≡ with_loads loads (token old)) × ((view_of new).role ≡ (view_of old).role) × ((view_of new).says ≡ (view_of old).says)
 
 -- the finds of a list of keys: that of the first, and then those of the others
 abbrev pub FindsList : {Room : Type 0} → (Room → List Row → Type 0) → Caller → List (Wanted Room) → Caller → List (Wanted Room) → Type 0

@@ -35,18 +35,18 @@ module _ {Room : Type 0} (shows : Room → List Row → Type 0) where
   -- a call by the writer's token, by what its contract says, with the sets that it put and those that it gave out
   pub data Deals : Caller → List (List Row) → List Given → Caller → Type 0 where
     Fills : (key number : ℕ) (rows : List Row) (old new : Caller) (before after : Room) (given : Reclaimed)
-        → (done : FillsReclaiming shows key number rows old before new after (Ok given)) → Deals old (rows ∷ []) (given_by old done.1.slot given) new
+        → (done : FillsReclaiming shows key number rows old before new after (Ok given)) → Deals old (rows ∷ []) (given_by old done.published.slot given) new
     FillRefused : (key number : ℕ) (rows : List Row) (old new : Caller) (before after : Room) (fault : FillFault)
         → FillsReclaiming shows key number rows old before new after (Err fault) → Deals old [] [] new
     Updates : (bound key : ℕ) (batch : List Delta) (old new : Caller) (before after : Room) (given : Reclaimed)
-        → (done : UpdatesReclaiming shows bound key batch old before new after (Ok given)) → Deals old (done.1 ∷ []) (given_by old done.4.slot given) new
+        → (done : UpdatesReclaiming shows bound key batch old before new after (Ok given)) → Deals old (done.left ∷ []) (given_by old done.published.slot given) new
     UpdateRefused : (bound key : ℕ) (batch : List Delta) (old new : Caller) (before after : Room) (fault : UpdateFault)
         → UpdatesReclaiming shows bound key batch old before new after (Err fault) → Deals old [] [] new
     Replaces : (key : ℕ) (rows : List Row) (old new : Caller) (before after : Room) (given : Reclaimed)
-        → (done : ReplacesReclaiming shows key rows old before new after (Ok given)) → Deals old (rows ∷ []) (given_by old done.1.slot given) new
+        → (done : ReplacesReclaiming shows key rows old before new after (Ok given)) → Deals old (rows ∷ []) (given_by old done.published.slot given) new
     ReplaceRefused : (key : ℕ) (rows : List Row) (old new : Caller) (before after : Room) (fault : ReplaceFault)
         → ReplacesReclaiming shows key rows old before new after (Err fault) → Deals old [] [] new
-    Reaps : (old new : Caller) (before after : Room) → (done : ReapsIn shows old before new after reaped.Set) → Deals old [] (given_at old done.2.slot ∷ []) new
+    Reaps : (old new : Caller) (before after : Room) → (done : ReapsIn shows old before new after reaped.Set) → Deals old [] (given_at old done.entry.slot ∷ []) new
     ReapHeld : (old new : Caller) (before after : Room) → ReapsIn shows old before new after reaped.Held → Deals old [] [] new
     ReapNothing : (old new : Caller) (before after : Room) → ReapsIn shows old before new after reaped.Nothing → Deals old [] [] new
     Evicts : (key : ℕ) (old new : Caller) (answer : Evict) → EvictsKey key old new answer → Deals old [] [] new

@@ -16,7 +16,7 @@ use Rattle.nr_board.specs.Meetings.{HasPut}
 use Rattle.nr_board.specs.Rule.{StartsWith}
 use Rattle.nr_board.specs.Seats.{IdlesAt}
 use Rattle.nr_board.specs.declared.board.Own.{Own}
-use Rattle.nr_board.specs.Views.{View, rows_held}
+use Rattle.nr_board.specs.Views.{View, rows_held, view_of}
 use Rattle.nr_map.specs.declared.hand.Kept.{Kept}
 use Rattle.nr_map.specs.Answers.{FindsIn, marks_found}
 use Rattle.nr_map.specs.Pins.{Pinned, Pins}
@@ -56,7 +56,7 @@ key_held None = None
 key_held (Some kept) = Some kept.key
 
 abbrev pub handed : Seat (Unit {0}) View → Option Kept → Handed
-handed seat held = record { reader = token seat; key = key_held held; rows = rows_held seat.me.0.role }
+handed seat held = record { reader = token seat; key = key_held held; rows = rows_held (view_of seat).role }
 
 -- the seat is that of a reader, which holds nothing or what stands there
 abbrev pub IsHand : Seat (Unit {0}) View → Own → Option Kept → Type 0

@@ -4,7 +4,7 @@ use Rattle.nr_machine.specs.declared.shape.Shape.{Shape}
 use Rattle.atomic_table.specs.declared.shared.Seat.{Seat}
 use Rattle.nr_marks.specs.Marks.{Marks, no_marks, opening_marks}
 use Rattle.nr_board.specs.Callers.{Caller, Table}
-use Rattle.nr_board.specs.Views.{View, opener}
+use Rattle.nr_board.specs.Views.{View, opener, view_of}
 
 -- a token that has made no step and seen nothing
 abbrev pub newcomer : Table → ℕ → Marks → Caller
@@ -17,7 +17,7 @@ made_so table made = record (opener (record { shape = table.shape; announcers = 
 -- the writer's seat has made that many readers, each a newcomer with its place's number
 pub record Seated (table : Table) (seat : Seat (Unit {0}) View) (readers : List Caller) (made : ℕ) : Type 0 where
   pub own : seat.table_id ≡ table.id
-  pub view : seat.me.0 ≡ made_so table made
+  pub view : view_of seat ≡ made_so table made
   pub count : length readers ≡ made
   pub reads : (place : ℕ) → place < made → slice_get readers place ≡ Some (newcomer table (place + 1) no_marks)
 

@@ -10,7 +10,7 @@ use Rattle.nr_board.specs.Callers.{Caller, Gains, Grows, token}
 use Rattle.nr_board.specs.declared.board.Own.{Own}
 use Rattle.nr_board.specs.declared.holds.Held.{Held}
 use Rattle.nr_board.specs.Holds.{FindsHole, FindsRows, HeldAs, looked}
-use Rattle.nr_board.specs.Views.{View, rows_held}
+use Rattle.nr_board.specs.Views.{View, rows_held, view_of}
 use Rattle.nr_map.specs.Tokens.{IsReader}
 
 -- the reader, and the set that its find found
@@ -19,7 +19,7 @@ pub record Pinned : Type 0 where
   pub rows : List Row
 
 abbrev pub pinned : Seat (Unit {0}) View → Pinned
-pinned seat = record { reader = token seat; rows = rows_held seat.me.0.role }
+pinned seat = record { reader = token seat; rows = rows_held (view_of seat).role }
 
 -- the seat of that reader, which holds this
 pub record Pins (seat : Seat (Unit {0}) View) (own : Own) (held : Held) : Type 0 where

@@ -128,7 +128,7 @@ GatheredStands =
 abbrev pub StandsAfterReap : {Room : Type 0} → (Room → List Row → Type 0) → Type 0
 StandsAfterReap {Room = Room} shows =
     (old new : Caller) (before after : Room) (reader : Past) →
-    ((reaps : ReapsIn shows old before new after reaped.Set) → StandsYet old reader → reader.slot ≢ Some reaps.2.slot → StandsYet new reader)
+    ((reaps : ReapsIn shows old before new after reaped.Set) → StandsYet old reader → reader.slot ≢ Some reaps.entry.slot → StandsYet new reader)
     × (ReapsIn shows old before new after reaped.Held → StandsYet old reader → StandsYet new reader)
     × (ReapsIn shows old before new after reaped.Nothing → StandsYet old reader → StandsYet new reader)
 

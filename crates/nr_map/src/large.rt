@@ -20,7 +20,7 @@ impl ReaderMap {
         shape: &Shape,
     ) -> Result<(ReaderMap, Writer, Vec<Reader>), OpenFault>
         ensures bad_size { (result ≡ Err OpenFault.BadSize) ↔ IsBadLargeShape shape.now }
-        ensures ok { IfOk result (λ opened. IsOpened shape.now (words_of_large shape.now) opened.0 opened.1 opened.2.items) }
+        ensures ok { IfOk result (λ (map, writer, readers). IsOpened shape.now (words_of_large shape.now) map writer readers.items) }
     {
         if shape.is_bad_large() {
             return Err(OpenFault::BadSize);

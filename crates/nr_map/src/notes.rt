@@ -95,7 +95,7 @@ impl ReaderMap {
     pub fn split_note(&self, reader: &mut Reader, note: Note) -> (Note, Note)
         requires own { (note.table ≡ self.now) × (reader.old.table ≡ self.now) }
         ensures reader { reader.new ≡ with_steps 3 reader.old }
-        ensures notes { (result.0 ≡ note) × (result.1 ≡ note) }
+        ensures notes { result ≡ (note, note) }
     {
         let (one, other) = self.board.split_note(&mut reader.caller.seat, note.told);
         (Note { told: one }, Note { told: other })

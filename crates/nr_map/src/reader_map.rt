@@ -46,7 +46,7 @@ impl ReaderMap {
         first_count: u64,
     ) -> Result<(ReaderMap, Writer, Vec<Reader>), OpenFault>
         ensures bad_size { (result ≡ Err OpenFault.BadSize) ↔ (IsBadSize MAX_KEYS keys ⊎ IsBadSize MAX_SLOTS slots ⊎ IsBadSize MAX_READERS readers) }
-        ensures ok { IfOk result (λ opened. IsOpened (record { keys = keys; slots = slots; readers = readers; first_count = first_count; first_number = 0; rows = DEFAULT_ROWS }) 0 opened.0 opened.1 opened.2.items) }
+        ensures ok { IfOk result (λ (map, writer, all). IsOpened (record { keys = keys; slots = slots; readers = readers; first_count = first_count; first_number = 0; rows = DEFAULT_ROWS }) 0 map writer all.items) }
     {
         let shape = Shape {
             keys,
@@ -67,7 +67,7 @@ impl ReaderMap {
         shape: &Shape,
     ) -> Result<(ReaderMap, Writer, Vec<Reader>), OpenFault>
         ensures bad_size { (result ≡ Err OpenFault.BadSize) ↔ IsBadShape shape.now }
-        ensures ok { IfOk result (λ opened. IsOpened shape.now 0 opened.0 opened.1 opened.2.items) }
+        ensures ok { IfOk result (λ (map, writer, readers). IsOpened shape.now 0 map writer readers.items) }
     {
         if shape.is_bad() {
             return Err(OpenFault::BadSize);
@@ -115,7 +115,7 @@ pub(crate) fn seated(
     requires sizes { IsShape shape }
     requires keys { 0 < shape.keys }
     requires few { announcers ≤ shape.readers }
-    ensures { IfOk result (λ opened. IsOpened shape announcers opened.0 opened.1 opened.2.items) }
+    ensures { IfOk result (λ (map, writer, readers). IsOpened shape announcers map writer readers.items) }
 {
     let plan = Plan { shape, announcers };
     let (board, mut seat) = Board::open(alloc, plan)?;

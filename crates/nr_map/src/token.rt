@@ -8,7 +8,7 @@ ghost use Rattle.nr_board.specs.Holds.{HeldAs, HoldsAfter, finds_by_word};
 ghost use Rattle.nr_board.specs.Meetings.{HasPut, HearsNote, known_to, with_step};
 ghost use Rattle.nr_board.specs.Notes.{IsCaller};
 ghost use Rattle.nr_board.specs.Seats.{IdlesAt};
-ghost use Rattle.nr_board.specs.Views.{rows_held};
+ghost use Rattle.nr_board.specs.Views.{rows_held, view_of};
 ghost use Rattle.nr_map.specs.Answers.{AsksKey, FindsIn, marks_found};
 ghost use Rattle.nr_map.specs.Pins.{FindsByPin};
 ghost use Rattle.nr_map.specs.Tokens.{IsReader};
@@ -57,7 +57,7 @@ impl Token {
         requires idle { IdlesAt map.now self.old.seat }
         requires key { key < map.now.shape.keys }
         ensures own { self.new.own ≡ self.old.own }
-        ensures holds { HoldsAfter 0 (finds_by_word (token self.old.seat)) map.now key self.old.seat.me.0.marks self.old.seat self.new.seat result }
+        ensures holds { HoldsAfter 0 (finds_by_word (token self.old.seat)) map.now key (view_of self.old.seat).marks self.old.seat self.new.seat result }
     {
         map.board.hold_key(&mut self.seat, self.own, key)
     }
@@ -68,11 +68,11 @@ impl Token {
         requires held { HeldAs map.now held self.old.seat }
         ensures own { self.new.own ≡ self.old.own }
         ensures held { HeldAs map.now held self.new.seat }
-        ensures rows { R.shows rows.new (rows_held self.old.seat.me.0.role) }
-        ensures same { rows_held self.new.seat.me.0.role ≡ rows_held self.old.seat.me.0.role }
-        ensures rests { Rests (2 * length (rows_held self.old.seat.me.0.role)) (token self.old.seat) (token self.new.seat) }
+        ensures rows { R.shows rows.new (rows_held (view_of self.old.seat).role) }
+        ensures same { rows_held (view_of self.new.seat).role ≡ rows_held (view_of self.old.seat).role }
+        ensures rests { Rests (2 * length (rows_held (view_of self.old.seat).role)) (token self.old.seat) (token self.new.seat) }
         ensures hold { (token self.new.seat).holds ≡ (token self.old.seat).holds }
-        ensures marks { self.new.seat.me.0.marks ≡ self.old.seat.me.0.marks }
+        ensures marks { (view_of self.new.seat).marks ≡ (view_of self.old.seat).marks }
     {
         map.board.copy_held(&mut self.seat, held, rows);
     }
@@ -83,10 +83,10 @@ impl Token {
         requires key { key < map.now.shape.keys }
         ensures own { self.new.own ≡ self.old.own }
         ensures held { HeldAs map.now held self.new.seat }
-        ensures role { self.new.seat.me.0.role ≡ self.old.seat.me.0.role }
-        ensures finds { FindsByPin key (token self.old.seat) (rows_held self.old.seat.me.0.role) (token self.new.seat) result }
-        ensures exact { (result ≡ true) ↔ HasPut key self.old.seat.me.0.marks.put (token self.new.seat) }
-        ensures marks { self.new.seat.me.0.marks ≡ found_again result (with_loads self.old.seat.me.0.marks self.new.seat.me.0.marks.loads) }
+        ensures role { (view_of self.new.seat).role ≡ (view_of self.old.seat).role }
+        ensures finds { FindsByPin key (token self.old.seat) (rows_held (view_of self.old.seat).role) (token self.new.seat) result }
+        ensures exact { (result ≡ true) ↔ HasPut key (view_of self.old.seat).marks.put (token self.new.seat) }
+        ensures marks { (view_of self.new.seat).marks ≡ found_again result (with_loads (view_of self.old.seat).marks (view_of self.new.seat).marks.loads) }
     {
         map.board.find_again(&mut self.seat, held.slot, key)
     }
@@ -99,7 +99,7 @@ impl Token {
         ensures own { self.new.own ≡ self.old.own }
         ensures idle { IdlesAt map.now self.new.seat }
         ensures rests { Rests 1 (token self.old.seat) (token self.new.seat) }
-        ensures marks { self.new.seat.me.0.marks ≡ acted self.old.seat.me.0.marks self.old.seat.me.0.marks.put }
+        ensures marks { (view_of self.new.seat).marks ≡ acted (view_of self.old.seat).marks (view_of self.old.seat).marks.put }
     {
         map.board.let_go(&mut self.seat, self.own, held);
     }
@@ -113,7 +113,7 @@ impl Token {
         ensures reader { IsReader self.new.seat self.new.own }
         ensures idle { IdlesAt map.now self.new.seat }
         ensures finds { FindsIn R.shows key (token self.old.seat) rows.old (token self.new.seat) rows.new result }
-        ensures marks { self.new.seat.me.0.marks ≡ marks_found result (with_loads self.old.seat.me.0.marks self.new.seat.me.0.marks.loads) (put_number self.new.seat.me.0.seen key) }
+        ensures marks { (view_of self.new.seat).marks ≡ marks_found result (with_loads (view_of self.old.seat).marks (view_of self.new.seat).marks.loads) (put_number (view_of self.new.seat).seen key) }
     {
         let Some(held) = self.hold(map, key) else {
             return Found::Hole;
@@ -131,7 +131,7 @@ impl Token {
         ensures reader { IsReader self.new.seat self.new.own }
         ensures idle { IdlesAt map.now self.new.seat }
         ensures asks { AsksKey key (token self.old.seat) (token self.new.seat) result }
-        ensures marks { self.new.seat.me.0.marks ≡ self.old.seat.me.0.marks }
+        ensures marks { (view_of self.new.seat).marks ≡ (view_of self.old.seat).marks }
     {
         let found = parts(map.board.ask(&mut self.seat, key));
         if found.filled {
@@ -146,14 +146,14 @@ impl Token {
     /// A row of the set that is held, in 2 steps.
     pub(crate) fn row(&mut self, map: &ReaderMap, held: Held, i: u32) -> Row
         requires held { HeldAs map.now held self.old.seat }
-        requires i { i < length (rows_held self.old.seat.me.0.role) }
+        requires i { i < length (rows_held (view_of self.old.seat).role) }
         ensures own { self.new.own ≡ self.old.own }
         ensures held { HeldAs map.now held self.new.seat }
-        ensures row { slice_get (rows_held self.old.seat.me.0.role) i ≡ Some result }
-        ensures same { rows_held self.new.seat.me.0.role ≡ rows_held self.old.seat.me.0.role }
+        ensures row { slice_get (rows_held (view_of self.old.seat).role) i ≡ Some result }
+        ensures same { rows_held (view_of self.new.seat).role ≡ rows_held (view_of self.old.seat).role }
         ensures rests { Rests 2 (token self.old.seat) (token self.new.seat) }
         ensures hold { (token self.new.seat).holds ≡ (token self.old.seat).holds }
-        ensures marks { self.new.seat.me.0.marks ≡ self.old.seat.me.0.marks }
+        ensures marks { (view_of self.new.seat).marks ≡ (view_of self.old.seat).marks }
     {
         map.board.read_row(&mut self.seat, held.begin, u64::from(i))
     }
@@ -164,8 +164,8 @@ impl Token {
         requires knows { KnowsOwn (token self.old.seat) }
         ensures own { self.new.own ≡ self.old.own }
         ensures step { token self.new.seat ≡ with_step (token self.old.seat) }
-        ensures role { self.new.seat.me.0.role ≡ self.old.seat.me.0.role }
-        ensures says { self.new.seat.me.0.says ≡ self.old.seat.me.0.says }
+        ensures role { (view_of self.new.seat).role ≡ (view_of self.old.seat).role }
+        ensures says { (view_of self.new.seat).says ≡ (view_of self.old.seat).says }
         ensures note { result ≡ known_to (token self.old.seat) }
     {
         Note {
@@ -176,11 +176,11 @@ impl Token {
     /// The reader learns, in 1 step, all that the note's maker had seen.
     pub(crate) fn hear(&mut self, map: &ReaderMap, note: Note)
         requires own { ((token self.old.seat).table ≡ map.now) × (note.table ≡ map.now) }
-        requires caller { IsCaller self.old.seat.me.0.role }
+        requires caller { IsCaller (view_of self.old.seat).role }
         ensures own { self.new.own ≡ self.old.own }
         ensures hears { HearsNote 1 (token self.old.seat) note (token self.new.seat) }
-        ensures role { self.new.seat.me.0.role ≡ self.old.seat.me.0.role }
-        ensures says { self.new.seat.me.0.says ≡ self.old.seat.me.0.says }
+        ensures role { (view_of self.new.seat).role ≡ (view_of self.old.seat).role }
+        ensures says { (view_of self.new.seat).says ≡ (view_of self.old.seat).says }
     {
         map.board.hear_note(&mut self.seat, note.told);
     }

@@ -4,6 +4,7 @@ ghost use Rattle.nr_machine.specs.Sizes.{IsShape};
 ghost use Rattle.nr_machine.specs.States.{opening_desk};
 ghost use Rattle.nr_machine.specs.declared.roles.Role.TheVariants.{Writer as writer_role};
 ghost use Rattle.nr_board.specs.Callers.{KnowsOwn, token};
+ghost use Rattle.nr_board.specs.Views.{view_of};
 
 use nr_board::{Seat, Unheard};
 use nr_core::{Shape, Spare};
@@ -43,13 +44,13 @@ impl Writer {
         announcers: u32,
     ) -> Result<Writer, AllocError>
         requires sizes { IsShape shape.now }
-        requires role { seat.me.0.role ≡ writer_role (opening_desk shape.now) }
-        requires shape { seat.me.0.shape ≡ shape.now }
-        requires new { seat.me.0.seen ≡ [] }
-        requires announcers { seat.me.0.announcers ≡ announcers }
-        requires none_heard { seat.me.0.heard ≡ replicate shape.now.slots 0 }
+        requires role { (view_of seat).role ≡ writer_role (opening_desk shape.now) }
+        requires shape { (view_of seat).shape ≡ shape.now }
+        requires new { (view_of seat).seen ≡ [] }
+        requires announcers { (view_of seat).announcers ≡ announcers }
+        requires none_heard { (view_of seat).heard ≡ replicate shape.now.slots 0 }
         requires own { KnowsOwn (token seat) }
-        requires none_reaped { seat.me.0.marks.reaped ≡ replicate shape.now.slots false }
+        requires none_reaped { (view_of seat).marks.reaped ≡ replicate shape.now.slots false }
         ensures { IfOk result (λ writer. writer ≡ token seat) }
     {
         let spare = Spare::open(alloc, shape)?;

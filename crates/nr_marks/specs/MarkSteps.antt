@@ -17,7 +17,7 @@ use Rattle.nr_machine.specs.declared.calls.Step.TheVariants.{Ended}
 use Rattle.nr_words.specs.KeyWords.{is_filled, same_count}
 use Rattle.nr_machine.specs.Slots.{name_number, names_slot}
 use Rattle.nr_machine.specs.States.{retired_at, key_of}
-use Rattle.nr_machine.specs.Writer.{looked, read_on}
+use Rattle.nr_machine.specs.Writer.{looked, read_on, step_in}
 use Rattle.nr_machine.specs.declared.calls.WReply.TheVariants as writer
 use Rattle.nr_marks.specs.Puts.{put_count, put_number}
 use Rattle.nr_marks.specs.Marks.{Past, Marks, acted, with_look, with_poll, with_polls, with_name, with_reaped, without_name}
@@ -65,11 +65,11 @@ DepartsMarks marks word after log now news = (now ≡ acted marks marks.put) × 
 -- a look begins the list of polls anew
 abbrev pub LooksMarks : Shape → Marks → Desk → WriterCall → MarkTelling
 LooksMarks shape marks desk call word after log now news =
-    (now ≡ with_polls marks []) × (news ≡ []) × (IsNoSlot (looked shape desk call word).1 → NoRoom shape call desk.retired [] log)
+    (now ≡ with_polls marks []) × (news ≡ []) × (IsNoSlot (step_in (looked shape desk call word)) → NoRoom shape call desk.retired [] log)
 
 abbrev pub ReadsOnMarks : Shape → Marks → Desk → WriterCall → ℕ → List ℕ → MarkTelling
 ReadsOnMarks shape marks desk call slot got word after log now news =
-    (now ≡ marks) × (news ≡ []) × (IsNoSlot (read_on shape desk call slot (got ++ word ∷ [])).1 → NoRoom shape call desk.retired [] log)
+    (now ≡ marks) × (news ≡ []) × (IsNoSlot (step_in (read_on shape desk call slot (got ++ word ∷ []))) → NoRoom shape call desk.retired [] log)
 
 -- a poll that finds its slot held notes a reader that holds it, and the last such one leaves no room
 abbrev pub PollTells : Bool → Shape → Marks → List Past → Desk → WriterCall → ℕ → List Entry → Marks → Type 0

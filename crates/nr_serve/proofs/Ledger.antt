@@ -131,8 +131,8 @@ module _ {S : Type 0} (gives : S → (key bound : ℕ) → List Row → S → Ty
   does_books (TakesOne old new post is) = takes_books old new post is
   does_books (TakesNone old new is) = turns_books old new turn.Idle is
   does_books (Fills old new post rows spent is) = fills_books old new post rows spent is
-  does_books (FillLacks old new post rows back is) = stays old new (back.0 ∷ []) (post ∷ []) [] (ap (λ (f : FlowSeen S). f.taker) is.0.rest) (ap (λ (f : FlowSeen S). f.kept) is.0.rest)
-      (λ count. omega (arith, ap count is.1)) (pass_made post.upquery.key post.upquery.number rows old.writer new.writer (fill.NoSlot back.1) is.0.fills)
+  does_books (FillLacks old new post rows back counts is) = stays old new (back ∷ []) (post ∷ []) [] (ap (λ (f : FlowSeen S). f.taker) is.0.rest) (ap (λ (f : FlowSeen S). f.kept) is.0.rest)
+      (λ count. omega (arith, ap count is.1)) (pass_made post.upquery.key post.upquery.number rows old.writer new.writer (fill.NoSlot counts) is.0.fills)
   does_books (Fails old new post spent is) = fails_books old new post spent is
   does_books (FailWorn old new post back is) = stays old new (back ∷ []) (post ∷ []) [] (ap (λ (f : FlowSeen S). f.taker) is.0.rest) (ap (λ (f : FlowSeen S). f.kept) is.0.rest)
       (λ count. omega (arith, ap count is.1)) (back_made post.upquery old.writer new.writer cancel.Worn is.0.takes_back)

@@ -103,12 +103,12 @@ pub record AreCounts (state : State (Unit {0}) Visit) : Type 0 where
 
 -- a step that raises nothing, and finds this number
 abbrev pub has_read_count : Step (Unit {0}) → Me (Unit {0}) Visit → ℕ → Me (Unit {0}) Visit → Type 0
-has_read_count step old found new = IsLater old.0.seen new.0.seen × (new.0.raised ≡ old.0.raised) × (new.0.closes ≡ old.0.closes) × (slice_index new.0.seen step.word ≡ found)
+has_read_count step (old, _) found (new, _) = IsLater old.seen new.seen × (new.raised ≡ old.raised) × (new.closes ≡ old.closes) × (slice_index new.seen step.word ≡ found)
 
 -- a step that closes the lobby
 abbrev pub has_closed : Step (Unit {0}) → Me (Unit {0}) Visit → ℕ → Me (Unit {0}) Visit → Type 0
-has_closed step old found new = IsLater old.0.seen new.0.seen × (new.0.raised ≡ old.0.raised) × (new.0.closes ≡ old.0.closes + 1) × (0 < slice_index new.0.seen step.word)
+has_closed step (old, _) found (new, _) = IsLater old.seen new.seen × (new.raised ≡ old.raised) × (new.closes ≡ old.closes + 1) × (0 < slice_index new.seen step.word)
 
 -- a step that raises the count if it finds the number that it expects
 abbrev pub has_raised : Step (Unit {0}) → Me (Unit {0}) Visit → ℕ → Me (Unit {0}) Visit → Type 0
-has_raised step old found new = IsLater old.0.seen new.0.seen × (new.0.closes ≡ old.0.closes) × MatchBool (found == step.first) (new.0.raised ≡ old.0.raised ++ step.word ∷ []) (new.0.raised ≡ old.0.raised)
+has_raised step (old, _) found (new, _) = IsLater old.seen new.seen × (new.closes ≡ old.closes) × MatchBool (found == step.first) (new.raised ≡ old.raised ++ step.word ∷ []) (new.raised ≡ old.raised)

@@ -32,7 +32,7 @@ abbrev pub FillsOne : {S : Type 0} → FlowSeen S → Post → List Row → Resu
 FillsOne old post rows (Ok spent.Filled) new = FillsBy old post rows (Ok tt) new × Raises old.guest (raises_for post.upquery.key) new.guest
 FillsOne old post rows (Ok spent.Passed) new = (fault : FillFault) × IsPast fault × FillsBy old post rows (Err fault) new × Raises old.guest (raises_for post.upquery.key) new.guest
 FillsOne old post rows (Ok spent.Failed) new = ⊥
-FillsOne old post rows (Err back) new = FillsBy old post rows (Err (fill.NoSlot back.1)) new × (back.0 ≡ post) × (new.guest ≡ old.guest)
+FillsOne old post rows (Err (back, counts)) new = FillsBy old post rows (Err (fill.NoSlot counts)) new × (back ≡ post) × (new.guest ≡ old.guest)
 
 -- the key's request is cancelled if it has that ticket number, and else left alone
 abbrev pub TakesBack : Upquery → Caller → Cancel → Caller → Type 0

@@ -55,7 +55,7 @@ module _ {S : Type 0} (gives : S → (key bound : ℕ) → List Row → S → Ty
   abbrev pub ended_by : (old : FlowSeen S) (turned : Turn) (new : FlowSeen S) → Turns gives fails old turned new → List Ending
   ended_by old turn.Idle new turns = []
   ended_by old (turn.Filled key) new turns = ended turns.post (Filled turns.answers.rows)
-  ended_by old (turn.Passed key) new turns = ended turns.2.post Passed
+  ended_by old (turn.Passed key) new (_, _, spends) = ended spends.post Passed
   ended_by old (turn.Failed key) new turns = ended turns.post (fate_by turns.answer)
   ended_by old (turn.Kept counts) new turns = []
   ended_by old (turn.Worn key) new turns = []
@@ -65,7 +65,7 @@ module _ {S : Type 0} (gives : S → (key bound : ℕ) → List Row → S → Ty
     TakesOne : (old new : FlowSeen S) (post : Post) → Takes old post new → Does old (post ∷ []) [] [] new
     TakesNone : (old new : FlowSeen S) → FindsNone old new → Does old [] [] [] new
     Fills : (old new : FlowSeen S) (post : Post) (rows : List Row) (spent : Spent) → FillsOne old post rows (Ok spent) new → Does old [] (post ∷ []) (ended post (fate_of spent rows)) new
-    FillLacks : (old new : FlowSeen S) (post : Post) (rows : List Row) (back : Post × NoSlot) → FillsOne old post rows (Err back) new → Does old (back.0 ∷ []) (post ∷ []) [] new
+    FillLacks : (old new : FlowSeen S) (post : Post) (rows : List Row) (back : Post) (counts : NoSlot) → FillsOne old post rows (Err (back, counts)) new → Does old (back ∷ []) (post ∷ []) [] new
     Fails : (old new : FlowSeen S) (post : Post) (spent : Spent) → FailsOne old post (Ok spent) new → Does old [] (post ∷ []) (ended post (fate_of spent [])) new
     FailWorn : (old new : FlowSeen S) (post back : Post) → FailsOne old post (Err back) new → Does old (back ∷ []) (post ∷ []) [] new
     Keeps : (old new : FlowSeen S) (post : Post) → new ≡ record old { kept = Some post } → Does old (kept_posts old.kept) (post ∷ []) [] new

@@ -65,7 +65,7 @@ impl<M: Measure> Told<M> {
     ) -> Option<(u64, Note)>
         requires own { reader.old.table ≡ map.now }
         requires notes { (amount : _) (note : _) → M.reached amount note → note.table ≡ map.now }
-        ensures told { IfSome result (λ told. (least ≤ told.0) × M.reached told.0 told.1 × (reader.new ≡ with_steps 3 reader.old)) }
+        ensures told { IfSome result (λ (amount, rest). (least ≤ amount) × M.reached amount rest × (reader.new ≡ with_steps 3 reader.old)) }
         ensures none { result ≡ None → reader.new ≡ reader.old }
     {
         if self.amount < least {
@@ -123,7 +123,7 @@ impl<'a, M: Measure> Applied<'a, M> {
     ) -> Option<(u64, Note)>
         requires own { reader.old.table ≡ map.now }
         requires notes { (amount : _) (note : _) → M.reached amount note → note.table ≡ map.now }
-        ensures told { IfSome result (λ told. (least ≤ told.0) × M.reached told.0 told.1 × (reader.new ≡ with_steps 3 reader.old)) }
+        ensures told { IfSome result (λ (amount, rest). (least ≤ amount) × M.reached amount rest × (reader.new ≡ with_steps 3 reader.old)) }
         ensures none { result ≡ None → reader.new ≡ reader.old }
     {
         self.told.lock(rt).of_at_least(map, reader, least)

@@ -260,9 +260,9 @@ impl<'a, G: Gate> Client<'a, G> {
 
     /// Hands out what the client was opened with, and the ticket that it keeps.
     pub fn end(self) -> (Reader, Poster, Option<Ticket>)
-        ensures reader { result.0 ≡ self.entry.hands.reader }
-        ensures poster { result.1 ≡ self.entry.hands.poster }
-        ensures kept { result.2 ≡ self.entry.hands.kept }
+        ensures reader { let (reader, _, _) = result in reader ≡ self.entry.hands.reader }
+        ensures poster { let (_, poster, _) = result in poster ≡ self.entry.hands.poster }
+        ensures kept { let (_, _, kept) = result in kept ≡ self.entry.hands.kept }
     {
         let Client {
             places: _,

@@ -65,11 +65,12 @@ pub struct Guest {
 }
 
 impl Model for Guest {
+    ghost use Rattle.nr_board.specs.Views.{view_of};
     ghost use Rattle.nr_serve.specs.Counts.{GuestSeen};
 
     ghost Value = { GuestSeen };
 
-    ghost view = { λ guest. record { lobby = guest.seat.table_id; seen = guest.seat.me.0.seen; raised = guest.seat.me.0.raised; closes = guest.seat.me.0.closes } };
+    ghost view = { λ guest. record { lobby = guest.seat.table_id; seen = (view_of guest.seat).seen; raised = (view_of guest.seat).raised; closes = (view_of guest.seat).closes } };
 }
 
 /// The numbers that the guests of a lobby share.
@@ -99,9 +100,9 @@ impl Counts {
     /// The number at a place, found by a guest that has raised nothing.
     pub(crate) fn enter(&self, place: usize) -> (u64, Guest)
         requires { place < 536 }
-        ensures lobby { result.1.lobby ≡ self.now }
-        ensures new { IsNew result.1 }
-        ensures found { slice_index result.1.seen place ≡ result.0 }
+        ensures lobby { let (_, guest) = result in guest.lobby ≡ self.now }
+        ensures new { let (_, guest) = result in IsNew guest }
+        ensures found { let (found, guest) = result in slice_index guest.seen place ≡ found }
     {
         let (found, seat) = self.table.shared.load_new_seat::<Looks>(place);
         (found, Guest { seat })

@@ -175,10 +175,10 @@ impl<'a, S> Dataflow<'a, S> {
 
     /// Hands out what the dataflow was opened with, and the trigger that it keeps.
     pub fn end(self) -> (Writer, Taker, Option<Trigger>, S)
-        ensures writer { result.0 ≡ self.entry.writer }
-        ensures taker { result.1 ≡ self.entry.taker }
-        ensures kept { result.2 ≡ self.entry.kept }
-        ensures source { result.3 ≡ self.entry.source }
+        ensures writer { let (writer, _, _, _) = result in writer ≡ self.entry.writer }
+        ensures taker { let (_, taker, _, _) = result in taker ≡ self.entry.taker }
+        ensures kept { let (_, _, kept, _) = result in kept ≡ self.entry.kept }
+        ensures source { let (_, _, _, source) = result in source ≡ self.entry.source }
     {
         let Dataflow {
             map: _,

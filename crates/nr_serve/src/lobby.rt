@@ -298,8 +298,8 @@ impl Lobby {
         requires lobby { guest.old.lobby ≡ self.now }
         requires place { (place < 536) × (place ≢ closed_at) }
         ensures raises { Raises guest.old [] guest.new }
-        ensures next { result.1 ≡ capped (result.0 + 1) }
-        ensures last { result.1 ≡ last_count → 0 < slice_index guest.new.seen closed_at }
+        ensures next { let (count, next) = result in next ≡ capped (count + 1) }
+        ensures last { let (_, next) = result in next ≡ last_count → 0 < slice_index guest.new.seen closed_at }
     {
         let count = self.counts.at(guest, place);
         let next = count.saturating_add(1);

@@ -58,7 +58,7 @@ impl Service {
 
     /// The three again, once nobody serves here or is served.
     pub fn into_parts(self) -> (ReaderMap, Triggers, Lobby)
-        ensures { (result.0 ≡ self.map) × (result.1 ≡ self.queue) × (result.2 ≡ self.lobby) }
+        ensures { let (map, queue, lobby) = result in (map ≡ self.map) × (queue ≡ self.queue) × (lobby ≡ self.lobby) }
     {
         let Service {
             map,

@@ -73,11 +73,11 @@ fn request<R: Wait>(
 ) -> (Requested, Hands)
     requires ready { IsReady map.now triggers.now hands }
     requires key { key < map.now.shape.keys }
-    ensures ready { IsReady map.now triggers.now result.1 }
-    ensures moves { Moves (length (requested hands.reader.number key result.0)) hands (requested hands.reader.number key result.0) result.1 }
-    ensures leaves { LeavesKept result.0 result.1.kept }
-    ensures attempts { result.1.poster.tries ≡ hands.poster.tries + sent_attempts result.0 }
-    ensures rings { Rings hands lobby.old result.1 lobby.new }
+    ensures ready { let (_, after) = result in IsReady map.now triggers.now after }
+    ensures moves { let (answer, after) = result in Moves (length (requested hands.reader.number key answer)) hands (requested hands.reader.number key answer) after }
+    ensures leaves { let (answer, after) = result in LeavesKept answer after.kept }
+    ensures attempts { let (answer, after) = result in after.poster.tries ≡ hands.poster.tries + sent_attempts answer }
+    ensures rings { let (_, after) = result in Rings hands lobby.old after lobby.new }
 {
     let Hands {
         mut reader,
@@ -124,9 +124,9 @@ fn lets_pass<G: Gate>(places: &Places<'_, G>, get: u64) -> bool
 #[inline(always)]
 fn answer<G: Gate>(places: &Places<'_, G>, get: u64, pin: Pin, rows: &mut RowSet) -> (Got, Reader)
     requires own { pin.reader.table ≡ places.now.map.now }
-    ensures answers { AnswersPin pin rows.old result.0 result.1 rows.new }
-    ensures asks { AsksGate G.lets G.hears places.now.gate.now places.now.reader get result.0 }
-    ensures idle { result.1.holds ≡ None }
+    ensures answers { let (got, reader) = result in AnswersPin pin rows.old got reader rows.new }
+    ensures asks { let (got, _) = result in AsksGate G.lets G.hears places.now.gate.now places.now.reader get got }
+    ensures idle { let (_, reader) = result in reader.holds ≡ None }
 {
     let mut pin = pin;
     if !lets_pass(places, get) {
@@ -151,10 +151,10 @@ fn try_once<G: Gate, R: Wait>(
 ) -> (Tried, Hands)
     requires ready { IsReady places.now.map.now places.now.triggers.now hands }
     requires key { key < places.now.map.now.shape.keys }
-    ensures ready { IsReady places.now.map.now places.now.triggers.now result.1 }
-    ensures tries { TriesOnce key hands rows.old result.0 result.1 rows.new }
-    ensures rings { Rings hands lobby.old result.1 lobby.new }
-    ensures asks { AsksOnce G.lets G.hears places.now.gate.now places.now.reader get result.0 }
+    ensures ready { let (_, after) = result in IsReady places.now.map.now places.now.triggers.now after }
+    ensures tries { let (tried, after) = result in TriesOnce key hands rows.old tried after rows.new }
+    ensures rings { let (_, after) = result in Rings hands lobby.old after lobby.new }
+    ensures asks { let (tried, _) = result in AsksOnce G.lets G.hears places.now.gate.now places.now.reader get tried }
 {
     let Hands {
         reader,
@@ -214,12 +214,12 @@ pub(crate) fn get_by_tries<G: Gate, L: Limit<R>, R: Wait>(
 ) -> (Result<Got, TooLate>, Hands)
     requires ready { IsReady places.now.map.now places.now.triggers.now hands }
     requires key { key < places.now.map.now.shape.keys }
-    ensures ready { IsReady places.now.map.now places.now.triggers.now result.1 }
-    ensures gets { GetsInTime key tries hands rows.old result.0 result.1 rows.new }
-    ensures late { IfErr result.0 (λ late. L.lapses limit.now late) }
-    ensures at_once { tries ≡ 0 → result.1 ≡ hands }
-    ensures rings { Rings hands lobby.old result.1 lobby.new }
-    ensures asks { IfOk result.0 (λ got. AsksGate G.lets G.hears places.now.gate.now places.now.reader get got) }
+    ensures ready { let (_, after) = result in IsReady places.now.map.now places.now.triggers.now after }
+    ensures gets { let (ended, after) = result in GetsInTime key tries hands rows.old ended after rows.new }
+    ensures late { let (ended, _) = result in IfErr ended (λ late. L.lapses limit.now late) }
+    ensures at_once { let (_, after) = result in tries ≡ 0 → after ≡ hands }
+    ensures rings { let (_, after) = result in Rings hands lobby.old after lobby.new }
+    ensures asks { let (ended, _) = result in IfOk ended (λ got. AsksGate G.lets G.hears places.now.gate.now places.now.reader get got) }
 {
     let mut hands = hands;
     for i in 0..tries {

@@ -34,7 +34,7 @@ gained steps id way set rows old new tagged gains =
       since = gains.between;
       later = e ∷ [];
       known = gains.seen;
-      resident = (way, has.0, has.1 ∙ ap (λ (l : List Row). Rows has.0 l) tagged);
+      resident = (way, (has.0, has.1 ∙ ap (λ (l : List Row). Rows has.0 l) tagged));
     }
 
 -- what was known before, and what the call learnt besides

@@ -15,7 +15,7 @@ use Rattle.nr_idmap.specs.IdHands.{PinsById}
 use Rattle.nr_idmap.specs.IdHeard.{IsUnnamedSince, PinsItsRows}
 use Rattle.nr_idmap.specs.IdLaws.{OneSet}
 use Rattle.nr_idmap.specs.Keepers.{IdTable}
-use Rattle.nr_idmap.specs.Tags.{IsResident}
+use Rattle.nr_idmap.specs.Tags.{IsResident, KeepsId}
 use Rattle.nr_idmap.specs.Tidy.{IsTidy}
 use Rattle.nr_idmap.proofs.Entries.{after_both, count_after}
 use Rattle.nr_idmap.proofs.HeardRows.{Kept, count_both, kept_begins, kept_ends, kept_heard}
@@ -53,11 +53,11 @@ module _ (one_set : OneSet) (table : Table) (text : Named) (way : ℕ) (before :
       let at = kept_begins opened (before ++ upto) tail kept in
       let keys : ℕ = table.shape.keys in let number : ℕ = table.shape.first_number in let log : List Entry = before ++ upto in
       let e : table.shape.rows ≡ suc (table.shape.rows - 1) = omega (arith, some) in
-      let same = one_set table.shape.keys (table.shape.rows - 1) table.shape.first_number (before ++ upto) text.id set (text_rows text ++ has.1)
+      let same = one_set table.shape.keys (table.shape.rows - 1) table.shape.first_number (before ++ upto) text.id resident.0 way set (text_rows text ++ has.1)
       (subst (λ (b : ℕ). IsLegal (opening table.shape.keys b table.shape.first_number) (before ++ upto)) e at.0)
       (subst (λ (b : ℕ). IsTidy (opening table.shape.keys b table.shape.first_number) (before ++ upto)) e at.1)
-      (subst (λ (b : ℕ). IsResident (after (opening table.shape.keys b table.shape.first_number) (before ++ upto)) text.id set) e resident)
-      (subst (λ (b : ℕ). IsResident (after (opening table.shape.keys b table.shape.first_number) (before ++ upto)) text.id (text_rows text ++ has.1)) e (way, has.0, has.2)) in
+      (subst (λ (b : ℕ). KeepsId (after (opening table.shape.keys b table.shape.first_number) (before ++ upto)) resident.0 text.id set) e resident.1)
+      (subst (λ (b : ℕ). KeepsId (after (opening table.shape.keys b table.shape.first_number) (before ++ upto)) way text.id (text_rows text ++ has.1)) e (has.0, has.2)) in
       lacks has.1 same.1
 
 pub pins_its_text : OneSet → PinsItsRows → PinsItsText

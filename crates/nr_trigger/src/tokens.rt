@@ -16,6 +16,7 @@ pub struct Poster {
 impl Model for Poster {
     ghost use Rattle.std.specs.Prelude.{◌≡◌, []};
     ghost use Rattle.crossbeam_queue.specs.Passes.{view as known};
+    ghost use Rattle.nr_board.specs.Views.{carried_by};
     ghost use Rattle.nr_trigger.specs.Views.{Poster as PosterKnows, posting_of};
     ghost use Rattle.nr_trigger.specs.Tokens.{PosterSeen, poster_seen};
 
@@ -23,7 +24,7 @@ impl Model for Poster {
 
     ghost view = { λ poster. poster_seen poster.seat.table_id (posting_of (known poster.seat)) poster.tries.made };
 
-    ghost invariant = { λ poster. (poster.seat.me.1 ≡ []) × (known poster.seat ≡ PosterKnows (posting_of (known poster.seat))) × (poster.number ≡ (posting_of (known poster.seat)).number) };
+    ghost invariant = { λ poster. (carried_by poster.seat ≡ []) × (known poster.seat ≡ PosterKnows (posting_of (known poster.seat))) × (poster.number ≡ (posting_of (known poster.seat)).number) };
 }
 
 /// What the dataflow's thread takes with.
@@ -36,6 +37,7 @@ pub struct Taker {
 impl Model for Taker {
     ghost use Rattle.std.specs.Prelude.{◌≡◌, []};
     ghost use Rattle.crossbeam_queue.specs.Passes.{view as known};
+    ghost use Rattle.nr_board.specs.Views.{carried_by};
     ghost use Rattle.nr_trigger.specs.Views.{Taker as TakerKnows, taking_of};
     ghost use Rattle.nr_trigger.specs.Tokens.{TakerSeen, taker_seen};
 
@@ -43,5 +45,5 @@ impl Model for Taker {
 
     ghost view = { λ taker. taker_seen taker.seat.table_id (taking_of (known taker.seat)) taker.tries.made };
 
-    ghost invariant = { λ taker. (taker.seat.me.1 ≡ []) × (known taker.seat ≡ TakerKnows (taking_of (known taker.seat))) };
+    ghost invariant = { λ taker. (carried_by taker.seat ≡ []) × (known taker.seat ≡ TakerKnows (taking_of (known taker.seat))) };
 }

@@ -1,6 +1,8 @@
 //! The queue of tickets.
 ghost use Rattle.std.specs.Prelude.{◌≡◌, ◌<◌, ◌+◌, ◌⊎◌, ◌↔◌, ℕ, length, [], ◌++◌, ◌∷◌, Err, IfOk, IfErr, IfSome, IsTrue, MatchOption, MatchResult, None, Some};
+ghost use Rattle.crossbeam_queue.specs.Passes.{view as known};
 ghost use Rattle.nr_model.specs.Sizes.{IsBadSize};
+ghost use Rattle.nr_board.specs.Views.{carried_by};
 ghost use Rattle.nr_trigger.specs.Posts.{IsNoteOf, Limits, of_map, upquery_of};
 ghost use Rattle.nr_trigger.specs.declared.faults.PostFault.TheVariants.{Full as full};
 ghost use Rattle.nr_trigger.specs.declared.faults.TakeFault.TheVariants.{Empty as empty};
@@ -51,7 +53,7 @@ impl Triggers {
     ) -> Result<(Triggers, Vec<Poster>, Taker), OpenFault>
         ghost keys: { ℕ }
         ensures bad_size { (result ≡ Err OpenFault.BadSize) ↔ (IsBadSize 65536 capacity ⊎ IsBadSize 1024 posters) }
-        ensures ok { IfOk result (λ opened. IsOpenedQueue capacity posters keys opened.0 opened.1.items opened.2) }
+        ensures ok { IfOk result (λ (queue, all, taker). IsOpenedQueue capacity posters keys queue all.items taker) }
     {
         if is_bad_size(MAX_CAPACITY, capacity) || is_bad_size(MAX_POSTERS, posters) {
             return Err(OpenFault::BadSize);
@@ -68,7 +70,7 @@ impl Triggers {
     ) -> Result<(Triggers, Vec<Poster>, Taker), OpenFault>
         ghost keys: { ℕ }
         ensures bad_size { (result ≡ Err OpenFault.BadSize) ↔ (IsBadSize 4194303 capacity ⊎ IsBadSize 65535 posters) }
-        ensures ok { IfOk result (λ opened. IsOpenedQueue capacity posters keys opened.0 opened.1.items opened.2) }
+        ensures ok { IfOk result (λ (queue, all, taker). IsOpenedQueue capacity posters keys queue all.items taker) }
     {
         if is_bad_size(MAX_LARGE_SLOTS, capacity) || is_bad_size(MAX_LARGE_READERS, posters) {
             return Err(OpenFault::BadSize);
@@ -84,7 +86,7 @@ impl Triggers {
         posters: u32,
     ) -> Result<(Triggers, Vec<Poster>, Taker), OpenFault>
         ensures bad_size { (result ≡ Err OpenFault.BadSize) ↔ (IsBadSize 4194303 capacity ⊎ IsBadSize 65535 posters) }
-        ensures ok { IfOk result (λ opened. IsOpenedWithin (of_map map.now) capacity posters opened.0 opened.1.items opened.2) }
+        ensures ok { IfOk result (λ (queue, all, taker). IsOpenedWithin (of_map map.now) capacity posters queue all.items taker) }
     {
         if is_bad_size(MAX_LARGE_SLOTS, capacity) || is_bad_size(MAX_LARGE_READERS, posters) {
             return Err(OpenFault::BadSize);
@@ -211,16 +213,16 @@ impl Triggers {
     // The taker, whose pass is the queue's first.
     fn seat_taker(&self, seat: Pass<Post, View>) -> Taker
         ghost limits: { Limits }
-        requires own { (seat.table_id ≡ self.now.id) × (seat.me.1 ≡ []) }
-        requires first { seat.me.0.client ≡ Opener }
+        requires own { (seat.table_id ≡ self.now.id) × (carried_by seat ≡ []) }
+        requires first { known seat ≡ Opener }
         ensures { result ≡ new_taker self.now.id limits 0 }
     {
         self.begin::<Brand>(seat)
     }
 
     fn begin<L: Limit>(&self, seat: Pass<Post, View>) -> Taker
-        requires own { (seat.table_id ≡ self.now.id) × (seat.me.1 ≡ []) }
-        requires first { seat.me.0.client ≡ Opener }
+        requires own { (seat.table_id ≡ self.now.id) × (carried_by seat ≡ []) }
+        requires first { known seat ≡ Opener }
         ensures { result ≡ new_taker self.now.id L.limits 0 }
     {
         let mut seat = seat;
@@ -257,7 +259,7 @@ fn seated_for(
     ghost limits: { Limits }
     requires room { 0 < capacity }
     requires limits { limits ≡ of_map map.now }
-    ensures { IfOk result (λ opened. IsOpenedWithin limits capacity posters opened.0 opened.1.items opened.2) }
+    ensures { IfOk result (λ (queue, all, taker). IsOpenedWithin limits capacity posters queue all.items taker) }
 {
     seated(alloc, capacity, posters)
 }
@@ -270,7 +272,7 @@ fn seated(
 ) -> Result<(Triggers, Vec<Poster>, Taker), AllocError>
     ghost limits: { Limits }
     requires { 0 < capacity }
-    ensures { IfOk result (λ opened. IsOpenedWithin limits capacity posters opened.0 opened.1.items opened.2) }
+    ensures { IfOk result (λ (queue, all, taker). IsOpenedWithin limits capacity posters queue all.items taker) }
 {
     let (queue, seat) = RuledArrayQueue::ruled(alloc, capacity as usize)?;
     let triggers = Triggers { queue };

@@ -7,7 +7,7 @@ ghost use Rattle.nr_machine.specs.States.{Go};
 ghost use Rattle.nr_machine.specs.Machine.{moved, found_by};
 ghost use Rattle.nr_machine.specs.Outcomes.{step_of};
 ghost use Rattle.nr_machine.specs.Parts.{machine_state};
-ghost use Rattle.nr_machine.specs.Writer.{moved_to, no_slot, settled, swapped, went};
+ghost use Rattle.nr_machine.specs.Writer.{desk_in, moved_to, no_slot, settled, step_in, swapped, went};
 ghost use Rattle.nr_machine.specs.Room.{HasRoom};
 
 use crate::machine::Machine;
@@ -20,8 +20,8 @@ impl Machine {
     /// retired ones, and where none is retired either it ends.
     pub fn settle(&mut self) -> Outcome
         requires { length self.old.spare.retired ≤ self.old.layout.slots }
-        ensures answer { (found : List Row) → step_of found result ≡ (settled (machine_state self.old).shape (machine_state self.old).desk self.old.call self.old.rows).1 }
-        ensures new { machine_state self.new ≡ record (machine_state self.old) { desk = (settled (machine_state self.old).shape (machine_state self.old).desk self.old.call self.old.rows).0 } }
+        ensures answer { (found : List Row) → step_of found result ≡ step_in (settled (machine_state self.old).shape (machine_state self.old).desk self.old.call self.old.rows) }
+        ensures new { machine_state self.new ≡ record (machine_state self.old) { desk = desk_in (settled (machine_state self.old).shape (machine_state self.old).desk self.old.call self.old.rows) } }
     {
         if let Some(slot) = self.spare.take_fresh() {
             self.stage = Stage::Putting(slot, self.first_count, 0);
@@ -39,7 +39,7 @@ impl Machine {
     pub fn poll(&mut self, poll: u32) -> Outcome
         requires stage { self.old.stage ≡ Searching poll }
         requires room { HasRoom (machine_state self.old) }
-        ensures answer { (found : List Row) → step_of found result ≡ (went (machine_state self.old).shape (machine_state self.old).desk (machine_state self.old).desk.place (found_by (machine_state self.old) Go)).1 }
+        ensures answer { (found : List Row) → step_of found result ≡ step_in (went (machine_state self.old).shape (machine_state self.old).desk (machine_state self.old).desk.place (found_by (machine_state self.old) Go)) }
         ensures new { machine_state self.new ≡ moved (machine_state self.old) Go }
     {
         let retired = self.spare.retired_at(poll as usize);

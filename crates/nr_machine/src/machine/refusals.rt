@@ -85,8 +85,8 @@ impl Machine {
         ensures read { OnOk result (refusal (machine_state self.now) (Read reader index) ≡ None) }
         ensures refused { IfErr result (λ why. refusal (machine_state self.now) (Read reader index) ≡ Some why) }
         ensures reader { OnOk result ((0 < reader) × (reader ≤ (machine_state self.now).shape.readers)) }
-        ensures hold { IfOk result (λ held. hold_of (machine_state self.now) reader ≡ On held.0 held.1) }
-        ensures slot_in { IfOk result (λ held. held.0 < (machine_state self.now).shape.slots) }
+        ensures hold { IfOk result (λ (slot, size). hold_of (machine_state self.now) reader ≡ On slot size) }
+        ensures slot_in { IfOk result (λ (slot, _). slot < (machine_state self.now).shape.slots) }
         ensures index_in { OnOk result (index < slot_room (machine_state self.now).shape) }
     {
         if !self.has_reader(reader) {

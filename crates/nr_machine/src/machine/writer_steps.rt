@@ -10,7 +10,7 @@ ghost use Rattle.nr_machine.specs.Story.{call_of};
 ghost use Rattle.nr_machine.specs.Machine.{next_state, moved, found_by, start_answer, go_answer};
 ghost use Rattle.nr_machine.specs.Outcomes.{step_of, step_or_refusal};
 ghost use Rattle.nr_machine.specs.Parts.{machine_state};
-ghost use Rattle.nr_machine.specs.Writer.{looked, fill_asked, cancel_asked, settled, decoded, went, moved_to};
+ghost use Rattle.nr_machine.specs.Writer.{looked, fill_asked, cancel_asked, settled, decoded, went, moved_to, desk_in, step_in};
 ghost use Rattle.nr_machine.specs.Slots.{bound_of, slot_room};
 ghost use Rattle.nr_model.specs.Maps.{SetFits};
 ghost use Rattle.nr_machine.specs.Given.{IsGivenCall};
@@ -63,8 +63,8 @@ impl Machine {
     /// Where the call goes from its look, which found that word.
     fn look(&mut self, call: &WriterCall, word: u64) -> Outcome
         requires { length self.old.spare.retired ≤ self.old.layout.slots }
-        ensures answer { (found : List Row) → step_of found result ≡ (looked (machine_state self.old).shape (machine_state self.old).desk call.now word).1 }
-        ensures new { machine_state self.new ≡ record (machine_state self.old) { desk = (looked (machine_state self.old).shape (machine_state self.old).desk call.now word).0 } }
+        ensures answer { (found : List Row) → step_of found result ≡ step_in (looked (machine_state self.old).shape (machine_state self.old).desk call.now word) }
+        ensures new { machine_state self.new ≡ record (machine_state self.old) { desk = desk_in (looked (machine_state self.old).shape (machine_state self.old).desk call.now word) } }
     {
         let found = parts(word);
         match call {
@@ -131,8 +131,8 @@ impl Machine {
     /// number alone.
     fn fill_asked(&mut self, call: &WriterCall, number: u64, rows: &RowSet, asked: u64) -> Outcome
         requires { length self.old.spare.retired ≤ self.old.layout.slots }
-        ensures answer { (found : List Row) → step_of found result ≡ (fill_asked (machine_state self.old).shape (machine_state self.old).desk call.now number rows.now asked).1 }
-        ensures new { machine_state self.new ≡ record (machine_state self.old) { desk = (fill_asked (machine_state self.old).shape (machine_state self.old).desk call.now number rows.now asked).0 } }
+        ensures answer { (found : List Row) → step_of found result ≡ step_in (fill_asked (machine_state self.old).shape (machine_state self.old).desk call.now number rows.now asked) }
+        ensures new { machine_state self.new ≡ record (machine_state self.old) { desk = desk_in (fill_asked (machine_state self.old).shape (machine_state self.old).desk call.now number rows.now asked) } }
     {
         if asked != number {
             return self.end(Outcome::Stale);
@@ -143,8 +143,8 @@ impl Machine {
     /// The call takes a slot for the set that it brings.
     fn settle_on(&mut self, call: &WriterCall, rows: &RowSet) -> Outcome
         requires { length self.old.spare.retired ≤ self.old.layout.slots }
-        ensures answer { (found : List Row) → step_of found result ≡ (settled (machine_state self.old).shape (machine_state self.old).desk call.now rows.now).1 }
-        ensures new { machine_state self.new ≡ record (machine_state self.old) { desk = (settled (machine_state self.old).shape (machine_state self.old).desk call.now rows.now).0 } }
+        ensures answer { (found : List Row) → step_of found result ≡ step_in (settled (machine_state self.old).shape (machine_state self.old).desk call.now rows.now) }
+        ensures new { machine_state self.new ≡ record (machine_state self.old) { desk = desk_in (settled (machine_state self.old).shape (machine_state self.old).desk call.now rows.now) } }
     {
         self.call = *call;
         self.rows = *rows;
@@ -153,8 +153,8 @@ impl Machine {
 
     /// Where a cancel goes whose key is asked with that number: the last one is not taken back.
     fn cancel_asked(&mut self, key: u32, asked: u64) -> Outcome
-        ensures answer { (found : List Row) → step_of found result ≡ (cancel_asked (machine_state self.old).desk key asked).1 }
-        ensures new { machine_state self.new ≡ record (machine_state self.old) { desk = (cancel_asked (machine_state self.old).desk key asked).0 } }
+        ensures answer { (found : List Row) → step_of found result ≡ step_in (cancel_asked (machine_state self.old).desk key asked) }
+        ensures new { machine_state self.new ≡ record (machine_state self.old) { desk = desk_in (cancel_asked (machine_state self.old).desk key asked) } }
     {
         if asked < LAST_NUMBER {
             self.stage = Stage::Withdrawing(key);
@@ -168,7 +168,7 @@ impl Machine {
     fn read_on(&mut self, slot: u32, found: &mut RowSet) -> Outcome
         requires stage { self.old.stage ≡ Reading slot }
         requires room { HasRoom (machine_state self.old) }
-        ensures answer { step_of found.new result ≡ (went (machine_state self.old).shape (machine_state self.old).desk (machine_state self.old).desk.place (found_by (machine_state self.old) Go)).1 }
+        ensures answer { step_of found.new result ≡ step_in (went (machine_state self.old).shape (machine_state self.old).desk (machine_state self.old).desk.place (found_by (machine_state self.old) Go)) }
         ensures new { machine_state self.new ≡ moved (machine_state self.old) Go }
     {
         let word = self.words.load(self.layout.content(slot, self.got.len()));
@@ -186,8 +186,8 @@ impl Machine {
         requires fits { length self.old.got ≤ slot_room (machine_state self.old).shape }
         requires few { length self.old.spare.retired ≤ self.old.layout.slots }
         requires whole { length self.old.got ≡ 2 * slice_index self.old.got 0 + 1 }
-        ensures answer { step_of found.new result ≡ (decoded (machine_state self.old).shape (machine_state self.old).desk self.old.call (decode self.old.got)).1 }
-        ensures new { machine_state self.new ≡ record (machine_state self.old) { desk = (decoded (machine_state self.old).shape (machine_state self.old).desk self.old.call (decode self.old.got)).0 } }
+        ensures answer { step_of found.new result ≡ step_in (decoded (machine_state self.old).shape (machine_state self.old).desk self.old.call (decode self.old.got)) }
+        ensures new { machine_state self.new ≡ record (machine_state self.old) { desk = desk_in (decoded (machine_state self.old).shape (machine_state self.old).desk self.old.call (decode self.old.got)) } }
     {
         let Some(rows) = self.got.set() else {
             return self.end(Outcome::Going);
@@ -218,7 +218,7 @@ impl Machine {
         requires stage { self.old.stage ≡ Putting slot departed index }
         requires room { HasRoom (machine_state self.old) }
         requires more { index ≤ 2 * length self.old.rows }
-        ensures answer { (found : List Row) → step_of found result ≡ (went (machine_state self.old).shape (machine_state self.old).desk (machine_state self.old).desk.place (found_by (machine_state self.old) Go)).1 }
+        ensures answer { (found : List Row) → step_of found result ≡ step_in (went (machine_state self.old).shape (machine_state self.old).desk (machine_state self.old).desk.place (found_by (machine_state self.old) Go)) }
         ensures new { machine_state self.new ≡ moved (machine_state self.old) Go }
     {
         let word = word_at(&self.rows, index as usize);
@@ -233,7 +233,7 @@ impl Machine {
         requires stage { self.old.stage ≡ Putting slot departed index }
         requires room { HasRoom (machine_state self.old) }
         requires all_put { 2 * length self.old.rows < index }
-        ensures answer { (found : List Row) → step_of found result ≡ (went (machine_state self.old).shape (machine_state self.old).desk (machine_state self.old).desk.place (found_by (machine_state self.old) Go)).1 }
+        ensures answer { (found : List Row) → step_of found result ≡ step_in (went (machine_state self.old).shape (machine_state self.old).desk (machine_state self.old).desk.place (found_by (machine_state self.old) Go)) }
         ensures new { machine_state self.new ≡ moved (machine_state self.old) Go }
     {
         let place = self.layout.key(self.call.key());
@@ -247,7 +247,7 @@ impl Machine {
     fn unpublish(&mut self, key: u32) -> Outcome
         requires stage { self.old.stage ≡ Leaving key }
         requires room { HasRoom (machine_state self.old) }
-        ensures answer { (found : List Row) → step_of found result ≡ (went (machine_state self.old).shape (machine_state self.old).desk (machine_state self.old).desk.place (found_by (machine_state self.old) Go)).1 }
+        ensures answer { (found : List Row) → step_of found result ≡ step_in (went (machine_state self.old).shape (machine_state self.old).desk (machine_state self.old).desk.place (found_by (machine_state self.old) Go)) }
         ensures new { machine_state self.new ≡ moved (machine_state self.old) Go }
     {
         let hole = hole_word(self.number(key), false);
@@ -261,7 +261,7 @@ impl Machine {
     fn withdraw(&mut self, key: u32) -> Outcome
         requires stage { self.old.stage ≡ Withdrawing key }
         requires room { HasRoom (machine_state self.old) }
-        ensures answer { (found : List Row) → step_of found result ≡ (went (machine_state self.old).shape (machine_state self.old).desk (machine_state self.old).desk.place (found_by (machine_state self.old) Go)).1 }
+        ensures answer { (found : List Row) → step_of found result ≡ step_in (went (machine_state self.old).shape (machine_state self.old).desk (machine_state self.old).desk.place (found_by (machine_state self.old) Go)) }
         ensures new { machine_state self.new ≡ moved (machine_state self.old) Go }
     {
         let number = self.number(key) + 1;

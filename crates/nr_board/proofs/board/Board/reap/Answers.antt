@@ -27,21 +27,21 @@ returns-in-Free-clause-reaps g c = let map = c.args.self.now in let spare = c.ar
     found.slot_is
     (subst (λ (rows : List Row). g.R.RowRoom.shows c.recall_set.new.rows rows × IsRowSet (token before).table.shape.rows rows
     × (token c.recall_set.new.seat ≡ with_reap slot (after_polls (found.earlier ++ found.notes) (found.loads ++ (held_polls found.held ++ OfSlot slot true ∷ [])) found.scanned (2 * length rows + 1) (token before))))
-    set_is (c.recall_set.ensures.rows, subst (λ (t : Table). IsRowSet t.shape.rows (set_in mid.me.0.marks slot)) (sym c.requires.own) c.recall_set.ensures.row_set, token_is)) in (
-      found.held,
-      found.later,
-      found.entry,
-      found.notes,
-      found.earlier,
-      found.scanned,
-      found.loads,
-      found.first,
-      found.split,
-      found.each,
-      gives.0,
-      gives.1,
-      gives.2,
-    )
+    set_is (c.recall_set.ensures.rows, subst (λ (t : Table). IsRowSet t.shape.rows (set_in mid.me.0.marks slot)) (sym c.requires.own) c.recall_set.ensures.row_set, token_is)) in record {
+      held = found.held;
+      later = found.later;
+      entry = found.entry;
+      notes = found.notes;
+      earlier = found.earlier;
+      scanned = found.scanned;
+      loads = found.loads;
+      first = found.first;
+      split = found.split;
+      each = found.each;
+      shown = gives.0;
+      row_set = gives.1;
+      new_is = gives.2;
+    }
 
 pub returns-in-Held-clause-reaps : goal.returns-in-Held-clause-reaps
 returns-in-Held-clause-reaps g c = let map = c.args.self.now in let spare = c.args.spare.now in let before = c.args.seat.now in

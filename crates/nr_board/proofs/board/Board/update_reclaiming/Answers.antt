@@ -18,7 +18,7 @@ publish_reclaiming-requires g c = let begun = c.in_ok-begin_update.ensures in le
 pub returns-in-Ok : goal.returns-in-Ok
 returns-in-Ok g c = let begun = c.in_ok-begin_update.ensures in let is = begun.3 ∙ ap Ok (sym c.as_slice.ensures.value) in let put = c.in-Ok.ensures.publishes in
     let told = has_updated_later begun.2 is c.requires.call c.requires.key put.0 put.1 in
-    record { rests = told.0; flagged = c.in-Ok.ensures.flagged; updates = (begun.1, c.as_slice.result.now, is, put.0, told.1.0, told.1.1, given_out g.R.RowRoom.shows _ put.1.slot _ _ put.0 c.in-Ok.given (has_renewed begun.2 is) c.requires.own told.1.2 put.2) }
+    record { rests = told.0; flagged = c.in-Ok.ensures.flagged; updates = record { set = begun.1; left = c.as_slice.result.now; applies = is; steps = put.0; published = told.1.0; had = told.1.1; gives = given_out g.R.RowRoom.shows _ put.1.slot _ _ put.0 c.in-Ok.given (has_renewed begun.2 is) c.requires.own told.1.2 put.2 } }
 
 pub returns-in-Err : goal.returns-in-Err
 returns-in-Err g c = let begun = c.in_ok-begin_update.ensures in let is = begun.3 ∙ ap Ok (sym c.as_slice.ensures.value) in
