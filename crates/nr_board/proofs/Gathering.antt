@@ -109,6 +109,7 @@ recounted steps sum before after old new count learns = record {
   retired = learns.retired;
   numbers = learns.numbers;
   holds = learns.holds;
+  says = learns.says;
   marks = learns.marks;
   heard = learns.heard;
   news = learns.news;

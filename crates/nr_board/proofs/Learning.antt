@@ -97,6 +97,7 @@ module _ (shape : Shape) (id : ℕ) (me : Me (Unit {0}) View) (at : ℕ) (near :
           retired = ap (λ r. (desk_of r).retired) step.told.0;
           numbers = ap (λ r. (desk_of r).numbers) step.told.0;
           holds = ap (λ r. gripped (grip_of r)) step.told.0;
+          says = refl;
           marks = grown.0;
           heard = refl;
           news = marked.news;

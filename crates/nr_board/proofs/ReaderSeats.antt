@@ -1,5 +1,5 @@
 -- What the reader's steps tell of its seat.
-use Rattle.std.proofs.Common.{Bool, refl, cond, eq-eqb, nat_eq, ne_eqb, suc, ◌+◌, ◌≡◌, ℕ, ◌<◌, true, false, [], ap, sym, subst, arith, ◌∙◌}
+use Rattle.std.proofs.Common.{Bool, refl, cond, eq-eqb, nat_eq, ne_eqb, suc, ◌+◌, ◌≡◌, ℕ, ◌<◌, true, false, [], ap, sym, subst, arith, ◌∙◌, Some}
 use Rattle.std.proofs.lemmas.Bool.{eqb-true}
 use Rattle.std.specs.Prelude.{◌↔◌, ◌&&◌}
 use mathlib.Core.Logic.{dite}
@@ -12,17 +12,20 @@ use Rattle.nr_words.specs.KeyWords.{has_ask, is_filled, slot_of}
 use Rattle.nr_core.proofs.Choices.{by_cases}
 use Rattle.nr_core.proofs.KeyWords.{names_one}
 use Rattle.nr_core.proofs.WordPlaces.{same_content}
-use Rattle.nr_marks.specs.Marks.{with_look}
+use Rattle.nr_marks.specs.Marks.{gripped, with_look}
 use Rattle.nr_machine.specs.Slots.{bound_of, content, name_number, names_slot}
 use Rattle.nr_core.specs.Steps.{ask_word}
 use Rattle.nr_machine.specs.Story.{map_after}
 use Rattle.nr_marks.specs.MarkSteps.{ComparesPuts, found_again}
 use Rattle.nr_marks.specs.Puts.{put_number}
 use Rattle.nr_machine.specs.declared.roles.Grip.TheVariants.{Nothing, On}
+use Rattle.nr_machine.specs.declared.roles.Role.{Role}
 use Rattle.nr_machine.specs.declared.roles.Role.TheVariants.{Reader}
 use Rattle.nr_machine.specs.declared.shape.Shape.{Shape}
 use Rattle.nr_board.proofs.Tokens.{MapSeat, seat_grows, seat_rests}
 use Rattle.nr_board.specs.Callers.{Gains, Grows, Rests, Table, map_seen, token}
+use Rattle.nr_board.specs.Holds.{HeldAs, HoldsWhatItSays, slot_in}
+use Rattle.nr_board.specs.declared.holds.Held.{Held}
 use Rattle.nr_board.specs.Kinds.{kind_of, kind_shown}
 use Rattle.nr_board.specs.Meetings.{HasPut}
 use Rattle.nr_board.specs.declared.answers.KeyKind.{KeyKind}
@@ -71,8 +74,17 @@ module _ (table : Table) (before after : MapSeat) (same : after.table_id ≡ bef
 pub held_slot : {table : Table} {seat : MapSeat} (slot : ℕ) → HoldsAt table (content table.shape slot 0) seat → slot ≡ slot_held seat.me.0.role
 held_slot {table = table} {seat = seat} slot holds = same_content table.shape slot 0 (slot_held seat.me.0.role) 0 (omega arith) (omega arith) holds.begin_is
 
+pub held_gripped : {table : Table} {seat : MapSeat} (slot : ℕ) → HoldsAt table (content table.shape slot 0) seat → (token seat).holds ≡ Some slot
+held_gripped slot holds = ap (λ (r : Role). gripped (grip_of r)) holds.holds.is ∙ ap Some (sym (held_slot slot holds))
+
 pub held_inside : {table : Table} {seat : MapSeat} (slot : ℕ) → HoldsAt table (content table.shape slot 0) seat → slot < table.shape.slots
 held_inside slot holds = omega (arith, held_slot slot holds, holds.holds.inside)
+
+-- what it holds by its word is the slot that this says
+pub held_says : (table : Table) (held : Held) (seat : MapSeat) → HeldAs table held seat → HoldsWhatItSays (token seat)
+held_says table held seat so loud =
+    let slot : held.slot ≡ slot_held seat.me.0.role = same_content table.shape held.slot 0 (slot_held seat.me.0.role) 0 (omega arith) (omega arith) (sym so.begin_is ∙ so.holds.begin_is) in
+    so.says ∙ so.said (omega (arith, loud, so.says)) ∙ ap suc (slot ∙ sym (ap (λ (r : Role). slot_in (gripped (grip_of r))) so.holds.holds.is))
 
 -- the name of a filled word
 pub filled_name : (word : ℕ) → is_filled word ≡ true → name_number word ≡ suc (slot_of word)

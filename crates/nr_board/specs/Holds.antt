@@ -1,11 +1,12 @@
 -- A reader finds a key and holds its set: by its own word where it has one, and else by the counts.
-use Rattle.std.specs.Prelude.{◌≡◌, ◌≢◌, ℕ, suc, ◌+◌, ◌-◌, ◌<◌, ◌≤◌, ◌⊎◌, nat_lt, if◌then◌else◌, Bool, true, false, List, [], ◌∷◌, ◌++◌, length, map, Option, Some, None, Result, Ok, Err}
+use Rattle.std.specs.Prelude.{◌≡◌, ◌≢◌, ℕ, suc, ◌+◌, ◌-◌, ◌<◌, ◌≤◌, ◌⊎◌, ◌↔◌, nat_lt, if◌then◌else◌, Bool, true, false, List, [], ◌∷◌, ◌++◌, length, map, Option, Some, None, Result, Ok, Err}
 use Rattle.nr_model.specs.declared.calls.Call.TheVariants as model
 use Rattle.nr_model.specs.declared.calls.Reply.TheVariants as reply
 use Rattle.nr_model.specs.declared.rows.Row.{Row}
 use Rattle.nr_words.specs.KeyWords.{is_filled, slot_of}
 use Rattle.nr_machine.specs.Slots.{content, name_number, names_slot}
 use Rattle.nr_marks.specs.Marks.{LoggedLoad, Marks, OfKey, acted, with_loads, with_look}
+use Rattle.nr_marks.specs.MarkSteps.{found_again}
 use Rattle.nr_marks.specs.Puts.{put_number}
 use Rattle.nr_board.specs.declared.holds.Held.{Held}
 use Rattle.nr_board.specs.Callers.{Caller, Gains, Grows, Table, token}
@@ -74,6 +75,21 @@ FindsRows more key rows old new = FindsRowsAfter [] more key rows old new
 abbrev pub FindsHole : ℕ → ℕ → Caller → Caller → Type 0
 FindsHole more key old new = FindsHoleAfter [] more key old new
 
+-- the slot that is held
+abbrev pub slot_in : Option ℕ → ℕ
+slot_in None = 0
+slot_in (Some slot) = slot
+
+-- what it holds by its word is the slot that this says
+abbrev pub HoldsWhatItSays : Caller → Type 0
+HoldsWhatItSays reader = 0 < reader.says → reader.says ≡ suc (slot_in reader.holds)
+
+-- by one look at a key a reader that holds a slot finds the key again, where the look named that slot, and else it finds nothing
+pub record LooksAgain (key : ℕ) (holds : Option ℕ) (found : Bool) (old new : Marks) : Type 0 where
+  pub named : ℕ
+  pub exact : (found ≡ true) ↔ (named ≡ suc (slot_in holds))
+  pub marks : new ≡ found_again found (with_look old key named)
+
 -- WHAT A SEAT HOLDS
 
 -- a reader's seat that holds this: by its own word, if that says anything, or by a count
@@ -82,6 +98,7 @@ pub record HeldAs (table : Table) (held : Held) (seat : MapSeat) : Type 0 where
   pub begin_is : held.begin ≡ content table.shape held.slot 0
   pub count_is : held.count ≡ length (rows_held (view_of seat).role)
   pub says : (view_of seat).says ≡ held.says
+  pub said : 0 < held.says → held.says ≡ suc held.slot
   pub worded : 0 < held.says → caller_number (view_of seat).role ≤ table.announcers
 
 -- the find of a reader whose marks were these is an entry after that many steps: the set is held, or the key was a hole and nothing is held

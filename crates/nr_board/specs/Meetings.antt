@@ -29,11 +29,12 @@ pub record Learns (steps : ℕ) (old new : Caller) : Type 0 where
   -- and of others' only finds and requests of the map's readers, and calls of its writer, which bring no sets but row sets of the map
   pub callers : AreCallers old.table.shape new.seen
   pub steps_made : new.steps ≡ old.steps + steps
-  -- the writer's slots and its list of numbers, a reader's hold, and the marks stay
+  -- the writer's slots and its list of numbers, a reader's hold and word, and the marks stay
   pub fresh : new.fresh ≡ old.fresh
   pub retired : new.retired ≡ old.retired
   pub numbers : new.numbers ≡ old.numbers
   pub holds : new.holds ≡ old.holds
+  pub says : new.says ≡ old.says
   pub marks : new.marks ≡ old.marks
   pub heard : new.heard ≡ old.heard
   -- it forgets nothing that it knew of readers

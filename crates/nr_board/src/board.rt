@@ -1,5 +1,5 @@
 //! The table of words. It is private to this module, whose functions make one step each.
-ghost use Rattle.std.specs.Prelude.{ℕ, ◌≡◌, ◌↔◌, ◌<◌, ◌≤◌, ◌^◌, ◌*◌, ◌⊎◌, ◌++◌, true, false, [], length, replicate, slice_index, IfOk, if◌then◌else◌};
+ghost use Rattle.std.specs.Prelude.{ℕ, ◌≡◌, ◌↔◌, ◌<◌, ◌≤◌, ◌^◌, ◌*◌, ◌⊎◌, ◌++◌, true, false, [], length, replicate, slice_index, IfOk, Some, if◌then◌else◌};
 ghost use Rattle.nr_model.specs.Maps.{state_of};
 ghost use Rattle.nr_model.specs.declared.rows.TheConstants.{MAX_ROWS};
 ghost use Rattle.nr_model.specs.declared.calls.Call.TheVariants as model;
@@ -21,9 +21,10 @@ ghost use Rattle.nr_machine.specs.Sizes.{IsShape};
 ghost use Rattle.nr_board.specs.Views.{grip_of, rows_held, with_reader, next_reader, opener, view_of, carried_by};
 ghost use Rattle.nr_board.specs.Callers.{Gains, Grows, Rests, map_seen, token};
 ghost use Rattle.nr_marks.specs.Exact.{Lists};
-ghost use Rattle.nr_marks.specs.Marks.{acted, set_in, with_loads, with_look, with_polls};
+ghost use Rattle.nr_marks.specs.Marks.{acted, set_in, with_look, with_polls};
 ghost use Rattle.nr_marks.specs.MarkSteps.{found_again};
 ghost use Rattle.nr_marks.specs.Puts.{put_number};
+ghost use Rattle.nr_board.specs.Holds.{LooksAgain};
 ghost use Rattle.nr_board.specs.Seats.{AnnouncesAt, IdlesAt, HoldsAt};
 ghost use Rattle.nr_board.specs.Announcing.{says_at};
 ghost use Rattle.nr_board.specs.Plays.{IsIdle};
@@ -313,6 +314,7 @@ impl Board {
         ensures exact { (names_slot slot result ≡ true) ↔ HasPut key (view_of seat.old).marks.put (token seat.new) }
         ensures marks { (view_of seat.new).marks ≡ found_again (names_slot slot result) (with_look (view_of seat.old).marks key (name_number result)) }
         ensures says { (view_of seat.new).says ≡ (view_of seat.old).says }
+        ensures holds { (token seat.old).holds ≡ Some slot }
         ensures fits { slot < 2 ^ 22 }
     {
         only_proved(slot);
@@ -329,7 +331,7 @@ impl Board {
         ensures same { result ≡ true → Gains 1 (token seat.old) (model.Find key) (reply.Rows (rows_held (view_of seat.old).role)) (token seat.new) }
         ensures other { result ≡ false → Grows 1 (token seat.old) [] (token seat.new) }
         ensures exact { (result ≡ true) ↔ HasPut key (view_of seat.old).marks.put (token seat.new) }
-        ensures marks { (view_of seat.new).marks ≡ found_again result (with_loads (view_of seat.old).marks (view_of seat.new).marks.loads) }
+        ensures marks { LooksAgain key (token seat.old).holds result (view_of seat.old).marks (view_of seat.new).marks }
         ensures says { (view_of seat.new).says ≡ (view_of seat.old).says }
     {
         let word = self.look_again(seat, slot, key);

@@ -161,6 +161,7 @@ impl Board {
         requires reader { HoldsAt self.now begin seat.old }
         requires begin { begin ≡ content self.now.shape slot 0 }
         requires says { (view_of seat.old).says ≡ says }
+        requires said { 0 < says → says ≡ suc slot }
         requires worded { 0 < says → caller_number (view_of seat.old).role ≤ self.now.announcers }
         ensures held { HeldAs self.now result seat.new }
         ensures says { result.says ≡ says }

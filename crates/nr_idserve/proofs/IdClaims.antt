@@ -185,4 +185,5 @@ module _ {Room : Type 0} (shows : Room → List Row → Type 0) where
       each_both old gets.between new (misses_each capacity id old gets.misses.each gets.between gets.misses.all) (find_each capacity id gets.between before new after gets.ends.1)
   each_claim_is_posted_lem capacity id tries old new before after (Ok got.GaveUp) gets =
       subst (λ (hands : IdHands). PostsEach old hands) (sym gets.ends.1) (misses_each capacity id old gets.misses.each gets.between gets.misses.all)
-  each_claim_is_posted_lem capacity id tries old new before after (Err late) gets = misses_each capacity id old gets.misses.each new gets.misses.all
+  each_claim_is_posted_lem capacity id tries old new before after (Err late) gets =
+      each_both old gets.last new (misses_each capacity id old gets.misses.each gets.last gets.misses.all) (miss_each capacity id gets.last gets.missed new gets.slept.tried)

@@ -1,5 +1,5 @@
 -- What a get by id does: tries that find no rows, and how it ends.
-use Rattle.std.specs.Prelude.{◌≡◌, ◌<◌, ℕ, List, [], ◌∷◌, length, None, Some, Result, Ok, Err}
+use Rattle.std.specs.Prelude.{◌≡◌, ◌<◌, ◌+◌, ℕ, List, [], ◌∷◌, length, None, Some, Result, Ok, Err}
 use Rattle.nr_model.specs.declared.rows.Row.{Row}
 use Rattle.nr_ids.specs.declared.requests.Requested.{Requested}
 use Rattle.nr_ids.specs.declared.requests.Requested.TheVariants as requested
@@ -120,11 +120,12 @@ module _ {Room : Type 0} (shows : Room → List Row → Type 0) where
 
   -- a get that a sleep ended which timed out: tries were left, those that it made found no rows, and after the last of them the group was to be raised
   pub record EndsIdLate (capacity id tries : ℕ) (old : IdHands) (before : Room) (new : IdHands) (after : Room) : Type 0 where
+    -- those before the last
     pub made : ℕ
-    pub few : made < tries
-    pub misses : MissesTimes capacity id made old new
-    pub same : after ≡ before
+    pub few : made + 1 < tries
     pub last : IdHands
+    pub misses : MissesTimes capacity id made old last
+    pub same : after ≡ before
     pub missed : Missed
     pub slept : AwaitsRaise capacity id last missed new
 

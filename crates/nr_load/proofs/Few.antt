@@ -1,19 +1,18 @@
 -- A client's gets send no more requests than they have tries.
-use Rattle.std.proofs.Common.{ℕ, Bool, suc, zero, ◌+◌, ◌*◌, ◌<◌, ◌≤◌, List, [], ◌∷◌, ◌++◌, length, sym, ap, subst, arith, Option}
+use Rattle.std.proofs.Common.{ℕ, suc, zero, ◌+◌, ◌*◌, ◌<◌, ◌≤◌, List, [], ◌∷◌, ◌++◌, length, sym, ap, subst, arith, Option}
 use Rattle.std.proofs.Math.Nat.{mul-suc}
 use Rattle.nr_model.specs.declared.rows.Row.{Row}
 use Rattle.nr_model.specs.declared.calls.Reply.{Reply}
 use Rattle.nr_model.specs.declared.calls.Reply.TheVariants as reply
 use Rattle.nr_model.specs.Histories.{Entry}
 use Rattle.nr_board.specs.Callers.{Caller}
-use Rattle.nr_board.specs.Holds.{finds_by_word}
 use Rattle.rand_pcg.specs.Lcg.{Lcg}
 use Rattle.nr_serve.specs.declared.answers.Got.{Got}
 use Rattle.nr_serve.specs.declared.answers.Got.TheVariants as got
 use Rattle.nr_serve.specs.declared.answers.Requested.{Requested}
 use Rattle.nr_serve.specs.declared.answers.Requested.TheVariants.{NotMade, Sent, Waiting, Filled}
 use Rattle.nr_serve.specs.declared.hands.Hands.{Hands}
-use Rattle.nr_serve.specs.Gets.{Ends, found, miss, misses, requested}
+use Rattle.nr_serve.specs.Gets.{Ends, MayEnd, found, miss, misses, requested}
 use Rattle.nr_load.specs.declared.fault.LoadFault.{LoadFault}
 use Rattle.nr_load.specs.Drawn.{drawn, drawn_on}
 use Rattle.nr_load.specs.Gained.{Gained, Tells}
@@ -47,10 +46,10 @@ few_misses keys by key (request ∷ requests) low =
     (few_misses keys by key requests low)
 
 -- a get ends within its tries, by a find or by nothing
-few_last : (keys by key tries : ℕ) (by_word : Bool) (g : Got) (missed : ℕ) (last : List Entry) (steps : ℕ) (before rows : List Row) → key < keys → Ends by_word by key tries g missed last steps before rows → (missed ≤ tries) × IsFew keys last 0
-few_last keys by key tries by_word got.Rows missed last steps before rows low e = (let less = e.0 in omega arith, subst (λ (l : List Entry). IsFew keys l 0) (sym e.1) (few_find keys by key (reply.Rows rows) low))
-few_last keys by key tries by_word got.GaveUp missed last steps before rows low e = (let all = e.0 in omega arith, subst (λ (l : List Entry). IsFew keys l 0) (sym e.1) (record { count = 0; low = omega arith; tells = tells_none keys }))
-few_last keys by key tries by_word got.Barred missed last steps before rows low e = (let less = e.0 in omega arith, subst (λ (l : List Entry). IsFew keys l 0) (sym e.1.1) (few_find keys by key (reply.Rows e.1.0) low))
+few_last : (keys key tries : ℕ) (g : Got) (missed : ℕ) (between : Hands) (before : List Row) (last : List Entry) (new : Hands) (rows : List Row) → key < keys → MayEnd tries g missed → Ends key g between before last new rows → (missed ≤ tries) × IsFew keys last 0
+few_last keys key tries got.Rows missed between before last new rows low few e = (omega (arith, few), subst (λ (l : List Entry). IsFew keys l 0) (sym e.0) (few_find keys between.reader.number key (reply.Rows rows) low))
+few_last keys key tries got.GaveUp missed between before last new rows low few e = (omega (arith, few), subst (λ (l : List Entry). IsFew keys l 0) (sym e.0) (record { count = 0; low = omega arith; tells = tells_none keys }))
+few_last keys key tries got.Barred missed between before last new rows low few e = (omega (arith, few), subst (λ (l : List Entry). IsFew keys l 0) (sym e.1) (few_find keys between.reader.number key (reply.Rows e.0) low))
 
 -- of all that a caller did meanwhile
 pub record GainedFew (keys : ℕ) (old new : Caller) (most : ℕ) : Type 0 where
@@ -62,7 +61,7 @@ gets_few : (tries keys key : ℕ) (old : Hands) (g : Got) (rows : List Row) (new
 gets_few tries keys key old g rows new near gets =
     let get = gets.gets in
     let by : ℕ = old.reader.number in
-    let last = few_last keys by key tries (finds_by_word old.reader) g (length get.requests) get.last get.last_steps gets.before rows near get.ends in
+    let last = few_last keys key tries g (length get.requests) get.between gets.before get.last new rows near get.few get.ends in
     let all = few_both keys (misses by key get.requests) get.last (length get.requests) 0 tries (omega (arith, last.0)) (few_misses keys by key get.requests near) last.1 in
     record { count = all.count; low = all.low; gained = record { table = get.moves.makes.table; number = get.moves.makes.number; entries = misses by key get.requests ++ get.last; mine = get.moves.makes.mine; tells = all.tells } }
 

@@ -15,17 +15,18 @@ use Rattle.nr_marks.specs.Marks.{LoggedLoad, Marks, OfKey, acted, gripped, with_
 use Rattle.nr_marks.specs.MarkSteps.{found_again}
 use Rattle.nr_marks.specs.Puts.{put_number}
 use Rattle.nr_board.proofs.Holding.{grows_gains, rests_gains}
+use Rattle.nr_board.proofs.ReaderSeats.{held_says}
 use Rattle.nr_board.proofs.Tokens.{MapSeat}
 use Rattle.nr_board.specs.Ahead.{after_look}
 use Rattle.nr_board.specs.Callers.{Caller, Gains, Grows, Rests, Table, token}
-use Rattle.nr_board.specs.Holds.{HeldIn, HoleIn, finds_by_word, looks_at}
+use Rattle.nr_board.specs.Holds.{HeldIn, HoleIn, HoldsWhatItSays, finds_by_word, looks_at, slot_in}
 use Rattle.nr_board.specs.declared.board.Own.{Own}
 use Rattle.nr_board.specs.declared.holds.Held.{Held}
 use Rattle.nr_board.specs.Meetings.{HasPut}
 use Rattle.nr_board.specs.Views.{grip_of, rows_held}
 use Rattle.nr_map.specs.declared.hand.Kept.{Kept}
 use Rattle.nr_map.specs.Pins.{Pins}
-use Rattle.nr_map.specs.Hands.{AskedBefore, AsksInVain, FindsNone, Handed, HoldsAnew, HoldsKey, HoldsNothing, KeepsAnew, KeepsByHand, MovesByHand, PinsByHand, departed, goes_on, handed, late_by, looks_first, steps_to_depart}
+use Rattle.nr_map.specs.Hands.{AskedBefore, AsksInVain, FindsNone, Handed, HoldsAnew, HoldsKey, HoldsNothing, IsHand, KeepsAnew, KeepsByHand, MovesByHand, PinsByHand, departed, goes_on, handed, late_by, looks_first, steps_to_depart}
 
 -- a hold takes a step at least
 some_held : (by_word : Bool) (named : List ℕ) (says steps : ℕ) → HeldIn by_word named says steps → 0 < steps
@@ -153,15 +154,15 @@ module _ (key word : ℕ) (old asked new : Handed) (looks : looks_first key old.
 
 -- a hand that asked in vain goes on
 module _ (key word : ℕ) (old asked new : Handed) (vain : AsksInVain key old asked) (held : old.key ≡ Some key) (marks : asked.reader.marks ≡ with_look old.reader.marks key (name_number word)) where
-  asked_before : (more : ℕ) (entries : List Entry) → Grows more asked.reader entries new.reader → AskedBefore key old new
-  asked_before more entries grows = (asked, vain, record { rest = grows.between ++ entries; is = grows.seen ∙ append_assoc asked.reader.seen grows.between entries })
+  asked_before : (more : ℕ) (entries : List Entry) (named : List ℕ) → Grows more asked.reader entries new.reader → new.reader.marks.loads ≡ asked.reader.marks.loads ++ looks_at key named → AskedBefore key old new
+  asked_before more entries named grows loads = (asked, vain, record { rest = grows.between ++ entries; is = grows.seen ∙ append_assoc asked.reader.seen grows.between entries }, (looks_at key named, loads))
 
   went_on : (answer : Reply) (m sum : ℕ) → sum ≡ 1 + m → Gains m asked.reader (model.Find key) answer new.reader → Gains sum old.reader (model.Find key) answer new.reader
   went_on answer m sum is gains = grows_gains 1 m sum old.reader asked.reader new.reader (model.Find key) answer is vain.grows gains
 
   pub asked_anew : (answer : Bool) → MovesByHand key word asked new answer → KeepsAnew key old new answer
-  asked_anew true moves = ((λ _. asked_before _ _ moves.3), moved_anew key word old asked new (looks_own key old.key old.reader.says held) vain.grows.table vain.grows.number vain.says vain.key_is marks went_on moves)
-  asked_anew false moves = ((λ _. asked_before _ _ moves.3), moved_none key word old asked new (looks_own key old.key old.reader.says held) vain.grows.table vain.grows.number vain.says vain.key_is marks went_on moves)
+  asked_anew true moves = ((λ _. asked_before _ _ moves.1 moves.3 moves.5), moved_anew key word old asked new (looks_own key old.key old.reader.says held) vain.grows.table vain.grows.number vain.says vain.key_is marks went_on moves)
+  asked_anew false moves = ((λ _. asked_before _ _ moves.1 moves.3 moves.5), moved_none key word old asked new (looks_own key old.key old.reader.says held) vain.grows.table vain.grows.number vain.says vain.key_is marks went_on moves)
 
 -- so does one that holds by its word another key's set, and looked ahead
 module _ (key word other : ℕ) (old ahead new : Handed) (held : old.key ≡ Some other) (apart : other ≢ key) (loud : 0 < old.reader.says) (look : ahead.reader ≡ after_look key (name_number word) old.reader) (key_is : ahead.key ≡ old.key) where
@@ -231,9 +232,9 @@ anew_keeps key old new false anew = anew
 
 -- what a look and a load tell of the hand, whose seat they are made by
 module _ (key : ℕ) (before after : MapSeat) (held : Option Kept) (role : after.me.0.role ≡ before.me.0.role) (says : after.me.0.says ≡ before.me.0.says) where
-  pub looked_in_vain : (slot word : ℕ) → names_slot slot word ≡ false → Grows 1 (token before) [] (token after) → (names_slot slot word ≡ true) ↔ HasPut key before.me.0.marks.put (token after)
+  pub looked_in_vain : (slot word : ℕ) → (token before).holds ≡ Some slot → names_slot slot word ≡ false → Grows 1 (token before) [] (token after) → (names_slot slot word ≡ true) ↔ HasPut key before.me.0.marks.put (token after)
       → after.me.0.marks ≡ found_again (names_slot slot word) (with_look before.me.0.marks key (name_number word)) → AsksInVain key (handed before held) (handed after held) × (after.me.0.marks ≡ with_look before.me.0.marks key (name_number word))
-  looked_in_vain slot word gone grows exact marks = let is = marks ∙ ap (λ (b : Bool). found_again b (with_look before.me.0.marks key (name_number word))) gone in (
+  looked_in_vain slot word grips gone grows exact marks = let is = marks ∙ ap (λ (b : Bool). found_again b (with_look before.me.0.marks key (name_number word))) gone in (
     record {
       grows = grows;
       other = λ has. absurd (let yes = exact.1 has in let is_not = gone in cc);
@@ -241,10 +242,22 @@ module _ (key : ℕ) (before after : MapSeat) (held : Option Kept) (role : after
       rows = ap rows_held role;
       holds = ap (λ (r : Role). gripped (grip_of r)) role;
       says = says;
-      marks = is ∙ ap (with_loads before.me.0.marks) (sym (ap (λ (m : Marks). m.loads) is));
+      marks = record {
+        named = name_number word;
+        exact = ((λ no. absurd (cc)), (λ named. sym gone ∙ eq-eqb (name_number word) (suc slot) (named ∙ ap (λ (o : Option ℕ). suc (slot_in o)) grips)));
+        marks = is;
+      };
     },
     is,
   )
+
+-- what a pin or a hand holds by its word is the slot that this says
+pub pin_says : (own : Own) (held : Held) (seat : MapSeat) → Pins seat own held → HoldsWhatItSays (token seat)
+pin_says own held seat pins = held_says (token seat).table held seat pins.holds
+
+pub hand_says : (own : Own) (held : Option Kept) (seat : MapSeat) → IsHand seat own held → HoldsWhatItSays (token seat)
+hand_says own None seat is = λ loud. absurd (omega (arith, loud, is.1.silent))
+hand_says own (Some kept) seat is = pin_says own kept.set seat is
 
 -- who holds by its word says so
 pub loud_by_word : (own : Own) (held : Held) (seat : MapSeat) → Pins seat own held → 0 < held.says → 0 < seat.me.0.says

@@ -1,6 +1,6 @@
 -- What a hold comes to: for a reader that held nothing, for a hand that let go what it held, and for one that reads the rows then.
 use Rattle.std.proofs.Common.{◌≡◌, ℕ, ◌+◌, ◌-◌, ◌*◌, Option, Some, None, ⊎_elim, inl, inr, refl, ap, ◌∙◌, sym, subst, arith, Bool, true, List, [], ◌∷◌, ◌++◌, length}
-use Rattle.std.specs.Prelude.{IsSome, Ok, is_some, nat_lt}
+use Rattle.std.specs.Prelude.{IsSome, Ok, Err, is_some, nat_lt}
 use Rattle.nr_model.specs.Histories.{Entry, after}
 use Rattle.nr_model.specs.Maps.{state_of}
 use Rattle.nr_model.specs.declared.calls.Call.TheVariants as model
@@ -10,12 +10,11 @@ use Rattle.nr_model.specs.Rows.{IsRowSet}
 use Rattle.nr_machine.specs.Story.{entry}
 use Rattle.nr_machine.specs.declared.roles.Role.{Role}
 use Rattle.nr_marks.specs.Marks.{LoggedLoad, Marks, acted, gripped, with_loads}
-use Rattle.nr_marks.specs.MarkSteps.{found_again}
 use Rattle.nr_marks.specs.Puts.{put_number}
 use Rattle.nr_board.proofs.Holding.{rests_gains}
 use Rattle.nr_board.proofs.Tokens.{MapSeat, grows_rests}
 use Rattle.nr_board.specs.Callers.{Caller, Gains, Rests, Table, map_at_opening, token}
-use Rattle.nr_board.specs.Holds.{FindsRows, HeldIn, HoldsAfter, finds_by_word, looks_at}
+use Rattle.nr_board.specs.Holds.{FindsRows, HeldIn, HoldsAfter, LooksAgain, finds_by_word, looks_at}
 use Rattle.nr_board.specs.Kinds.{kind_of}
 use Rattle.nr_board.specs.Views.{grip_of, rows_held}
 use Rattle.nr_board.specs.declared.answers.Found.TheVariants as found
@@ -24,6 +23,15 @@ use Rattle.nr_board.specs.declared.holds.Held.{Held}
 use Rattle.nr_map.specs.declared.hand.Kept.{Kept}
 use Rattle.nr_map.specs.Pins.{PinsKey}
 use Rattle.nr_map.specs.Hands.{CopiesHeld, FindsKept, Handed, HoldsKey, KeepsByHand, LetsGo, PinsByHand, departed, handed, steps_to_depart}
+
+-- a reader that found a hole comes back
+pub pins_hole : (table : Table) (key : ℕ) (reader back : Caller) (old new : MapSeat) → token old ≡ reader → back ≡ token new → HoldsAfter 0 (finds_by_word (token old)) table key old.me.0.marks old new None → PinsKey key reader (Err back)
+pins_hole table key reader back old new is came holds = subst (λ (p : Caller × Caller). PinsKey key p.0 (Err p.1)) (λ j. (is j, sym came j)) (
+  record { steps = holds.steps; named = holds.named; finds_in = holds.takes; looks = ap (λ (m : Marks). m.loads) holds.answered.marks_are; gains = holds.answered.gains },
+  holds.answered.marks_are,
+  ap (λ (r : Role). gripped (grip_of r)) holds.answered.idles.idle,
+  holds.answered.idles.silent,
+)
 
 -- a hold of a key's set, by the seats before and after it
 module _ (table : Table) (key : ℕ) (old new : MapSeat) (held : Held) (holds : HoldsAfter 0 (finds_by_word (token old)) table key old.me.0.marks old new (Some held)) where
@@ -95,13 +103,13 @@ module _ {Room : Type 0} (shows : Room → List Row → Type 0) (key : ℕ) (old
           rows = copies.rows ∙ again.rows;
           holds = copies.holds ∙ again.holds;
           says = copies.says ∙ again.says;
-          marks = copies.marks ∙ again.marks ∙ ap (λ (m : Marks). found_again true (with_loads old.reader.marks m.loads)) (sym copies.marks);
+          marks = subst (LooksAgain key old.reader.holds true old.reader.marks) (sym copies.marks) again.marks;
         },
         subst (shows room) again.rows shown,
         refl,
       ))
       (λ anew. let so = anew.1 in let f = so.2 in inr (
-        (λ own. let asked = anew.0 own in (asked.0, asked.1, record { rest = asked.2.rest; is = copies.rests.seen ∙ asked.2.is })),
+        (λ own. let asked = anew.0 own in (asked.0, asked.1, record { rest = asked.2.rest; is = copies.rests.seen ∙ asked.2.is }, (asked.3.0, ap (λ (m : Marks). m.loads) copies.marks ∙ asked.3.1))),
         (
           (
             so.0,

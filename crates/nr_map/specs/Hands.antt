@@ -5,13 +5,12 @@ use Rattle.nr_model.specs.declared.rows.Row.{Row}
 use Rattle.nr_model.specs.Rows.{IsRowSet}
 use Rattle.nr_model.specs.declared.calls.Call.TheVariants as model
 use Rattle.nr_model.specs.declared.calls.Reply.TheVariants as reply
-use Rattle.nr_marks.specs.Marks.{Marks, acted, with_loads}
-use Rattle.nr_marks.specs.MarkSteps.{found_again}
+use Rattle.nr_marks.specs.Marks.{LoggedLoad, Marks, acted, with_loads}
 use Rattle.nr_marks.specs.Puts.{put_number}
 use Rattle.nr_board.specs.declared.answers.Found.{Found}
 use Rattle.nr_board.specs.declared.answers.Found.TheVariants as found
 use Rattle.nr_board.specs.Callers.{Caller, Gains, Grows, Rests, token}
-use Rattle.nr_board.specs.Holds.{FindsHole, FindsHoleAfter, FindsRows, FindsRowsAfter, HeldIn, HoleIn, finds_by_word, looks_at}
+use Rattle.nr_board.specs.Holds.{FindsHole, FindsHoleAfter, FindsRows, FindsRowsAfter, HeldIn, HoleIn, LooksAgain, finds_by_word, looks_at}
 use Rattle.nr_board.specs.Meetings.{HasPut}
 use Rattle.nr_board.specs.Rule.{StartsWith}
 use Rattle.nr_board.specs.Seats.{IdlesAt}
@@ -117,7 +116,7 @@ pub record FindsHeld (steps key : ℕ) (old new : Handed) : Type 0 where
   pub rows : new.rows ≡ old.rows
   pub holds : new.reader.holds ≡ old.reader.holds
   pub says : new.reader.says ≡ old.reader.says
-  pub marks : new.reader.marks ≡ found_again true (with_loads old.reader.marks new.reader.marks.loads)
+  pub marks : LooksAgain key old.reader.holds true old.reader.marks new.reader.marks
 
 -- the hand asked, in 1 step that is no entry, and the key had another set or none
 pub record AsksInVain (key : ℕ) (old new : Handed) : Type 0 where
@@ -127,7 +126,7 @@ pub record AsksInVain (key : ℕ) (old new : Handed) : Type 0 where
   pub rows : new.rows ≡ old.rows
   pub holds : new.reader.holds ≡ old.reader.holds
   pub says : new.reader.says ≡ old.reader.says
-  pub marks : new.reader.marks ≡ with_loads old.reader.marks new.reader.marks.loads
+  pub marks : LooksAgain key old.reader.holds false old.reader.marks new.reader.marks
 
 -- a hand finds a key again, or asked in vain, or holds no set of the key and makes no step
 abbrev pub AgainByHand : ℕ → Handed → Handed → Bool → Type 0
@@ -142,11 +141,12 @@ pub record FindsAndLetsGo {Room : Type 0} (shows : Room → List Row → Type 0)
   pub finds : FindsIn shows key reader before new.reader room answer
   pub rests : new ≡ idle new.reader
   pub holds : new.reader.holds ≡ None
+  pub silent : new.reader.says ≡ 0
   pub marks : new.reader.marks ≡ marks_found answer (with_loads reader.marks new.reader.marks.loads) (put_number new.reader.seen key)
 
--- the hand asked in vain before it came to where it is
+-- the hand asked in vain before it came to where it is: with its first look since
 abbrev pub AskedBefore : ℕ → Handed → Handed → Type 0
-AskedBefore key old new = (asked : Handed) × AsksInVain key old asked × StartsWith new.reader.seen asked.reader.seen
+AskedBefore key old new = (asked : Handed) × AsksInVain key old asked × StartsWith new.reader.seen asked.reader.seen × ((later : List LoggedLoad) × (new.reader.marks.loads ≡ asked.reader.marks.loads ++ later))
 
 -- a hand goes on from what it holds to the slot that a look at the key named, where it holds by its reader's word: that look is the find's first. Else it lets go, in one step, and finds anew
 abbrev pub goes_on : ℕ → ℕ → Bool

@@ -3,6 +3,7 @@ ghost use Rattle.std.specs.Prelude.{◌≡◌, ◌<◌, ◌*◌, length, slice_g
 ghost use Rattle.nr_map.specs.Hands.{AgainByHand, BecomesPin, LetsGo, KeepsByHand, MovesByHand, PinsByHand, CopiesHeld, held_for, in_hand, idle};
 ghost use Rattle.nr_map.specs.Answers.{AsksKey};
 ghost use Rattle.nr_board.specs.Callers.{KnowsOwn};
+ghost use Rattle.nr_board.specs.Holds.{HoldsWhatItSays};
 ghost use Rattle.nr_board.specs.Meetings.{HearsNote, known_to, with_step};
 
 use crate::answers::Asked;
@@ -108,8 +109,10 @@ impl Hand {
     }
 
     /// How many rows are held.
+    #[tactic(auto, using(crate::proofs::HandSteps::hand_says))]
     pub fn len(&self) -> u32
-        ensures { result ≡ length self.now.rows }
+        ensures len { result ≡ length self.now.rows }
+        ensures says { HoldsWhatItSays self.now.reader }
     {
         match self.held {
             Some(kept) => kept.set.count,
@@ -162,6 +165,7 @@ impl Hand {
         ensures own { self.new.reader.table ≡ map.now }
         ensures asks { AsksKey key self.old.reader self.new.reader result }
         ensures idle { (self.new ≡ idle self.new.reader) × (self.new.reader.holds ≡ None) }
+        ensures silent { self.new.reader.says ≡ 0 }
         ensures marks { self.new.reader.marks ≡ self.old.reader.marks }
     {
         self.caller.ask(map, key)

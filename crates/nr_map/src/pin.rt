@@ -1,8 +1,8 @@
 //! A reader that holds a set, and reads it as often as it likes.
 ghost use Rattle.std.specs.Prelude.{◌≡◌, ◌↔◌, ◌<◌, ◌≤◌, ◌*◌, length, slice_get, true, IsSome, None, Some};
 ghost use Rattle.nr_model.specs.Rows.{IsRowSet};
-ghost use Rattle.nr_marks.specs.Marks.{acted, with_loads};
-ghost use Rattle.nr_marks.specs.MarkSteps.{found_again};
+ghost use Rattle.nr_marks.specs.Marks.{acted};
+ghost use Rattle.nr_board.specs.Holds.{HoldsWhatItSays, LooksAgain};
 ghost use Rattle.nr_board.specs.Meetings.{HasPut};
 ghost use Rattle.nr_board.specs.Callers.{Rests};
 
@@ -60,11 +60,13 @@ impl Pin {
     }
 
     /// How many rows the set has. Takes no step.
+    #[tactic(auto, using(crate::proofs::HandSteps::pin_says))]
     pub fn len(&self) -> u32
         ensures len { result ≡ length self.now.rows }
         ensures few { result ≤ self.now.reader.table.shape.rows }
         ensures row_set { IsRowSet self.now.reader.table.shape.rows self.now.rows }
         ensures holds { IsSome self.now.reader.holds }
+        ensures says { HoldsWhatItSays self.now.reader }
     {
         self.held.count
     }
@@ -108,7 +110,7 @@ impl Pin {
         ensures rows { self.new.rows ≡ self.old.rows }
         ensures holds { self.new.reader.holds ≡ self.old.reader.holds }
         ensures says { self.new.reader.says ≡ self.old.reader.says }
-        ensures marks { self.new.reader.marks ≡ found_again result (with_loads self.old.reader.marks self.new.reader.marks.loads) }
+        ensures marks { LooksAgain key self.old.reader.holds result self.old.reader.marks self.new.reader.marks }
     {
         self.caller.again(map, self.held, key)
     }
@@ -118,6 +120,7 @@ impl Pin {
         requires own { self.reader.table ≡ map.now }
         ensures rests { Rests 1 self.reader result }
         ensures idle { result.holds ≡ None }
+        ensures silent { result.says ≡ 0 }
         ensures marks { result.marks ≡ acted self.reader.marks self.reader.marks.put }
     {
         let Pin { mut caller, held } = self;

@@ -77,6 +77,7 @@ impl ReaderMap {
         ensures finds { FindsKey key reader.old rows.old reader.new rows.new result }
         ensures row_set { result ≡ found.Rows → IsRowSet reader.old.table.shape.rows rows.new }
         ensures idle { reader.new.holds ≡ None }
+        ensures silent { reader.new.says ≡ 0 }
         ensures acts { reader.new.marks.acts ≡ reader.old.marks.acts + acts_of result }
     {
         self.find_into(reader, key, rows)
@@ -90,6 +91,7 @@ impl ReaderMap {
         ensures own { reader.new.table ≡ self.now }
         ensures finds { FindsIn R.shows key reader.old rows.old reader.new rows.new result }
         ensures idle { reader.new.holds ≡ None }
+        ensures silent { reader.new.says ≡ 0 }
         ensures acts { reader.new.marks.acts ≡ reader.old.marks.acts + acts_of result }
     {
         reader.caller.find(self, key, rows)
@@ -103,6 +105,7 @@ impl ReaderMap {
         ensures own { reader.new.table ≡ self.now }
         ensures asks { AsksKey key reader.old reader.new result }
         ensures idle { reader.new.holds ≡ None }
+        ensures silent { reader.new.says ≡ 0 }
         ensures marks { reader.new.marks ≡ reader.old.marks }
     {
         reader.caller.ask(self, key)

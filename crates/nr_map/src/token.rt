@@ -1,10 +1,9 @@
 //! What a reader, a pin and a hand have in common: the token of a reader, whatever it holds.
 ghost use Rattle.std.specs.Prelude.{◌≡◌, ◌↔◌, ◌<◌, ◌*◌, ◌^◌, suc, length, slice_get, true, Some};
 ghost use Rattle.nr_marks.specs.Marks.{acted, with_loads};
-ghost use Rattle.nr_marks.specs.MarkSteps.{found_again};
 ghost use Rattle.nr_marks.specs.Puts.{put_number};
 ghost use Rattle.nr_board.specs.Callers.{KnowsOwn, Rests, token};
-ghost use Rattle.nr_board.specs.Holds.{HeldAs, HoldsAfter, finds_by_word};
+ghost use Rattle.nr_board.specs.Holds.{HeldAs, HoldsAfter, LooksAgain, finds_by_word};
 ghost use Rattle.nr_board.specs.Meetings.{HasPut, HearsNote, known_to, with_step};
 ghost use Rattle.nr_board.specs.Notes.{IsCaller};
 ghost use Rattle.nr_board.specs.Seats.{IdlesAt};
@@ -86,7 +85,7 @@ impl Token {
         ensures role { (view_of self.new.seat).role ≡ (view_of self.old.seat).role }
         ensures finds { FindsByPin key (token self.old.seat) (rows_held (view_of self.old.seat).role) (token self.new.seat) result }
         ensures exact { (result ≡ true) ↔ HasPut key (view_of self.old.seat).marks.put (token self.new.seat) }
-        ensures marks { (view_of self.new.seat).marks ≡ found_again result (with_loads (view_of self.old.seat).marks (view_of self.new.seat).marks.loads) }
+        ensures marks { LooksAgain key (token self.old.seat).holds result (view_of self.old.seat).marks (view_of self.new.seat).marks }
     {
         map.board.find_again(&mut self.seat, held.slot, key)
     }

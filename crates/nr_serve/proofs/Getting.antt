@@ -4,14 +4,14 @@ use Rattle.std.proofs.Common.{◌≡◌, ℕ, Bool, false, ◌+◌, ◌-◌, ◌
 use Rattle.nr_model.specs.declared.rows.Row.{Row}
 use Rattle.nr_model.specs.declared.calls.Reply.TheVariants as reply
 use Rattle.nr_model.specs.Histories.{Entry}
-use Rattle.nr_board.specs.Holds.{HeldIn, HoleIn, finds_by_word}
+use Rattle.nr_board.specs.Holds.{HoleIn, finds_by_word}
 use Rattle.nr_serve.specs.declared.hands.Hands.{Hands}
 use Rattle.nr_serve.specs.declared.answers.Got.{Got}
 use Rattle.nr_serve.specs.declared.answers.Got.TheVariants as got
 use Rattle.nr_serve.specs.declared.answers.Requested.{Requested}
 use Rattle.nr_serve.specs.declared.answers.Tried.TheVariants as tried
 use Rattle.nr_serve.specs.declared.sleepers.TooLate.{TooLate}
-use Rattle.nr_serve.specs.Gets.{AwaitsFill, EndsLate, Gets, GetsInTime, MissesAll, MissesOnce, TriesOnce, found, miss, misses, requested}
+use Rattle.nr_serve.specs.Gets.{AwaitsFill, EndsLate, FindsOnce, Gets, GetsInTime, MissesAll, MissesOnce, TriesOnce, found, miss, misses, requested}
 use Rattle.nr_serve.specs.Hands.{Moves, last_count}
 use Rattle.nr_serve.proofs.Moving.{moves_both, moves_none}
 
@@ -58,49 +58,39 @@ missed_more key n a b c before rows request missed once =
           (moves_both missed.steps (once.0.steps + length (requested by key request)) _ a old b (miss by key request) c refl missed.moves moves);
     }
 
--- a last find
-found_by : (key misses_in steps : ℕ) (a b c : Hands) (rows : List Row) (requests : List Requested) → Moves misses_in a (misses a.reader.number key requests) b
-    → Moves steps b (found b.reader.number key (reply.Rows rows) ∷ []) c
-    → Moves steps b (found a.reader.number key (reply.Rows rows) ∷ []) c
-found_by key misses_in steps a b c rows requests missed last = subst (λ (at : ℕ). Moves steps b (found at key (reply.Rows rows) ∷ []) c) missed.makes.number last
+-- by the counts they took a step for each call
+counted_by : (key n : ℕ) (a b : Hands) → (missed : Missed key n a b) → finds_by_word a.reader ≡ false → b.reader.steps ≡ a.reader.steps + length (misses a.reader.number key missed.requests)
+counted_by key n a b missed no_word = let all = missed.moves.makes.steps_made in let each = missed.counted no_word in omega (arith, all, each)
 
-found_last : (key misses_in steps : ℕ) (a b c : Hands) (rows : List Row) (requests : List Requested) → Moves misses_in a (misses a.reader.number key requests) b
-    → Moves steps b (found b.reader.number key (reply.Rows rows) ∷ []) c
-    → Moves (misses_in + steps) a (misses a.reader.number key requests ++ found a.reader.number key (reply.Rows rows) ∷ []) c
-found_last key misses_in steps a b c rows requests missed last =
-    moves_both misses_in steps _ a (misses a.reader.number key requests) b (found a.reader.number key (reply.Rows rows) ∷ []) c refl missed
-    (found_by key misses_in steps a b c rows requests missed last)
-
-held_still : (key n : ℕ) (a b : Hands) (named : List ℕ) (says steps : ℕ) → Missed key n a b → HeldIn (finds_by_word b.reader) named says steps → HeldIn (finds_by_word a.reader) named says steps
-held_still key n a b named says steps missed takes = subst (λ (w : Bool). HeldIn w named says steps) (same_words missed.steps a (misses a.reader.number key missed.requests) b missed.moves) takes
+-- a last find, and all calls together
+found_last : (key n more : ℕ) (a b c : Hands) (set : List Row) (missed : Missed key n a b) → (once : FindsOnce key more b set c)
+    → Moves (missed.steps + (once.steps + more)) a (misses a.reader.number key missed.requests ++ found b.reader.number key (reply.Rows set) ∷ []) c
+found_last key n more a b c set missed once =
+    moves_both missed.steps (once.steps + more) _ a (misses a.reader.number key missed.requests) b (found b.reader.number key (reply.Rows set) ∷ []) c refl missed.moves once.moves
 
 pub gets_by_end : (key n tries : ℕ) (a b c : Hands) (before rows : List Row) (answer : Got) → n < tries → Missed key n a b → TriesOnce key b before (tried.Ended answer) c rows → Gets key tries a before answer c rows
 gets_by_end key n tries a b c before rows got.Rows low missed once = record {
   requests = missed.requests;
   between = b;
   missed = missed.missed;
-  last = found a.reader.number key (reply.Rows rows) ∷ [];
-  missed_steps = missed.steps;
-  counted = missed.counted;
-  last_steps = once.steps + (2 * length rows + 1);
-  ends = (omega (arith, low, missed.count_is), refl, (once.steps, once.named, once.says, held_still key n a b once.named once.says once.steps missed once.holds_in, refl));
-  ended = found_by key missed.steps (once.steps + (2 * length rows + 1)) a b c rows missed.requests missed.moves once.moves;
-  attempts = once.attempts;
-  moves = found_last key missed.steps (once.steps + (2 * length rows + 1)) a b c rows missed.requests missed.moves once.moves;
+  counted = counted_by key n a b missed;
+  few = omega (arith, low, missed.count_is);
+  last = found b.reader.number key (reply.Rows rows) ∷ [];
+  ends = (refl, once);
+  steps = missed.steps + (once.steps + (2 * length rows + 1));
+  moves = found_last key n (2 * length rows + 1) a b c rows missed once;
 }
 gets_by_end key n tries a b c before rows got.GaveUp low missed once = absurd once
 gets_by_end key n tries a b c before rows got.Barred low missed once = record {
   requests = missed.requests;
   between = b;
   missed = missed.missed;
-  last = found a.reader.number key (reply.Rows once.0) ∷ [];
-  missed_steps = missed.steps;
-  counted = missed.counted;
-  last_steps = once.1.steps + 1;
-  ends = (omega (arith, low, missed.count_is), (once.0, refl), (once.1.steps, once.1.named, once.1.says, held_still key n a b once.1.named once.1.says once.1.steps missed once.1.holds_in, refl), once.2);
-  ended = found_by key missed.steps (once.1.steps + 1) a b c once.0 missed.requests missed.moves once.1.moves;
-  attempts = once.1.attempts;
-  moves = found_last key missed.steps (once.1.steps + 1) a b c once.0 missed.requests missed.moves once.1.moves;
+  counted = counted_by key n a b missed;
+  few = omega (arith, low, missed.count_is);
+  last = found b.reader.number key (reply.Rows once.0) ∷ [];
+  ends = (once.0, refl, once.1, once.2);
+  steps = missed.steps + (once.1.steps + 1);
+  moves = found_last key n 1 a b c once.0 missed once.1;
 }
 
 pub gets_by_none : (key n tries : ℕ) (a b : Hands) (before rows : List Row) → n ≡ tries → Missed key n a b → rows ≡ before → Gets key tries a before got.GaveUp b rows
@@ -108,20 +98,18 @@ gets_by_none key n tries a b before rows all missed same = record {
   requests = missed.requests;
   between = b;
   missed = missed.missed;
-  missed_steps = missed.steps;
-  counted = missed.counted;
+  counted = counted_by key n a b missed;
+  few = missed.count_is ∙ all;
   last = [];
-  last_steps = 0;
-  ends = (missed.count_is ∙ all, refl, refl, same);
-  ended = moves_none b (let counted = missed.moves.sends in omega (arith, counted));
-  attempts = omega arith;
+  ends = (refl, refl, same);
+  steps = missed.steps + 0;
   moves = moves_both missed.steps 0 _ a (misses a.reader.number key missed.requests) b [] b refl missed.moves (moves_none b (let counted = missed.moves.sends in omega (arith, counted)));
 }
 
--- the sleep after the last of the tries so far timed out
-pub ends_late : (key n tries : ℕ) (a b c : Hands) (before rows : List Row) (request : Requested) → n + 1 < tries → Missed key (n + 1) a c → rows ≡ before → AwaitsFill key b request c → EndsLate key tries a before c rows
+-- the sleep after one try more timed out
+pub ends_late : (key n tries : ℕ) (a b c : Hands) (before rows : List Row) (request : Requested) → n + 1 < tries → Missed key n a b → rows ≡ before → AwaitsFill key b request c → EndsLate key tries a before c rows
 ends_late key n tries a b c before rows request few missed same slept =
-    record { made = n + 1; few = few; gets = gets_by_none key (n + 1) (n + 1) a c before rows refl missed same; last = b; request = request; slept = slept }
+    record { made = n; few = few; last = b; gets = gets_by_none key n n a b before rows refl missed same; request = request; slept = slept }
 
 -- the calls of a get, however it ended
 pub record Called (old new : Hands) : Type 0 where
@@ -131,4 +119,8 @@ pub record Called (old new : Hands) : Type 0 where
 
 pub called_in_time : (key tries : ℕ) (a b : Hands) (before rows : List Row) (answer : Result Got TooLate) → GetsInTime key tries a before answer b rows → Called a b
 called_in_time key tries a b before rows (Ok got) gets = record { steps = _; entries = _; moves = gets.moves }
-called_in_time key tries a b before rows (Err late) gets = record { steps = _; entries = _; moves = gets.gets.moves }
+called_in_time key tries a b before rows (Err late) gets = record {
+  steps = _;
+  entries = _;
+  moves = moves_both gets.gets.steps _ _ a _ gets.last _ b refl gets.gets.moves gets.slept.missed.moves;
+}

@@ -50,9 +50,9 @@ module _ (steps : ℕ) (old new : Caller) (first rest : List Entry) (e : Entry) 
 pub gets_what_it_heard_lem : FindsWritten → GetsWhatItHeard
 gets_what_it_heard_lem finds_written old note asking new key tries rows_before rows got before since first rest put answer near had puts_it heard knows gets among =
     let by = asking.reader in let find = found by.number key answer in let written = before ++ put ∷ [] in let opening = map_at_opening old.table in
-    let makes = subst (λ (entries : List Entry). Makes (gets.missed_steps + gets.last_steps) by entries new.reader) among gets.moves.makes in
-    let there = made (gets.missed_steps + gets.last_steps) by new.reader first rest find makes knows in
-    let sound = is_sound (gets.missed_steps + gets.last_steps) by new.reader first rest find makes knows in
+    let makes = subst (λ (entries : List Entry). Makes gets.steps by entries new.reader) among gets.moves.makes in
+    let there = made gets.steps by new.reader first rest find makes knows in
+    let sound = is_sound gets.steps by new.reader first rest find makes knows in
     let known = heard.hears.seen.rest ++ heard.seen.rest in
     let more = known ++ there.front in
     let all_known : by.seen ≡ note.seen ++ known = heard.seen.is ∙ ap (λ (l : List Entry). l ++ heard.seen.rest) heard.hears.seen.is ∙ append_assoc note.seen heard.hears.seen.rest heard.seen.rest in

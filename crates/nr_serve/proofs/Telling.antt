@@ -22,6 +22,7 @@ hears_after_steps many old new note hears = let learns = hears.learns in let ste
     retired = learns.retired;
     numbers = learns.numbers;
     holds = learns.holds;
+    says = learns.says;
     marks = learns.marks;
     heard = learns.heard;
     news = learns.news;

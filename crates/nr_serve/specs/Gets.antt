@@ -6,8 +6,9 @@ use Rattle.nr_model.specs.declared.calls.Reply.{Reply}
 use Rattle.nr_model.specs.declared.calls.Reply.TheVariants as reply
 use Rattle.nr_model.specs.Histories.{Entry}
 use Rattle.nr_machine.specs.Story.{entry}
+use Rattle.nr_marks.specs.Marks.{acted}
 use Rattle.nr_board.specs.Callers.{Caller, Rests}
-use Rattle.nr_board.specs.Holds.{HeldIn, HoleIn, finds_by_word}
+use Rattle.nr_board.specs.Holds.{HeldIn, HoleIn, finds_by_word, looked}
 use Rattle.nr_map.specs.Pins.{Pinned}
 use Rattle.nr_map.specs.Tickets.{Request}
 use Rattle.nr_serve.specs.declared.hands.Hands.{Hands}
@@ -59,6 +60,7 @@ pub record MissesOnce (key : ℕ) (old : Hands) (request : Requested) (new : Han
   pub steps : ℕ
   pub named : List ℕ
   pub finds_in : HoleIn (finds_by_word old.reader) named steps
+  pub looks : new.reader.marks ≡ acted (looked old.reader.marks key named) new.reader.marks.put
   pub moves : Moves (steps + length (requested old.reader.number key request)) old (miss old.reader.number key request) new
   pub leaves : LeavesKept request new.kept
   pub attempts : new.poster.tries ≡ old.poster.tries + (kept_attempts old.kept + sent_attempts request)
@@ -93,6 +95,7 @@ pub record FindsOnce (key more : ℕ) (old : Hands) (set : List Row) (new : Hand
   pub named : List ℕ
   pub says : ℕ
   pub holds_in : HeldIn (finds_by_word old.reader) named says steps
+  pub looks : new.reader.marks ≡ acted (acted (looked old.reader.marks key named) new.reader.marks.put) new.reader.marks.put
   pub moves : Moves (steps + more) old (found old.reader.number key (reply.Rows set) ∷ []) new
   pub attempts : new.poster.tries ≡ old.poster.tries + kept_attempts old.kept
 
@@ -103,21 +106,17 @@ TriesOnce key old before (tried.Ended got.Rows) new rows = FindsOnce key (2 * le
 TriesOnce key old before (tried.Ended got.GaveUp) new rows = ⊥
 TriesOnce key old before (tried.Ended got.Barred) new rows = (set : List Row) × FindsOnce key 1 old set new × (rows ≡ before)
 
--- the steps of a hold, and so many more
-abbrev pub IsHoldAnd : Bool → ℕ → ℕ → Type 0
-IsHoldAnd by_word more steps = (hold : ℕ) × (named : List ℕ) × (says : ℕ) × HeldIn by_word named says hold × (steps ≡ hold + more)
+-- after that many tries that found a hole a get of so many may end so
+abbrev pub MayEnd : ℕ → Got → ℕ → Type 0
+MayEnd tries got.Rows missed = missed < tries
+MayEnd tries got.GaveUp missed = missed ≡ tries
+MayEnd tries got.Barred missed = missed < tries
 
--- how a get ends after that many tries that found a hole: by one find more, or by none after as many as it may make
-abbrev pub Ends : Bool → ℕ → ℕ → ℕ → Got → ℕ → List Entry → ℕ → List Row → List Row → Type 0
-Ends by_word by key tries got.Rows missed last steps before rows = (missed < tries) × (last ≡ found by key (reply.Rows rows) ∷ []) × IsHoldAnd by_word (2 * length rows + 1) steps
-Ends by_word by key tries got.GaveUp missed last steps before rows = (missed ≡ tries) × (last ≡ []) × (steps ≡ 0) × (rows ≡ before)
-Ends by_word by key tries got.Barred missed last steps before rows = (missed < tries) × ((set : List Row) × (last ≡ found by key (reply.Rows set) ∷ [])) × IsHoldAnd by_word 1 steps × (rows ≡ before)
-
--- the attempts of a get's last try, which found rows, if there was one
-abbrev pub last_attempts : Got → Option Request → ℕ
-last_attempts got.Rows kept = kept_attempts kept
-last_attempts got.GaveUp kept = 0
-last_attempts got.Barred kept = kept_attempts kept
+-- how a get ends after those: by one try more, whose find is its last entry, or by none
+abbrev pub Ends : ℕ → Got → Hands → List Row → List Entry → Hands → List Row → Type 0
+Ends key got.Rows between before last new rows = (last ≡ found between.reader.number key (reply.Rows rows) ∷ []) × FindsOnce key (2 * length rows + 1) between rows new
+Ends key got.GaveUp between before last new rows = (last ≡ []) × (new ≡ between) × (rows ≡ before)
+Ends key got.Barred between before last new rows = (set : List Row) × (last ≡ found between.reader.number key (reply.Rows set) ∷ []) × FindsOnce key 1 between set new × (rows ≡ before)
 
 -- a get of that many tries: those that found a hole, and how it ended
 pub record Gets (key tries : ℕ) (old : Hands) (before : List Row) (got : Got) (new : Hands) (rows : List Row) : Type 0 where
@@ -126,23 +125,21 @@ pub record Gets (key tries : ℕ) (old : Hands) (before : List Row) (got : Got) 
   pub between : Hands
   pub missed : MissesAll key old requests between
   -- by the counts each of their calls is one step
-  pub missed_steps : ℕ
-  pub counted : finds_by_word old.reader ≡ false → missed_steps ≡ length (misses old.reader.number key requests)
+  pub counted : finds_by_word old.reader ≡ false → between.reader.steps ≡ old.reader.steps + length (misses old.reader.number key requests)
+  pub few : MayEnd tries got (length requests)
   pub last : List Entry
-  pub last_steps : ℕ
-  pub ends : Ends (finds_by_word old.reader) old.reader.number key tries got (length requests) last last_steps before rows
-  pub ended : Moves last_steps between last new
-  pub attempts : new.poster.tries ≡ between.poster.tries + last_attempts got between.kept
+  pub ends : Ends key got between before last new rows
   -- and all that together
-  pub moves : Moves (missed_steps + last_steps) old (misses old.reader.number key requests ++ last) new
+  pub steps : ℕ
+  pub moves : Moves steps old (misses old.reader.number key requests ++ last) new
 
 -- a get that a sleep ended which timed out: tries were left, those that it made found a hole, and to the last of them a fill was to come
 pub record EndsLate (key tries : ℕ) (old : Hands) (before : List Row) (new : Hands) (rows : List Row) : Type 0 where
+  -- those before the last are a get of so many tries that found a hole
   pub made : ℕ
-  pub few : made < tries
-  -- as a get of so many tries that found a hole
-  pub gets : Gets key made old before got.GaveUp new rows
+  pub few : made + 1 < tries
   pub last : Hands
+  pub gets : Gets key made old before got.GaveUp last rows
   pub request : Requested
   pub slept : AwaitsFill key last request new
 

@@ -1,5 +1,6 @@
 //! The tries of a get.
 ghost use Rattle.std.specs.Prelude.{◌≡◌, ◌<◌, ◌+◌, ◌*◌, [], IfErr, IfOk, length, None};
+ghost use Rattle.nr_marks.specs.Marks.{acted};
 ghost use Rattle.nr_board.specs.Callers.{Rests};
 ghost use Rattle.nr_serve.specs.Counts.{OnlyLooks};
 ghost use Rattle.nr_serve.specs.Gates.{AsksGate, AsksOnce};
@@ -38,6 +39,7 @@ fn post_kept<R: Wait>(
     requires { IsReady map.now triggers.now hands }
     ensures ready { IsReady map.now triggers.now result }
     ensures moves { Moves 0 hands [] result }
+    ensures reader { result.reader ≡ hands.reader }
     ensures attempts { result.poster.tries ≡ hands.poster.tries + kept_attempts hands.kept }
     ensures rings { Rings hands lobby.old result lobby.new }
 {
@@ -75,6 +77,7 @@ fn request<R: Wait>(
     requires key { key < map.now.shape.keys }
     ensures ready { let (_, after) = result in IsReady map.now triggers.now after }
     ensures moves { let (answer, after) = result in Moves (length (requested hands.reader.number key answer)) hands (requested hands.reader.number key answer) after }
+    ensures marks { let (_, after) = result in after.reader.marks ≡ hands.reader.marks }
     ensures leaves { let (answer, after) = result in LeavesKept answer after.kept }
     ensures attempts { let (answer, after) = result in after.poster.tries ≡ hands.poster.tries + sent_attempts answer }
     ensures rings { let (_, after) = result in Rings hands lobby.old after lobby.new }
@@ -127,6 +130,7 @@ fn answer<G: Gate>(places: &Places<'_, G>, get: u64, pin: Pin, rows: &mut RowSet
     ensures answers { let (got, reader) = result in AnswersPin pin rows.old got reader rows.new }
     ensures asks { let (got, _) = result in AsksGate G.lets G.hears places.now.gate.now places.now.reader get got }
     ensures idle { let (_, reader) = result in reader.holds ≡ None }
+    ensures marks { let (_, reader) = result in reader.marks ≡ acted pin.reader.marks pin.reader.marks.put }
 {
     let mut pin = pin;
     if !lets_pass(places, get) {

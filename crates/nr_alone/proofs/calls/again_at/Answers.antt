@@ -20,7 +20,7 @@ returns-then-not-again c =
       ap pin_of is,
       subst (λ s. Grows 1 (caller_in s) [] c.again.new.self.reader) (sym is) told.finds,
       λ has. let never : false ≡ true = told.exact.1 has in cc,
-      ((λ j. Some (record x { rows = told.rows j; put = (told.marks j).put })) ∙ sym (ap pin_of is), told.holds ∙ ap (λ s. (caller_in s).holds) (sym is)),
+      ((λ j. Some (record x { rows = told.rows j; put = (told.marks.marks j).put })) ∙ sym (ap pin_of is), told.holds ∙ ap (λ s. (caller_in s).holds) (sym is)),
     )
 
 -- a find, and then steps that read what it found
@@ -55,7 +55,7 @@ returns c =
           (finds_and_reads _ pin.reader mid new c.args.key pin.rows found.finds told.rests)),
       still_put _ c.args.key pin.reader.marks.put mid new told.rests (found.exact.0 refl),
       (
-        (λ j. Some (record x { rows = (told.rows ∙ found.rows) j; put = ((told.marks ∙ found.marks) j).put })) ∙ sym (ap pin_of is),
+        (λ j. Some (record x { rows = (told.rows ∙ found.rows) j; put = ((told.marks ∙ found.marks.marks) j).put })) ∙ sym (ap pin_of is),
         (told.holds ∙ found.holds) ∙ ap (λ s. (caller_in s).holds) (sym is),
       ),
     )

@@ -41,5 +41,5 @@ returns-then-not-pin c = inr (inr (
 pub returns : goal.returns
 returns c = inr (inr (
   record { held = c.side-side.result.now; was = ap (λ handle. handle.live) (sym c.is_live.ensures.same) ∙ c.side-side.ensures.value; below = c.if-not-has_key.ensures.has },
-  inr (inl (refl, c.side-side.result.now.hand, c.pin.new.self, record { old = c.side-side.result.now; new = _; led = ap (λ handle. handle.live) (sym c.is_live.ensures.same) ∙ c.side-side.ensures.value; leads = refl; map = refl; old_hand = refl; new_hand = refl }, c.if-holds.ensures.none, c.if-not-pin.ensures.pins, c.len.ensures)),
+  inr (inl (refl, c.side-side.result.now.hand, c.pin.new.self, record { old = c.side-side.result.now; new = _; led = ap (λ handle. handle.live) (sym c.is_live.ensures.same) ∙ c.side-side.ensures.value; leads = refl; map = refl; old_hand = refl; new_hand = refl }, c.if-holds.ensures.none, c.if-not-pin.ensures.pins, c.len.ensures.len)),
 ))

@@ -1,5 +1,6 @@
 use Rattle.std.proofs.Common.{ℕ, ◌+◌, ◌∙◌, arith, refl, subst}
 use Rattle.nr_idserve.specs.declared.answers.TriedId.{TriedId}
+use Rattle.nr_idserve.specs.declared.hands.IdHands.{IdHands}
 use Rattle.nr_idserve.specs.IdGets.{AwaitsRaise, TriesOnce}
 use Rattle.nr_idserve.proofs.IdGetting.{missed_more, missed_none}
 use Rattle.nr_idserve.proofs.IdRinging.{rings_both, rings_looks, rings_same}
@@ -24,13 +25,13 @@ returns-in-Err-clause-gets g c =
     let once = subst (λ (tried : TriedId). TriesOnce g.R.RowRoom.shows capacity c.args.id c.loop-i.hands c.loop-i.rows tried c.try_once-tried.result.1 c.try_once-tried.new.rows) c.in-Missed.is c.try_once-tried.ensures.tries in
     let slept = c.in-Err.ensures.slept in
     record {
-      made = c.loop-i.i + 1;
+      made = c.loop-i.i;
       few = omega (arith, slept.0);
-      misses = missed_more capacity c.args.id c.loop-i.i c.args.hands c.loop-i.hands c.try_once-tried.result.1 c.in-Missed.missed so_far.missed once.0;
+      last = c.loop-i.hands;
+      misses = so_far.missed;
       same = once.1 ∙ so_far.rows;
-      last = c.count_for-counted.result.hands.value;
       missed = c.in-Missed.missed;
-      slept = subst (λ (id : ℕ). AwaitsRaise capacity id c.count_for-counted.result.hands.value c.in-Missed.missed c.try_once-tried.result.1) c.count_for-counted.ensures.id.0 slept.1;
+      slept = subst (λ (from : ℕ × IdHands). AwaitsRaise capacity from.0 from.1 c.in-Missed.missed c.try_once-tried.result.1) (λ j. (c.count_for-counted.ensures.id.0 j, c.count_for-counted.ensures.hands j)) slept.1;
     }
 
 pub loop-i-preserved : goal.loop-i-preserved

@@ -1,6 +1,7 @@
 use Rattle.std.proofs.Common.{ℕ, List, ◌∙◌, arith, refl, subst}
 use Rattle.nr_model.specs.declared.rows.Row.{Row}
 use Rattle.nr_serve.specs.declared.answers.Tried.{Tried}
+use Rattle.nr_serve.specs.declared.hands.Hands.{Hands}
 use Rattle.nr_serve.specs.Gets.{AwaitsFill, Gets, TriesOnce}
 use Rattle.nr_serve.proofs.Getting.{ends_late, gets_by_end, gets_by_none, missed_more, missed_none}
 use Rattle.nr_serve.proofs.Ringing.{rings_both, rings_looks, rings_same}
@@ -38,9 +39,9 @@ returns-in-Err-clause-gets g c =
     let so_far = c.loop-i.invariant in
     let once = subst (λ (tried : Tried). TriesOnce c.args.key c.loop-i.hands c.loop-i.rows tried c.try_once-tried.result.1 c.try_once-tried.new.rows) c.in-Missed.is c.try_once-tried.ensures.tries in
     let slept = c.in-Err.ensures.slept in
-    ends_late c.args.key c.loop-i.i c.args.tries c.args.hands c.count_for-counted.result.hands.value c.try_once-tried.result.1 c.args.rows.now c.try_once-tried.new.rows c.in-Missed.requested (omega (arith, slept.0))
-    (missed_more c.args.key c.loop-i.i c.args.hands c.loop-i.hands c.try_once-tried.result.1 c.loop-i.rows c.try_once-tried.new.rows c.in-Missed.requested so_far.missed once) (once.1 ∙ so_far.rows)
-    (subst (λ (key : ℕ). AwaitsFill key c.count_for-counted.result.hands.value c.in-Missed.requested c.try_once-tried.result.1) c.count_for-counted.ensures.key slept.1)
+    ends_late c.args.key c.loop-i.i c.args.tries c.args.hands c.loop-i.hands c.try_once-tried.result.1 c.args.rows.now c.try_once-tried.new.rows c.in-Missed.requested (omega (arith, slept.0))
+    so_far.missed (once.1 ∙ so_far.rows)
+    (subst (λ (from : ℕ × Hands). AwaitsFill from.0 from.1 c.in-Missed.requested c.try_once-tried.result.1) (λ j. (c.count_for-counted.ensures.key j, c.count_for-counted.ensures.hands j)) slept.1)
 
 pub returns-in-Err-clause-rings : goal.returns-in-Err-clause-rings
 returns-in-Err-clause-rings g c =

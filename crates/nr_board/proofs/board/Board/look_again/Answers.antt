@@ -2,7 +2,7 @@ use Rattle.std.proofs.Common.{ap, arith, sym, ℕ, ◌<◌, ◌∙◌, ◌≡◌
 use Rattle.nr_machine.specs.Slots.{content, names_slot}
 use Rattle.nr_machine.specs.declared.shape.Shape.{Shape}
 use Rattle.nr_board.proofs.BoardPlaces.{stands}
-use Rattle.nr_board.proofs.ReaderSeats.{again_exact, again_gains, again_holds, again_learns, again_marks, held_inside, held_slot}
+use Rattle.nr_board.proofs.ReaderSeats.{again_exact, again_gains, again_holds, again_learns, again_marks, held_gripped, held_inside, held_slot}
 use Rattle.nr_board.proofs.ReaderSteps.{finds_again_so}
 use Rattle.nr_board.specs.Callers.{Table}
 use Rattle.nr_board.specs.Views.{slot_held}
@@ -27,5 +27,6 @@ returns c = let board = c.args.self.now in let before = c.args.seat.now in let a
       exact = again_exact board before after same begin key word reader told answer named;
       marks = again_marks board before after same begin key word reader told answer named;
       says = told.says;
+      holds = held_gripped slot reader;
       fits = let about = stands c.self.view_is c.self.invariant in omega (arith, held_inside slot reader, about.fits.slots);
     }

@@ -10,7 +10,7 @@ returns-then-kept-key-clause-keeps c = let before = c.self.inside.caller.seat in
     let slot = c.in-Some.kept.set.slot in let word = c.look_again-word.result in
     let key_is : key_held held ≡ Some c.args.key = ap key_held c.in-Some.is ∙ ap Some (omega (arith, c.if-kept-key.true)) in
     let gone = names_held slot word ∙ sym c.names.ensures ∙ c.if-names.false in
-    let vain = looked_in_vain c.args.key before after held told.role told.says slot word gone (told.other gone) told.exact told.marks in
+    let vain = looked_in_vain c.args.key before after held told.role told.says slot word told.holds gone (told.other gone) told.exact told.marks in
     anew_keeps c.args.key c.args.self.now c.move_to.new.self c.move_to.result
     (subst (λ (h : Handed). KeepsAnew c.args.key h c.move_to.new.self c.move_to.result) c.self.view_is
     (asked_anew c.args.key word (handed before held) (handed after held) c.move_to.new.self vain.0 key_is vain.1 c.move_to.result c.move_to.ensures.moves))
