@@ -83,9 +83,9 @@ fn pinned(
     token: ReaderToken,
     asked: (&ReaderMap, u32),
 ) -> (ReaderToken, Result<Answer<'static>, PinRefusal>)
-    requires own { (caller_in token).table ≡ asked.0.now }
-    requires key { asked.1 < asked.0.now.shape.keys }
-    ensures { PinsBy (GainsFind asked.entry.1) asked.entry.1 token result.0 result.1 }
+    requires own { let (map, _) = asked in (caller_in token).table ≡ map.now }
+    requires key { let (map, key) = asked in key < map.now.shape.keys }
+    ensures { let (_, key) = asked.entry in let (new, answer) = result in PinsBy (GainsFind key) key token new answer }
 {
     let (map, key) = asked;
     match token {
@@ -156,7 +156,7 @@ fn released(
     map: &ReaderMap,
 ) -> (ReaderToken, Result<Answer<'static>, PinRefusal>)
     requires { (caller_in token).table ≡ map.now }
-    ensures { Unpins token result.0 result.1 }
+    ensures { let (new, answer) = result in Unpins token new answer }
 {
     match token {
         ReaderToken::Idle(reader) => (ReaderToken::Idle(reader), Err(PinRefusal::NotHolding)),

@@ -124,7 +124,7 @@ impl View {
 
     /// With another reader.
     pub(crate) fn open_pair<R: AllocGlobal + Abort>(rt: &R, shape: &IdShape) -> (View, IdReader)
-        ensures { id_table_of result.1 ≡ result.0 }
+        ensures { let (view, reader) = result in id_table_of reader ≡ view }
     {
         let (map, writer, mut readers) = IdMap::open(rt.alloc(), shape).expect(rt, "memory");
         let count = readers.len();

@@ -24,8 +24,8 @@ fn hears<M: IdMeasure, R: Abort + Wait>(
     applied: &IdApplied<'_, M>,
     tokens: (IdReader, Poster),
 ) -> Heard
-    requires map { id_table_of tokens.0 ≡ service.now.map }
-    requires queue { (tokens.1.queue ≡ service.now.queue.id) × (0 < tokens.1.keys) }
+    requires map { let (reader, _) = tokens in id_table_of reader ≡ service.now.map }
+    requires queue { let (_, poster) = tokens in (poster.queue ≡ service.now.queue.id) × (0 < poster.keys) }
     requires lobby { applied.now ≡ service.now.lobby }
     requires notes { (amount : _) (note : _) → M.reached amount note → note_table_of note ≡ service.now.map }
 {
@@ -66,8 +66,8 @@ fn tells<M: IdMeasure, R: Abort + Wait>(
     applied: &IdApplied<'_, M>,
     tokens: (IdWriter, Taker),
 )
-    requires map { tokens.0.table ≡ service.now.map }
-    requires queue { tokens.1.queue ≡ service.now.queue.id }
+    requires map { let (writer, _) = tokens in writer.table ≡ service.now.map }
+    requires queue { let (_, taker) = tokens in taker.queue ≡ service.now.queue.id }
     requires lobby { applied.now ≡ service.now.lobby }
     requires reached { (amount : _) (note : _) → note_table_of note ≡ service.now.map → M.reached amount note }
 {
@@ -84,8 +84,8 @@ fn both<M: IdMeasure + Send + Sync, R: Threads + Abort + Wait + Sync>(
     here: (IdReader, Poster),
     there: (IdWriter, Taker),
 ) -> Heard
-    requires map { (id_table_of here.0 ≡ service.now.map) × (there.0.table ≡ service.now.map) }
-    requires queue { (here.1.queue ≡ service.now.queue.id) × (0 < here.1.keys) × (there.1.queue ≡ service.now.queue.id) }
+    requires map { let (reader, _) = here in let (writer, _) = there in (id_table_of reader ≡ service.now.map) × (writer.table ≡ service.now.map) }
+    requires queue { let (_, poster) = here in let (_, taker) = there in (poster.queue ≡ service.now.queue.id) × (0 < poster.keys) × (taker.queue ≡ service.now.queue.id) }
     requires notes { (amount : _) (note : _) → M.reached amount note → note_table_of note ≡ service.now.map }
     requires reached { (amount : _) (note : _) → note_table_of note ≡ service.now.map → M.reached amount note }
 {
@@ -94,14 +94,14 @@ fn both<M: IdMeasure + Send + Sync, R: Threads + Abort + Wait + Sync>(
     let (heard, ()) = thread::join(
         rt,
         move || -> Heard
-            requires map { id_table_of here.0 ≡ service.now.map }
-            requires queue { (here.1.queue ≡ service.now.queue.id) × (0 < here.1.keys) }
+            requires map { let (reader, _) = here in id_table_of reader ≡ service.now.map }
+            requires queue { let (_, poster) = here in (poster.queue ≡ service.now.queue.id) × (0 < poster.keys) }
             requires lobby { applied.now ≡ service.now.lobby }
             requires notes { (amount : _) (note : _) → M.reached amount note → note_table_of note ≡ service.now.map }
         { hears(rt, service, applied, here) },
         move || -> ()
-            requires map { there.0.table ≡ service.now.map }
-            requires queue { there.1.queue ≡ service.now.queue.id }
+            requires map { let (writer, _) = there in writer.table ≡ service.now.map }
+            requires queue { let (_, taker) = there in taker.queue ≡ service.now.queue.id }
             requires lobby { applied.now ≡ service.now.lobby }
             requires reached { (amount : _) (note : _) → note_table_of note ≡ service.now.map → M.reached amount note }
         { tells(rt, service, applied, there) },

@@ -31,8 +31,8 @@ impl Model for Opened {
     ghost view = { λ opened. opened.service };
 
     ghost invariant = { λ opened. (0 < id_rows opened.service.map) × (opened.writer.table ≡ opened.service.map) × (opened.taker.queue ≡ opened.service.queue.id)
-        × (id_table_of opened.one.0 ≡ opened.service.map) × (opened.one.1.queue ≡ opened.service.queue.id) × (0 < opened.one.1.keys)
-        × (id_table_of opened.two.0 ≡ opened.service.map) × (opened.two.1.queue ≡ opened.service.queue.id) × (0 < opened.two.1.keys) };
+        × (let (reader, poster) = opened.one in (id_table_of reader ≡ opened.service.map) × (poster.queue ≡ opened.service.queue.id) × (0 < poster.keys))
+        × (let (reader, poster) = opened.two in (id_table_of reader ≡ opened.service.map) × (poster.queue ≡ opened.service.queue.id) × (0 < poster.keys)) };
 }
 
 // The last of a map's readers, which there is.
@@ -46,9 +46,9 @@ fn next<R: Abort>(rt: &R, map: &IdMap, readers: &mut Vec<IdReader>) -> IdReader
 
 // A map of that many groups with its two readers.
 fn map_of<R: Abort + AllocGlobal>(rt: &R, groups: u32) -> (IdMap, IdWriter, IdReader, IdReader)
-    ensures room { 0 < id_rows result.0 }
-    ensures writer { result.1.table ≡ result.0 }
-    ensures readers { (id_table_of result.2 ≡ result.0) × (id_table_of result.3 ≡ result.0) }
+    ensures room { let (map, _, _, _) = result in 0 < id_rows map }
+    ensures writer { let (map, writer, _, _) = result in writer.table ≡ map }
+    ensures readers { let (map, _, one, two) = result in (id_table_of one ≡ map) × (id_table_of two ≡ map) }
 {
     let shape = IdShape {
         groups,
@@ -66,9 +66,9 @@ fn map_of<R: Abort + AllocGlobal>(rt: &R, groups: u32) -> (IdMap, IdWriter, IdRe
 
 // A queue of claims with its two posters.
 fn queue<R: Abort + AllocGlobal>(rt: &R, capacity: u32) -> (Triggers, Taker, Poster, Poster)
-    ensures taker { result.1.queue ≡ result.0.id }
-    ensures one { (result.2.queue ≡ result.0.id) × (0 < result.2.keys) }
-    ensures two { (result.3.queue ≡ result.0.id) × (0 < result.3.keys) }
+    ensures taker { let (queue, taker, _, _) = result in taker.queue ≡ queue.id }
+    ensures one { let (queue, _, one, _) = result in (one.queue ≡ queue.id) × (0 < one.keys) }
+    ensures two { let (queue, _, _, two) = result in (two.queue ≡ queue.id) × (0 < two.keys) }
 {
     let (claims, mut posters, taker) = Triggers::open(rt.alloc(), capacity, 2).expect(
         rt, "a queue",

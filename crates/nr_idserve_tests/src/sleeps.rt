@@ -118,9 +118,9 @@ fn fills_group<R: Abort + Wait>(
     here: (IdReader, Poster),
     there: (IdWriter, Taker),
 ) -> (IdWriter, Taker)
-    requires map { (id_table_of here.0 ≡ service.now.map) × (there.0.table ≡ service.now.map) × (0 < id_rows service.now.map) }
-    requires queue { (here.1.queue ≡ service.now.queue.id) × (0 < here.1.keys) × (there.1.queue ≡ service.now.queue.id) }
-    ensures own { (result.0.table ≡ service.now.map) × (result.1.queue ≡ service.now.queue.id) }
+    requires map { let (reader, _) = here in let (writer, _) = there in (id_table_of reader ≡ service.now.map) × (writer.table ≡ service.now.map) × (0 < id_rows service.now.map) }
+    requires queue { let (_, poster) = here in let (_, taker) = there in (poster.queue ≡ service.now.queue.id) × (0 < poster.keys) × (taker.queue ≡ service.now.queue.id) }
+    ensures own { let (writer, taker) = result in (writer.table ≡ service.now.map) × (taker.queue ≡ service.now.queue.id) }
 {
     let mut client = IdClient::open(service, here.0, here.1);
     let mut flow = IdDataflow::open(service, there.0, there.1);

@@ -35,7 +35,7 @@ fn is_raised(flag: &AtomicBool) -> bool {
 fn hold(map: &ReaderMap, flags: &Flags, reader: Reader) -> (Option<Row>, Reader)
     requires own { reader.table ≡ map.now }
     requires key { 0 < map.now.shape.keys }
-    ensures { result.1.table ≡ map.now }
+    ensures { let (_, token) = result in token.table ≡ map.now }
 {
     let mut pin = match map.pin(reader, 0) {
         Ok(pin) => pin,
@@ -55,7 +55,7 @@ fn hold(map: &ReaderMap, flags: &Flags, reader: Reader) -> (Option<Row>, Reader)
 fn update_once_pinned(map: &ReaderMap, flags: &Flags, mut writer: Writer) -> (bool, Writer)
     requires own { writer.table ≡ map.now }
     requires key { 0 < map.now.shape.keys }
-    ensures { result.1.table ≡ map.now }
+    ensures { let (_, token) = result in token.table ≡ map.now }
 {
     let was_pinned = is_raised(&flags.pinned);
     let updated = update(map, &mut writer, 0, &[minus(5, 6), plus(7, 8)]);
@@ -67,7 +67,7 @@ fn update_once_pinned(map: &ReaderMap, flags: &Flags, mut writer: Writer) -> (bo
 fn ask_once_updated(map: &ReaderMap, flags: &Flags, mut reader: Reader) -> (bool, Reader)
     requires own { reader.table ≡ map.now }
     requires key { 1 < map.now.shape.keys }
-    ensures { result.1.table ≡ map.now }
+    ensures { let (_, token) = result in token.table ≡ map.now }
 {
     let was_updated = is_raised(&flags.updated);
     let is_sent = ask(map, &mut reader, 1) == Told::Send(1, 0);
@@ -84,17 +84,17 @@ fn update_and_ask<R: Threads + Sync>(
 ) -> ((bool, Writer), (bool, Reader))
     requires keys { 1 < map.now.shape.keys }
     requires own { (reader.table ≡ map.now) × (writer.table ≡ map.now) }
-    ensures { (result.0.1.table ≡ map.now) × (result.1.1.table ≡ map.now) }
+    ensures { let ((_, one), (_, other)) = result in (one.table ≡ map.now) × (other.table ≡ map.now) }
 {
     join(
         rt,
         move || -> (bool, Writer)
             requires { (1 < map.now.shape.keys) × (writer.table ≡ map.now) }
-            ensures { result.1.table ≡ map.entry.now }
+            ensures { let (_, token) = result in token.table ≡ map.entry.now }
         { update_once_pinned(map, flags, writer) },
         move || -> (bool, Reader)
             requires { (1 < map.now.shape.keys) × (reader.table ≡ map.now) }
-            ensures { result.1.table ≡ map.entry.now }
+            ensures { let (_, token) = result in token.table ≡ map.entry.now }
         { ask_once_updated(map, flags, reader) },
     )
 }
@@ -109,17 +109,17 @@ fn all_three<R: Threads + Sync>(
 ) -> ((Option<Row>, Reader), ((bool, Writer), (bool, Reader)))
     requires keys { 1 < map.now.shape.keys }
     requires own { (one.table ≡ map.now) × (two.table ≡ map.now) × (writer.table ≡ map.now) }
-    ensures { (result.0.1.table ≡ map.now) × (result.1.0.1.table ≡ map.now) × (result.1.1.1.table ≡ map.now) }
+    ensures { let ((_, holder), ((_, updater), (_, asker))) = result in (holder.table ≡ map.now) × (updater.table ≡ map.now) × (asker.table ≡ map.now) }
 {
     join(
         rt,
         move || -> (Option<Row>, Reader)
             requires { (1 < map.now.shape.keys) × (one.table ≡ map.now) }
-            ensures { result.1.table ≡ map.entry.now }
+            ensures { let (_, token) = result in token.table ≡ map.entry.now }
         { hold(map, flags, one) },
         move || -> ((bool, Writer), (bool, Reader))
             requires { (1 < map.now.shape.keys) × (writer.table ≡ map.now) × (two.table ≡ map.now) }
-            ensures { (result.0.1.table ≡ map.entry.now) × (result.1.1.table ≡ map.entry.now) }
+            ensures { let ((_, one), (_, other)) = result in (one.table ≡ map.entry.now) × (other.table ≡ map.entry.now) }
         { update_and_ask(rt, map, flags, writer, two) },
     )
 }
@@ -128,7 +128,7 @@ fn all_three<R: Threads + Sync>(
 fn holds_beside<R: Abort + Threads + Sync>(rt: &R, worked: Worked, two: Reader) -> (Worked, Reader)
     requires keys { worked.shape.keys ≡ 2 }
     requires two { two.table ≡ worked }
-    ensures { result.1.table ≡ result.0 }
+    ensures { let (worked, other) = result in other.table ≡ worked }
 {
     let Worked {
         map,

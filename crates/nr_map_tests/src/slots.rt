@@ -114,8 +114,8 @@ fn update_beside<R: Threads + Sync>(
 
 // A map of two keys with three readers, each of which may have a word of its own.
 fn with_three<R: Abort + AllocGlobal>(rt: &R, words: bool) -> (Worked, Reader, Reader)
-    ensures keys { result.0.shape.keys ≡ 2 }
-    ensures readers { (result.1.table ≡ result.0) × (result.2.table ≡ result.0) }
+    ensures keys { let (worked, _, _) = result in worked.shape.keys ≡ 2 }
+    ensures readers { let (worked, one, two) = result in (one.table ≡ worked) × (two.table ≡ worked) }
 {
     let shape = Shape {
         keys: 2,

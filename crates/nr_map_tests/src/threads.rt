@@ -12,7 +12,7 @@ use std::thread::{Threads, join};
 fn ask_once(map: &ReaderMap, mut reader: Reader) -> (Told, Reader)
     requires own { reader.table ≡ map.now }
     requires key { 0 < map.now.shape.keys }
-    ensures own { result.1.table ≡ map.now }
+    ensures own { let (_, reader) = result in reader.table ≡ map.now }
 {
     let told = ask(map, &mut reader, 0);
     (told, reader)
@@ -26,13 +26,13 @@ fn both_ask<R: Threads + Sync>(
 ) -> ((Told, Reader), (Told, Reader))
     requires own { (one.table ≡ map.now) × (two.table ≡ map.now) }
     requires key { 0 < map.now.shape.keys }
-    ensures own { result.0.1.table ≡ map.now }
+    ensures own { let ((_, reader), _) = result in reader.table ≡ map.now }
 {
     join(
         rt,
         move || -> (Told, Reader)
             requires { (one.table ≡ map.now) × (0 < map.now.shape.keys) }
-            ensures { result.1.table ≡ map.entry.now }
+            ensures { let (_, reader) = result in reader.table ≡ map.entry.now }
         { ask_once(map, one) },
         move || -> (Told, Reader)
             requires { (two.table ≡ map.now) × (0 < map.now.shape.keys) }

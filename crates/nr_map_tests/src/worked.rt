@@ -116,7 +116,7 @@ impl Worked {
         slots: u32,
         first_count: u64,
     ) -> (Worked, Reader)
-        ensures { (result.0.shape.keys ≡ keys) × (result.1.table ≡ result.0) }
+        ensures { let (worked, reader) = result in (worked.shape.keys ≡ keys) × (reader.table ≡ worked) }
     {
         let opened = ReaderMap::open(rt.alloc(), keys, slots, 2, first_count);
         let (map, writer, mut readers) = opened.expect(rt, "a map");

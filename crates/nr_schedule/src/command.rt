@@ -137,7 +137,7 @@ fn by_writer<'a>(mut words: Words<'a>, given: &'a mut LineRoom) -> Option<Comman
 }
 
 fn key_and_rows<'a>(mut words: Words<'a>, given: &'a mut LineRoom) -> Option<(u64, GivenRows<'a>)>
-    ensures { (made : ℕ → Result (List Row) TooMany → Command) → filling number made (words_left words.entry) ≡ option_map (λ found. made found.0 found.1) result }
+    ensures { (made : ℕ → Result (List Row) TooMany → Command) → filling number made (words_left words.entry) ≡ option_map (λ (key, rows). made key rows) result }
 {
     let key = number(words.next()?)?;
     let rows = given.put_rows(set(words)?);
@@ -174,7 +174,7 @@ fn one_number(mut words: Words<'_>) -> Option<u64>
 }
 
 fn two_numbers(mut words: Words<'_>) -> Option<(u64, u64)>
-    ensures { (made : ℕ → ℕ → Command) → two_numbers made (words_left words.entry) ≡ option_map (λ found. made found.0 found.1) result }
+    ensures { (made : ℕ → ℕ → Command) → two_numbers made (words_left words.entry) ≡ option_map (λ (first, second). made first second) result }
 {
     let first = words.next()?;
     let second = words.next()?;

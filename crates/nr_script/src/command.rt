@@ -186,7 +186,7 @@ fn reading<'a>(name: &[u8], words: Words<'a>) -> Option<Command<'a>>
 }
 
 fn reader_and_key(mut words: Words<'_>) -> Option<(u64, KeyWord<'_>)>
-    ensures { (made : ℕ → List ℕ → Command) → reader_and_key made (words_left words.entry) ≡ option_map (λ found. made found.0 found.1) result }
+    ensures { (made : ℕ → List ℕ → Command) → reader_and_key made (words_left words.entry) ≡ option_map (λ (reader, key). made reader key) result }
 {
     let spelled = words.next()?;
     let word = words.next()?;
@@ -237,7 +237,7 @@ fn key_and_rows<'a>(
     mut words: Words<'a>,
     given: &'a mut LineRoom,
 ) -> Option<(KeyWord<'a>, GivenRows<'a>)>
-    ensures { (made : List ℕ → Result (List Row) TooMany → Command) → filling key made (words_left words.entry) ≡ option_map (λ found. made found.0 found.1) result }
+    ensures { (made : List ℕ → Result (List Row) TooMany → Command) → filling key made (words_left words.entry) ≡ option_map (λ (name, rows). made name rows) result }
 {
     let key = key(words.next()?)?;
     let rows = given.put_rows(set(words)?);

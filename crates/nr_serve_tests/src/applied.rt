@@ -41,8 +41,8 @@ fn hears<M: Measure, R: Wait>(
     applied: &Applied<'_, M>,
     tokens: (Reader, Poster),
 ) -> Heard
-    requires map { (tokens.0.table ≡ service.now.map) × (service.now.map.shape.keys ≡ 2) }
-    requires queue { (tokens.1.queue ≡ service.now.queue.id) × (tokens.1.keys ≡ 2) }
+    requires map { let (reader, _) = tokens in (reader.table ≡ service.now.map) × (service.now.map.shape.keys ≡ 2) }
+    requires queue { let (_, poster) = tokens in (poster.queue ≡ service.now.queue.id) × (poster.keys ≡ 2) }
     requires lobby { applied.now ≡ service.now.lobby }
     requires notes { (amount : _) (note : _) → M.reached amount note → note.table ≡ service.now.map }
 {
@@ -63,8 +63,8 @@ fn tells<M: Measure, R: Wait + Clock>(
     applied: &Applied<'_, M>,
     tokens: (Writer, Taker),
 )
-    requires map { (tokens.0.table ≡ service.now.map) × (service.now.map.shape.keys ≡ 2) }
-    requires queue { (tokens.1.queue ≡ service.now.queue.id) × (tokens.1.keys ≡ 2) }
+    requires map { let (writer, _) = tokens in (writer.table ≡ service.now.map) × (service.now.map.shape.keys ≡ 2) }
+    requires queue { let (_, taker) = tokens in (taker.queue ≡ service.now.queue.id) × (taker.keys ≡ 2) }
     requires lobby { applied.now ≡ service.now.lobby }
     requires reached { (amount : _) (note : _) → note.table ≡ service.now.map → M.reached amount note }
 {
@@ -86,9 +86,9 @@ fn both<M: Measure + Send + Sync, R: Threads + Wait + Clock + Sync>(
     here: (Reader, Poster),
     there: (Writer, Taker),
 ) -> Heard
-    requires map { (here.0.table ≡ service.now.map) × (there.0.table ≡ service.now.map) × (service.now.map.shape.keys ≡ 2) }
-    requires queue { (here.1.queue ≡ service.now.queue.id) × (there.1.queue ≡ service.now.queue.id) }
-    requires keys { (here.1.keys ≡ 2) × (there.1.keys ≡ 2) }
+    requires map { let (reader, _) = here in let (writer, _) = there in (reader.table ≡ service.now.map) × (writer.table ≡ service.now.map) × (service.now.map.shape.keys ≡ 2) }
+    requires queue { let (_, poster) = here in let (_, taker) = there in (poster.queue ≡ service.now.queue.id) × (taker.queue ≡ service.now.queue.id) }
+    requires keys { let (_, poster) = here in let (_, taker) = there in (poster.keys ≡ 2) × (taker.keys ≡ 2) }
     requires notes { (amount : _) (note : _) → M.reached amount note → note.table ≡ service.now.map }
     requires reached { (amount : _) (note : _) → note.table ≡ service.now.map → M.reached amount note }
 {
@@ -97,14 +97,14 @@ fn both<M: Measure + Send + Sync, R: Threads + Wait + Clock + Sync>(
     let (heard, ()) = thread::join(
         rt,
         move || -> Heard
-            requires map { (here.0.table ≡ service.now.map) × (service.now.map.shape.keys ≡ 2) }
-            requires queue { (here.1.queue ≡ service.now.queue.id) × (here.1.keys ≡ 2) }
+            requires map { let (reader, _) = here in (reader.table ≡ service.now.map) × (service.now.map.shape.keys ≡ 2) }
+            requires queue { let (_, poster) = here in (poster.queue ≡ service.now.queue.id) × (poster.keys ≡ 2) }
             requires lobby { applied.now ≡ service.now.lobby }
             requires notes { (amount : _) (note : _) → M.reached amount note → note.table ≡ service.now.map }
         { hears(rt, service, applied, here) },
         move || -> ()
-            requires map { (there.0.table ≡ service.now.map) × (service.now.map.shape.keys ≡ 2) }
-            requires queue { (there.1.queue ≡ service.now.queue.id) × (there.1.keys ≡ 2) }
+            requires map { let (writer, _) = there in (writer.table ≡ service.now.map) × (service.now.map.shape.keys ≡ 2) }
+            requires queue { let (_, taker) = there in (taker.queue ≡ service.now.queue.id) × (taker.keys ≡ 2) }
             requires lobby { applied.now ≡ service.now.lobby }
             requires reached { (amount : _) (note : _) → note.table ≡ service.now.map → M.reached amount note }
         { tells(rt, service, applied, there) },

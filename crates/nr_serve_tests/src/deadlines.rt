@@ -87,8 +87,8 @@ fn gets_soon<R: Wait + Clock>(
     service: &Service,
     tokens: (Reader, Poster),
 ) -> (Ended, Option<Row>)
-    requires map { (tokens.0.table ≡ service.now.map) × (service.now.map.shape.keys ≡ 2) }
-    requires queue { (tokens.1.queue ≡ service.now.queue.id) × (tokens.1.keys ≡ 2) }
+    requires map { let (reader, _) = tokens in (reader.table ≡ service.now.map) × (service.now.map.shape.keys ≡ 2) }
+    requires queue { let (_, poster) = tokens in (poster.queue ≡ service.now.queue.id) × (poster.keys ≡ 2) }
 {
     let (reader, poster) = tokens;
     let gate = OpenGate;
@@ -100,8 +100,8 @@ fn gets_soon<R: Wait + Clock>(
 
 // Fills key 0 once it is asked for, and a client that waits for it sleeps.
 fn fills_later<R: Wait + Clock>(rt: &R, service: &Service, tokens: (Writer, Taker))
-    requires map { (tokens.0.table ≡ service.now.map) × (service.now.map.shape.keys ≡ 2) }
-    requires queue { (tokens.1.queue ≡ service.now.queue.id) × (tokens.1.keys ≡ 2) }
+    requires map { let (writer, _) = tokens in (writer.table ≡ service.now.map) × (service.now.map.shape.keys ≡ 2) }
+    requires queue { let (_, taker) = tokens in (taker.queue ≡ service.now.queue.id) × (taker.keys ≡ 2) }
 {
     let (writer, taker) = tokens;
     let mut flow = Dataflow::open(service, writer, taker, Plain { bound: 0 });

@@ -40,8 +40,8 @@ fn fills_and_sleeps<R: Wait + Clock>(
     tokens: (Writer, Taker),
     told: &Told,
 )
-    requires map { (tokens.0.table ≡ service.now.map) × (service.now.map.shape.keys ≡ 2) }
-    requires queue { (tokens.1.queue ≡ service.now.queue.id) × (tokens.1.keys ≡ 2) }
+    requires map { let (writer, _) = tokens in (writer.table ≡ service.now.map) × (service.now.map.shape.keys ≡ 2) }
+    requires queue { let (_, taker) = tokens in (taker.queue ≡ service.now.queue.id) × (taker.keys ≡ 2) }
 {
     let (writer, taker) = tokens;
     let mut flow = Dataflow::open(service, writer, taker, Plain { bound: 0 });
@@ -63,8 +63,8 @@ fn posts_what_it_kept<R: Wait + Clock>(
     tokens: (Reader, Poster),
     told: &Told,
 ) -> (bool, Got)
-    requires map { (tokens.0.table ≡ service.now.map) × (service.now.map.shape.keys ≡ 2) }
-    requires queue { (tokens.1.queue ≡ service.now.queue.id) × (tokens.1.keys ≡ 2) }
+    requires map { let (reader, _) = tokens in (reader.table ≡ service.now.map) × (service.now.map.shape.keys ≡ 2) }
+    requires queue { let (_, poster) = tokens in (poster.queue ≡ service.now.queue.id) × (poster.keys ≡ 2) }
 {
     let (reader, poster) = tokens;
     let mut client = Client::open(service, reader, poster, &OpenGate);
@@ -109,21 +109,21 @@ fn beside<R: Threads + Wait + Clock + Sync>(
     there: (Writer, Taker),
     told: &Told,
 ) -> Option<(bool, Got)>
-    requires map { (here.0.table ≡ service.now.map) × (there.0.table ≡ service.now.map) × (service.now.map.shape.keys ≡ 2) }
-    requires queue { (here.1.queue ≡ service.now.queue.id) × (there.1.queue ≡ service.now.queue.id) }
-    requires keys { (here.1.keys ≡ 2) × (there.1.keys ≡ 2) }
+    requires map { let (reader, _) = here in let (writer, _) = there in (reader.table ≡ service.now.map) × (writer.table ≡ service.now.map) × (service.now.map.shape.keys ≡ 2) }
+    requires queue { let (_, poster) = here in let (_, taker) = there in (poster.queue ≡ service.now.queue.id) × (taker.queue ≡ service.now.queue.id) }
+    requires keys { let (_, poster) = here in let (_, taker) = there in (poster.keys ≡ 2) × (taker.keys ≡ 2) }
 {
     thread::scope(
         thread::scope_env(),
         rt,
         |scope| -> Option<(bool, Got)>
-            requires map { (here.0.table ≡ service.now.map) × (there.0.table ≡ service.now.map) × (service.now.map.shape.keys ≡ 2) }
-            requires queue { (here.1.queue ≡ service.now.queue.id) × (there.1.queue ≡ service.now.queue.id) }
-            requires keys { (here.1.keys ≡ 2) × (there.1.keys ≡ 2) }
+            requires map { let (reader, _) = here in let (writer, _) = there in (reader.table ≡ service.now.map) × (writer.table ≡ service.now.map) × (service.now.map.shape.keys ≡ 2) }
+            requires queue { let (_, poster) = here in let (_, taker) = there in (poster.queue ≡ service.now.queue.id) × (taker.queue ≡ service.now.queue.id) }
+            requires keys { let (_, poster) = here in let (_, taker) = there in (poster.keys ≡ 2) × (taker.keys ≡ 2) }
         {
             let flow = scope.spawn(
                 move ||
-                    requires { (there.0.table ≡ service.now.map) × (service.now.map.shape.keys ≡ 2) × (there.1.queue ≡ service.now.queue.id) × (there.1.keys ≡ 2) }
+                    requires { let (writer, taker) = there in (writer.table ≡ service.now.map) × (service.now.map.shape.keys ≡ 2) × (taker.queue ≡ service.now.queue.id) × (taker.keys ≡ 2) }
                 { fills_and_sleeps(rt, service, there, told) },
             );
             if flow.is_err() {

@@ -49,9 +49,9 @@ pub(crate) fn two_readers<R: Abort + AllocGlobal>(
     keys: u32,
     slots: u32,
 ) -> (ReaderMap, Writer, Reader, Reader)
-    ensures sizes { (result.0.shape.keys ≡ keys) × (result.0.shape.rows ≡ 15) }
-    ensures writer { result.1.table ≡ result.0 }
-    ensures readers { (result.2.table ≡ result.0) × (result.3.table ≡ result.0) }
+    ensures sizes { let (map, _, _, _) = result in (map.shape.keys ≡ keys) × (map.shape.rows ≡ 15) }
+    ensures writer { let (map, writer, _, _) = result in writer.table ≡ map }
+    ensures readers { let (map, _, one, two) = result in (one.table ≡ map) × (two.table ≡ map) }
 {
     numbered_from(rt, keys, slots, 0)
 }
@@ -63,9 +63,9 @@ fn numbered_from<R: Abort + AllocGlobal>(
     slots: u32,
     first_number: u64,
 ) -> (ReaderMap, Writer, Reader, Reader)
-    ensures sizes { (result.0.shape.keys ≡ keys) × (result.0.shape.rows ≡ 15) }
-    ensures writer { result.1.table ≡ result.0 }
-    ensures readers { (result.2.table ≡ result.0) × (result.3.table ≡ result.0) }
+    ensures sizes { let (map, _, _, _) = result in (map.shape.keys ≡ keys) × (map.shape.rows ≡ 15) }
+    ensures writer { let (map, writer, _, _) = result in writer.table ≡ map }
+    ensures readers { let (map, _, one, two) = result in (one.table ≡ map) × (two.table ≡ map) }
 {
     let shape = Shape {
         keys,
@@ -83,8 +83,8 @@ fn numbered_from<R: Abort + AllocGlobal>(
 
 // A queue for tickets of keys below 2, with its one poster.
 fn one_poster<R: Abort + AllocGlobal>(rt: &R, capacity: u32) -> (Triggers, Taker, Poster)
-    ensures taker { (result.1.queue ≡ result.0.id) × (result.1.keys ≡ 2) }
-    ensures poster { (result.2.queue ≡ result.0.id) × (result.2.keys ≡ 2) }
+    ensures taker { let (queue, taker, _) = result in (taker.queue ≡ queue.id) × (taker.keys ≡ 2) }
+    ensures poster { let (queue, _, poster) = result in (poster.queue ≡ queue.id) × (poster.keys ≡ 2) }
 {
     let (triggers, mut posters, taker) = Triggers::open(rt.alloc(), capacity, 1).expect(
         rt, "a queue",

@@ -23,8 +23,8 @@ fn next<R: Abort>(rt: &R, triggers: &Triggers, posters: &mut Vec<Poster>) -> Pos
 
 // A queue of three places for keys below 20, with its two posters.
 fn queue_of<R: Abort + AllocGlobal>(rt: &R) -> (Triggers, Taker, Poster, Poster)
-    ensures queue { (result.1.queue ≡ result.0.id) × (result.2.queue ≡ result.0.id) × (result.3.queue ≡ result.0.id) }
-    ensures keys { (result.2.keys ≡ 20) × (result.3.keys ≡ 20) }
+    ensures queue { let (queue, taker, one, two) = result in (taker.queue ≡ queue.id) × (one.queue ≡ queue.id) × (two.queue ≡ queue.id) }
+    ensures keys { let (_, _, one, two) = result in (one.keys ≡ 20) × (two.keys ≡ 20) }
 {
     let (triggers, mut posters, taker) = Triggers::open(rt.alloc(), 3, 2).expect(rt, "a queue");
     let one = next(rt, &triggers, &mut posters);
@@ -167,9 +167,9 @@ fn both_post<R: Abort + Threads + Wait + Sync>(
     readers: (Reader, Reader),
     posters: (Poster, Poster),
 )
-    requires map { (readers.0.table ≡ map.now) × (readers.1.table ≡ map.now) × (map.now.shape.keys ≡ 20) }
-    requires queue { (posters.0.queue ≡ triggers.now.id) × (posters.1.queue ≡ triggers.now.id) }
-    requires keys { (posters.0.keys ≡ 20) × (posters.1.keys ≡ 20) }
+    requires map { let (one, two) = readers in (one.table ≡ map.now) × (two.table ≡ map.now) × (map.now.shape.keys ≡ 20) }
+    requires queue { let (first, second) = posters in (first.queue ≡ triggers.now.id) × (second.queue ≡ triggers.now.id) }
+    requires keys { let (first, second) = posters in (first.keys ≡ 20) × (second.keys ≡ 20) }
 {
     let (one, two) = readers;
     let (first, second) = posters;
@@ -192,9 +192,9 @@ fn all_at_once<R: Abort + Threads + Wait + Sync>(
     posters: (Poster, Poster),
     taker: Taker,
 ) -> [u32; 20]
-    requires map { (readers.0.table ≡ map.now) × (readers.1.table ≡ map.now) × (map.now.shape.keys ≡ 20) }
-    requires queue { (posters.0.queue ≡ triggers.now.id) × (posters.1.queue ≡ triggers.now.id) × (taker.queue ≡ triggers.now.id) }
-    requires keys { (posters.0.keys ≡ 20) × (posters.1.keys ≡ 20) }
+    requires map { let (one, two) = readers in (one.table ≡ map.now) × (two.table ≡ map.now) × (map.now.shape.keys ≡ 20) }
+    requires queue { let (first, second) = posters in (first.queue ≡ triggers.now.id) × (second.queue ≡ triggers.now.id) × (taker.queue ≡ triggers.now.id) }
+    requires keys { let (first, second) = posters in (first.keys ≡ 20) × (second.keys ≡ 20) }
 {
     let (one, two) = readers;
     let (first, second) = posters;

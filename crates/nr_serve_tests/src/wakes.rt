@@ -68,8 +68,8 @@ fn gets<R: Wait + CpuClock>(
     tries: u32,
     came: &AtomicBool,
 ) -> Slept
-    requires map { (tokens.0.table ≡ service.now.map) × (service.now.map.shape.keys ≡ 2) }
-    requires queue { (tokens.1.queue ≡ service.now.queue.id) × (tokens.1.keys ≡ 2) }
+    requires map { let (reader, _) = tokens in (reader.table ≡ service.now.map) × (service.now.map.shape.keys ≡ 2) }
+    requires queue { let (_, poster) = tokens in (poster.queue ≡ service.now.queue.id) × (poster.keys ≡ 2) }
 {
     let (reader, poster) = tokens;
     let gate = OpenGate;
@@ -95,8 +95,8 @@ fn turns<R: Wait + CpuClock>(
     tokens: (Writer, Taker),
     came: &AtomicBool,
 ) -> bool
-    requires map { (tokens.0.table ≡ service.now.map) × (service.now.map.shape.keys ≡ 2) }
-    requires queue { (tokens.1.queue ≡ service.now.queue.id) × (tokens.1.keys ≡ 2) }
+    requires map { let (writer, _) = tokens in (writer.table ≡ service.now.map) × (service.now.map.shape.keys ≡ 2) }
+    requires queue { let (_, taker) = tokens in (taker.queue ≡ service.now.queue.id) × (taker.keys ≡ 2) }
 {
     let (writer, taker) = tokens;
     let mut flow = Dataflow::open(service, writer, taker, Plain { bound: 0 });
@@ -122,8 +122,8 @@ fn cancels<R: Wait + Clock>(rt: &R, flow: &mut Dataflow<'_, Plain>)
 
 // Takes back the request of a client, which is to ask for key 0 once more, and fills the key then.
 fn cancels_and_fills<R: Wait + Clock>(rt: &R, service: &Service, tokens: (Writer, Taker))
-    requires map { (tokens.0.table ≡ service.now.map) × (service.now.map.shape.keys ≡ 2) }
-    requires queue { (tokens.1.queue ≡ service.now.queue.id) × (tokens.1.keys ≡ 2) }
+    requires map { let (writer, _) = tokens in (writer.table ≡ service.now.map) × (service.now.map.shape.keys ≡ 2) }
+    requires queue { let (_, taker) = tokens in (taker.queue ≡ service.now.queue.id) × (taker.keys ≡ 2) }
 {
     let (writer, taker) = tokens;
     let mut flow = Dataflow::open(service, writer, taker, Plain { bound: 0 });
@@ -145,8 +145,8 @@ fn wakes_client<R: Wait + Clock>(
     cause: Cause,
     came: &AtomicBool,
 ) -> bool
-    requires map { (tokens.0.table ≡ service.now.map) × (service.now.map.shape.keys ≡ 2) }
-    requires queue { (tokens.1.queue ≡ service.now.queue.id) × (tokens.1.keys ≡ 2) }
+    requires map { let (writer, _) = tokens in (writer.table ≡ service.now.map) × (service.now.map.shape.keys ≡ 2) }
+    requires queue { let (_, taker) = tokens in (taker.queue ≡ service.now.queue.id) × (taker.keys ≡ 2) }
 {
     pause(rt);
     let lobby = service.lobby();
@@ -172,8 +172,8 @@ fn stirs<R: Wait + Clock + CpuClock>(
     tokens: (Reader, Poster),
     cause: Cause,
 )
-    requires map { (tokens.0.table ≡ service.now.map) × (service.now.map.shape.keys ≡ 2) }
-    requires queue { (tokens.1.queue ≡ service.now.queue.id) × (tokens.1.keys ≡ 2) }
+    requires map { let (reader, _) = tokens in (reader.table ≡ service.now.map) × (service.now.map.shape.keys ≡ 2) }
+    requires queue { let (_, poster) = tokens in (poster.queue ≡ service.now.queue.id) × (poster.keys ≡ 2) }
 {
     let lobby = service.lobby();
     match cause {
@@ -196,8 +196,8 @@ fn wakes_flow<R: Wait + Clock + CpuClock>(
     cause: Cause,
     came: &AtomicBool,
 ) -> bool
-    requires map { (tokens.0.table ≡ service.now.map) × (service.now.map.shape.keys ≡ 2) }
-    requires queue { (tokens.1.queue ≡ service.now.queue.id) × (tokens.1.keys ≡ 2) }
+    requires map { let (reader, _) = tokens in (reader.table ≡ service.now.map) × (service.now.map.shape.keys ≡ 2) }
+    requires queue { let (_, poster) = tokens in (poster.queue ≡ service.now.queue.id) × (poster.keys ≡ 2) }
 {
     pause(rt);
     stirs(rt, service, tokens, cause);
@@ -217,23 +217,23 @@ fn client_sleeps<R: Threads + Wait + Clock + CpuClock + Sync>(
     there: (Writer, Taker),
     cause: Cause,
 ) -> Option<(Slept, bool)>
-    requires map { (here.0.table ≡ service.now.map) × (there.0.table ≡ service.now.map) × (service.now.map.shape.keys ≡ 2) }
-    requires queue { (here.1.queue ≡ service.now.queue.id) × (there.1.queue ≡ service.now.queue.id) }
-    requires keys { (here.1.keys ≡ 2) × (there.1.keys ≡ 2) }
+    requires map { let (reader, _) = here in let (writer, _) = there in (reader.table ≡ service.now.map) × (writer.table ≡ service.now.map) × (service.now.map.shape.keys ≡ 2) }
+    requires queue { let (_, poster) = here in let (_, taker) = there in (poster.queue ≡ service.now.queue.id) × (taker.queue ≡ service.now.queue.id) }
+    requires keys { let (_, poster) = here in let (_, taker) = there in (poster.keys ≡ 2) × (taker.keys ≡ 2) }
 {
     let came = AtomicBool::new(false);
     thread::scope(
         thread::scope_env(),
         rt,
         |scope| -> Option<(Slept, bool)>
-            requires map { (here.0.table ≡ service.now.map) × (there.0.table ≡ service.now.map) × (service.now.map.shape.keys ≡ 2) }
-            requires queue { (here.1.queue ≡ service.now.queue.id) × (there.1.queue ≡ service.now.queue.id) }
-            requires keys { (here.1.keys ≡ 2) × (there.1.keys ≡ 2) }
+            requires map { let (reader, _) = here in let (writer, _) = there in (reader.table ≡ service.now.map) × (writer.table ≡ service.now.map) × (service.now.map.shape.keys ≡ 2) }
+            requires queue { let (_, poster) = here in let (_, taker) = there in (poster.queue ≡ service.now.queue.id) × (taker.queue ≡ service.now.queue.id) }
+            requires keys { let (_, poster) = here in let (_, taker) = there in (poster.keys ≡ 2) × (taker.keys ≡ 2) }
         {
             let came = &came;
             let Ok(other) = scope.spawn(
                 move || -> bool
-                    requires { (there.0.table ≡ service.now.map) × (service.now.map.shape.keys ≡ 2) × (there.1.queue ≡ service.now.queue.id) × (there.1.keys ≡ 2) }
+                    requires { let (writer, taker) = there in (writer.table ≡ service.now.map) × (service.now.map.shape.keys ≡ 2) × (taker.queue ≡ service.now.queue.id) × (taker.keys ≡ 2) }
                 { wakes_client(rt, service, there, cause, came) },
             ) else {
                 return None;
@@ -252,23 +252,23 @@ fn flow_sleeps<R: Threads + Wait + Clock + CpuClock + Sync>(
     there: (Reader, Poster),
     cause: Cause,
 ) -> Option<(bool, bool)>
-    requires map { (here.0.table ≡ service.now.map) × (there.0.table ≡ service.now.map) × (service.now.map.shape.keys ≡ 2) }
-    requires queue { (here.1.queue ≡ service.now.queue.id) × (there.1.queue ≡ service.now.queue.id) }
-    requires keys { (here.1.keys ≡ 2) × (there.1.keys ≡ 2) }
+    requires map { let (writer, _) = here in let (reader, _) = there in (writer.table ≡ service.now.map) × (reader.table ≡ service.now.map) × (service.now.map.shape.keys ≡ 2) }
+    requires queue { let (_, taker) = here in let (_, poster) = there in (taker.queue ≡ service.now.queue.id) × (poster.queue ≡ service.now.queue.id) }
+    requires keys { let (_, taker) = here in let (_, poster) = there in (taker.keys ≡ 2) × (poster.keys ≡ 2) }
 {
     let came = AtomicBool::new(false);
     thread::scope(
         thread::scope_env(),
         rt,
         |scope| -> Option<(bool, bool)>
-            requires map { (here.0.table ≡ service.now.map) × (there.0.table ≡ service.now.map) × (service.now.map.shape.keys ≡ 2) }
-            requires queue { (here.1.queue ≡ service.now.queue.id) × (there.1.queue ≡ service.now.queue.id) }
-            requires keys { (here.1.keys ≡ 2) × (there.1.keys ≡ 2) }
+            requires map { let (writer, _) = here in let (reader, _) = there in (writer.table ≡ service.now.map) × (reader.table ≡ service.now.map) × (service.now.map.shape.keys ≡ 2) }
+            requires queue { let (_, taker) = here in let (_, poster) = there in (taker.queue ≡ service.now.queue.id) × (poster.queue ≡ service.now.queue.id) }
+            requires keys { let (_, taker) = here in let (_, poster) = there in (taker.keys ≡ 2) × (poster.keys ≡ 2) }
         {
             let came = &came;
             let Ok(other) = scope.spawn(
                 move || -> bool
-                    requires { (there.0.table ≡ service.now.map) × (service.now.map.shape.keys ≡ 2) × (there.1.queue ≡ service.now.queue.id) × (there.1.keys ≡ 2) }
+                    requires { let (reader, poster) = there in (reader.table ≡ service.now.map) × (service.now.map.shape.keys ≡ 2) × (poster.queue ≡ service.now.queue.id) × (poster.keys ≡ 2) }
                 { wakes_flow(rt, service, there, cause, came) },
             ) else {
                 return None;

@@ -35,7 +35,7 @@ impl<'a> Iterator for Words<'a> {
 
 /// The first word, and what stands behind the space after it, if one does.
 fn split_word(line: &[u8]) -> (&[u8], Option<&[u8]>)
-    ensures { MatchOption result.1 (words line.now ≡ result.0.now ∷ []) (λ rest. words line.now ≡ result.0.now ∷ words rest.now) }
+    ensures { let (word, behind) = result in MatchOption behind (words line.now ≡ word.now ∷ []) (λ rest. words line.now ≡ word.now ∷ words rest.now) }
 {
     match place_of(b' ', line) {
         None => (line, None),

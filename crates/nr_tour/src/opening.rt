@@ -14,8 +14,8 @@ pub fn opened(
     keys: u32,
     slots: u32,
 ) -> Result<(ReaderMap, Writer, Reader, Reader), OpenFault>
-    ensures keys { IfOk result (λ opened. opened.0.shape.keys ≡ keys) }
-    ensures own { IfOk result (λ opened. (opened.1.table ≡ opened.0) × (opened.2.table ≡ opened.0) × (opened.3.table ≡ opened.0)) }
+    ensures keys { IfOk result (λ (map, _, _, _). map.shape.keys ≡ keys) }
+    ensures own { IfOk result (λ (map, writer, one, two). (writer.table ≡ map) × (one.table ≡ map) × (two.table ≡ map)) }
 {
     let (map, writer, mut readers) = ReaderMap::open(alloc, keys, slots, 2, 0)?;
     let (Some(two), Some(one)) = (readers.pop(), readers.pop()) else {
@@ -31,8 +31,8 @@ pub fn opened_filled(
     slots: u32,
 ) -> Result<(ReaderMap, Writer, Reader, Reader), OpenFault>
     requires key { 0 < keys }
-    ensures keys { IfOk result (λ opened. opened.0.shape.keys ≡ keys) }
-    ensures own { IfOk result (λ opened. (opened.1.table ≡ opened.0) × (opened.2.table ≡ opened.0) × (opened.3.table ≡ opened.0)) }
+    ensures keys { IfOk result (λ (map, _, _, _). map.shape.keys ≡ keys) }
+    ensures own { IfOk result (λ (map, writer, one, two). (writer.table ≡ map) × (one.table ≡ map) × (two.table ≡ map)) }
 {
     let (map, mut writer, mut one, two) = opened(alloc, keys, slots)?;
     ask_and_fill(&map, &mut one, &mut writer);

@@ -30,9 +30,9 @@ fn slots_for(keys: u32, readers: u32) -> u32
 
 // A map of 2 keys of at most 2 rows each, with its writer and its one reader.
 fn opened_small(alloc: Global) -> Result<(ReaderMap, Writer, Reader), OpenFault>
-    ensures keys { IfOk result (λ opened. opened.0.shape.keys ≡ 2) }
-    ensures own { IfOk result (λ opened. (opened.1.table ≡ opened.0) × (opened.2.table ≡ opened.0)) }
-    ensures room { IfOk result (λ opened. HasRoomForAll opened.0) }
+    ensures keys { IfOk result (λ (map, _, _). map.shape.keys ≡ 2) }
+    ensures own { IfOk result (λ (map, writer, reader). (writer.table ≡ map) × (reader.table ≡ map)) }
+    ensures room { IfOk result (λ (map, _, _). HasRoomForAll map) }
 {
     let shape = Shape {
         keys: 2,

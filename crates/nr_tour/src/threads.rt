@@ -32,17 +32,17 @@ fn both<R: Threads + Sync>(
 ) -> ((Told, Reader), (Told, Reader))
     requires own { (one.table ≡ map.now) × (two.table ≡ map.now) }
     requires key { 0 < map.now.shape.keys }
-    ensures { (result.0.1.table ≡ map.now) × (result.1.1.table ≡ map.now) }
+    ensures { let ((_, one), (_, two)) = result in (one.table ≡ map.now) × (two.table ≡ map.now) }
 {
     join(
         rt,
         move || -> (Told, Reader)
             requires { (one.table ≡ map.now) × (0 < map.now.shape.keys) }
-            ensures { result.1.table ≡ map.entry.now }
+            ensures { let (_, reader) = result in reader.table ≡ map.entry.now }
         { find_or_ask(map, one, 0) },
         move || -> (Told, Reader)
             requires { (two.table ≡ map.now) × (0 < map.now.shape.keys) }
-            ensures { result.1.table ≡ map.entry.now }
+            ensures { let (_, reader) = result in reader.table ≡ map.entry.now }
         { find_or_ask(map, two, 0) },
     )
 }

@@ -43,7 +43,7 @@ fn show_miss<R: Print>(
 ) -> (io::Result<()>, Option<Upquery>)
     requires own { (writer.old.table ≡ map.now) × (id_table_of reader.old ≡ map.now) }
     requires room { 0 < id_rows map.now }
-    ensures left { IfSome result.1 (λ upquery. upquery.table ≡ map.now) }
+    ensures left { let (_, left) = result in IfSome left (λ upquery. upquery.table ≡ map.now) }
 {
     let mut rows = RowSet::new();
     let missed = want(map, reader, 42, &mut rows);

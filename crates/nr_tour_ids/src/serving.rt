@@ -16,8 +16,8 @@ use std::sync::Wait;
 // A queue of two claims, with one poster and the taker. Contracts are told of its keys, of which a claim
 // has the first, in this function's `Invariants.antt`.
 fn opened_queue(alloc: Global) -> Result<(Triggers, Poster, Taker), OpenFault>
-    ensures poster { IfOk result (λ opened. (opened.1.queue ≡ opened.0.id) × (0 < opened.1.keys)) }
-    ensures taker { IfOk result (λ opened. opened.2.queue ≡ opened.0.id) }
+    ensures poster { IfOk result (λ (claims, poster, _). (poster.queue ≡ claims.id) × (0 < poster.keys)) }
+    ensures taker { IfOk result (λ (claims, _, taker). taker.queue ≡ claims.id) }
 {
     let (claims, mut posters, taker) = Triggers::open(alloc, 2, 1)?;
     let Some(poster) = posters.pop() else {
@@ -101,8 +101,8 @@ fn serve<R: Wait + Print>(
     requires map { (id_table_of reader ≡ service.now.map) × (writer.table ≡ service.now.map) }
     requires queue { (poster.queue ≡ service.now.queue.id) × (0 < poster.keys) × (taker.queue ≡ service.now.queue.id) }
     requires room { 0 < id_rows service.now.map }
-    ensures left { IfSome result.1 (λ upquery. upquery.table ≡ service.now.map) }
-    ensures kept { IfSome result.2 (λ upquery. upquery.table ≡ service.now.map) }
+    ensures left { let (_, left, _) = result in IfSome left (λ upquery. upquery.table ≡ service.now.map) }
+    ensures kept { let (_, _, kept) = result in IfSome kept (λ upquery. upquery.table ≡ service.now.map) }
 {
     let mut client = IdClient::open(service, reader, poster);
     let mut flow = IdDataflow::open(service, writer, taker);

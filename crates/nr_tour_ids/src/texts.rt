@@ -106,7 +106,7 @@ fn show_text<R: Print>(
 ) -> (io::Result<()>, Option<TextUpquery>)
     requires own { (writer.old.ids.table ≡ map.now.ids) × (hand_table_of hand.old ≡ map.now.ids) }
     ensures own { hand_table_of hand.new ≡ map.now.ids }
-    ensures left { IfSome result.1 (λ upquery. upquery.sent.table ≡ map.now.ids) }
+    ensures left { let (_, left) = result in IfSome left (λ upquery. upquery.sent.table ≡ map.now.ids) }
 {
     let mut rows = RowSet::new();
     let (Some(text), Some(same)) = (map.text(b"alice"), map.text(b"alice")) else {

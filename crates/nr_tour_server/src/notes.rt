@@ -13,9 +13,9 @@ use std::thread::{Threads, join};
 
 // A queue for the map, whose tickets may have notes of it.
 fn queue_for(alloc: Global, map: &ReaderMap) -> Result<(Triggers, Poster, Taker), OpenFault>
-    ensures queue { IfOk result (λ opened. (opened.1.queue ≡ opened.0.id) × (opened.2.queue ≡ opened.0.id)) }
-    ensures keys { IfOk result (λ opened. (opened.1.keys ≡ map.now.shape.keys) × (opened.2.keys ≡ map.now.shape.keys)) }
-    ensures map { IfOk result (λ opened. (opened.1.map ≡ Some map.now) × (opened.2.map ≡ Some map.now)) }
+    ensures queue { IfOk result (λ (triggers, poster, taker). (poster.queue ≡ triggers.id) × (taker.queue ≡ triggers.id)) }
+    ensures keys { IfOk result (λ (_, poster, taker). (poster.keys ≡ map.now.shape.keys) × (taker.keys ≡ map.now.shape.keys)) }
+    ensures map { IfOk result (λ (_, poster, taker). (poster.map ≡ Some map.now) × (taker.map ≡ Some map.now)) }
 {
     let (triggers, mut posters, taker) = Triggers::open_for(alloc, map, 1, 1)?;
     let Some(poster) = posters.pop() else {
@@ -91,7 +91,7 @@ fn hear(map: &ReaderMap, reader: &mut Reader, note: Note)
 fn hear_and_find(map: &ReaderMap, mut reader: Reader, note: Note) -> (Found, RowSet)
     requires own { (reader.table ≡ map.now) × (note.table ≡ map.now) }
     requires key { 0 < map.now.shape.keys }
-    ensures written { FindsAfter map.now 0 note.seen (answered result.0 result.1) }
+    ensures written { let (found, rows) = result in FindsAfter map.now 0 note.seen (answered found rows) }
 {
     laws::finds_what_it_heard();
     hear(map, &mut reader, note);

@@ -12,8 +12,8 @@ use std::sync::Wait;
 // are of this one queue. The number of keys is told to contracts alone, in this function's
 // `Invariants.antt`: each posted key is below it, and so each key that is taken.
 fn opened_queue(alloc: Global, capacity: u32) -> Result<(Triggers, Poster, Taker), OpenFault>
-    ensures poster { IfOk result (λ opened. (opened.1.queue ≡ opened.0.id) × (opened.1.keys ≡ 2)) }
-    ensures taker { IfOk result (λ opened. (opened.2.queue ≡ opened.0.id) × (opened.2.keys ≡ 2)) }
+    ensures poster { IfOk result (λ (triggers, poster, _). (poster.queue ≡ triggers.id) × (poster.keys ≡ 2)) }
+    ensures taker { IfOk result (λ (triggers, _, taker). (taker.queue ≡ triggers.id) × (taker.keys ≡ 2)) }
 {
     let (triggers, mut posters, taker) = Triggers::open(alloc, capacity, 1)?;
     let Some(poster) = posters.pop() else {
