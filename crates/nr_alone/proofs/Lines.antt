@@ -46,11 +46,11 @@ none_of caller = record { few = omega arith; his = refl; others = λ other apart
 pub one_of : (caller : ℕ) (call : Call) (r : Reply) → AreOf caller (entry caller call r ∷ [])
 one_of caller call r = record { few = omega arith; his = entries_own (entry caller call r) [] caller refl; others = λ other apart. entries_other (entry caller call r) [] other (λ e. apart (sym e)) }
 
-pub seen_more : (steps : ℕ) (old : Caller) (es : List Entry) (new : Caller) → Grows steps old es new → StartsWith new.seen old.seen
+pub seen_more : (steps : ℕ) (old : Caller) (es : List Entry) (new : Caller) → Grows steps es old new → StartsWith new.seen old.seen
 seen_more steps old es new g = record { rest = g.between ++ es; is = g.seen ∙ append_assoc old.seen g.between es }
 
 module _ (table : Table) (w0 : Caller) (tokens0 : List ReaderToken) (alone : IsAlone table w0 tokens0) (es : List Entry) where
-  pub writer_line : (steps : ℕ) (w : Caller) → AreOf 0 es → Grows steps w0 es w → IsLine table w0 tokens0 w tokens0 0 es
+  pub writer_line : (steps : ℕ) (w : Caller) → AreOf 0 es → Grows steps es w0 w → IsLine table w0 tokens0 w tokens0 0 es
   writer_line steps w are g = record {
     low = alone.stands.some_one;
     few = are.few;
@@ -101,7 +101,7 @@ module _ (table : Table) (w0 : Caller) (tokens0 : List ReaderToken) (alone : IsA
     }
 
 -- what the line's round shows of its call
-module _ (laws : Laws) (table : Table) (w0 : Caller) (tokens0 tokens : List ReaderToken) (es mid : List Entry) (w' : Caller) (tokens' : List ReaderToken) (s : SettlesLine table w0 tokens0 tokens es mid w' tokens') where
+module _ (laws : Laws) (table : Table) (w0 : Caller) (tokens0 tokens : List ReaderToken) (es mid : List Entry) (w' : Caller) (tokens' : List ReaderToken) (s : SettlesLine table es mid w0 tokens0 tokens w' tokens') where
   pub shown_with : (pins' : List (Option Pin)) → map pin_of tokens ≡ pins' → shown_by table w' tokens' ≡ record (shown_after table (log_of w0 tokens0 ++ es) tokens0) { pins = pins' }
   shown_with pins' kept = ap (λ (l : List Entry). shown_after table l tokens') s.log ∙ (λ j. record (shown_after table (log_of w0 tokens0 ++ es) tokens0) { pins = (s.pins ∙ kept) j })
 
@@ -114,12 +114,12 @@ module _ (laws : Laws) (table : Table) (w0 : Caller) (tokens0 tokens : List Read
       (subst (λ (l : List Entry). IsLegal (map_at_opening table) l) (log_begins w' tokens').is (subst (λ (t : Table). IsLegal (map_at_opening t) w'.seen) s.alone.stands.own s.alone.sound.legal)))
 
 pub reply_is : (laws : Laws) (table : Table) (w0 : Caller) (tokens0 tokens : List ReaderToken) (n : ℕ) (call : Call) (r : Reply) (mid : List Entry) (w' : Caller) (tokens' : List ReaderToken)
-    → SettlesLine table w0 tokens0 tokens (entry n call r ∷ []) mid w' tokens' → r ≡ reply_to (map_after table.shape (log_of w0 tokens0)) call
+    → SettlesLine table (entry n call r ∷ []) mid w0 tokens0 tokens w' tokens' → r ≡ reply_to (map_after table.shape (log_of w0 tokens0)) call
 reply_is laws table w0 tokens0 tokens n call r mid w' tokens' s = ((laws.goes_on (map_at_opening table) (log_of w0 tokens0) (entry n call r)).1.1 (legal_now laws table w0 tokens0 tokens (entry n call r ∷ []) mid w' tokens' s)).1
 
 -- a call with its reply
 module _ (laws : Laws) (table : Table) (w0 : Caller) (tokens0 tokens : List ReaderToken) (n : ℕ) (call : Call) (r : Reply) (mid : List Entry) (w' : Caller) (tokens' : List ReaderToken)
-    (s : SettlesLine table w0 tokens0 tokens (entry n call r ∷ []) mid w' tokens') (kept : map pin_of tokens ≡ map pin_of tokens0) where
+    (s : SettlesLine table (entry n call r ∷ []) mid w0 tokens0 tokens w' tokens') (kept : map pin_of tokens ≡ map pin_of tokens0) where
   abbrev state : MapState
   state = shown_by table w0 tokens0
 
@@ -139,7 +139,7 @@ module _ (laws : Laws) (table : Table) (w0 : Caller) (tokens0 tokens : List Read
 
 -- a call of the writer's that is done, or that found no slot
 module _ (laws : Laws) (table : Table) (w0 : Caller) (tokens0 : List ReaderToken) (call : Call) (w : Caller) (w' : Caller) (tokens' : List ReaderToken) (alone : IsAlone table w0 tokens0) (es : List Entry)
-    (g : Gathered 0 w tokens0 w' tokens') (s : SettlesLine table w0 tokens0 tokens0 es g.mid.seen w' tokens') where
+    (g : Gathered 0 w tokens0 w' tokens') (s : SettlesLine table es g.mid.seen w0 tokens0 tokens0 w' tokens') where
   abbrev log : List Entry
   log = log_of w0 tokens0
 
@@ -154,14 +154,14 @@ module _ (laws : Laws) (table : Table) (w0 : Caller) (tokens0 : List ReaderToken
       (subst (λ (l : List Retired). AllCurrent l g.mid.marks (map how_of tokens')) g.round.stays.only.retired
       (subst (λ (m : Marks). AllCurrent w'.retired m (map how_of tokens')) g.round.stays.only.marks (all_current table w' tokens' s.alone)))
 
-  pub done_full : (steps : ℕ) (rows : List Row) → Publishes steps w0 call rows w → w0.seen ≡ log → is_full the_state ≡ false
+  pub done_full : (steps : ℕ) (rows : List Row) → Publishes steps call rows w0 w → w0.seen ≡ log → is_full the_state ≡ false
   done_full steps rows puts same =
       not_full table w0 tokens0 alone log
       (subst (λ (t : Table). slots_in_use t.shape log (map how_of tokens0) < t.shape.slots) alone.stands.own
       (subst (λ (l : List Entry). slots_in_use w0.table.shape l (map how_of tokens0) < w0.table.shape.slots) same
       (laws.done steps call rows w0 w g.mid (map how_of tokens0) (record { lists = alone.sound.lists; current = all_current table w0 tokens0 alone }) puts only current_mid)))
 
-  pub lacking_full : (steps : ℕ) (counts : NoSlot) → HasNoSlot steps w0 call counts w → g.mid.seen ≡ log → g.mid.table ≡ table → is_full the_state ≡ true
+  pub lacking_full : (steps : ℕ) (counts : NoSlot) → HasNoSlot steps call w0 w counts → g.mid.seen ≡ log → g.mid.table ≡ table → is_full the_state ≡ true
   lacking_full steps counts lacks same mid_table =
       full table w0 tokens0 alone log
       (subst (λ (t : Table). slots_in_use t.shape log (map how_of tokens0) ≡ t.shape.slots) mid_table
@@ -171,7 +171,7 @@ module _ (laws : Laws) (table : Table) (w0 : Caller) (tokens0 : List ReaderToken
       (all_known table w0 tokens0 alone) (ap (λ (t : Table). t.announcers) alone.stands.own ∙ alone.stands.counted) lacks only (record { lists = g.sound.lists; current = current_mid }))))
 
   -- the writer had seen no more than the history
-  pub had_just : (steps : ℕ) → Grows steps w0 es w → 0 < length es → w0.seen ≡ log
+  pub had_just : (steps : ℕ) → Grows steps es w0 w → 0 < length es → w0.seen ≡ log
   had_just steps grows some =
       let before = log_begins w0 tokens0 in let after = seen_more steps w0 es w grows in let later = g.stays.seen in
       let none : length before.rest ≡ 0 = omega (
@@ -189,16 +189,16 @@ module _ (laws : Laws) (table : Table) (w0 : Caller) (tokens0 : List ReaderToken
       before.is ∙ ap (λ (l : List Entry). log ++ l) (nil_from_length before.rest none) ∙ append-nil log
 
 module _ (laws : Laws) (table : Table) (w0 : Caller) (tokens0 : List ReaderToken) (call : Call) (w : Caller) (w' : Caller) (tokens' : List ReaderToken) (alone : IsAlone table w0 tokens0) (g : Gathered 0 w tokens0 w' tokens') where
-  settled_by : (steps : ℕ) (es : List Entry) → AreOf 0 es → Grows steps w0 es w → SettlesLine table w0 tokens0 tokens0 es g.mid.seen w' tokens'
+  settled_by : (steps : ℕ) (es : List Entry) → AreOf 0 es → Grows steps es w0 w → SettlesLine table es g.mid.seen w0 tokens0 tokens0 w' tokens'
   settled_by steps es are grows = settled laws table w0 tokens0 w tokens0 0 es w' tokens' alone.stands (writer_line table w0 tokens0 alone es steps w are grows) g
 
-  of_writer : (steps : ℕ) (r : Reply) → Gains steps w0 call r w → Grows steps w0 (entry 0 call r ∷ []) w
-  of_writer steps r gains = subst (λ (n : ℕ). Grows steps w0 (entry n call r ∷ []) w) alone.stands.number gains
+  of_writer : (steps : ℕ) (r : Reply) → Gains steps call w0 w r → Grows steps (entry 0 call r ∷ []) w0 w
+  of_writer steps r gains = subst (λ (n : ℕ). Grows steps (entry n call r ∷ []) w0 w) alone.stands.number gains
 
   abbrev Says : Answer → Type 0
   Says answer = IsAlone table w' tokens' × (answer_call (shown_by table w0 tokens0) call ≡ (Ok answer, shown_by table w' tokens'))
 
-  pub says_reply : (r : Reply) → Replies call r w0 w → Says (answers.Reply r)
+  pub says_reply : (r : Reply) → Replies call w0 w r → Says (answers.Reply r)
   says_reply r made =
       let grows = of_writer made.steps r made.gains in let s = settled_by made.steps (entry 0 call r ∷ []) (one_of 0 call r) grows in
       (s.alone, answers_quiet laws table w0 tokens0 tokens0 0 call r g.mid.seen w' tokens' s refl made.quiet)

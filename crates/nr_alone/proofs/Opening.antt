@@ -82,7 +82,7 @@ module _ (laws : Laws) (shape : Shape) (table : Table) (w : Caller) (readers : L
     others = λ at apart. refl;
   }
 
-  settles : SettlesLine table w tokens tokens [] g.mid.seen w' tokens'
+  settles : SettlesLine table [] g.mid.seen w tokens tokens w' tokens'
   settles = settled laws table w tokens w tokens 0 [] w' tokens' (record {
     own = ap (λ (c : Caller). c.table) new.writes;
     number = ap (λ (c : Caller). c.number) new.writes;

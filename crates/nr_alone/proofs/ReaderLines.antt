@@ -91,7 +91,7 @@ module _ (laws : Laws) (table : Table) (w0 : Caller) (tokens0 : List ReaderToken
   here d = get_or_default tokens0 at d old low ∙ sym item
 
   settled_at : (es : List Entry) → AreOf (suc at) es → (caller_in x).table ≡ (caller_in old).table → (caller_in x).number ≡ (caller_in old).number → mine_of x ≡ mine_of old ++ es → TokenHoldsItsPin x
-      → SettlesLine table w0 tokens0 (set tokens0 at x) es g.mid.seen w' tokens'
+      → SettlesLine table es g.mid.seen w0 tokens0 (set tokens0 at x) w' tokens'
   settled_at es are t n m fits = settled laws table w0 tokens0 w0 (set tokens0 at x) at es w' tokens' alone.stands
       (reader_line table w0 tokens0 alone es at x low are (t ∙ ap (λ (s : ReaderToken). (caller_in s).table) (sym (here x)))
       (n ∙ ap (λ (s : ReaderToken). (caller_in s).number) (sym (here x))) (m ∙ ap (λ (s : ReaderToken). mine_of s ++ es) (sym (here x))) fits) g
@@ -112,10 +112,10 @@ module _ (laws : Laws) (table : Table) (w0 : Caller) (tokens0 : List ReaderToken
   pins_kept same = map-set_same pin_of tokens0 at x old (same ∙ ap pin_of item)
 
   -- the call's entry, with the reader's place
-  mine_at : (heard : List Entry) (call : Call) (r : Reply) → Calls heard call r (caller_in old) (caller_in x) → mine_of x ≡ mine_of old ++ entry (suc at) call r ∷ []
+  mine_at : (heard : List Entry) (call : Call) (r : Reply) → Calls heard call (caller_in old) (caller_in x) r → mine_of x ≡ mine_of old ++ entry (suc at) call r ∷ []
   mine_at heard call r made = subst (λ (n : ℕ). mine_of x ≡ mine_of old ++ entry n call r ∷ []) number_is made.mine
 
-  settled_call : (heard : List Entry) (call : Call) (r : Reply) → Calls heard call r (caller_in old) (caller_in x) → TokenHoldsItsPin x → SettlesLine table w0 tokens0 (set tokens0 at x) (entry (suc at) call r ∷ []) g.mid.seen w' tokens'
+  settled_call : (heard : List Entry) (call : Call) (r : Reply) → Calls heard call (caller_in old) (caller_in x) r → TokenHoldsItsPin x → SettlesLine table (entry (suc at) call r ∷ []) g.mid.seen w0 tokens0 (set tokens0 at x) w' tokens'
   settled_call heard call r made fits = settled_at (entry (suc at) call r ∷ []) (one_of (suc at) call r) made.table made.number (mine_at heard call r made) fits
 
   abbrev Says : MapOutcome → Answer → Type 0
@@ -131,7 +131,7 @@ module _ (laws : Laws) (table : Table) (w0 : Caller) (tokens0 : List ReaderToken
       )
 
   -- the find of a pin leaves all but the pins
-  found : (heard : List Entry) (key : ℕ) (r : Reply) (pins' : List (Option Pin)) → Calls heard (model.Find key) r (caller_in old) (caller_in x) → TokenHoldsItsPin x
+  found : (heard : List Entry) (key : ℕ) (r : Reply) (pins' : List (Option Pin)) → Calls heard (model.Find key) (caller_in old) (caller_in x) r → TokenHoldsItsPin x
       → map pin_of (set tokens0 at x) ≡ pins' → shown_by table w' tokens' ≡ record stood { pins = pins' }
   found heard key r pins' made fits kept =
       let s = settled_call heard (model.Find key) r made fits in let e : Entry = entry (suc at) (model.Find key) r in
@@ -139,11 +139,11 @@ module _ (laws : Laws) (table : Table) (w0 : Caller) (tokens0 : List ReaderToken
       shown_with laws table w0 tokens0 (set tokens0 at x) (e ∷ []) g.mid.seen w' tokens' s pins' kept
       ∙ (λ j. record stood { map = maps j; puts = puts_quiet laws.puts table.shape log e made.quiet j; put_count = quiet_count laws.puts log e made.quiet j; pins = pins' })
 
-  reply_at : (heard : List Entry) (key : ℕ) (r : Reply) → Calls heard (model.Find key) r (caller_in old) (caller_in x) → TokenHoldsItsPin x → r ≡ find_reply (state_of stood.map key)
+  reply_at : (heard : List Entry) (key : ℕ) (r : Reply) → Calls heard (model.Find key) (caller_in old) (caller_in x) r → TokenHoldsItsPin x → r ≡ find_reply (state_of stood.map key)
   reply_at heard key r made fits = reply_is laws table w0 tokens0 (set tokens0 at x) (suc at) (model.Find key) r g.mid.seen w' tokens' (settled_call heard (model.Find key) r made fits)
 
   -- the reader has seen just the history that the round knows
-  seen_just : (heard : List Entry) (call : Call) (r : Reply) → Calls heard call r (caller_in old) (caller_in x) → TokenHoldsItsPin x → (caller_in x).seen ≡ log ++ entry (suc at) call r ∷ []
+  seen_just : (heard : List Entry) (call : Call) (r : Reply) → Calls heard call (caller_in old) (caller_in x) r → TokenHoldsItsPin x → (caller_in x).seen ≡ log ++ entry (suc at) call r ∷ []
   seen_just before call r made fits =
       let e : Entry = entry (suc at) call r in let s = settled_call before call r made fits in
       let first : get_or (set tokens0 at x) at x ≡ x = get_or-set_same tokens0 at x x low in
@@ -167,7 +167,7 @@ module _ (laws : Laws) (table : Table) (w0 : Caller) (tokens0 : List ReaderToken
   put_in : (key : ℕ) → key < table.shape.keys → get_or stood.puts key 0 ≡ put_number log key
   put_in key inside = get_or-map-range_with_len (put_number log) 0 table.shape.keys key key 0 inside (omega arith)
 
-  put_found : (heard : List Entry) (key : ℕ) (rows : List Row) → key < table.shape.keys → Calls heard (model.Find key) (reply.Rows rows) (caller_in old) (caller_in x) → TokenHoldsItsPin x
+  put_found : (heard : List Entry) (key : ℕ) (rows : List Row) → key < table.shape.keys → Calls heard (model.Find key) (caller_in old) (caller_in x) (reply.Rows rows) → TokenHoldsItsPin x
       → put_number (caller_in x).seen key ≡ get_or stood.puts key 0
   put_found heard key rows inside made fits =
       ap (λ (l : List Entry). put_number l key) (seen_just heard (model.Find key) (reply.Rows rows) made fits)
@@ -196,10 +196,10 @@ module _ (laws : Laws) (table : Table) (w0 : Caller) (tokens0 : List ReaderToken
   says_pin heard key answers.NoSlot inside made = absurd made
 
   -- steps that are no call
-  rested : (caller_in x).table ≡ (caller_in old).table → (caller_in x).number ≡ (caller_in old).number → mine_of x ≡ mine_of old → TokenHoldsItsPin x → SettlesLine table w0 tokens0 (set tokens0 at x) [] g.mid.seen w' tokens'
+  rested : (caller_in x).table ≡ (caller_in old).table → (caller_in x).number ≡ (caller_in old).number → mine_of x ≡ mine_of old → TokenHoldsItsPin x → SettlesLine table [] g.mid.seen w0 tokens0 (set tokens0 at x) w' tokens'
   rested t n m fits = settled_at [] (none_of (suc at)) t n (m ∙ sym (append-nil (mine_of old))) fits
 
-  rested_state : (pins' : List (Option Pin)) → SettlesLine table w0 tokens0 (set tokens0 at x) [] g.mid.seen w' tokens' → map pin_of (set tokens0 at x) ≡ pins' → shown_by table w' tokens' ≡ record stood { pins = pins' }
+  rested_state : (pins' : List (Option Pin)) → SettlesLine table [] g.mid.seen w0 tokens0 (set tokens0 at x) w' tokens' → map pin_of (set tokens0 at x) ≡ pins' → shown_by table w' tokens' ≡ record stood { pins = pins' }
   rested_state pins' s kept =
       shown_with laws table w0 tokens0 (set tokens0 at x) [] g.mid.seen w' tokens' s pins' kept
       ∙ ap (λ (l : List Entry). record (shown_after table l tokens0) { pins = pins' }) (append-nil log)
@@ -229,7 +229,7 @@ module _ (laws : Laws) (table : Table) (w0 : Caller) (tokens0 : List ReaderToken
       )
 
   -- it has heard the history, so where its line is no call it has seen just that
-  heard_just : (later : StartsWith (caller_in x).seen (caller_in old).seen) → SettlesLine table w0 tokens0 (set tokens0 at x) [] g.mid.seen w' tokens' → (caller_in x).seen ≡ log
+  heard_just : (later : StartsWith (caller_in x).seen (caller_in old).seen) → SettlesLine table [] g.mid.seen w0 tokens0 (set tokens0 at x) w' tokens' → (caller_in x).seen ≡ log
   heard_just later s =
       let least : StartsWith (caller_in old).seen log = subst (λ (k : ReaderToken). StartsWith (caller_in k).seen log) (here old) (alone.known at old low).heard in
       let first : get_or (set tokens0 at x) at x ≡ x = get_or-set_same tokens0 at x x low in
@@ -240,7 +240,7 @@ module _ (laws : Laws) (table : Table) (w0 : Caller) (tokens0 : List ReaderToken
   pub says_again : (key : ℕ) (answer : Answer) → key < table.shape.keys → AgainByToken key old x (Ok answer) → Says (answer_again stood at key) answer
   says_again key (answers.Reply r) inside (pin, before, is, called, has, keeps) =
       let fits = still_fits keeps in let heard = (caller_in old).seen in
-      let made : Calls heard (model.Find key) (reply.Rows pin.rows) (caller_in old) (caller_in x) = subst (λ (k : Reply). Calls heard (model.Find key) k (caller_in old) (caller_in x)) is called in
+      let made : Calls heard (model.Find key) (caller_in old) (caller_in x) (reply.Rows pin.rows) = subst (λ (k : Reply). Calls heard (model.Find key) (caller_in old) (caller_in x) k) is called in
       let now = found heard key (reply.Rows pin.rows) (map pin_of tokens0) made fits (pins_kept keeps.0) in
       let filled = state_is (state_of stood.map key) pin.rows (reply_at heard key (reply.Rows pin.rows) made fits) in
       let put : get_or stood.puts key 0 ≡ pin.put = sym (put_found heard key pin.rows inside made fits) ∙ has.1 in (

@@ -115,7 +115,7 @@ module _ (laws : Laws) (table : Table) (w0 : Caller) (tokens0 : List ReaderToken
   log_now = log_is laws.entries laws.begins table w' tokens' (log ++ es) own number count places
       g.round.sound (subst (λ (l : List Entry). StartsWith w'.seen l) mid_is g.round.stays.seen) just
 
-  pub settled : SettlesLine table w0 tokens0 tokens es g.mid.seen w' tokens'
+  pub settled : SettlesLine table es g.mid.seen w0 tokens0 tokens w' tokens'
   settled = record {
     alone = record {
       stands = record { counted = alone.counted; own = own; number = number; count = count; some_one = omega (arith, size, some_one); just = subst (λ (l : List Entry). HasJust l w' tokens') (sym log_now) just };

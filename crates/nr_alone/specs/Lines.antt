@@ -20,7 +20,7 @@ pub record IsLine (table : Table) (w0 : Caller) (tokens0 : List ReaderToken) (w 
   pub others : (at : ℕ) → at ≢ first → entries_of es (suc at) ≡ []
 
 -- the line's calls are the only ones that the history has more, already where the first reader was gathered
-pub record SettlesLine (table : Table) (w0 : Caller) (tokens0 tokens : List ReaderToken) (es mid : List Entry) (w' : Caller) (tokens' : List ReaderToken) : Type 0 where
+pub record SettlesLine (table : Table) (es mid : List Entry) (w0 : Caller) (tokens0 tokens : List ReaderToken) (w' : Caller) (tokens' : List ReaderToken) : Type 0 where
   pub alone : IsAlone table w' tokens'
   pub log : log_of w' tokens' ≡ log_of w0 tokens0 ++ es
   pub mid_log : mid ≡ log_of w0 tokens0 ++ es

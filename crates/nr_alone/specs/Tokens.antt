@@ -54,7 +54,7 @@ abbrev pub TokenHoldsItsPin : ReaderToken → Type 0
 TokenHoldsItsPin token = HoldsItsPin (pin_of token) (caller_in token).holds
 
 -- a reader's call with its reply; the history that it knew before had all that was heard
-pub record Calls (heard : List Entry) (call : Call) (reply' : Reply) (old new : Caller) : Type 0 where
+pub record Calls (heard : List Entry) (call : Call) (old new : Caller) (reply' : Reply) : Type 0 where
   pub quiet : is_done reply' ≡ false
   pub table : new.table ≡ old.table
   pub number : new.number ≡ old.number
@@ -70,22 +70,22 @@ NotesFor old new (Ok answer) = new ≡ with_step old
 NotesFor old new (Err refusal) = new ≡ old
 
 abbrev pub MakesCall : List Entry → Call → ReaderToken → ReaderToken → Result Answer PinRefusal → Type 0
-MakesCall heard call old new (Ok answer) = (reply' : Reply) × (answer ≡ answers.Reply reply') × Calls heard call reply' (caller_in old) (caller_in new) × (pin_of old ≡ None) × (pin_of new ≡ None) × TokenHoldsItsPin new
+MakesCall heard call old new (Ok answer) = (reply' : Reply) × (answer ≡ answers.Reply reply') × Calls heard call (caller_in old) (caller_in new) reply' × (pin_of old ≡ None) × (pin_of new ≡ None) × TokenHoldsItsPin new
 MakesCall heard call old new (Err refusals.Holding) = (new ≡ old) × IsSome (pin_of old)
 MakesCall heard call old new (Err refusals.NotHolding) = ⊥
 
 -- a pin is a find, made in some way: of a filled key it holds the rows of the reply, with the put number that the key had
-abbrev pub PinsBy : (Reply → Caller → Caller → Type 0) → ℕ → ReaderToken → ReaderToken → Result Answer PinRefusal → Type 0
+abbrev pub PinsBy : (Caller → Caller → Reply → Type 0) → ℕ → ReaderToken → ReaderToken → Result Answer PinRefusal → Type 0
 PinsBy Made key old new (Ok answers.Ok) =
-    (rows : List Row) × Made (reply.Rows rows) (caller_in old) (caller_in new) × (pin_of old ≡ None) × (pin_of new ≡ Some (record { key = key; rows = rows; put = put_number (caller_in new).seen key })) × TokenHoldsItsPin new
-PinsBy Made key old new (Ok (answers.Reply reply')) = (reply' ≡ reply.Hole) × Made reply.Hole (caller_in old) (caller_in new) × (pin_of old ≡ None) × (pin_of new ≡ None) × TokenHoldsItsPin new
+    (rows : List Row) × Made (caller_in old) (caller_in new) (reply.Rows rows) × (pin_of old ≡ None) × (pin_of new ≡ Some (record { key = key; rows = rows; put = put_number (caller_in new).seen key })) × TokenHoldsItsPin new
+PinsBy Made key old new (Ok (answers.Reply reply')) = (reply' ≡ reply.Hole) × Made (caller_in old) (caller_in new) reply.Hole × (pin_of old ≡ None) × (pin_of new ≡ None) × TokenHoldsItsPin new
 PinsBy Made key old new (Ok answers.Other) = ⊥
 PinsBy Made key old new (Ok answers.NoSlot) = ⊥
 PinsBy Made key old new (Err refusals.Holding) = (new ≡ old) × IsSome (pin_of old)
 PinsBy Made key old new (Err refusals.NotHolding) = ⊥
 
-abbrev pub GainsFind : ℕ → Reply → Caller → Caller → Type 0
-GainsFind key reply' old new = (steps : ℕ) × Gains steps old (model.Find key) reply' new
+abbrev pub GainsFind : ℕ → Caller → Caller → Reply → Type 0
+GainsFind key old new reply' = (steps : ℕ) × Gains steps (model.Find key) old new reply'
 
 abbrev pub MakesPin : List Entry → ℕ → ReaderToken → ReaderToken → Result Answer PinRefusal → Type 0
 MakesPin heard key old new result = PinsBy (Calls heard (model.Find key)) key old new result
@@ -110,8 +110,8 @@ ShowsPin old new (Err refusals.NotHolding) = (new ≡ old) × (pin_of old ≡ No
 -- a find by the pin: where the key has the set of its put it is the reader's call, answered with the pinned rows; else the reader learns the history so far
 abbrev pub AgainByToken : ℕ → ReaderToken → ReaderToken → Result Answer PinRefusal → Type 0
 AgainByToken key old new (Ok (answers.Reply reply')) = (pin : Pin) × (pin_of old ≡ Some pin) × (reply' ≡ reply.Rows pin.rows)
-    × Calls (caller_in old).seen (model.Find key) reply' (caller_in old) (caller_in new) × HasPut key pin.put (caller_in new) × KeepsPin old new
-AgainByToken key old new (Ok answers.Other) = (pin : Pin) × (pin_of old ≡ Some pin) × Grows 1 (caller_in old) [] (caller_in new) × (HasPut key pin.put (caller_in new) → ⊥) × KeepsPin old new
+    × Calls (caller_in old).seen (model.Find key) (caller_in old) (caller_in new) reply' × HasPut key pin.put (caller_in new) × KeepsPin old new
+AgainByToken key old new (Ok answers.Other) = (pin : Pin) × (pin_of old ≡ Some pin) × Grows 1 [] (caller_in old) (caller_in new) × (HasPut key pin.put (caller_in new) → ⊥) × KeepsPin old new
 AgainByToken key old new (Ok answers.Ok) = ⊥
 AgainByToken key old new (Ok answers.NoSlot) = ⊥
 AgainByToken key old new (Err refusals.Holding) = ⊥

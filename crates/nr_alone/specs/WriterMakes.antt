@@ -12,24 +12,24 @@ use Rattle.nr_alone.specs.Answers.{Answer}
 use Rattle.nr_alone.specs.Answers as answers
 
 -- a reply but Done
-pub record Replies (call : Call) (reply' : Reply) (old new : Caller) : Type 0 where
+pub record Replies (call : Call) (old new : Caller) (reply' : Reply) : Type 0 where
   pub steps : ℕ
   pub quiet : is_done reply' ≡ false
-  pub gains : Gains steps old call reply' new
+  pub gains : Gains steps call old new reply'
 
 pub record PutsSet (call : Call) (old new : Caller) : Type 0 where
   pub steps : ℕ
   pub rows : List Row
-  pub publishes : Publishes steps old call rows new
+  pub publishes : Publishes steps call rows old new
 
 pub record FindsNoSlot (call : Call) (old new : Caller) : Type 0 where
   pub steps : ℕ
   pub counts : NoSlot
-  pub lacks : HasNoSlot steps old call counts new
+  pub lacks : HasNoSlot steps call old new counts
 
 abbrev pub WriterMakes : Call → Caller → Caller → Answer → Type 0
 WriterMakes call old new answers.Ok = ⊥
 WriterMakes call old new answers.Other = ⊥
 WriterMakes call old new answers.NoSlot = FindsNoSlot call old new
 WriterMakes call old new (answers.Reply reply.Done) = PutsSet call old new
-WriterMakes call old new (answers.Reply other) = Replies call other old new
+WriterMakes call old new (answers.Reply other) = Replies call old new other

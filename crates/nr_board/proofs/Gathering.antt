@@ -34,14 +34,14 @@ begins_with_calls log caller own begins = record {
 }
 
 -- a note was heard, and with it the history so far
-pub hears_seat : (seat note new : MapSeat) → new.table_id ≡ seat.table_id → has_heard seat.me.0 note.me.0 new.me.0 → HearsNote 1 (token seat) (known_to (token note)) (token new) × HearsOf seat.me.0 note.me.0 new.me.0
+pub hears_seat : (seat note new : MapSeat) → new.table_id ≡ seat.table_id → has_heard seat.me.0 note.me.0 new.me.0 → HearsNote 1 (known_to (token note)) (token seat) (token new) × HearsOf note.me.0 seat.me.0 new.me.0
 hears_seat seat note new same heard = let told = heard.1 in (
-  subst (λ (id : TableId). HearsNote 1 (token seat) (known_to (token note)) (caller_of id new.me.0)) (sym same) (record { learns = told.learns seat.table_id; seen = told.told }),
+  subst (λ (id : TableId). HearsNote 1 (known_to (token note)) (token seat) (caller_of id new.me.0)) (sym same) (record { learns = told.learns seat.table_id; seen = told.told }),
   (told.news, told.pasts, told.of_readers),
 )
 
 -- who hears a note has all calls that its maker had made
-pub meets_maker : (steps : ℕ) (old maker new : Caller) → KnowsOwn maker → HearsNote steps old (known_to maker) new → Meets steps old maker new
+pub meets_maker : (steps : ℕ) (old maker new : Caller) → KnowsOwn maker → HearsNote steps (known_to maker) old new → Meets steps maker old new
 meets_maker steps old maker new own hears = record {
   learns = hears.learns;
   seen = hears.seen;
@@ -49,14 +49,14 @@ meets_maker steps old maker new own hears = record {
 }
 
 -- the other made the note
-pub meets_seat : (seat other note new : MapSeat) → KnowsOwn (token other) → note.me.0 ≡ note_of other.me.0 → HearsNote 1 (token seat) (known_to (token note)) (token new) → HearsOf seat.me.0 note.me.0 new.me.0
-    → Meets 1 (token seat) (token other) (token new) × HearsOf seat.me.0 (note_of other.me.0) new.me.0
+pub meets_seat : (seat other note new : MapSeat) → KnowsOwn (token other) → note.me.0 ≡ note_of other.me.0 → HearsNote 1 (known_to (token note)) (token seat) (token new) → HearsOf note.me.0 seat.me.0 new.me.0
+    → Meets 1 (token other) (token seat) (token new) × HearsOf (note_of other.me.0) seat.me.0 new.me.0
 meets_seat seat other note new own is hears readers = (
   meets_maker 1 (token seat) (token other) (token new) own (record {
     learns = hears.learns;
     seen = subst (StartsWith new.me.0.seen) (ap (λ (v : View). v.seen) is) hears.seen;
   }),
-  subst (λ (v : View). HearsOf seat.me.0 v new.me.0) is readers,
+  subst (λ (v : View). HearsOf v seat.me.0 new.me.0) is readers,
 )
 
 -- a list that goes on twice and is itself did not go on
@@ -79,7 +79,7 @@ pub record Compares (writer reader heard : View) (desk : Desk) (one : Past) : Ty
   pub lists : Lists desk writer.marks writer.shape heard.seen
 
 compares_so : (writer reader heard told : View) (desk : Desk) (number : ℕ) (grip : Grip) → writer.role ≡ Writer desk
-    → reader.role ≡ Reader number grip → heard.role ≡ Writer desk → HearsOf writer (note_of reader) heard → HearsOf reader (note_of heard) told
+    → reader.role ≡ Reader number grip → heard.role ≡ Writer desk → HearsOf (note_of reader) writer heard → HearsOf (note_of heard) reader told
     → Compares writer reader heard desk (past number grip reader.marks)
 compares_so writer reader heard told desk number grip writes reads still first second =
     let news = first.0 in let noted = told_by_note writer (note_of reader) in let asked = told_by_note reader (note_of heard) in
@@ -135,7 +135,7 @@ learned_lists table seat new at found own learned desk is = subst (λ (s : Shape
     (subst (λ r. LearnsOf r seat.me.0 new.me.0 learned.news) is learned.of_readers).1
 
 pub heard_numbers : (table : Table) (seat new : MapSeat) (note : View) → (token seat).table ≡ table → Learns 1 (token seat) (token new)
-    → HearsOf seat.me.0 note new.me.0 → (desk : Desk) → seat.me.0.role ≡ Writer desk → AreNumbers table.shape (map_seen (token new)) desk.numbers
+    → HearsOf note seat.me.0 new.me.0 → (desk : Desk) → seat.me.0.role ≡ Writer desk → AreNumbers table.shape (map_seen (token new)) desk.numbers
 heard_numbers table seat new note own learns hears desk is = subst (λ (p : Shape × Shape). AreNumbers p.0 (map_after p.1 new.me.0.seen) desk.numbers) (λ j. ((own j).shape, (sym learns.table j).shape))
     (subst (λ r. LearnsOf r (told_by_note seat.me.0 note) new.me.0 hears.0) is hears.2).2
 
@@ -143,8 +143,8 @@ heard_numbers table seat new note own learns hears desk is = subst (λ (p : Shap
 module _ (writer reader heard lent last told : MapSeat) (fresh : ℕ) (retired : List Retired) (numbers : List ℕ) (number : ℕ) (grip : Grip)
     (writes : writer.me.0.role ≡ Writer (record { place = Idle; fresh = fresh; retired = retired; numbers = numbers })) (reads : reader.me.0.role ≡ Reader number grip) (stays : heard.me.0.role ≡ writer.me.0.role)
     (first : (lent.table_id ≡ reader.table_id) × (lent.me ≡ (has_noted reader.me.0, reader.me.1))) (second : (last.table_id ≡ heard.table_id) × (last.me ≡ (has_noted heard.me.0, heard.me.1)))
-    (meets : Meets 1 (token writer) (token reader) (token heard)) (meets_back : Meets 1 (token lent) (token heard) (token told))
-    (hears : HearsOf writer.me.0 (note_of reader.me.0) heard.me.0) (hears_back : HearsOf lent.me.0 (note_of heard.me.0) told.me.0) where
+    (meets : Meets 1 (token reader) (token writer) (token heard)) (meets_back : Meets 1 (token heard) (token lent) (token told))
+    (hears : HearsOf (note_of reader.me.0) writer.me.0 heard.me.0) (hears_back : HearsOf (note_of heard.me.0) lent.me.0 told.me.0) where
   abbrev desk : Desk
   desk = record { place = Idle; fresh = fresh; retired = retired; numbers = numbers }
 
@@ -152,15 +152,15 @@ module _ (writer reader heard lent last told : MapSeat) (fresh : ℕ) (retired :
   writes_still = stays ∙ writes
 
   compares : Compares writer.me.0 (has_noted reader.me.0) heard.me.0 desk (past number grip reader.me.0.marks)
-  compares = compares_so writer.me.0 (has_noted reader.me.0) heard.me.0 told.me.0 desk number grip writes reads writes_still hears (subst (λ (v : View). HearsOf v (note_of heard.me.0) told.me.0) (λ j. (first.1 j).0) hears_back)
+  compares = compares_so writer.me.0 (has_noted reader.me.0) heard.me.0 told.me.0 desk number grip writes reads writes_still hears (subst (λ (v : View). HearsOf (note_of heard.me.0) v told.me.0) (λ j. (first.1 j).0) hears_back)
 
-  there : Meets 2 (token writer) (token reader) (with_step (token heard))
+  there : Meets 2 (token reader) (token writer) (with_step (token heard))
   there = record { learns = recounted 1 2 writer.me.0.steps heard.me.0.steps (token writer) (with_step (token heard)) (omega (arith, meets.learns.steps_made)) meets.learns; seen = meets.seen; calls = meets.calls }
 
-  lends : Meets 1 (with_step (token reader)) (token heard) (token told)
-  lends = subst (λ (r : Caller). Meets 1 r (token heard) (token told)) (noting_token reader lent first.0 first.1) meets_back
+  lends : Meets 1 (token heard) (with_step (token reader)) (token told)
+  lends = subst (λ (r : Caller). Meets 1 (token heard) r (token told)) (noting_token reader lent first.0 first.1) meets_back
 
-  back : Meets 2 (token reader) (with_step (token heard)) (token told)
+  back : Meets 2 (with_step (token heard)) (token reader) (token told)
   back = record { learns = recounted 1 2 (reader.me.0.steps + 1) told.me.0.steps (token reader) (token told) (omega (arith, lends.learns.steps_made)) lends.learns; seen = lends.seen; calls = lends.calls }
 
   one_is : past number grip reader.me.0.marks ≡ how_is (token reader)

@@ -25,7 +25,7 @@ use Rattle.nr_board.specs.Views.{caller_number, grip_of, rows_held}
 use Rattle.nr_board.specs.WordPlays.{HasWord, let_go}
 
 -- steps that add nothing, and then others
-pub rests_grows : (m n sum : ℕ) (a b : Caller) (entries : List Entry) (c : Caller) → sum ≡ m + n → Rests m a b → Grows n b entries c → Grows sum a entries c
+pub rests_grows : (m n sum : ℕ) (a b : Caller) (entries : List Entry) (c : Caller) → sum ≡ m + n → Rests m a b → Grows n entries b c → Grows sum entries a c
 rests_grows m n sum a b entries c is first then = record {
   table = then.table ∙ first.table;
   number = then.number ∙ first.number;
@@ -40,15 +40,15 @@ rests_grows m n sum a b entries c is first then = record {
 }
 
 module _ (m n sum : ℕ) (a b c : Caller) (call : Call) (answer : Reply) (is : sum ≡ m + n) where
-  pub rests_gains : Rests m a b → Gains n b call answer c → Gains sum a call answer c
-  rests_gains first then = rests_grows m n sum a b (entry a.number call answer ∷ []) c is first (subst (λ (caller : ℕ). Grows n b (entry caller call answer ∷ []) c) first.number then)
+  pub rests_gains : Rests m a b → Gains n call b c answer → Gains sum call a c answer
+  rests_gains first then = rests_grows m n sum a b (entry a.number call answer ∷ []) c is first (subst (λ (caller : ℕ). Grows n (entry caller call answer ∷ []) b c) first.number then)
 
-  pub grows_gains : Grows m a [] b → Gains n b call answer c → Gains sum a call answer c
-  grows_gains first then = grows_both m n sum a b (entry a.number call answer ∷ []) c is first (subst (λ (caller : ℕ). Grows n b (entry caller call answer ∷ []) c) first.number then)
+  pub grows_gains : Grows m [] a b → Gains n call b c answer → Gains sum call a c answer
+  grows_gains first then = grows_both m n sum a b (entry a.number call answer ∷ []) c is first (subst (λ (caller : ℕ). Grows n (entry caller call answer ∷ []) b c) first.number then)
 
 -- an answer comes after steps that were no entry
 module _ (table : Table) (key m n sum : ℕ) (marks : Marks) (old mid new : MapSeat) (is : sum ≡ m + n) where
-  pub answered_later : (answer : Option Held) → Grows m (token old) [] (token mid) → IsAnswered table key n marks mid new answer → IsAnswered table key sum marks old new answer
+  pub answered_later : (answer : Option Held) → Grows m [] (token old) (token mid) → IsAnswered table key n marks mid new answer → IsAnswered table key sum marks old new answer
   answered_later (Some held) grows so = record { held_as = so.held_as; gains = grows_gains m n sum (token old) (token mid) (token new) (model.Find key) (reply.Rows (rows_held new.me.0.role)) is grows so.gains; marks_are = so.marks_are }
   answered_later None grows so = record { idles = so.idles; gains = grows_gains m n sum (token old) (token mid) (token new) (model.Find key) reply.Hole is grows so.gains; marks_are = so.marks_are }
 
@@ -57,7 +57,7 @@ module _ (table : Table) (key m n sum : ℕ) (marks : Marks) (old mid new : MapS
   answered_rested None rests so = record { idles = so.idles; gains = rests_gains m n sum (token old) (token mid) (token new) (model.Find key) reply.Hole is rests so.gains; marks_are = so.marks_are }
 
 -- a reader keeps its word
-pub word_kept : (own steps : ℕ) (entries : List Entry) (before after : MapSeat) → Grows steps (token before) entries (token after) → HasWord own before.me.0 → HasWord own after.me.0
+pub word_kept : (own steps : ℕ) (entries : List Entry) (before after : MapSeat) → Grows steps entries (token before) (token after) → HasWord own before.me.0 → HasWord own after.me.0
 word_kept own steps entries before after grows has = record { number = grows.number ∙ has.number; within = subst (λ (t : Table). own < t.announcers) (sym grows.table) has.within }
 
 -- who holds nothing lets nothing go
@@ -155,7 +155,7 @@ moves_on table key word full before after answer holds told = let n : ℕ = told
     }
 
 -- a reader that holds nothing looked, and found a hole, or goes on by its word
-pub holds_first : (table : Table) (key word : ℕ) → is_filled word ≡ true → (before mid after : MapSeat) (answer : Option Held) → IsIdle mid.me.0.role → Grows 1 (token before) [] (token mid) → mid.me.0.marks ≡ with_look before.me.0.marks key (name_number word)
+pub holds_first : (table : Table) (key word : ℕ) → is_filled word ≡ true → (before mid after : MapSeat) (answer : Option Held) → IsIdle mid.me.0.role → Grows 1 [] (token before) (token mid) → mid.me.0.marks ≡ with_look before.me.0.marks key (name_number word)
     → HoldsOn 1 (suc (slot_of word) ∷ []) table key mid after answer → HoldsAfter 0 true table key before.me.0.marks before after answer
 holds_first table key word full before mid after answer idle grows marks told = let n : ℕ = told.steps in let named = suc (slot_of word) ∷ told.named in
     let named_is : name_number word ≡ suc (slot_of word) = (let one : name_number word ≡ slot_of word + 1 = ap (λ (b : Bool). cond b (slot_of word + 1) 0) full in omega arith) in
@@ -168,7 +168,7 @@ holds_first table key word full before mid after answer idle grows marks told = 
     }
 
 -- or it found a hole at its first look
-pub finds_none : (table : Table) (key word : ℕ) → is_filled word ≡ false → (before after : MapSeat) → IdlesAt table after → Gains 1 (token before) (model.Find key) reply.Hole (token after)
+pub finds_none : (table : Table) (key word : ℕ) → is_filled word ≡ false → (before after : MapSeat) → IdlesAt table after → Gains 1 (model.Find key) (token before) (token after) reply.Hole
     → after.me.0.marks ≡ acted (with_look before.me.0.marks key (name_number word)) (put_number after.me.0.seen key) → HoldsAfter 0 true table key before.me.0.marks before after None
 finds_none table key word empty before after idles gains marks = let none : name_number word ≡ 0 = ap (λ (b : Bool). cond b (slot_of word + 1) 0) empty in record {
   steps = 1;

@@ -56,7 +56,7 @@ set_stays shape key number rows log (e ∷ more) near callers none had =
     ap (λ (l : List Entry). state_of (map_after shape l) key) (sym (append_assoc log (e ∷ []) more)) ∙ set_stays shape key number rows (log ++ e ∷ []) more near callers.1 first.1 now
 
 -- what a caller learnt between has none of its own entries
-pub none_between : (steps : ℕ) (old : Caller) (entries : List Entry) (new : Caller) → KnowsOwn old → entries_of entries old.number ≡ entries → (grows : Grows steps old entries new) → entries_of grows.between old.number ≡ []
+pub none_between : (steps : ℕ) (old : Caller) (entries : List Entry) (new : Caller) → KnowsOwn old → entries_of entries old.number ≡ entries → (grows : Grows steps entries old new) → entries_of grows.between old.number ≡ []
 none_between steps old entries new own ours grows =
     let n : ℕ = old.number in
     let all : entries_of new.seen n ≡ old.mine ++ entries = (λ j. entries_of new.seen (sym grows.number j)) ∙ grows.own ∙ grows.mine in
@@ -77,7 +77,7 @@ before_last (x ∷ xs) (y ∷ ys) a b is = λ j. get_or (is j) 0 x ∷ before_la
 
 -- the set that the key had it has until the caller's next entry
 pub stays_between : (shape : Shape) (key number : ℕ) (rows : List Row) (mid new : Caller) (steps : ℕ) (entries : List Entry) → mid.table.shape ≡ shape
-    → key < shape.keys → mid.number ≡ 0 → KnowsOwn mid → entries_of entries 0 ≡ entries → (then : Grows steps mid entries new)
+    → key < shape.keys → mid.number ≡ 0 → KnowsOwn mid → entries_of entries 0 ≡ entries → (then : Grows steps entries mid new)
     → state_of (map_after shape mid.seen) key ≡ states.Rows number rows → state_of (map_after shape (mid.seen ++ then.between)) key ≡ states.Rows number rows
 stays_between shape key number rows mid new steps entries sized near writes own ours then had =
     let none : entries_of then.between 0 ≡ [] = ap (entries_of then.between) (sym writes) ∙ none_between steps mid entries new own (ap (entries_of entries) writes ∙ ours) then in
@@ -88,7 +88,7 @@ stays_between shape key number rows mid new steps entries sized near writes own 
 -- a set that the key had in the middle of a call, it had before the call's entry
 pub had_before : (shape : Shape) (key number : ℕ) (rows : List Row) (old mid new : Caller) (steps after_steps : ℕ) (entries mine : List Entry)
     → old.table.shape ≡ shape → key < shape.keys → mid.number ≡ 0 → KnowsOwn mid → entries_of entries 0 ≡ entries
-    → (then : Grows after_steps mid entries new) → (all : Grows steps old mine new)
+    → (then : Grows after_steps entries mid new) → (all : Grows steps mine old new)
     → (old.seen ++ all.between ≡ mid.seen ++ then.between) → mid.table ≡ old.table → state_of (map_after shape mid.seen) key ≡ states.Rows number rows → KeyHad key rows old all.between
 had_before shape key number rows old mid new steps after_steps entries mine sized near writes own ours then all same table had =
     let now = stays_between shape key number rows mid new after_steps entries (ap (λ (t : Table). t.shape) table ∙ sized) near writes own ours then had in

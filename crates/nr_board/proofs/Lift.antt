@@ -82,12 +82,12 @@ module _ (shape : Shape) (id : ℕ) (view : View) (operation : Operation) (tells
 
   -- its marks after the step
   abbrev pub Marks : (state : Table) (kept : Kept shape state) → Stepped shape kept.counted (map role_of state.views) kept.log id view.role operation tells → Type 0
-  Marks state kept step = Remarked role_of marks_of shape kept.counted state.views kept.log id view operation step.after step.entries notes
+  Marks state kept step = Remarked role_of marks_of shape kept.counted state.views kept.log id operation view step.after step.entries notes
 
   -- the token's view goes along with the step, and fits the history
   pub record Follows (state : Table) (kept : Kept shape state)
       (step : Stepped shape kept.counted (map role_of state.views) kept.log id view.role operation tells)
-      (marked : Remarked role_of marks_of shape kept.counted state.views kept.log id view operation step.after step.entries notes)
+      (marked : Remarked role_of marks_of shape kept.counted state.views kept.log id operation view step.after step.entries notes)
       (next : View) : Type 0 where
     pub role : next.role ≡ step.after
     pub made : next.made ≡ view.made
@@ -101,7 +101,7 @@ module _ (shape : Shape) (id : ℕ) (view : View) (operation : Operation) (tells
   -- such a view, which says what it said and tells what it should
   pub record Choice (state : Table) (kept : Kept shape state)
       (step : Stepped shape kept.counted (map role_of state.views) kept.log id view.role operation tells)
-      (marked : Remarked role_of marks_of shape kept.counted state.views kept.log id view operation step.after step.entries notes)
+      (marked : Remarked role_of marks_of shape kept.counted state.views kept.log id operation view step.after step.entries notes)
       (then : View → Type 0) : Type 0 where
     pub next : View
     pub follows : Follows state kept step marked next

@@ -111,7 +111,7 @@ module _ (shape : Shape) (log : List Entry) (view : View) (fits : Fits shape log
     pub learned_advances : (entries : List Entry) (marks : Marks) (news : List Past) → news ≡ [] → is_by (caller_number view.role) view.role ≡ true
         → ((caller : ℕ) → entries_of entries caller ≡ cond (is_by caller view.role) entries []) → IsLegal (opening_map shape) (log ++ entries)
         → AreCallers shape (log ++ entries)
-        → Advances view entries (learned view after (log ++ entries) entries marks news)
+        → Advances entries view (learned view after (log ++ entries) entries marks news)
     learned_advances entries marks news no_news caller own legal callers id = record {
       table = refl;
       number = number;
@@ -130,7 +130,7 @@ module _ (shape : Shape) (log : List Entry) (view : View) (fits : Fits shape log
 
 -- The two ways in which a step of the core becomes one of the token.
 module _ (shape : Shape) (id : ℕ) (view : View) (operation : Operation) (tells : Telling) (notes : MarkTelling) (state : State (Unit {0}) View) (kept : Kept shape state) (at : get_elem? state.views id ≡ some view)
-    (step : Stepped shape kept.counted (map role_of state.views) kept.log id view.role operation tells) (marked : Remarked role_of marks_of shape kept.counted state.views kept.log id view operation step.after step.entries notes)
+    (step : Stepped shape kept.counted (map role_of state.views) kept.log id view.role operation tells) (marked : Remarked role_of marks_of shape kept.counted state.views kept.log id operation view step.after step.entries notes)
     (same_number : caller_number step.after ≡ caller_number view.role) (sized : view.shape ≡ shape) (callers : AreCallers shape step.entries) (acts : ActsGo view step.after step.entries marked.now) where
   -- the view of a token that learns the history so far, with the step's entries
   abbrev pub learned_next : View
@@ -179,13 +179,13 @@ module _ (shape : Shape) (id : ℕ) (view : View) (operation : Operation) (tells
     told = told;
   }
 
-  pub learned_gains : is_by (caller_number view.role) view.role ≡ true → marked.news ≡ [] → (told : List Entry) → step.entries ≡ told → Advances view told learned_next
-  learned_gains caller no_news told is = subst (λ (entries : List Entry). Advances view entries learned_next) is
+  pub learned_gains : is_by (caller_number view.role) view.role ≡ true → marked.news ≡ [] → (told : List Entry) → step.entries ≡ told → Advances told view learned_next
+  learned_gains caller no_news told is = subst (λ (entries : List Entry). Advances entries view learned_next) is
       (learned_advances shape kept.log view (kept.fits id view at) step.after step.same step.writer step.reader same_number sized step.entries
       marked.now marked.news no_news caller step.own step.core.legal (callers_both shape kept.log step.entries kept.callers callers))
 
   pub learning : NamesGo view marked.now → (then : View → Type 0) → is_by (caller_number view.role) view.role ≡ true → marked.news ≡ [] → (told : List Entry) → step.entries ≡ told
-      → (Advances view told learned_next → then learned_next) → Choice shape id view operation tells notes state kept step marked then
+      → (Advances told view learned_next → then learned_next) → Choice shape id view operation tells notes state kept step marked then
   learning names then caller no_news told is tell = chosen names then (tell (learned_gains caller no_news told is))
 
   -- the token learns nothing from a step without an entry

@@ -159,7 +159,7 @@ module _ (table : Table) (spare : Spare) (flags : List Bool) (before now : MapSe
     own = so_far.own;
     role = so_far.role;
     search = so_far.search;
-    grows = subst (λ (l : List Retired). Grows (length l) (token before) [] (token now)) lists so_far.grows;
+    grows = subst (λ (l : List Retired). Grows (length l) [] (token before) (token now)) lists so_far.grows;
     notes = notes_past spare.retired flags table.shape.readers place (length before.me.0.marks.polls) now.me.0.marks.polls low flagged so_far.notes;
     heard = so_far.heard;
     marks = so_far.marks ∙ ap (λ (l : List Retired). with_scan before.me.0.marks now.me.0.marks.polls (before.me.0.marks.loads ++ held_polls l)) lists;
@@ -184,7 +184,7 @@ module _ (table : Table) (spare : Spare) (flags : List Bool) (before now : MapSe
     entry_is : entry ≡ retired_at search_now.desk place
     entry_is = there_is search_now.desk.retired place entry here_now
 
-    grown : Grows (polls_before spare.retired flags place + 1) (token before) [] (token next)
+    grown : Grows (polls_before spare.retired flags place + 1) [] (token before) (token next)
     grown = grows_both (polls_before spare.retired flags place) 1 (polls_before spare.retired flags place + 1) (token before) (token now) [] (token next) refl so_far.grows (seat_grows now next [] same told.leads.advances)
 
     -- the loads with this poll
@@ -197,7 +197,7 @@ module _ (table : Table) (spare : Spare) (flags : List Bool) (before now : MapSe
     passed_more apart = let differs : same_count found (retired_at search_now.desk place).arrivals ≡ false = ap (λ (e : Retired). same_count found e.arrivals) (sym entry_is) ∙ apart in
         let stays : tried search_now.desk search_now.call search_now.rows place found ≡ search_now.desk = ap (λ (b : Bool). cond {A = Desk} b (taking_retired search_now.desk search_now.call search_now.rows place found) search_now.desk) differs in
         let role : next.me.0.role ≡ Writer search_now.desk = told.leads.role ∙ ap Writer stays in
-        let noted = subst (λ (p : Bool × Retired). TryTells p.0 now.me.0.shape now.me.0.marks p.1.slot next.me.0.marks) (λ j. (differs j, sym entry_is j)) told.marks in
+        let noted = subst (λ (p : Bool × Retired). TryTells p.0 now.me.0.shape p.1.slot now.me.0.marks next.me.0.marks) (λ j. (differs j, sym entry_is j)) told.marks in
         let polls = ap (λ (m : Marks). m.polls) noted.1 in
         let count : polls_before spare.retired flags place + 1 ≡ polls_before spare.retired flags (place + 1) = sym (polls_more spare.retired flags place low free) in
         let size = ap (λ (t : Table). t.shape.readers) search_now.own in record {
@@ -216,7 +216,7 @@ module _ (table : Table) (spare : Spare) (flags : List Bool) (before now : MapSe
             retired = so_far.search.retired;
             slots = so_far.search.slots;
           };
-          grows = subst (λ (n : ℕ). Grows n (token before) [] (token next)) count grown;
+          grows = subst (λ (n : ℕ). Grows n [] (token before) (token next)) count grown;
           notes = subst (NotesTo spare.retired flags table.shape.readers (place + 1) (length before.me.0.marks.polls)) (sym polls)
               (notes_more spare.retired flags table.shape.readers place (length before.me.0.marks.polls) now.me.0.marks.polls low free
               (λ one other a b at_a at_b. search_now.room.apart one other a b (there_too search_now.desk spare one a so_far.search.retired at_a) (there_too search_now.desk spare other b so_far.search.retired at_b)) here so_far.notes
@@ -227,9 +227,9 @@ module _ (table : Table) (spare : Spare) (flags : List Bool) (before now : MapSe
         }
 
     pub pass_takes : same_count found entry.arrivals ≡ true → (taken : Taken) → taken.slot ≡ entry.slot → taken.departures ≡ found → (after : Spare) → after ≡ record spare { retired = remove spare.retired place }
-        → PassTakes table spare after flags before next taken
+        → PassTakes table flags before spare next after taken
     pass_takes agree taken slot_is departed after is = let agrees : same_count found (retired_at search_now.desk place).arrivals ≡ true = ap (λ (e : Retired). same_count found e.arrivals) (sym entry_is) ∙ agree in
-        let marked = subst (λ (p : Bool × Retired). TryTells p.0 now.me.0.shape now.me.0.marks p.1.slot next.me.0.marks) (λ j. (agrees j, sym entry_is j)) told.marks in record {
+        let marked = subst (λ (p : Bool × Retired). TryTells p.0 now.me.0.shape p.1.slot now.me.0.marks next.me.0.marks) (λ j. (agrees j, sym entry_is j)) told.marks in record {
           place = place;
           entry = entry;
           here = here;

@@ -39,7 +39,7 @@ pub look_polled : (shape : Shape) (marks : Marks) (desk : Desk) (call : WriterCa
 look_polled shape marks desk call word after log now news told without = by_room shape call desk.retired [] now.polls log (ap (λ (m : Marks). m.polls) told.0) (told.2 without)
 
 module _ (shape : Shape) (marks : Marks) (known : List Past) (desk : Desk) (word : ℕ) (after : Role) (log : List Entry) (now : Marks) (news : List Past) where
-  search_polled : (call : WriterCall) (poll : ℕ) (same : Bool) → PollTells same shape marks known desk call poll log now → (taken on none : Desk)
+  search_polled : (call : WriterCall) (poll : ℕ) (same : Bool) → PollTells same shape known desk call poll log marks now → (taken on none : Desk)
       → IsNoSlot (cond {A = Desk × Step} same (taken, Going)
       (cond {A = Desk × Step} (nat_lt (poll + 1) (length desk.retired)) (on, Going) (none, no_slot shape desk))).1
       → PolledAll shape desk.retired now.polls

@@ -28,7 +28,7 @@ use Rattle.nr_machine.specs.Slots.{content}
 use Rattle.nr_words.specs.SetWords.{encode}
 
 -- what the writer knows after a step is legal
-pub knows_after : (steps : ℕ) (old : Caller) (entries : List Entry) (new : Caller) → Grows steps old entries new → IsSound new
+pub knows_after : (steps : ℕ) (old : Caller) (entries : List Entry) (new : Caller) → Grows steps entries old new → IsSound new
 knows_after steps old entries new grows = record {
   legal = subst (λ (t : Table). IsLegal (map_at_opening t) new.seen) (sym grows.table) grows.legal;
   callers = subst (λ (t : Table). AreCallers t.shape new.seen) (sym grows.table) grows.callers;
@@ -38,7 +38,7 @@ knows_after steps old entries new grows = record {
 -- that many words are put
 pub record PutSoFar (table : Table) (desk : Desk) (call : WriterCall) (rows : List Row) (slot departed : ℕ) (before after : MapSeat) (index : ℕ) : Type 0 where
   pub writes : WritesAt table (moved_to desk (Putting call rows slot departed index)) after
-  pub grows : Grows index (token before) [] (token after)
+  pub grows : Grows index [] (token before) (token after)
   pub marks : after.me.0.marks ≡ before.me.0.marks
   -- of the slot nothing is heard any more, once a word is put
   pub heard : set after.me.0.heard slot 0 ≡ set before.me.0.heard slot 0
@@ -76,8 +76,8 @@ pub published : (table : Table) (call : WriterCall) (rows : List Row) (spare mid
     (before mid after : MapSeat) (scanned : List ℕ) (loads : List LoggedLoad) (found : ℕ) → TookBySearch table before.me.0.heard scanned loads slot polls spare mid_spare → AreFewSteps table polls
     → mid_spare.slots ≡ spare.slots → mid_spare.numbers ≡ spare.numbers → mid_spare.reaped ≡ spare.reaped
     → mid.me.0.marks ≡ with_scan before.me.0.marks mid.me.0.marks.polls (before.me.0.marks.loads ++ loads) → set mid.me.0.heard slot 0 ≡ set scanned slot 0
-    → WritesAt table (desk_with mid_spare (Putting call rows slot departed (2 * length rows + 1))) mid → Grows (polls + (2 * length rows + 1)) (token before) [] (token mid) → GoesOn table found mid after
-    → after_spare ≡ record mid_spare { retired = mid_spare.retired ++ unnamed found; reaped = slice_set mid_spare.reaped slot false } → (put : PublishesSet table call rows spare after_spare before after) × (put.slot ≡ slot)
+    → WritesAt table (desk_with mid_spare (Putting call rows slot departed (2 * length rows + 1))) mid → Grows (polls + (2 * length rows + 1)) [] (token before) (token mid) → GoesOn table found mid after
+    → after_spare ≡ record mid_spare { retired = mid_spare.retired ++ unnamed found; reaped = slice_set mid_spare.reaped slot false } → (put : PublishesSet table call rows before spare after after_spare) × (put.slot ≡ slot)
 published table call rows spare mid_spare after_spare slot departed polls before mid after scanned loads found took few slots numbers flags only_polls heard writes grows goes retires =
     let last : ℕ = 2 * length rows + 1 in let desk = desk_with mid_spare (Putting call rows slot departed last) in
     let told = goes desk writes.role in

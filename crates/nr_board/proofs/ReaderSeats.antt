@@ -35,14 +35,14 @@ use Rattle.nr_board.specs.Seats.{HoldsAt, IdlesAt}
 use Rattle.nr_board.specs.Views.{grip_of, is_sized, caller_number, rows_held, slot_held}
 
 module _ (table : Table) (before after : MapSeat) (same : after.table_id ≡ before.table_id) where
-  pub asked_seat : (key found : ℕ) → IdlesAt table before → Asked key found before.me.0 after.me.0 → IdlesAt table after × Gains 1 (token before) (model.Ask key) (ask_word found) (token after)
+  pub asked_seat : (key found : ℕ) → IdlesAt table before → Asked key found before.me.0 after.me.0 → IdlesAt table after × Gains 1 (model.Ask key) (token before) (token after) (ask_word found)
   asked_seat key found idles told = let grows = seat_grows before after _ same told.gains in (record { own = grows.table ∙ idles.own; idle = subst IsIdle (sym told.role) idles.idle; silent = told.says ∙ idles.silent }, grows)
 
-  pub hole_seat : (key found : ℕ) → IdlesAt table before → Arrived key found before.me.0 after.me.0 → is_filled found ≡ false → IdlesAt table after × Gains 1 (token before) (model.Find key) reply.Hole (token after)
+  pub hole_seat : (key found : ℕ) → IdlesAt table before → Arrived key found before.me.0 after.me.0 → is_filled found ≡ false → IdlesAt table after × Gains 1 (model.Find key) (token before) (token after) reply.Hole
   hole_seat key found idles told empty = let hole = told.hole empty in let grows = seat_grows before after _ same hole.1 in (record { own = grows.table ∙ idles.own; idle = subst IsIdle (sym hole.0) idles.idle; silent = told.says ∙ idles.silent }, grows)
 
   pub held_seat : (key found : ℕ) → IdlesAt table before → Arrived key found before.me.0 after.me.0 → is_filled found ≡ true
-      → HoldsAt table (content table.shape (slot_of found) 0) after × Gains 1 (token before) (model.Find key) (reply.Rows (rows_held after.me.0.role)) (token after)
+      → HoldsAt table (content table.shape (slot_of found) 0) after × Gains 1 (model.Find key) (token before) (token after) (reply.Rows (rows_held after.me.0.role))
   held_seat key found idles told full = let held = told.held full in let grows = seat_grows before after _ same held.2 in (
     record {
       own = grows.table ∙ idles.own;
@@ -126,10 +126,10 @@ shown_filled word is = by_cases (λ (b : Bool). b ≡ true) (is_filled word) (λ
 module _ (table : Table) (before after : MapSeat) (same : after.table_id ≡ before.table_id) (begin key found : ℕ)
     (holds : HoldsAt table begin before) (told : FoundAgain key found before.me.0 after.me.0)
     (answer : Bool) (names : names_slot (slot_held before.me.0.role) found ≡ answer) where
-  pub again_gains : answer ≡ true → Gains 1 (token before) (model.Find key) (reply.Rows (rows_held before.me.0.role)) (token after)
+  pub again_gains : answer ≡ true → Gains 1 (model.Find key) (token before) (token after) (reply.Rows (rows_held before.me.0.role))
   again_gains so = seat_grows before after _ same (told.same (names ∙ so))
 
-  pub again_learns : answer ≡ false → Grows 1 (token before) [] (token after)
+  pub again_learns : answer ≡ false → Grows 1 [] (token before) (token after)
   again_learns not_so = seat_grows before after _ same (told.other (names ∙ not_so))
 
   own_table : (token after).table ≡ (token before).table

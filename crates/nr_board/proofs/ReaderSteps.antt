@@ -103,7 +103,7 @@ arrives_so shape slots id me key near idle silent = let view = me.0 in let reade
     (λ state kept at step marked. let found : ℕ = get_or kept.counted key 0 in let sized = reader_shape shape kept.log view Nothing idle (kept.fits id view at) in
     let next = learned view step.after (kept.log ++ step.entries) step.entries marked.now marked.news in
     let choose : caller_number step.after ≡ reader → (told : List Entry) → AreCallers shape step.entries
-    → ActsGo view step.after step.entries marked.now → step.entries ≡ told → (Advances view told next → Arrived key found view next)
+    → ActsGo view step.after step.entries marked.now → step.entries ≡ told → (Advances told view next → Arrived key found view next)
     → Choice shape id view (Add key ARRIVE) tells (ArrivesMarks view.marks key) state kept step marked (λ next. Arrived key found view next)
     = λ same told callers acts. learning shape id view (Add key ARRIVE) tells (ArrivesMarks view.marks key) state kept at step marked same sized
     callers acts (names_go view marked.now (reads_only view marked.now (ap is_writer idle))) (λ next. Arrived key found view next) (reader_is view.role Nothing idle) marked.told.1 told in
@@ -180,7 +180,7 @@ finds_again_so shape slots id me key near is sized = let view = me.0 in let read
     let holds = ap (λ r. gripped (grip_of r)) is in let held = ap (λ r. gripped (grip_of r)) step.told.0 in
     let after = learned view step.after log step.entries marked.now marked.news in
     let choose : (told : List Entry) → AreCallers shape step.entries → step.entries ≡ told → marked.now.acts ≡ view.marks.acts + acts_told told
-    → (Advances view told after → FoundAgain key found view after)
+    → (Advances told view after → FoundAgain key found view after)
     → Choice shape id view (Load key) tells notes state kept step marked (λ next. FoundAgain key found view next)
     = λ told callers is_told count tell. learning shape id view (Load key) tells notes state kept at step marked (ap caller_number role) sized callers
     (acts_so view step.after step.entries marked.now (Some slot) (Some slot) told holds held is_told (omega arith))

@@ -48,7 +48,7 @@ no_notes retired flags readers notes none = record {
 }
 
 -- what a caller knows stays sound as it grows
-pub sound_on : (steps : ℕ) (table : Table) (old new : MapSeat) → Grows steps (token old) [] (token new) → IsSound (token new)
+pub sound_on : (steps : ℕ) (table : Table) (old new : MapSeat) → Grows steps [] (token old) (token new) → IsSound (token new)
 sound_on steps table old new grows = record {
   legal = subst (λ (t : Table). IsLegal (map_at_opening t) (token new).seen) (sym grows.table) grows.legal;
   own = grows.own;
@@ -110,7 +110,7 @@ taking_many retired flags place slot = length-append (held_polls (unflagged reti
 
 -- a pass takes a slot that was heard before
 pub takes_first : (table : Table) (spare after : Spare) (flags : List Bool) (before now : MapSeat) (taken : Taken) → Flagged table spare.retired before.me.0.heard flags → before.me.0.marks.polls ≡ []
-    → PassTakes table spare after flags before now taken → SearchTakes table spare after before now taken
+    → PassTakes table flags before spare now after taken → SearchTakes table before spare now after taken
 takes_first table spare after flags before now taken flagged begins takes = record {
   place = takes.place;
   entry = takes.entry;
@@ -123,7 +123,7 @@ takes_first table spare after flags before now taken flagged begins takes = reco
     let heard = flagged.whole takes.entry.slot takes.no_flag in subst (λ (p : List ℕ × ℕ). table.announcers ≤ get_or p.0 p.1 0) (λ j. (sym takes.heard j, sym takes.slot j)) heard,
     inl (takes.heard, λ j. held_polls (polls_are table spare.retired before.me.0.heard flags flagged takes.place j) ++ OfSlot (sym takes.slot j) true ∷ []),
   );
-  grows = subst (λ (n : ℕ). Grows n (token before) [] (token now)) (sym (taking_many spare.retired flags takes.place takes.entry.slot)) takes.grows;
+  grows = subst (λ (n : ℕ). Grows n [] (token before) (token now)) (sym (taking_many spare.retired flags takes.place takes.entry.slot)) takes.grows;
   few = let few = takes.few in let count = taking_many spare.retired flags takes.place takes.entry.slot in omega arith;
   marks = takes.marks;
 }
@@ -134,7 +134,7 @@ module _ (table : Table) (spare : Spare) (flags scanned : List Bool) (before mid
   abbrev polls : ℕ
   polls = polls_before spare.retired flags (length spare.retired)
 
-  up_to : Grows (polls + table.announcers) (token before) [] (token swept)
+  up_to : Grows (polls + table.announcers) [] (token before) (token swept)
   up_to = grows_rests polls table.announcers (polls + table.announcers) (token before) [] (token mid) (token swept) refl first.grows (scan_rests table spare scanned mid swept same sized some_words scan)
 
   role_is : swept.me.0.role ≡ before.me.0.role
@@ -175,7 +175,7 @@ module _ (table : Table) (spare : Spare) (flags scanned : List Bool) (before mid
       ∙ (λ j. with_scan mid.me.0.marks marks.polls (words_are.2 j ++ more)) ∙ ap (λ (m : Marks). with_scan m marks.polls ((m.loads ++ scan_loads) ++ more)) first.marks
       ∙ ap (with_scan before.me.0.marks marks.polls) (append_assoc (before.me.0.marks.loads ++ first_polls) scan_loads more ∙ append_assoc before.me.0.marks.loads first_polls (scan_loads ++ more))
 
-  pub takes_second : (after : Spare) (now : MapSeat) (taken : Taken) → PassTakes table spare after scanned swept now taken → SearchTakes table spare after before now taken
+  pub takes_second : (after : Spare) (now : MapSeat) (taken : Taken) → PassTakes table scanned swept spare now after taken → SearchTakes table before spare now after taken
   takes_second after now taken takes = let more = taking_polls spare.retired scanned takes.place takes.entry.slot in let count = taking_many spare.retired scanned takes.place takes.entry.slot in record {
     place = takes.place;
     entry = takes.entry;
@@ -194,7 +194,7 @@ module _ (table : Table) (spare : Spare) (flags scanned : List Bool) (before mid
   }
 
   pub lacks_so : (after : Spare) (last now : MapSeat) (counts : NoSlot) → PassedTo table spare scanned swept last (length spare.retired) → now.table_id ≡ last.table_id → Ends last.me.0 now.me.0 → after ≡ spare → counts ≡ none_spare spare
-      → SearchLacks table spare after before now counts
+      → SearchLacks table before spare now after counts
   lacks_so after last now counts second own ends is counted = let search = second.search.search in let gave = ends search.desk search.call search.rows search.role search.place in
       let shape_is = ap (λ (t : Table). t.shape) search.own in
       let one = seat_grows last now [] own gave.leads.advances in
@@ -221,7 +221,7 @@ module _ (table : Table) (spare : Spare) (flags scanned : List Bool) (before mid
               ap (λ (s : Shape). filled_count (map_after s now.me.0.seen) + length spare.retired) (sym shapes) ∙ ap (λ (l : List Retired). filled_count (map_after last.me.0.shape now.me.0.seen) + length l) (sym second.search.retired ∙ ap (λ (d : Desk). d.retired) one_desk)
                   ∙ gave_so.slots ∙ ap (λ (s : Shape). s.slots) shape_is,
             );
-        grows = subst (λ (n : ℕ). Grows n (token before) [] (token now)) steps
+        grows = subst (λ (n : ℕ). Grows n [] (token before) (token now)) steps
             (grows_both (polls + table.announcers + second_count) 1 (polls + table.announcers + second_count + 1) (token before) (token last) [] (token now) refl last_grows one);
         many = many;
         apart = λ reader. subst (λ (l : List Past). total (λ (note : Past). only reader note.reader) l ≤ 1) (sym polls_now) (second.notes.apart reader);

@@ -56,7 +56,7 @@ use Rattle.nr_board.specs.Views.{View}
 use Rattle.nr_board.specs.WordLoads.{word_load}
 
 -- a poll of a search names no slot
-try_names : (b : Bool) (shape : Shape) (marks : Marks) (slot : ℕ) (now : Marks) → TryTells b shape marks slot now → now.names ≡ marks.names
+try_names : (b : Bool) (shape : Shape) (marks : Marks) (slot : ℕ) (now : Marks) → TryTells b shape slot marks now → now.names ≡ marks.names
 try_names true shape marks slot now told = ap (λ (m : Marks). m.names) told
 try_names false shape marks slot now told = ap (λ (m : Marks). m.names) told.1
 
@@ -79,7 +79,7 @@ tries_so shape slots id me desk call rows poll is is_at low heard = let view = m
     (λ advances. record {
       leads = leads_so shape id view desk is operation tells notes state kept at step marked marked.told.0 c outcome step.told.0 step.told.1 tt names (λ counts without. absurd (cc)) advances;
       notes = subst (λ (l : List Entry). NotesTell l view.marks.polls marked.now.polls) seen (notes_so shape state kept view.marks.polls marked.now.polls marked.noted);
-      marks = subst (λ (s : Shape). TryTells (same_count found (retired_at desk poll).arrivals) s view.marks slot marked.now) (sym size) marked.told.1;
+      marks = subst (λ (s : Shape). TryTells (same_count found (retired_at desk poll).arrivals) s slot view.marks marked.now) (sym size) marked.told.1;
       heard = ap (λ r. heard_after r view.heard) is ∙ ap (λ (p : Place). heard_at p view.heard) is_at;
     }))
 
@@ -156,7 +156,7 @@ module _ (shape : Shape) (id own : ℕ) (view : View) (desk : Desk) (call : Writ
   loaded : Stepped shape kept.counted (map role_of state.views) kept.log id view.role (Load 0) (LoadsWord view.role)
   loaded = learns shape id view.role 0 kept.counted (map role_of state.views) kept.log kept.core (at_map role_of state.views id view at)
 
-  searched_with : (polls : List Past) → Remarked role_of marks_of shape kept.counted state.views kept.log id view (Load 0) loaded.after loaded.entries (noting polls)
+  searched_with : (polls : List Past) → Remarked role_of marks_of shape kept.counted state.views kept.log id (Load 0) view loaded.after loaded.entries (noting polls)
       → NotesKeeper (keeps_unheard desk own found view.heard) own found base polls → Result
   searched_with polls marked keeper =
       let heard = heard_from desk own found view.heard 0 view.shape.slots in let next = record view { steps = view.steps + 1; marks = marked.now; heard = heard } in

@@ -39,7 +39,7 @@ use Rattle.nr_marks.specs.PollNotes.{Missed, Noted}
 use Rattle.nr_board.specs.WriterSeats.{GoesOn, GoesTo, LacksSlot, LeadsIn, MapSeat, Settles, swept, TakesSlot, WritesAt}
 
 -- no step, where what is known is legal
-pub grows_none : (caller : Caller) → IsSound caller → Grows 0 caller [] caller
+pub grows_none : (caller : Caller) → IsSound caller → Grows 0 [] caller caller
 grows_none caller knows = record {
   table = refl;
   number = refl;
@@ -95,7 +95,7 @@ searched_none table call rows spare seat settles full =
       slots = settles.slots;
       leads = record {
         writes = subst (λ (o : Desk × Step). WritesAt table o.0 seat) is settles.writes;
-        grows = subst (λ (es : List Entry). Grows 0 (token seat) es (token seat)) (sym (swept_quiet shape desk call rows (call_of call) 0)) (grows_none (token seat) settles.knows);
+        grows = subst (λ (es : List Entry). Grows 0 es (token seat) (token seat)) (sym (swept_quiet shape desk call rows (call_of call) 0)) (grows_none (token seat) settles.knows);
         short = λ counts without. settles.short counts (ap (λ (o : Desk × Step). o.1) is ∙ without);
       };
       noted = subst (Noted table.shape seat.me.0.pasts) (sym settles.polls) (noted_none table.shape seat.me.0.pasts);
@@ -116,7 +116,7 @@ held_on before mid after note more held = record {
 }
 
 -- what grew begins with what it was
-pub grows_from : (steps : ℕ) (old : Caller) (entries : List Entry) (new : Caller) → Grows steps old entries new → StartsWith new.seen old.seen
+pub grows_from : (steps : ℕ) (old : Caller) (entries : List Entry) (new : Caller) → Grows steps entries old new → StartsWith new.seen old.seen
 grows_from steps old entries new grows = record { rest = grows.between ++ entries; is = grows.seen ∙ append_assoc old.seen grows.between entries }
 
 module _ (table : Table) (call : WriterCall) (rows : List Row) (spare : Spare) (before mid : MapSeat) (polls : ℕ) (so_far : Searched table call rows spare before mid polls) (low : polls < length spare.retired) where
@@ -126,8 +126,8 @@ module _ (table : Table) (call : WriterCall) (rows : List Row) (spare : Spare) (
   pub searching_at : WritesAt table desk_now mid
   searching_at = subst (λ (o : Desk × Step). WritesAt table o.0 mid) (swept_more table.shape (desk_with spare Idle) call rows polls low) so_far.leads.writes
 
-  so_far_quiet : Grows polls (token before) [] (token mid)
-  so_far_quiet = subst (λ (es : List Entry). Grows polls (token before) es (token mid)) (swept_quiet table.shape (desk_with spare Idle) call rows (call_of call) polls) so_far.leads.grows
+  so_far_quiet : Grows polls [] (token before) (token mid)
+  so_far_quiet = subst (λ (es : List Entry). Grows polls es (token before) (token mid)) (swept_quiet table.shape (desk_with spare Idle) call rows (call_of call) polls) so_far.leads.grows
 
   module _ (found : ℕ) (after : MapSeat) (goes : GoesOn table found mid after) where
     told : GoesTo table desk_now found mid after
@@ -144,13 +144,13 @@ module _ (table : Table) (call : WriterCall) (rows : List Row) (spare : Spare) (
 
     -- the slot is not held: it is taken
     pub takes_it : same_count found (retired_at desk_now polls).arrivals ≡ true → WritesAt table (taking_retired desk_now call rows polls found) after
-        × Grows (polls + 1) (token before) [] (token after) × (after.me.0.marks ≡ with_scan before.me.0.marks after.me.0.marks.polls (before.me.0.marks.loads ++ (held_polls (take polls spare.retired) ++ OfSlot (retired_at desk_now polls).slot true ∷ []))) × (after.me.0.heard ≡ before.me.0.heard)
+        × Grows (polls + 1) [] (token before) (token after) × (after.me.0.marks ≡ with_scan before.me.0.marks after.me.0.marks.polls (before.me.0.marks.loads ++ (held_polls (take polls spare.retired) ++ OfSlot (retired_at desk_now polls).slot true ∷ []))) × (after.me.0.heard ≡ before.me.0.heard)
     takes_it agree =
         let outcome : polled table.shape desk_now call rows polls found ≡ (taking_retired desk_now call rows polls found, Going) = ap (λ
         (b : Bool). cond {A = Desk × Step} b (taking_retired desk_now call rows polls found, Going)
         (polls_on table.shape desk_now call rows polls)) agree in
         let leads = subst (λ (o : Desk × Step). LeadsIn 1 table (call_of call) o mid after) outcome told.leads in
-        let same = subst (λ (b : Bool). PollTells b table.shape mid.me.0.marks mid.me.0.pasts desk_now call polls after.me.0.seen after.me.0.marks) agree told.marks.1 in
+        let same = subst (λ (b : Bool). PollTells b table.shape mid.me.0.pasts desk_now call polls after.me.0.seen mid.me.0.marks after.me.0.marks) agree told.marks.1 in
         (leads.writes, grows_both polls 1 (polls + 1) (token before) (token mid) [] (token after) refl so_far_quiet leads.grows, polled_marks true after.me.0.marks (same ∙ ap (λ (m : Marks). with_polls (with_poll mid.me.0.marks (retired_at desk_now polls).slot true) m.polls) (sym same)), told.heard ∙ so_far.heard)
 
     -- the slot is held: the search goes on, or there is none
@@ -164,7 +164,7 @@ module _ (table : Table) (call : WriterCall) (rows : List Row) (spare : Spare) (
         (call_of call) o.1) outcome ∙ swept_quiet table.shape (desk_with spare Idle) call rows (call_of call) (polls + 1) in
         let seen_is : after.me.0.seen ≡ told.log = told.seen ∙ ap (λ (l : List Entry). told.log ++ l) quiet ∙ append-nil told.log in
         let now_grown = grows_both polls 1 (polls + 1) (token before) (token mid) _ (token after) refl so_far_quiet leads.grows in
-        let polled_so = subst (λ (b : Bool). PollTells b table.shape mid.me.0.marks mid.me.0.pasts desk_now call polls after.me.0.seen after.me.0.marks) apart told.marks.1 in record {
+        let polled_so = subst (λ (b : Bool). PollTells b table.shape mid.me.0.pasts desk_now call polls after.me.0.seen mid.me.0.marks after.me.0.marks) apart told.marks.1 in record {
           slots = so_far.slots;
           leads = record { writes = leads.writes; grows = now_grown; short = leads.short };
           noted = noted_more table.shape before.me.0.pasts mid.me.0.marks.polls (retired_at desk_now polls).slot after.me.0.marks.polls so_far.noted
@@ -197,8 +197,8 @@ module _ (table : Table) (call : WriterCall) (rows : List Row) (spare : Spare) (
 
 -- every retired slot was found held
 pub lacks_slot : (table : Table) (call : WriterCall) (rows : List Row) (spare : Spare) (before after : MapSeat) (polls : ℕ)
-    → Searched table call rows spare before after polls → (table.announcers ≡ 0) ⊎ (spare.retired ≡ []) → polls ≡ length spare.retired → LacksSlot table call (none_spare spare) spare spare before
-    after
+    → Searched table call rows spare before after polls → (table.announcers ≡ 0) ⊎ (spare.retired ≡ []) → polls ≡ length spare.retired → LacksSlot table call before spare after spare
+    (none_spare spare)
 lacks_slot table call rows spare before after polls so_far counted all =
     let desk = desk_with spare Idle in let is = swept_all table.shape desk call rows polls (omega arith) in let leads = so_far.leads in record {
       same = refl;
@@ -206,7 +206,7 @@ lacks_slot table call rows spare before after polls so_far counted all =
       steps = polls;
       loads = held_polls spare.retired;
       searched = inl (counted, so_far.heard, refl, all ∙ sym (held_many spare.retired));
-      grows = subst (λ (es : List Entry). Grows polls (token before) es (token after)) (swept_quiet table.shape desk call rows (call_of call) polls) leads.grows;
+      grows = subst (λ (es : List Entry). Grows polls es (token before) (token after)) (swept_quiet table.shape desk call rows (call_of call) polls) leads.grows;
       lacks = leads.short (none_spare spare) (ap (λ (o : Desk × Step). o.1) is ∙ ap (λ (n : ℕ). Ended (writer.NoSlot (record { live = n - length spare.retired; held = length spare.retired }))) (sym so_far.slots));
       noted = λ _. so_far.noted;
       held = λ _. so_far.held;
@@ -215,7 +215,7 @@ lacks_slot table call rows spare before after polls so_far counted all =
 
 -- a slot is taken that was never taken, without a step
 pub takes_fresh : (table : Table) (call : WriterCall) (rows : List Row) (spare after : Spare) (seat : MapSeat) (slot : ℕ) → Settles table call rows spare seat
-    → spare.fresh < spare.slots → slot ≡ spare.fresh → after ≡ record spare { fresh = spare.fresh + 1 } → TakesSlot table call rows slot table.shape.first_count spare after seat seat
+    → spare.fresh < spare.slots → slot ≡ spare.fresh → after ≡ record spare { fresh = spare.fresh + 1 } → TakesSlot table call rows seat spare seat after slot table.shape.first_count
 takes_fresh table call rows spare after seat slot settles low slot_is after_is = let shape = table.shape in let desk = desk_with spare Idle in let size = settles.slots in
     let outcome : settled shape desk call rows ≡ (taking_fresh shape desk call rows, Going) = ap (λ (b : Bool). cond {A = Desk × Step} b (taking_fresh shape desk call rows, Going)
     (cond {A = Desk × Step} (nat_eq (length desk.retired) 0) (moved_to desk Idle, no_slot shape desk) (moved_to desk (Searching call rows 0), Going))) (lt-ltb spare.fresh shape.slots (omega arith)) in record {

@@ -48,7 +48,7 @@ use Rattle.nr_board.specs.declared.reaping.Sweep.TheVariants as sweep
 
 -- THE POLL
 
-probe_names : (b : Bool) (shape : Shape) (marks : Marks) (slot : ℕ) (now : Marks) → ProbeTells b shape marks slot now → now.names ≡ marks.names
+probe_names : (b : Bool) (shape : Shape) (marks : Marks) (slot : ℕ) (now : Marks) → ProbeTells b shape slot marks now → now.names ≡ marks.names
 probe_names true shape marks slot now told = ap (λ (m : Marks). m.names) told
 probe_names false shape marks slot now told = ap (λ (m : Marks). m.names) told.1
 
@@ -234,7 +234,7 @@ module _ (spare : Spare) (before mid : MapSeat) (place : ℕ) (waits : Bool) (so
     split_here = so_far.split ∙ ap (λ (l : List Retired). so_far.held ++ l) (waits_there passes spare.retired place low ((λ j. stays j || near j)))
 
     pub swept_more : (table : Table) → shape ≡ table.shape → RestsAt table spare before → same_count found this.arrivals ≡ false → SweptTo spare before after (place + 1) true
-    swept_more table sized rests apart = let told = subst (λ (b : Bool). ProbeTells b shape mid.me.0.marks this.slot after.me.0.marks) apart tells.1 in
+    swept_more table sized rests apart = let told = subst (λ (b : Bool). ProbeTells b shape this.slot mid.me.0.marks after.me.0.marks) apart tells.1 in
         let note : Past = told.0 in let notes = so_far.notes ++ note ∷ [] in let polls_are : mid.me.0.marks.polls ≡ before.me.0.marks.polls ++ so_far.notes = ap (λ (v : View). v.marks.polls) so_far.view in
         let readers : shape.readers ≡ before.me.0.shape.readers = ap (λ (s : Shape). s.readers) sized ∙ sym (ap (λ (t : Table). t.shape.readers) rests.writes.own) in
         let here : get_elem? spare.retired place ≡ some this = at_get spare.retired place low in
@@ -263,7 +263,7 @@ module _ (spare : Spare) (before mid : MapSeat) (place : ℕ) (waits : Bool) (so
         }
 
     pub sweeps_free : same_count found this.arrivals ≡ true → this.slot < spare.slots → SweepsFor spare before after (sweep.Free this.slot)
-    sweeps_free agree near = let told = subst (λ (b : Bool). ProbeTells b shape mid.me.0.marks this.slot after.me.0.marks) agree tells.1 in
+    sweeps_free agree near = let told = subst (λ (b : Bool). ProbeTells b shape this.slot mid.me.0.marks after.me.0.marks) agree tells.1 in
         let free : List LoggedLoad = OfSlot this.slot true ∷ [] in
         let steps : before.me.0.steps + length (held_polls so_far.held) + 1 ≡ before.me.0.steps + length (held_polls so_far.held ++ free) = let longer = length-append (held_polls so_far.held) free in omega (arith, longer) in (
           so_far.held,

@@ -41,7 +41,7 @@ waited_token : (mid new : MapSeat) (steps : ℕ) → new.table_id ≡ mid.table_
 waited_token mid new steps same waits = λ j. caller_of (same j) (waits j)
 
 -- both began and ended that many steps later
-grows_later : (steps made : ℕ) (old mid : Caller) (entries : List Entry) → Grows made old entries mid → Grows made (with_steps steps old) entries (with_steps steps mid)
+grows_later : (steps made : ℕ) (old mid : Caller) (entries : List Entry) → Grows made entries old mid → Grows made entries (with_steps steps old) (with_steps steps mid)
 grows_later steps made old mid entries grows = record {
   table = grows.table;
   number = grows.number;
@@ -56,7 +56,7 @@ grows_later steps made old mid entries grows = record {
 }
 
 -- the steps are its own
-pub grows_with : (steps made sum : ℕ) (old : Caller) (entries : List Entry) (new : Caller) → sum ≡ made + steps → Grows made (with_steps steps old) entries new → Grows sum old entries new
+pub grows_with : (steps made sum : ℕ) (old : Caller) (entries : List Entry) (new : Caller) → sum ≡ made + steps → Grows made entries (with_steps steps old) new → Grows sum entries old new
 grows_with steps made sum old entries new is grows = record {
   table = grows.table;
   number = grows.number;
@@ -80,8 +80,8 @@ writes_later table desk mid new steps same waits writes = record {
 
 -- the slot is taken still
 pub takes_later : (table : Table) (call : WriterCall) (rows : List Row) (slot departed : ℕ) (spare after : Spare) (old mid new : MapSeat) (steps : ℕ)
-    → TakesSlot table call rows slot departed spare after old mid → new.table_id ≡ mid.table_id → new.me.0 ≡ waited steps mid.me.0
-    → TakesSlot table call rows slot departed spare after (later steps old) new
+    → TakesSlot table call rows old spare mid after slot departed → new.table_id ≡ mid.table_id → new.me.0 ≡ waited steps mid.me.0
+    → TakesSlot table call rows (later steps old) spare new after slot departed
 takes_later table call rows slot departed spare after old mid new steps takes same waits = record {
   steps = takes.steps;
   loads = takes.loads;
@@ -91,7 +91,7 @@ takes_later table call rows slot departed spare after old mid new steps takes sa
   numbers = takes.numbers;
   reaped = takes.reaped;
   writes = writes_later table _ mid new steps same waits takes.writes;
-  grows = subst (λ (caller : Caller). Grows takes.steps (token (later steps old)) [] caller) (sym (waited_token mid new steps same waits)) (grows_later steps takes.steps (token old) (token mid) [] takes.grows);
+  grows = subst (λ (caller : Caller). Grows takes.steps [] (token (later steps old)) caller) (sym (waited_token mid new steps same waits)) (grows_later steps takes.steps (token old) (token mid) [] takes.grows);
   marks = ap (λ (v : View). v.marks) waits ∙ takes.marks ∙ ap (λ (v : View). with_scan old.me.0.marks v.marks.polls (old.me.0.marks.loads ++ takes.loads)) (sym waits);
 }
 

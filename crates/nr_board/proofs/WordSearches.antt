@@ -23,7 +23,7 @@ use Rattle.nr_board.specs.WriterSeats.{LacksSlot, MapSeat, Settles, TakesSlot, W
 
 module _ (table : Table) (call : WriterCall) (rows : List Row) (spare : Spare) (before : MapSeat) (settles : Settles table call rows spare before) (full : spare.slots ≤ spare.fresh) (some_words : 0 < table.announcers) where
   -- where no slot is retired the look was the call's last step
-  pub lacks_none : spare.retired ≡ [] → LacksSlot table call (none_spare spare) spare spare before before
+  pub lacks_none : spare.retired ≡ [] → LacksSlot table call before spare before spare (none_spare spare)
   lacks_none none = lacks_slot table call rows spare before before 0 (searched_none table call rows spare before settles full) (inr none) (sym (ap length none))
 
   module _ (waits : 0 < length spare.retired) where
@@ -36,7 +36,7 @@ module _ (table : Table) (call : WriterCall) (rows : List Row) (spare : Spare) (
     pub searches_in : SearchesIn table spare before
     searches_in = record { search = record { own = begun.own; desk = desk; role = begun.role; room = begun.room; call = call; rows = rows; place = refl }; retired = refl; slots = settles.slots }
 
-    pub takes_words : (after : Spare) (now : MapSeat) (taken : Taken) → SearchTakes table spare after before now taken → TakesSlot table call rows taken.slot taken.departures spare after before now
+    pub takes_words : (after : Spare) (now : MapSeat) (taken : Taken) → SearchTakes table before spare now after taken → TakesSlot table call rows before spare now after taken.slot taken.departures
     takes_words after now taken takes = let is = takes.after_is in
         let slot_is : (retired_at desk takes.place).slot ≡ taken.slot = ap (λ (e : Retired). e.slot) (sym (there_is spare.retired takes.place takes.entry takes.here)) ∙ sym takes.slot in record {
           steps = length takes.loads;
@@ -51,7 +51,7 @@ module _ (table : Table) (call : WriterCall) (rows : List Row) (spare : Spare) (
           marks = takes.marks;
         }
 
-    pub lacks_words : (after : Spare) (now : MapSeat) (counts : NoSlot) → SearchLacks table spare after before now counts → LacksSlot table call counts spare after before now
+    pub lacks_words : (after : Spare) (now : MapSeat) (counts : NoSlot) → SearchLacks table before spare now after counts → LacksSlot table call before spare now after counts
     lacks_words after now counts lacks = let (writes, done, sum) = lacks.writes desk call rows begun.role refl in let size = settles.slots in
         let held : (token now).retired ≡ spare.retired = ap (λ (r : Role). (desk_of r).retired) writes.role in
         let live_is = ap (λ (n : NoSlot). n.live) lacks.counts_are in let held_is = ap (λ (n : NoSlot). n.held) lacks.counts_are in

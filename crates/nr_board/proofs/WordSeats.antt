@@ -28,10 +28,10 @@ module _ (table : Table) (before after : MapSeat) (same : after.table_id ≡ bef
   own_still key found told = by_cases (λ (_ : Bool). (token after).table ≡ (token before).table) (is_filled found)
       (λ full. (seat_grows before after _ same (told.named full)).table) (λ empty. (seat_grows before after _ same (told.hole empty)).table)
 
-  pub looked_hole : (key found : ℕ) → LookedUp key found before.me.0 after.me.0 → is_filled found ≡ false → Gains 1 (token before) (model.Find key) reply.Hole (token after)
+  pub looked_hole : (key found : ℕ) → LookedUp key found before.me.0 after.me.0 → is_filled found ≡ false → Gains 1 (model.Find key) (token before) (token after) reply.Hole
   looked_hole key found told empty = seat_grows before after _ same (told.hole empty)
 
-  pub looked_named : (key found : ℕ) → LookedUp key found before.me.0 after.me.0 → is_filled found ≡ true → Grows 1 (token before) [] (token after)
+  pub looked_named : (key found : ℕ) → LookedUp key found before.me.0 after.me.0 → is_filled found ≡ true → Grows 1 [] (token before) (token after)
   looked_named key found told full = seat_grows before after _ same (told.named full)
 
   pub looked_idle : (key found : ℕ) → IdlesAt table before → LookedUp key found before.me.0 after.me.0 → IdlesAt table after
@@ -70,7 +70,7 @@ module _ (table : Table) (before after : MapSeat) (same : after.table_id ≡ bef
     names_said : (answer : Bool) → names_slot slot found ≡ answer → names_slot (slot_said before.me.0) found ≡ answer
     names_said answer is = ap (λ (s : ℕ). names_slot s found) slot_is ∙ is
 
-    pub confirmed_held : names_slot slot found ≡ true → HoldsAt table (content table.shape slot 0) after × Gains 1 (token before) (model.Find key) (reply.Rows (rows_held after.me.0.role)) (token after)
+    pub confirmed_held : names_slot slot found ≡ true → HoldsAt table (content table.shape slot 0) after × Gains 1 (model.Find key) (token before) (token after) (reply.Rows (rows_held after.me.0.role))
     confirmed_held still = let held = told.same (names_said true still) in let grows = seat_grows before after _ same held.gains in (
       record {
         own = grows.table ∙ at.own;

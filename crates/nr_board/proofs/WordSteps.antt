@@ -62,7 +62,7 @@ look_up_makes shape id me key near idle sized = let view = me.0 in let reader = 
     (λ state kept at step. lends_on view step.after (λ slot. ap (holds slot) (step.told.0 ∙ sym idle))))
     (λ state kept at step marked. let found : ℕ = get_or kept.counted key 0 in let role : step.after ≡ view.role = step.told.0 ∙ sym idle in
     let choose : (told : List Entry) → AreCallers shape step.entries → step.entries ≡ told → ActsGo view step.after step.entries marked.now
-    → ((next : View) → next.says ≡ view.says → next.role ≡ view.role → next.marks ≡ marked.now → next.seen ≡ kept.log ++ step.entries → Advances view told next → LookedUp key found view next)
+    → ((next : View) → next.says ≡ view.says → next.role ≡ view.role → next.marks ≡ marked.now → next.seen ≡ kept.log ++ step.entries → Advances told view next → LookedUp key found view next)
     → Choice shape id view (Load key) tells notes state kept step marked (λ next. LookedUp key found view next)
     = λ told callers is acts tell. learning shape id view (Load key) tells notes state kept at step marked (ap caller_number role) sized callers acts (names_go view marked.now (reads_only view marked.now (ap is_writer idle))) (λ next. LookedUp key found view next)
     (reader_is view.role Nothing idle) marked.told.1 told is (λ advances. tell _ refl role refl refl advances) in
@@ -130,7 +130,7 @@ module _ (shape : Shape) (id own : ℕ) (view : View) (has : HasWord own view) (
 
   -- what the writer has heard stays so
   heard_still : (operation : Operation) (tells : Telling) (notes : MarkTelling) (step : Stepped shape kept.counted (map role_of state.views) kept.log id view.role operation tells)
-      (marked : Remarked role_of marks_of shape kept.counted state.views kept.log id view operation step.after step.entries notes) (next : View)
+      (marked : Remarked role_of marks_of shape kept.counted state.views kept.log id operation view step.after step.entries notes) (next : View)
       → Follows shape id view operation tells notes state kept step marked next → LendsUnheard next → AllHear (set state.views id next)
   heard_still operation tells notes step marked next follows unheard = let mine_next = ap (is_by (suc own)) follows.role ∙ step.same (suc own) ∙ is_own in
       hears_after state.views id view next at
@@ -139,7 +139,7 @@ module _ (shape : Shape) (id own : ℕ) (view : View) (has : HasWord own view) (
 
   -- the rule after a step of the core that the reader's view goes along with, where its word then says what the view says
   says_kept : (operation : Operation) (tells : Telling) (notes : MarkTelling) (step : Stepped shape kept.counted (map role_of state.views) kept.log id view.role operation tells)
-      (marked : Remarked role_of marks_of shape kept.counted state.views kept.log id view operation step.after step.entries notes) (next : View)
+      (marked : Remarked role_of marks_of shape kept.counted state.views kept.log id operation view step.after step.entries notes) (next : View)
       → Follows shape id view operation tells notes state kept step marked next → ((slot : ℕ) → 0 < next.says → 0 < holds slot next.role → next.says ≡ suc slot) → LendsUnheard next
       → Counted shape (lent (set state.views id next)) state.words (words_after operation kept.counted)
       → Kept shape (record { words = set state.words (says_at shape own) next.says; homes = state.homes; views = set state.views id next })
@@ -153,7 +153,7 @@ module _ (shape : Shape) (id own : ℕ) (view : View) (has : HasWord own view) (
 
   -- and where its word says what it said
   says_still : (operation : Operation) (tells : Telling) (notes : MarkTelling) (step : Stepped shape kept.counted (map role_of state.views) kept.log id view.role operation tells)
-      (marked : Remarked role_of marks_of shape kept.counted state.views kept.log id view operation step.after step.entries notes) (next : View)
+      (marked : Remarked role_of marks_of shape kept.counted state.views kept.log id operation view step.after step.entries notes) (next : View)
       → Follows shape id view operation tells notes state kept step marked next → next.says ≡ view.says → ((slot : ℕ) → 0 < next.says → 0 < holds slot next.role → next.says ≡ suc slot) → LendsUnheard next
       → Counted shape (lent (set state.views id next)) state.words (words_after operation kept.counted)
       → Kept shape (record { words = state.words; homes = state.homes; views = set state.views id next })
@@ -167,7 +167,7 @@ module _ (shape : Shape) (id own : ℕ) (view : View) (has : HasWord own view) (
 -- a view that says something else goes along with the step too
 saying_follows : (shape : Shape) (id : ℕ) (view : View) (operation : Operation) (tells : Telling) (notes : MarkTelling) (state : State (Unit {0}) View) (kept : Kept shape state)
     (step : Stepped shape kept.counted (map role_of state.views) kept.log id view.role operation tells)
-    (marked : Remarked role_of marks_of shape kept.counted state.views kept.log id view operation step.after step.entries notes) (next : View) (says : ℕ)
+    (marked : Remarked role_of marks_of shape kept.counted state.views kept.log id operation view step.after step.entries notes) (next : View) (says : ℕ)
     → Follows shape id view operation tells notes state kept step marked next → Follows shape id view operation tells notes state kept step marked (saying says next)
 saying_follows shape id view operation tells notes state kept step marked next says follows = let fits = follows.fits in record {
   role = follows.role;
@@ -195,7 +195,7 @@ module _ (shape : Shape) (slots id own says : ℕ) (me : Me (Unit {0}) View) (ha
 
   -- a step of the core after which the reader holds nothing
   says_after : is_by reader view.role ≡ true → (operation : Operation) (tells : Telling) (notes : MarkTelling) (step : Stepped shape kept.counted (map role_of state.views) kept.log id view.role operation tells)
-      (marked : Remarked role_of marks_of shape kept.counted state.views kept.log id view operation step.after step.entries notes)
+      (marked : Remarked role_of marks_of shape kept.counted state.views kept.log id operation view step.after step.entries notes)
       → step.after ≡ Reader reader Nothing → step.entries ≡ [] → marked.news ≡ [] → marked.now ≡ let_go (grip_of view.role) view.marks → ActsGo view step.after step.entries marked.now
       → ((next : View) → ((slot : ℕ) → lends slot next ≡ 0) → Counted shape (lent (set state.views id next)) state.words (words_after operation kept.counted))
       → (next : View) × Kept shape (record { words = set state.words (says_at shape own) says; homes = state.homes; views = set state.views id next }) × Said says view next

@@ -58,10 +58,10 @@ module _ (table : Table) (spare : Spare) (before : MapSeat) (rests : RestsAt tab
   pub ends : (steps : ℕ) (call : Call) (answer : Reply) (after_spare : Spare) (after : MapSeat) → after_spare.slots ≡ spare.slots
       → after_spare.reaped ≡ spare.reaped → after.me.0.marks.reaped ≡ before.me.0.marks.reaped
       → LeadsIn steps table call (desk_with after_spare Idle, ended answer) before after → RestsAt table after_spare after
-      × Gains steps (token before) call answer (token after)
+      × Gains steps call (token before) (token after) answer
   ends steps call answer after_spare after slots same_reaped same_marks leads = (
     record { writes = leads.writes; slots = slots ∙ rests.slots; reaped = same_reaped ∙ rests.reaped ∙ sym same_marks; own = leads.grows.own },
-    subst (λ (n : ℕ). Grows steps (token before) (entry n call answer ∷ []) (token after)) (sym writer_number) leads.grows,
+    subst (λ (n : ℕ). Grows steps (entry n call answer ∷ []) (token before) (token after)) (sym writer_number) leads.grows,
   )
 
   pub same_slots : (after : MapSeat) → RestsAt table spare after → spare_of (token after) ≡ spare_of (token before)
@@ -69,17 +69,17 @@ module _ (table : Table) (spare : Spare) (before : MapSeat) (rests : RestsAt tab
 
   -- a call that has its set
   pub settles_so : (steps : ℕ) (call : WriterCall) (rows : List Row) (mid : MapSeat) → LeadsIn steps table (call_of call) (settled table.shape (desk_with spare Idle) call rows) before mid → mid.me.0.marks.polls ≡ []
-      → Settles table call rows spare mid × Grows steps (token before) [] (token mid)
+      → Settles table call rows spare mid × Grows steps [] (token before) (token mid)
   settles_so steps call rows mid leads polls =
-      let grows = subst (λ (es : List Entry). Grows steps (token before) es (token mid)) (settled_quiet table.shape (desk_with spare Idle) call rows (call_of call)) leads.grows in
+      let grows = subst (λ (es : List Entry). Grows steps es (token before) (token mid)) (settled_quiet table.shape (desk_with spare Idle) call rows (call_of call)) leads.grows in
       (record { slots = rests.slots; writes = leads.writes; short = leads.short; knows = knows_after steps (token before) [] (token mid) grows; polls = polls }, grows)
 
-  module _ (steps : ℕ) (call : WriterCall) (rows : List Row) (mid after : MapSeat) (grows : Grows steps (token before) [] (token mid)) (only_polls : mid.me.0.marks ≡ with_polls before.me.0.marks []) (same_heard : mid.me.0.heard ≡ before.me.0.heard) (after_spare : Spare) where
+  module _ (steps : ℕ) (call : WriterCall) (rows : List Row) (mid after : MapSeat) (grows : Grows steps [] (token before) (token mid)) (only_polls : mid.me.0.marks ≡ with_polls before.me.0.marks []) (same_heard : mid.me.0.heard ≡ before.me.0.heard) (after_spare : Spare) where
     same_names : get_or before.me.0.marks.names (key_of call) 0 ≡ get_or mid.me.0.marks.names (key_of call) 0
     same_names = ap (λ (m : Marks). get_or m.names (key_of call) 0) (sym only_polls)
 
     -- the call put its set
-    pub publishes_so : (published : PublishesSet table call rows spare after_spare mid after) → RestsAt table after_spare after × (put : Publishes steps (token before) (call_of call) rows (token after)) × (put.slot ≡ published.slot)
+    pub publishes_so : (published : PublishesSet table call rows mid spare after after_spare) → RestsAt table after_spare after × (put : Publishes steps (call_of call) rows (token before) (token after)) × (put.slot ≡ published.slot)
     publishes_so published =
         let all = grows_both steps (2 * length rows + 2 + published.steps) (steps + 2 * length rows + 2 + published.steps) (token before) (token mid)
         (entry 0 (call_of call) reply.Done ∷ []) (token after) (omega arith) grows published.grows in
@@ -110,13 +110,13 @@ module _ (table : Table) (spare : Spare) (before : MapSeat) (rests : RestsAt tab
             count = published.count;
             put = published.put;
             marks = published.marks ∙ (λ j. with_name (with_loads (only_polls j) ((only_polls j).loads ++ published.loads)) (sym (key_same call) j) published.slot published.number rows);
-            gains = subst (λ (n : ℕ). Grows (steps + 2 * length rows + 2 + published.steps) (token before) (entry n (call_of call) reply.Done ∷ []) (token after)) (sym writer_number) all;
+            gains = subst (λ (n : ℕ). Grows (steps + 2 * length rows + 2 + published.steps) (entry n (call_of call) reply.Done ∷ []) (token before) (token after)) (sym writer_number) all;
           },
           refl,
         )
 
     -- the call found no slot
-    pub lacks_so : (counts : NoSlot) → LacksSlot table call counts spare after_spare mid after → RestsAt table after_spare after × HasNoSlot steps (token before) (call_of call) counts (token after)
+    pub lacks_so : (counts : NoSlot) → LacksSlot table call mid spare after after_spare counts → RestsAt table after_spare after × HasNoSlot steps (call_of call) (token before) (token after) counts
     lacks_so counts lacking =
         let retired_is : (token before).retired ≡ spare.retired = ap (λ (s : Spare). s.retired) (spare_shown table spare before rests) in
         let counts_so : (token before).table.announcers ≡ 0 → table.announcers ≡ 0 = λ counted. ap (λ (t : Table). t.announcers) (sym rests.writes.own) ∙ counted in
@@ -156,7 +156,7 @@ module _ (table : Table) (spare : Spare) (before : MapSeat) (rests : RestsAt tab
 pub look_ends : {table : Table} {spare : Spare} {call : WriterCall} {found : ℕ} {before after : MapSeat}
     → HasLooked table spare call found before after → (answer : Reply)
     → looked table.shape (desk_with spare Idle) call found ≡ (desk_with spare Idle, ended answer)
-    → RestsAt (token after).table spare after × (Gains 1 (token before) (call_of call) answer (token after) × SlotsStay (token before) (token after))
+    → RestsAt (token after).table spare after × (Gains 1 (call_of call) (token before) (token after) answer × SlotsStay (token before) (token after))
 look_ends {table = table} {spare = spare} {call = call} {before = before} {after = after} looks answer is =
     let ended_so = ends table spare before looks.rests 1 (call_of call) answer spare after refl refl (ap (λ (m : Marks). m.reaped) looks.marks) (subst (λ (o : Desk × Step). LeadsIn 1 table (call_of call) o before after) is looks.leads) in
     (rests_own table spare after ended_so.0, (ended_so.1, (same_slots table spare before looks.rests after ended_so.0, looks.marks, looks.heard)))
@@ -175,15 +175,15 @@ look_settles {table = table} {call = call} {before = before} {after = after} loo
 
 -- and it had the slot, and put the set there, or found none
 module _ {table : Table} {spare after_spare : Spare} {steps : ℕ} {call given : WriterCall} {rows : List Row} {before mid after : MapSeat} (set : HasSet table spare steps call rows before mid) (is : given ≡ call) where
-  pub has_published : (published : PublishesSet table given rows spare after_spare mid after) → RestsAt (token after).table after_spare after
-      × (put : Publishes steps (token before) (call_of call) rows (token after)) × (put.slot ≡ published.slot)
+  pub has_published : (published : PublishesSet table given rows mid spare after after_spare) → RestsAt (token after).table after_spare after
+      × (put : Publishes steps (call_of call) rows (token before) (token after)) × (put.slot ≡ published.slot)
   has_published published =
-      let put = subst (λ (c : WriterCall). (here : PublishesSet table c rows spare after_spare mid after) × (here.slot ≡ published.slot)) is (published, refl) in
+      let put = subst (λ (c : WriterCall). (here : PublishesSet table c rows mid spare after after_spare) × (here.slot ≡ published.slot)) is (published, refl) in
       let so = publishes_so table spare before set.rests steps call rows mid after set.grows set.marks set.heard after_spare put.0 in (rests_own table after_spare after so.0, so.1, so.2 ∙ put.1)
 
-  pub has_lacked : {counts : NoSlot} → LacksSlot table given counts spare after_spare mid after → RestsAt (token after).table after_spare after × HasNoSlot steps (token before) (call_of call) counts (token after)
+  pub has_lacked : {counts : NoSlot} → LacksSlot table given mid spare after after_spare counts → RestsAt (token after).table after_spare after × HasNoSlot steps (call_of call) (token before) (token after) counts
   has_lacked {counts = counts} lacking = let so = lacks_so table spare before set.rests steps call rows mid after set.grows set.marks set.heard after_spare
-      counts (subst (λ (c : WriterCall). LacksSlot table c counts spare after_spare mid after) is lacking) in
+      counts (subst (λ (c : WriterCall). LacksSlot table c mid spare after after_spare counts) is lacking) in
       (rests_own table after_spare after so.0, so.1)
 
 -- the swap that evicts the key
@@ -193,7 +193,7 @@ module _ {table : Table} {spare : Spare} {key word : ℕ} {before mid : MapSeat}
   about_to_leave = subst (λ (o : Desk × Step). LeadsIn 1 table (model.Evict key) o before mid) leaves looks.leads
 
   pub has_evicted : {board : Table} {found : ℕ} {after : MapSeat} {after_spare : Spare} → board ≡ table → GoesOn board found mid after → after_spare ≡ record spare { retired = spare.retired ++ unnamed found }
-      → RestsAt (token after).table after_spare after × (Gains 2 (token before) (model.Evict key) reply.Evicted (token after)
+      → RestsAt (token after).table after_spare after × (Gains 2 (model.Evict key) (token before) (token after) reply.Evicted
       × ((token after).fresh ≡ (token before).fresh) × ((token after).numbers ≡ (token before).numbers)
       × RetiresOne key (token before) (token before).retired (token after).retired
       × (after.me.0.marks ≡ without_name (with_polls before.me.0.marks []) key) × (after.me.0.heard ≡ before.me.0.heard))
@@ -228,7 +228,7 @@ module _ {table : Table} {spare : Spare} {key word : ℕ} {before mid : MapSeat}
 
   pub has_cancelled : {board : Table} {found : ℕ} {after : MapSeat} {after_spare : Spare} → board ≡ table → GoesOn board found mid after
       → after_spare ≡ record spare { numbers = slice_set spare.numbers key (slice_index spare.numbers key + 1) }
-      → RestsAt (token after).table after_spare after × (Gains 2 (token before) (model.Cancel key) reply.Cancelled (token after)
+      → RestsAt (token after).table after_spare after × (Gains 2 (model.Cancel key) (token before) (token after) reply.Cancelled
       × (spare_of (token after) ≡ record (spare_of (token before))
       { numbers = slice_set (token before).numbers key (slice_index (token before).numbers key + 1) })
       × (after.me.0.marks ≡ with_polls before.me.0.marks []) × (after.me.0.heard ≡ before.me.0.heard))
@@ -280,7 +280,7 @@ module _ {table : Table} {spare : Spare} {call given : WriterCall} {found : ℕ}
 
 -- a find of the writer's own
 pub has_found : {table : Table} {spare : Spare} {key slot : ℕ} {rows : List Row} {before after : MapSeat} → HasRead table spare (Find key) slot rows before after
-    → RestsAt (token after).table spare after × (Gains (2 * length rows + 2) (token before) (model.Find key) (reply.Rows rows) (token after) × SlotsStay (token before) (token after))
+    → RestsAt (token after).table spare after × (Gains (2 * length rows + 2) (model.Find key) (token before) (token after) (reply.Rows rows) × SlotsStay (token before) (token after))
 has_found {table = table} {spare = spare} {key = key} {rows = rows} {before = before} {after = after} read =
     let ended_so = ends table spare before read.rests (2 * length rows + 2) (model.Find key) (reply.Rows rows) spare after refl refl (ap (λ (m : Marks). m.reaped) read.marks) read.leads in
     (rests_own table spare after ended_so.0, (ended_so.1, (same_slots table spare before read.rests after ended_so.0, read.marks, read.heard)))
@@ -301,8 +301,8 @@ module _ {table : Table} {spare : Spare} {key slot : ℕ} {batch : List Delta} {
   own_map log number had = ap (λ (t : Table). state_of (map_after t.shape log) key) read.own ∙ had
 
   pub has_refused : (why : ApplyFault) → applied (bound_of table.shape) rows batch ≡ Err why
-      → RestsAt (token after).table spare after × ((gains : Gains (2 * length rows + 2) (token before) (model.Update key batch)
-      (applied_reply (Err why)) (token after)) × KeyHad key rows (token before) gains.between × SlotsStay (token before) (token after))
+      → RestsAt (token after).table spare after × ((gains : Gains (2 * length rows + 2) (model.Update key batch) (token before)
+      (token after) (applied_reply (Err why))) × KeyHad key rows (token before) gains.between × SlotsStay (token before) (token after))
   has_refused why is =
       let ended_so = ends table spare before read.rests (2 * length rows + 2) (model.Update key batch) (applied_reply (Err why)) spare after refl refl (ap (λ (m : Marks). m.reaped) read.marks) (leads_by (Err why) is) in
       let log_is = before_last ((token before).seen ++ ended_so.1.between) read.had.log _ _ (sym ended_so.1.seen ∙ seen_by (Err why) is) in
@@ -319,7 +319,7 @@ module _ {table : Table} {spare : Spare} {key slot : ℕ} {batch : List Delta} {
 
     -- the key had the set until the update's entry, if it was done, or to the end
     had_still : (near : key < table.shape.keys) (last : MapSeat) (steps sum : ℕ) (entries mine : List Entry)
-        (then : Grows steps (token after) entries (token last)) (all : Grows sum (token before) mine (token last)) → entries_of entries 0 ≡ entries
+        (then : Grows steps entries (token after) (token last)) (all : Grows sum mine (token before) (token last)) → entries_of entries 0 ≡ entries
         → (token before).seen ++ all.between ≡ (token after).seen ++ then.between → KeyHad key rows (token before) all.between
     had_still near last steps sum entries mine then all ours same = let grows = has_renewed.grows in
         had_before table.shape key read.had.number rows (token before) (token after) (token last) sum steps entries mine
@@ -327,21 +327,21 @@ module _ {table : Table} {spare : Spare} {key slot : ℕ} {batch : List Delta} {
         grows.table still_has
 
     module _ {given : WriterCall} (given_is : given ≡ Update key batch) (near : key < table.shape.keys) where
-      pub has_updated : {last : MapSeat} {after_spare : Spare} → PublishesSet table given left spare after_spare after last
-          → RestsAt (token last).table after_spare last × ((published : Publishes (2 * length rows + 2) (token before) (model.Update key batch) left (token last)) × KeyHad key rows (token before) published.gains.between)
-      has_updated {last = last} {after_spare = after_spare} put = let put_here = subst (λ (c : WriterCall). PublishesSet table c left spare after_spare after last) given_is put in
+      pub has_updated : {last : MapSeat} {after_spare : Spare} → PublishesSet table given left after spare last after_spare
+          → RestsAt (token last).table after_spare last × ((published : Publishes (2 * length rows + 2) (model.Update key batch) left (token before) (token last)) × KeyHad key rows (token before) published.gains.between)
+      has_updated {last = last} {after_spare = after_spare} put = let put_here = subst (λ (c : WriterCall). PublishesSet table c left after spare last after_spare) given_is put in
           let so = has_published has_renewed refl put_here in let then = put_here.grows in let all = so.1.gains in
           (so.0, (so.1, had_still near last _ _ _ _ then all refl (before_last ((token before).seen ++ all.between) ((token after).seen ++ then.between) _ _ (sym all.seen ∙ then.seen))))
 
       -- where the writer made that many steps more before it published
-      pub has_updated_later : {last : MapSeat} {after_spare : Spare} (steps : ℕ) → (put : PublishesSet table given left spare after_spare (later steps after) last)
-          → RestsAt (token last).table after_spare last × ((published : Publishes (2 * length rows + 2 + steps) (token before)
-          (model.Update key batch) left (token last)) × KeyHad key rows (token before) published.gains.between × (published.slot ≡ put.slot))
-      has_updated_later {last = last} {after_spare = after_spare} steps put = let here = subst (λ (c : WriterCall). (p : PublishesSet table c left spare after_spare (later steps after) last) × (p.slot ≡ put.slot)) given_is (put, refl) in
+      pub has_updated_later : {last : MapSeat} {after_spare : Spare} (steps : ℕ) → (put : PublishesSet table given left (later steps after) spare last after_spare)
+          → RestsAt (token last).table after_spare last × ((published : Publishes (2 * length rows + 2 + steps) (model.Update key batch)
+          left (token before) (token last)) × KeyHad key rows (token before) published.gains.between × (published.slot ≡ put.slot))
+      has_updated_later {last = last} {after_spare = after_spare} steps put = let here = subst (λ (c : WriterCall). (p : PublishesSet table c left (later steps after) spare last after_spare) × (p.slot ≡ put.slot)) given_is (put, refl) in
           let so = has_published (set_later steps has_renewed) refl here.0 in let then = grows_with steps _ _ (token after) _ (token last) refl here.0.grows in let all = so.1.gains in
           (so.0, (so.1, had_still near last _ _ _ _ then all refl (before_last ((token before).seen ++ all.between) ((token after).seen ++ then.between) _ _ (sym all.seen ∙ then.seen)), so.2 ∙ here.1))
 
-      pub has_not_updated : {counts : NoSlot} {last : MapSeat} {after_spare : Spare} → LacksSlot table given counts spare after_spare after last
-          → RestsAt (token last).table after_spare last × ((without : HasNoSlot (2 * length rows + 2) (token before) (model.Update key batch) counts (token last)) × KeyHad key rows (token before) without.grows.between)
+      pub has_not_updated : {counts : NoSlot} {last : MapSeat} {after_spare : Spare} → LacksSlot table given after spare last after_spare counts
+          → RestsAt (token last).table after_spare last × ((without : HasNoSlot (2 * length rows + 2) (model.Update key batch) (token before) (token last) counts) × KeyHad key rows (token before) without.grows.between)
       has_not_updated {last = last} lacking = let so = has_lacked has_renewed given_is lacking in let then = lacking.grows in let all = so.1.grows in
           (so.0, (so.1, had_still near last _ _ [] [] then all refl (sym (append-nil ((token before).seen ++ all.between)) ∙ sym all.seen ∙ then.seen ∙ append-nil ((token after).seen ++ then.between))))

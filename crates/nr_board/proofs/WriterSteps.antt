@@ -83,7 +83,7 @@ same_desk role desk other is also = sym (ap desk_of is) ∙ ap desk_of also
 module _ (shape : Shape) (id : ℕ) (view : View) (desk : Desk) (is : view.role ≡ Writer desk) (operation : Operation) (tells : Telling)
     (notes : MarkTelling) (state : State (Unit {0}) View) (kept : Kept shape state) (at : get_elem? state.views id ≡ some view)
     (step : Stepped shape kept.counted (map role_of state.views) kept.log id view.role operation tells)
-    (marked : Remarked role_of marks_of shape kept.counted state.views kept.log id view operation step.after step.entries notes)
+    (marked : Remarked role_of marks_of shape kept.counted state.views kept.log id operation view step.after step.entries notes)
     (no_news : marked.news ≡ []) (call : Call) (outcome : Desk × Step) (role_told : step.after ≡ Writer outcome.0)
     (entries_told : step.entries ≡ ending call outcome.1) (callers : AreCallers shape (ending call outcome.1)) (names : NamesGo view marked.now) where
   callers_told : AreCallers shape step.entries
@@ -120,11 +120,11 @@ module _ (shape : Shape) (id : ℕ) (view : View) (desk : Desk) (is : view.role 
       next_view (subst (λ (d : Desk). PolledAll shape d.retired marked.now.polls) (sym desk_is) polled) sized refl role_told
 
   pub leads_so : ((counts : NoSlot) → outcome.1 ≡ Ended (writer.NoSlot counts) → Shortage shape kept.log desk call outcome counts
-      × PolledAll shape desk.retired marked.now.polls) → Advances view (ending call outcome.1) next_view → Leads call outcome view next_view
+      × PolledAll shape desk.retired marked.now.polls) → Advances (ending call outcome.1) view next_view → Leads call outcome view next_view
   leads_so short advances = record { role = role_told; advances = advances; room = room_after; numbers = numbers_after; short = λ counts without. short_after counts without (short counts without).0 (short counts without).1 }
 
   -- the writer's view after the step
-  pub writes : (then : View → Type 0) → (Advances view (ending call outcome.1) next_view → then next_view) → Choice shape id view operation tells notes state kept step marked then
+  pub writes : (then : View → Type 0) → (Advances (ending call outcome.1) view next_view → then next_view) → Choice shape id view operation tells notes state kept step marked then
   writes then tell = learning shape id view operation tells notes state kept at step marked (ap caller_number role_told ∙ sym (ap caller_number is))
       sized callers_told acts_told_so names then (writer_is view.role desk is) no_news (ending call outcome.1) entries_told tell
 
@@ -186,7 +186,7 @@ put_names true marks at mine rows word after log now news told key slot is = inl
 put_names false marks at mine rows word after log now news told key slot is = ⊎_elim inl (λ (e : suc mine ≡ suc slot). inr (omega arith))
     (changed_at marks.names at (suc mine) key (suc slot) (ap (λ (m : Marks). get_or m.names key 0) (sym told.3) ∙ is))
 
-poll_names : (b : Bool) (shape : Shape) (marks : Marks) (known : List Past) (desk : Desk) (call : WriterCall) (poll : ℕ) (log : List Entry) (now : Marks) → PollTells b shape marks known desk call poll log now → now.names ≡ marks.names
+poll_names : (b : Bool) (shape : Shape) (marks : Marks) (known : List Past) (desk : Desk) (call : WriterCall) (poll : ℕ) (log : List Entry) (now : Marks) → PollTells b shape known desk call poll log marks now → now.names ≡ marks.names
 poll_names true shape marks known desk call poll log now told = ap (λ (m : Marks). m.names) told
 poll_names false shape marks known desk call poll log now told = ap (λ (m : Marks). m.names) told.0
 
@@ -358,7 +358,7 @@ put_leads desk call rows slot departed index found old new is low went_so =
     let next : next_put desk ≡ after.0 = ap (λ (p : Place). moved_to desk (put_place p)) is in
     let leads = went_so.leads in record {
       role = leads.role ∙ ap (λ (o : Desk × Step). Writer o.0) outcome ∙ sym (ap Writer next);
-      advances = subst (λ (s : Step). Advances old (ending (call_at desk.place) s) new) (ap (λ (o : Desk × Step). o.1) outcome) leads.advances;
+      advances = subst (λ (s : Step). Advances (ending (call_at desk.place) s) old new) (ap (λ (o : Desk × Step). o.1) outcome) leads.advances;
       room = subst (Room old.shape) (ap (λ (o : Desk × Step). o.0) outcome ∙ sym next) leads.room;
       numbers = subst (λ (o : Desk × Step). AreNumbers old.shape (map_after old.shape new.seen) o.0.numbers) outcome leads.numbers;
       marks = (subst (λ (b : Bool). PutsMarks b old.marks (key_of call) slot rows found new.role new.seen new.marks [])

@@ -25,7 +25,7 @@ use Rattle.nr_board.specs.WriterSeats.{KeyHas, LeadsIn, MapSeat, RestsAt, Settle
 pub record HasSet (table : Table) (spare : Spare) (steps : ℕ) (call : WriterCall) (rows : List Row) (before mid : MapSeat) : Type 0 where
   pub rests : RestsAt table spare before
   pub settles : Settles table call rows spare mid
-  pub grows : Grows steps (token before) [] (token mid)
+  pub grows : Grows steps [] (token before) (token mid)
   pub marks : (view_of mid).marks ≡ with_polls (view_of before).marks []
   pub heard : (view_of mid).heard ≡ (view_of before).heard
 

@@ -74,7 +74,7 @@ abbrev pub map_seen : Caller → PartialMap
 map_seen caller = after (map_at_opening caller.table) caller.seen
 
 -- in that many steps these entries of the caller's became the last ones of one legal history, which begins with all that the caller had seen
-pub record Grows (steps : ℕ) (old : Caller) (entries : List Entry) (new : Caller) : Type 0 where
+pub record Grows (steps : ℕ) (entries : List Entry) (old new : Caller) : Type 0 where
   pub table : new.table ≡ old.table
   pub number : new.number ≡ old.number
   pub between : List Entry
@@ -90,8 +90,8 @@ pub record Grows (steps : ℕ) (old : Caller) (entries : List Entry) (new : Call
   pub pasts : new.pasts ≡ old.pasts
 
 -- the caller's call was answered so, and is one entry of that history
-abbrev pub Gains : ℕ → Caller → Call → Reply → Caller → Type 0
-Gains steps old call reply new = Grows steps old (entry old.number call reply ∷ []) new
+abbrev pub Gains : ℕ → Call → Caller → Caller → Reply → Type 0
+Gains steps call old new reply = Grows steps (entry old.number call reply ∷ []) old new
 
 -- that many steps that add nothing and learn nothing
 pub record Rests (steps : ℕ) (old new : Caller) : Type 0 where

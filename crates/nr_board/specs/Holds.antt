@@ -58,7 +58,7 @@ pub record FindsRowsAfter (before : List ℕ) (more key : ℕ) (rows : List Row)
   pub says : ℕ
   pub holds_in : HeldIn (finds_by_word old) named says steps
   pub looks : new.marks.loads ≡ old.marks.loads ++ looks_at key (before ++ named)
-  pub gains : Gains (steps + more) old (model.Find key) (reply.Rows rows) new
+  pub gains : Gains (steps + more) (model.Find key) old new (reply.Rows rows)
 
 -- a find of a hole, likewise
 pub record FindsHoleAfter (before : List ℕ) (more key : ℕ) (old new : Caller) : Type 0 where
@@ -66,7 +66,7 @@ pub record FindsHoleAfter (before : List ℕ) (more key : ℕ) (old new : Caller
   pub named : List ℕ
   pub finds_in : HoleIn (finds_by_word old) named steps
   pub looks : new.marks.loads ≡ old.marks.loads ++ looks_at key (before ++ named)
-  pub gains : Gains (steps + more) old (model.Find key) reply.Hole new
+  pub gains : Gains (steps + more) (model.Find key) old new reply.Hole
 
 -- with no looks before
 abbrev pub FindsRows : ℕ → ℕ → List Row → Caller → Caller → Type 0
@@ -104,12 +104,12 @@ pub record HeldAs (table : Table) (held : Held) (seat : MapSeat) : Type 0 where
 -- the find of a reader whose marks were these is an entry after that many steps: the set is held, or the key was a hole and nothing is held
 pub record HeldSo (table : Table) (key steps : ℕ) (marks : Marks) (held : Held) (old new : MapSeat) : Type 0 where
   pub held_as : HeldAs table held new
-  pub gains : Gains steps (token old) (model.Find key) (reply.Rows (rows_held (view_of new).role)) (token new)
+  pub gains : Gains steps (model.Find key) (token old) (token new) (reply.Rows (rows_held (view_of new).role))
   pub marks_are : (view_of new).marks ≡ acted marks (put_number (view_of new).seen key)
 
 pub record HoleSo (table : Table) (key steps : ℕ) (marks : Marks) (old new : MapSeat) : Type 0 where
   pub idles : IdlesAt table new
-  pub gains : Gains steps (token old) (model.Find key) reply.Hole (token new)
+  pub gains : Gains steps (model.Find key) (token old) (token new) reply.Hole
   pub marks_are : (view_of new).marks ≡ acted marks (put_number (view_of new).seen key)
 
 abbrev pub IsAnswered : Table → ℕ → ℕ → Marks → MapSeat → MapSeat → Option Held → Type 0
@@ -139,7 +139,7 @@ pub record NamesOther (table : Table) (key word newer : ℕ) (old new : MapSeat)
   pub announces : AnnouncesAt table (slot_of word) new
   pub filled : is_filled newer ≡ true
   pub other : names_slot (slot_of word) newer ≡ false
-  pub grows : Grows 2 (token old) [] (token new)
+  pub grows : Grows 2 [] (token old) (token new)
   pub marks_are : (view_of new).marks ≡ with_look (let_go (grip_of (view_of old).role) (view_of old).marks) key (name_number newer)
 
 -- what the look named that answered

@@ -40,7 +40,7 @@ has_learned step (before, _) found (after, _) = Learned step.word found before a
 
 -- what a token learnt of readers by a note
 abbrev pub HearsOf : View → View → View → Type 0
-HearsOf old note new = (news : List Past) × (new.pasts ≡ news ++ old.pasts) × LearnsOf old.role (told_by_note old note) new news
+HearsOf note old new = (news : List Past) × (new.pasts ≡ news ++ old.pasts) × LearnsOf old.role (told_by_note old note) new news
 
 -- the step that hears a note learns as a load does that is told what the note tells
 abbrev pub has_heard : View → View → View → Type 0

@@ -65,20 +65,20 @@ abbrev pub with_steps : ℕ → Caller → Caller
 with_steps many caller = record caller { steps = caller.steps + many }
 
 -- the history begins with all that the note's maker had seen too
-pub record HearsNote (steps : ℕ) (old : Caller) (note : Known) (new : Caller) : Type 0 where
+pub record HearsNote (steps : ℕ) (note : Known) (old new : Caller) : Type 0 where
   pub learns : Learns steps old new
   pub seen : StartsWith new.seen note.seen
 
 -- the history begins with all that the other had seen too, so it has all calls that the other had made
-pub record Meets (steps : ℕ) (old other new : Caller) : Type 0 where
+pub record Meets (steps : ℕ) (other old new : Caller) : Type 0 where
   pub learns : Learns steps old new
   pub seen : StartsWith new.seen other.seen
   pub calls : StartsWith (entries_of new.seen other.number) other.mine
 
 -- the writer learnt of the reader, and then the reader of the writer, 1 step of each for the note and 1 to hear: of either the writer's history has exactly its calls
 pub record Gathers (writer reader writer' reader' : Caller) : Type 0 where
-  pub of_reader : Meets 2 writer reader writer'
-  pub of_writer : Meets 2 reader writer' reader'
+  pub of_reader : Meets 2 reader writer writer'
+  pub of_writer : Meets 2 writer' reader reader'
   pub all : entries_of writer'.seen reader.number ≡ reader.mine
   -- the writer knows how the reader is, and has compared it with its lists, which are those of the history
   pub place : ℕ

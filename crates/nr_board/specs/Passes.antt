@@ -49,13 +49,13 @@ pub record PassedTo (table : Table) (spare : Spare) (flags : List Bool) (before 
   pub own : now.table_id ≡ before.table_id
   pub role : (view_of now).role ≡ (view_of before).role
   pub search : SearchesIn table spare now
-  pub grows : Grows (polls_before spare.retired flags place) (token before) [] (token now)
+  pub grows : Grows (polls_before spare.retired flags place) [] (token before) (token now)
   pub notes : NotesTo spare.retired flags table.shape.readers place (length (view_of before).marks.polls) (view_of now).marks.polls
   pub heard : (view_of now).heard ≡ (view_of before).heard
   pub marks : (view_of now).marks ≡ with_scan (view_of before).marks (view_of now).marks.polls ((view_of before).marks.loads ++ held_polls (unflagged spare.retired flags place))
 
 -- the pass took the slot at a place, which nobody held
-pub record PassTakes (table : Table) (spare after : Spare) (flags : List Bool) (before now : MapSeat) (taken : Taken) : Type 0 where
+pub record PassTakes (table : Table) (flags : List Bool) (before : MapSeat) (spare : Spare) (now : MapSeat) (after : Spare) (taken : Taken) : Type 0 where
   pub place : ℕ
   pub entry : Retired
   pub here : get_elem? spare.retired place ≡ some entry
@@ -64,11 +64,11 @@ pub record PassTakes (table : Table) (spare after : Spare) (flags : List Bool) (
   pub after_is : after ≡ record spare { retired = remove spare.retired place }
   pub own : now.table_id ≡ before.table_id
   pub writes : (desk : Desk) (call : WriterCall) (rows : List Row) → (view_of before).role ≡ Writer desk → desk.place ≡ Searching call rows 0 → WritesAt table (taking_retired desk call rows place taken.departures) now
-  pub grows : Grows (polls_before spare.retired flags place + 1) (token before) [] (token now)
+  pub grows : Grows (polls_before spare.retired flags place + 1) [] (token before) (token now)
   pub few : length (view_of before).marks.polls + polls_before spare.retired flags place ≤ table.shape.readers
   pub heard : (view_of now).heard ≡ (view_of before).heard
   pub marks : (view_of now).marks ≡ with_scan (view_of before).marks (view_of now).marks.polls ((view_of before).marks.loads ++ (held_polls (unflagged spare.retired flags place) ++ OfSlot entry.slot true ∷ []))
 
-abbrev pub PassesFor : Table → Spare → Spare → List Bool → MapSeat → MapSeat → Option Taken → Type 0
-PassesFor table spare after flags before now (Some taken) = PassTakes table spare after flags before now taken
-PassesFor table spare after flags before now None = (after ≡ spare) × PassedTo table spare flags before now (length spare.retired)
+abbrev pub PassesFor : Table → List Bool → MapSeat → Spare → MapSeat → Spare → Option Taken → Type 0
+PassesFor table flags before spare now after (Some taken) = PassTakes table flags before spare now after taken
+PassesFor table flags before spare now after None = (after ≡ spare) × PassedTo table spare flags before now (length spare.retired)

@@ -60,8 +60,8 @@ pub record Holds (shape : Shape) (role : Role) : Type 0 where
   pub row_set : IsRowSet (bound_of shape) (rows_held role)
 
 -- one step that learns the history so far, and adds these entries to it
-abbrev pub Advances : View → List Entry → View → Type 0
-Advances old entries new = (table : TableId) → Grows 1 (caller_of table old) entries (caller_of table new)
+abbrev pub Advances : List Entry → View → View → Type 0
+Advances entries old new = (table : TableId) → Grows 1 entries (caller_of table old) (caller_of table new)
 
 -- one step that learns nothing
 abbrev pub Waits : View → View → Type 0
@@ -73,7 +73,7 @@ Then = Step (Unit {0}) → Me (Unit {0}) View → ℕ → Me (Unit {0}) View →
 -- a request: the reader holds nothing before and after
 pub record Asked (key found : ℕ) (old new : View) : Type 0 where
   pub role : new.role ≡ old.role
-  pub gains : Advances old (entry (caller_number old.role) (model.Ask key) (ask_word found) ∷ []) new
+  pub gains : Advances (entry (caller_number old.role) (model.Ask key) (ask_word found) ∷ []) old new
   pub marks : new.marks ≡ old.marks
   pub says : new.says ≡ old.says
 
@@ -83,8 +83,8 @@ has_asked step (before, _) found (after, _) = Asked step.word found before after
 -- an arrive: the reader holds the slot with the set that the key had, or the key was a hole
 pub record Arrived (key found : ℕ) (old new : View) : Type 0 where
   pub number : caller_number new.role ≡ caller_number old.role
-  pub held : is_filled found ≡ true → Holds old.shape new.role × (slot_held new.role ≡ slot_of found) × Advances old (entry (caller_number old.role) (model.Find key) (reply.Rows (rows_held new.role)) ∷ []) new
-  pub hole : is_filled found ≡ false → (new.role ≡ old.role) × Advances old (entry (caller_number old.role) (model.Find key) reply.Hole ∷ []) new
+  pub held : is_filled found ≡ true → Holds old.shape new.role × (slot_held new.role ≡ slot_of found) × Advances (entry (caller_number old.role) (model.Find key) (reply.Rows (rows_held new.role)) ∷ []) old new
+  pub hole : is_filled found ≡ false → (new.role ≡ old.role) × Advances (entry (caller_number old.role) (model.Find key) reply.Hole ∷ []) old new
   -- one act more; the set has the number of what was put last for the key
   pub marks : new.marks ≡ acted old.marks (put_number new.seen key)
   pub says : new.says ≡ old.says
@@ -106,8 +106,8 @@ has_read_word step (before, _) found (after, _) = Read step.word found before af
 -- a reader that holds a slot finds a key again: where the key's word names that slot, the find is an entry, and the key has the set that the reader holds; else it learns the history so far
 pub record FoundAgain (key found : ℕ) (old new : View) : Type 0 where
   pub role : new.role ≡ old.role
-  pub same : names_slot (slot_held old.role) found ≡ true → Advances old (entry (caller_number old.role) (model.Find key) (reply.Rows (rows_held old.role)) ∷ []) new
-  pub other : names_slot (slot_held old.role) found ≡ false → Advances old [] new
+  pub same : names_slot (slot_held old.role) found ≡ true → Advances (entry (caller_number old.role) (model.Find key) (reply.Rows (rows_held old.role)) ∷ []) old new
+  pub other : names_slot (slot_held old.role) found ≡ false → Advances [] old new
   pub inside : (slot : ℕ) → name_number found ≡ suc slot → slot < old.shape.slots
   pub marks : new.marks ≡ found_again (names_slot (slot_held old.role) found) (with_look old.marks key (name_number found))
   -- whether the key still has the put number of the hold
@@ -164,7 +164,7 @@ pub record Lacks (call : Call) (counts : NoSlot) (caller : Caller) : Type 0 wher
 -- a step of the writer's call leads to the desk of the outcome, and adds its entry where it ends the call with a reply
 pub record Leads (call : Call) (outcome : Desk × CallStep) (old new : View) : Type 0 where
   pub role : new.role ≡ Writer (desk_in outcome)
-  pub advances : Advances old (ending call (step_in outcome)) new
+  pub advances : Advances (ending call (step_in outcome)) old new
   pub room : Room old.shape (desk_in outcome)
   pub numbers : AreNumbers old.shape (map_after old.shape new.seen) (desk_in outcome).numbers
   pub short : (counts : NoSlot) → step_in outcome ≡ Ended (writer.NoSlot counts) → (id : TableId) → Lacks call counts (caller_of id new)
@@ -246,7 +246,7 @@ next_put desk = moved_to desk (put_place desk.place)
 -- a put finds a word that tells nothing
 pub record Put (desk : Desk) (old new : View) : Type 0 where
   pub role : new.role ≡ Writer (next_put desk)
-  pub advances : Advances old [] new
+  pub advances : Advances [] old new
   pub room : Room old.shape (next_put desk)
   pub numbers : AreNumbers old.shape (map_after old.shape new.seen) desk.numbers
   pub marks : new.marks ≡ old.marks

@@ -31,7 +31,7 @@ use Rattle.nr_board.specs.WriterSeats.{MapSeat}
 
 -- the token counts the step, and its marks tell what the poll of that retired slot found
 abbrev pub ProbesTo : Shape → Retired → ℕ → View → View → Type 0
-ProbesTo shape entry found old new = (new ≡ record old { steps = old.steps + 1; marks = new.marks }) × ProbeTells (same_count found entry.arrivals) shape old.marks entry.slot new.marks
+ProbesTo shape entry found old new = (new ≡ record old { steps = old.steps + 1; marks = new.marks }) × ProbeTells (same_count found entry.arrivals) shape entry.slot old.marks new.marks
 
 -- a load of a retired slot's departures by a writer between two calls
 abbrev pub has_probed : Then

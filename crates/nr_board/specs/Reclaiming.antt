@@ -33,30 +33,36 @@ module _ {Room : Type 0} (shows : Room → List Row → Type 0) where
   abbrev pub HandsOutAt : Table → Spare → Marks → ℕ → Room → Room → ℕ → Reclaimed → Type 0
   HandsOutAt table spare marks slot before after steps given = HandsOut table.shape.rows spare slot (set_in marks slot) before after steps given
 
-  -- the search for a slot, as it stands after those steps
-  abbrev pub TakesReclaiming : Table → WriterCall → List Row → Spare → Spare → MapSeat → MapSeat → Room → Room → Result (Taken × Reclaimed) NoSlot → Type 0
-  TakesReclaiming table call rows spare after old new room then (Ok (taken, given)) = (steps : ℕ) × TakesSlot table call rows taken.slot taken.departures spare after (later steps old) new
-      × HandsOutAt table spare (view_of old).marks taken.slot room then steps given
-  TakesReclaiming table call rows spare after old new room then (Err counts) = LacksSlot table call counts spare after old new × (then ≡ room)
+  -- what a search changes: the writer's seat, its slots, and the room
+  pub record Searcher : Type 0 where
+    pub seat : MapSeat
+    pub spare : Spare
+    pub room : Room
 
-  abbrev pub PublishesReclaiming : Table → WriterCall → List Row → Spare → Spare → MapSeat → MapSeat → Room → Room → Result Reclaimed NoSlot → Type 0
-  PublishesReclaiming table call rows spare after old new room then (Ok given) = (steps : ℕ) × (published : PublishesSet table call rows spare after (later steps old) new)
-      × HandsOutAt table spare (view_of old).marks published.slot room then steps given
-  PublishesReclaiming table call rows spare after old new room then (Err counts) = LacksSlot table call counts spare after old new × (then ≡ room)
+  -- the search for a slot, as it stands after those steps
+  abbrev pub TakesReclaiming : Table → WriterCall → List Row → Searcher → Searcher → Result (Taken × Reclaimed) NoSlot → Type 0
+  TakesReclaiming table call rows old new (Ok taken) = (steps : ℕ) × TakesSlot table call rows (later steps old.seat) old.spare new.seat new.spare taken.0.slot taken.0.departures
+      × HandsOutAt table old.spare old.seat.me.0.marks taken.0.slot old.room new.room steps taken.1
+  TakesReclaiming table call rows old new (Err counts) = LacksSlot table call old.seat old.spare new.seat new.spare counts × (new.room ≡ old.room)
+
+  abbrev pub PublishesReclaiming : Table → WriterCall → List Row → Searcher → Searcher → Result Reclaimed NoSlot → Type 0
+  PublishesReclaiming table call rows old new (Ok given) = (steps : ℕ) × (published : PublishesSet table call rows (later steps old.seat) old.spare new.seat new.spare)
+      × HandsOutAt table old.spare old.seat.me.0.marks published.slot old.room new.room steps given
+  PublishesReclaiming table call rows old new (Err counts) = LacksSlot table call old.seat old.spare new.seat new.spare counts × (new.room ≡ old.room)
 
   -- a call that put its set, besides that many other steps, and gave out what the slot had
-  pub record PutsAndGives (others : ℕ) (old : Caller) (call : Call) (rows : List Row) (room : Room) (new : Caller) (then : Room) (given : Reclaimed) : Type 0 where
+  pub record PutsAndGives (others : ℕ) (call : Call) (rows : List Row) (old : Caller) (room : Room) (new : Caller) (then : Room) (given : Reclaimed) : Type 0 where
     pub steps : ℕ
-    pub published : Publishes (others + steps) old call rows new
+    pub published : Publishes (others + steps) call rows old new
     pub gives : HandsOutAt old.table (spare_of old) old.marks published.slot room then steps given
 
   -- A call that did not put its set leaves the room as it was.
   abbrev pub FillsReclaiming : ℕ → ℕ → List Row → Caller → Room → Caller → Room → Result Reclaimed FillFault → Type 0
-  FillsReclaiming key number rows old room new then (Ok given) = PutsAndGives 1 old (model.Fill key number rows) rows room new then given
+  FillsReclaiming key number rows old room new then (Ok given) = PutsAndGives 1 (model.Fill key number rows) rows old room new then given
   FillsReclaiming key number rows old room new then (Err fault) = FillsKey key number rows old new (Err fault) × (then ≡ room)
 
   abbrev pub ReplacesReclaiming : ℕ → List Row → Caller → Room → Caller → Room → Result Reclaimed ReplaceFault → Type 0
-  ReplacesReclaiming key rows old room new then (Ok given) = PutsAndGives 1 old (model.Replace key rows) rows room new then given
+  ReplacesReclaiming key rows old room new then (Ok given) = PutsAndGives 1 (model.Replace key rows) rows old room new then given
   ReplacesReclaiming key rows old room new then (Err fault) = ReplacesKey key rows old new (Err fault) × (then ≡ room)
 
   -- an update that looked, read the key's set, put the rows left, and gave out what the slot had
@@ -65,7 +71,7 @@ module _ {Room : Type 0} (shows : Room → List Row → Type 0) where
     pub left : List Row
     pub applies : applied bound set batch ≡ Ok left
     pub steps : ℕ
-    pub published : Publishes (2 * length set + 2 + steps) old (model.Update key batch) left new
+    pub published : Publishes (2 * length set + 2 + steps) (model.Update key batch) left old new
     pub had : KeyHad key set old published.gains.between
     pub gives : HandsOutAt old.table (spare_of old) old.marks published.slot room then steps given
 

@@ -23,7 +23,7 @@ use Rattle.nr_board.specs.Views.{view_of}
 use Rattle.nr_board.specs.WordLoads.{WordsTell}
 use Rattle.nr_board.specs.WriterSeats.{MapSeat, WritesAt}
 
-pub record SearchTakes (table : Table) (spare after : Spare) (before now : MapSeat) (taken : Taken) : Type 0 where
+pub record SearchTakes (table : Table) (before : MapSeat) (spare : Spare) (now : MapSeat) (after : Spare) (taken : Taken) : Type 0 where
   pub place : ℕ
   pub entry : Retired
   pub here : get_elem? spare.retired place ≡ some entry
@@ -32,13 +32,13 @@ pub record SearchTakes (table : Table) (spare after : Spare) (before now : MapSe
   pub writes : (desk : Desk) (call : WriterCall) (rows : List Row) → (view_of before).role ≡ Writer desk → desk.place ≡ Searching call rows 0 → WritesAt table (taking_retired desk call rows place taken.departures) now
   pub loads : List LoggedLoad
   pub takes : SearchedTo table (view_of before).heard (view_of now).heard loads spare.retired place taken.slot
-  pub grows : Grows (length loads) (token before) [] (token now)
+  pub grows : Grows (length loads) [] (token before) (token now)
   -- no pass polled more slots that were held than there are readers
   pub few : length loads ≤ table.shape.readers + table.announcers + (table.shape.readers + 1)
   pub marks : (view_of now).marks ≡ with_scan (view_of before).marks (view_of now).marks.polls ((view_of before).marks.loads ++ loads)
 
 -- there is no slot: each is a filled key's, or is retired and kept back by a reader, each by another one
-pub record SearchLacks (table : Table) (spare after : Spare) (before now : MapSeat) (counts : NoSlot) : Type 0 where
+pub record SearchLacks (table : Table) (before : MapSeat) (spare : Spare) (now : MapSeat) (after : Spare) (counts : NoSlot) : Type 0 where
   pub same : after ≡ spare
   pub counts_are : counts ≡ none_spare spare
   pub writes : (desk : Desk) (call : WriterCall) (rows : List Row) → (view_of before).role ≡ Writer desk → desk.place ≡ Searching call rows 0
@@ -51,9 +51,9 @@ pub record SearchLacks (table : Table) (spare after : Spare) (before now : MapSe
   pub words : WordsTell table.announcers spare.retired table.shape.slots scan (view_of now).heard
   pub loads : List LoggedLoad
   pub loads_are : loads ≡ held_polls (heard_all table.announcers (view_of before).heard spare.retired) ++ (scan ++ held_polls (heard_all table.announcers (view_of now).heard spare.retired))
-  pub grows : Grows (length loads + 1) (token before) [] (token now)
+  pub grows : Grows (length loads + 1) [] (token before) (token now)
   pub marks : (view_of now).marks ≡ with_scan (view_of before).marks (view_of now).marks.polls ((view_of before).marks.loads ++ loads)
 
-abbrev pub SearchesFor : Table → Spare → Spare → MapSeat → MapSeat → Result Taken NoSlot → Type 0
-SearchesFor table spare after before now (Ok taken) = SearchTakes table spare after before now taken
-SearchesFor table spare after before now (Err counts) = SearchLacks table spare after before now counts
+abbrev pub SearchesFor : Table → MapSeat → Spare → MapSeat → Spare → Result Taken NoSlot → Type 0
+SearchesFor table before spare now after (Ok taken) = SearchTakes table before spare now after taken
+SearchesFor table before spare now after (Err counts) = SearchLacks table before spare now after counts

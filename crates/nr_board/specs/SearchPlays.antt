@@ -30,7 +30,7 @@ tried desk call rows poll found = (if same_count found (retired_at desk poll).ar
 pub record Tried (desk : Desk) (call : WriterCall) (rows : List Row) (poll found : ℕ) (old new : View) : Type 0 where
   pub leads : Leads (call_of call) (tried desk call rows poll found, Going) old new
   pub notes : NotesTell new.seen old.marks.polls new.marks.polls
-  pub marks : TryTells (same_count found (retired_at desk poll).arrivals) old.shape old.marks (retired_at desk poll).slot new.marks
+  pub marks : TryTells (same_count found (retired_at desk poll).arrivals) old.shape (retired_at desk poll).slot old.marks new.marks
   pub heard : new.heard ≡ old.heard
 
 abbrev pub has_tried : Then

@@ -8,10 +8,10 @@ use Rattle.nr_board.specs.Callers.{Table}
 use Rattle.nr_machine.specs.Spares.{Spare}
 use Rattle.nr_board.specs.WriterSeats.{LacksSlot, MapSeat, PublishesSet, TakesSlot}
 
-abbrev pub TakesFor : Table → WriterCall → List Row → Spare → Spare → MapSeat → MapSeat → Result Taken NoSlot → Type 0
-TakesFor table call rows spare after old new (Ok taken) = TakesSlot table call rows taken.slot taken.departures spare after old new
-TakesFor table call rows spare after old new (Err counts) = LacksSlot table call counts spare after old new
+abbrev pub TakesFor : Table → WriterCall → List Row → MapSeat → Spare → MapSeat → Spare → Result Taken NoSlot → Type 0
+TakesFor table call rows old spare new after (Ok taken) = TakesSlot table call rows old spare new after taken.slot taken.departures
+TakesFor table call rows old spare new after (Err counts) = LacksSlot table call old spare new after counts
 
-abbrev pub PublishesFor : Table → WriterCall → List Row → Spare → Spare → MapSeat → MapSeat → Result (Unit {0}) NoSlot → Type 0
-PublishesFor table call rows spare after old new (Ok done) = PublishesSet table call rows spare after old new
-PublishesFor table call rows spare after old new (Err counts) = LacksSlot table call counts spare after old new
+abbrev pub PublishesFor : Table → WriterCall → List Row → MapSeat → Spare → MapSeat → Spare → Result (Unit {0}) NoSlot → Type 0
+PublishesFor table call rows old spare new after (Ok done) = PublishesSet table call rows old spare new after
+PublishesFor table call rows old spare new after (Err counts) = LacksSlot table call old spare new after counts

@@ -38,8 +38,8 @@ saying says view = record view { says = says }
 pub record LookedUp (key found : ℕ) (old new : View) : Type 0 where
   pub role : new.role ≡ old.role
   pub says : new.says ≡ old.says
-  pub hole : is_filled found ≡ false → Advances old (entry (caller_number old.role) (model.Find key) reply.Hole ∷ []) new
-  pub named : is_filled found ≡ true → Advances old [] new
+  pub hole : is_filled found ≡ false → Advances (entry (caller_number old.role) (model.Find key) reply.Hole ∷ []) old new
+  pub named : is_filled found ≡ true → Advances [] old new
   pub marks : new.marks ≡ (if is_filled found then with_look old.marks key (name_number found) else acted (with_look old.marks key (name_number found)) (put_number new.seen key))
 
 abbrev pub has_looked_up : Then
@@ -51,7 +51,7 @@ pub record HoldsSaid (key : ℕ) (old new : View) : Type 0 where
   pub says : new.says ≡ old.says
   pub holds : Holds old.shape new.role
   pub slot : slot_held new.role ≡ slot_said old
-  pub gains : Advances old (entry (caller_number old.role) (model.Find key) (reply.Rows (rows_held new.role)) ∷ []) new
+  pub gains : Advances (entry (caller_number old.role) (model.Find key) (reply.Rows (rows_held new.role)) ∷ []) old new
   pub marks : new.marks ≡ acted (with_look old.marks key (suc (slot_said old))) (put_number new.seen key)
 
 -- a second look, by a reader whose word announces a slot; else it is as the first one

@@ -114,7 +114,7 @@ pub record IsWithdrawing (table : Table) (key number : ℕ) (seat : MapSeat) : T
 -- that many steps of a call, to the desk of the outcome, with the entry of a call that ends there with a reply
 pub record LeadsIn (steps : ℕ) (table : Table) (call : Call) (outcome : Desk × Step) (old new : MapSeat) : Type 0 where
   pub writes : WritesAt table (desk_in outcome) new
-  pub grows : Grows steps (token old) (ending call (step_in outcome)) (token new)
+  pub grows : Grows steps (ending call (step_in outcome)) (token old) (token new)
   pub short : (counts : NoSlot) → step_in outcome ≡ Ended (writer.NoSlot counts) → Lacks call counts (token new)
 
 abbrev pub LeadsTo : Table → Call → Desk × Step → MapSeat → MapSeat → Type 0
@@ -136,7 +136,7 @@ GoesOn table found old new = (desk : Desk) → (view_of old).role ≡ Writer des
 -- a put
 pub record PutsTo (table : Table) (desk : Desk) (old new : MapSeat) : Type 0 where
   pub writes : WritesAt table (next_put desk) new
-  pub grows : Grows 1 (token old) [] (token new)
+  pub grows : Grows 1 [] (token old) (token new)
   pub marks : (view_of new).marks ≡ (view_of old).marks
   pub heard : (view_of new).heard ≡ heard_at desk.place (view_of old).heard
 
@@ -160,7 +160,7 @@ abbrev pub swept : Shape → Desk → WriterCall → List Row → ℕ → Desk �
 swept shape desk call rows polls = (if nat_lt polls (length desk.retired) then (moved_to desk (Searching call rows polls), Going) else (moved_to desk Idle, no_slot shape desk))
 
 -- the slot that a call took, with its departures, or there was none
-pub record TakesSlot (table : Table) (call : WriterCall) (rows : List Row) (slot departed : ℕ) (spare after : Spare) (old new : MapSeat) : Type 0 where
+pub record TakesSlot (table : Table) (call : WriterCall) (rows : List Row) (old : MapSeat) (spare : Spare) (new : MapSeat) (after : Spare) (slot departed : ℕ) : Type 0 where
   pub steps : ℕ
   pub loads : List LoggedLoad
   pub took : TookBySearch table (view_of old).heard (view_of new).heard loads slot steps spare after
@@ -169,23 +169,23 @@ pub record TakesSlot (table : Table) (call : WriterCall) (rows : List Row) (slot
   pub numbers : after.numbers ≡ spare.numbers
   pub reaped : after.reaped ≡ spare.reaped
   pub writes : WritesAt table (desk_with after (Putting call rows slot departed 0)) new
-  pub grows : Grows steps (token old) [] (token new)
+  pub grows : Grows steps [] (token old) (token new)
   pub marks : (view_of new).marks ≡ with_scan (view_of old).marks (view_of new).marks.polls ((view_of old).marks.loads ++ loads)
 
-pub record LacksSlot (table : Table) (call : WriterCall) (counts : NoSlot) (spare after : Spare) (old new : MapSeat) : Type 0 where
+pub record LacksSlot (table : Table) (call : WriterCall) (old : MapSeat) (spare : Spare) (new : MapSeat) (after : Spare) (counts : NoSlot) : Type 0 where
   pub same : after ≡ spare
   pub writes : WritesAt table (desk_with spare Idle) new
   pub steps : ℕ
   pub loads : List LoggedLoad
   pub searched : SearchedAll table (view_of old).heard (view_of new).heard loads spare.retired steps
-  pub grows : Grows steps (token old) [] (token new)
+  pub grows : Grows steps [] (token old) (token new)
   pub lacks : Lacks (call_of call) counts (token new)
   pub noted : table.announcers ≡ 0 → Noted table.shape (view_of old).pasts (view_of new).marks.polls
   pub held : table.announcers ≡ 0 → AllHeldThen (view_of old).seen (view_of new).seen (view_of new).marks.polls
   pub marks : (view_of new).marks ≡ with_scan (view_of old).marks (view_of new).marks.polls ((view_of old).marks.loads ++ loads)
 
 -- the set was published: the call's last step is its entry, and the slot that the key named before is retired
-pub record PublishesSet (table : Table) (call : WriterCall) (rows : List Row) (spare after : Spare) (old new : MapSeat) : Type 0 where
+pub record PublishesSet (table : Table) (call : WriterCall) (rows : List Row) (old : MapSeat) (spare : Spare) (new : MapSeat) (after : Spare) : Type 0 where
   pub steps : ℕ
   pub slot : ℕ
   pub inside : slot < table.shape.slots
@@ -211,7 +211,7 @@ pub record PublishesSet (table : Table) (call : WriterCall) (rows : List Row) (s
   pub put : slice_index (view_of new).marks.puts slot ≡ number
   pub marks : (view_of new).marks ≡ with_name (with_loads (view_of old).marks ((view_of old).marks.loads ++ loads)) (key_of call) slot number rows
   pub writes : WritesAt table (desk_with after Idle) new
-  pub grows : Grows (2 * length rows + 2 + steps) (token old) (entry 0 (call_of call) reply.Done ∷ []) (token new)
+  pub grows : Grows (2 * length rows + 2 + steps) (entry 0 (call_of call) reply.Done ∷ []) (token old) (token new)
 
 -- the writer between two calls, with its slots
 pub record RestsAt (table : Table) (spare : Spare) (seat : MapSeat) : Type 0 where

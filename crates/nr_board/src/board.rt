@@ -192,7 +192,7 @@ impl Board {
         requires reader { IdlesAt self.now seat.old }
         requires key { key < self.now.shape.keys }
         ensures reader { IdlesAt self.now seat.new }
-        ensures gains { Gains 1 (token seat.old) (model.Ask key) (ask_word result) (token seat.new) }
+        ensures gains { Gains 1 (model.Ask key) (token seat.old) (token seat.new) (ask_word result) }
         ensures marks { (view_of seat.new).marks ≡ (view_of seat.old).marks }
     {
         let words = &self.table.shared;
@@ -204,8 +204,8 @@ impl Board {
     pub fn arrive(&self, seat: &mut Seat, key: u32) -> u64
         requires reader { IdlesAt self.now seat.old }
         requires key { key < self.now.shape.keys }
-        ensures hole { is_filled result ≡ false → IdlesAt self.now seat.new × Gains 1 (token seat.old) (model.Find key) reply.Hole (token seat.new) }
-        ensures held { is_filled result ≡ true → HoldsAt self.now (content self.now.shape (slot_of result) 0) seat.new × Gains 1 (token seat.old) (model.Find key) (reply.Rows (rows_held (view_of seat.new).role)) (token seat.new) }
+        ensures hole { is_filled result ≡ false → IdlesAt self.now seat.new × Gains 1 (model.Find key) (token seat.old) (token seat.new) reply.Hole }
+        ensures held { is_filled result ≡ true → HoldsAt self.now (content self.now.shape (slot_of result) 0) seat.new × Gains 1 (model.Find key) (token seat.old) (token seat.new) (reply.Rows (rows_held (view_of seat.new).role)) }
         ensures marks { (view_of seat.new).marks ≡ acted (view_of seat.old).marks (put_number (view_of seat.new).seen key) }
         ensures says { (view_of seat.new).says ≡ (view_of seat.old).says }
     {
@@ -219,8 +219,8 @@ impl Board {
         requires reader { IdlesAt self.now seat.old }
         requires key { key < self.now.shape.keys }
         ensures reader { IdlesAt self.now seat.new }
-        ensures hole { is_filled result ≡ false → Gains 1 (token seat.old) (model.Find key) reply.Hole (token seat.new) }
-        ensures named { is_filled result ≡ true → Grows 1 (token seat.old) [] (token seat.new) }
+        ensures hole { is_filled result ≡ false → Gains 1 (model.Find key) (token seat.old) (token seat.new) reply.Hole }
+        ensures named { is_filled result ≡ true → Grows 1 [] (token seat.old) (token seat.new) }
         ensures marks { (view_of seat.new).marks ≡ (if is_filled result then with_look (view_of seat.old).marks key (name_number result) else acted (with_look (view_of seat.old).marks key (name_number result)) (put_number (view_of seat.new).seen key)) }
     {
         let words = &self.table.shared;
@@ -248,9 +248,9 @@ impl Board {
         requires reader { AnnouncesAt self.now slot seat.old }
         requires word { HasWord own.index (view_of seat.old) }
         requires key { key < self.now.shape.keys }
-        ensures held { names_slot slot result ≡ true → HoldsAt self.now (content self.now.shape slot 0) seat.new × Gains 1 (token seat.old) (model.Find key) (reply.Rows (rows_held (view_of seat.new).role)) (token seat.new) }
-        ensures hole { is_filled result ≡ false → AnnouncesAt self.now slot seat.new × Gains 1 (token seat.old) (model.Find key) reply.Hole (token seat.new) }
-        ensures other { names_slot slot result ≡ false → is_filled result ≡ true → AnnouncesAt self.now slot seat.new × Grows 1 (token seat.old) [] (token seat.new) }
+        ensures held { names_slot slot result ≡ true → HoldsAt self.now (content self.now.shape slot 0) seat.new × Gains 1 (model.Find key) (token seat.old) (token seat.new) (reply.Rows (rows_held (view_of seat.new).role)) }
+        ensures hole { is_filled result ≡ false → AnnouncesAt self.now slot seat.new × Gains 1 (model.Find key) (token seat.old) (token seat.new) reply.Hole }
+        ensures other { names_slot slot result ≡ false → is_filled result ≡ true → AnnouncesAt self.now slot seat.new × Grows 1 [] (token seat.old) (token seat.new) }
         ensures says { (view_of seat.new).says ≡ (view_of seat.old).says }
         ensures word { HasWord own.index (view_of seat.new) }
         ensures found { (names_slot slot result ≡ true) ⊎ (is_filled result ≡ false) → (view_of seat.new).marks ≡ acted (with_look (view_of seat.old).marks key (name_number result)) (put_number (view_of seat.new).seen key) }
@@ -309,8 +309,8 @@ impl Board {
         requires key { key < self.now.shape.keys }
         ensures reader { HoldsAt self.now (content self.now.shape slot 0) seat.new }
         ensures role { (view_of seat.new).role ≡ (view_of seat.old).role }
-        ensures same { names_slot slot result ≡ true → Gains 1 (token seat.old) (model.Find key) (reply.Rows (rows_held (view_of seat.old).role)) (token seat.new) }
-        ensures other { names_slot slot result ≡ false → Grows 1 (token seat.old) [] (token seat.new) }
+        ensures same { names_slot slot result ≡ true → Gains 1 (model.Find key) (token seat.old) (token seat.new) (reply.Rows (rows_held (view_of seat.old).role)) }
+        ensures other { names_slot slot result ≡ false → Grows 1 [] (token seat.old) (token seat.new) }
         ensures exact { (names_slot slot result ≡ true) ↔ HasPut key (view_of seat.old).marks.put (token seat.new) }
         ensures marks { (view_of seat.new).marks ≡ found_again (names_slot slot result) (with_look (view_of seat.old).marks key (name_number result)) }
         ensures says { (view_of seat.new).says ≡ (view_of seat.old).says }
@@ -328,8 +328,8 @@ impl Board {
         requires key { key < self.now.shape.keys }
         ensures reader { HoldsAt self.now (content self.now.shape slot 0) seat.new }
         ensures role { (view_of seat.new).role ≡ (view_of seat.old).role }
-        ensures same { result ≡ true → Gains 1 (token seat.old) (model.Find key) (reply.Rows (rows_held (view_of seat.old).role)) (token seat.new) }
-        ensures other { result ≡ false → Grows 1 (token seat.old) [] (token seat.new) }
+        ensures same { result ≡ true → Gains 1 (model.Find key) (token seat.old) (token seat.new) (reply.Rows (rows_held (view_of seat.old).role)) }
+        ensures other { result ≡ false → Grows 1 [] (token seat.old) (token seat.new) }
         ensures exact { (result ≡ true) ↔ HasPut key (view_of seat.old).marks.put (token seat.new) }
         ensures marks { LooksAgain key (token seat.old).holds result (view_of seat.old).marks (view_of seat.new).marks }
         ensures says { (view_of seat.new).says ≡ (view_of seat.old).says }
@@ -556,8 +556,8 @@ impl Board {
         requires own { ((token seat.old).table ≡ self.now) × (note.table_id ≡ self.now.id) }
         requires note { IsNote note }
         requires caller { IsCaller (view_of seat.old).role }
-        ensures hears { HearsNote 1 (token seat.old) (known_to (token note)) (token seat.new) }
-        ensures readers { HearsOf (view_of seat.old) (view_of note) (view_of seat.new) }
+        ensures hears { HearsNote 1 (known_to (token note)) (token seat.old) (token seat.new) }
+        ensures readers { HearsOf (view_of note) (view_of seat.old) (view_of seat.new) }
         ensures numbers { (desk : Desk) → (view_of seat.old).role ≡ Writer desk → AreNumbers self.now.shape (map_seen (token seat.new)) desk.numbers }
         ensures role { (seat.new.table_id ≡ seat.old.table_id) × ((view_of seat.new).role ≡ (view_of seat.old).role) }
         ensures says { (view_of seat.new).says ≡ (view_of seat.old).says }

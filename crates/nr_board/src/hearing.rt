@@ -34,8 +34,8 @@ impl Board {
         requires own { ((token seat.old).table ≡ self.now) × ((token other.old).table ≡ self.now) }
         requires caller { IsCaller (view_of seat.old).role }
         requires knows { KnowsOwn (token other.old) }
-        ensures meets { Meets 1 (token seat.old) (token other.old) (token seat.new) }
-        ensures readers { HearsOf (view_of seat.old) (note_of (view_of other.old)) (view_of seat.new) }
+        ensures meets { Meets 1 (token other.old) (token seat.old) (token seat.new) }
+        ensures readers { HearsOf (note_of (view_of other.old)) (view_of seat.old) (view_of seat.new) }
         ensures numbers { (desk : Desk) → (view_of seat.old).role ≡ writer_role desk → AreNumbers self.now.shape (map_seen (token seat.new)) desk.numbers }
         ensures role { (seat.new.table_id ≡ seat.old.table_id) × ((view_of seat.new).role ≡ (view_of seat.old).role) }
         ensures says { (view_of seat.new).says ≡ (view_of seat.old).says }

@@ -44,7 +44,7 @@ impl Board {
         requires flagged { IsFlagged self.now spare.old.retired (view_of seat.old).heard unheard.old }
         requires call { key ≡ key_of G.call }
         requires key { key < self.now.shape.keys }
-        ensures publishes { PublishesFor self.now G.call rows.now spare.old spare.new seat.old seat.new result }
+        ensures publishes { PublishesFor self.now G.call rows.now seat.old spare.old seat.new spare.new result }
         ensures flagged { IsFlagged self.now spare.new.retired (view_of seat.new).heard unheard.new }
     {
         let taken = self.take_slot::<G>(seat, spare, unheard, rows)?;
@@ -68,7 +68,7 @@ impl Board {
     ) -> Result<Taken, NoSlot>
         requires settles { Settles self.now G.call rows.now spare.old seat.old }
         requires flagged { IsFlagged self.now spare.old.retired (view_of seat.old).heard unheard.old }
-        ensures takes { TakesFor self.now G.call rows.now spare.old spare.new seat.old seat.new result }
+        ensures takes { TakesFor self.now G.call rows.now seat.old spare.old seat.new spare.new result }
         ensures flagged { IsFlagged self.now spare.old.retired (view_of seat.new).heard unheard.new }
     {
         if let Some(slot) = spare.take_fresh() {
@@ -90,7 +90,7 @@ impl Board {
         requires settles { Settles self.now G.call rows.now spare.old seat.old }
         requires none_fresh { spare.old.slots ≤ spare.old.fresh }
         requires flagged { IsFlagged self.now spare.old.retired (view_of seat.old).heard unheard.old }
-        ensures takes { TakesFor self.now G.call rows.now spare.old spare.new seat.old seat.new result }
+        ensures takes { TakesFor self.now G.call rows.now seat.old spare.old seat.new spare.new result }
         ensures flagged { IsFlagged self.now spare.old.retired (view_of seat.new).heard unheard.new }
     {
         if self.announcers() == 0 {
@@ -112,7 +112,7 @@ impl Board {
         requires settles { Settles self.now G.call rows.now spare.old seat.old }
         requires none_fresh { spare.old.slots ≤ spare.old.fresh }
         requires counted { self.now.announcers ≡ 0 }
-        ensures { TakesFor self.now G.call rows.now spare.old spare.new seat.old seat.new result }
+        ensures { TakesFor self.now G.call rows.now seat.old spare.old seat.new spare.new result }
     {
         only_proved(rows);
         let Some(oldest) = spare.take_oldest() else {
@@ -156,7 +156,7 @@ impl Board {
         requires flagged { IsFlagged self.now spare.old.retired (view_of seat.old).heard unheard.old }
         requires call { key ≡ key_of G.call }
         requires key { key < self.now.shape.keys }
-        ensures publishes { PublishesReclaiming R.shows self.now G.call rows.now spare.old spare.new seat.old seat.new had.old had.new result }
+        ensures publishes { PublishesReclaiming R.shows self.now G.call rows.now (record { seat = seat.old; spare = spare.old; room = had.old }) (record { seat = seat.new; spare = spare.new; room = had.new }) result }
         ensures flagged { IsFlagged self.now spare.new.retired (view_of seat.new).heard unheard.new }
     {
         let (taken, given) = self.take_reclaiming::<G, R>(seat, spare, unheard, rows, had)?;
@@ -181,7 +181,7 @@ impl Board {
     ) -> Result<(Taken, Reclaimed), NoSlot>
         requires settles { Settles self.now G.call rows.now spare.old seat.old }
         requires flagged { IsFlagged self.now spare.old.retired (view_of seat.old).heard unheard.old }
-        ensures takes { TakesReclaiming R.shows self.now G.call rows.now spare.old spare.new seat.old seat.new had.old had.new result }
+        ensures takes { TakesReclaiming R.shows self.now G.call rows.now (record { seat = seat.old; spare = spare.old; room = had.old }) (record { seat = seat.new; spare = spare.new; room = had.new }) result }
         ensures flagged { IsFlagged self.now spare.old.retired (view_of seat.new).heard unheard.new }
     {
         if let Some(slot) = spare.take_fresh() {
@@ -200,7 +200,7 @@ impl Board {
         requires writer { WritesAt self.now (moved_to (desk_of (view_of seat.old).role) (Putting G.call rows.now taken.slot taken.departures 0)) seat.old }
         requires knows { IsSound (token seat.old) }
         ensures writer { WritesAt self.now (moved_to (desk_of (view_of seat.old).role) (Putting G.call rows.now taken.slot taken.departures (2 * length rows.now + 1))) seat.new }
-        ensures grows { Grows (2 * length rows.now + 1) (token seat.old) [] (token seat.new) }
+        ensures grows { Grows (2 * length rows.now + 1) [] (token seat.old) (token seat.new) }
         ensures marks { (view_of seat.new).marks ≡ (view_of seat.old).marks }
         ensures heard { slice_set (view_of seat.new).heard taken.slot 0 ≡ slice_set (view_of seat.old).heard taken.slot 0 }
     {

@@ -28,7 +28,7 @@ impl Board {
         requires some_words { 0 < self.now.announcers }
         requires flagged { Flagged self.now spare.old.retired (view_of seat.old).heard unheard.old }
         requires begins { (view_of seat.old).marks.polls ≡ [] }
-        ensures searches { SearchesFor self.now spare.old spare.new seat.old seat.new result }
+        ensures searches { SearchesFor self.now seat.old spare.old seat.new spare.new result }
         ensures flagged { Flagged self.now spare.old.retired (view_of seat.new).heard unheard.new }
     {
         if let Some(taken) = self.pass(seat, spare, unheard) {
@@ -49,7 +49,7 @@ impl Board {
         requires wide { length unheard.now ≡ self.now.shape.slots }
         requires heard { AreHeard spare.old.retired unheard.now self.now.announcers (view_of seat.old).heard }
         requires notes { NotesTo spare.old.retired unheard.now self.now.shape.readers 0 (length (view_of seat.old).marks.polls) (view_of seat.old).marks.polls }
-        ensures { PassesFor self.now spare.old spare.new unheard.now seat.old seat.new result }
+        ensures { PassesFor self.now unheard.now seat.old spare.old seat.new spare.new result }
     {
         for place in 0..spare.retired_len() {
             let entry = spare.retired_at(place);

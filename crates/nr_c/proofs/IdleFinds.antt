@@ -22,7 +22,7 @@ module _ (key : ℕ) (old new : Handed) (before after : NrRows) (answer : Found)
   pub still_idle : HoldsNone new
   still_idle = ap (λ (h : Handed). h.key) finds.rests
 
-  pub finds_by_code : (code : ℕ) → code ≡ found_code answer → HoldsNone old → FindsByCode key before after code old.reader new.reader
+  pub finds_by_code : (code : ℕ) → code ≡ found_code answer → HoldsNone old → FindsByCode key before after old.reader new.reader code
   finds_by_code code is none = let same = finds.was_idle none in (
     answer,
     is,

@@ -5,67 +5,66 @@ use Rattle.nr_idmap.specs.Keepers.{IdCaller, Keeper, OwesSame}
 use Rattle.nr_c.specs.declared.id_reader_side.IdReaderSide.{IdReaderSide}
 use Rattle.nr_c.specs.declared.id_writer_side.IdWriterSide.{IdWriterSide}
 use Rattle.nr_c.specs.Hands.{HoldsAnId, HoldsNoId}
-use Rattle.nr_c.specs.Ledgers.{Entries}
 use Rattle.nr_c.specs.Live.{IsLive, RefusesHand, WhenLive}
 use Rattle.nr_c.specs.Numbers.{answer_holding, answer_no_key, answer_not_holding}
 
 -- 0 is no id, which the code says, and nothing has changed
-abbrev pub RefusesZero : {Side : Type 0} → ℕ → ℕ → Type 0 → List Side → List Side → Type 0
-RefusesZero id code stays before after = (code ≡ answer_no_key) × (id ≡ 0) × stays × IsLive before × (after ≡ before)
+abbrev pub RefusesZero : {Side : Type 0} → ℕ → Type 0 → List Side → List Side → ℕ → Type 0
+RefusesZero id stays before after code = (code ≡ answer_no_key) × (id ≡ 0) × stays × IsLive before × (after ≡ before)
 
 -- a call with an id: it is refused for 0, and else does what it does
-abbrev pub WithId : {Side : Type 0} → ℕ → ℕ → Type 0 → (List Side → List Side → Type 0) → List Side → List Side → Type 0
-WithId id code stays does before after = RefusesZero id code stays before after ⊎ ((0 < id) × does before after)
+abbrev pub WithId : {Side : Type 0} → ℕ → Type 0 → (List Side → List Side → ℕ → Type 0) → List Side → List Side → ℕ → Type 0
+WithId id stays does before after code = RefusesZero id stays before after code ⊎ ((0 < id) × does before after code)
 
 -- a call of a reader that holds nothing, or of one that holds a set: it is refused by the other
-abbrev pub WhenIdleById : ℕ → Type 0 → (List IdReaderSide → List IdReaderSide → Type 0) → List IdReaderSide → List IdReaderSide → Type 0
-WhenIdleById code stays does before after = RefusesHand (λ (side : IdReaderSide). HoldsAnId side.hand) answer_holding code stays before after ⊎ does before after
+abbrev pub WhenIdleById : Type 0 → (List IdReaderSide → List IdReaderSide → ℕ → Type 0) → List IdReaderSide → List IdReaderSide → ℕ → Type 0
+WhenIdleById stays does before after code = RefusesHand (λ (side : IdReaderSide). HoldsAnId side.hand) answer_holding stays before after code ⊎ does before after code
 
-abbrev pub WhenHoldingById : ℕ → Type 0 → (List IdReaderSide → List IdReaderSide → Type 0) → List IdReaderSide → List IdReaderSide → Type 0
-WhenHoldingById code stays does before after = RefusesHand (λ (side : IdReaderSide). HoldsNoId side.hand) answer_not_holding code stays before after ⊎ does before after
+abbrev pub WhenHoldingById : Type 0 → (List IdReaderSide → List IdReaderSide → ℕ → Type 0) → List IdReaderSide → List IdReaderSide → ℕ → Type 0
+WhenHoldingById stays does before after code = RefusesHand (λ (side : IdReaderSide). HoldsNoId side.hand) answer_not_holding stays before after code ⊎ does before after code
 
 -- a call with an id by a live reader that holds nothing; where it is refused, this stays
-abbrev pub ByIdleIdReader : ℕ → ℕ → Type 0 → (List IdReaderSide → List IdReaderSide → Type 0) → List IdReaderSide → List IdReaderSide → Type 0
-ByIdleIdReader id code stays does = WhenLive code stays (WithId id code stays (WhenIdleById code stays does))
+abbrev pub ByIdleIdReader : ℕ → Type 0 → (List IdReaderSide → List IdReaderSide → ℕ → Type 0) → List IdReaderSide → List IdReaderSide → ℕ → Type 0
+ByIdleIdReader id stays does = WhenLive stays (WithId id stays (WhenIdleById stays does))
 
 -- the handle leads to one side, of the same map before and after, whose reader became another
-pub record IdHandTurns (became : IdHanded → IdHanded → Type 0) (before after : List IdReaderSide) : Type 0 where
+pub record IdHandTurns (became : IdHanded → IdHanded → ℕ → Type 0) (before after : List IdReaderSide) (code : ℕ) : Type 0 where
   pub old : IdReaderSide
   pub new : IdReaderSide
   pub was : before ≡ old ∷ []
   pub is : after ≡ new ∷ []
   pub map : new.map ≡ old.map
-  pub made : became old.hand new.hand
+  pub made : became old.hand new.hand code
 
 -- so one that holds nothing became another such one
-pub record StaysIdle (became : IdCaller → IdCaller → Type 0) (old new : IdHanded) : Type 0 where
+pub record StaysIdle (became : IdCaller → IdCaller → ℕ → Type 0) (old new : IdHanded) (code : ℕ) : Type 0 where
   pub was_idle : HoldsNoId old
   pub is_idle : HoldsNoId new
-  pub became_so : became (reader_of old) (reader_of new)
+  pub became_so : became (reader_of old) (reader_of new) code
 
-abbrev pub IdReaderCalls : (IdCaller → IdCaller → Type 0) → List IdReaderSide → List IdReaderSide → Type 0
-IdReaderCalls became before after = IdHandTurns (StaysIdle became) before after
+abbrev pub IdReaderCalls : (IdCaller → IdCaller → ℕ → Type 0) → List IdReaderSide → List IdReaderSide → ℕ → Type 0
+IdReaderCalls became before after code = IdHandTurns (StaysIdle became) before after code
 
 -- the writer's tokens and the upqueries that are kept
 abbrev pub Turn : Type 1
-Turn = Keeper → Entries → Keeper → Entries → Type 0
+Turn = IdWriterSide → IdWriterSide → ℕ → Type 0
 
 -- and the writer's, whose readers without a handle stay
-pub record IdWriterTurns (became : Turn) (before after : List IdWriterSide) : Type 0 where
+pub record IdWriterTurns (became : Turn) (before after : List IdWriterSide) (code : ℕ) : Type 0 where
   pub old : IdWriterSide
   pub new : IdWriterSide
   pub was : before ≡ old ∷ []
   pub is : after ≡ new ∷ []
   pub map : new.map ≡ old.map
   pub spare : new.spare ≡ old.spare
-  pub made : became old.writer old.ledger new.writer new.ledger
+  pub made : became old new code
 
 -- no upquery is opened or closed, here or in the library
-pub record OwesAll (became : Keeper → Keeper → Type 0) (old : Keeper) (kept : Entries) (new : Keeper) (kept' : Entries) : Type 0 where
-  pub became_so : became old new
-  pub owes : OwesSame old new
-  pub asker : new.asker ≡ old.asker
-  pub keeps : kept' ≡ kept
+pub record OwesAll (became : Keeper → Keeper → ℕ → Type 0) (old new : IdWriterSide) (code : ℕ) : Type 0 where
+  pub became_so : became old.writer new.writer code
+  pub owes : OwesSame old.writer new.writer
+  pub asker : new.writer.asker ≡ old.writer.asker
+  pub keeps : new.ledger ≡ old.ledger
 
-abbrev pub IdWriterCalls : (Keeper → Keeper → Type 0) → List IdWriterSide → List IdWriterSide → Type 0
-IdWriterCalls became before after = IdWriterTurns (OwesAll became) before after
+abbrev pub IdWriterCalls : (Keeper → Keeper → ℕ → Type 0) → List IdWriterSide → List IdWriterSide → ℕ → Type 0
+IdWriterCalls became before after code = IdWriterTurns (OwesAll became) before after code

@@ -19,12 +19,12 @@ pub record IsNewIdWriter (shape : IdShape) (side : IdWriterSide) : Type 0 where
   pub none_kept : side.ledger ≡ no_entries side.map.value.map.shape.keys
 
 -- the handle leads to the side of a new map, or nowhere
-abbrev pub LeadsToIds : IdShape → ℕ → List IdWriterSide → Type 0
-LeadsToIds shape code after = ((code ≡ answer_done) × (side : IdWriterSide) × (after ≡ side ∷ []) × IsNewIdWriter shape side) ⊎ (((code ≡ answer_bad_size) ⊎ (code ≡ answer_no_memory)) × (after ≡ []))
+abbrev pub LeadsToIds : IdShape → List IdWriterSide → ℕ → Type 0
+LeadsToIds shape after code = ((code ≡ answer_done) × (side : IdWriterSide) × (after ≡ side ∷ []) × IsNewIdWriter shape side) ⊎ (((code ≡ answer_bad_size) ⊎ (code ≡ answer_no_memory)) × (after ≡ []))
 
 -- an opening by its code: sizes out of their limits are refused
-abbrev pub OpensIdMap : IdShape → ℕ → List IdWriterSide → Type 0
-OpensIdMap shape code after = ((code ≡ answer_bad_size) ↔ IsBadIdShape shape) × LeadsToIds shape code after
+abbrev pub OpensIdMap : IdShape → List IdWriterSide → ℕ → Type 0
+OpensIdMap shape after code = ((code ≡ answer_bad_size) ↔ IsBadIdShape shape) × LeadsToIds shape after code
 
 -- the writer's handle leads to one side, of the same map, with the same writer and upqueries, and these readers have no handle
 pub record KeepsIdWriter (before after : List IdWriterSide) (had has : List IdCaller) : Type 0 where
@@ -48,8 +48,8 @@ pub record LeadsToIdReader (before : List IdWriterSide) (reader : IdCaller) (han
   pub holds_none : side.hand ≡ idle_by_id reader
 
 -- no reader is without a handle; or the last one without gets one, or for want of memory stays without
-abbrev pub TakesIdReader : ℕ → List IdWriterSide → List IdReaderSide → List IdWriterSide → List IdReaderSide → Type 0
-TakesIdReader code before other after handle =
+abbrev pub TakesIdReader : List IdWriterSide → List IdReaderSide → List IdWriterSide → List IdReaderSide → ℕ → Type 0
+TakesIdReader before other after handle code =
     ((code ≡ answer_no_reader) × KeepsIdWriter before after [] [] × (handle ≡ other))
     ⊎ ((code ≡ answer_done) × (rest : List IdCaller) × (reader : IdCaller) × KeepsIdWriter before after (rest ++ reader ∷ []) rest × LeadsToIdReader before reader handle)
     ⊎ ((code ≡ answer_no_memory) × (rest : List IdCaller) × (reader : IdCaller) × KeepsIdWriter before after (rest ++ reader ∷ []) (rest ++ reader ∷ []) × (handle ≡ other))

@@ -18,27 +18,27 @@ count_told told found.Moved rows = told
 count_told told found.Absent rows = told
 
 -- a pin by its code, of a reader that holds nothing
-abbrev pub PinsIdByCode : ℕ → ℕ → ℕ → ℕ → IdHanded → IdHanded → Type 0
-PinsIdByCode id told tells code old new = (found : FoundId) × (code ≡ found_id_code found) × HoldsNoId old × PinsById id old new found × (tells ≡ count_told told found (rows_in_hand new))
+abbrev pub PinsIdByCode : ℕ → ℕ → ℕ → IdHanded → IdHanded → ℕ → Type 0
+PinsIdByCode id told tells old new code = (found : FoundId) × (code ≡ found_id_code found) × HoldsNoId old × PinsById id old new found × (tells ≡ count_told told found (rows_in_hand new))
 
 -- a find that keeps its hold, by its code
-abbrev pub KeepsIdByCode : ℕ → NrRows → NrRows → ℕ → IdHanded → IdHanded → Type 0
-KeepsIdByCode id before after code old new = (found : FoundId) × (code ≡ found_id_code found) × FindsIdKept ShowsSet id old before new after found
+abbrev pub KeepsIdByCode : ℕ → NrRows → NrRows → IdHanded → IdHanded → ℕ → Type 0
+KeepsIdByCode id before after old new code = (found : FoundId) × (code ≡ found_id_code found) × FindsIdKept ShowsSet id old before new after found
 
 -- a row of the held set by its code; nothing else is told, and the reader stays
-abbrev pub ReadsIdRow : ℕ → Row → Row → ℕ → IdHanded → IdHanded → Type 0
-ReadsIdRow place stood stands code old new =
+abbrev pub ReadsIdRow : ℕ → Row → Row → IdHanded → IdHanded → ℕ → Type 0
+ReadsIdRow place stood stands old new code =
     (new ≡ old)
     × (((code ≡ answer_rows) × (slice_get (rows_in_hand old) place ≡ Some stands)) ⊎ ((code ≡ answer_no_row) × (length (rows_in_hand old) ≤ place) × (stands ≡ stood)))
 
 -- all of them
-abbrev pub CopiesIdSet : NrRows → ℕ → IdHanded → IdHanded → Type 0
-CopiesIdSet rows code old new = (new ≡ old) × (code ≡ answer_rows) × ShowsSet rows (rows_in_hand old)
+abbrev pub CopiesIdSet : NrRows → IdHanded → IdHanded → ℕ → Type 0
+CopiesIdSet rows old new code = (new ≡ old) × (code ≡ answer_rows) × ShowsSet rows (rows_in_hand old)
 
 -- a find again by its code; it holds the same set
-abbrev pub FindsIdByHold : ℕ → ℕ → IdHanded → IdHanded → Type 0
-FindsIdByHold id code old new = (found : Bool) × (code ≡ (if found then answer_rows else answer_other)) × HoldsAnId old × AgainById id old new found
+abbrev pub FindsIdByHold : ℕ → IdHanded → IdHanded → ℕ → Type 0
+FindsIdByHold id old new code = (found : Bool) × (code ≡ (if found then answer_rows else answer_other)) × HoldsAnId old × AgainById id old new found
 
 -- the hold ends
-abbrev pub ReleasesId : ℕ → IdHanded → IdHanded → Type 0
-ReleasesId code old new = (code ≡ answer_done) × HoldsAnId old × LetsGoById old new
+abbrev pub ReleasesId : IdHanded → IdHanded → ℕ → Type 0
+ReleasesId old new code = (code ≡ answer_done) × HoldsAnId old × LetsGoById old new

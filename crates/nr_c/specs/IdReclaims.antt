@@ -17,6 +17,7 @@ use Rattle.nr_idmap.specs.IdWrites.{CallsWay, FillsIdReclaiming}
 use Rattle.nr_idmap.specs.Keepers.{Keeper, Sent, id_rows}
 use Rattle.nr_idmap.specs.Tags.{AreIdDeltas, IsIdSet, tag_of}
 use Rattle.nr_c.specs.declared.kept_upquery.NrUpquery.{NrUpquery}
+use Rattle.nr_c.specs.declared.id_writer_side.IdWriterSide.{IdWriterSide}
 use Rattle.nr_c.specs.declared.rows.NrRows.{NrRows}
 use Rattle.nr_c.specs.Codes.{no_slot_code, reaped_code, reclaimed_code, replace_code, update_code}
 use Rattle.nr_c.specs.IdLive.{OwesAll}
@@ -48,44 +49,44 @@ kept_unfilled_reclaiming count (Err unfilled.Closed) kept = kept
 kept_unfilled_reclaiming count (Err (unfilled.NoSlot upquery counts)) kept = keeps count upquery kept
 
 -- the one that was kept is the map's fill, which shows what it gives out
-pub record FillsKeptReclaiming (wanted : NrUpquery) (rows : List Row) (before after : NrRows) (code : ℕ) (old : Keeper) (kept : Entries) (new : Keeper) (kept' : Entries) : Type 0 where
+pub record FillsKeptReclaiming (wanted : NrUpquery) (rows : List Row) (before after : NrRows) (old new : IdWriterSide) (code : ℕ) : Type 0 where
   pub upquery : Sent
   pub rest : Entries
-  pub gives_up : GivesUp wanted upquery kept rest
+  pub gives_up : GivesUp wanted upquery old.ledger rest
   pub answer : Result Reclaimed Unfilled
   pub code_is : code ≡ filled_reclaiming_code answer
-  pub fills : FillsIdReclaiming ShowsSet upquery.owed rows old before new after answer
-  pub keeps : kept' ≡ kept_unfilled_reclaiming wanted.count answer rest
+  pub fills : FillsIdReclaiming ShowsSet upquery.owed rows old.writer before new.writer after answer
+  pub keeps : new.ledger ≡ kept_unfilled_reclaiming wanted.count answer rest
 
-abbrev pub FillsIdReclaimingByCode : NrUpquery → List Row → NrRows → NrRows → ℕ → Keeper → Entries → Keeper → Entries → Type 0
-FillsIdReclaimingByCode wanted rows before after code old kept new kept' =
-    (RefusesIdRows rows code old kept new kept' × (after ≡ before))
-    ⊎ (IsIdSet (id_rows old.table) rows × ((IsStale wanted code old kept new kept' × (after ≡ before)) ⊎ FillsKeptReclaiming wanted rows before after code old kept new kept'))
+abbrev pub FillsIdReclaimingByCode : NrUpquery → List Row → NrRows → NrRows → IdWriterSide → IdWriterSide → ℕ → Type 0
+FillsIdReclaimingByCode wanted rows before after old new code =
+    (RefusesIdRows rows old new code × (after ≡ before))
+    ⊎ (IsIdSet (id_rows old.writer.table) rows × ((IsStale wanted old new code × (after ≡ before)) ⊎ FillsKeptReclaiming wanted rows before after old new code))
 
 -- an update and a replacement: where the id has no way the caller's cells stay
-abbrev pub UpdatesWayReclaiming : ℕ → List Delta → NrRows → NrRows → ℕ → Keeper → Keeper → Type 0
-UpdatesWayReclaiming id deltas before after code old new =
+abbrev pub UpdatesWayReclaiming : ℕ → List Delta → NrRows → NrRows → Keeper → Keeper → ℕ → Type 0
+UpdatesWayReclaiming id deltas before after old new code =
     (answer : Result Reclaimed (IdFault UpdateFault))
     × (code ≡ id_update_reclaiming_code answer)
     × CallsWay (λ way o n r. UpdatesReclaiming ShowsSet old.table.map.shape.rows way deltas o before n after r) id old new answer
     × (answer ≡ Err fault.Absent → after ≡ before)
 
-abbrev pub UpdatesIdReclaimingByCode : ℕ → List Delta → NrRows → NrRows → ℕ → Keeper → Entries → Keeper → Entries → Type 0
-UpdatesIdReclaimingByCode id deltas before after code =
-    OwesAll (λ old new. (AreIdDeltasRefused deltas code × (new ≡ old) × (after ≡ before)) ⊎ ((IsBatch deltas × AreIdDeltas deltas) × UpdatesWayReclaiming id deltas before after code old new))
+abbrev pub UpdatesIdReclaimingByCode : ℕ → List Delta → NrRows → NrRows → IdWriterSide → IdWriterSide → ℕ → Type 0
+UpdatesIdReclaimingByCode id deltas before after =
+    OwesAll (λ old new code. (AreIdDeltasRefused deltas code × (new ≡ old) × (after ≡ before)) ⊎ ((IsBatch deltas × AreIdDeltas deltas) × UpdatesWayReclaiming id deltas before after old new code))
 
-abbrev pub ReplacesWayReclaiming : ℕ → List Row → NrRows → NrRows → ℕ → Keeper → Keeper → Type 0
-ReplacesWayReclaiming id rows before after code old new =
+abbrev pub ReplacesWayReclaiming : ℕ → List Row → NrRows → NrRows → Keeper → Keeper → ℕ → Type 0
+ReplacesWayReclaiming id rows before after old new code =
     (answer : Result Reclaimed (IdFault ReplaceFault))
     × (code ≡ id_replace_reclaiming_code answer)
     × CallsWay (λ way o n r. ReplacesReclaiming ShowsSet way (tag_of id ∷ rows) o before n after r) id old new answer
     × (answer ≡ Err fault.Absent → after ≡ before)
 
-abbrev pub ReplacesIdReclaimingByCode : ℕ → List Row → NrRows → NrRows → ℕ → Keeper → Entries → Keeper → Entries → Type 0
-ReplacesIdReclaimingByCode id rows before after code =
-    OwesAll (λ old new. (AreIdRowsRefused (id_rows old.table) rows code × (new ≡ old) × (after ≡ before)) ⊎ (IsIdSet (id_rows old.table) rows × ReplacesWayReclaiming id rows before after code old new))
+abbrev pub ReplacesIdReclaimingByCode : ℕ → List Row → NrRows → NrRows → IdWriterSide → IdWriterSide → ℕ → Type 0
+ReplacesIdReclaimingByCode id rows before after =
+    OwesAll (λ old new code. (AreIdRowsRefused (id_rows old.table) rows code × (new ≡ old) × (after ≡ before)) ⊎ (IsIdSet (id_rows old.table) rows × ReplacesWayReclaiming id rows before after old new code))
 
 -- a set that no find reads comes out, as the map's reap, and the directory isn't asked
-abbrev pub ReapsIdByCode : NrRows → NrRows → ℕ → Keeper → Entries → Keeper → Entries → Type 0
-ReapsIdByCode before after code =
-    OwesAll (λ old new. (answer : Reaped) × (code ≡ reaped_code answer) × ReapsIn ShowsSet old.writer before new.writer after answer × (new.clerk ≡ old.clerk))
+abbrev pub ReapsIdByCode : NrRows → NrRows → IdWriterSide → IdWriterSide → ℕ → Type 0
+ReapsIdByCode before after =
+    OwesAll (λ old new code. (answer : Reaped) × (code ≡ reaped_code answer) × ReapsIn ShowsSet old.writer before new.writer after answer × (new.clerk ≡ old.clerk))

@@ -7,8 +7,9 @@ use Rattle.nr_idmap.specs.declared.upqueries.Unfilled.TheVariants as unfilled
 use Rattle.nr_idmap.specs.declared.upqueries.Withdrawn.{Withdrawn}
 use Rattle.nr_idmap.specs.declared.upqueries.Withdrawn.TheVariants as withdrawn
 use Rattle.nr_idmap.specs.IdWrites.{AdmitsId, FillsId, RefusesId, WithdrawsId}
-use Rattle.nr_idmap.specs.Keepers.{Keeper, Sent, id_rows}
+use Rattle.nr_idmap.specs.Keepers.{Sent, id_rows}
 use Rattle.nr_idmap.specs.Tags.{IsIdSet}
+use Rattle.nr_c.specs.declared.id_writer_side.IdWriterSide.{IdWriterSide}
 use Rattle.nr_c.specs.declared.kept_upquery.NrUpquery.{NrUpquery}
 use Rattle.nr_c.specs.IdCodes.{filled_code, refused_code, withdrawn_code}
 use Rattle.nr_c.specs.IdRows.{AreIdRowsRefused}
@@ -16,30 +17,30 @@ use Rattle.nr_c.specs.Ledgers.{Entries, GivesUp, KeepsNone, keeps, keeps_new, ne
 use Rattle.nr_c.specs.Numbers.{answer_send, answer_stale}
 
 -- the upquery that the map opened is kept under a count of its own, and its numbers are told
-pub record AdmitsAndKeeps (id : ℕ) (told : NrUpquery) (code : ℕ) (old : Keeper) (kept : Entries) (new : Keeper) (kept' : Entries) : Type 0 where
+pub record AdmitsAndKeeps (id : ℕ) (told : NrUpquery) (old new : IdWriterSide) (code : ℕ) : Type 0 where
   pub code_is : code ≡ answer_send
   pub upquery : Sent
-  pub admits : AdmitsId id old upquery.owed new
+  pub admits : AdmitsId id old.writer new.writer upquery.owed
   pub numbers : owed_of told ≡ upquery.owed
-  pub count : told.count ≡ next_count kept
-  pub keeps : kept' ≡ keeps_new upquery kept
+  pub count : told.count ≡ next_count old.ledger
+  pub keeps : new.ledger ≡ keeps_new upquery old.ledger
 
 -- the directory refuses, and nothing else happened
-pub record AdmitsNot (id : ℕ) (before after : NrUpquery) (code : ℕ) (old : Keeper) (kept : Entries) (new : Keeper) (kept' : Entries) : Type 0 where
+pub record AdmitsNot (id : ℕ) (before after : NrUpquery) (old new : IdWriterSide) (code : ℕ) : Type 0 where
   pub why : Refused
   pub code_is : code ≡ refused_code why
-  pub refuses : RefusesId id old why new
+  pub refuses : RefusesId id old.writer new.writer why
   pub stays : after ≡ before
-  pub keeps : kept' ≡ kept
+  pub keeps : new.ledger ≡ old.ledger
 
-abbrev pub AdmitsByCode : ℕ → NrUpquery → NrUpquery → ℕ → Keeper → Entries → Keeper → Entries → Type 0
-AdmitsByCode id before after code old kept new kept' = AdmitsAndKeeps id after code old kept new kept' ⊎ AdmitsNot id before after code old kept new kept'
+abbrev pub AdmitsByCode : ℕ → NrUpquery → NrUpquery → IdWriterSide → IdWriterSide → ℕ → Type 0
+AdmitsByCode id before after old new code = AdmitsAndKeeps id after old new code ⊎ AdmitsNot id before after old new code
 
 -- no upquery with these numbers is open
-pub record IsStale (wanted : NrUpquery) (code : ℕ) (old : Keeper) (kept : Entries) (new : Keeper) (kept' : Entries) : Type 0 where
+pub record IsStale (wanted : NrUpquery) (old new : IdWriterSide) (code : ℕ) : Type 0 where
   pub code_is : code ≡ answer_stale
-  pub stays : new ≡ old
-  pub none : KeepsNone wanted kept kept'
+  pub stays : new.writer ≡ old.writer
+  pub none : KeepsNone wanted old.ledger new.ledger
 
 -- one that comes back is kept again, under its count
 abbrev pub kept_unfilled : ℕ → Result (Unit {0}) Unfilled → Entries → Entries
@@ -53,34 +54,34 @@ kept_worn count withdrawn.Closed kept = kept
 kept_worn count (withdrawn.Worn upquery) kept = keeps count upquery kept
 
 -- the one that was kept is the map's fill
-pub record FillsKept (wanted : NrUpquery) (rows : List Row) (code : ℕ) (old : Keeper) (kept : Entries) (new : Keeper) (kept' : Entries) : Type 0 where
+pub record FillsKept (wanted : NrUpquery) (rows : List Row) (old new : IdWriterSide) (code : ℕ) : Type 0 where
   pub upquery : Sent
   pub rest : Entries
-  pub gives_up : GivesUp wanted upquery kept rest
+  pub gives_up : GivesUp wanted upquery old.ledger rest
   pub answer : Result (Unit {0}) Unfilled
   pub code_is : code ≡ filled_code answer
-  pub fills : FillsId upquery.owed rows old new answer
-  pub keeps : kept' ≡ kept_unfilled wanted.count answer rest
+  pub fills : FillsId upquery.owed rows old.writer new.writer answer
+  pub keeps : new.ledger ≡ kept_unfilled wanted.count answer rest
 
 -- rows that are no id's change nothing
-pub record RefusesIdRows (rows : List Row) (code : ℕ) (old : Keeper) (kept : Entries) (new : Keeper) (kept' : Entries) : Type 0 where
-  pub refused : AreIdRowsRefused (id_rows old.table) rows code
-  pub stays : new ≡ old
-  pub keeps : kept' ≡ kept
+pub record RefusesIdRows (rows : List Row) (old new : IdWriterSide) (code : ℕ) : Type 0 where
+  pub refused : AreIdRowsRefused (id_rows old.writer.table) rows code
+  pub stays : new.writer ≡ old.writer
+  pub keeps : new.ledger ≡ old.ledger
 
-abbrev pub FillsIdByCode : NrUpquery → List Row → ℕ → Keeper → Entries → Keeper → Entries → Type 0
-FillsIdByCode wanted rows code old kept new kept' =
-    RefusesIdRows rows code old kept new kept'
-    ⊎ (IsIdSet (id_rows old.table) rows × (IsStale wanted code old kept new kept' ⊎ FillsKept wanted rows code old kept new kept'))
+abbrev pub FillsIdByCode : NrUpquery → List Row → IdWriterSide → IdWriterSide → ℕ → Type 0
+FillsIdByCode wanted rows old new code =
+    RefusesIdRows rows old new code
+    ⊎ (IsIdSet (id_rows old.writer.table) rows × (IsStale wanted old new code ⊎ FillsKept wanted rows old new code))
 
-pub record WithdrawsKept (wanted : NrUpquery) (code : ℕ) (old : Keeper) (kept : Entries) (new : Keeper) (kept' : Entries) : Type 0 where
+pub record WithdrawsKept (wanted : NrUpquery) (old new : IdWriterSide) (code : ℕ) : Type 0 where
   pub upquery : Sent
   pub rest : Entries
-  pub gives_up : GivesUp wanted upquery kept rest
+  pub gives_up : GivesUp wanted upquery old.ledger rest
   pub answer : Withdrawn
   pub code_is : code ≡ withdrawn_code answer
-  pub withdraws : WithdrawsId upquery.owed old new answer
-  pub keeps : kept' ≡ kept_worn wanted.count answer rest
+  pub withdraws : WithdrawsId upquery.owed old.writer new.writer answer
+  pub keeps : new.ledger ≡ kept_worn wanted.count answer rest
 
-abbrev pub WithdrawsByCode : NrUpquery → ℕ → Keeper → Entries → Keeper → Entries → Type 0
-WithdrawsByCode wanted code old kept new kept' = IsStale wanted code old kept new kept' ⊎ WithdrawsKept wanted code old kept new kept'
+abbrev pub WithdrawsByCode : NrUpquery → IdWriterSide → IdWriterSide → ℕ → Type 0
+WithdrawsByCode wanted old new code = IsStale wanted old new code ⊎ WithdrawsKept wanted old new code

@@ -20,12 +20,12 @@ use Rattle.nr_c.specs.IdRows.{AreIdDeltasRefused, AreIdRowsRefused}
 use Rattle.nr_c.specs.RowCells.{ShowsSet}
 
 -- a find of the writer's own: the caller's cells show the id's rows, and stay with each other answer
-abbrev pub LooksIdByCode : ℕ → NrRows → NrRows → ℕ → Keeper → Keeper → Type 0
-LooksIdByCode id before after code old new = (looked : Looked) × (code ≡ looked_code looked) × LooksById ShowsSet id old before new after looked
+abbrev pub LooksIdByCode : ℕ → NrRows → NrRows → Keeper → Keeper → ℕ → Type 0
+LooksIdByCode id before after old new code = (looked : Looked) × (code ≡ looked_code looked) × LooksById ShowsSet id old before new after looked
 
 -- signed rows that are no id's change nothing, and any others are the map's update of the id's way
-abbrev pub UpdatesIdByCode : ℕ → List Delta → ℕ → Keeper → Keeper → Type 0
-UpdatesIdByCode id deltas code old new =
+abbrev pub UpdatesIdByCode : ℕ → List Delta → Keeper → Keeper → ℕ → Type 0
+UpdatesIdByCode id deltas old new code =
     (AreIdDeltasRefused deltas code × (new ≡ old))
     ⊎ ((IsBatch deltas × AreIdDeltas deltas)
     × (answer : Result (Unit {0}) (IdFault UpdateFault))
@@ -33,10 +33,10 @@ UpdatesIdByCode id deltas code old new =
     × CallsWay (λ way. UpdatesKey old.table.map.shape.rows way deltas) id old new answer)
 
 -- and for a replacement
-abbrev pub ReplacesIdByCode : ℕ → List Row → ℕ → Keeper → Keeper → Type 0
-ReplacesIdByCode id rows code old new =
+abbrev pub ReplacesIdByCode : ℕ → List Row → Keeper → Keeper → ℕ → Type 0
+ReplacesIdByCode id rows old new code =
     (AreIdRowsRefused (id_rows old.table) rows code × (new ≡ old))
     ⊎ (IsIdSet (id_rows old.table) rows × (answer : Result (Unit {0}) (IdFault ReplaceFault)) × (code ≡ id_replace_code answer) × CallsWay (λ way. ReplacesKey way (tag_of id ∷ rows)) id old new answer)
 
-abbrev pub EvictsIdByCode : ℕ → ℕ → Keeper → Keeper → Type 0
-EvictsIdByCode id code old new = (answer : Evict) × (code ≡ evict_code answer) × EvictsId id old new answer
+abbrev pub EvictsIdByCode : ℕ → Keeper → Keeper → ℕ → Type 0
+EvictsIdByCode id old new code = (answer : Evict) × (code ≡ evict_code answer) × EvictsId id old new answer

@@ -19,29 +19,29 @@ abbrev pub IsLive : {Side : Type 0} → List Side → Type 0
 IsLive {Side = Side} live = (held : Side) × (live ≡ held ∷ [])
 
 -- the handle isn't live, which the code says; nothing has changed
-pub record RefusesClosed {Side : Type 0} (code : ℕ) (stays : Type 0) (before after : List Side) : Type 0 where
+pub record RefusesClosed {Side : Type 0} (stays : Type 0) (before after : List Side) (code : ℕ) : Type 0 where
   pub code_is : code ≡ answer_closed
   pub stay : stays
   pub was : before ≡ []
   pub is : after ≡ []
 
 -- a call by a handle: it is refused where that isn't live, and else does what it does
-abbrev pub WhenLive : {Side : Type 0} → ℕ → Type 0 → (List Side → List Side → Type 0) → List Side → List Side → Type 0
-WhenLive code stays does before after = RefusesClosed code stays before after ⊎ does before after
+abbrev pub WhenLive : {Side : Type 0} → Type 0 → (List Side → List Side → ℕ → Type 0) → List Side → List Side → ℕ → Type 0
+WhenLive stays does before after code = RefusesClosed stays before after code ⊎ does before after code
 
 -- a call by two handles is refused where one of them isn't live
-abbrev pub WhenBothLive : {One Other : Type 0} → ℕ → (List One → List Other → List One → List Other → Type 0) → List One → List Other → List One → List Other → Type 0
-WhenBothLive code does one other one' other' =
-    ((code ≡ answer_closed) × ((one ≡ []) ⊎ (other ≡ [])) × (one' ≡ one) × (other' ≡ other)) ⊎ (IsLive one × IsLive other × does one other one' other')
+abbrev pub WhenBothLive : {One Other : Type 0} → (List One → List Other → List One → List Other → ℕ → Type 0) → List One → List Other → List One → List Other → ℕ → Type 0
+WhenBothLive does one other one' other' code =
+    ((code ≡ answer_closed) × ((one ≡ []) ⊎ (other ≡ [])) × (one' ≡ one) × (other' ≡ other)) ⊎ (IsLive one × IsLive other × does one other one' other' code)
 
 -- an opening of a handle that isn't live: it is refused else
-abbrev pub WhenEmpty : {Side : Type 0} → ℕ → (List Side → Type 0) → List Side → List Side → Type 0
-WhenEmpty code does before after = ((code ≡ answer_live) × IsLive before × (after ≡ before)) ⊎ ((before ≡ []) × does after)
+abbrev pub WhenEmpty : {Side : Type 0} → (List Side → ℕ → Type 0) → List Side → List Side → ℕ → Type 0
+WhenEmpty does before after code = ((code ≡ answer_live) × IsLive before × (after ≡ before)) ⊎ ((before ≡ []) × does after code)
 
 -- an opening by a handle that is live, of another that isn't: it is refused else
-abbrev pub WhenOther : {One Other : Type 0} → ℕ → (List One → List Other → List One → List Other → Type 0) → List One → List Other → List One → List Other → Type 0
-WhenOther code does one other one' other' =
-    ((code ≡ answer_closed) × (one ≡ []) × (one' ≡ one) × (other' ≡ other)) ⊎ ((code ≡ answer_live) × IsLive one × IsLive other × (one' ≡ one) × (other' ≡ other)) ⊎ (IsLive one × (other ≡ []) × does one other one' other')
+abbrev pub WhenOther : {One Other : Type 0} → (List One → List Other → List One → List Other → ℕ → Type 0) → List One → List Other → List One → List Other → ℕ → Type 0
+WhenOther does one other one' other' code =
+    ((code ≡ answer_closed) × (one ≡ []) × (one' ≡ one) × (other' ≡ other)) ⊎ ((code ≡ answer_live) × IsLive one × IsLive other × (one' ≡ one) × (other' ≡ other)) ⊎ (IsLive one × (other ≡ []) × does one other one' other' code)
 
 -- the handles that are live lead to sides of one map
 abbrev pub OneMap : List ReaderSide → List WriterSide → Type 0
@@ -57,7 +57,7 @@ abbrev pub writer_keys : WriterSide → ℕ
 writer_keys side = side.map.value.shape.keys
 
 -- there is no such key, which the code says; the handle leads to what it led to, and what it would tell stays
-pub record RefusesKey {Side : Type 0} (keys : Side → ℕ) (key code : ℕ) (stays : Type 0) (before after : List Side) : Type 0 where
+pub record RefusesKey {Side : Type 0} (keys : Side → ℕ) (key : ℕ) (stays : Type 0) (before after : List Side) (code : ℕ) : Type 0 where
   pub code_is : code ≡ answer_no_key
   pub stay : stays
   pub held : Side
@@ -71,11 +71,11 @@ pub record HasKey {Side : Type 0} (keys : Side → ℕ) (key : ℕ) (before : Li
   pub below : key < keys held
 
 -- a call with a key: it is refused where there is no such key, and else does what it does
-abbrev pub WithKey : {Side : Type 0} → (Side → ℕ) → ℕ → ℕ → Type 0 → (List Side → List Side → Type 0) → List Side → List Side → Type 0
-WithKey keys key code stays does before after = RefusesKey keys key code stays before after ⊎ (HasKey keys key before × does before after)
+abbrev pub WithKey : {Side : Type 0} → (Side → ℕ) → ℕ → Type 0 → (List Side → List Side → ℕ → Type 0) → List Side → List Side → ℕ → Type 0
+WithKey keys key stays does before after code = RefusesKey keys key stays before after code ⊎ (HasKey keys key before × does before after code)
 
 -- the reader isn't as the call wants it, which the code says; nothing has changed
-pub record RefusesHand {Side : Type 0} (kind : Side → Type 0) (answer code : ℕ) (stays : Type 0) (before after : List Side) : Type 0 where
+pub record RefusesHand {Side : Type 0} (kind : Side → Type 0) (answer : ℕ) (stays : Type 0) (before after : List Side) (code : ℕ) : Type 0 where
   pub code_is : code ≡ answer
   pub stay : stays
   pub held : Side
@@ -84,16 +84,16 @@ pub record RefusesHand {Side : Type 0} (kind : Side → Type 0) (answer code : �
   pub hand : kind held
 
 -- a call of a reader that holds nothing: it is refused where the reader holds a set
-abbrev pub WhenIdle : ℕ → Type 0 → (List ReaderSide → List ReaderSide → Type 0) → List ReaderSide → List ReaderSide → Type 0
-WhenIdle code stays does before after = RefusesHand (λ (side : ReaderSide). HoldsSome side.hand) answer_holding code stays before after ⊎ does before after
+abbrev pub WhenIdle : Type 0 → (List ReaderSide → List ReaderSide → ℕ → Type 0) → List ReaderSide → List ReaderSide → ℕ → Type 0
+WhenIdle stays does before after code = RefusesHand (λ (side : ReaderSide). HoldsSome side.hand) answer_holding stays before after code ⊎ does before after code
 
 -- a call of a reader that holds a set: it is refused where the reader holds nothing
-abbrev pub WhenHolding : ℕ → Type 0 → (List ReaderSide → List ReaderSide → Type 0) → List ReaderSide → List ReaderSide → Type 0
-WhenHolding code stays does before after = RefusesHand (λ (side : ReaderSide). HoldsNone side.hand) answer_not_holding code stays before after ⊎ does before after
+abbrev pub WhenHolding : Type 0 → (List ReaderSide → List ReaderSide → ℕ → Type 0) → List ReaderSide → List ReaderSide → ℕ → Type 0
+WhenHolding stays does before after code = RefusesHand (λ (side : ReaderSide). HoldsNone side.hand) answer_not_holding stays before after code ⊎ does before after code
 
 -- a call with a key by a live reader that holds nothing; where it is refused, this stays
-abbrev pub ByIdleReader : ℕ → ℕ → Type 0 → (List ReaderSide → List ReaderSide → Type 0) → List ReaderSide → List ReaderSide → Type 0
-ByIdleReader key code stays does = WhenLive code stays (WithKey reader_keys key code stays (WhenIdle code stays does))
+abbrev pub ByIdleReader : ℕ → Type 0 → (List ReaderSide → List ReaderSide → ℕ → Type 0) → List ReaderSide → List ReaderSide → ℕ → Type 0
+ByIdleReader key stays does = WhenLive stays (WithKey reader_keys key stays (WhenIdle stays does))
 
 -- the handle leads to one side, of the same map before and after, whose reader was in the one hand and is in the other
 pub record TurnsHand (before after : List ReaderSide) (was is : Handed) : Type 0 where
@@ -106,22 +106,22 @@ pub record TurnsHand (before after : List ReaderSide) (was is : Handed) : Type 0
   pub new_hand : new.hand ≡ is
 
 -- so a reader that holds nothing became another such one
-abbrev pub ReaderCalls : (Caller → Caller → Type 0) → List ReaderSide → List ReaderSide → Type 0
-ReaderCalls became before after = (old new : Handed) × TurnsHand before after old new × HoldsNone old × HoldsNone new × became old.reader new.reader
+abbrev pub ReaderCalls : (Caller → Caller → ℕ → Type 0) → List ReaderSide → List ReaderSide → ℕ → Type 0
+ReaderCalls became before after code = (old new : Handed) × TurnsHand before after old new × HoldsNone old × HoldsNone new × became old.reader new.reader code
 
 -- and the writer's, whose readers without a handle stay
-pub record WriterCalls (became : Caller → Caller → Type 0) (before after : List WriterSide) : Type 0 where
+pub record WriterCalls (became : Caller → Caller → ℕ → Type 0) (before after : List WriterSide) (code : ℕ) : Type 0 where
   pub old : WriterSide
   pub new : WriterSide
   pub was : before ≡ old ∷ []
   pub is : after ≡ new ∷ []
   pub map : new.map ≡ old.map
   pub spare : new.spare ≡ old.spare
-  pub made : became old.writer new.writer
+  pub made : became old.writer new.writer code
 
 -- a find by its code: the caller's cells show the rows of the reply, and stay as they are on a hole; the reader holds nothing
-abbrev pub FindsByCode : ℕ → NrRows → NrRows → ℕ → Caller → Caller → Type 0
-FindsByCode key before after code old new = (found : Found) × (code ≡ found_code found) × FindsIn ShowsSet key old before new after found × (new.holds ≡ None) × (new.marks.acts ≡ old.marks.acts + acts_of found)
+abbrev pub FindsByCode : ℕ → NrRows → NrRows → Caller → Caller → ℕ → Type 0
+FindsByCode key before after old new code = (found : Found) × (code ≡ found_code found) × FindsIn ShowsSet key old before new after found × (new.holds ≡ None) × (new.marks.acts ≡ old.marks.acts + acts_of found)
 
 -- the number that a request tells: that of a ticket, and else what stood there
 abbrev pub number_told : ℕ → Asked → ℕ
@@ -130,5 +130,5 @@ number_told before asked.Waiting = before
 number_told before asked.Filled = before
 
 -- a request by its code; the number of a ticket is told, and the reader holds nothing
-abbrev pub AsksByCode : ℕ → ℕ → ℕ → ℕ → Caller → Caller → Type 0
-AsksByCode key before after code old new = (answer : Asked) × (code ≡ ask_code answer) × AsksKey key old new answer × (after ≡ number_told before answer) × (new.holds ≡ None) × (new.marks ≡ old.marks)
+abbrev pub AsksByCode : ℕ → ℕ → ℕ → Caller → Caller → ℕ → Type 0
+AsksByCode key before after old new code = (answer : Asked) × (code ≡ ask_code answer) × AsksKey key old new answer × (after ≡ number_told before answer) × (new.holds ≡ None) × (new.marks ≡ old.marks)

@@ -15,16 +15,16 @@ abbrev pub IsNewWriter : Shape → WriterSide → Type 0
 IsNewWriter shape side = IsOpened shape (words_of_large shape) side.map.value side.writer side.spare.items
 
 -- the handle leads to the side of a new map, or nowhere
-abbrev pub OpensMap : Shape → ℕ → List WriterSide → Type 0
-OpensMap shape code after = ((code ≡ answer_done) × (side : WriterSide) × (after ≡ side ∷ []) × IsNewWriter shape side) ⊎ (((code ≡ answer_bad_size) ⊎ (code ≡ answer_no_memory)) × (after ≡ []))
+abbrev pub OpensMap : Shape → List WriterSide → ℕ → Type 0
+OpensMap shape after code = ((code ≡ answer_done) × (side : WriterSide) × (after ≡ side ∷ []) × IsNewWriter shape side) ⊎ (((code ≡ answer_bad_size) ⊎ (code ≡ answer_no_memory)) × (after ≡ []))
 
 -- the shape is out of a script's limits and of a large map's
 abbrev pub IsRefused : Shape → Type 0
 IsRefused shape = IsBadShape shape × IsBadLargeShape shape
 
 -- an opening by its code: sizes out of their limits are refused, and the handle leads to the side of a new map, or nowhere
-abbrev pub Opens : Shape → ℕ → List WriterSide → Type 0
-Opens shape code after = ((code ≡ answer_bad_size) ↔ IsRefused shape) × OpensMap shape code after
+abbrev pub Opens : Shape → List WriterSide → ℕ → Type 0
+Opens shape after code = ((code ≡ answer_bad_size) ↔ IsRefused shape) × OpensMap shape after code
 
 -- the writer's handle leads to one side, of the same map and with the same writer, and these readers have no handle
 pub record KeepsWriter (before after : List WriterSide) (had has : List Caller) : Type 0 where
@@ -47,14 +47,14 @@ pub record LeadsToReader (before : List WriterSide) (reader : Caller) (handle : 
   pub holds_none : side.hand ≡ idle reader
 
 -- no reader is without a handle; or the last one without gets one, or for want of memory stays without
-abbrev pub TakesReader : ℕ → List WriterSide → List ReaderSide → List WriterSide → List ReaderSide → Type 0
-TakesReader code before other after handle =
+abbrev pub TakesReader : List WriterSide → List ReaderSide → List WriterSide → List ReaderSide → ℕ → Type 0
+TakesReader before other after handle code =
     ((code ≡ answer_no_reader) × KeepsWriter before after [] [] × (handle ≡ other))
     ⊎ ((code ≡ answer_done) × (rest : List Caller) × (reader : Caller) × KeepsWriter before after (rest ++ reader ∷ []) rest × LeadsToReader before reader handle)
     ⊎ ((code ≡ answer_no_memory) × (rest : List Caller) × (reader : Caller) × KeepsWriter before after (rest ++ reader ∷ []) (rest ++ reader ∷ []) × (handle ≡ other))
 
 -- the reader's handle leads nowhere any more, and its reader, which holds nothing now, is the last one without a handle; or for want of memory all stay
-abbrev pub ReturnsReader : ℕ → List WriterSide → List ReaderSide → List WriterSide → List ReaderSide → Type 0
-ReturnsReader code before other after handle =
+abbrev pub ReturnsReader : List WriterSide → List ReaderSide → List WriterSide → List ReaderSide → ℕ → Type 0
+ReturnsReader before other after handle code =
     ((code ≡ answer_done) × (rest : List Caller) × (reader : Caller) × (held : ReaderSide) × (other ≡ held ∷ []) × EndsHand held.hand reader × KeepsWriter before after rest (rest ++ reader ∷ []) × (handle ≡ []))
     ⊎ ((code ≡ answer_no_memory) × (rest : List Caller) × KeepsWriter before after rest rest × (handle ≡ other))

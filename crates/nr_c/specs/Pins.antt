@@ -10,25 +10,25 @@ use Rattle.nr_c.specs.Live.{TurnsHand}
 use Rattle.nr_c.specs.RowCells.{ShowsSet}
 
 -- a pin by its code: the reader holds the set of the key, and how many rows it has is told; or the key was a hole
-abbrev pub PinsCells : ℕ → ℕ → ℕ → ℕ → List ReaderSide → List ReaderSide → Type 0
-PinsCells key told tells code before after =
+abbrev pub PinsCells : ℕ → ℕ → ℕ → List ReaderSide → List ReaderSide → ℕ → Type 0
+PinsCells key told tells before after code =
     ((code ≡ answer_rows) × (old new : Handed) × TurnsHand before after old new × HoldsNone old × PinsByHand key old new true × (tells ≡ length new.rows))
     ⊎ ((code ≡ answer_hole) × (old new : Handed) × TurnsHand before after old new × HoldsNone old × PinsByHand key old new false × (tells ≡ told))
 
 -- a row of the held set by its code; the reader holds the same set
-abbrev pub ReadsRow : ℕ → Row → Row → ℕ → List ReaderSide → List ReaderSide → Type 0
-ReadsRow place stood stands code before after =
+abbrev pub ReadsRow : ℕ → Row → Row → List ReaderSide → List ReaderSide → ℕ → Type 0
+ReadsRow place stood stands before after code =
     ((code ≡ answer_rows) × (old new : Handed) × TurnsHand before after old new × (slice_get old.rows place ≡ Some stands) × CopiesHeld 2 old new)
     ⊎ ((code ≡ answer_no_row) × (hand : Handed) × TurnsHand before after hand hand × (length hand.rows ≤ place) × (stands ≡ stood))
 
 -- a copy of the held set by its code: the caller's cells show its rows, and the reader holds it still
-abbrev pub CopiesSet : NrRows → ℕ → List ReaderSide → List ReaderSide → Type 0
-CopiesSet rows code before after = (code ≡ answer_rows) × (old new : Handed) × TurnsHand before after old new × ShowsSet rows old.rows × CopiesHeld (2 * length old.rows) old new
+abbrev pub CopiesSet : NrRows → List ReaderSide → List ReaderSide → ℕ → Type 0
+CopiesSet rows before after code = (code ≡ answer_rows) × (old new : Handed) × TurnsHand before after old new × ShowsSet rows old.rows × CopiesHeld (2 * length old.rows) old new
 
 -- a find again by its code, of a reader that takes what it holds for a set of the key; it holds the same set
-abbrev pub FindsByHold : ℕ → ℕ → List ReaderSide → List ReaderSide → Type 0
-FindsByHold key code before after = (found : Bool) × (code ≡ (if found then answer_rows else answer_other)) × (old new : Handed) × TurnsHand before after old new × HoldsSome old × AgainByHand key (held_for key old) new found
+abbrev pub FindsByHold : ℕ → List ReaderSide → List ReaderSide → ℕ → Type 0
+FindsByHold key before after code = (found : Bool) × (code ≡ (if found then answer_rows else answer_other)) × (old new : Handed) × TurnsHand before after old new × HoldsSome old × AgainByHand key (held_for key old) new found
 
 -- the hold ends
-abbrev pub Releases : ℕ → List ReaderSide → List ReaderSide → Type 0
-Releases code before after = (code ≡ answer_done) × (old new : Handed) × TurnsHand before after old new × HoldsSome old × LetsGo old new
+abbrev pub Releases : List ReaderSide → List ReaderSide → ℕ → Type 0
+Releases before after code = (code ≡ answer_done) × (old new : Handed) × TurnsHand before after old new × HoldsSome old × LetsGo old new

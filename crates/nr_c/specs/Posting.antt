@@ -13,23 +13,23 @@ use Rattle.nr_c.specs.declared.poster_side.PosterSide.{PosterSide}
 use Rattle.nr_c.specs.declared.taker_side.TakerSide.{TakerSide}
 
 -- the handle leads to one side, of the same queue before and after, whose poster became another
-pub record PosterCalls (became : PosterSeen → PosterSeen → Type 0) (before after : List PosterSide) : Type 0 where
+pub record PosterCalls (became : PosterSeen → PosterSeen → ℕ → Type 0) (before after : List PosterSide) (code : ℕ) : Type 0 where
   pub old : PosterSide
   pub new : PosterSide
   pub was : before ≡ old ∷ []
   pub is : after ≡ new ∷ []
   pub queue : new.queue ≡ old.queue
-  pub made : became old.poster new.poster
+  pub made : became old.poster new.poster code
 
 -- and the taker's, whose posters without a handle stay
-pub record TakerCalls (became : TakerSeen → TakerSeen → Type 0) (before after : List TakerSide) : Type 0 where
+pub record TakerCalls (became : TakerSeen → TakerSeen → ℕ → Type 0) (before after : List TakerSide) (code : ℕ) : Type 0 where
   pub old : TakerSide
   pub new : TakerSide
   pub was : before ≡ old ∷ []
   pub is : after ≡ new ∷ []
   pub queue : new.queue ≡ old.queue
   pub spare : new.spare ≡ old.spare
-  pub made : became old.taker new.taker
+  pub made : became old.taker new.taker code
 
 -- how many keys the queue of a poster has
 abbrev pub poster_keys : PosterSide → ℕ
@@ -39,18 +39,18 @@ abbrev pub request_of : ℕ → ℕ → Upquery
 request_of key number = record { key = key; number = number }
 
 -- a post by its code: the poster has posted the request; or nothing, and where the queue was full it was so at one moment of the call
-abbrev pub PostsByCode : ℕ → ℕ → ℕ → ℕ → PosterSeen → PosterSeen → Type 0
-PostsByCode capacity key number code old new =
+abbrev pub PostsByCode : ℕ → ℕ → ℕ → PosterSeen → PosterSeen → ℕ → Type 0
+PostsByCode capacity key number old new code =
     IsSamePoster old new × (new.tries ≡ old.tries + 1) × (answer : Result (Unit {0}) PostFault) × (code ≡ post_code answer)
     × MatchResult answer (λ _. new.posted ≡ old.posted ++ request_of key number ∷ []) (λ fault. (new ≡ poster_tried old) × (fault ≡ post.Full → WasFull capacity old))
 
 -- by a poster's handle
-abbrev pub PostsOn : ℕ → ℕ → ℕ → List PosterSide → List PosterSide → Type 0
-PostsOn key number code before after = (held : PosterSide) × (before ≡ held ∷ []) × PosterCalls (PostsByCode held.queue.value.capacity key number code) before after
+abbrev pub PostsOn : ℕ → ℕ → List PosterSide → List PosterSide → ℕ → Type 0
+PostsOn key number before after code = (held : PosterSide) × (before ≡ held ∷ []) × PosterCalls (PostsByCode held.queue.value.capacity key number) before after code
 
 -- a take by its code: the taker has taken a request of a key below the number, which is told; or nothing, what stood there stays, and where the queue was empty it was so at one moment of the call
-abbrev pub TakesByCode : ℕ → ℕ → ℕ → ℕ → ℕ → TakerSeen → TakerSeen → Type 0
-TakesByCode key number key' number' code old new =
+abbrev pub TakesByCode : ℕ → ℕ → ℕ → ℕ → TakerSeen → TakerSeen → ℕ → Type 0
+TakesByCode key number key' number' old new code =
     IsSameTaker old new × (new.tries ≡ old.tries + 1)
     × (((code ≡ answer_done) × (post : Post) × (new.taken ≡ old.taken ++ post ∷ []) × (post.upquery ≡ request_of key' number') × (key' < old.keys))
     ⊎ ((fault : TakeFault) × (code ≡ take_code fault) × (new ≡ taker_tried old) × (fault ≡ take.Empty → WasEmpty old) × (key' ≡ key) × (number' ≡ number)))

@@ -9,7 +9,7 @@ use Rattle.nr_c.specs.declared.rows.NrRows.{NrRows}
 use Rattle.nr_c.specs.declared.writer_side.WriterSide.{WriterSide}
 
 -- some readers are not back, and nothing changes
-pub record RefusesApart (code : ℕ) (writer writer' : List WriterSide) (remains remains' : List RemainsSide) : Type 0 where
+pub record RefusesApart (writer writer' : List WriterSide) (remains remains' : List RemainsSide) (code : ℕ) : Type 0 where
   pub code_is : code ≡ answer_readers_out
   pub held : WriterSide
   pub was : writer ≡ held ∷ []
@@ -18,7 +18,7 @@ pub record RefusesApart (code : ℕ) (writer writer' : List WriterSide) (remains
   pub stay : remains' ≡ remains
 
 -- all are back: the writer's handle leads nowhere any more, and the other to what remains of its map, of which no set has come out
-pub record LeavesRemains (code : ℕ) (writer writer' : List WriterSide) (remains' : List RemainsSide) : Type 0 where
+pub record LeavesRemains (writer writer' : List WriterSide) (remains' : List RemainsSide) (code : ℕ) : Type 0 where
   pub code_is : code ≡ answer_done
   pub held : WriterSide
   pub side : RemainsSide
@@ -31,8 +31,8 @@ pub record LeavesRemains (code : ℕ) (writer writer' : List WriterSide) (remain
   pub map : left.map ≡ held.map
   pub apart : TakenApart held.writer left.rest
 
-abbrev pub TakesApart : ℕ → List WriterSide → List RemainsSide → List WriterSide → List RemainsSide → Type 0
-TakesApart code writer remains writer' remains' = RefusesApart code writer writer' remains remains' ⊎ LeavesRemains code writer writer' remains'
+abbrev pub TakesApart : List WriterSide → List RemainsSide → List WriterSide → List RemainsSide → ℕ → Type 0
+TakesApart writer remains writer' remains' code = RefusesApart writer writer' remains remains' code ⊎ LeavesRemains writer writer' remains' code
 
 -- the next set that is left of a map comes out into the caller's cells, if there is one; of no map none is left
 abbrev pub NextOfLeft : Option LeftMap → NrRows → Option LeftMap → NrRows → Bool → Type 0
@@ -40,7 +40,7 @@ NextOfLeft (Some old) rows (Some new) rows' found = (new.map ≡ old.map) × Nex
 NextOfLeft None rows None rows' false = rows' ≡ rows
 NextOfLeft old rows new rows' found = ⊥
 
-pub record NextByCode (rows rows' : NrRows) (code : ℕ) (before after : List RemainsSide) : Type 0 where
+pub record NextByCode (rows rows' : NrRows) (before after : List RemainsSide) (code : ℕ) : Type 0 where
   pub found : Bool
   pub code_is : code ≡ (if found then answer_given else answer_nothing)
   pub old : RemainsSide

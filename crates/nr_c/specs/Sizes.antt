@@ -13,7 +13,7 @@ abbrev pub sizes_of : Shape → NrSizes
 sizes_of shape = record { keys = shape.keys; slots = shape.slots; readers = shape.readers; rows = shape.rows }
 
 -- the sizes of a reader's map by their code; the handle leads to what it led to
-pub record TellsSizes (told : NrSizes) (code : ℕ) (before after : List ReaderSide) : Type 0 where
+pub record TellsSizes (told : NrSizes) (before after : List ReaderSide) (code : ℕ) : Type 0 where
   pub code_is : code ≡ answer_done
   pub held : ReaderSide
   pub was : before ≡ held ∷ []

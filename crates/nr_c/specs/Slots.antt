@@ -10,5 +10,5 @@ abbrev pub slots_of : SlotCounts → NrSlots
 slots_of counts = record { filled = counts.filled; retired = counts.retired; free = counts.free }
 
 -- the map's counts, each told in its own field
-abbrev pub CountsByCode : NrSlots → ℕ → Caller → Caller → Type 0
-CountsByCode told code old new = (code ≡ answer_done) × (counts : SlotCounts) × (told ≡ slots_of counts) × CountsSlots old new counts
+abbrev pub CountsByCode : NrSlots → Caller → Caller → ℕ → Type 0
+CountsByCode told old new code = (code ≡ answer_done) × (counts : SlotCounts) × (told ≡ slots_of counts) × CountsSlots old new counts

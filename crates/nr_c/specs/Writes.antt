@@ -23,46 +23,46 @@ use Rattle.nr_c.specs.RowCells.{ShowsSet}
 use Rattle.nr_c.specs.Rows.{AreRefused}
 
 -- a find of the writer's own: the caller's cells show the rows of the reply, and stay as they are on a hole
-abbrev pub LooksByCode : ℕ → NrRows → NrRows → ℕ → Caller → Caller → Type 0
-LooksByCode key before after code old new = (found : Found) × (code ≡ found_code found) × LooksIn ShowsSet key old before new after found
+abbrev pub LooksByCode : ℕ → NrRows → NrRows → Caller → Caller → ℕ → Type 0
+LooksByCode key before after old new code = (found : Found) × (code ≡ found_code found) × LooksIn ShowsSet key old before new after found
 
 -- rows that are no key's change nothing
-abbrev pub RefusesRows : List Row → ℕ → Caller → Caller → Type 0
-RefusesRows rows code old new = AreRefused old.table.shape.rows rows code × (new ≡ old)
+abbrev pub RefusesRows : List Row → Caller → Caller → ℕ → Type 0
+RefusesRows rows old new code = AreRefused old.table.shape.rows rows code × (new ≡ old)
 
 -- any others are the map's fill
-abbrev pub MapFills : ℕ → ℕ → List Row → ℕ → Caller → Caller → Type 0
-MapFills key number rows code old new = IsRowSet old.table.shape.rows rows × (answer : Result (Unit {0}) FillFault) × (code ≡ fill_code answer) × FillsKey key number rows old new answer
+abbrev pub MapFills : ℕ → ℕ → List Row → Caller → Caller → ℕ → Type 0
+MapFills key number rows old new code = IsRowSet old.table.shape.rows rows × (answer : Result (Unit {0}) FillFault) × (code ≡ fill_code answer) × FillsKey key number rows old new answer
 
-abbrev pub FillsByCode : ℕ → ℕ → List Row → ℕ → Caller → Caller → Type 0
-FillsByCode key number rows code old new = RefusesRows rows code old new ⊎ MapFills key number rows code old new
+abbrev pub FillsByCode : ℕ → ℕ → List Row → Caller → Caller → ℕ → Type 0
+FillsByCode key number rows old new code = RefusesRows rows old new code ⊎ MapFills key number rows old new code
 
 -- and for a replacement
-abbrev pub MapReplaces : ℕ → List Row → ℕ → Caller → Caller → Type 0
-MapReplaces key rows code old new = IsRowSet old.table.shape.rows rows × (answer : Result (Unit {0}) ReplaceFault) × (code ≡ replace_code answer) × ReplacesKey key rows old new answer
+abbrev pub MapReplaces : ℕ → List Row → Caller → Caller → ℕ → Type 0
+MapReplaces key rows old new code = IsRowSet old.table.shape.rows rows × (answer : Result (Unit {0}) ReplaceFault) × (code ≡ replace_code answer) × ReplacesKey key rows old new answer
 
-abbrev pub ReplacesByCode : ℕ → List Row → ℕ → Caller → Caller → Type 0
-ReplacesByCode key rows code old new = RefusesRows rows code old new ⊎ MapReplaces key rows code old new
+abbrev pub ReplacesByCode : ℕ → List Row → Caller → Caller → ℕ → Type 0
+ReplacesByCode key rows old new code = RefusesRows rows old new code ⊎ MapReplaces key rows old new code
 
 -- signed rows that are none or too many, and any others
-abbrev pub RefusesBatch : List Delta → ℕ → Caller → Caller → Type 0
-RefusesBatch deltas code old new = (code ≡ answer_bad_batch) × ((length deltas ≡ 0) ⊎ (MAX_DELTAS < length deltas)) × (new ≡ old)
+abbrev pub RefusesBatch : List Delta → Caller → Caller → ℕ → Type 0
+RefusesBatch deltas old new code = (code ≡ answer_bad_batch) × ((length deltas ≡ 0) ⊎ (MAX_DELTAS < length deltas)) × (new ≡ old)
 
-abbrev pub MapUpdates : ℕ → List Delta → ℕ → Caller → Caller → Type 0
-MapUpdates key deltas code old new = IsBatch deltas × (answer : Result (Unit {0}) UpdateFault) × (code ≡ update_code answer) × UpdatesKey old.table.shape.rows key deltas old new answer
+abbrev pub MapUpdates : ℕ → List Delta → Caller → Caller → ℕ → Type 0
+MapUpdates key deltas old new code = IsBatch deltas × (answer : Result (Unit {0}) UpdateFault) × (code ≡ update_code answer) × UpdatesKey old.table.shape.rows key deltas old new answer
 
-abbrev pub UpdatesByCode : ℕ → List Delta → ℕ → Caller → Caller → Type 0
-UpdatesByCode key deltas code old new = RefusesBatch deltas code old new ⊎ MapUpdates key deltas code old new
+abbrev pub UpdatesByCode : ℕ → List Delta → Caller → Caller → ℕ → Type 0
+UpdatesByCode key deltas old new code = RefusesBatch deltas old new code ⊎ MapUpdates key deltas old new code
 
-abbrev pub EvictsByCode : ℕ → ℕ → Caller → Caller → Type 0
-EvictsByCode key code old new = (answer : Evict) × (code ≡ evict_code answer) × EvictsKey key old new answer
+abbrev pub EvictsByCode : ℕ → Caller → Caller → ℕ → Type 0
+EvictsByCode key old new code = (answer : Evict) × (code ≡ evict_code answer) × EvictsKey key old new answer
 
-abbrev pub CancelsByCode : ℕ → ℕ → Caller → Caller → Type 0
-CancelsByCode key code old new = (answer : Cancel) × (code ≡ cancel_code answer) × CancelsKey key old new answer
+abbrev pub CancelsByCode : ℕ → Caller → Caller → ℕ → Type 0
+CancelsByCode key old new code = (answer : Cancel) × (code ≡ cancel_code answer) × CancelsKey key old new answer
 
-abbrev pub StatesByCode : ℕ → ℕ → Caller → Caller → Type 0
-StatesByCode key code old new = (kind : KeyKind) × (code ≡ kind_code kind) × StatesKey key old new kind
+abbrev pub StatesByCode : ℕ → Caller → Caller → ℕ → Type 0
+StatesByCode key old new code = (kind : KeyKind) × (code ≡ kind_code kind) × StatesKey key old new kind
 
 -- the number of a key's request, or of its next one, after all that the writer has seen, is told; the writer stays
-abbrev pub IsNumber : ℕ → ℕ → ℕ → Caller → Caller → Type 0
-IsNumber key told code old new = (code ≡ answer_done) × (told ≡ number_of (state_of (map_seen old) key)) × (new ≡ old)
+abbrev pub IsNumber : ℕ → ℕ → Caller → Caller → ℕ → Type 0
+IsNumber key told old new code = (code ≡ answer_done) × (told ≡ number_of (state_of (map_seen old) key)) × (new ≡ old)

@@ -12,7 +12,7 @@ use crate::id_writer_handle::NrIdWriter;
 /// 0, with no step. Takes 1 to 16 looks at names, and then 1 step, or 2 where the answer is `NR_DONE`.
 #[unsafe(no_mangle)]
 pub extern "C" fn nr_uses_id(writer: &mut NrIdWriter, id: u64) -> u32
-    ensures { WhenLive result ⊤ (WithId id result ⊤ (IdWriterCalls (UsesIdByCode id result))) writer.old.live writer.new.live }
+    ensures { WhenLive ⊤ (WithId id ⊤ (IdWriterCalls (UsesIdByCode id))) writer.old.live writer.new.live result }
 {
     if !writer.is_live() {
         return NR_CLOSED;
@@ -30,7 +30,7 @@ pub extern "C" fn nr_uses_id(writer: &mut NrIdWriter, id: u64) -> u32
 /// `chosen` stays. `NR_NO_KEY` for the id 0, with no step. Takes 3 steps.
 #[unsafe(no_mangle)]
 pub extern "C" fn nr_choose_id(writer: &mut NrIdWriter, id: u64, chosen: &mut u64) -> u32
-    ensures { WhenLive result (chosen.new ≡ chosen.old) (WithId id result (chosen.new ≡ chosen.old) (IdWriterCalls (ChoosesIdByCode id chosen.old chosen.new result))) writer.old.live writer.new.live }
+    ensures { WhenLive (chosen.new ≡ chosen.old) (WithId id (chosen.new ≡ chosen.old) (IdWriterCalls (ChoosesIdByCode id chosen.old chosen.new))) writer.old.live writer.new.live result }
 {
     if !writer.is_live() {
         return NR_CLOSED;

@@ -14,7 +14,7 @@ use crate::id_writer_handle::NrIdWriter;
 /// `NR_NO_KEY` for the id 0, with no step. Takes the steps of the one or the other.
 #[unsafe(no_mangle)]
 pub extern "C" fn nr_invalidate_id(writer: &mut NrIdWriter, id: u64) -> u32
-    ensures { WhenLive result ⊤ (WithId id result ⊤ (IdWriterTurns (InvalidatesIdByCode id result))) writer.old.live writer.new.live }
+    ensures { WhenLive ⊤ (WithId id ⊤ (IdWriterTurns (InvalidatesIdByCode id))) writer.old.live writer.new.live result }
 {
     if !writer.is_live() {
         return NR_CLOSED;

@@ -33,7 +33,7 @@ pub struct NrWantedId {
 /// reader holds a set.
 #[unsafe(no_mangle)]
 pub extern "C" fn nr_find_each_id(reader: &mut NrIdReader, wanted: &mut [NrWantedId]) -> u32
-    ensures { WhenLive result (wanted.new ≡ wanted.old) (WithIds wanted.old result (wanted.new ≡ wanted.old) (WhenIdleById result (wanted.new ≡ wanted.old) (FindsSomeIds wanted.old wanted.new result))) reader.old.live reader.new.live }
+    ensures { WhenLive (wanted.new ≡ wanted.old) (WithIds wanted.old (wanted.new ≡ wanted.old) (WhenIdleById (wanted.new ≡ wanted.old) (FindsSomeIds wanted.old wanted.new))) reader.old.live reader.new.live result }
 {
     if !reader.is_live() {
         return NR_CLOSED;

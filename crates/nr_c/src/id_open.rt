@@ -25,7 +25,7 @@ use std::sync::Arc;
 /// 4,194,303; or `NR_NO_MEMORY`. The handle stays as it was where it isn't done.
 #[unsafe(no_mangle)]
 pub extern "C" fn nr_open_ids(alloc: Global, shape: &NrIdShape, writer: &mut NrIdWriter) -> u32
-    ensures { WhenEmpty result (OpensIdMap (id_shape_of shape.now) result) writer.old.live writer.new.live }
+    ensures { WhenEmpty (OpensIdMap (id_shape_of shape.now)) writer.old.live writer.new.live result }
 {
     if writer.is_live() {
         return NR_LIVE;
@@ -69,7 +69,7 @@ pub extern "C" fn nr_open_id_reader(
     writer: &mut NrIdWriter,
     reader: &mut NrIdReader,
 ) -> u32
-    ensures { WhenOther result (TakesIdReader result) writer.old.live reader.old.live writer.new.live reader.new.live }
+    ensures { WhenOther TakesIdReader writer.old.live reader.old.live writer.new.live reader.new.live result }
 {
     if !writer.is_live() {
         return NR_CLOSED;

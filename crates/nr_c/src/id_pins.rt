@@ -20,7 +20,7 @@ use nr_model::Row;
 /// `NR_NO_KEY` for the id 0, or `NR_HOLDING` where it holds a set, with no step.
 #[unsafe(no_mangle)]
 pub extern "C" fn nr_pin_id(reader: &mut NrIdReader, id: u64, count: &mut u32) -> u32
-    ensures { ByIdleIdReader id result (count.new ≡ count.old) (IdHandTurns (PinsIdByCode id count.old count.new result)) reader.old.live reader.new.live }
+    ensures { ByIdleIdReader id (count.new ≡ count.old) (IdHandTurns (PinsIdByCode id count.old count.new)) reader.old.live reader.new.live result }
 {
     if !reader.is_live() {
         return NR_CLOSED;
@@ -49,7 +49,7 @@ pub extern "C" fn nr_pin_id(reader: &mut NrIdReader, id: u64, count: &mut u32) -
 /// `NR_ROWS`, nothing is held and the caller's cells stay.
 #[unsafe(no_mangle)]
 pub extern "C" fn nr_find_kept_id(reader: &mut NrIdReader, id: u64, rows: &mut NrRows) -> u32
-    ensures { WhenLive result (rows.new ≡ rows.old) (WithId id result (rows.new ≡ rows.old) (IdHandTurns (KeepsIdByCode id rows.old rows.new result))) reader.old.live reader.new.live }
+    ensures { WhenLive (rows.new ≡ rows.old) (WithId id (rows.new ≡ rows.old) (IdHandTurns (KeepsIdByCode id rows.old rows.new))) reader.old.live reader.new.live result }
 {
     if !reader.is_live() {
         return NR_CLOSED;
@@ -65,7 +65,7 @@ pub extern "C" fn nr_find_kept_id(reader: &mut NrIdReader, id: u64, rows: &mut N
 /// `NR_NOT_HOLDING` where nothing is held. No step.
 #[unsafe(no_mangle)]
 pub extern "C" fn nr_row_at_id(reader: &mut NrIdReader, place: u32, row: &mut Row) -> u32
-    ensures { WhenLive result (row.new ≡ row.old) (WhenHoldingById result (row.new ≡ row.old) (IdHandTurns (ReadsIdRow place row.old row.new result))) reader.old.live reader.new.live }
+    ensures { WhenLive (row.new ≡ row.old) (WhenHoldingById (row.new ≡ row.old) (IdHandTurns (ReadsIdRow place row.old row.new))) reader.old.live reader.new.live result }
 {
     if !reader.is_live() {
         return NR_CLOSED;
@@ -86,7 +86,7 @@ pub extern "C" fn nr_row_at_id(reader: &mut NrIdReader, place: u32, row: &mut Ro
 /// stay. No step.
 #[unsafe(no_mangle)]
 pub extern "C" fn nr_copy_id(reader: &mut NrIdReader, rows: &mut NrRows) -> u32
-    ensures { WhenLive result (rows.new ≡ rows.old) (WhenHoldingById result (rows.new ≡ rows.old) (IdHandTurns (CopiesIdSet rows.new result))) reader.old.live reader.new.live }
+    ensures { WhenLive (rows.new ≡ rows.old) (WhenHoldingById (rows.new ≡ rows.old) (IdHandTurns (CopiesIdSet rows.new))) reader.old.live reader.new.live result }
 {
     if !reader.is_live() {
         return NR_CLOSED;
@@ -106,7 +106,7 @@ pub extern "C" fn nr_copy_id(reader: &mut NrIdReader, rows: &mut NrRows) -> u32
 /// step.
 #[unsafe(no_mangle)]
 pub extern "C" fn nr_again_id(reader: &mut NrIdReader, id: u64) -> u32
-    ensures { WhenLive result ⊤ (WithId id result ⊤ (WhenHoldingById result ⊤ (IdHandTurns (FindsIdByHold id result)))) reader.old.live reader.new.live }
+    ensures { WhenLive ⊤ (WithId id ⊤ (WhenHoldingById ⊤ (IdHandTurns (FindsIdByHold id)))) reader.old.live reader.new.live result }
 {
     if !reader.is_live() {
         return NR_CLOSED;
@@ -125,7 +125,7 @@ pub extern "C" fn nr_again_id(reader: &mut NrIdReader, id: u64) -> u32
 /// Ends the hold, in 1 step: `NR_DONE`; or `NR_NOT_HOLDING` with no step.
 #[unsafe(no_mangle)]
 pub extern "C" fn nr_release_id(reader: &mut NrIdReader) -> u32
-    ensures { WhenLive result ⊤ (WhenHoldingById result ⊤ (IdHandTurns (ReleasesId result))) reader.old.live reader.new.live }
+    ensures { WhenLive ⊤ (WhenHoldingById ⊤ (IdHandTurns ReleasesId)) reader.old.live reader.new.live result }
 {
     if !reader.is_live() {
         return NR_CLOSED;

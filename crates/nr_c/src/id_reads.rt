@@ -18,7 +18,7 @@ use crate::rows::NrRows;
 /// else 2n + 7 for n rows, more where the way is written meanwhile, and 1 or 2 at the mark of a found way.
 #[unsafe(no_mangle)]
 pub extern "C" fn nr_find_id(reader: &mut NrIdReader, id: u64, rows: &mut NrRows) -> u32
-    ensures { ByIdleIdReader id result (rows.new ≡ rows.old) (IdReaderCalls (FindsIdByCode id rows.old rows.new result)) reader.old.live reader.new.live }
+    ensures { ByIdleIdReader id (rows.new ≡ rows.old) (IdReaderCalls (FindsIdByCode id rows.old rows.new)) reader.old.live reader.new.live result }
 {
     if !reader.is_live() {
         return NR_CLOSED;
@@ -40,7 +40,7 @@ pub extern "C" fn nr_find_id(reader: &mut NrIdReader, id: u64, rows: &mut NrRows
 /// the call, 2 to 17 where a way has the name, else 1. A set that the reader holds stays held.
 #[unsafe(no_mangle)]
 pub extern "C" fn nr_request_id(reader: &mut NrIdReader, id: u64) -> u32
-    ensures { WhenLive result ⊤ (WithId id result ⊤ (IdHandTurns (RequestsByCode id result))) reader.old.live reader.new.live }
+    ensures { WhenLive ⊤ (WithId id ⊤ (IdHandTurns (RequestsByCode id))) reader.old.live reader.new.live result }
 {
     if !reader.is_live() {
         return NR_CLOSED;

@@ -24,7 +24,7 @@ pub extern "C" fn nr_fill_id_reclaiming(
     rows: &[Row],
     had: &mut NrRows,
 ) -> u32
-    ensures { WhenLive result (had.new ≡ had.old) (IdWriterTurns (FillsIdReclaimingByCode upquery.now rows.now had.old had.new result)) writer.old.live writer.new.live }
+    ensures { WhenLive (had.new ≡ had.old) (IdWriterTurns (FillsIdReclaimingByCode upquery.now rows.now had.old had.new)) writer.old.live writer.new.live result }
 {
     if !writer.is_live() {
         return NR_CLOSED;
@@ -57,7 +57,7 @@ pub extern "C" fn nr_update_id_reclaiming(
     deltas: &[Delta],
     had: &mut NrRows,
 ) -> u32
-    ensures { WhenLive result (had.new ≡ had.old) (WithId id result (had.new ≡ had.old) (IdWriterTurns (UpdatesIdReclaimingByCode id deltas.now had.old had.new result))) writer.old.live writer.new.live }
+    ensures { WhenLive (had.new ≡ had.old) (WithId id (had.new ≡ had.old) (IdWriterTurns (UpdatesIdReclaimingByCode id deltas.now had.old had.new))) writer.old.live writer.new.live result }
 {
     if !writer.is_live() {
         return NR_CLOSED;
@@ -83,7 +83,7 @@ pub extern "C" fn nr_replace_id_reclaiming(
     rows: &[Row],
     had: &mut NrRows,
 ) -> u32
-    ensures { WhenLive result (had.new ≡ had.old) (WithId id result (had.new ≡ had.old) (IdWriterTurns (ReplacesIdReclaimingByCode id rows.now had.old had.new result))) writer.old.live writer.new.live }
+    ensures { WhenLive (had.new ≡ had.old) (WithId id (had.new ≡ had.old) (IdWriterTurns (ReplacesIdReclaimingByCode id rows.now had.old had.new))) writer.old.live writer.new.live result }
 {
     if !writer.is_live() {
         return NR_CLOSED;
@@ -104,7 +104,7 @@ pub extern "C" fn nr_replace_id_reclaiming(
 /// waits; then `had` stays. Takes a step for each set that it polls, and 2m + 1 for a set of m rows.
 #[unsafe(no_mangle)]
 pub extern "C" fn nr_reap_id(writer: &mut NrIdWriter, had: &mut NrRows) -> u32
-    ensures { WhenLive result (had.new ≡ had.old) (IdWriterTurns (ReapsIdByCode had.old had.new result)) writer.old.live writer.new.live }
+    ensures { WhenLive (had.new ≡ had.old) (IdWriterTurns (ReapsIdByCode had.old had.new)) writer.old.live writer.new.live result }
 {
     if !writer.is_live() {
         return NR_CLOSED;

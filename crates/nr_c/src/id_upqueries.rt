@@ -22,7 +22,7 @@ use nr_model::Row;
 /// writer and 3 of its reader; refused, 1 to 17 of the directory.
 #[unsafe(no_mangle)]
 pub extern "C" fn nr_admit(writer: &mut NrIdWriter, id: u64, upquery: &mut NrUpquery) -> u32
-    ensures { WhenLive result (upquery.new ≡ upquery.old) (WithId id result (upquery.new ≡ upquery.old) (IdWriterTurns (AdmitsByCode id upquery.old upquery.new result))) writer.old.live writer.new.live }
+    ensures { WhenLive (upquery.new ≡ upquery.old) (WithId id (upquery.new ≡ upquery.old) (IdWriterTurns (AdmitsByCode id upquery.old upquery.new))) writer.old.live writer.new.live result }
 {
     if !writer.is_live() {
         return NR_CLOSED;
@@ -46,7 +46,7 @@ pub extern "C" fn nr_admit(writer: &mut NrIdWriter, id: u64, upquery: &mut NrUpq
 /// open still. Takes 1 to 16 steps of the directory, and those of the map's fill for a row more.
 #[unsafe(no_mangle)]
 pub extern "C" fn nr_fill_id(writer: &mut NrIdWriter, upquery: &NrUpquery, rows: &[Row]) -> u32
-    ensures { WhenLive result ⊤ (IdWriterTurns (FillsIdByCode upquery.now rows.now result)) writer.old.live writer.new.live }
+    ensures { WhenLive ⊤ (IdWriterTurns (FillsIdByCode upquery.now rows.now)) writer.old.live writer.new.live result }
 {
     if !writer.is_live() {
         return NR_CLOSED;
@@ -74,7 +74,7 @@ pub extern "C" fn nr_fill_id(writer: &mut NrIdWriter, upquery: &NrUpquery, rows:
 /// the map and no more where it is worn.
 #[unsafe(no_mangle)]
 pub extern "C" fn nr_withdraw_id(writer: &mut NrIdWriter, upquery: &NrUpquery) -> u32
-    ensures { WhenLive result ⊤ (IdWriterTurns (WithdrawsByCode upquery.now result)) writer.old.live writer.new.live }
+    ensures { WhenLive ⊤ (IdWriterTurns (WithdrawsByCode upquery.now)) writer.old.live writer.new.live result }
 {
     if !writer.is_live() {
         return NR_CLOSED;
@@ -84,7 +84,7 @@ pub extern "C" fn nr_withdraw_id(writer: &mut NrIdWriter, upquery: &NrUpquery) -
 
 /// Takes an upquery back that a writer opened, where these are its numbers.
 pub fn take_back(side: &mut IdWriterSide, upquery: NrUpquery) -> u32
-    ensures withdraws { WithdrawsByCode upquery result side.old.writer side.old.ledger side.new.writer side.new.ledger }
+    ensures withdraws { WithdrawsByCode upquery side.old side.new result }
     ensures map { side.new.map ≡ side.old.map }
     ensures spare { side.new.spare ≡ side.old.spare }
 {

@@ -16,7 +16,7 @@ use nr_model::{Delta, Row};
 /// stay. Takes 1 to 16 steps of the directory; then 1 where the way is a hole, and 2n + 4 for n rows.
 #[unsafe(no_mangle)]
 pub extern "C" fn nr_look_id(writer: &mut NrIdWriter, id: u64, rows: &mut NrRows) -> u32
-    ensures { WhenLive result (rows.new ≡ rows.old) (WithId id result (rows.new ≡ rows.old) (IdWriterCalls (LooksIdByCode id rows.old rows.new result))) writer.old.live writer.new.live }
+    ensures { WhenLive (rows.new ≡ rows.old) (WithId id (rows.new ≡ rows.old) (IdWriterCalls (LooksIdByCode id rows.old rows.new))) writer.old.live writer.new.live result }
 {
     if !writer.is_live() {
         return NR_CLOSED;
@@ -34,7 +34,7 @@ pub extern "C" fn nr_look_id(writer: &mut NrIdWriter, id: u64, rows: &mut NrRows
 /// the id's upquery is under way.
 #[unsafe(no_mangle)]
 pub extern "C" fn nr_update_id(writer: &mut NrIdWriter, id: u64, deltas: &[Delta]) -> u32
-    ensures { WhenLive result ⊤ (WithId id result ⊤ (IdWriterCalls (UpdatesIdByCode id deltas.now result))) writer.old.live writer.new.live }
+    ensures { WhenLive ⊤ (WithId id ⊤ (IdWriterCalls (UpdatesIdByCode id deltas.now))) writer.old.live writer.new.live result }
 {
     if !writer.is_live() {
         return NR_CLOSED;
@@ -55,7 +55,7 @@ pub extern "C" fn nr_update_id(writer: &mut NrIdWriter, id: u64, deltas: &[Delta
 /// under way.
 #[unsafe(no_mangle)]
 pub extern "C" fn nr_replace_id(writer: &mut NrIdWriter, id: u64, rows: &[Row]) -> u32
-    ensures { WhenLive result ⊤ (WithId id result ⊤ (IdWriterCalls (ReplacesIdByCode id rows.now result))) writer.old.live writer.new.live }
+    ensures { WhenLive ⊤ (WithId id ⊤ (IdWriterCalls (ReplacesIdByCode id rows.now))) writer.old.live writer.new.live result }
 {
     if !writer.is_live() {
         return NR_CLOSED;
@@ -76,7 +76,7 @@ pub extern "C" fn nr_replace_id(writer: &mut NrIdWriter, id: u64, rows: &[Row]) 
 /// 1 or none of the map, and no more.
 #[unsafe(no_mangle)]
 pub extern "C" fn nr_evict_id(writer: &mut NrIdWriter, id: u64) -> u32
-    ensures { WhenLive result ⊤ (WithId id result ⊤ (IdWriterCalls (EvictsIdByCode id result))) writer.old.live writer.new.live }
+    ensures { WhenLive ⊤ (WithId id ⊤ (IdWriterCalls (EvictsIdByCode id))) writer.old.live writer.new.live result }
 {
     if !writer.is_live() {
         return NR_CLOSED;

@@ -13,7 +13,7 @@ use crate::rows::NrRows;
 /// caller's cells stay; or `NR_NO_KEY` with no step.
 #[unsafe(no_mangle)]
 pub extern "C" fn nr_find_kept(reader: &mut NrReader, key: u32, rows: &mut NrRows) -> u32
-    ensures { WhenLive result (rows.new ≡ rows.old) (WithKey reader_keys key result (rows.new ≡ rows.old) (KeepsByCode key rows.old rows.new result)) reader.old.live reader.new.live }
+    ensures { WhenLive (rows.new ≡ rows.old) (WithKey reader_keys key (rows.new ≡ rows.old) (KeepsByCode key rows.old rows.new)) reader.old.live reader.new.live result }
 {
     if !reader.is_live() {
         return NR_CLOSED;

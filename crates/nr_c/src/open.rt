@@ -26,7 +26,7 @@ use std::sync::Arc;
 /// The handle stays as it was where it isn't done.
 #[unsafe(no_mangle)]
 pub extern "C" fn nr_open(alloc: Global, shape: &NrShape, writer: &mut NrWriter) -> u32
-    ensures { WhenEmpty result (Opens (shape_of_sizes shape.now) result) writer.old.live writer.new.live }
+    ensures { WhenEmpty (Opens (shape_of_sizes shape.now)) writer.old.live writer.new.live result }
 {
     if writer.is_live() {
         return NR_LIVE;
@@ -72,7 +72,7 @@ fn opened(alloc: Global, shape: &NrShape) -> Result<Box<WriterSide, Global>, Ope
 /// `NR_NO_MEMORY`. The reader's handle stays as it was where it isn't done.
 #[unsafe(no_mangle)]
 pub extern "C" fn nr_open_reader(alloc: Global, writer: &mut NrWriter, reader: &mut NrReader) -> u32
-    ensures { WhenOther result (TakesReader result) writer.old.live reader.old.live writer.new.live reader.new.live }
+    ensures { WhenOther TakesReader writer.old.live reader.old.live writer.new.live reader.new.live result }
 {
     if !writer.is_live() {
         return NR_CLOSED;
@@ -125,7 +125,7 @@ pub extern "C" fn nr_return_reader(
     reader: &mut NrReader,
 ) -> u32
     requires one_map { OneMap reader.old.live writer.old.live }
-    ensures { WhenBothLive result (ReturnsReader result) writer.old.live reader.old.live writer.new.live reader.new.live }
+    ensures { WhenBothLive ReturnsReader writer.old.live reader.old.live writer.new.live reader.new.live result }
 {
     if !writer.is_live() || !reader.is_live() {
         return NR_CLOSED;
@@ -163,7 +163,7 @@ pub extern "C" fn nr_close_writer(alloc: Global, writer: &mut NrWriter)
 /// The map's sizes: `NR_DONE`; or `NR_CLOSED`, and `sizes` stay.
 #[unsafe(no_mangle)]
 pub extern "C" fn nr_sizes(reader: &mut NrReader, sizes: &mut NrSizes) -> u32
-    ensures { WhenLive result (sizes.new ≡ sizes.old) (TellsSizes sizes.new result) reader.old.live reader.new.live }
+    ensures { WhenLive (sizes.new ≡ sizes.old) (TellsSizes sizes.new) reader.old.live reader.new.live result }
 {
     if !reader.is_live() {
         return NR_CLOSED;

@@ -17,7 +17,7 @@ use nr_model::Row;
 /// `NR_NO_KEY`, or `NR_HOLDING` where it holds a set, with no step.
 #[unsafe(no_mangle)]
 pub extern "C" fn nr_pin(reader: &mut NrReader, key: u32, count: &mut u32) -> u32
-    ensures { ByIdleReader key result (count.new ≡ count.old) (PinsCells key count.old count.new result) reader.old.live reader.new.live }
+    ensures { ByIdleReader key (count.new ≡ count.old) (PinsCells key count.old count.new) reader.old.live reader.new.live result }
 {
     if !reader.is_live() {
         return NR_CLOSED;
@@ -40,7 +40,7 @@ pub extern "C" fn nr_pin(reader: &mut NrReader, key: u32, count: &mut u32) -> u3
 /// no step, and `row` stays. `NR_NOT_HOLDING` where nothing is held, with no step.
 #[unsafe(no_mangle)]
 pub extern "C" fn nr_row_at(reader: &mut NrReader, place: u32, row: &mut Row) -> u32
-    ensures { WhenLive result (row.new ≡ row.old) (WhenHolding result (row.new ≡ row.old) (ReadsRow place row.old row.new result)) reader.old.live reader.new.live }
+    ensures { WhenLive (row.new ≡ row.old) (WhenHolding (row.new ≡ row.old) (ReadsRow place row.old row.new)) reader.old.live reader.new.live result }
 {
     if !reader.is_live() {
         return NR_CLOSED;
@@ -60,7 +60,7 @@ pub extern "C" fn nr_row_at(reader: &mut NrReader, place: u32, row: &mut Row) ->
 /// or `NR_NOT_HOLDING`, and they stay.
 #[unsafe(no_mangle)]
 pub extern "C" fn nr_copy(reader: &mut NrReader, rows: &mut NrRows) -> u32
-    ensures { WhenLive result (rows.new ≡ rows.old) (WhenHolding result (rows.new ≡ rows.old) (CopiesSet rows.new result)) reader.old.live reader.new.live }
+    ensures { WhenLive (rows.new ≡ rows.old) (WhenHolding (rows.new ≡ rows.old) (CopiesSet rows.new)) reader.old.live reader.new.live result }
 {
     if !reader.is_live() {
         return NR_CLOSED;
@@ -79,7 +79,7 @@ pub extern "C" fn nr_copy(reader: &mut NrReader, rows: &mut NrRows) -> u32
 /// `NR_NO_KEY`, or `NR_NOT_HOLDING` where nothing is held, with no step.
 #[unsafe(no_mangle)]
 pub extern "C" fn nr_again(reader: &mut NrReader, key: u32) -> u32
-    ensures { WhenLive result ⊤ (WithKey reader_keys key result ⊤ (WhenHolding result ⊤ (FindsByHold key result))) reader.old.live reader.new.live }
+    ensures { WhenLive ⊤ (WithKey reader_keys key ⊤ (WhenHolding ⊤ (FindsByHold key))) reader.old.live reader.new.live result }
 {
     if !reader.is_live() {
         return NR_CLOSED;
@@ -99,7 +99,7 @@ pub extern "C" fn nr_again(reader: &mut NrReader, key: u32) -> u32
 /// Ends the hold, in 1 step: `NR_DONE`; or `NR_NOT_HOLDING` with no step.
 #[unsafe(no_mangle)]
 pub extern "C" fn nr_release(reader: &mut NrReader) -> u32
-    ensures { WhenLive result ⊤ (WhenHolding result ⊤ (Releases result)) reader.old.live reader.new.live }
+    ensures { WhenLive ⊤ (WhenHolding ⊤ Releases) reader.old.live reader.new.live result }
 {
     if !reader.is_live() {
         return NR_CLOSED;

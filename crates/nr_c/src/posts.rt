@@ -14,7 +14,7 @@ use nr_trigger::Upquery;
 /// where the queue has no such key.
 #[unsafe(no_mangle)]
 pub extern "C" fn nr_post(poster: &mut NrPoster, key: u32, number: u64) -> u32
-    ensures { WhenLive result ⊤ (WithKey poster_keys key result ⊤ (PostsOn key number result)) poster.old.live poster.new.live }
+    ensures { WhenLive ⊤ (WithKey poster_keys key ⊤ (PostsOn key number)) poster.old.live poster.new.live result }
 {
     if !poster.is_live() {
         return NR_CLOSED;
@@ -33,7 +33,7 @@ pub extern "C" fn nr_post(poster: &mut NrPoster, key: u32, number: u64) -> u32
 /// changed.
 #[unsafe(no_mangle)]
 pub extern "C" fn nr_take(taker: &mut NrTaker, key: &mut u32, number: &mut u64) -> u32
-    ensures { WhenLive result ((key.new ≡ key.old) × (number.new ≡ number.old)) (TakerCalls (TakesByCode key.old number.old key.new number.new result)) taker.old.live taker.new.live }
+    ensures { WhenLive ((key.new ≡ key.old) × (number.new ≡ number.old)) (TakerCalls (TakesByCode key.old number.old key.new number.new)) taker.old.live taker.new.live result }
 {
     if !taker.is_live() {
         return NR_CLOSED;

@@ -27,7 +27,7 @@ pub extern "C" fn nr_open_queue(
     posters: u32,
     taker: &mut NrTaker,
 ) -> u32
-    ensures { WhenEmpty result (OpensQueue capacity posters keys result) taker.old.live taker.new.live }
+    ensures { WhenEmpty (OpensQueue capacity posters keys) taker.old.live taker.new.live result }
 {
     if taker.is_live() {
         return NR_LIVE;
@@ -70,7 +70,7 @@ fn opened_queue(
 /// `NR_NO_MEMORY`. The poster's handle stays as it was where it isn't done.
 #[unsafe(no_mangle)]
 pub extern "C" fn nr_open_poster(alloc: Global, taker: &mut NrTaker, poster: &mut NrPoster) -> u32
-    ensures { WhenOther result (TakesPoster result) taker.old.live poster.old.live taker.new.live poster.new.live }
+    ensures { WhenOther TakesPoster taker.old.live poster.old.live taker.new.live poster.new.live result }
 {
     if !taker.is_live() {
         return NR_CLOSED;
@@ -133,7 +133,7 @@ fn posting(
 #[unsafe(no_mangle)]
 pub extern "C" fn nr_return_poster(alloc: Global, taker: &mut NrTaker, poster: &mut NrPoster) -> u32
     requires one_queue { OneQueue taker.old.live poster.old.live }
-    ensures { WhenBothLive result (ReturnsPoster result) taker.old.live poster.old.live taker.new.live poster.new.live }
+    ensures { WhenBothLive ReturnsPoster taker.old.live poster.old.live taker.new.live poster.new.live result }
 {
     if !taker.is_live() || !poster.is_live() {
         return NR_CLOSED;

@@ -12,7 +12,7 @@ use nr_map::Asked;
 /// `NR_HOLDING` where the reader holds a set, with no step.
 #[unsafe(no_mangle)]
 pub extern "C" fn nr_find(reader: &mut NrReader, key: u32, rows: &mut NrRows) -> u32
-    ensures { ByIdleReader key result (rows.new ≡ rows.old) (ReaderCalls (FindsByCode key rows.old rows.new result)) reader.old.live reader.new.live }
+    ensures { ByIdleReader key (rows.new ≡ rows.old) (ReaderCalls (FindsByCode key rows.old rows.new)) reader.old.live reader.new.live result }
 {
     if !reader.is_live() {
         return NR_CLOSED;
@@ -32,7 +32,7 @@ pub extern "C" fn nr_find(reader: &mut NrReader, key: u32, rows: &mut NrRows) ->
 /// or `NR_HOLDING` where the reader holds a set, with no step.
 #[unsafe(no_mangle)]
 pub extern "C" fn nr_ask(reader: &mut NrReader, key: u32, number: &mut u64) -> u32
-    ensures { ByIdleReader key result (number.new ≡ number.old) (ReaderCalls (AsksByCode key number.old number.new result)) reader.old.live reader.new.live }
+    ensures { ByIdleReader key (number.new ≡ number.old) (ReaderCalls (AsksByCode key number.old number.new)) reader.old.live reader.new.live result }
 {
     if !reader.is_live() {
         return NR_CLOSED;

@@ -22,7 +22,7 @@ pub extern "C" fn nr_fill_reclaiming(
     rows: &[Row],
     had: &mut NrRows,
 ) -> u32
-    ensures { WhenLive result (had.new ≡ had.old) (WithKey writer_keys key result (had.new ≡ had.old) (WriterCalls (FillsReclaimingByCode key number rows.now had.old had.new result))) writer.old.live writer.new.live }
+    ensures { WhenLive (had.new ≡ had.old) (WithKey writer_keys key (had.new ≡ had.old) (WriterCalls (FillsReclaimingByCode key number rows.now had.old had.new))) writer.old.live writer.new.live result }
 {
     if !writer.is_live() {
         return NR_CLOSED;
@@ -48,7 +48,7 @@ pub extern "C" fn nr_update_reclaiming(
     deltas: &[Delta],
     had: &mut NrRows,
 ) -> u32
-    ensures { WhenLive result (had.new ≡ had.old) (WithKey writer_keys key result (had.new ≡ had.old) (WriterCalls (UpdatesReclaimingByCode key deltas.now had.old had.new result))) writer.old.live writer.new.live }
+    ensures { WhenLive (had.new ≡ had.old) (WithKey writer_keys key (had.new ≡ had.old) (WriterCalls (UpdatesReclaimingByCode key deltas.now had.old had.new))) writer.old.live writer.new.live result }
 {
     if !writer.is_live() {
         return NR_CLOSED;
@@ -74,7 +74,7 @@ pub extern "C" fn nr_replace_reclaiming(
     rows: &[Row],
     had: &mut NrRows,
 ) -> u32
-    ensures { WhenLive result (had.new ≡ had.old) (WithKey writer_keys key result (had.new ≡ had.old) (WriterCalls (ReplacesReclaimingByCode key rows.now had.old had.new result))) writer.old.live writer.new.live }
+    ensures { WhenLive (had.new ≡ had.old) (WithKey writer_keys key (had.new ≡ had.old) (WriterCalls (ReplacesReclaimingByCode key rows.now had.old had.new))) writer.old.live writer.new.live result }
 {
     if !writer.is_live() {
         return NR_CLOSED;
@@ -98,7 +98,7 @@ pub extern "C" fn nr_replace_reclaiming(
 /// m rows.
 #[unsafe(no_mangle)]
 pub extern "C" fn nr_reap(writer: &mut NrWriter, had: &mut NrRows) -> u32
-    ensures { WhenLive result (had.new ≡ had.old) (WriterCalls (ReapsByCode had.old had.new result)) writer.old.live writer.new.live }
+    ensures { WhenLive (had.new ≡ had.old) (WriterCalls (ReapsByCode had.old had.new)) writer.old.live writer.new.live result }
 {
     if !writer.is_live() {
         return NR_CLOSED;

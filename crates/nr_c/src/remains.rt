@@ -21,7 +21,7 @@ pub extern "C" fn nr_take_apart(
     writer: &mut NrWriter,
     remains: &mut NrRemains,
 ) -> u32
-    ensures { WhenOther result (TakesApart result) writer.old.live remains.old.live writer.new.live remains.new.live }
+    ensures { WhenOther TakesApart writer.old.live remains.old.live writer.new.live remains.new.live result }
 {
     if !writer.is_live() {
         return NR_CLOSED;
@@ -50,7 +50,7 @@ pub extern "C" fn nr_take_apart(
 /// stays.
 #[unsafe(no_mangle)]
 pub extern "C" fn nr_next(remains: &mut NrRemains, had: &mut NrRows) -> u32
-    ensures { WhenLive result (had.new ≡ had.old) (NextByCode had.old had.new result) remains.old.live remains.new.live }
+    ensures { WhenLive (had.new ≡ had.old) (NextByCode had.old had.new) remains.old.live remains.new.live result }
 {
     if !remains.is_live() {
         return NR_CLOSED;

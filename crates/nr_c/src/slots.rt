@@ -31,7 +31,7 @@ impl NrSlots {
 /// Counts the map's slots, in 1 step: `NR_DONE`.
 #[unsafe(no_mangle)]
 pub extern "C" fn nr_stats(writer: &mut NrWriter, slots: &mut NrSlots) -> u32
-    ensures { WhenLive result (slots.new ≡ slots.old) (WriterCalls (CountsByCode slots.new result)) writer.old.live writer.new.live }
+    ensures { WhenLive (slots.new ≡ slots.old) (WriterCalls (CountsByCode slots.new)) writer.old.live writer.new.live result }
 {
     if !writer.is_live() {
         return NR_CLOSED;

@@ -16,7 +16,7 @@ use nr_model::{Delta, Row};
 /// step.
 #[unsafe(no_mangle)]
 pub extern "C" fn nr_look(writer: &mut NrWriter, key: u32, rows: &mut NrRows) -> u32
-    ensures { WhenLive result (rows.new ≡ rows.old) (WithKey writer_keys key result (rows.new ≡ rows.old) (WriterCalls (LooksByCode key rows.old rows.new result))) writer.old.live writer.new.live }
+    ensures { WhenLive (rows.new ≡ rows.old) (WithKey writer_keys key (rows.new ≡ rows.old) (WriterCalls (LooksByCode key rows.old rows.new))) writer.old.live writer.new.live result }
 {
     if !writer.is_live() {
         return NR_CLOSED;
@@ -35,7 +35,7 @@ pub extern "C" fn nr_look(writer: &mut NrWriter, key: u32, rows: &mut NrRows) ->
 /// `NR_ALL_FILLED`.
 #[unsafe(no_mangle)]
 pub extern "C" fn nr_fill(writer: &mut NrWriter, key: u32, number: u64, rows: &[Row]) -> u32
-    ensures { WhenLive result ⊤ (WithKey writer_keys key result ⊤ (WriterCalls (FillsByCode key number rows.now result))) writer.old.live writer.new.live }
+    ensures { WhenLive ⊤ (WithKey writer_keys key ⊤ (WriterCalls (FillsByCode key number rows.now))) writer.old.live writer.new.live result }
 {
     if !writer.is_live() {
         return NR_CLOSED;
@@ -56,7 +56,7 @@ pub extern "C" fn nr_fill(writer: &mut NrWriter, key: u32, number: u64, rows: &[
 /// else `NR_ALL_FILLED`.
 #[unsafe(no_mangle)]
 pub extern "C" fn nr_update(writer: &mut NrWriter, key: u32, deltas: &[Delta]) -> u32
-    ensures { WhenLive result ⊤ (WithKey writer_keys key result ⊤ (WriterCalls (UpdatesByCode key deltas.now result))) writer.old.live writer.new.live }
+    ensures { WhenLive ⊤ (WithKey writer_keys key ⊤ (WriterCalls (UpdatesByCode key deltas.now))) writer.old.live writer.new.live result }
 {
     if !writer.is_live() {
         return NR_CLOSED;
@@ -77,7 +77,7 @@ pub extern "C" fn nr_update(writer: &mut NrWriter, key: u32, deltas: &[Delta]) -
 /// readers hold slots, and else `NR_ALL_FILLED`.
 #[unsafe(no_mangle)]
 pub extern "C" fn nr_replace(writer: &mut NrWriter, key: u32, rows: &[Row]) -> u32
-    ensures { WhenLive result ⊤ (WithKey writer_keys key result ⊤ (WriterCalls (ReplacesByCode key rows.now result))) writer.old.live writer.new.live }
+    ensures { WhenLive ⊤ (WithKey writer_keys key ⊤ (WriterCalls (ReplacesByCode key rows.now))) writer.old.live writer.new.live result }
 {
     if !writer.is_live() {
         return NR_CLOSED;
@@ -96,7 +96,7 @@ pub extern "C" fn nr_replace(writer: &mut NrWriter, key: u32, rows: &[Row]) -> u
 /// `NR_NOTHING`; or `NR_NO_KEY` with no step.
 #[unsafe(no_mangle)]
 pub extern "C" fn nr_evict(writer: &mut NrWriter, key: u32) -> u32
-    ensures { WhenLive result ⊤ (WithKey writer_keys key result ⊤ (WriterCalls (EvictsByCode key result))) writer.old.live writer.new.live }
+    ensures { WhenLive ⊤ (WithKey writer_keys key ⊤ (WriterCalls (EvictsByCode key))) writer.old.live writer.new.live result }
 {
     if !writer.is_live() {
         return NR_CLOSED;
@@ -112,7 +112,7 @@ pub extern "C" fn nr_evict(writer: &mut NrWriter, key: u32) -> u32
 /// `NR_CANCELLED`, `NR_NOTHING` or `NR_WORN`; or `NR_NO_KEY` with no step.
 #[unsafe(no_mangle)]
 pub extern "C" fn nr_cancel(writer: &mut NrWriter, key: u32) -> u32
-    ensures { WhenLive result ⊤ (WithKey writer_keys key result ⊤ (WriterCalls (CancelsByCode key result))) writer.old.live writer.new.live }
+    ensures { WhenLive ⊤ (WithKey writer_keys key ⊤ (WriterCalls (CancelsByCode key))) writer.old.live writer.new.live result }
 {
     if !writer.is_live() {
         return NR_CLOSED;
@@ -127,7 +127,7 @@ pub extern "C" fn nr_cancel(writer: &mut NrWriter, key: u32) -> u32
 /// What a key is, in 1 step: `NR_HOLE`, `NR_ASKED` or `NR_ROWS`; or `NR_NO_KEY` with no step.
 #[unsafe(no_mangle)]
 pub extern "C" fn nr_state(writer: &mut NrWriter, key: u32) -> u32
-    ensures { WhenLive result ⊤ (WithKey writer_keys key result ⊤ (WriterCalls (StatesByCode key result))) writer.old.live writer.new.live }
+    ensures { WhenLive ⊤ (WithKey writer_keys key ⊤ (WriterCalls (StatesByCode key))) writer.old.live writer.new.live result }
 {
     if !writer.is_live() {
         return NR_CLOSED;
@@ -143,7 +143,7 @@ pub extern "C" fn nr_state(writer: &mut NrWriter, key: u32) -> u32
 /// number. Answers `NR_DONE` or `NR_NO_KEY`. No step.
 #[unsafe(no_mangle)]
 pub extern "C" fn nr_number(writer: &mut NrWriter, key: u32, number: &mut u64) -> u32
-    ensures { WhenLive result (number.new ≡ number.old) (WithKey writer_keys key result (number.new ≡ number.old) (WriterCalls (IsNumber key number.new result))) writer.old.live writer.new.live }
+    ensures { WhenLive (number.new ≡ number.old) (WithKey writer_keys key (number.new ≡ number.old) (WriterCalls (IsNumber key number.new))) writer.old.live writer.new.live result }
 {
     if !writer.is_live() {
         return NR_CLOSED;

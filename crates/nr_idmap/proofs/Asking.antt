@@ -44,7 +44,7 @@ both_empty (x ∷ xs) ys none = absurd (cc (none))
 pub learnt : (steps : ℕ) (old new : Caller) → Rested old → Learns steps old new → Stayed old new
 learnt steps old new rested learns =
     let like : Caller = record new { pasts = old.pasts } in
-    let grows : Grows steps old [] like = record {
+    let grows : Grows steps [] old like = record {
       table = learns.table;
       number = learns.number;
       between = learns.seen.rest;
@@ -79,7 +79,7 @@ learnt_tied steps w a w' c tied learns =
 none_learnt : (steps : ℕ) (old new : Caller) → Rested old → (learns : Learns steps old new) → entries_of learns.seen.rest 0 ≡ []
 none_learnt steps old new rested learns =
     let like : Caller = record new { pasts = old.pasts } in
-    let grows : Grows steps old [] like = record {
+    let grows : Grows steps [] old like = record {
       table = learns.table;
       number = learns.number;
       between = learns.seen.rest;
@@ -218,7 +218,7 @@ module _ (w a w' a' : Caller) (c c' : Token) (tied : IsTied (keeper_of w a c)) (
       admits.0 agrees_now
 
   pub admitted : (number : ℕ) → number ≡ number_of (state_of (map_seen w') way) →
-      AdmitsId id (keeper_of w a c) (record { way = way; number = number; id = id }) (keeper_of w' a' c')
+      AdmitsId id (keeper_of w a c) (keeper_of w' a' c') (record { way = way; number = number; id = id })
   admitted number is = record {
     id_is = refl;
     names = admits;
@@ -234,13 +234,13 @@ module _ (w a w' a' : Caller) (c c' : Token) (tied : IsTied (keeper_of w a c)) (
   }
 
 -- a refusal is a few looks
-refused_looks : (id : ℕ) (c c' : Token) (why : Refused) → Admits id c c' (Err why) → (count : ℕ) × ids.Grows c (looks count c.number) c'
+refused_looks : (id : ℕ) (c c' : Token) (why : Refused) → Admits id c c' (Err why) → (count : ℕ) × ids.Grows (looks count c.number) c c'
 refused_looks id c c' refused.NoClaim h = (1, h.0)
 refused_looks id c c' (refused.Named way) h = (h.place + 2, h.grows)
 refused_looks id c c' refused.Full h = (places + 1, h.0)
 
 pub unadmitted : (w a : Caller) (c c' : Token) (id : ℕ) (why : Refused) → IsTied (keeper_of w a c) → Admits id c c' (Err why) →
-    IsTied (keeper_of w a c') × RefusesId id (keeper_of w a c) why (keeper_of w a c')
+    IsTied (keeper_of w a c') × RefusesId id (keeper_of w a c) (keeper_of w a c') why
 unadmitted w a c c' id why tied h =
     let look = refused_looks id c c' why h in let names = λ (k : ℕ). clerk_looks c look.0 c.number c' k tied.names.1 look.1 in (
       retied w a w a c c' (looks look.0 c.number) tied (rested_of w a c tied) refl (refl, tied.asks.1) look.1

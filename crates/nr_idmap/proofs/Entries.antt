@@ -49,7 +49,7 @@ pub record Waited (old : Caller) (log : List Entry) : Type 0 where
   pub still : (way : ℕ) → IsStill (state_of (map_seen old) way) (state_of (after (map_at_opening old.table) log) way)
   pub tidy : IsTidy (map_at_opening old.table) log
 
-module _ (steps : ℕ) (old new : Caller) (entries : List Entry) (rested : Rested old) (grows : Grows steps old entries new)
+module _ (steps : ℕ) (old new : Caller) (entries : List Entry) (rested : Rested old) (grows : Grows steps entries old new)
     (ours : entries_of entries 0 ≡ entries) where
   waited : Waited old (old.seen ++ grows.between)
   waited =
@@ -93,7 +93,7 @@ pub record Stayed (old new : Caller) : Type 0 where
   pub rested : Rested new
   pub still : (way : ℕ) → IsStill (state_of (map_seen old) way) (state_of (map_seen new) way)
 
-pub stayed : (steps : ℕ) (old new : Caller) → Rested old → Grows steps old [] new → Stayed old new
+pub stayed : (steps : ℕ) (old new : Caller) → Rested old → Grows steps [] old new → Stayed old new
 stayed steps old new rested grows =
     let log : List Entry = old.seen ++ grows.between in
     let waits = waited steps old new [] rested grows refl in
@@ -114,7 +114,7 @@ pub record Went (old new : Caller) (call : Call) (answer : Reply) : Type 0 where
   pub others : (way : ℕ) → way ≢ call_key call → state_of (map_seen new) way ≡ state_of mid way
   pub rested : KeepsTags mid call answer → Rested new
 
-pub went : (steps : ℕ) (old new : Caller) (call : Call) (answer : Reply) → Rested old → Gains steps old call answer new →
+pub went : (steps : ℕ) (old new : Caller) (call : Call) (answer : Reply) → Rested old → Gains steps call old new answer →
     call_key call < old.table.shape.keys → Went old new call answer
 went steps old new call answer rested gains near =
     let e : Entry = entry old.number call answer in let log : List Entry = old.seen ++ gains.between in

@@ -59,7 +59,7 @@ asked_first id old asked again = ⊎_elim
 -- a find of a way by a hand is one entry, whichever way it found
 pub record FoundOnce (way : ℕ) (old new : Handed) (told : Reply) : Type 0 where
   pub steps : ℕ
-  pub gains : Gains steps old.reader (Find way) told new.reader
+  pub gains : Gains steps (Find way) old.reader new.reader told
 
 found_hole : (way : ℕ) (old new : Handed) → KeepsWay way old new answer.Hole → FoundOnce way old new reply.Hole
 found_hole way old new keeps = ⊎_elim
@@ -71,7 +71,7 @@ pub found_rows : (way : ℕ) (old new : Handed) → KeepsWay way old new answer.
 found_rows way old new keeps = ⊎_elim
     (λ again. let held = again.0 in record {
       steps = 2 * length old.rows + 1;
-      gains = subst (λ (l : List Row). Gains (2 * length old.rows + 1) old.reader (Find way) (reply.Rows l) new.reader) (sym held.rows) held.gains;
+      gains = subst (λ (l : List Row). Gains (2 * length old.rows + 1) (Find way) old.reader new.reader (reply.Rows l)) (sym held.rows) held.gains;
     })
     (λ anew. record { steps = _; gains = anew.1.0.2.gains })
     keeps.2

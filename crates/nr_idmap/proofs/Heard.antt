@@ -40,7 +40,7 @@ some_way : (a b : ℕ) → Some a ≡ Some b → a ≡ b
 some_way a b e = cc (e)
 
 -- the load of a line tells nothing
-heard_with_line : (old asking : IdCaller) (note : IdKnown) → HeardIdBefore old note asking → HeardIdBefore old note (with_line asking)
+heard_with_line : (old asking : IdCaller) (note : IdKnown) → HeardIdBefore note old asking → HeardIdBefore note old (with_line asking)
 heard_with_line old asking note heard = record {
   map = record { steps = heard.map.steps; heard = heard.map.heard; hears = heard.map.hears; table = heard.map.table; seen = heard.map.seen };
   ids = heard.ids;
@@ -49,26 +49,26 @@ heard_with_line old asking note heard = record {
 module _ {Room : Type 0} (shows : Room → List Row → Type 0) (of_map : FindsWhatItHeard) (of_ids : ids.FindsWhatItHeard) where
   module _ (old asking : IdCaller) (note : IdKnown) (id way : ℕ) (before since : List Entry) (put : Entry)
       (near : way < old.caller.table.shape.keys) (real : 0 < id) (named : name_of note.ids.seen way ≡ id)
-      (told : note.map.seen ≡ (before ++ put ∷ []) ++ since) (puts : puts_at way put ≡ true) (heard : HeardIdBefore old note asking) where
+      (told : note.map.seen ≡ (before ++ put ∷ []) ++ since) (puts : puts_at way put ≡ true) (heard : HeardIdBefore note old asking) where
     abbrev written : List Entry
     written = before ++ put ∷ []
 
     -- the way that was looked up is that one, and then the map's law tells of it
     in_way : (at : ℕ) (looked : Token) (new : IdCaller) (room : Room) (answer : FoundId) (steps : ℕ) (told_there : Reply) →
-        LooksUp id asking.ids looked (Some at) → Gains steps asking.caller (model.Find at) told_there new.caller →
+        LooksUp id asking.ids looked (Some at) → Gains steps (model.Find at) asking.caller new.caller told_there →
         TellsOfWay shows id room answer told_there →
-        IsUnnamedSince note.ids.seen way looked.seen ⊎ FindsIdPut shows id way old asking new written since room answer
+        IsUnnamedSince note.ids.seen way looked.seen ⊎ FindsIdPut shows (record { id = id; way = way; old = old; written = written; since = since }) asking new room answer
     in_way at looked new room answer steps told_there looks gains tells = ⊎_elim
         (λ (same : Some at ≡ Some way).
-        let gains_here : Gains steps asking.caller (model.Find way) told_there new.caller = subst
-        (λ (k : ℕ). Gains steps asking.caller (model.Find k) told_there new.caller) (some_way at way same) gains in
+        let gains_here : Gains steps (model.Find way) asking.caller new.caller told_there = subst
+        (λ (k : ℕ). Gains steps (model.Find k) asking.caller new.caller told_there) (some_way at way same) gains in
         let law = of_map old.caller asking.caller new.caller note.map before since put way steps told_there near told puts heard.map gains_here in
         inr (record { told = told_there; tells = tells; more = law.0; seen = law.1; finds = law.2 }))
         (λ gone. inl gone)
         (of_ids note.ids id way asking.ids looked (Some at) real named heard.ids looks)
 
     by_answer : (new : IdCaller) (room after : Room) (answer : FoundId) → FindsByName shows id asking room new after answer →
-        IsUnnamedSince note.ids.seen way new.ids.seen ⊎ FindsIdPut shows id way old asking new written since after answer
+        IsUnnamedSince note.ids.seen way new.ids.seen ⊎ FindsIdPut shows (record { id = id; way = way; old = old; written = written; since = since }) asking new after answer
     by_answer new room after found.Rows finds =
         let looked : Token = finds.2 in ⊎_elim
         (λ gone. inl (marks_on note.ids.seen way looked new.ids finds.4 gone))
@@ -86,6 +86,6 @@ module _ {Room : Type 0} (shows : Room → List Row → Type 0) (of_map : FindsW
   pub finds_id_heard : FindsIdHeard shows
   finds_id_heard old asking new note id way before since put room after answer near real named told puts heard finds = ⊎_elim
       (λ gone. inl gone)
-      (λ (found : FindsIdPut shows id way old (with_line asking) new (before ++ put ∷ []) since after answer).
+      (λ (found : FindsIdPut shows (record { id = id; way = way; old = old; written = before ++ put ∷ []; since = since }) (with_line asking) new after answer).
       inr (record { told = found.told; tells = found.tells; more = found.more; seen = found.seen; finds = found.finds }))
       (by_answer old (with_line asking) note id way before since put near real named told puts (heard_with_line old asking note heard) new room after answer finds)

@@ -117,7 +117,7 @@ module _ {Room : Type 0} (shows : Room → List Row → Type 0) (old asking new 
   abbrev begin : PartialMap
   begin = after opened written
 
-  module _ (answer : FoundId) (finds : FindsIdPut shows id way old asking new written since room answer) where
+  module _ (answer : FoundId) (finds : FindsIdPut shows (record { id = id; way = way; old = old; written = written; since = since }) asking new room answer) where
     abbrev later : List Entry
     later = since ++ finds.more
 
@@ -157,7 +157,7 @@ module _ {Room : Type 0} (shows : Room → List Row → Type 0) (old asking new 
         (has.1, rows_same last.number has.0 set (tag_of id ∷ has.1) there))
         (finds.finds.rows set told)
 
-  answered_rows : (answer : FoundId) → FindsIdPut shows id way old asking new written since room answer → answer ≡ found.Rows
+  answered_rows : (answer : FoundId) → FindsIdPut shows (record { id = id; way = way; old = old; written = written; since = since }) asking new room answer → answer ≡ found.Rows
   answered_rows found.Rows finds = refl
   answered_rows found.Pending finds = let evicted = finds.finds.hole finds.tells in absurd (omega (arith, evicted, none_later found.Pending finds))
   answered_rows found.Moved finds = let set = set_found found.Moved finds finds.tells.0 finds.tells.1 in absurd (finds.tells.2 set.0 set.1)
@@ -177,6 +177,6 @@ finds_its_rows shows law keeper old asking new note id way number rows before si
     let kept = kept_heard keeper old.caller.table new.caller.seen tied table heard in
     let some : 0 < old.caller.table.shape.rows = subst (λ (t : Table). 0 < t.shape.rows) (sym table) tied.room in ⊎_elim
     (λ gone. inl gone)
-    (λ (there : FindsIdPut shows id way old asking new (before ++ put ∷ []) since room answer).
+    (λ (there : FindsIdPut shows (record { id = id; way = way; old = old; written = before ++ put ∷ []; since = since }) asking new room answer).
     inr (answered_rows shows old asking new id way number rows (before ++ put ∷ []) since room real near some kept put_is none answer there))
     (law old asking new note id way before since put before_it room answer near real named told puts hears finds)

@@ -25,7 +25,7 @@ stepped w a c tied = record {
 }
 
 pub heard_tied : (steps : ℕ) (w a w' : Caller) (c c' : Token) (note : Known) → IsTied (keeper_of w a c) → Learns steps w w' →
-    ids.Hears c note c' → IsTied (keeper_of w' a c') × OwesSame (keeper_of w a c) (keeper_of w' a c')
+    ids.Hears note c c' → IsTied (keeper_of w' a c') × OwesSame (keeper_of w a c) (keeper_of w' a c')
 heard_tied steps w a w' c c' note tied learns hears =
     let stays = learnt steps w w' (rested_of w a c tied) learns in
     let before : Token = ids.with_step c in let step = stepped w a c tied in

@@ -34,7 +34,7 @@ module _ (w a w' : Caller) (c c' : Token) (tied : IsTied (keeper_of w a c)) (id 
   names : (k : ℕ) → name_of c'.seen k ≡ name_of c.seen k
   names k = found_names w a id c c' (Some way) tied finds k
 
-  pub look_left : (steps : ℕ) (answer : Reply) → Gains steps w (Find way) answer w' →
+  pub look_left : (steps : ℕ) (answer : Reply) → Gains steps (Find way) w w' answer →
       IsTied (keeper_of w' a c') × OwesSame (keeper_of w a c) (keeper_of w' a c')
   look_left steps answer gains =
       let call : Call = Find way in let go = went steps w w' call answer (rested_of w a c tied) gains near in
@@ -49,7 +49,7 @@ module _ (w a w' : Caller) (c c' : Token) (tied : IsTied (keeper_of w a c)) (id 
             ∙ mid_owes w a w' c c' call answer tied go same),
       )
 
-  pub look_tagged : (steps : ℕ) (set : List Row) → Gains steps w (Find way) (reply.Rows set) w' →
+  pub look_tagged : (steps : ℕ) (set : List Row) → Gains steps (Find way) w w' (reply.Rows set) →
       (rows : List Row) × (set ≡ tag_of id ∷ rows)
   look_tagged steps set gains =
       let call : Call = Find way in
@@ -61,19 +61,19 @@ module _ (w a w' : Caller) (c c' : Token) (tied : IsTied (keeper_of w a c)) (id 
 -- WHAT IT SAYS
 module _ {Room : Type 0} (shows : Room → List Row → Type 0) (id way : ℕ) (old now new : Keeper) (before after : Room) (result : Looked)
     (is : old ≡ now) (finds : FindsWay id old.clerk new.clerk (Some way)) where
-  pub looks_pending : Gains 1 old.writer (Find way) reply.Hole new.writer → after ≡ before → result ≡ looked.Pending →
+  pub looks_pending : Gains 1 (Find way) old.writer new.writer reply.Hole → after ≡ before → result ≡ looked.Pending →
       LooksById shows id now before new after result
   looks_pending gains same answer = subst (LooksById shows id now before new after) (sym answer)
       (subst (λ (o : Keeper). LooksById shows id o before new after looked.Pending) is (way, finds, gains, same))
 
-  pub looks_rows : (set : List Row) → Gains (2 * length set + 2) old.writer (Find way) (reply.Rows set) new.writer →
+  pub looks_rows : (set : List Row) → Gains (2 * length set + 2) (Find way) old.writer new.writer (reply.Rows set) →
       (rows : List Row) × (set ≡ tag_of id ∷ rows) → (copied : Bool) → CopiesBehind shows id set before after copied →
       result ≡ looked.Rows → LooksById shows id now before new after result
   looks_rows set gains tag true copies answer = subst (LooksById shows id now before new after) (sym answer)
       (subst (λ (o : Keeper). LooksById shows id o before new after looked.Rows) is (
         way,
         copies.0,
-        (finds, subst (λ (s : List Row). Gains (2 * length s + 2) old.writer (Find way) (reply.Rows s) new.writer) copies.1 gains),
+        (finds, subst (λ (s : List Row). Gains (2 * length s + 2) (Find way) old.writer new.writer (reply.Rows s)) copies.1 gains),
         copies.2,
       ))
   looks_rows set gains tag false copies answer = absurd (copies.0 tag.0 tag.1)

@@ -160,7 +160,7 @@ pub rested_of : (w a : Caller) (c : Token) → IsTied (keeper_of w a c) → Rest
 rested_of w a c tied = record { number = tied.writes.1; sound = tied.sound; tidy = tied.tidy }
 
 pub retied : (w a w' a' : Caller) (c c' : Token) (acts : List Event) → IsTied (keeper_of w a c) → Rested w' → w'.table ≡ w.table →
-    (a'.table ≡ a.table) × KnowsOwn a' → ids.Grows c acts c'
+    (a'.table ≡ a.table) × KnowsOwn a' → ids.Grows acts c c'
     → ((way : ℕ) → Agrees (name_of c'.seen way) (state_of (map_seen w') way)) → IsTied (keeper_of w' a' c')
 retied w a w' a' c c' acts tied rested table asker grows agrees = record {
   writes = (refl, rested.number);
@@ -175,7 +175,7 @@ retied w a w' a' c c' acts tied rested table asker grows agrees = record {
 }
 
 -- a search by the clerk changes no name
-pub found_looks : (id : ℕ) (c c' : Token) (found : Option ℕ) → FindsWay id c c' found → (count : ℕ) × ids.Grows c (looks count c.number) c'
+pub found_looks : (id : ℕ) (c c' : Token) (found : Option ℕ) → FindsWay id c c' found → (count : ℕ) × ids.Grows (looks count c.number) c c'
 found_looks id c c' (Some way) finds = (finds.place + 1, finds.grows)
 found_looks id c c' None finds = (places, finds.0)
 

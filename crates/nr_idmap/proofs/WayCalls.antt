@@ -154,14 +154,14 @@ module _ (w a w' : Caller) (c c' : Token) (tied : IsTied (keeper_of w a c)) (id 
   Left = IsTied (keeper_of w' a c') × OwesSame (keeper_of w a c) (keeper_of w' a c')
 
   -- the call found no slot
-  unslotted : (steps : ℕ) → Grows steps w [] w' → Left
+  unslotted : (steps : ℕ) → Grows steps [] w w' → Left
   unslotted steps grows = let stays = stayed steps w w' (rested_of w a c tied) grows in let look = found_looks id c c' (Some way) finds in (
     retied w a w' a c c' (looks look.0 c.number) tied stays.rested grows.table (refl, tied.asks.1) look.1
         (stayed_agrees w a w' c c' tied stays names),
     stayed_owes w a w' c c' tied stays names a,
   )
 
-  pub update_entry : (steps : ℕ) (batch : List Delta) (answer : Reply) → AreIdDeltas batch → Gains steps w (Update way batch) answer w' →
+  pub update_entry : (steps : ℕ) (batch : List Delta) (answer : Reply) → AreIdDeltas batch → Gains steps (Update way batch) w w' answer →
       Left
   update_entry steps batch answer users gains =
       let call : Call = Update way batch in let go = went steps w w' call answer (rested_of w a c tied) gains near in
@@ -194,7 +194,7 @@ module _ (w a w' : Caller) (c c' : Token) (tied : IsTied (keeper_of w a c)) (id 
     tagged : 0 < id → Tagged (name_of c.seen way) (tag_of id ∷ rows)
     tagged real = (subst (λ (n : ℕ). 0 < n) (sym has) real, rows, ap (λ (n : ℕ). tag_of n ∷ rows) (sym has))
 
-    pub replace_entry : (steps : ℕ) (answer : Reply) → 0 < id → Gains steps w (Replace way (tag_of id ∷ rows)) answer w' → Left
+    pub replace_entry : (steps : ℕ) (answer : Reply) → 0 < id → Gains steps (Replace way (tag_of id ∷ rows)) w w' answer → Left
     replace_entry steps answer real gains =
         let call : Call = Replace way (tag_of id ∷ rows) in let go = went steps w w' call answer (rested_of w a c tied) gains near in
         let look = found_looks id c c' (Some way) finds in
@@ -225,7 +225,7 @@ module _ (w a w' : Caller) (c c' : Token) (tied : IsTied (keeper_of w a c)) (id 
       abbrev owes : Owed
       owes = record { way = way; number = number; id = id }
 
-      pub fill_entry : (steps : ℕ) (answer : Reply) → 0 < id → Gains steps w fills answer w' → IsTied (keeper_of w' a c')
+      pub fill_entry : (steps : ℕ) (answer : Reply) → 0 < id → Gains steps fills w w' answer → IsTied (keeper_of w' a c')
       fill_entry steps answer real gains =
           let go = went steps w w' fills answer (rested_of w a c tied) gains near in let look = found_looks id c c' (Some way) finds in
           let same = λ (k : ℕ) (_ : k ≢ way). names k in let name : ℕ = name_of c.seen way in
@@ -252,7 +252,7 @@ module _ (w a w' : Caller) (c c' : Token) (tied : IsTied (keeper_of w a c)) (id 
       open_if real is = ap (owed_for way (name_of c.seen way)) is ∙ ap (λ (n : ℕ). owed_for way n (Asked number)) has
           ∙ owed_asked way id number real
 
-      pub fill_closing : (steps : ℕ) → 0 < id → Gains steps w fills reply.Done w' →
+      pub fill_closing : (steps : ℕ) → 0 < id → Gains steps fills w w' reply.Done →
           ClosesOne (record { way = way; number = number; id = id }) (keeper_of w a c) (keeper_of w' a c')
       fill_closing steps real gains =
           let go = went steps w w' fills reply.Done (rested_of w a c tied) gains near in
@@ -271,7 +271,7 @@ module _ (w a w' : Caller) (c c' : Token) (tied : IsTied (keeper_of w a c)) (id 
       fill_closes real h = record { finds = finds; fills = h; closes = fill_closing _ real h.gains }
 
       -- one that wasn't done, and found no upquery
-      fill_undone : (steps : ℕ) (answer : Reply) → answer ≢ reply.Done → Gains steps w fills answer w' →
+      fill_undone : (steps : ℕ) (answer : Reply) → answer ≢ reply.Done → Gains steps fills w w' answer →
           (owed_at (keeper_of w a c) way ≢ Some (record { way = way; number = number; id = id })) ×
           OwesSame (keeper_of w a c) (keeper_of w' a c')
       fill_undone steps answer undone gains =
@@ -301,7 +301,7 @@ module _ (w a w' : Caller) (c c' : Token) (tied : IsTied (keeper_of w a c)) (id 
       fill_refused (fill.NoSlot counts) not h = absurd (not counts refl)
 
       pub fill_lacks : (counts : NoSlot) → 0 < id → FillsKey way number (tag_of id ∷ rows) w w' (Err (fill.NoSlot counts)) →
-          LacksForOwed (record { way = way; number = number; id = id }) rows counts (keeper_of w a c) (keeper_of w' a c')
+          LacksForOwed (record { way = way; number = number; id = id }) rows (keeper_of w a c) (keeper_of w' a c') counts
       fill_lacks counts real h =
           let stays = stayed _ w w' (rested_of w a c tied) h.grows in
           let asked : state_of (map_seen w') way ≡ Asked number = fill_done number (state_of (map_seen w') way) h.lacks.would_be_done in
@@ -330,7 +330,7 @@ module _ (w a w' : Caller) (c c' : Token) (tied : IsTied (keeper_of w a c)) (id 
             ∙ mid_owes w a w' c c' call reply.Nothing tied go same),
       )
 
-  cancel_entry : (answer : Reply) → answer ≢ reply.Cancelled → (gains : Gains 1 w (Cancel way) answer w') → Left
+  cancel_entry : (answer : Reply) → answer ≢ reply.Cancelled → (gains : Gains 1 (Cancel way) w w' answer) → Left
   cancel_entry answer undone gains =
       let call : Call = Cancel way in let go = went 1 w w' call answer (rested_of w a c tied) gains near in
       let look = found_looks id c c' (Some way) finds in

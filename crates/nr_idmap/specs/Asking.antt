@@ -8,9 +8,9 @@ use Rattle.nr_board.specs.Meetings.{HearsNote, Meets, known_to, with_step}
 -- the asker learns what the writer knows, asks for the way, and tells the writer
 pub record AsksWay (way : ℕ) (asker writer asker' writer' : Caller) : Type 0 where
   pub met : Caller
-  pub meets : Meets 1 asker writer met
+  pub meets : Meets 1 writer asker met
   pub asked : Caller
   pub answer : Reply
-  pub asks : Gains 1 met (Ask way) answer asked
+  pub asks : Gains 1 (Ask way) met asked answer
   pub told : asker' ≡ with_step asked
-  pub hears : HearsNote 1 (with_step writer) (known_to asked) writer'
+  pub hears : HearsNote 1 (known_to asked) (with_step writer) writer'

@@ -28,5 +28,5 @@ pub record ChoosesId (id : ℕ) (old new : Token) (named : Option ℕ) : Type 0 
   pub way : ℕ
   pub group : group_of_way way ≡ group_of old.directory.plan id
   pub mid : Token
-  pub chooses : Grows old (looks 2 old.number) mid
+  pub chooses : Grows (looks 2 old.number) old mid
   pub names : FindsId way mid new named

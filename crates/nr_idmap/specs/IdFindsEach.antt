@@ -42,7 +42,7 @@ IsInside keys wanted = IfSome wanted.way (λ way. way < keys)
 -- of at most sixteen: a name of each group was loaded ahead; all were looked up in turn; the words that finds in their ways need were loaded ahead; and all were found in turn
 pub record FindsBatch {Room : Type 0} (shows : Room → List Row → Type 0) (old : IdCaller) (wanted : List (WantedId Room)) (new : IdCaller) (told : List (WantedId Room)) : Type 0 where
   pub ahead : Token
-  pub loads : Grows old.ids (looks (length wanted) old.ids.number) ahead
+  pub loads : Grows (looks (length wanted) old.ids.number) old.ids ahead
   pub looked : Token
   pub ways : List (WantedId Room)
   pub looks : InTurn LooksUpWanted ahead wanted looked ways

@@ -26,8 +26,8 @@ use Rattle.nr_idmap.specs.Keepers.{IdCaller, IsTied, Keeper}
 use Rattle.nr_idmap.specs.Tags.{tag_of}
 
 -- the reader heard the note, and made whatever calls then
-pub record HeardIdBefore (old : IdCaller) (note : IdKnown) (asking : IdCaller) : Type 0 where
-  pub map : HeardBefore old.caller note.map asking.caller
+pub record HeardIdBefore (note : IdKnown) (old asking : IdCaller) : Type 0 where
+  pub map : HeardBefore note.map old.caller asking.caller
   pub ids : BeginsWith asking.ids.seen note.ids.seen
 
 -- the way's name was taken since the note
@@ -41,13 +41,21 @@ TellsOfWay shows id room found.Pending told = told ≡ reply.Hole
 TellsOfWay shows id room found.Moved told = (set : List Row) × (told ≡ reply.Rows set) × ((rows : List Row) → set ≢ tag_of id ∷ rows)
 TellsOfWay shows id room found.Absent told = ⊥
 
+-- a put of an id's way that a note tells of: who heard the note, and the history up to the put and since
+pub record HeardPut : Type 0 where
+  pub id : ℕ
+  pub way : ℕ
+  pub old : IdCaller
+  pub written : List Entry
+  pub since : List Entry
+
 -- that is the put of which the note told, or what came after it
-pub record FindsIdPut {Room : Type 0} (shows : Room → List Row → Type 0) (id way : ℕ) (old asking new : IdCaller) (written since : List Entry) (room : Room) (answer : FoundId) : Type 0 where
+pub record FindsIdPut {Room : Type 0} (shows : Room → List Row → Type 0) (put : HeardPut) (asking new : IdCaller) (room : Room) (answer : FoundId) : Type 0 where
   pub told : Reply
-  pub tells : TellsOfWay shows id room answer told
+  pub tells : TellsOfWay shows put.id room answer told
   pub more : List Entry
-  pub seen : new.caller.seen ≡ (written ++ (since ++ more)) ++ entry asking.caller.number (Find way) told ∷ []
-  pub finds : FindsPut (map_at_opening old.caller.table) way written (since ++ more) told
+  pub seen : new.caller.seen ≡ (put.written ++ (put.since ++ more)) ++ entry asking.caller.number (Find put.way) told ∷ []
+  pub finds : FindsPut (map_at_opening put.old.caller.table) put.way put.written (put.since ++ more) told
 
 -- the note's maker had seen the way's name, and a put of its rows; who heard the note finds that put or what came after it, unless the name was taken since
 abbrev pub FindsIdHeard : {Room : Type 0} → (Room → List Row → Type 0) → Type 0
@@ -58,9 +66,9 @@ FindsIdHeard {Room = Room} shows =
     name_of note.ids.seen way ≡ id →
     note.map.seen ≡ (before ++ put ∷ []) ++ since →
     puts_at way put ≡ true →
-    HeardIdBefore old note asking →
+    HeardIdBefore note old asking →
     FindsById shows id asking before_it new room answer →
-    IsUnnamedSince note.ids.seen way new.ids.seen ⊎ FindsIdPut shows id way old asking new (before ++ put ∷ []) since room answer
+    IsUnnamedSince note.ids.seen way new.ids.seen ⊎ FindsIdPut shows (record { id = id; way = way; old = old; written = before ++ put ∷ []; since = since }) asking new room answer
 
 -- the put of which the note told left the way the id's rows; the writer has heard of the find since, and the find's history has no later eviction of the way: the find was answered with rows, unless the name was taken since
 abbrev pub FindsItsRows : {Room : Type 0} → (Room → List Row → Type 0) → Type 0
@@ -76,7 +84,7 @@ FindsItsRows {Room = Room} shows =
     puts_at way put ≡ true →
     state_of (after (map_at_opening old.caller.table) (before ++ put ∷ [])) way ≡ state.Rows number (tag_of id ∷ rows) →
     count_by (evicts_at way) new.caller.seen ≡ count_by (evicts_at way) (before ++ put ∷ []) →
-    HeardIdBefore old note asking →
+    HeardIdBefore note old asking →
     FindsById shows id asking before_it new room answer →
     IsUnnamedSince note.ids.seen way new.ids.seen ⊎ (answer ≡ found.Rows)
 

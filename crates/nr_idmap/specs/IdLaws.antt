@@ -70,7 +70,7 @@ HeardFinds =
     keeper.table.map.shape.rows ≡ suc bound →
     old.table ≡ keeper.table.map →
     StartsWith keeper.writer.seen new.seen →
-    (gains : Gains steps old (Find key) (reply.Rows (tag_of id ∷ rows)) new) →
+    (gains : Gains steps (Find key) old new (reply.Rows (tag_of id ∷ rows))) →
     (ids_after (no_ids bound) (read_by_id (map_at_opening old.table) (old.seen ++ gains.between))).rows_of id ≡ Some rows
 
 -- THE LEDGER

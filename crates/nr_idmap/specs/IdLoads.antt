@@ -14,6 +14,6 @@ LooksUpEach (id ∷ ids) old new = (found : Option ℕ) × (next : Token) × Loo
 -- a name of each one's group was loaded; all were looked up; and words were loaded that finds in their ways need
 pub record LoadsAheadById (ids : List ℕ) (old new : IdCaller) : Type 0 where
   pub ahead : Token
-  pub loads : Grows old.ids (looks (length ids) old.ids.number) ahead
+  pub loads : Grows (looks (length ids) old.ids.number) old.ids ahead
   pub looks_up : LooksUpEach ids ahead new.ids
   pub caller : new.caller ≡ with_loads (loads_of_key old.caller.table.shape.rows * length ids) old.caller

@@ -25,14 +25,14 @@ abbrev pub with_steps_of_split : IdCaller → IdCaller
 with_steps_of_split reader = record { caller = with_steps 3 reader.caller; ids = ids.with_steps 3 reader.ids }
 
 -- the token knows all that the note's maker had seen
-pub record HearsIdNote (old : IdCaller) (note : IdKnown) (new : IdCaller) : Type 0 where
-  pub map : HearsNote 1 old.caller note.map new.caller
-  pub ids : ids.Hears old.ids note.ids new.ids
+pub record HearsIdNote (note : IdKnown) (old new : IdCaller) : Type 0 where
+  pub map : HearsNote 1 note.map old.caller new.caller
+  pub ids : ids.Hears note.ids old.ids new.ids
 
 -- the same of the writer, whose asker stays
-pub record WriterHears (old : Keeper) (note : IdKnown) (new : Keeper) : Type 0 where
-  pub map : HearsNote 1 old.writer note.map new.writer
-  pub ids : ids.Hears old.clerk note.ids new.clerk
+pub record WriterHears (note : IdKnown) (old new : Keeper) : Type 0 where
+  pub map : HearsNote 1 note.map old.writer new.writer
+  pub ids : ids.Hears note.ids old.clerk new.clerk
   pub asker : new.asker ≡ old.asker
 
 -- the writer learnt of the reader's map calls, and the reader of the writer's, and nothing else changed

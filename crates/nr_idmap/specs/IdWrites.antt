@@ -26,14 +26,14 @@ use Rattle.nr_idmap.specs.Tags.{tag_of}
 
 -- ADMISSION
 -- a way of the id's group gets its name and is asked for, and one upquery more is open
-pub record AdmitsId (id : ℕ) (old : Keeper) (owed : Owed) (new : Keeper) : Type 0 where
+pub record AdmitsId (id : ℕ) (old new : Keeper) (owed : Owed) : Type 0 where
   pub id_is : owed.id ≡ id
   pub names : Admits id old.clerk new.clerk (Ok owed.way)
   pub asks : AsksWay owed.way old.asker old.writer new.asker new.writer
   pub opens : OpensOne owed old new
 
 -- the directory refuses, and nothing else happened
-pub record RefusesId (id : ℕ) (old : Keeper) (why : Refused) (new : Keeper) : Type 0 where
+pub record RefusesId (id : ℕ) (old new : Keeper) (why : Refused) : Type 0 where
   pub refused : Admits id old.clerk new.clerk (Err why)
   pub writer : new.writer ≡ old.writer
   pub asker : new.asker ≡ old.asker
@@ -51,7 +51,7 @@ pub record FillsOwed (owed : Owed) (rows : List Row) (old new : Keeper) : Type 0
   pub closes : ClosesOne owed old new
 
 -- there is no slot for them, and it is open still
-pub record LacksForOwed (owed : Owed) (rows : List Row) (counts : NoSlot) (old new : Keeper) : Type 0 where
+pub record LacksForOwed (owed : Owed) (rows : List Row) (old new : Keeper) (counts : NoSlot) : Type 0 where
   pub finds : FindsOwed owed old new
   pub lacks : FillsKey owed.way owed.number (tag_of owed.id ∷ rows) old.writer new.writer (Err (fill.NoSlot counts))
   pub open_yet : owed_at old owed.way ≡ Some owed
@@ -68,7 +68,7 @@ pub record WasClosed (refused : Caller → Caller → Type 0) (owed : Owed) (old
 abbrev pub FillsId : Owed → List Row → Keeper → Keeper → Result (Unit {0}) Unfilled → Type 0
 FillsId owed rows old new (Ok done) = FillsOwed owed rows old new
 FillsId owed rows old new (Err unfilled.Closed) = WasClosed (λ writer writer'. (why : FillFault) × FillsKey owed.way owed.number (tag_of owed.id ∷ rows) writer writer' (Err why)) owed old new
-FillsId owed rows old new (Err (unfilled.NoSlot upquery counts)) = (upquery ≡ record { table = old.table; owed = owed }) × LacksForOwed owed rows counts old new
+FillsId owed rows old new (Err (unfilled.NoSlot upquery counts)) = (upquery ≡ record { table = old.table; owed = owed }) × LacksForOwed owed rows old new counts
 
 -- the same by a call that gives out what its slot had; where nothing was put the room stays
 pub record FillsAndGives {Room : Type 0} (shows : Room → List Row → Type 0) (owed : Owed) (rows : List Row) (old : Keeper) (before : Room) (new : Keeper) (after : Room) (given : Reclaimed) : Type 0 where

@@ -68,7 +68,7 @@ impl IdMap {
         requires own { id_table_of reader.old ≡ self.now }
         requires note { note_table_of note ≡ self.now }
         ensures own { id_table_of reader.new ≡ self.now }
-        ensures hears { HearsIdNote reader.old note reader.new }
+        ensures hears { HearsIdNote note reader.old reader.new }
     {
         let IdNote { map, ids } = note;
         self.map.hear(&mut reader.reader, map);
@@ -102,7 +102,7 @@ impl IdMap {
         requires own { writer.old.table ≡ self.now }
         requires note { note_table_of note ≡ self.now }
         ensures own { writer.new.table ≡ self.now }
-        ensures hears { WriterHears writer.old note writer.new }
+        ensures hears { WriterHears note writer.old writer.new }
         ensures owes { OwesSame writer.old writer.new }
     {
         let IdNote { map, ids } = note;
@@ -145,7 +145,7 @@ impl IdHand {
         requires own { hand_table_of self.old ≡ map.now }
         requires note { note_table_of note ≡ map.now }
         ensures own { hand_table_of self.new ≡ map.now }
-        ensures hears { HearsIdNote (reader_of self.old) note (reader_of self.new) }
+        ensures hears { HearsIdNote note (reader_of self.old) (reader_of self.new) }
         ensures held { HoldsSame self.old self.new }
     {
         let IdNote { map: told, ids } = note;

@@ -126,8 +126,8 @@ impl IdMap {
         requires own { writer.old.table ≡ self.now }
         requires id { 0 < id }
         ensures own { writer.new.table ≡ self.now }
-        ensures admits { IfOk result (λ upquery. (upquery.table ≡ self.now) × AdmitsId id writer.old upquery.owed writer.new) }
-        ensures refused { IfErr result (λ why. RefusesId id writer.old why writer.new) }
+        ensures admits { IfOk result (λ upquery. (upquery.table ≡ self.now) × AdmitsId id writer.old writer.new upquery.owed) }
+        ensures refused { IfErr result (λ why. RefusesId id writer.old writer.new why) }
     {
         let way = self.directory.admit(&mut writer.clerk, id)?;
         let number = ask_way(&self.map, &mut writer.writer, &mut writer.asker, way);

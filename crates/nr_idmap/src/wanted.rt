@@ -80,7 +80,7 @@ impl IdMap {
         requires own { ids.old.directory ≡ self.now.directory }
         requires few { length wanted.now ≤ 16 }
         ensures own { ids.new.directory ≡ self.now.directory }
-        ensures loads { Grows ids.old (looks (length wanted.now) ids.old.number) ids.new }
+        ensures loads { Grows (looks (length wanted.now) ids.old.number) ids.old ids.new }
     {
         let mut all = [0; BATCH];
         copy_ids(wanted, &mut all);

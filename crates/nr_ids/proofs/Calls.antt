@@ -16,7 +16,7 @@ use Rattle.nr_ids.specs.Answers.{WasOpen, Admits}
 use Rattle.nr_ids.specs.Tokens.{Opened, Token, Grows, Newest, WinsClaim, Within}
 use Rattle.nr_ids.proofs.Logs.{ClearsNothing, cond_same, cond_else, exact_names, looks_clear_nothing, looks_names, named_inside, one_way, own_append, quiet_turn, was_odd}
 
-pub grows_none : (old : Token) → IsLegal old.directory.plan old.seen → Grows old [] old
+pub grows_none : (old : Token) → IsLegal old.directory.plan old.seen → Grows [] old old
 grows_none old legal = record { directory = refl; number = refl; made = refl; rest = []; seen = refl; acts_are = refl; newest = refl; legal = legal; steps = omega arith }
 
 newest_on : (first last old mid new : List Event) → Newest first old mid → Newest last mid new → Newest (last ++ first) old new
@@ -24,7 +24,7 @@ newest_on [] [] old mid new a b = b ∙ a
 newest_on (act ∷ acts) [] old mid new a b = (a.0, b ∙ a.1)
 newest_on first (act ∷ acts) old mid new a b = b
 
-pub grows_on : (old mid new : Token) (first last : List Event) → Grows old first mid → Grows mid last new → Grows old (last ++ first) new
+pub grows_on : (old mid new : Token) (first last : List Event) → Grows first old mid → Grows last mid new → Grows (last ++ first) old new
 grows_on old mid new first last a b = record {
   directory = b.directory ∙ a.directory;
   number = b.number ∙ a.number;
@@ -39,20 +39,20 @@ grows_on old mid new first last a b = record {
 }
 
 -- one look more
-pub looks_on : (old mid new : Token) (count : ℕ) → Grows old (looks count old.number) mid → Grows mid (looked mid.number ∷ []) new → Grows old (looks (count + 1) old.number) new
+pub looks_on : (old mid new : Token) (count : ℕ) → Grows (looks count old.number) old mid → Grows (looked mid.number ∷ []) mid new → Grows (looks (count + 1) old.number) old new
 looks_on old mid new count a b = let more : suc count ≡ count + 1 = omega arith in
-    subst (λ (k : ℕ). Grows old (looks k old.number) new) more
-    (subst (λ (by : ℕ). Grows old (looked by ∷ looks count old.number) new) a.number (grows_on old mid new (looks count old.number) (looked mid.number ∷ []) a b))
+    subst (λ (k : ℕ). Grows (looks k old.number) old new) more
+    (subst (λ (by : ℕ). Grows (looked by ∷ looks count old.number) old new) a.number (grows_on old mid new (looks count old.number) (looked mid.number ∷ []) a b))
 
 looks_more : (count by : ℕ) → looks count by ++ looked by ∷ [] ≡ looks (suc count) by
 looks_more zero by = refl
 looks_more (suc count) by = ap (λ (l : List Event). looked by ∷ l) (looks_more count by)
 
 -- a look, and then so many
-pub then_looks : (old mid new : Token) (count : ℕ) → Grows old (looked old.number ∷ []) mid → Grows mid (looks count mid.number) new → Grows old (looks (count + 1) old.number) new
+pub then_looks : (old mid new : Token) (count : ℕ) → Grows (looked old.number ∷ []) old mid → Grows (looks count mid.number) mid new → Grows (looks (count + 1) old.number) old new
 then_looks old mid new count a b = let more : suc count ≡ count + 1 = omega arith in
-    subst (λ (k : ℕ). Grows old (looks k old.number) new) more
-    (subst (λ (l : List Event). Grows old l new) (ap (λ (by : ℕ). looks count by ++ looked old.number ∷ []) a.number ∙ looks_more count old.number)
+    subst (λ (k : ℕ). Grows (looks k old.number) old new) more
+    (subst (λ (l : List Event). Grows l old new) (ap (λ (by : ℕ). looks count by ++ looked old.number ∷ []) a.number ∙ looks_more count old.number)
     (grows_on old mid new (looked old.number ∷ []) (looks count mid.number) a b))
 
 cons_not_nil : (a : List Event) (x : Event) (b : List Event) → a ++ x ∷ b ≢ []
@@ -60,7 +60,7 @@ cons_not_nil [] x b e = absurd (cc (e))
 cons_not_nil (y ∷ a) x b e = absurd (cc (e))
 
 -- a moment after a step of the call's
-pub within_between : (old mid new : Token) (act : Event) (acts since later moment : List Event) → Grows old (act ∷ acts) mid → moment ≡ since ++ mid.seen → new.seen ≡ later ++ moment → Within old new moment
+pub within_between : (old mid new : Token) (act : Event) (acts since later moment : List Event) → Grows (act ∷ acts) old mid → moment ≡ since ++ mid.seen → new.seen ≡ later ++ moment → Within old new moment
 within_between old mid new act acts since later moment grows from until = record {
   since = since ++ grows.rest;
   from = from ∙ ap (λ (l : List Event). since ++ l) grows.seen ∙ sym (append_assoc since grows.rest old.seen);
@@ -79,7 +79,7 @@ within_on old mid new moment rest within is = record {
 }
 
 -- where a turn that was even has changed, a claim was open within the call
-pub was_open : (id : ℕ) (old mid new : Token) (rest : List Event) → Grows old (looks 1 old.number) mid → new.seen ≡ rest ++ mid.seen → IsClosed old.directory.plan mid.seen (group_for old id)
+pub was_open : (id : ℕ) (old mid new : Token) (rest : List Event) → Grows (looks 1 old.number) old mid → new.seen ≡ rest ++ mid.seen → IsClosed old.directory.plan mid.seen (group_for old id)
     → turn_of old.directory.plan new.seen (group_for old id) ≢ turn_of old.directory.plan mid.seen (group_for old id) → WasOpen id old new
 was_open id old mid new rest grows is closed changed =
     let odd = was_odd old.directory.plan rest mid.seen (group_for old id) closed (λ same. changed (ap (λ (l : List Event). turn_of old.directory.plan l (group_for old id)) is ∙ same)) in record {
@@ -126,12 +126,12 @@ module _ (plan : Plan) (id : ℕ) (real : 0 < id) where
       (moved_off rest log way legal.1 at)
 
 -- a scan goes on by one look, which found another name
-module _ (id : ℕ) (real : 0 < id) (old mid new : Token) (place : ℕ) (so_far : Grows old (looks place old.number) mid) (look : Grows mid (looked mid.number ∷ []) new)
+module _ (id : ℕ) (real : 0 < id) (old mid new : Token) (place : ℕ) (so_far : Grows (looks place old.number) old mid) (look : Grows (looked mid.number ∷ []) mid new)
     (other : name_of new.seen (way_for old id place) ≢ id) where
   abbrev plan : Plan
   plan = old.directory.plan
 
-  whole : Grows old (looks (place + 1) old.number) new
+  whole : Grows (looks (place + 1) old.number) old new
   whole = looks_on old mid new place so_far look
 
   pub passed_on : ((at : ℕ) → at < place → Passed old.seen mid.seen (way_for old id at) id) → (at : ℕ) → at < place + 1 → Passed old.seen new.seen (way_for old id at) id
@@ -146,23 +146,23 @@ module _ (id : ℕ) (real : 0 < id) (old mid new : Token) (place : ℕ) (so_far 
         other = pass.other;
       })
 
-  pub ahead_on : (0 < place → Ahead id old place mid) → Ahead id old (place + 1) new
+  pub ahead_on : (0 < place → Ahead id place old mid) → Ahead id (place + 1) old new
   ahead_on ahead = dite (ℕ_discrete place 0)
       (λ (e : place ≡ 0). begins e)
       (λ ne. goes (omega arith))
     where
-      begins : place ≡ 0 → Ahead id old (place + 1) new
+      begins : place ≡ 0 → Ahead id (place + 1) old new
       begins e = let one : place + 1 ≡ suc place = omega arith in ⊎_elim
           (λ (t : (i : ℕ) × (i < places) × (name_of new.seen (way_at plan id i) ≡ id)).
           let apart : t.0 ≢ place = λ same. other (ap (λ (k : ℕ). name_of new.seen (way_at plan id k)) (sym same) ∙ t.2) in inr (t.0, omega arith, t.1, t.2))
           (λ none. inl (record {
             moment = new.seen;
-            within = within_between old new new _ (looks place old.number) [] [] new.seen (subst (λ (k : ℕ). Grows old (looks k old.number) new) one whole) refl refl;
+            within = within_between old new new _ (looks place old.number) [] [] new.seen (subst (λ (k : ℕ). Grows (looks k old.number) old new) one whole) refl refl;
             absent = none_has plan id real new.seen whole.legal none;
           })) (search_ways plan id real new.seen places)
 
-      goes : 0 < place → Ahead id old (place + 1) new
-      goes some = let again : place ≡ suc (place - 1) = omega arith in let before : Grows old (looks (suc (place - 1)) old.number) mid = subst (λ (k : ℕ). Grows old (looks k old.number) mid) again so_far in ⊎_elim
+      goes : 0 < place → Ahead id (place + 1) old new
+      goes some = let again : place ≡ suc (place - 1) = omega arith in let before : Grows (looks (suc (place - 1)) old.number) old mid = subst (λ (k : ℕ). Grows (looks k old.number) old mid) again so_far in ⊎_elim
           (λ (gone : WasAbsent id old mid). inl (record { moment = gone.moment; within = within_on old mid new gone.moment look.rest gone.within look.seen; absent = gone.absent }))
           (λ (t : (at : ℕ) × (place ≤ at) × (at < places) × (name_of mid.seen (way_at plan id at) ≡ id)). ⊎_elim
           (λ gap. inl (record { moment = gap.0; within = within_between old mid new _ (looks (place - 1) old.number) gap.2 gap.1 gap.0 before gap.4 (look.seen ∙ gap.3); absent = gap.5 }))
@@ -173,27 +173,27 @@ module _ (id : ℕ) (real : 0 < id) (old mid new : Token) (place : ℕ) (so_far 
           (ahead some)
 
 -- what the clerk knows of names: those that it knew, after its own steps
-pub clerk_names : (old : Token) (acts : List Event) (new : Token) (way : ℕ) → old.number ≡ 0 → Grows old acts new → name_of new.seen way ≡ name_of (acts ++ old.seen) way
+pub clerk_names : (old : Token) (acts : List Event) (new : Token) (way : ℕ) → old.number ≡ 0 → Grows acts old new → name_of new.seen way ≡ name_of (acts ++ old.seen) way
 clerk_names old acts new way clerk grows = ap (λ (l : List Event). name_of l way) grows.seen ∙ exact_names grows.rest old.seen way
     ∙ ap (λ (k : ℕ). name_of (own k grows.rest ++ old.seen) way) (sym clerk) ∙ ap (λ (l : List Event). name_of (l ++ old.seen) way) grows.acts_are
 
-pub clerk_looks : (old : Token) (count by : ℕ) (new : Token) (way : ℕ) → old.number ≡ 0 → Grows old (looks count by) new → name_of new.seen way ≡ name_of old.seen way
+pub clerk_looks : (old : Token) (count by : ℕ) (new : Token) (way : ℕ) → old.number ≡ 0 → Grows (looks count by) old new → name_of new.seen way ≡ name_of old.seen way
 clerk_looks old count by new way clerk grows = clerk_names old (looks count by) new way clerk grows ∙ looks_names count by old.seen way
 
 -- and a claim stays open until it clears it
-pub clerk_turn : (old : Token) (acts : List Event) (new : Token) (group : ℕ) → old.number ≡ 0 → Grows old acts new → ClearsNothing acts → IsOpen old.directory.plan old.seen group
+pub clerk_turn : (old : Token) (acts : List Event) (new : Token) (group : ℕ) → old.number ≡ 0 → Grows acts old new → ClearsNothing acts → IsOpen old.directory.plan old.seen group
     → turn_of old.directory.plan new.seen group ≡ turn_of old.directory.plan old.seen group
 clerk_turn old acts new group clerk grows quiet odd = let plan = old.directory.plan in ap (λ (l : List Event). turn_of plan l group) grows.seen
     ∙ quiet_turn plan grows.rest old.seen group (subst ClearsNothing (sym grows.acts_are ∙ ap (λ (k : ℕ). own k grows.rest) clerk) quiet) (subst (IsLegal plan) grows.seen grows.legal) odd
 
-pub clerk_on : (way : ℕ → ℕ) (name : ℕ) (old mid new : Token) (count : ℕ) → mid.number ≡ old.number → Grows mid (looked mid.number ∷ []) new → name_of new.seen (way count) ≢ name
+pub clerk_on : (way : ℕ → ℕ) (name : ℕ) (old mid new : Token) (count : ℕ) → mid.number ≡ old.number → Grows (looked mid.number ∷ []) mid new → name_of new.seen (way count) ≢ name
     → PassedByClerk way name old count mid → PassedByClerk way name old (count + 1) new
 clerk_on way name old mid new count same look other passed clerk at below = dite (ℕ_discrete at count)
     (λ (e : at ≡ count). λ has. other (ap (λ (k : ℕ). name_of new.seen (way k)) (sym e) ∙ has))
     (λ ne. λ has. passed clerk at (omega arith) (sym (clerk_looks mid 1 mid.number new (way at) (same ∙ clerk) look) ∙ has))
 
 -- a scan of all places
-pub missed : (id : ℕ) → 0 < id → (old new : Token) → Grows old (looks places old.number) new → Ahead id old places new
+pub missed : (id : ℕ) → 0 < id → (old new : Token) → Grows (looks places old.number) old new → Ahead id places old new
     → ((at : ℕ) → at < places → Passed old.seen new.seen (way_for old id at) id) → PassedByClerk (way_for old id) id old places new → Missed id old new
 missed id real old new grows ahead passed by_clerk = record {
   grows = grows;
@@ -243,14 +243,14 @@ module _ (plan : Plan) (id : ℕ) where
   at_second way is = let place : ℕ = 8 + way % 8 in let high : 8 ≤ place = omega arith in let low : place < places = omega arith in (place, low, way_at_second place high low ∙ omega arith)
 
 -- an id is admitted: a look at the turn, one at each place, a name and a clearing
-module _ (id way : ℕ) (real : 0 < id) (old first second third last : Token) (clerk : old.number ≡ 0) (turn : Grows old (looked old.number ∷ []) first) (room : HasRoom id way first second) where
+module _ (id way : ℕ) (real : 0 < id) (old first second third last : Token) (clerk : old.number ≡ 0) (turn : Grows (looked old.number ∷ []) old first) (room : HasRoom id way first second) where
   of_id : group_for first id ≡ group_for old id
   of_id = ap (λ (d : Opened). group_of d.plan id) turn.directory
 
-  both : Grows old (looks (places + 1) old.number) second
+  both : Grows (looks (places + 1) old.number) old second
   both = then_looks old first second places turn room.grows
 
-  pub admission : Grows second (named way id ∷ []) third → Grows third (cleared (group_for old id) ∷ []) last → Admits id old last (Ok way)
+  pub admission : Grows (named way id ∷ []) second third → Grows (cleared (group_for old id) ∷ []) third last → Admits id old last (Ok way)
   admission names clears =
       let named_so = grows_on old second third (looks (places + 1) old.number) (named way id ∷ []) both names in
       let whole = grows_on old third last (named way id ∷ looks (places + 1) old.number) (cleared (group_for old id) ∷ []) named_so clears in
@@ -274,22 +274,22 @@ module _ (id way : ℕ) (real : 0 < id) (old first second third last : Token) (c
       absent = room.absent;
     }
 
-    pub still_open : Grows second (named way id ∷ []) third → turn_of first.directory.plan third.seen (group_for first id) ≡ turn_of first.directory.plan first.seen (group_for first id)
+    pub still_open : Grows (named way id ∷ []) second third → turn_of first.directory.plan third.seen (group_for first id) ≡ turn_of first.directory.plan first.seen (group_for first id)
     still_open names = clerk_turn first (named way id ∷ looks places first.number) third (group_for first id) (turn.number ∙ clerk)
         (grows_on first second third (looks places first.number) (named way id ∷ []) room.grows names) (looks_clear_nothing places first.number) odd
 
 -- a look at the turn, and then a scan that finds the name
-pub then_found : (id way : ℕ) (old first second : Token) → Grows old (looked old.number ∷ []) first → FindsAt id 1 first second way → FindsAt id 2 old second way
+pub then_found : (id way : ℕ) (old first second : Token) → Grows (looked old.number ∷ []) old first → FindsAt id 1 first second way → FindsAt id 2 old second way
 then_found id way old first second turn scan = let more : scan.place + 1 + 1 ≡ scan.place + 2 = omega arith in record {
   place = scan.place;
   inside = scan.inside;
   way_is = scan.way_is ∙ ap (λ (d : Opened). way_at d.plan id scan.place) turn.directory;
-  grows = subst (λ (k : ℕ). Grows old (looks k old.number) second) more (then_looks old first second (scan.place + 1) turn scan.grows);
+  grows = subst (λ (k : ℕ). Grows (looks k old.number) old second) more (then_looks old first second (scan.place + 1) turn scan.grows);
   named = scan.named;
 }
 
 -- an id isn't admitted where there is no room
-pub no_admission : (id : ℕ) (old first second : Token) (why : Refused) → Grows old (looked old.number ∷ []) first → Rooms id first second (Err why) → Admits id old second (Err why)
+pub no_admission : (id : ℕ) (old first second : Token) (why : Refused) → Grows (looked old.number ∷ []) old first → Rooms id first second (Err why) → Admits id old second (Err why)
 no_admission id old first second refused.NoClaim turn none = absurd none
 no_admission id old first second (refused.Named way) turn has = then_found id way old first second turn has
 no_admission id old first second refused.Full turn full = (then_looks old first second places turn full.0, full.1)
@@ -299,12 +299,12 @@ looks_both : (count more by : ℕ) → looks more by ++ looks count by ≡ looks
 looks_both count zero by = ap (λ (k : ℕ). looks k by) (omega arith)
 looks_both count (suc more) by = let k : suc (count + more) ≡ count + suc more = omega arith in ap (λ (l : List Event). looked by ∷ l) (looks_both count more by) ∙ ap (λ (n : ℕ). looks n by) k
 
-pub looks_after : (old mid new : Token) (count more : ℕ) → Grows old (looks count old.number) mid → Grows mid (looks more mid.number) new → Grows old (looks (count + more) old.number) new
-looks_after old mid new count more a b = subst (λ (l : List Event). Grows old l new) (ap (λ (by : ℕ). looks more by ++ looks count old.number) a.number ∙ looks_both count more old.number)
+pub looks_after : (old mid new : Token) (count more : ℕ) → Grows (looks count old.number) old mid → Grows (looks more mid.number) mid new → Grows (looks (count + more) old.number) old new
+looks_after old mid new count more a b = subst (λ (l : List Event). Grows l old new) (ap (λ (by : ℕ). looks more by ++ looks count old.number) a.number ∙ looks_both count more old.number)
     (grows_on old mid new (looks count old.number) (looks more mid.number) a b)
 
 -- a name that the clerk didn't see there isn't there after other looks
-still_passed : (way : ℕ → ℕ) (name : ℕ) (old mid new : Token) (more : ℕ) → old.number ≡ 0 → mid.number ≡ 0 → Grows mid (looks more mid.number) new → PassedByClerk way name old 8 mid → PassedByClerk way name old 8 new
+still_passed : (way : ℕ → ℕ) (name : ℕ) (old mid new : Token) (more : ℕ) → old.number ≡ 0 → mid.number ≡ 0 → Grows (looks more mid.number) mid new → PassedByClerk way name old 8 mid → PassedByClerk way name old 8 new
 still_passed way name old mid new more clerk same b passed _ at below has = passed clerk at below (sym (clerk_looks mid more mid.number new (way at) same b) ∙ has)
 
 module _ (id first second : ℕ) (old mid new : Token) where
@@ -328,7 +328,7 @@ module _ (id first second : ℕ) (old mid new : Token) where
     place = place;
     inside = omega arith;
     way_is = omega (arith, in_group) ∙ ap (λ (g : ℕ). 8 * g + (place - 8)) is ∙ sym (way_at_second old.directory.plan id place (omega arith) (omega arith));
-    grows = subst (λ (k : ℕ). Grows old (looks k old.number) new) (omega arith) (looks_after old mid new 8 (way % 8 + 1) a.grows h.1);
+    grows = subst (λ (k : ℕ). Grows (looks k old.number) old new) (omega arith) (looks_after old mid new 8 (way % 8 + 1) a.grows h.1);
     named = h.2;
   }
 
@@ -338,7 +338,7 @@ module _ (id first second : ℕ) (real : 0 < id) (old mid new : Token) (clerk : 
   of = old.directory.plan
 
   module _ (here there : Room) (a : SeesRoom id first old mid here) (b : SeesRoom id second mid new there) where
-    both_grow : Grows old (looks places old.number) new
+    both_grow : Grows (looks places old.number) old new
     both_grow = looks_after old mid new 8 8 a.grows b.grows
 
     mid_clerk : mid.number ≡ 0
@@ -386,19 +386,19 @@ module _ (now : Opened) (id of found : ℕ) (first : Token) (own : first.directo
   turn_is = turn_there first.seen ∙ sym value
 
   -- and a claim that is granted, or another was
-  module _ (old second third : Token) (turn : Grows old (looked old.number ∷ []) first) (scan : Grows first (looks places first.number) second) where
-    looked_all : Grows old (looks (places + 1) old.number) second
+  module _ (old second third : Token) (turn : Grows (looked old.number ∷ []) old first) (scan : Grows (looks places first.number) first second) where
+    looked_all : Grows (looks (places + 1) old.number) old second
     looked_all = then_looks old first second places turn scan
 
     pub granted : WinsClaim id [] second third → WinsClaim id (looks (places + 1) old.number) old third
     granted won = record {
-      grows = subst (λ (by : ℕ). Grows old (claimed by id ∷ looks (places + 1) old.number) third) looked_all.number (grows_on old second third (looks (places + 1) old.number) (claimed second.number id ∷ []) looked_all won.grows);
+      grows = subst (λ (by : ℕ). Grows (claimed by id ∷ looks (places + 1) old.number) old third) looked_all.number (grows_on old second third (looks (places + 1) old.number) (claimed second.number id ∷ []) looked_all won.grows);
       before = won.before;
       last = won.last ∙ ap (λ (by : ℕ). claimed by id ∷ won.before) looked_all.number;
       absent = won.absent;
     }
 
-    pub outrun : found % 2 ≡ 0 → Grows second (looked second.number ∷ []) third → turn_of now.plan third.seen of ≢ found → Grows old (looks (places + 2) old.number) third × WasOpen id old third
+    pub outrun : found % 2 ≡ 0 → Grows (looked second.number ∷ []) second third → turn_of now.plan third.seen of ≢ found → Grows (looks (places + 2) old.number) old third × WasOpen id old third
     outrun even look changed =
         let same : group_for first id ≡ group_for old id = ap (λ (d : Opened). group_of d.plan id) turn.directory in
         let at = λ (seen : List Event). ap (λ (d : Opened). turn_of d.plan seen (group_of d.plan id)) (sym turn.directory) in (

@@ -222,7 +222,7 @@ module _ (table : TableId) (key : Plan) (now : Opened) (about : Stands table key
       )
 
 -- what a step tells is what the token gains
-pub grows_by : (old next : Caller) (event : Event) → next.table_id ≡ old.table_id → Goes event old.me.0 next.me.0 → maker event ≡ old.me.0.number → Grows (token old) (event ∷ []) (token next)
+pub grows_by : (old next : Caller) (event : Event) → next.table_id ≡ old.table_id → Goes event old.me.0 next.me.0 → maker event ≡ old.me.0.number → Grows (event ∷ []) (token old) (token next)
 grows_by old next event table goes by = let is = goes.next_is in record {
   directory = λ j. record { id = table j; plan = (is j).plan };
   number = ap (λ (v : View). v.number) is;
@@ -244,7 +244,7 @@ claims_by old next id table goes = let seen = ap (λ (v : View). v.seen) goes.ne
 }
 
 -- the seat stays a caller's
-pub sits_on : (now : Opened) (old next : Caller) (acts : List Event) → Sits now old → Grows (token old) acts (token next) → next.me.0.calls ≡ old.me.0.calls → Sits now next
+pub sits_on : (now : Opened) (old next : Caller) (acts : List Event) → Sits now old → Grows acts (token old) (token next) → next.me.0.calls ≡ old.me.0.calls → Sits now next
 sits_on now old next acts sits grows calls = record {
   own = grows.directory ∙ sits.own;
   calls = calls ∙ sits.calls;

@@ -12,7 +12,7 @@ use Rattle.nr_ids.specs.Tokens.{Token, Grows, WinsClaim, HasName, Within}
 -- the way had that name at the last look; or within the call there was a moment at which the id had no way
 abbrev pub LooksUp : ℕ → Token → Token → Option ℕ → Type 0
 LooksUp id old new (Some way) = FindsAt id 1 old new way
-LooksUp id old new None = Grows old (looks places old.number) new × WasAbsent id old new
+LooksUp id old new None = Grows (looks places old.number) old new × WasAbsent id old new
 
 -- within the call there was a moment at which a claim of the id's group was open
 pub record WasOpen (id : ℕ) (old new : Token) : Type 0 where
@@ -24,32 +24,32 @@ pub record WasOpen (id : ℕ) (old new : Token) : Type 0 where
 abbrev pub Requests : ℕ → Token → Token → Requested → Type 0
 Requests id old new (requested.Granted claim) = WinsClaim id (looks (places + 1) old.number) old new × (claim.directory ≡ old.directory) × (claim.id ≡ id)
 Requests id old new (requested.Named way) = FindsAt id 2 old new way
-Requests id old new requested.Busy = Grows old (looks 1 old.number) new × IsOpen old.directory.plan new.seen (group_for old id)
-Requests id old new requested.Outrun = Grows old (looks (places + 2) old.number) new × WasOpen id old new
-Requests id old new requested.Worn = Grows old (looks 1 old.number) new × (last_turn ≤ turn_of old.directory.plan new.seen (group_for old id))
+Requests id old new requested.Busy = Grows (looks 1 old.number) old new × IsOpen old.directory.plan new.seen (group_for old id)
+Requests id old new requested.Outrun = Grows (looks (places + 2) old.number) old new × WasOpen id old new
+Requests id old new requested.Worn = Grows (looks 1 old.number) old new × (last_turn ≤ turn_of old.directory.plan new.seen (group_for old id))
 
 -- a way that had no name has the id's, and then the claim is closed; what was refused changed nothing
 abbrev pub Admits : ℕ → Token → Token → Result ℕ Refused → Type 0
-Admits id old new (Ok way) = Grows old (cleared (group_for old id) ∷ named way id ∷ looks (places + 1) old.number) new × (name_of old.seen way ≡ 0) × HasName new way id
-Admits id old new (Err refused.NoClaim) = Grows old (looks 1 old.number) new × IsClosed old.directory.plan new.seen (group_for old id)
+Admits id old new (Ok way) = Grows (cleared (group_for old id) ∷ named way id ∷ looks (places + 1) old.number) old new × (name_of old.seen way ≡ 0) × HasName new way id
+Admits id old new (Err refused.NoClaim) = Grows (looks 1 old.number) old new × IsClosed old.directory.plan new.seen (group_for old id)
 Admits id old new (Err (refused.Named way)) = FindsAt id 2 old new way
-Admits id old new (Err refused.Full) = Grows old (looks (places + 1) old.number) new × IsFull id new
+Admits id old new (Err refused.Full) = Grows (looks (places + 1) old.number) old new × IsFull id new
 
 -- the claim that was open is closed; or none was open
 abbrev pub Clears : ℕ → Token → Token → Bool → Type 0
-Clears id old new true = Grows old (cleared (group_for old id) ∷ looks 1 old.number) new
-Clears id old new false = Grows old (looks 1 old.number) new × IsClosed old.directory.plan new.seen (group_for old id)
+Clears id old new true = Grows (cleared (group_for old id) ∷ looks 1 old.number) old new
+Clears id old new false = Grows (looks 1 old.number) old new × IsClosed old.directory.plan new.seen (group_for old id)
 
 -- the way's name is taken, by one step
 abbrev pub Unnames : ℕ → Token → Token → Type 0
-Unnames way old new = Grows old (unnamed way ∷ []) new
+Unnames way old new = Grows (unnamed way ∷ []) old new
 
 -- the way has that name, or no way has it
 abbrev pub FindsWay : ℕ → Token → Token → Option ℕ → Type 0
 FindsWay id old new (Some way) = FindsAt id 1 old new way
-FindsWay id old new None = Grows old (looks places old.number) new × IsAbsent new.seen id
+FindsWay id old new None = Grows (looks places old.number) old new × IsAbsent new.seen id
 
 -- the way has that name, or none
 abbrev pub FindsId : ℕ → Token → Token → Option ℕ → Type 0
-FindsId way old new (Some id) = Grows old (looks 1 old.number) new × HasName new way id × (0 < id)
-FindsId way old new None = Grows old (looks 1 old.number) new × (name_of new.seen way ≡ 0)
+FindsId way old new (Some id) = Grows (looks 1 old.number) old new × HasName new way id × (0 < id)
+FindsId way old new None = Grows (looks 1 old.number) old new × (name_of new.seen way ≡ 0)

@@ -50,7 +50,7 @@ TurnCounts = (plan : Plan) (log : List Event) (group : ℕ) → turn_of plan log
 
 -- of names the clerk knows all: they are those that it knew, after its own steps
 abbrev pub ClerkKnows : Type 0
-ClerkKnows = (old : Token) (acts : List Event) (new : Token) (way : ℕ) → old.number ≡ 0 → Grows old acts new → name_of new.seen way ≡ name_of (acts ++ old.seen) way
+ClerkKnows = (old : Token) (acts : List Event) (new : Token) (way : ℕ) → old.number ≡ 0 → Grows acts old new → name_of new.seen way ≡ name_of (acts ++ old.seen) way
 
 -- a token that knows a way's name looks it up there, unless the name was taken since
 abbrev pub FindsWhatItKnew : Type 0

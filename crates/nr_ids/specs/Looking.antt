@@ -22,15 +22,15 @@ pub record WasAbsent (id : ℕ) (old new : Token) : Type 0 where
   pub absent : IsAbsent moment id
 
 -- so far: there was such a moment, or the id has a way at that place or behind it
-abbrev pub Ahead : ℕ → Token → ℕ → Token → Type 0
-Ahead id old place new = WasAbsent id old new ⊎ ((at : ℕ) × (place ≤ at) × (at < places) × (name_of new.seen (way_for old id at) ≡ id))
+abbrev pub Ahead : ℕ → ℕ → Token → Token → Type 0
+Ahead id place old new = WasAbsent id old new ⊎ ((at : ℕ) × (place ≤ at) × (at < places) × (name_of new.seen (way_for old id at) ≡ id))
 
 -- of so many ways none has the name, where the clerk looked
 abbrev pub PassedByClerk : (ℕ → ℕ) → ℕ → Token → ℕ → Token → Type 0
 PassedByClerk way name old count new = old.number ≡ 0 → (place : ℕ) → place < count → name_of new.seen (way place) ≢ name
 
 pub record Missed (id : ℕ) (old new : Token) : Type 0 where
-  pub grows : Grows old (looks places old.number) new
+  pub grows : Grows (looks places old.number) old new
   pub absent : WasAbsent id old new
   pub passed : (place : ℕ) → place < places → Passed old.seen new.seen (way_for old id place) id
   pub exact : old.number ≡ 0 → IsAbsent new.seen id
@@ -40,7 +40,7 @@ pub record FindsAt (id more : ℕ) (old new : Token) (way : ℕ) : Type 0 where
   pub place : ℕ
   pub inside : place < places
   pub way_is : way ≡ way_for old id place
-  pub grows : Grows old (looks (place + more) old.number) new
+  pub grows : Grows (looks (place + more) old.number) old new
   pub named : HasName new way id
 
 abbrev pub Scans : ℕ → Token → Token → Option ℕ → Type 0
@@ -53,7 +53,7 @@ IsFull id token = (place : ℕ) → place < places → name_of token.seen (way_f
 
 -- a way of the id's without a name, where no way has the id's
 pub record HasRoom (id way : ℕ) (old new : Token) : Type 0 where
-  pub grows : Grows old (looks places old.number) new
+  pub grows : Grows (looks places old.number) old new
   pub inside : way < ways old.directory.plan
   pub place : IsWayOf old.directory.plan id way
   pub free : name_of new.seen way ≡ 0
@@ -63,7 +63,7 @@ abbrev pub Rooms : ℕ → Token → Token → Result ℕ Refused → Type 0
 Rooms id old new (Ok way) = HasRoom id way old new
 Rooms id old new (Err refused.NoClaim) = ⊥
 Rooms id old new (Err (refused.Named way)) = FindsAt id 1 old new way
-Rooms id old new (Err refused.Full) = Grows old (looks places old.number) new × IsFull id new
+Rooms id old new (Err refused.Full) = Grows (looks places old.number) old new × IsFull id new
 
 -- the ways of a group, in their order
 abbrev pub way_in : ℕ → ℕ → ℕ
@@ -71,7 +71,7 @@ way_in group place = 8 * group + place
 
 -- what the clerk saw of a group: none of its ways has the id's name, and one has none, or each has one
 pub record SeesRoom (id group : ℕ) (old new : Token) (room : Room) : Type 0 where
-  pub grows : Grows old (looks 8 old.number) new
+  pub grows : Grows (looks 8 old.number) old new
   pub passed : PassedByClerk (way_in group) id old 8 new
   pub free : IfSome room.way (λ way. (group_of_way way ≡ group) × (name_of new.seen way ≡ 0))
   pub full : IfNone room.way (PassedByClerk (way_in group) 0 old 8 new)
@@ -79,5 +79,5 @@ pub record SeesRoom (id group : ℕ) (old new : Token) (room : Room) : Type 0 wh
 abbrev pub LooksForRoom : ℕ → ℕ → Token → Token → Result Room Refused → Type 0
 LooksForRoom id group old new (Ok room) = SeesRoom id group old new room
 LooksForRoom id group old new (Err refused.NoClaim) = ⊥
-LooksForRoom id group old new (Err (refused.Named way)) = (group_of_way way ≡ group) × Grows old (looks (way % 8 + 1) old.number) new × HasName new way id
+LooksForRoom id group old new (Err (refused.Named way)) = (group_of_way way ≡ group) × Grows (looks (way % 8 + 1) old.number) old new × HasName new way id
 LooksForRoom id group old new (Err refused.Full) = ⊥

@@ -5,9 +5,9 @@ use Rattle.nr_ids.specs.Tokens.{Token, Grows}
 
 -- a way was marked already, or is marked by a step more
 abbrev pub Marks : Token → Token → Type 0
-Marks old new = (steps : ℕ) × ((steps ≡ 1) ⊎ (steps ≡ 2)) × Grows old (looks steps old.number) new
+Marks old new = (steps : ℕ) × ((steps ≡ 1) ⊎ (steps ≡ 2)) × Grows (looks steps old.number) old new
 
 -- a mark was there and is taken, or none was
 abbrev pub TakesMark : Token → Token → Bool → Type 0
-TakesMark old new true = Grows old (looks 2 old.number) new
-TakesMark old new false = Grows old (looks 1 old.number) new
+TakesMark old new true = Grows (looks 2 old.number) old new
+TakesMark old new false = Grows (looks 1 old.number) old new

@@ -70,7 +70,7 @@ Newest [] old new = new ≡ old
 Newest (act ∷ acts) old new = (before : List Event) × (new ≡ act ∷ before)
 
 -- the token's own steps were just these, newest first; it knows a legal list of events, which begins with all that it knew
-pub record Grows (old : Token) (acts : List Event) (new : Token) : Type 0 where
+pub record Grows (acts : List Event) (old new : Token) : Type 0 where
   pub directory : new.directory ≡ old.directory
   pub number : new.number ≡ old.number
   pub made : new.made ≡ old.made
@@ -108,14 +108,14 @@ known_to token = record { directory = token.directory; seen = token.seen }
 
 -- after these steps a claim was granted to the token, at its last step: then the id had no way
 pub record WinsClaim (id : ℕ) (acts : List Event) (old new : Token) : Type 0 where
-  pub grows : Grows old (claimed old.number id ∷ acts) new
+  pub grows : Grows (claimed old.number id ∷ acts) old new
   pub before : List Event
   pub last : new.seen ≡ claimed old.number id ∷ before
   pub absent : IsAbsent before id
 
 -- the token took a note in, and then by one look knew all that it knew before and all that the note told
-pub record Hears (old : Token) (note : Known) (new : Token) : Type 0 where
-  pub grows : Grows (with_step old) (looks 1 old.number) new
+pub record Hears (note : Known) (old new : Token) : Type 0 where
+  pub grows : Grows (looks 1 old.number) (with_step old) new
   pub knows : BeginsWith new.seen note.seen
 
 -- what contracts see of a claim

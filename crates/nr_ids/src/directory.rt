@@ -75,7 +75,7 @@ impl Directory {
         requires caller { Sits self.now seat.old }
         requires way { way < ways self.now.plan }
         ensures caller { Sits self.now seat.new }
-        ensures grows { Grows (token seat.old) (looked (token seat.old).number ∷ []) (token seat.new) }
+        ensures grows { Grows (looked (token seat.old).number ∷ []) (token seat.old) (token seat.new) }
         ensures value { result ≡ name_of (token seat.new).seen way }
     {
         let words = &self.table.shared;
@@ -87,7 +87,7 @@ impl Directory {
         requires caller { Sits self.now seat.old }
         requires group { group < self.now.plan.groups }
         ensures caller { Sits self.now seat.new }
-        ensures grows { Grows (token seat.old) (looked (token seat.old).number ∷ []) (token seat.new) }
+        ensures grows { Grows (looked (token seat.old).number ∷ []) (token seat.old) (token seat.new) }
         ensures value { result ≡ turn_of self.now.plan (token seat.new).seen group }
         ensures early { result % 2 ≡ 1 → result < last_turn }
     {
@@ -106,7 +106,7 @@ impl Directory {
         requires scanned { Scanned self.now.plan (token seat.old).seen id was places }
         ensures caller { Sits self.now seat.new }
         ensures won { result ≡ true → WinsClaim id [] (token seat.old) (token seat.new) }
-        ensures lost { result ≡ false → Grows (token seat.old) (looked (token seat.old).number ∷ []) (token seat.new) × (turn_of self.now.plan (token seat.new).seen (group_of self.now.plan id) ≢ was) }
+        ensures lost { result ≡ false → Grows (looked (token seat.old).number ∷ []) (token seat.old) (token seat.new) × (turn_of self.now.plan (token seat.new).seen (group_of self.now.plan id) ≢ was) }
     {
         let words = &self.table.shared;
         let place = self.turn_place(self.plan.group_of(id));
@@ -121,7 +121,7 @@ impl Directory {
         requires number { (token seat.old).number ≡ 0 }
         requires may { MayName self.now.plan (token seat.old).seen way id }
         ensures clerk { Sits self.now seat.new }
-        ensures grows { Grows (token seat.old) (named way id ∷ []) (token seat.new) }
+        ensures grows { Grows (named way id ∷ []) (token seat.old) (token seat.new) }
     {
         let words = &self.table.shared;
         words.store::<Names>(seat, way as usize, id);
@@ -133,7 +133,7 @@ impl Directory {
         requires number { (token seat.old).number ≡ 0 }
         requires way { way < ways self.now.plan }
         ensures clerk { Sits self.now seat.new }
-        ensures grows { Grows (token seat.old) (unnamed way ∷ []) (token seat.new) }
+        ensures grows { Grows (unnamed way ∷ []) (token seat.old) (token seat.new) }
     {
         let words = &self.table.shared;
         words.store::<Unnames>(seat, way as usize, 0);
@@ -148,7 +148,7 @@ impl Directory {
         requires open_claim { was % 2 ≡ 1 }
         requires early { was < last_turn }
         ensures clerk { Sits self.now seat.new }
-        ensures grows { Grows (token seat.old) (cleared group ∷ []) (token seat.new) }
+        ensures grows { Grows (cleared group ∷ []) (token seat.old) (token seat.new) }
     {
         let words = &self.table.shared;
         let place = self.turn_place(group);
@@ -160,7 +160,7 @@ impl Directory {
         requires caller { Sits self.now seat.old }
         requires group { group < self.now.plan.groups }
         ensures caller { Sits self.now seat.new }
-        ensures grows { Grows (token seat.old) (looked (token seat.old).number ∷ []) (token seat.new) }
+        ensures grows { Grows (looked (token seat.old).number ∷ []) (token seat.old) (token seat.new) }
     {
         let words = &self.table.shared;
         let place = self.marks_place(group);
@@ -172,7 +172,7 @@ impl Directory {
         requires caller { Sits self.now seat.old }
         requires group { group < self.now.plan.groups }
         ensures caller { Sits self.now seat.new }
-        ensures grows { Grows (token seat.old) (looked (token seat.old).number ∷ []) (token seat.new) }
+        ensures grows { Grows (looked (token seat.old).number ∷ []) (token seat.old) (token seat.new) }
     {
         let words = &self.table.shared;
         let place = self.marks_place(group);
@@ -184,7 +184,7 @@ impl Directory {
         requires caller { Sits self.now seat.old }
         requires group { group < self.now.plan.groups }
         ensures caller { Sits self.now seat.new }
-        ensures grows { Grows (token seat.old) (looked (token seat.old).number ∷ []) (token seat.new) }
+        ensures grows { Grows (looked (token seat.old).number ∷ []) (token seat.old) (token seat.new) }
     {
         let words = &self.table.shared;
         let place = self.marks_place(group);
@@ -195,7 +195,7 @@ impl Directory {
     pub(crate) fn learn(&self, seat: &mut Seat)
         requires caller { Sits self.now seat.old }
         ensures caller { Sits self.now seat.new }
-        ensures grows { Grows (token seat.old) (looked (token seat.old).number ∷ []) (token seat.new) }
+        ensures grows { Grows (looked (token seat.old).number ∷ []) (token seat.old) (token seat.new) }
         ensures heard { BeginsWith (token seat.new).seen (view_of seat.old).told }
     {
         let words = &self.table.shared;

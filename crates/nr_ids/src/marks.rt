@@ -51,7 +51,7 @@ impl Directory {
         ensures own { clerk.new.directory ≡ self.now }
         ensures group { group_of_way result ≡ group_of self.now.plan id }
         ensures inside { result < ways self.now.plan }
-        ensures steps { Grows clerk.old (looks 2 clerk.old.number) clerk.new }
+        ensures steps { Grows (looks 2 clerk.old.number) clerk.old clerk.new }
     {
         let group = self.plan().group_of(id);
         let (place, passed) = chosen(self.marks(&mut clerk.seat, group));
@@ -64,7 +64,7 @@ impl Directory {
     pub fn load_ahead(&self, reader: &mut Reader, ids: &[u64])
         requires own { reader.old.directory ≡ self.now }
         ensures own { reader.new.directory ≡ self.now }
-        ensures steps { Grows reader.old (looks (length ids.now) reader.old.number) reader.new }
+        ensures steps { Grows (looks (length ids.now) reader.old.number) reader.old reader.new }
     {
         self.look_at_groups(&mut reader.seat, ids);
     }
@@ -72,7 +72,7 @@ impl Directory {
     fn look_at_groups(&self, seat: &mut Seat, ids: &[u64])
         requires caller { Sits self.now seat.old }
         ensures caller { Sits self.now seat.new }
-        ensures grows { Grows (token seat.old) (looks (length ids.now) (token seat.old).number) (token seat.new) }
+        ensures grows { Grows (looks (length ids.now) (token seat.old).number) (token seat.old) (token seat.new) }
     {
         for id in ids {
             self.look(seat, WAYS * self.plan().group_of(*id));

@@ -121,7 +121,7 @@ impl Directory {
     pub fn hear(&self, reader: &mut Reader, note: Note)
         requires own { (reader.old.directory ≡ self.now) × (note.directory ≡ self.now) }
         ensures own { reader.new.directory ≡ self.now }
-        ensures hears { Hears reader.old note reader.new }
+        ensures hears { Hears note reader.old reader.new }
     {
         self.take_note(&mut reader.seat, note.seat);
         self.learn(&mut reader.seat);
@@ -131,7 +131,7 @@ impl Directory {
     pub fn hear_clerk(&self, clerk: &mut Clerk, note: Note)
         requires own { (clerk.old.directory ≡ self.now) × (note.directory ≡ self.now) }
         ensures own { clerk.new.directory ≡ self.now }
-        ensures hears { Hears clerk.old note clerk.new }
+        ensures hears { Hears note clerk.old clerk.new }
     {
         self.take_note(&mut clerk.seat, note.seat);
         self.learn(&mut clerk.seat);

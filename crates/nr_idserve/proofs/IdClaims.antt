@@ -47,10 +47,10 @@ record Claims (old : Token) (ids : List ℕ) (new : Token) : Type 0 where
   pub seen : new.seen ≡ events ++ old.seen
   pub claims : claimed_ids (own old.number events) ≡ ids
 
-claims_of : (old new : Token) (acts : List Event) (ids : List ℕ) → Grows old acts new → claimed_ids acts ≡ ids → Claims old ids new
+claims_of : (old new : Token) (acts : List Event) (ids : List ℕ) → Grows acts old new → claimed_ids acts ≡ ids → Claims old ids new
 claims_of old new acts ids grows is = record { number = grows.number; events = grows.rest; seen = grows.seen; claims = ap claimed_ids grows.acts_are ∙ is }
 
-claims_none : (old new : Token) (count : ℕ) → Grows old (looks count old.number) new → Claims old [] new
+claims_none : (old new : Token) (count : ℕ) → Grows (looks count old.number) old new → Claims old [] new
 claims_none old new count grows = claims_of old new (looks count old.number) [] grows (looks_claim_none count old.number)
 
 claims_both : (a b c : Token) (ids more : List ℕ) → Claims a ids b → Claims b more c → Claims a (ids ++ more) c
@@ -142,7 +142,7 @@ quiet_each : (old new : IdHands) → old.kept ≡ None → new.kept ≡ None →
 quiet_each old new none still poster claims = posts_each old new [] [] claims (ap (λ (seen : PosterSeen). seen.posted) poster ∙ sym (append-nil old.poster.posted))
     (ap (λ (kept : Option Granted). ids_kept kept ++ []) none ∙ sym (ap ids_kept still))
 
-request_each : (capacity id : ℕ) (old : IdHands) (missed : Missed) (new : IdHands) → RequestsOnce capacity id old missed new → PostsEach old new
+request_each : (capacity id : ℕ) (old : IdHands) (missed : Missed) (new : IdHands) → RequestsOnce capacity id old new missed → PostsEach old new
 request_each capacity id old missed.Pending new requests = absurd requests
 request_each capacity id old missed.NotRequested new requests = subst (λ (hands : IdHands). PostsEach old hands) (sym requests.2) (each_same old)
 request_each capacity id old missed.Claimed new requests =
@@ -157,20 +157,20 @@ request_each capacity id old missed.Outrun new requests =
     quiet_each old new requests.requests.none requests.kept requests.poster (refused_none id old.reader.ids new.reader.ids requested.Outrun refl requests.requests.requests)
 request_each capacity id old missed.Worn new requests = quiet_each old new requests.requests.none requests.kept requests.poster (refused_none id old.reader.ids new.reader.ids requested.Worn refl requests.requests.requests)
 
-goes_on_each : (capacity id : ℕ) (answer : FoundId) (old : IdHands) (missed : Missed) (new : IdHands) → GoesOn capacity id answer old missed new → PostsEach old new
+goes_on_each : (capacity id : ℕ) (answer : FoundId) (old : IdHands) (missed : Missed) (new : IdHands) → GoesOn capacity id answer old new missed → PostsEach old new
 goes_on_each capacity id found.Rows old missed new goes = absurd goes
 goes_on_each capacity id found.Pending old missed new goes = subst (λ (hands : IdHands). PostsEach old hands) (sym goes.1) (each_same old)
 goes_on_each capacity id found.Moved old missed new goes = request_each capacity id old missed new goes
 goes_on_each capacity id found.Absent old missed new goes = request_each capacity id old missed new goes
 
 -- TRIES AND GETS
-pub miss_each : (capacity id : ℕ) (old : IdHands) (missed : Missed) (new : IdHands) → MissesOnce capacity id old missed new → PostsEach old new
+pub miss_each : (capacity id : ℕ) (old : IdHands) (missed : Missed) (new : IdHands) → MissesOnce capacity id old new missed → PostsEach old new
 miss_each capacity id old missed new tried =
     let mid = with_id_reader tried.posted tried.reader in
     each_both old tried.posted new (first_each capacity old tried.posted tried.posts)
     (each_both tried.posted mid new (reader_each tried.posted tried.reader (find_none {Room = Unit {0}} (λ room rows. ⊥) id tried.posted.reader tt tried.reader tt tried.answer tried.finds)) (goes_on_each capacity id tried.answer mid missed new tried.goes_on))
 
-misses_each : (capacity id : ℕ) (old : IdHands) (all : List Missed) (new : IdHands) → MissesAll capacity id old all new → PostsEach old new
+misses_each : (capacity id : ℕ) (old : IdHands) (all : List Missed) (new : IdHands) → MissesAll capacity id old new all → PostsEach old new
 misses_each capacity id old [] new same = subst (λ (hands : IdHands). PostsEach old hands) (sym same) (each_same old)
 misses_each capacity id old (missed ∷ before) new tries =
     each_both old tries.0 new (misses_each capacity id old before tries.0 tries.1) (miss_each capacity id tries.0 missed new tries.2)

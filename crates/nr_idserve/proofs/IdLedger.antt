@@ -89,7 +89,7 @@ record Comes (old : IdFlowSeen) (id : ℕ) (new : IdFlowSeen) : Type 0 where
   pub none : new.refused ≡ None
   pub writer : new.writer ≡ old.writer
 
-comes : (old new : IdFlowSeen) (id : ℕ) → NextsId old (Some id) new → Comes old id new
+comes : (old new : IdFlowSeen) (id : ℕ) → NextsId old new (Some id) → Comes old id new
 comes old new id (inl kept) = record {
   gain = [];
   taken = ap (λ (flow : IdFlowSeen). flow.taker.taken) kept.1 ∙ sym (append-nil old.taker.taken);
@@ -111,7 +111,7 @@ record Answers (old : IdFlowSeen) (id : ℕ) (answer : Taken) (new : IdFlowSeen)
   pub claims : id ∷ [] ≡ ids_of (answered_by None answer) ++ ids_refused new.refused
   pub made : Made old.writer.writer new.writer.writer []
 
-admitted_id : (old new : IdFlowSeen) (id : ℕ) (sent : Sent) → AdmitsMakingRoom old id (Ok sent) new → sent.owed.id ≡ id
+admitted_id : (old new : IdFlowSeen) (id : ℕ) (sent : Sent) → AdmitsMakingRoom id old new (Ok sent) → sent.owed.id ≡ id
 admitted_id old new id sent admits = ⊎_elim
     (λ once. once.1.id_is)
     (λ full. ⊎_elim
@@ -120,7 +120,7 @@ admitted_id old new id sent admits = ⊎_elim
     full.2)
     admits
 
-answers : (old new : IdFlowSeen) (id : ℕ) (answer : Taken) → old.refused ≡ None → AdmitsNext old id answer new → Answers old id answer new
+answers : (old new : IdFlowSeen) (id : ℕ) (answer : Taken) → old.refused ≡ None → AdmitsNext id old new answer → Answers old id answer new
 answers old new id (taken.Asked sent) none admits =
     let leaves = making_room_leaves old new id (Ok sent) admits in record {
       taker = leaves.taker;
@@ -161,7 +161,7 @@ next_answers old mid new id answer held came says = record {
   made = subst (λ (keeper : Keeper). Made keeper.writer new.writer.writer []) came.writer says.made;
 }
 
-idle : (old new : IdFlowSeen) (held : List Owed) → NextsId old None new → Books old new held held [] []
+idle : (old new : IdFlowSeen) (held : List Owed) → NextsId old new None → Books old new held held [] []
 idle old new held none = record {
   gain = [];
   taken = ap (λ (flow : IdFlowSeen). flow.taker.taken) none.2 ∙ sym (append-nil old.taker.taken);
@@ -170,7 +170,7 @@ idle old new held none = record {
   made = record { calls = []; mine = ap (λ (flow : IdFlowSeen). flow.writer.writer.mine) none.2 ∙ sym (append-nil old.writer.writer.mine); done = refl };
 }
 
-takes_next : (old new : IdFlowSeen) (answer : Taken) (held : List Owed) → TakesNext old answer new → Books old new held (opened_by (answered_by None answer) ++ held) (answered_by None answer) []
+takes_next : (old new : IdFlowSeen) (answer : Taken) (held : List Owed) → TakesNext old new answer → Books old new held (opened_by (answered_by None answer) ++ held) (answered_by None answer) []
 takes_next old new answer held next =
     let came = comes old next.1 next.0 next.2 in
     next_answers old next.1 new next.0 answer held came (⊎_elim
@@ -179,7 +179,7 @@ takes_next old new answer held next =
     next.3)
 
 -- none was kept
-takes_free : (old new : IdFlowSeen) (answer : Taken) (held : List Owed) → old.kept ≡ None → TakesById old answer new
+takes_free : (old new : IdFlowSeen) (answer : Taken) (held : List Owed) → old.kept ≡ None → TakesById old new answer
     → Books old new held (opened_by (answered_by None answer) ++ held) (answered_by None answer) []
 takes_free old new (taken.Asked sent) held none takes = ⊎_elim
     (λ kept. let both : None ≡ Some sent = sym none ∙ kept.0 in absurd (cc (both)))
@@ -189,7 +189,7 @@ takes_free old new (taken.Passed id) held none takes = takes_next old new (taken
 takes_free old new (taken.Full id) held none takes = takes_next old new (taken.Full id) held takes.1
 takes_free old new taken.Idle held none takes = idle old new held takes.1
 
-takes : (old new : IdFlowSeen) (answer : Taken) (held : List Owed) (kept : Option Sent) → old.kept ≡ kept → TakesById old answer new
+takes : (old new : IdFlowSeen) (answer : Taken) (held : List Owed) (kept : Option Sent) → old.kept ≡ kept → TakesById old new answer
     → Books old new held (opened_by (answered_by kept answer) ++ held) (answered_by kept answer) []
 takes old new answer held None is does = takes_free old new answer held is does
 takes old new answer held (Some sent) is does =

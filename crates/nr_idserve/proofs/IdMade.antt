@@ -66,11 +66,11 @@ evict_id_made id old new evict.Evicted evicts = evict_made evicts.0 old.writer n
 evict_id_made id old new evict.Nothing (inl none) = made_none old.writer new.writer (ap (λ (writer : Caller). writer.mine) none.1)
 evict_id_made id old new evict.Nothing (inr found) = evict_made found.0 old.writer new.writer evict.Nothing found.2
 
-admits_leaves : (old new : IdFlowSeen) (id : ℕ) (answer : Result Sent Refused) → AdmitsOne old id answer new → Leaves old new []
+admits_leaves : (old new : IdFlowSeen) (id : ℕ) (answer : Result Sent Refused) → AdmitsOne id old new answer → Leaves old new []
 admits_leaves old new id (Ok sent) admits = leaves old new [] admits.3 (made_none old.writer.writer new.writer.writer admits.1.asks.hears.learns.mine)
 admits_leaves old new id (Err why) admits = leaves_writing old new admits.1 (made_none old.writer.writer new.writer.writer (ap (λ (writer : Caller). writer.mine) admits.0.writer))
 
-keeps_room_leaves : (old new : IdFlowSeen) (id : ℕ) → MakesRoom old id false new → Leaves old new []
+keeps_room_leaves : (old new : IdFlowSeen) (id : ℕ) → MakesRoom id old new false → Leaves old new []
 keeps_room_leaves old new id (inl same) = record {
   taker = ap (λ (flow : IdFlowSeen). flow.taker) same;
   refused = ap (λ (flow : IdFlowSeen). flow.refused) same;
@@ -78,10 +78,10 @@ keeps_room_leaves old new id (inl same) = record {
 }
 keeps_room_leaves old new id (inr tried) = leaves_writing old new tried.4 (evict_id_made tried.0 old.writer new.writer evict.Nothing tried.2)
 
-room_leaves : (old new : IdFlowSeen) (id : ℕ) → MakesRoom old id true new → Leaves old new []
+room_leaves : (old new : IdFlowSeen) (id : ℕ) → MakesRoom id old new true → Leaves old new []
 room_leaves old new id room = leaves old new [] room.5 (evict_id_made room.0 old.writer new.writer evict.Evicted room.2)
 
-pub making_room_leaves : (old new : IdFlowSeen) (id : ℕ) (answer : Result Sent Refused) → AdmitsMakingRoom old id answer new → Leaves old new []
+pub making_room_leaves : (old new : IdFlowSeen) (id : ℕ) (answer : Result Sent Refused) → AdmitsMakingRoom id old new answer → Leaves old new []
 making_room_leaves old new id answer (inl once) = admits_leaves old new id answer once
 making_room_leaves old new id answer (inr full) = leaves_both old full.0 new [] (admits_leaves old full.0 id (Err refused.Full) full.1) (⊎_elim
     (λ kept. keeps_room_leaves full.0 new id kept.1)
@@ -89,7 +89,7 @@ making_room_leaves old new id answer (inr full) = leaves_both old full.0 new [] 
     full.2)
 
 -- FILLS AND WITHDRAWALS
-pub fill_leaves : (old new : IdFlowSeen) (sent : Sent) (rows : List Row) (said : Spent) → FillsOneId old sent rows (Ok said) new → Leaves old new (fills_by (ended sent.owed (fate_of said rows)))
+pub fill_leaves : (old new : IdFlowSeen) (sent : Sent) (rows : List Row) (said : Spent) → FillsOneId sent rows old new (Ok said) → Leaves old new (fills_by (ended sent.owed (fate_of said rows)))
 fill_leaves old new sent rows spent.Filled fills =
     leaves old new _ fills.0.rest (fill_made sent.owed.way sent.owed.number (tag_of sent.owed.id ∷ rows) old.writer.writer new.writer.writer fills.0.fills.fills)
 fill_leaves old new sent rows spent.Passed fills = leaves old new [] fills.0.rest (⊎_elim
@@ -98,12 +98,12 @@ fill_leaves old new sent rows spent.Passed fills = leaves old new [] fills.0.res
     fills.0.fills.how)
 fill_leaves old new sent rows spent.Failed fills = absurd fills
 
-pub lack_leaves : (old new : IdFlowSeen) (sent : Sent) (rows : List Row) (back : Sent × NoSlot) → FillsOneId old sent rows (Err back) new → Leaves old new []
+pub lack_leaves : (old new : IdFlowSeen) (sent : Sent) (rows : List Row) (back : Sent × NoSlot) → FillsOneId sent rows old new (Err back) → Leaves old new []
 lack_leaves old new sent rows back fills =
     leaves old new [] fills.0.rest (pass_made sent.owed.way sent.owed.number (tag_of sent.owed.id ∷ rows) old.writer.writer new.writer.writer (fill.NoSlot back.1) fills.0.fills.1.lacks)
 
-module _ (raises : IdFlowSeen → Sent → IdFlowSeen → Type 0) where
-  pub withdraw_leaves : (old new : IdFlowSeen) (sent : Sent) (said : Spent) → WithdrawsOne raises old sent (Ok said) new → Leaves old new (fills_by (ended sent.owed (fate_of said [])))
+module _ (raises : Sent → IdFlowSeen → IdFlowSeen → Type 0) where
+  pub withdraw_leaves : (old new : IdFlowSeen) (sent : Sent) (said : Spent) → WithdrawsOne raises sent old new (Ok said) → Leaves old new (fills_by (ended sent.owed (fate_of said [])))
   withdraw_leaves old new sent spent.Filled ends = absurd ends
   withdraw_leaves old new sent spent.Passed ends = leaves old new [] ends.0.rest (⊎_elim
       (λ same. made_none old.writer.writer new.writer.writer (ap (λ (writer : Caller). writer.mine) same))
@@ -111,7 +111,7 @@ module _ (raises : IdFlowSeen → Sent → IdFlowSeen → Type 0) where
       ends.0.withdraws.how)
   withdraw_leaves old new sent spent.Failed ends = leaves old new [] ends.0.rest (cancel_made sent.owed.way old.writer.writer new.writer.writer cancel.Cancelled ends.0.withdraws.cancels)
 
-  pub worn_leaves : (old new : IdFlowSeen) (sent back : Sent) → WithdrawsOne raises old sent (Err back) new → Leaves old new []
+  pub worn_leaves : (old new : IdFlowSeen) (sent back : Sent) → WithdrawsOne raises sent old new (Err back) → Leaves old new []
   worn_leaves old new sent back ends = leaves old new [] ends.0.rest (cancel_made sent.owed.way old.writer.writer new.writer.writer cancel.Worn ends.0.withdraws.1.worn)
 
 -- UPDATES, REPLACEMENTS AND EVICTIONS

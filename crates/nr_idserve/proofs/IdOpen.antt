@@ -112,17 +112,17 @@ abbrev admitted : Result Sent Refused → List Owed
 admitted (Ok sent) = sent.owed ∷ []
 admitted (Err why) = []
 
-admits_open : (old new : IdFlowSeen) (id : ℕ) (answer : Result Sent Refused) (held : List Owed) → AdmitsOne old id answer new → AreTheOpen old.writer held → AreTheOpen new.writer (admitted answer ++ held)
+admits_open : (old new : IdFlowSeen) (id : ℕ) (answer : Result Sent Refused) (held : List Owed) → AdmitsOne id old new answer → AreTheOpen old.writer held → AreTheOpen new.writer (admitted answer ++ held)
 admits_open old new id (Ok sent) held admits was = opens_one old.writer new.writer sent.owed held admits.1.opens was
 admits_open old new id (Err why) held admits was = stays_open old.writer new.writer held admits.0.owes was
 
-keeps_room_open : (old new : IdFlowSeen) (id : ℕ) (held : List Owed) → MakesRoom old id false new → AreTheOpen old.writer held → AreTheOpen new.writer held
+keeps_room_open : (old new : IdFlowSeen) (id : ℕ) (held : List Owed) → MakesRoom id old new false → AreTheOpen old.writer held → AreTheOpen new.writer held
 keeps_room_open old new id held makes was = ⊎_elim
     (λ same. rests_open old.writer new.writer held (ap (λ (flow : IdFlowSeen). flow.writer) same) was)
     (λ tried. stays_open old.writer new.writer held tried.3 was)
     makes
 
-makes_room_open : (old new : IdFlowSeen) (id : ℕ) (answer : Result Sent Refused) (held : List Owed) → AdmitsMakingRoom old id answer new → AreTheOpen old.writer held
+makes_room_open : (old new : IdFlowSeen) (id : ℕ) (answer : Result Sent Refused) (held : List Owed) → AdmitsMakingRoom id old new answer → AreTheOpen old.writer held
     → AreTheOpen new.writer (admitted answer ++ held)
 makes_room_open old new id answer held admits was = ⊎_elim
     (λ once. admits_open old new id answer held once was)
@@ -139,7 +139,7 @@ asked (taken.Passed id) = []
 asked (taken.Full id) = []
 asked taken.Idle = []
 
-next_open : (old new : IdFlowSeen) (id : ℕ) (answer : Taken) (held : List Owed) → AdmitsNext old id answer new → AreTheOpen old.writer held → AreTheOpen new.writer (asked answer ++ held)
+next_open : (old new : IdFlowSeen) (id : ℕ) (answer : Taken) (held : List Owed) → AdmitsNext id old new answer → AreTheOpen old.writer held → AreTheOpen new.writer (asked answer ++ held)
 next_open old new id (taken.Asked sent) held admits was = makes_room_open old new id (Ok sent) held admits was
 next_open old new id (taken.Passed other) held admits was = makes_room_open old new id (Err admits.1) held admits.3 was
 next_open old new id (taken.Full other) held admits was =
@@ -147,13 +147,13 @@ next_open old new id (taken.Full other) held admits was =
 next_open old new id taken.Idle held admits was = absurd admits
 
 -- the claim was found without the writer
-claim_rests : (old new : IdFlowSeen) (id : ℕ) → NextsId old (Some id) new → new.writer ≡ old.writer
+claim_rests : (old new : IdFlowSeen) (id : ℕ) → NextsId old new (Some id) → new.writer ≡ old.writer
 claim_rests old new id nexts = ⊎_elim
     (λ refused. ap (λ (flow : IdFlowSeen). flow.writer) refused.1)
     (λ came. ap (λ (flow : IdFlowSeen). flow.writer) came.rest)
     nexts
 
-comes_open : (old new : IdFlowSeen) (answer : Taken) (held : List Owed) → TakesNext old answer new → AreTheOpen old.writer held → AreTheOpen new.writer (asked answer ++ held)
+comes_open : (old new : IdFlowSeen) (answer : Taken) (held : List Owed) → TakesNext old new answer → AreTheOpen old.writer held → AreTheOpen new.writer (asked answer ++ held)
 comes_open old new answer held comes was =
     let mid = rests_open old.writer comes.1.writer held (claim_rests old comes.1 comes.0 comes.2) was in ⊎_elim
     (λ none. subst (λ (said : Taken). AreTheOpen new.writer (asked said ++ held)) (sym none.1) (rests_open comes.1.writer new.writer held (ap (λ (flow : IdFlowSeen). flow.writer) none.2) mid))
@@ -161,7 +161,7 @@ comes_open old new answer held comes was =
     comes.3
 
 -- none was kept
-takes_open : (old new : IdFlowSeen) (answer : Taken) (held : List Owed) → old.kept ≡ None → TakesById old answer new → AreTheOpen old.writer held → AreTheOpen new.writer (asked answer ++ held)
+takes_open : (old new : IdFlowSeen) (answer : Taken) (held : List Owed) → old.kept ≡ None → TakesById old new answer → AreTheOpen old.writer held → AreTheOpen new.writer (asked answer ++ held)
 takes_open old new (taken.Asked sent) held none takes was = ⊎_elim
     (λ kept. let both : None ≡ Some sent = sym none ∙ kept.0 in absurd (cc (both)))
     (λ free. comes_open old new (taken.Asked sent) held free.1 was)
@@ -171,7 +171,7 @@ takes_open old new (taken.Full id) held none takes was = comes_open old new (tak
 takes_open old new taken.Idle held none takes was = rests_open old.writer new.writer held (ap (λ (flow : IdFlowSeen). flow.writer) takes.1.2) was
 
 -- one was kept, and comes first
-pub kept_first : (old new : IdFlowSeen) (answer : Taken) (sent : Sent) → old.kept ≡ Some sent → TakesById old answer new → new ≡ record old { kept = None }
+pub kept_first : (old new : IdFlowSeen) (answer : Taken) (sent : Sent) → old.kept ≡ Some sent → TakesById old new answer → new ≡ record old { kept = None }
 kept_first old new (taken.Asked other) sent is takes = ⊎_elim (λ kept. kept.1) (λ free. let both : None ≡ Some sent = sym free.0 ∙ is in absurd (cc (both))) takes
 kept_first old new (taken.Passed id) sent is takes = let both : None ≡ Some sent = sym takes.0 ∙ is in absurd (cc (both))
 kept_first old new (taken.Full id) sent is takes = let both : None ≡ Some sent = sym takes.0 ∙ is in absurd (cc (both))
@@ -183,7 +183,7 @@ opened_asked (taken.Passed id) = refl
 opened_asked (taken.Full id) = refl
 opened_asked taken.Idle = refl
 
-take_open : (old new : IdFlowSeen) (answer : Taken) (held : List Owed) (kept : Option Sent) → old.kept ≡ kept → TakesById old answer new → AreTheOpen old.writer held
+take_open : (old new : IdFlowSeen) (answer : Taken) (held : List Owed) (kept : Option Sent) → old.kept ≡ kept → TakesById old new answer → AreTheOpen old.writer held
     → AreTheOpen new.writer (opened_by (answered_by kept answer) ++ held)
 take_open old new answer held None is takes was =
     subst (λ (more : List Owed). AreTheOpen new.writer (more ++ held)) (sym (opened_asked answer)) (takes_open old new answer held is takes was)
@@ -193,13 +193,13 @@ take_open old new answer held (Some sent) is takes was = rests_open old.writer n
 abbrev pub LeavesOpen : Keeper → List Owed → List IdEnding → Type 0
 LeavesOpen keeper left ends = AreTheOpen keeper left × AreAnswers ends
 
-fill_open : (old new : IdFlowSeen) (sent : Sent) (rows : List Row) (said : Spent) (before after : List Owed) → FillsOneId old sent rows (Ok said) new → AreTheOpen old.writer (before ++ sent.owed ∷ after)
+fill_open : (old new : IdFlowSeen) (sent : Sent) (rows : List Row) (said : Spent) (before after : List Owed) → FillsOneId sent rows old new (Ok said) → AreTheOpen old.writer (before ++ sent.owed ∷ after)
     → LeavesOpen new.writer (before ++ after) (ended sent.owed (fate_of said rows))
 fill_open old new sent rows spent.Filled before after fills was = (closes_one old.writer new.writer sent.owed before after fills.0.fills.closes was, (tt, tt))
 fill_open old new sent rows spent.Passed before after fills was = absurd (fills.0.fills.closed (all_at old.writer before after sent.owed was.all))
 fill_open old new sent rows spent.Failed before after fills was = absurd fills
 
-withdraw_open : (raises : IdFlowSeen → Sent → IdFlowSeen → Type 0) (old new : IdFlowSeen) (sent : Sent) (said : Spent) (before after : List Owed) → WithdrawsOne raises old sent (Ok said) new
+withdraw_open : (raises : Sent → IdFlowSeen → IdFlowSeen → Type 0) (old new : IdFlowSeen) (sent : Sent) (said : Spent) (before after : List Owed) → WithdrawsOne raises sent old new (Ok said)
     → AreTheOpen old.writer (before ++ sent.owed ∷ after) → LeavesOpen new.writer (before ++ after) (ended sent.owed (fate_of said []))
 withdraw_open raises old new sent spent.Filled before after ends was = absurd ends
 withdraw_open raises old new sent spent.Passed before after ends was = absurd (ends.0.withdraws.closed (all_at old.writer before after sent.owed was.all))

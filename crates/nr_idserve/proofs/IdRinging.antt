@@ -12,7 +12,7 @@ pub rings_none : (a b : PosterSeen) (g h : GuestSeen) → b.posted ≡ a.posted 
 rings_none a b g h same looks = record { count = 0; posted = omega (arith, ap (λ (l : List Upquery). length l) same); raises = looks_raise g h looks }
 
 -- one claim was posted, and the bell rung
-pub rings_once : (a b : PosterSeen) (g h : GuestSeen) (upquery : Upquery) → b.posted ≡ a.posted ++ upquery ∷ [] → Raises g (rung_at ∷ []) h → RingsFor a g b h
+pub rings_once : (a b : PosterSeen) (g h : GuestSeen) (upquery : Upquery) → b.posted ≡ a.posted ++ upquery ∷ [] → Raises (rung_at ∷ []) g h → RingsFor a g b h
 rings_once a b g h upquery more raises = record {
   count = 1;
   posted = omega (arith, ap (λ (l : List Upquery). length l) more, length-append a.posted (upquery ∷ []));
@@ -23,7 +23,7 @@ pub rings_both : (a b c : PosterSeen) (g h i : GuestSeen) → RingsFor a g b h �
 rings_both a b c g h i one two = record {
   count = one.count + two.count;
   posted = omega (arith, one.posted, two.posted);
-  raises = subst (λ (l : List ℕ). Raises g l i) (replicate-append-replicate one.count two.count rung_at)
+  raises = subst (λ (l : List ℕ). Raises l g i) (replicate-append-replicate one.count two.count rung_at)
       (raises_both g h i (replicate one.count rung_at) (replicate two.count rung_at) one.raises two.raises);
 }
 

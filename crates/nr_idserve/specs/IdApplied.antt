@@ -10,7 +10,7 @@ use Rattle.nr_ids.specs.Rule.{BeginsWith}
 use Rattle.nr_ids.specs.Tokens as ids
 use Rattle.nr_idmap.specs.declared.finds.FoundId.{FoundId}
 use Rattle.nr_idmap.specs.declared.finds.FoundId.TheVariants as found
-use Rattle.nr_idmap.specs.IdHeard.{FindsIdPut, IsUnnamedSince}
+use Rattle.nr_idmap.specs.IdHeard.{FindsIdPut, HeardPut, IsUnnamedSince}
 use Rattle.nr_idmap.specs.IdNotes.{HearsIdNote, IdKnown, with_steps_of_split}
 use Rattle.nr_idmap.specs.Keepers.{IdCaller, Keeper}
 use Rattle.nr_serve.specs.Applied.{HasPut}
@@ -19,7 +19,7 @@ use Rattle.nr_idserve.specs.declared.answers.GotId.{GotId}
 use Rattle.nr_idserve.specs.declared.answers.GotId.TheVariants as got
 use Rattle.nr_idserve.specs.declared.answers.Missed.{Missed}
 use Rattle.nr_idserve.specs.declared.hands.IdHands.{IdHands}
-use Rattle.nr_idserve.specs.IdGets.{EndsAfter, GetsId, MissesAll}
+use Rattle.nr_idserve.specs.IdGets.{EndsAfter, GetsId, Getting, MissesAll}
 
 -- the amount that was told last, with a note of then
 pub record IdTelling : Type 0 where
@@ -41,26 +41,26 @@ pub record IsSince (heard asking : IdCaller) : Type 0 where
   pub ids : BeginsWith asking.ids.seen heard.ids.seen
 
 -- so it is of each find of tries that found no rows: of its reader before and after, and its answer
-abbrev pub EachFind : (IdCaller → FoundId → IdCaller → Type 0) → (capacity id : ℕ) (old : IdHands) (all : List Missed) (new : IdHands) → MissesAll capacity id old all new → Type 0
-EachFind holds capacity id old [] new tries = Unit {0}
-EachFind holds capacity id old (missed ∷ before) new (between, tries, last) = EachFind holds capacity id old before between tries × holds last.posted.reader last.answer last.reader
+abbrev pub EachFind : (IdCaller → IdCaller → FoundId → Type 0) → (capacity id : ℕ) (old new : IdHands) (all : List Missed) → MissesAll capacity id old new all → Type 0
+EachFind holds capacity id old new [] tries = Unit {0}
+EachFind holds capacity id old new (missed ∷ before) (between, tries, last) = EachFind holds capacity id old between before tries × holds last.posted.reader last.reader last.answer
 
 module _ {Room : Type 0} (shows : Room → List Row → Type 0) where
   -- and of the find by which the get ended, if it found rows
-  abbrev pub LastFind : (IdCaller → FoundId → IdCaller → Type 0) → (capacity id tries : ℕ) (answer : GotId) (missed : ℕ) (between : IdHands) (before : Room) (new : IdHands) (after : Room)
-      → EndsAfter shows capacity id tries answer missed between before new after → Type 0
-  LastFind holds capacity id tries got.Rows missed between before new after (_, last) = holds last.posted.reader found.Rows new.reader
-  LastFind holds capacity id tries got.GaveUp missed between before new after ends = Unit {0}
+  abbrev pub LastFind : (IdCaller → IdCaller → FoundId → Type 0) → (get : Getting) (missed : ℕ) (between : IdHands) (before : Room) (new : IdHands) (after : Room) (answer : GotId)
+      → EndsAfter shows get missed between before new after answer → Type 0
+  LastFind holds get missed between before new after got.Rows (_, last) = holds last.posted.reader new.reader found.Rows
+  LastFind holds get missed between before new after got.GaveUp ends = Unit {0}
 
   -- the find tells of that put of the id's way or of what came after it, unless the way lost the name since the note
-  abbrev pub TellsOfPut : (id way : ℕ) → IdCaller → IdKnown → (written since : List Entry) → Room → IdCaller → FoundId → IdCaller → Type 0
-  TellsOfPut id way old note written since room asked answer after = IsUnnamedSince note.ids.seen way after.ids.seen ⊎ FindsIdPut shows id way old asked after written since room answer
+  abbrev pub TellsOfPut : HeardPut → IdKnown → Room → IdCaller → IdCaller → FoundId → Type 0
+  TellsOfPut put note room asked after answer = IsUnnamedSince note.ids.seen put.way after.ids.seen ⊎ FindsIdPut shows put asked after room answer
 
 module _ (reached : ℕ → IdKnown → Type 0) where
   -- of so much at least the reader heard: it split a note whose maker had seen it, and heard that; or the lobby is closed, and the reader is as it was
-  abbrev pub HearsIdApplied : ℕ → IdCaller → Option ℕ → GuestSeen → IdCaller → Type 0
-  HearsIdApplied least old (Some amount) guest new = (least ≤ amount) × (note : IdKnown) × reached amount note × HearsIdNote (with_steps_of_split old) note new
-  HearsIdApplied least old None guest new = (new ≡ old) × (0 < slice_index guest.seen closed_at)
+  abbrev pub HearsIdApplied : ℕ → GuestSeen → IdCaller → IdCaller → Option ℕ → Type 0
+  HearsIdApplied least guest old new (Some amount) = (least ≤ amount) × (note : IdKnown) × reached amount note × HearsIdNote note (with_steps_of_split old) new
+  HearsIdApplied least guest old new None = (new ≡ old) × (0 < slice_index guest.seen closed_at)
 
   -- the note of so much always has that
   abbrev pub HasPutOfId : (id way amount : ℕ) → Type 0
@@ -73,9 +73,9 @@ module _ (reached : ℕ → IdKnown → Type 0) where
       way < old.caller.table.shape.keys →
       0 < id →
       HasPutOfId id way amount →
-      HearsIdApplied least old (Some amount) guest heard →
+      HearsIdApplied least guest old heard (Some amount) →
       IsSince heard asking.reader →
-      (gets : GetsId shows capacity id tries asking room_before answer new room) →
+      (gets : GetsId shows (record { capacity = capacity; id = id; tries = tries }) asking room_before new room answer) →
       (note : IdKnown) × (before since : List Entry) × (put : Entry) × (puts_at way put ≡ true)
-      × EachFind (TellsOfPut shows id way old note (before ++ put ∷ []) since room_before) capacity id asking gets.misses.each gets.between gets.misses.all
-      × LastFind shows (TellsOfPut shows id way old note (before ++ put ∷ []) since room) capacity id tries answer gets.missed gets.between room_before new room gets.ends
+      × EachFind (TellsOfPut shows (record { id = id; way = way; old = old; written = before ++ put ∷ []; since = since }) note room_before) capacity id asking gets.between gets.misses.each gets.misses.all
+      × LastFind shows (TellsOfPut shows (record { id = id; way = way; old = old; written = before ++ put ∷ []; since = since }) note room) (record { capacity = capacity; id = id; tries = tries }) gets.missed gets.between room_before new room answer gets.ends

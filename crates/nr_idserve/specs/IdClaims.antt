@@ -39,4 +39,4 @@ pub record PostsEach (old new : IdHands) : Type 0 where
 -- so it is after each get
 abbrev pub EachClaimIsPosted : {Room : Type 0} → (Room → List Row → Type 0) → Type 0
 EachClaimIsPosted {Room} shows =
-    (capacity id tries : ℕ) (old new : IdHands) (before after : Room) (answer : Result GotId TooLate) → GetsIdInTime shows capacity id tries old before answer new after → PostsEach old new
+    (capacity id tries : ℕ) (old new : IdHands) (before after : Room) (answer : Result GotId TooLate) → GetsIdInTime shows (record { capacity = capacity; id = id; tries = tries }) old before new after answer → PostsEach old new

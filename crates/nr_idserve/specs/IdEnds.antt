@@ -22,44 +22,44 @@ IsOfSame sent withdrawn.Closed = Unit {0}
 IsOfSame sent (withdrawn.Worn back) = back ≡ sent
 
 -- the upquery's id was to be filled with these rows, which was answered so, and the lobby raised, or not
-pub record FillsIdBy (old : IdFlowSeen) (sent : Sent) (rows : List Row) (answer : Result (Unit {0}) Unfilled) (new : IdFlowSeen) : Type 0 where
+pub record FillsIdBy (sent : Sent) (rows : List Row) (old new : IdFlowSeen) (answer : Result (Unit {0}) Unfilled) : Type 0 where
   pub fills : FillsId sent.owed rows old.writer new.writer answer
   pub rest : new ≡ record old { writer = new.writer; guest = new.guest }
 
-abbrev pub RaisesGroup : IdFlowSeen → Sent → IdFlowSeen → Type 0
-RaisesGroup old sent new = Raises old.guest (raises_for (group_in old sent.owed.id)) new.guest
+abbrev pub RaisesGroup : Sent → IdFlowSeen → IdFlowSeen → Type 0
+RaisesGroup sent old new = Raises (raises_for (group_in old sent.owed.id)) old.guest new.guest
 
 -- an upquery is given these rows: it is spent and the lobby raised for its id's group, or there is no slot and it comes back
-abbrev pub FillsOneId : IdFlowSeen → Sent → List Row → Result Spent (Sent × NoSlot) → IdFlowSeen → Type 0
-FillsOneId old sent rows (Ok spent.Filled) new = FillsIdBy old sent rows (Ok tt) new × RaisesGroup old sent new
-FillsOneId old sent rows (Ok spent.Passed) new = FillsIdBy old sent rows (Err unfilled.Closed) new × RaisesGroup old sent new
-FillsOneId old sent rows (Ok spent.Failed) new = ⊥
-FillsOneId old sent rows (Err (back, counts)) new = FillsIdBy old sent rows (Err (unfilled.NoSlot back counts)) new × (back ≡ sent) × (new.guest ≡ old.guest)
+abbrev pub FillsOneId : Sent → List Row → IdFlowSeen → IdFlowSeen → Result Spent (Sent × NoSlot) → Type 0
+FillsOneId sent rows old new (Ok spent.Filled) = FillsIdBy sent rows old new (Ok tt) × RaisesGroup sent old new
+FillsOneId sent rows old new (Ok spent.Passed) = FillsIdBy sent rows old new (Err unfilled.Closed) × RaisesGroup sent old new
+FillsOneId sent rows old new (Ok spent.Failed) = ⊥
+FillsOneId sent rows old new (Err (back, counts)) = FillsIdBy sent rows old new (Err (unfilled.NoSlot back counts)) × (back ≡ sent) × (new.guest ≡ old.guest)
 
 -- it is withdrawn, which was answered so
-pub record WithdrawsIdBy (old : IdFlowSeen) (sent : Sent) (answer : Withdrawn) (new : IdFlowSeen) : Type 0 where
+pub record WithdrawsIdBy (sent : Sent) (old new : IdFlowSeen) (answer : Withdrawn) : Type 0 where
   pub withdraws : WithdrawsId sent.owed old.writer new.writer answer
   pub rest : new ≡ record old { writer = new.writer; guest = new.guest }
 
-module _ (RaisesIt : IdFlowSeen → Sent → IdFlowSeen → Type 0) where
+module _ (RaisesIt : Sent → IdFlowSeen → IdFlowSeen → Type 0) where
   -- the lobby is raised where it was, and the upquery comes back where it can't be
-  abbrev pub WithdrawsOne : IdFlowSeen → Sent → Result Spent Sent → IdFlowSeen → Type 0
-  WithdrawsOne old sent (Ok spent.Filled) new = ⊥
-  WithdrawsOne old sent (Ok spent.Passed) new = WithdrawsIdBy old sent withdrawn.Closed new × (new.guest ≡ old.guest)
-  WithdrawsOne old sent (Ok spent.Failed) new = WithdrawsIdBy old sent withdrawn.Done new × RaisesIt old sent new
-  WithdrawsOne old sent (Err back) new = WithdrawsIdBy old sent (withdrawn.Worn back) new × (back ≡ sent) × (new.guest ≡ old.guest)
+  abbrev pub WithdrawsOne : Sent → IdFlowSeen → IdFlowSeen → Result Spent Sent → Type 0
+  WithdrawsOne sent old new (Ok spent.Filled) = ⊥
+  WithdrawsOne sent old new (Ok spent.Passed) = WithdrawsIdBy sent old new withdrawn.Closed × (new.guest ≡ old.guest)
+  WithdrawsOne sent old new (Ok spent.Failed) = WithdrawsIdBy sent old new withdrawn.Done × RaisesIt sent old new
+  WithdrawsOne sent old new (Err back) = WithdrawsIdBy sent old new (withdrawn.Worn back) × (back ≡ sent) × (new.guest ≡ old.guest)
 
 -- who waits for the id is told that its rows couldn't be had
-abbrev pub FailsGroup : IdFlowSeen → Sent → IdFlowSeen → Type 0
-FailsGroup old sent new = Raises old.guest (fails_for (group_in old sent.owed.id)) new.guest
+abbrev pub FailsGroup : Sent → IdFlowSeen → IdFlowSeen → Type 0
+FailsGroup sent old new = Raises (fails_for (group_in old sent.owed.id)) old.guest new.guest
 
-abbrev pub FailsOneId : IdFlowSeen → Sent → Result Spent Sent → IdFlowSeen → Type 0
+abbrev pub FailsOneId : Sent → IdFlowSeen → IdFlowSeen → Result Spent Sent → Type 0
 FailsOneId = WithdrawsOne FailsGroup
 
-abbrev pub InvalidatesOneId : IdFlowSeen → Sent → Result Spent Sent → IdFlowSeen → Type 0
+abbrev pub InvalidatesOneId : Sent → IdFlowSeen → IdFlowSeen → Result Spent Sent → Type 0
 InvalidatesOneId = WithdrawsOne RaisesGroup
 
 -- an eviction raises the id's group where it took rows
-abbrev pub EvictRaises : Evict → IdFlowSeen → ℕ → IdFlowSeen → Type 0
-EvictRaises evict.Evicted old id new = Raises old.guest (raises_for (group_in old id)) new.guest
-EvictRaises evict.Nothing old id new = new.guest ≡ old.guest
+abbrev pub EvictRaises : Evict → ℕ → IdFlowSeen → IdFlowSeen → Type 0
+EvictRaises evict.Evicted id old new = Raises (raises_for (group_in old id)) old.guest new.guest
+EvictRaises evict.Nothing id old new = new.guest ≡ old.guest

@@ -20,11 +20,11 @@ use Rattle.nr_idserve.specs.declared.hands.IdHands.{IdHands}
 use Rattle.nr_idserve.specs.IdHands.{PostsFirst, PostsKept, with_id_reader}
 
 -- a find by id that found no rows
-abbrev pub FindsNothing : ℕ → IdCaller → FoundId → IdCaller → Type 0
-FindsNothing id old answer new = FindsById {Room = Unit {0}} (λ room rows. ⊥) id old tt new tt answer
+abbrev pub FindsNothing : ℕ → IdCaller → IdCaller → FoundId → Type 0
+FindsNothing id old new answer = FindsById {Room = Unit {0}} (λ room rows. ⊥) id old tt new tt answer
 
 -- no claim was kept, and one request of the directory was made
-pub record RequestsIt (id : ℕ) (old : IdHands) (answer : Requested) (new : IdHands) : Type 0 where
+pub record RequestsIt (id : ℕ) (old new : IdHands) (answer : Requested) : Type 0 where
   pub none : old.kept ≡ None
   pub requests : Requests id old.reader.ids new.reader.ids answer
   pub map : new.reader.caller ≡ old.reader.caller
@@ -32,40 +32,40 @@ pub record RequestsIt (id : ℕ) (old : IdHands) (answer : Requested) (new : IdH
 -- the claim that it was granted is posted; or the queue was full, and it is kept
 pub record ClaimsIt (capacity id : ℕ) (old new : IdHands) : Type 0 where
   pub claim : Granted
-  pub requests : RequestsIt id old (requested.Granted claim) new
+  pub requests : RequestsIt id old new (requested.Granted claim)
   pub posts : PostsKept capacity (Some claim) old.poster new.kept new.poster
 
 -- it was granted none
-pub record IsRefused (id : ℕ) (old : IdHands) (answer : Requested) (new : IdHands) : Type 0 where
-  pub requests : RequestsIt id old answer new
+pub record IsRefused (id : ℕ) (old new : IdHands) (answer : Requested) : Type 0 where
+  pub requests : RequestsIt id old new answer
   pub kept : new.kept ≡ None
   pub poster : new.poster ≡ old.poster
 
 -- what is requested after a find to which the id was absent
-abbrev pub RequestsOnce : ℕ → ℕ → IdHands → Missed → IdHands → Type 0
-RequestsOnce capacity id old Pending new = ⊥
-RequestsOnce capacity id old NotRequested new = (claim : Granted) × (old.kept ≡ Some claim) × (new ≡ old)
-RequestsOnce capacity id old Claimed new = ClaimsIt capacity id old new
-RequestsOnce capacity id old Named new = (way : ℕ) × IsRefused id old (requested.Named way) new
-RequestsOnce capacity id old Busy new = IsRefused id old requested.Busy new
-RequestsOnce capacity id old Outrun new = IsRefused id old requested.Outrun new
-RequestsOnce capacity id old Worn new = IsRefused id old requested.Worn new
+abbrev pub RequestsOnce : ℕ → ℕ → IdHands → IdHands → Missed → Type 0
+RequestsOnce capacity id old new Pending = ⊥
+RequestsOnce capacity id old new NotRequested = (claim : Granted) × (old.kept ≡ Some claim) × (new ≡ old)
+RequestsOnce capacity id old new Claimed = ClaimsIt capacity id old new
+RequestsOnce capacity id old new Named = (way : ℕ) × IsRefused id old new (requested.Named way)
+RequestsOnce capacity id old new Busy = IsRefused id old new requested.Busy
+RequestsOnce capacity id old new Outrun = IsRefused id old new requested.Outrun
+RequestsOnce capacity id old new Worn = IsRefused id old new requested.Worn
 
 -- what follows a find: nothing where the id's upquery is under way, and else a request
-abbrev pub GoesOn : ℕ → ℕ → FoundId → IdHands → Missed → IdHands → Type 0
-GoesOn capacity id found.Rows old missed new = ⊥
-GoesOn capacity id found.Pending old missed new = (missed ≡ Pending) × (new ≡ old)
-GoesOn capacity id found.Moved old missed new = RequestsOnce capacity id old missed new
-GoesOn capacity id found.Absent old missed new = RequestsOnce capacity id old missed new
+abbrev pub GoesOn : ℕ → ℕ → FoundId → IdHands → IdHands → Missed → Type 0
+GoesOn capacity id found.Rows old new missed = ⊥
+GoesOn capacity id found.Pending old new missed = (missed ≡ Pending) × (new ≡ old)
+GoesOn capacity id found.Moved old new missed = RequestsOnce capacity id old new missed
+GoesOn capacity id found.Absent old new missed = RequestsOnce capacity id old new missed
 
 -- one try that found no rows: the claim that was kept is posted or kept still, the id is found missing, and requested where it is absent and no claim is kept
-pub record MissesOnce (capacity id : ℕ) (old : IdHands) (missed : Missed) (new : IdHands) : Type 0 where
+pub record MissesOnce (capacity id : ℕ) (old new : IdHands) (missed : Missed) : Type 0 where
   pub posted : IdHands
   pub posts : PostsFirst capacity old posted
   pub answer : FoundId
   pub reader : IdCaller
-  pub finds : FindsNothing id posted.reader answer reader
-  pub goes_on : GoesOn capacity id answer (with_id_reader posted reader) missed new
+  pub finds : FindsNothing id posted.reader reader answer
+  pub goes_on : GoesOn capacity id answer (with_id_reader posted reader) new missed
 
 -- the dataflow is to raise the id's group, or has raised it since
 abbrev pub IsAwaited : Missed → Type 0
@@ -78,21 +78,27 @@ IsAwaited Outrun = Unit {0}
 IsAwaited Worn = ⊥
 
 -- one try was made between these two, it found no rows, the group is to be raised, and no claim is kept
-pub record AwaitsRaise (capacity id : ℕ) (old : IdHands) (missed : Missed) (new : IdHands) : Type 0 where
-  pub tried : MissesOnce capacity id old missed new
+pub record AwaitsRaise (capacity id : ℕ) (old new : IdHands) (missed : Missed) : Type 0 where
+  pub tried : MissesOnce capacity id old new missed
   pub awaited : IsAwaited missed
   pub posted : new.kept ≡ None
 
 -- tries that found no rows, the last one first
-abbrev pub MissesAll : ℕ → ℕ → IdHands → List Missed → IdHands → Type 0
-MissesAll capacity id old [] new = new ≡ old
-MissesAll capacity id old (missed ∷ before) new = (mid : IdHands) × MissesAll capacity id old before mid × MissesOnce capacity id mid missed new
+abbrev pub MissesAll : ℕ → ℕ → IdHands → IdHands → List Missed → Type 0
+MissesAll capacity id old new [] = new ≡ old
+MissesAll capacity id old new (missed ∷ before) = (mid : IdHands) × MissesAll capacity id old mid before × MissesOnce capacity id mid new missed
 
 -- so many of them
 pub record MissesTimes (capacity id count : ℕ) (old new : IdHands) : Type 0 where
   pub each : List Missed
   pub counted : length each ≡ count
-  pub all : MissesAll capacity id old each new
+  pub all : MissesAll capacity id old new each
+
+-- what a get is told: the queue's capacity, the id, and how often it may try
+pub record Getting : Type 0 where
+  pub capacity : ℕ
+  pub id : ℕ
+  pub tries : ℕ
 
 module _ {Room : Type 0} (shows : Room → List Row → Type 0) where
   -- one try that found rows, which the room has: the claim that was kept is posted or kept still
@@ -102,34 +108,34 @@ module _ {Room : Type 0} (shows : Room → List Row → Type 0) where
     pub finds : FindsById shows id posted.reader before new.reader after found.Rows
     pub rest : new ≡ with_id_reader posted new.reader
 
-  abbrev pub TriesOnce : ℕ → ℕ → IdHands → Room → TriedId → IdHands → Room → Type 0
-  TriesOnce capacity id old before (tried.Missed missed) new after = MissesOnce capacity id old missed new × (after ≡ before)
-  TriesOnce capacity id old before tried.Rows new after = FindsOnce capacity id old before new after
+  abbrev pub TriesOnce : ℕ → ℕ → IdHands → Room → IdHands → Room → TriedId → Type 0
+  TriesOnce capacity id old before new after (tried.Missed missed) = MissesOnce capacity id old new missed × (after ≡ before)
+  TriesOnce capacity id old before new after tried.Rows = FindsOnce capacity id old before new after
 
   -- how a get ends after that many tries that found no rows: by one more that finds some, or by none after as many as it may make
-  abbrev pub EndsAfter : ℕ → ℕ → ℕ → GotId → ℕ → IdHands → Room → IdHands → Room → Type 0
-  EndsAfter capacity id tries got.Rows missed between before new after = (missed < tries) × FindsOnce capacity id between before new after
-  EndsAfter capacity id tries got.GaveUp missed between before new after = (missed ≡ tries) × (new ≡ between) × (after ≡ before)
+  abbrev pub EndsAfter : Getting → ℕ → IdHands → Room → IdHands → Room → GotId → Type 0
+  EndsAfter get missed between before new after got.Rows = (missed < get.tries) × FindsOnce get.capacity get.id between before new after
+  EndsAfter get missed between before new after got.GaveUp = (missed ≡ get.tries) × (new ≡ between) × (after ≡ before)
 
   -- a get of that many tries
-  pub record GetsId (capacity id tries : ℕ) (old : IdHands) (before : Room) (answer : GotId) (new : IdHands) (after : Room) : Type 0 where
+  pub record GetsId (get : Getting) (old : IdHands) (before : Room) (new : IdHands) (after : Room) (answer : GotId) : Type 0 where
     pub missed : ℕ
     pub between : IdHands
-    pub misses : MissesTimes capacity id missed old between
-    pub ends : EndsAfter capacity id tries answer missed between before new after
+    pub misses : MissesTimes get.capacity get.id missed old between
+    pub ends : EndsAfter get missed between before new after answer
 
   -- a get that a sleep ended which timed out: tries were left, those that it made found no rows, and after the last of them the group was to be raised
-  pub record EndsIdLate (capacity id tries : ℕ) (old : IdHands) (before : Room) (new : IdHands) (after : Room) : Type 0 where
+  pub record EndsIdLate (get : Getting) (old : IdHands) (before : Room) (new : IdHands) (after : Room) : Type 0 where
     -- those before the last
     pub made : ℕ
-    pub few : made + 1 < tries
+    pub few : made + 1 < get.tries
     pub last : IdHands
-    pub misses : MissesTimes capacity id made old last
+    pub misses : MissesTimes get.capacity get.id made old last
     pub same : after ≡ before
     pub missed : Missed
-    pub slept : AwaitsRaise capacity id last missed new
+    pub slept : AwaitsRaise get.capacity get.id last new missed
 
   -- a get that may end by a sleep that timed out
-  abbrev pub GetsIdInTime : ℕ → ℕ → ℕ → IdHands → Room → Result GotId TooLate → IdHands → Room → Type 0
-  GetsIdInTime capacity id tries old before (Ok answer) new after = GetsId capacity id tries old before answer new after
-  GetsIdInTime capacity id tries old before (Err late) new after = EndsIdLate capacity id tries old before new after
+  abbrev pub GetsIdInTime : Getting → IdHands → Room → IdHands → Room → Result GotId TooLate → Type 0
+  GetsIdInTime get old before new after (Ok answer) = GetsId get old before new after answer
+  GetsIdInTime get old before new after (Err late) = EndsIdLate get old before new after

@@ -122,16 +122,16 @@ answered_by (Some kept) answer = []
 
 -- A call of the dataflow, by what its contract says (a turn makes such calls in a row): with the upqueries in hand before it, which are those that it keeps and those that are under way, as nobody can drop or copy one; the claims that it answered; the upqueries that ended; and those in hand after it.
 pub data DoesById : IdFlowSeen → List Owed → List Answered → List IdEnding → IdFlowSeen → List Owed → Type 0 where
-  Takes : (old new : IdFlowSeen) (answer : Taken) (held : List Owed) → TakesById old answer new → DoesById old held (answered_by old.kept answer) [] new (opened_by (answered_by old.kept answer) ++ held)
-  Fills : (old new : IdFlowSeen) (sent : Sent) (rows : List Row) (spent : Spent) (before after : List Owed) → FillsOneId old sent rows (Ok spent) new
+  Takes : (old new : IdFlowSeen) (answer : Taken) (held : List Owed) → TakesById old new answer → DoesById old held (answered_by old.kept answer) [] new (opened_by (answered_by old.kept answer) ++ held)
+  Fills : (old new : IdFlowSeen) (sent : Sent) (rows : List Row) (spent : Spent) (before after : List Owed) → FillsOneId sent rows old new (Ok spent)
       → DoesById old (before ++ sent.owed ∷ after) [] (ended sent.owed (fate_of spent rows)) new (before ++ after)
-  FillLacks : (old new : IdFlowSeen) (sent : Sent) (rows : List Row) (back : Sent × NoSlot) (held : List Owed) → FillsOneId old sent rows (Err back) new → DoesById old held [] [] new held
-  Fails : (old new : IdFlowSeen) (sent : Sent) (spent : Spent) (before after : List Owed) → FailsOneId old sent (Ok spent) new
+  FillLacks : (old new : IdFlowSeen) (sent : Sent) (rows : List Row) (back : Sent × NoSlot) (held : List Owed) → FillsOneId sent rows old new (Err back) → DoesById old held [] [] new held
+  Fails : (old new : IdFlowSeen) (sent : Sent) (spent : Spent) (before after : List Owed) → FailsOneId sent old new (Ok spent)
       → DoesById old (before ++ sent.owed ∷ after) [] (ended sent.owed (fate_of spent [])) new (before ++ after)
-  FailWorn : (old new : IdFlowSeen) (sent back : Sent) (held : List Owed) → FailsOneId old sent (Err back) new → DoesById old held [] [] new held
-  Invalidates : (old new : IdFlowSeen) (sent : Sent) (spent : Spent) (before after : List Owed) → InvalidatesOneId old sent (Ok spent) new
+  FailWorn : (old new : IdFlowSeen) (sent back : Sent) (held : List Owed) → FailsOneId sent old new (Err back) → DoesById old held [] [] new held
+  Invalidates : (old new : IdFlowSeen) (sent : Sent) (spent : Spent) (before after : List Owed) → InvalidatesOneId sent old new (Ok spent)
       → DoesById old (before ++ sent.owed ∷ after) [] (ended sent.owed (fate_of spent [])) new (before ++ after)
-  InvalidateWorn : (old new : IdFlowSeen) (sent back : Sent) (held : List Owed) → InvalidatesOneId old sent (Err back) new → DoesById old held [] [] new held
+  InvalidateWorn : (old new : IdFlowSeen) (sent back : Sent) (held : List Owed) → InvalidatesOneId sent old new (Err back) → DoesById old held [] [] new held
   Keeps : (old new : IdFlowSeen) (sent : Sent) (held : List Owed) → new ≡ record old { kept = Some sent } → DoesById old held [] [] new held
   Updates : (old new : IdFlowSeen) (id : ℕ) (deltas : List Delta) (answer : Result (Unit {0}) (IdFault UpdateFault)) (held : List Owed)
       → CallsWay (λ way. UpdatesKey old.map.map.shape.rows way deltas) id old.writer new.writer answer → OwesSame old.writer new.writer → new ≡ record old { writer = new.writer } → DoesById old held [] [] new held
@@ -140,7 +140,7 @@ pub data DoesById : IdFlowSeen → List Owed → List Answered → List IdEnding
   Evicts : (old new : IdFlowSeen) (id : ℕ) (answer : Evict) (held : List Owed) → EvictsId id old.writer new.writer answer → OwesSame old.writer new.writer
       → new ≡ record old { writer = new.writer; guest = new.guest } → DoesById old held [] [] new held
   Tells : (old new : IdFlowSeen) (held : List Owed) → new.writer.writer ≡ with_step old.writer.writer → OwesSame old.writer new.writer → new ≡ record old { writer = new.writer } → DoesById old held [] [] new held
-  Hears : (old new : IdFlowSeen) (note : IdKnown) (held : List Owed) → WriterHears old.writer note new.writer → OwesSame old.writer new.writer → new ≡ record old { writer = new.writer } → DoesById old held [] [] new held
+  Hears : (old new : IdFlowSeen) (note : IdKnown) (held : List Owed) → WriterHears note old.writer new.writer → OwesSame old.writer new.writer → new ≡ record old { writer = new.writer } → DoesById old held [] [] new held
   -- it reads the bell or sleeps
   Looks : (old new : IdFlowSeen) (held : List Owed) → new ≡ record old { guest = new.guest } → DoesById old held [] [] new held
 

@@ -7,4 +7,4 @@ use Rattle.nr_serve.specs.Counts.{GuestSeen, Raises, rung_at}
 pub record RingsFor (old : PosterSeen) (before : GuestSeen) (new : PosterSeen) (after : GuestSeen) : Type 0 where
   pub count : ℕ
   pub posted : length new.posted ≡ length old.posted + count
-  pub raises : Raises before (replicate count rung_at) after
+  pub raises : Raises (replicate count rung_at) before after

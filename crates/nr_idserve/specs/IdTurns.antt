@@ -15,28 +15,28 @@ use Rattle.nr_idserve.specs.IdFlows.{IdFlowSeen}
 use Rattle.nr_idserve.specs.IdTakes.{TakesById}
 
 -- an upquery that comes back is kept
-abbrev pub Keeps : IdFlowSeen → Sent → IdFlowSeen → Type 0
-Keeps old sent new = new ≡ record old { kept = Some sent }
+abbrev pub Keeps : Sent → IdFlowSeen → IdFlowSeen → Type 0
+Keeps sent old new = new ≡ record old { kept = Some sent }
 
 -- an upquery is given these rows, and kept where there is no slot
-abbrev pub FillsOrKeeps : IdFlowSeen → Sent → List Row → IdTurn → IdFlowSeen → Type 0
-FillsOrKeeps old sent rows turn.Idle new = ⊥
-FillsOrKeeps old sent rows (turn.Filled id) new = (id ≡ sent.owed.id) × FillsOneId old sent rows (Ok spent.Filled) new
-FillsOrKeeps old sent rows (turn.Passed id) new = (id ≡ sent.owed.id) × FillsOneId old sent rows (Ok spent.Passed) new
-FillsOrKeeps old sent rows (turn.Failed id) new = ⊥
-FillsOrKeeps old sent rows (turn.Full id) new = ⊥
-FillsOrKeeps old sent rows (turn.Kept counts) new = (back : IdFlowSeen) × FillsOneId old sent rows (Err (sent, counts)) back × Keeps back sent new
-FillsOrKeeps old sent rows (turn.Worn id) new = ⊥
+abbrev pub FillsOrKeeps : Sent → List Row → IdFlowSeen → IdFlowSeen → IdTurn → Type 0
+FillsOrKeeps sent rows old new turn.Idle = ⊥
+FillsOrKeeps sent rows old new (turn.Filled id) = (id ≡ sent.owed.id) × FillsOneId sent rows old new (Ok spent.Filled)
+FillsOrKeeps sent rows old new (turn.Passed id) = (id ≡ sent.owed.id) × FillsOneId sent rows old new (Ok spent.Passed)
+FillsOrKeeps sent rows old new (turn.Failed id) = ⊥
+FillsOrKeeps sent rows old new (turn.Full id) = ⊥
+FillsOrKeeps sent rows old new (turn.Kept counts) = (back : IdFlowSeen) × FillsOneId sent rows old back (Err (sent, counts)) × Keeps sent back new
+FillsOrKeeps sent rows old new (turn.Worn id) = ⊥
 
 -- its rows can't be had, and it is kept where it can't be withdrawn
-abbrev pub FailsOrKeeps : IdFlowSeen → Sent → IdTurn → IdFlowSeen → Type 0
-FailsOrKeeps old sent turn.Idle new = ⊥
-FailsOrKeeps old sent (turn.Filled id) new = ⊥
-FailsOrKeeps old sent (turn.Passed id) new = ⊥
-FailsOrKeeps old sent (turn.Failed id) new = (id ≡ sent.owed.id) × (said : Spent) × FailsOneId old sent (Ok said) new
-FailsOrKeeps old sent (turn.Full id) new = ⊥
-FailsOrKeeps old sent (turn.Kept counts) new = ⊥
-FailsOrKeeps old sent (turn.Worn id) new = (id ≡ sent.owed.id) × (back : IdFlowSeen) × FailsOneId old sent (Err sent) back × Keeps back sent new
+abbrev pub FailsOrKeeps : Sent → IdFlowSeen → IdFlowSeen → IdTurn → Type 0
+FailsOrKeeps sent old new turn.Idle = ⊥
+FailsOrKeeps sent old new (turn.Filled id) = ⊥
+FailsOrKeeps sent old new (turn.Passed id) = ⊥
+FailsOrKeeps sent old new (turn.Failed id) = (id ≡ sent.owed.id) × (said : Spent) × FailsOneId sent old new (Ok said)
+FailsOrKeeps sent old new (turn.Full id) = ⊥
+FailsOrKeeps sent old new (turn.Kept counts) = ⊥
+FailsOrKeeps sent old new (turn.Worn id) = (id ≡ sent.owed.id) × (back : IdFlowSeen) × FailsOneId sent old back (Err sent) × Keeps sent back new
 
 -- the dataflow sleeps where its turn was idle
 abbrev pub SleepsIfIdle : IdTurn → IdFlowSeen → IdFlowSeen → Type 0
@@ -45,22 +45,22 @@ SleepsIfIdle _ old new = new ≡ old
 
 module _ {S : Type 0} (gives : S → (id bound : ℕ) → List Row → S → Type 0) (fails : S → (id bound : ℕ) → S → Type 0) where
   -- the source, told how many rows an id may have, gives those that the upquery is filled with; or it fails
-  abbrev pub AnswersAsked : IdFlowSeen → S → Sent → IdTurn → IdFlowSeen → S → Type 0
-  AnswersAsked old before sent turned new after =
-      ((rows : List Row) × IsIdSet (id_rows old.map) rows × gives before sent.owed.id (id_rows old.map) rows after × FillsOrKeeps old sent rows turned new)
-      ⊎ (fails before sent.owed.id (id_rows old.map) after × FailsOrKeeps old sent turned new)
+  abbrev pub AnswersAsked : Sent → IdFlowSeen → S → IdFlowSeen → S → IdTurn → Type 0
+  AnswersAsked sent old before new after turned =
+      ((rows : List Row) × IsIdSet (id_rows old.map) rows × gives before sent.owed.id (id_rows old.map) rows after × FillsOrKeeps sent rows old new turned)
+      ⊎ (fails before sent.owed.id (id_rows old.map) after × FailsOrKeeps sent old new turned)
 
   -- an upquery that was taken is answered; without one the source isn't asked
-  abbrev pub AnswersTaken : IdFlowSeen → S → Taken → IdTurn → IdFlowSeen → S → Type 0
-  AnswersTaken old before (taken.Asked sent) turned new after = AnswersAsked old before sent turned new after
-  AnswersTaken old before (taken.Passed id) turned new after = (turned ≡ turn.Passed id) × (new ≡ old) × (after ≡ before)
-  AnswersTaken old before (taken.Full id) turned new after = (turned ≡ turn.Full id) × (new ≡ old) × (after ≡ before)
-  AnswersTaken old before taken.Idle turned new after = (turned ≡ turn.Idle) × (new ≡ old) × (after ≡ before)
+  abbrev pub AnswersTaken : Taken → IdFlowSeen → S → IdFlowSeen → S → IdTurn → Type 0
+  AnswersTaken (taken.Asked sent) old before new after turned = AnswersAsked sent old before new after turned
+  AnswersTaken (taken.Passed id) old before new after turned = (turned ≡ turn.Passed id) × (new ≡ old) × (after ≡ before)
+  AnswersTaken (taken.Full id) old before new after turned = (turned ≡ turn.Full id) × (new ≡ old) × (after ≡ before)
+  AnswersTaken taken.Idle old before new after turned = (turned ≡ turn.Idle) × (new ≡ old) × (after ≡ before)
 
-  abbrev pub TurnsById : IdFlowSeen → S → IdTurn → IdFlowSeen → S → Type 0
-  TurnsById old before turned new after = (found : Taken) × (mid : IdFlowSeen) × TakesById old found mid × AnswersTaken mid before found turned new after
+  abbrev pub TurnsById : IdFlowSeen → S → IdFlowSeen → S → IdTurn → Type 0
+  TurnsById old before new after turned = (found : Taken) × (mid : IdFlowSeen) × TakesById old mid found × AnswersTaken found mid before new after turned
 
   -- the bell is read before the turn
-  abbrev pub TurnsOrSleeps : IdFlowSeen → S → IdTurn → IdFlowSeen → S → Type 0
-  TurnsOrSleeps old before turned new after = (rung mid : IdFlowSeen) × OnlyLooks old.guest rung.guest × (rung ≡ record old { guest = rung.guest })
-      × TurnsById rung before turned mid after × SleepsIfIdle turned mid new
+  abbrev pub TurnsOrSleeps : IdFlowSeen → S → IdFlowSeen → S → IdTurn → Type 0
+  TurnsOrSleeps old before new after turned = (rung mid : IdFlowSeen) × OnlyLooks old.guest rung.guest × (rung ≡ record old { guest = rung.guest })
+      × TurnsById rung before mid after turned × SleepsIfIdle turned mid new

@@ -140,7 +140,7 @@ impl<'a, M: IdMeasure> IdApplied<'a, M> {
     ) -> Option<u64>
         requires own { id_table_of reader.old ≡ map.now }
         requires notes { (amount : _) (note : _) → M.reached amount note → note_table_of note ≡ map.now }
-        ensures hears { HearsIdApplied M.reached least reader.old result lobby.new reader.new }
+        ensures hears { HearsIdApplied M.reached least lobby.new reader.old reader.new result }
         ensures own { id_table_of reader.new ≡ map.now }
         ensures looks { OnlyLooks lobby.old lobby.new }
     {

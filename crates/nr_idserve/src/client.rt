@@ -79,7 +79,7 @@ impl<'a> IdClient<'a> {
     /// The client's guest rings the bell for each claim that is posted, and raises nothing else.
     pub fn get<R: RowRoom, W: Wait>(&mut self, rt: &W, id: u64, tries: u32, rows: &mut R) -> GotId
         requires { 0 < id }
-        ensures gets { GetsId R.shows self.old.queue.capacity id tries self.old.hands rows.old result self.new.hands rows.new }
+        ensures gets { GetsId R.shows (record { capacity = self.old.queue.capacity; id = id; tries = tries }) self.old.hands rows.old self.new.hands rows.new result }
         ensures at_once { tries ≡ 0 → self.new.hands ≡ self.old.hands }
         ensures rings { RingsFor self.old.hands.poster self.old.guest self.new.hands.poster self.new.guest }
         ensures places { (self.new.map ≡ self.old.map) × (self.new.queue ≡ self.old.queue) }
@@ -103,7 +103,7 @@ impl<'a> IdClient<'a> {
         until: Instant,
     ) -> Result<GotId, TooLate>
         requires { 0 < id }
-        ensures gets { GetsIdInTime R.shows self.old.queue.capacity id tries self.old.hands rows.old result self.new.hands rows.new }
+        ensures gets { GetsIdInTime R.shows (record { capacity = self.old.queue.capacity; id = id; tries = tries }) self.old.hands rows.old self.new.hands rows.new result }
         ensures late { IfErr result (λ late. late.until ≡ until) }
         ensures at_once { tries ≡ 0 → self.new.hands ≡ self.old.hands }
         ensures rings { RingsFor self.old.hands.poster self.old.guest self.new.hands.poster self.new.guest }
@@ -123,7 +123,7 @@ impl<'a> IdClient<'a> {
         limit: &L,
     ) -> Result<GotId, TooLate>
         requires { 0 < id }
-        ensures gets { GetsIdInTime R.shows self.old.queue.capacity id tries self.old.hands rows.old result self.new.hands rows.new }
+        ensures gets { GetsIdInTime R.shows (record { capacity = self.old.queue.capacity; id = id; tries = tries }) self.old.hands rows.old self.new.hands rows.new result }
         ensures late { IfErr result (λ late. L.lapses limit.now late) }
         ensures at_once { tries ≡ 0 → self.new.hands ≡ self.old.hands }
         ensures rings { RingsFor self.old.hands.poster self.old.guest self.new.hands.poster self.new.guest }
@@ -165,7 +165,7 @@ impl<'a> IdClient<'a> {
     /// The client learns all that the note's maker had seen.
     pub fn hear(&mut self, note: IdNote)
         requires { note_table_of note ≡ self.old.map }
-        ensures hears { HearsIdNote self.old.hands.reader note self.new.hands.reader }
+        ensures hears { HearsIdNote note self.old.hands.reader self.new.hands.reader }
         ensures rest { self.new ≡ record self.old { hands = with_id_reader self.old.hands self.new.hands.reader } }
     {
         match &mut self.hands {
@@ -186,7 +186,7 @@ impl<'a> IdClient<'a> {
     ) -> Option<u64>
         requires lobby { applied.now ≡ self.old.guest.lobby }
         requires notes { (amount : _) (note : _) → M.reached amount note → note_table_of note ≡ self.old.map }
-        ensures hears { HearsIdApplied M.reached least self.old.hands.reader result self.new.guest self.new.hands.reader }
+        ensures hears { HearsIdApplied M.reached least self.new.guest self.old.hands.reader self.new.hands.reader result }
         ensures looks { OnlyLooks self.old.guest self.new.guest }
         ensures rest { self.new ≡ record self.old { hands = with_id_reader self.old.hands self.new.hands.reader; guest = self.new.guest } }
     {

@@ -28,7 +28,7 @@ impl<'a> IdDataflow<'a> {
     ) -> Result<Spent, (Upquery, NoSlot)>
         requires own { upquery.table ≡ self.old.map }
         requires rows { IsIdSet (id_rows self.old.map) rows.now }
-        ensures { FillsOneId self.old upquery rows.now result self.new }
+        ensures { FillsOneId upquery rows.now self.old self.new result }
     {
         let map = self.service.map();
         let group = map.group_of(upquery.id());
@@ -50,7 +50,7 @@ impl<'a> IdDataflow<'a> {
     /// last one.
     pub fn fail<R: Wait>(&mut self, rt: &R, upquery: Upquery) -> Result<Spent, Upquery>
         requires { upquery.table ≡ self.old.map }
-        ensures { FailsOneId self.old upquery result self.new }
+        ensures { FailsOneId upquery self.old self.new result }
     {
         let group = self.service.map().group_of(upquery.id());
         match self.withdraw(upquery) {
@@ -67,7 +67,7 @@ impl<'a> IdDataflow<'a> {
     /// come for it then never fill the id.
     pub fn invalidate<R: Wait>(&mut self, rt: &R, upquery: Upquery) -> Result<Spent, Upquery>
         requires { upquery.table ≡ self.old.map }
-        ensures { InvalidatesOneId self.old upquery result self.new }
+        ensures { InvalidatesOneId upquery self.old self.new result }
     {
         let group = self.service.map().group_of(upquery.id());
         match self.withdraw(upquery) {
@@ -129,7 +129,7 @@ impl<'a> IdDataflow<'a> {
         requires { 0 < id }
         ensures evicts { EvictsId id self.old.writer self.new.writer result }
         ensures owes { OwesSame self.old.writer self.new.writer }
-        ensures raised { EvictRaises result self.old id self.new }
+        ensures raised { EvictRaises result id self.old self.new }
         ensures rest { self.new ≡ record self.old { writer = self.new.writer; guest = self.new.guest } }
     {
         let map = self.service.map();

@@ -66,7 +66,7 @@ impl<'a> IdDataflow<'a> {
     )
         requires lobby { applied.now ≡ self.old.lobby }
         requires reached { note_table_of (known_to_keeper self.old.writer) ≡ self.old.map → M.reached amount (known_to_keeper self.old.writer) }
-        ensures raised { Raises self.old.guest (told_at ∷ []) self.new.guest }
+        ensures raised { Raises (told_at ∷ []) self.old.guest self.new.guest }
         ensures map { self.new.writer.writer ≡ with_step self.old.writer.writer }
         ensures clerk { self.new.writer.clerk ≡ ids.with_step self.old.writer.clerk }
         ensures asker { self.new.writer.asker ≡ self.old.writer.asker }
@@ -95,7 +95,7 @@ impl<'a> IdDataflow<'a> {
     /// The dataflow learns all that the note's maker had seen.
     pub fn hear(&mut self, note: IdNote)
         requires { note_table_of note ≡ self.old.map }
-        ensures hears { WriterHears self.old.writer note self.new.writer }
+        ensures hears { WriterHears note self.old.writer self.new.writer }
         ensures owes { OwesSame self.old.writer self.new.writer }
         ensures rest { self.new ≡ record self.old { writer = self.new.writer } }
     {

@@ -30,7 +30,7 @@ impl<'a> IdDataflow<'a> {
     /// be dropped: `fill`, `fail`, `invalidate` or `keep` has it back, and any other may come and go before.
     /// May wait for a thread that is within a call of its own.
     pub fn take<V: Victims, R: Wait>(&mut self, rt: &R, victims: &mut V) -> Taken
-        ensures takes { TakesById self.old result self.new }
+        ensures takes { TakesById self.old self.new result }
         ensures own { IsAskedOf self.old.map result }
         ensures free { self.new.kept ≡ None }
         ensures places { (self.new.map ≡ self.old.map) × (self.new.queue ≡ self.old.queue) × (self.new.lobby ≡ self.old.lobby) }
@@ -49,7 +49,7 @@ impl<'a> IdDataflow<'a> {
 
     // The id of the claim that is kept, or else of the next one of the queue.
     fn next_id<R: Wait>(&mut self, rt: &R) -> Option<u64>
-        ensures nexts { NextsId self.old result self.new }
+        ensures nexts { NextsId self.old self.new result }
         ensures kept { self.new.kept ≡ self.old.kept }
         ensures places { (self.new.map ≡ self.old.map) × (self.new.queue ≡ self.old.queue) × (self.new.lobby ≡ self.old.lobby) }
     {
@@ -64,7 +64,7 @@ impl<'a> IdDataflow<'a> {
 
     fn admit_next<V: Victims, R: Wait>(&mut self, rt: &R, victims: &mut V, id: u64) -> Taken
         requires { 0 < id }
-        ensures admits { AdmitsNext self.old id result self.new }
+        ensures admits { AdmitsNext id self.old self.new result }
         ensures kept { self.new.kept ≡ self.old.kept }
         ensures own { IsAskedOf self.old.map result }
         ensures places { (self.new.map ≡ self.old.map) × (self.new.queue ≡ self.old.queue) × (self.new.lobby ≡ self.old.lobby) }
@@ -88,7 +88,7 @@ impl<'a> IdDataflow<'a> {
         id: u64,
     ) -> Result<Upquery, Refused>
         requires { 0 < id }
-        ensures admits { AdmitsMakingRoom self.old id result self.new }
+        ensures admits { AdmitsMakingRoom id self.old self.new result }
         ensures kept { self.new.kept ≡ self.old.kept }
         ensures own { IfOk result (λ upquery. upquery.table ≡ self.old.map) }
         ensures places { (self.new.map ≡ self.old.map) × (self.new.queue ≡ self.old.queue) × (self.new.lobby ≡ self.old.lobby) }
@@ -108,7 +108,7 @@ impl<'a> IdDataflow<'a> {
     // Admits an id, and raises the lobby for its group if it did.
     fn admit<R: Wait>(&mut self, rt: &R, id: u64) -> Result<Upquery, Refused>
         requires { 0 < id }
-        ensures admits { AdmitsOne self.old id result self.new }
+        ensures admits { AdmitsOne id self.old self.new result }
         ensures kept { self.new.kept ≡ self.old.kept }
         ensures own { IfOk result (λ upquery. upquery.table ≡ self.old.map) }
         ensures places { (self.new.map ≡ self.old.map) × (self.new.queue ≡ self.old.queue) × (self.new.lobby ≡ self.old.lobby) }
@@ -121,7 +121,7 @@ impl<'a> IdDataflow<'a> {
 
     // Evicts an id of that one's group: whether it had rows.
     fn make_room<V: Victims, R: Wait>(&mut self, rt: &R, victims: &mut V, id: u64) -> bool
-        ensures makes { MakesRoom self.old id result self.new }
+        ensures makes { MakesRoom id self.old self.new result }
         ensures kept { self.new.kept ≡ self.old.kept }
         ensures places { (self.new.map ≡ self.old.map) × (self.new.queue ≡ self.old.queue) × (self.new.lobby ≡ self.old.lobby) }
     {

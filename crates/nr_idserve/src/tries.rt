@@ -82,7 +82,7 @@ fn request<R: Wait>(
     requires ready { IsReadyFor service.now.map service.now.queue hands }
     requires id { 0 < id }
     ensures ready { let (_, after) = result in IsReadyFor service.now.map service.now.queue after }
-    ensures requests { let (missed, after) = result in RequestsOnce service.now.queue.capacity id hands missed after }
+    ensures requests { let (missed, after) = result in RequestsOnce service.now.queue.capacity id hands after missed }
     ensures rings { let (_, after) = result in RingsFor hands.poster lobby.old after.poster lobby.new }
 {
     let IdHands {
@@ -119,7 +119,7 @@ fn go_on<R: Wait>(
     requires id { 0 < id }
     requires found { found ≢ FoundId.Rows }
     ensures ready { let (_, after) = result in IsReadyFor service.now.map service.now.queue after }
-    ensures goes_on { let (missed, after) = result in GoesOn service.now.queue.capacity id found hands missed after }
+    ensures goes_on { let (missed, after) = result in GoesOn service.now.queue.capacity id found hands after missed }
     ensures rings { let (_, after) = result in RingsFor hands.poster lobby.old after.poster lobby.new }
 {
     match found {
@@ -166,7 +166,7 @@ fn try_once<R: RowRoom, W: Wait>(
     requires ready { IsReadyFor service.now.map service.now.queue hands }
     requires id { 0 < id }
     ensures ready { let (_, after) = result in IsReadyFor service.now.map service.now.queue after }
-    ensures tries { let (tried, after) = result in TriesOnce R.shows service.now.queue.capacity id hands rows.old tried after rows.new }
+    ensures tries { let (tried, after) = result in TriesOnce R.shows service.now.queue.capacity id hands rows.old after rows.new tried }
     ensures rings { let (_, after) = result in RingsFor hands.poster lobby.old after.poster lobby.new }
 {
     let posted = post_kept(rt, service, lobby, hands);
@@ -190,10 +190,10 @@ fn sleep_if<L: Limit<R>, R: Wait>(
     hands: &IdHands,
     limit: &L,
 ) -> Result<(), TooLate>
-    requires { MissesOnce service.now.queue.capacity counted.now.id counted.now.hands.value missed.now hands.now }
+    requires { MissesOnce service.now.queue.capacity counted.now.id counted.now.hands.value hands.now missed.now }
     ensures looks { OnlyLooks lobby.old lobby.new }
     ensures late { IfErr result (λ late. L.lapses limit.now late) }
-    ensures slept { IfErr result (λ _. (0 < tries_left) × AwaitsRaise service.now.queue.capacity counted.now.id counted.now.hands.value missed.now hands.now) }
+    ensures slept { IfErr result (λ _. (0 < tries_left) × AwaitsRaise service.now.queue.capacity counted.now.id counted.now.hands.value hands.now missed.now) }
 {
     if tries_left > 0 && missed.is_awaited() && hands.kept.is_none() {
         wait_past(rt, service, lobby, counted, missed, hands, limit)?;
@@ -217,7 +217,7 @@ pub(crate) fn get_by_tries<R: RowRoom, L: Limit<W>, W: Wait>(
     requires ready { IsReadyFor service.now.map service.now.queue hands }
     requires id { 0 < id }
     ensures ready { let (_, after) = result in IsReadyFor service.now.map service.now.queue after }
-    ensures gets { let (ended, after) = result in GetsIdInTime R.shows service.now.queue.capacity id tries hands rows.old ended after rows.new }
+    ensures gets { let (ended, after) = result in GetsIdInTime R.shows (record { capacity = service.now.queue.capacity; id = id; tries = tries }) hands rows.old after rows.new ended }
     ensures late { let (ended, _) = result in IfErr ended (λ late. L.lapses limit.now late) }
     ensures at_once { let (_, after) = result in tries ≡ 0 → after ≡ hands }
     ensures rings { let (_, after) = result in RingsFor hands.poster lobby.old after.poster lobby.new }

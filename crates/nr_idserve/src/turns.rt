@@ -44,7 +44,7 @@ impl<'a> IdDataflow<'a> {
         victims: &mut V,
         source: &mut S,
     ) -> IdTurn
-        ensures turns { TurnsById S.gives S.fails self.old source.old result self.new source.new }
+        ensures turns { TurnsById S.gives S.fails self.old source.old self.new source.new result }
         ensures places { (self.new.map ≡ self.old.map) × (self.new.queue ≡ self.old.queue) × (self.new.lobby ≡ self.old.lobby) }
     {
         match self.take(rt, victims) {
@@ -64,7 +64,7 @@ impl<'a> IdDataflow<'a> {
         victims: &mut V,
         source: &mut S,
     ) -> IdTurn
-        ensures turns { TurnsOrSleeps S.gives S.fails self.old source.old result self.new source.new }
+        ensures turns { TurnsOrSleeps S.gives S.fails self.old source.old self.new source.new result }
         ensures places { (self.new.map ≡ self.old.map) × (self.new.queue ≡ self.old.queue) × (self.new.lobby ≡ self.old.lobby) }
     {
         let rung = self.rings();
@@ -79,7 +79,7 @@ impl<'a> IdDataflow<'a> {
     fn answer<S: IdSource, R: Wait>(&mut self, rt: &R, source: &mut S, upquery: Upquery) -> IdTurn
         requires own { upquery.table ≡ self.old.map }
         requires none { self.old.kept ≡ None }
-        ensures answers { AnswersAsked S.gives S.fails self.old source.old upquery result self.new source.new }
+        ensures answers { AnswersAsked S.gives S.fails upquery self.old source.old self.new source.new result }
         ensures places { (self.new.map ≡ self.old.map) × (self.new.queue ≡ self.old.queue) × (self.new.lobby ≡ self.old.lobby) }
     {
         let mut room = RowSet::new();
@@ -94,7 +94,7 @@ impl<'a> IdDataflow<'a> {
         requires own { upquery.table ≡ self.old.map }
         requires rows { IsIdSet (id_rows self.old.map) rows.now }
         requires none { self.old.kept ≡ None }
-        ensures ends { FillsOrKeeps self.old upquery rows.now result self.new }
+        ensures ends { FillsOrKeeps upquery rows.now self.old self.new result }
         ensures places { (self.new.map ≡ self.old.map) × (self.new.queue ≡ self.old.queue) × (self.new.lobby ≡ self.old.lobby) }
     {
         let id = upquery.id();
@@ -113,7 +113,7 @@ impl<'a> IdDataflow<'a> {
     fn fail_or_keep<R: Wait>(&mut self, rt: &R, upquery: Upquery) -> IdTurn
         requires own { upquery.table ≡ self.old.map }
         requires none { self.old.kept ≡ None }
-        ensures ends { FailsOrKeeps self.old upquery result self.new }
+        ensures ends { FailsOrKeeps upquery self.old self.new result }
         ensures places { (self.new.map ≡ self.old.map) × (self.new.queue ≡ self.old.queue) × (self.new.lobby ≡ self.old.lobby) }
     {
         let id = upquery.id();

@@ -53,7 +53,7 @@ pub(crate) fn wait_past<L: Limit<R>, R: Wait>(
     hands: &IdHands,
     limit: &L,
 ) -> Result<(), TooLate>
-    requires { AwaitsRaise service.now.queue.capacity counted.now.id counted.now.hands.value missed.now hands.now }
+    requires { AwaitsRaise service.now.queue.capacity counted.now.id counted.now.hands.value hands.now missed.now }
     ensures looks { OnlyLooks lobby.old lobby.new }
     ensures past { IfOk result (λ _. (counted.now.count < slice_index lobby.new.seen (group_at counted.now.group)) ⊎ (0 < slice_index lobby.new.seen closed_at)) }
     ensures late { IfErr result (λ late. L.lapses limit.now late) }

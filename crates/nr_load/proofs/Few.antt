@@ -57,7 +57,7 @@ pub record GainedFew (keys : ℕ) (old new : Caller) (most : ℕ) : Type 0 where
   pub low : count ≤ most
   pub gained : Gained keys old new count 0
 
-gets_few : (tries keys key : ℕ) (old : Hands) (g : Got) (rows : List Row) (new : Hands) → key < keys → GetsKey tries key old g rows new → GainedFew keys old.reader new.reader tries
+gets_few : (tries keys key : ℕ) (old : Hands) (g : Got) (rows : List Row) (new : Hands) → key < keys → GetsKey tries key old new g rows → GainedFew keys old.reader new.reader tries
 gets_few tries keys key old g rows new near gets =
     let get = gets.gets in
     let by : ℕ = old.reader.number in
@@ -70,7 +70,7 @@ unfolding drawn
 drawn_near keys g some = omega arith
 
 pub works_few : (tries keys made : ℕ) (g : Lcg) (answered : ℕ) (known : List ℕ) (fault : Option LoadFault) (old new : Hands) (g' : Lcg) → 0 < keys
-    → Works tries keys made g answered known fault old new g' → GainedFew keys old.reader new.reader (tries * made)
+    → Works tries keys made known g old g' new answered fault → GainedFew keys old.reader new.reader (tries * made)
 works_few tries keys zero g answered known fault old new g' some w = record { count = 0; low = omega arith; gained = gained_none keys old.reader new.reader (ap (λ (hands : Hands). hands.reader) w.2) }
 works_few tries keys (suc more) g answered known fault old new g' some w =
     let one = gets_few tries keys _ old w.0 w.3 w.1 (drawn_near keys g some) w.7 in

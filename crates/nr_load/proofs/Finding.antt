@@ -48,21 +48,21 @@ based-append base (e ∷ es) fs = based-append (changed base e.call) es fs
 abbrev Leads : List ℕ → List Entry → List ℕ → Type 0
 Leads base es base' = Obeys base es × (based base es ≡ base')
 
-steps_lead : (by key : ℕ) (base base' : List ℕ) (batch : Option (List Delta)) (later : List Entry) → StepsBase base key batch base' → later ≡ applies by key batch → Leads base later base'
+steps_lead : (by key : ℕ) (base base' : List ℕ) (batch : Option (List Delta)) (later : List Entry) → StepsBase key base base' batch → later ≡ applies by key batch → Leads base later base'
 steps_lead by key base base' None later steps is = subst (λ (l : List Entry). Leads base l base') (sym is) (tt, sym steps.1)
 steps_lead by key base base' (Some batch) later steps is = subst (λ (l : List Entry). Leads base l base') (sym is) ((steps.1, tt), sym steps.2)
 
 changes_lead : (fourth : Bool) (by key : ℕ) (base base' : List ℕ) (later : List Entry)
-    → MatchBool fourth (((answer : Reply) × (later ≡ record { caller = by; call = call.Evict key; reply = answer } ∷ [])) × (base' ≡ base)) ((batch : Option (List Delta)) × StepsBase base key batch base' × (later ≡ applies by key batch))
+    → MatchBool fourth (((answer : Reply) × (later ≡ record { caller = by; call = call.Evict key; reply = answer } ∷ [])) × (base' ≡ base)) ((batch : Option (List Delta)) × StepsBase key base base' batch × (later ≡ applies by key batch))
     → Leads base later base'
 changes_lead true by key base base' later is = subst (λ (l : List Entry). Leads base l base') (sym is.0.1) ((tt, tt), sym is.1)
 changes_lead false by key base base' later is = steps_lead by key base base' is.0 later is.1 is.2
 
-follows_lead : (by fills key : ℕ) (base : List ℕ) (done : Bool) (later : List Entry) (fills' : ℕ) (base' : List ℕ) → FollowsBase by fills key base done later fills' base' → Leads base later base'
+follows_lead : (by fills key : ℕ) (base : List ℕ) (done : Bool) (later : List Entry) (fills' : ℕ) (base' : List ℕ) → FollowsBase by key done later fills base fills' base' → Leads base later base'
 follows_lead by fills key base true later fills' base' follows = changes_lead (fills' % 4 == 0) by key base base' later follows.1
 follows_lead by fills key base false later fills' base' follows = subst (λ (l : List Entry). Leads base l base') (sym follows.1) (tt, sym follows.2)
 
-round_leads : (by fills : ℕ) (base : List ℕ) (round : List Entry) (fills' : ℕ) (base' : List ℕ) → IsRound by fills base round fills' base' → Leads base round base'
+round_leads : (by fills : ℕ) (base : List ℕ) (round : List Entry) (fills' : ℕ) (base' : List ℕ) → IsRound by round fills base fills' base' → Leads base round base'
 round_leads by fills base round fills' base' is =
     let rest = follows_lead by fills is.key base (is_done is.answer) is.later fills' base' is.follows in
     subst (λ (l : List Entry). Leads base l base') (sym is.is) ((refl, rest.0), rest.1)

@@ -57,7 +57,7 @@ gained_from keys keys' a a' b s f same is gained = record {
   tells = subst (λ (n : ℕ). Tells n gained.entries s f) same gained.tells;
 }
 
-abbrev grown : (steps keys : ℕ) (a b : Caller) (entries : List Entry) (s f : ℕ) → Grows steps a entries b → Tells keys entries s f → Gained keys a b s f
+abbrev grown : (steps keys : ℕ) (a b : Caller) (entries : List Entry) (s f : ℕ) → Grows steps entries a b → Tells keys entries s f → Gained keys a b s f
 grown steps keys a b entries s f grows tells = record { table = grows.table; number = grows.number; entries = entries; mine = grows.mine; tells = tells }
 
 abbrev pub evicts_gain : (keys key : ℕ) (a b : Caller) (answer : Evict) → key < keys → EvictsKey key a b answer → Gained keys a b 0 0
@@ -86,10 +86,10 @@ passes keys key number rows a b fill.Stale past low fills = grown 1 keys a b _ 0
 passes keys key number rows a b (fill.NoSlot counts) past low fills = absurd past
 
 module _ {S : Type 0} (gives : S → (key bound : ℕ) → List Row → S → Type 0) where
-  pub near_post : (old new : FlowSeen S) (key : ℕ) (answer : Result (Unit {0}) FillFault) (spends : SpendsOne gives old key answer new) → spends.post.upquery.key < old.map.shape.keys
+  pub near_post : (old new : FlowSeen S) (key : ℕ) (answer : Result (Unit {0}) FillFault) (spends : SpendsOne gives key old new answer) → spends.post.upquery.key < old.map.shape.keys
   near_post old new key answer spends = subst (λ (k : ℕ). k < old.map.shape.keys) (sym spends.key_is) spends.near
 
-  abbrev pub turns_gain : (old new : FlowSeen S) (answer : Turn) → Turns gives (λ _ _ _ _. ⊥) old answer new → Gained old.map.shape.keys old.writer new.writer 0 (fills_of answer)
+  abbrev pub turns_gain : (old new : FlowSeen S) (answer : Turn) → Turns gives (λ _ _ _ _. ⊥) old new answer → Gained old.map.shape.keys old.writer new.writer 0 (fills_of answer)
   turns_gain old new turn.Idle turns = gained_none old.map.shape.keys old.writer new.writer (ap (λ (flow : FlowSeen S). flow.writer) turns.2)
   turns_gain old new (turn.Filled key) turns =
       grown _ old.map.shape.keys old.writer new.writer _ 0 1 turns.answers.fills.gains

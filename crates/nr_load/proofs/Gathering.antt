@@ -32,7 +32,7 @@ learns_sound steps old new l =
     }
 
 -- one gather of a round
-pub gathered : (log : List Entry) (w r w' r' : Caller) → Gathers w r w' r' → StartsWith w.seen log → Hears log w'.seen r r'
+pub gathered : (log : List Entry) (w r w' r' : Caller) → Gathers w r w' r' → StartsWith w.seen log → Hears log r w'.seen r'
 gathered log w r w' r' g begins =
     let learns = g.of_writer.learns in
     let more : StartsWith r'.seen log = starts_then log w.seen r'.seen begins (starts_then w.seen w'.seen r'.seen g.of_reader.learns.seen g.of_writer.seen) in
@@ -42,18 +42,18 @@ gathered log w r w' r' g begins =
       heard = (more, learns.own);
     }
 
-heard_on : CallsStay → (log later last : List Entry) (a b : Caller) → Hears log later a b → StartsWith last later → Hears log last a b
+heard_on : CallsStay → (log later last : List Entry) (a b : Caller) → Hears log a later b → StartsWith last later → Hears log a last b
 heard_on stay log later last a b h on = record { stays = h.stays; calls = stay later last b on h.calls; heard = h.heard }
 
 -- the readers below a place were gathered, and then the one at that place
-pub one_more : CallsStay → (log : List Entry) (w w' r r' : Caller) (old rs : List Caller) (i : ℕ) → i < length rs → length rs ≡ length old → r ≡ get_or rs i r → StartsWith w'.seen w.seen → Hears log w'.seen r r'
-    → ((at : ℕ) (other : Caller) → at < i → Hears log w.seen (get_or old at other) (get_or rs at other)) → ((at : ℕ) (other : Caller) → i ≤ at → get_or rs at other ≡ get_or old at other)
-    → (at : ℕ) (other : Caller) → at < i + 1 → Hears log w'.seen (get_or old at other) (get_or (set rs i r') at other)
+pub one_more : CallsStay → (log : List Entry) (w w' r r' : Caller) (old rs : List Caller) (i : ℕ) → i < length rs → length rs ≡ length old → r ≡ get_or rs i r → StartsWith w'.seen w.seen → Hears log r w'.seen r'
+    → ((at : ℕ) (other : Caller) → at < i → Hears log (get_or old at other) w.seen (get_or rs at other)) → ((at : ℕ) (other : Caller) → i ≤ at → get_or rs at other ≡ get_or old at other)
+    → (at : ℕ) (other : Caller) → at < i + 1 → Hears log (get_or old at other) w'.seen (get_or (set rs i r') at other)
 one_more stay log w w' r r' old rs i low same item on heard done rest at other below_i =
-    below_more (λ (j : ℕ). (o : Caller) → Hears log w'.seen (get_or old j o) (get_or (set rs i r') j o)) i
+    below_more (λ (j : ℕ). (o : Caller) → Hears log (get_or old j o) w'.seen (get_or (set rs i r') j o)) i
     (λ j before o. let apart : j ≢ i = omega arith in
-    heard_on stay log w.seen w'.seen _ _ (subst (λ (x : Caller). Hears log w.seen (get_or old j o) x) (sym (get_or-set_other rs i j r' o apart)) (done j o before)) on)
+    heard_on stay log w.seen w'.seen _ _ (subst (λ (x : Caller). Hears log (get_or old j o) w.seen x) (sym (get_or-set_other rs i j r' o apart)) (done j o before)) on)
     (λ o. let inside : i < length old = omega arith in
     let first : r ≡ get_or old i o = item ∙ rest i r (omega arith) ∙ get_or_default old i r o inside in
-    subst (λ (x : Caller). Hears log w'.seen (get_or old i o) x) (sym (get_or-set_same rs i r' o low)) (subst (λ (x : Caller). Hears log w'.seen x r') first heard))
+    subst (λ (x : Caller). Hears log (get_or old i o) w'.seen x) (sym (get_or-set_same rs i r' o low)) (subst (λ (x : Caller). Hears log x w'.seen r') first heard))
     at below_i other

@@ -100,14 +100,14 @@ module _ (t : Table) (plan : Plan) (joined : Joined) (e : Ended t plan.seed plan
         begins = draws.begins ∙ new;
         empty = draws.empty;
         generator = draws.generator;
-        works = subst (λ (fault : Option LoadFault). Works 1000000 plan.keys plan.gets (stream_of plan.seed (at + 1))
-            (get_or (map answered_of joined.outcomes.items) at other) (replicate plan.keys 0) fault draws.old draws.new draws.generator)
+        works = subst (λ (fault : Option LoadFault). Works 1000000 plan.keys plan.gets (replicate plan.keys 0)
+            (stream_of plan.seed (at + 1)) draws.old draws.generator draws.new (get_or (map answered_of joined.outcomes.items) at other) fault)
             (ap of_gets place.faultless)
-            (subst (λ (n : ℕ). Works 1000000 plan.keys plan.gets (stream_of plan.seed (at + 1)) n (replicate plan.keys 0) (of_gets place.outcome.worked.fault) draws.old draws.new draws.generator) (sym (place.answered other))
-            (subst (λ (n : ℕ). Works 1000000 plan.keys plan.gets (stream_of plan.seed n) place.outcome.worked.answered (replicate plan.keys 0) (of_gets place.outcome.worked.fault) draws.old draws.new draws.generator) number
-            (subst (λ (n : ℕ). Works 1000000 plan.keys n (stream_of plan.seed place.reader.number) place.outcome.worked.answered (replicate plan.keys 0) (of_gets place.outcome.worked.fault) draws.old draws.new draws.generator) place.made
-            (subst (λ (n : ℕ). Works 1000000 n place.outcome.worked.made (stream_of plan.seed place.reader.number) place.outcome.worked.answered
-            (replicate n 0) (of_gets place.outcome.worked.fault) draws.old draws.new draws.generator) keys draws.works))));
+            (subst (λ (n : ℕ). Works 1000000 plan.keys plan.gets (replicate plan.keys 0) (stream_of plan.seed (at + 1)) draws.old draws.generator draws.new n (of_gets place.outcome.worked.fault)) (sym (place.answered other))
+            (subst (λ (n : ℕ). Works 1000000 plan.keys plan.gets (replicate plan.keys 0) (stream_of plan.seed n) draws.old draws.generator draws.new place.outcome.worked.answered (of_gets place.outcome.worked.fault)) number
+            (subst (λ (n : ℕ). Works 1000000 plan.keys n (replicate plan.keys 0) (stream_of plan.seed place.reader.number) draws.old draws.generator draws.new place.outcome.worked.answered (of_gets place.outcome.worked.fault)) place.made
+            (subst (λ (n : ℕ). Works 1000000 n place.outcome.worked.made (replicate n 0) (stream_of plan.seed place.reader.number)
+            draws.old draws.generator draws.new place.outcome.worked.answered (of_gets place.outcome.worked.fault)) keys draws.works))));
         all = account.reads at first inside ∙ ap (λ (r : Caller). r.mine) (place.is first ∙ sym draws.ends);
       }
 

@@ -42,7 +42,7 @@ takes_none old before none near = record {
   near = near;
 }
 
-pub takes_one_more : (first mid new : FlowSeen (List ℕ)) (before under after : UnderWaySeen) (post : Post) → TakesMore first before mid under → Takes mid post new
+pub takes_one_more : (first mid new : FlowSeen (List ℕ)) (before under after : UnderWaySeen) (post : Post) → TakesMore first before mid under → Takes mid new post
     → after.posts ≡ under.posts ++ post ∷ [] → after.most ≡ under.most → TakesMore first before new after
 takes_one_more first mid new before under after post takes one posts most =
     let rest = one.rest in

@@ -44,7 +44,7 @@ so_far_none first posts base none = record {
   answered = ap upqueries_of (sym none);
 }
 
-more_rounds : (by keys turns : ℕ) (before entries : List Entry) (what : Turned) (fills fills' : ℕ) (base base' : List ℕ) → what ≢ turned.Wrong → Rounds by keys turns before fills base → IsTurn what by fills base entries fills' base'
+more_rounds : (by keys turns : ℕ) (before entries : List Entry) (what : Turned) (fills fills' : ℕ) (base base' : List ℕ) → what ≢ turned.Wrong → Rounds by keys turns before fills base → IsTurn by entries fills base fills' base' what
     → (more : ℕ) × Rounds by keys more (before ++ entries) fills' base'
 more_rounds by keys turns before entries turned.Idle fills fills' base base' right rounds turn = (
   turns,
@@ -60,7 +60,7 @@ none_kept None more spent spends none = refl
 none_kept (Some post) more [] spends none = absurd (cc)
 none_kept (Some post) more (first ∷ spent) spends none = absurd (cc)
 
-idle_none : (what : Turned) (by fills : ℕ) (base base' : List ℕ) (entries : List Entry) (fills' : ℕ) → what ≢ turned.Went → what ≢ turned.Wrong → IsTurn what by fills base entries fills' base' → entries ≡ []
+idle_none : (what : Turned) (by fills : ℕ) (base base' : List ℕ) (entries : List Entry) (fills' : ℕ) → what ≢ turned.Went → what ≢ turned.Wrong → IsTurn by entries fills base fills' base' what → entries ≡ []
 idle_none turned.Idle by fills base base' entries fills' idle right turn = turn.0
 idle_none turned.Went by fills base base' entries fills' idle right turn = absurd (idle refl)
 idle_none turned.Wrong by fills base base' entries fills' idle right turn = absurd (right refl)
@@ -71,7 +71,7 @@ tells_right None what tells none = tells
 tells_right (Some it) what tells none = absurd (cc)
 
 module _ (first old mid new : FlowSeen (List ℕ)) (before after : UnderWaySeen) (what : Turned) (fills fills' : ℕ) (own : old.map ≡ first.map) (far : SoFar first old before.posts fills)
-    (ready : Readies old before mid after) (turn : TurnsOnce mid new what fills fills') where
+    (ready : Readies old before mid after) (turn : TurnsOnce mid fills new fills' what) where
   keys : mid.map.shape.keys ≡ first.map.shape.keys
   keys = ap (λ (t : Table). t.shape.keys) (ready.only.map ∙ own)
 
@@ -82,9 +82,9 @@ module _ (first old mid new : FlowSeen (List ℕ)) (before after : UnderWaySeen)
   fills_on : fills' ≡ capped (far.count + turn.count)
   fills_on = omega (arith, far.fills_are, turn.fills_are)
 
-  turn_on : IsTurn what first.writer.number fills old.source turn.gained.entries fills' new.source
-  turn_on = subst (λ (base : List ℕ). IsTurn what first.writer.number fills base turn.gained.entries fills' new.source) ready.only.source
-      (subst (λ (by : ℕ). IsTurn what by fills mid.source turn.gained.entries fills' new.source) (ap (λ (c : Caller). c.number) ready.only.writer ∙ far.gained.number) turn.turn)
+  turn_on : IsTurn first.writer.number turn.gained.entries fills old.source fills' new.source what
+  turn_on = subst (λ (base : List ℕ). IsTurn first.writer.number turn.gained.entries fills base fills' new.source what) ready.only.source
+      (subst (λ (by : ℕ). IsTurn by turn.gained.entries fills mid.source fills' new.source what) (ap (λ (c : Caller). c.number) ready.only.writer ∙ far.gained.number) turn.turn)
 
   rounds_on : what ≢ turned.Wrong → (more : ℕ) × Rounds first.writer.number first.map.shape.keys more (far.gained.entries ++ turn.gained.entries) fills' new.source
   rounds_on right = more_rounds first.writer.number first.map.shape.keys far.turns far.gained.entries turn.gained.entries what fills fills' old.source new.source right far.rounds turn_on

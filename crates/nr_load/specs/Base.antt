@@ -26,34 +26,34 @@ abbrev pub FailsNever : List ℕ → (key bound : ℕ) → List ℕ → Type 0
 FailsNever base key bound base' = ⊥
 
 -- a step adds one to the number in the key's row, unless that is the last one
-abbrev pub StepsBase : List ℕ → ℕ → Option (List Delta) → List ℕ → Type 0
-StepsBase base key None base' = (slice_index base key ≡ last_count) × (base' ≡ base)
-StepsBase base key (Some batch) base' = (slice_index base key < last_count) × (batch ≡ base_deltas key (slice_index base key)) × (base' ≡ slice_set base key (slice_index base key + 1))
+abbrev pub StepsBase : ℕ → List ℕ → List ℕ → Option (List Delta) → Type 0
+StepsBase key base base' None = (slice_index base key ≡ last_count) × (base' ≡ base)
+StepsBase key base base' (Some batch) = (slice_index base key < last_count) × (batch ≡ base_deltas key (slice_index base key)) × (base' ≡ slice_set base key (slice_index base key + 1))
 
 abbrev pub applies : ℕ → ℕ → Option (List Delta) → List Entry
 applies by key None = []
 applies by key (Some batch) = entry by (call.Update key batch) reply.Done ∷ []
 
 -- what becomes of a key after the fill of that number: at each fourth it is evicted, else it takes a step, in the base and then in the map
-abbrev pub Changes : (by fills key : ℕ) → List ℕ → List Entry → List ℕ → Type 0
-Changes by fills key base later base' = MatchBool (fills % 4 == 0)
+abbrev pub Changes : (by fills key : ℕ) → List Entry → List ℕ → List ℕ → Type 0
+Changes by fills key later base base' = MatchBool (fills % 4 == 0)
     (((answer : Reply) × (later ≡ entry by (call.Evict key) answer ∷ [])) × (base' ≡ base))
-    ((batch : Option (List Delta)) × StepsBase base key batch base' × (later ≡ applies by key batch))
+    ((batch : Option (List Delta)) × StepsBase key base base' batch × (later ≡ applies by key batch))
 
 -- what follows a fill that was done, and one that wasn't
-abbrev pub FollowsBase : (by fills key : ℕ) → List ℕ → Bool → List Entry → ℕ → List ℕ → Type 0
-FollowsBase by fills key base true later fills' base' = (fills' ≡ capped (fills + 1)) × Changes by fills' key base later base'
-FollowsBase by fills key base false later fills' base' = (fills' ≡ fills) × (later ≡ []) × (base' ≡ base)
+abbrev pub FollowsBase : (by key : ℕ) → Bool → List Entry → (fills : ℕ) → List ℕ → ℕ → List ℕ → Type 0
+FollowsBase by key true later fills base fills' base' = (fills' ≡ capped (fills + 1)) × Changes by fills' key later base base'
+FollowsBase by key false later fills base fills' base' = (fills' ≡ fills) × (later ≡ []) × (base' ≡ base)
 
 -- one trigger: the key is filled with the row that the base has, and where that is done, something becomes of the key
-pub record IsRound (by fills : ℕ) (base : List ℕ) (round : List Entry) (fills' : ℕ) (base' : List ℕ) : Type 0 where
+pub record IsRound (by : ℕ) (round : List Entry) (fills : ℕ) (base : List ℕ) (fills' : ℕ) (base' : List ℕ) : Type 0 where
   pub key : ℕ
   pub near : key < length base
   pub number : ℕ
   pub answer : Reply
   pub later : List Entry
   pub is : round ≡ entry by (call.Fill key number (row_of key (slice_index base key) ∷ [])) answer ∷ later
-  pub follows : FollowsBase by fills key base (is_done answer) later fills' base'
+  pub follows : FollowsBase by key (is_done answer) later fills base fills' base'
 
 -- that many triggers, of a base that began with the number 0 for each key
 abbrev pub Rounds : (by keys count : ℕ) → List Entry → ℕ → List ℕ → Type 0
@@ -61,7 +61,7 @@ Rounds by keys zero entries fills base = (entries ≡ []) × (fills ≡ 0) × (b
 Rounds by keys (suc count) entries fills base =
     (before : List Entry) × (fills₀ : ℕ) × (base₀ : List ℕ) × (round : List Entry)
     × Rounds by keys count before fills₀ base₀
-    × IsRound by fills₀ base₀ round fills base
+    × IsRound by round fills₀ base₀ fills base
     × (entries ≡ before ++ round)
 
 -- the base after a call of the writer

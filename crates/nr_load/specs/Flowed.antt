@@ -26,25 +26,25 @@ abbrev pub RefusesUpdate : ℕ → List Entry → Type 0
 RefusesUpdate by later = (key : ℕ) × (batch : List Delta) × (answer : Reply) × (later ≡ entry by (call.Update key batch) answer ∷ []) × (answer ≢ reply.Done)
 
 -- what became of a key after a fill, unless the map refused the change of its row
-abbrev pub Changed : Result (Unit {0}) UpdateFault → (by fills key : ℕ) → List ℕ → List Entry → List ℕ → Type 0
-Changed (Ok done) by fills key base later base' = Changes by fills key base later base'
-Changed (Err fault) by fills key base later base' = RefusesUpdate by later
+abbrev pub Changed : (by fills key : ℕ) → List Entry → List ℕ → List ℕ → Result (Unit {0}) UpdateFault → Type 0
+Changed by fills key later base base' (Ok done) = Changes by fills key later base base'
+Changed by fills key later base base' (Err fault) = RefusesUpdate by later
 
 -- a turn: nothing was asked for, or one trigger, or the map refused a change
-abbrev pub IsTurn : Turned → (by fills : ℕ) → List ℕ → List Entry → ℕ → List ℕ → Type 0
-IsTurn turned.Idle by fills base entries fills' base' = (entries ≡ []) × (fills' ≡ fills) × (base' ≡ base)
-IsTurn turned.Went by fills base entries fills' base' = IsRound by fills base entries fills' base'
-IsTurn turned.Wrong by fills base entries fills' base' = (filled : Entry) × (later : List Entry) × (entries ≡ filled ∷ later) × RefusesUpdate by later
+abbrev pub IsTurn : (by : ℕ) → List Entry → (fills : ℕ) → List ℕ → ℕ → List ℕ → Turned → Type 0
+IsTurn by entries fills base fills' base' turned.Idle = (entries ≡ []) × (fills' ≡ fills) × (base' ≡ base)
+IsTurn by entries fills base fills' base' turned.Went = IsRound by entries fills base fills' base'
+IsTurn by entries fills base fills' base' turned.Wrong = (filled : Entry) × (later : List Entry) × (entries ≡ filled ∷ later) × RefusesUpdate by later
 
 -- what one turn gained: it asked for nothing, and its fills are counted; the trigger that it spent, if any, is the one that was filled, and none is kept
-pub record TurnsOnce (old new : FlowSeen (List ℕ)) (turned : Turned) (fills fills' : ℕ) : Type 0 where
+pub record TurnsOnce (old : FlowSeen (List ℕ)) (fills : ℕ) (new : FlowSeen (List ℕ)) (fills' : ℕ) (turned : Turned) : Type 0 where
   pub count : ℕ
   pub gained : Gained old.map.shape.keys old.writer new.writer 0 count
   pub fills_are : fills' ≡ capped (fills + count)
-  pub turn : IsTurn turned old.writer.number fills old.source gained.entries fills' new.source
+  pub turn : IsTurn old.writer.number gained.entries fills old.source fills' new.source turned
   pub spent : List Post
   pub one : length spent ≤ 1
-  pub spends : Spends old.kept old.taker spent None new.taker
+  pub spends : Spends spent old.taker old.kept new.taker None
   pub fits : upqueries_of spent ≡ upqueries_in gained.entries
   pub none : new.kept ≡ None
 

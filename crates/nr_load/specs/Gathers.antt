@@ -15,7 +15,7 @@ pub record IsInOrder (count : ℕ) (readers : List Caller) : Type 0 where
   pub numbers : (at : ℕ) (other : Caller) → at < length readers → (slice_index_or readers at other).number ≡ at + 1
 
 -- the writer has the reader's calls, and the reader has seen what the writer had seen before the round
-pub record Hears (before after : List Entry) (old new : Caller) : Type 0 where
+pub record Hears (before : List Entry) (old : Caller) (after : List Entry) (new : Caller) : Type 0 where
   pub stays : Stays old new
   pub calls : HasCalls after new
   pub heard : HasHeard before new
@@ -24,7 +24,7 @@ pub record GathersAll (writer : Caller) (readers : List Caller) (writer' : Calle
   pub stays : Stays writer writer'
   pub sound : 0 < length readers → IsSound writer'
   pub count : length readers' ≡ length readers
-  pub each : (at : ℕ) (other : Caller) → at < length readers → Hears writer.seen writer'.seen (slice_index_or readers at other) (slice_index_or readers' at other)
+  pub each : (at : ℕ) (other : Caller) → at < length readers → Hears writer.seen (slice_index_or readers at other) writer'.seen (slice_index_or readers' at other)
 
 abbrev pub asked_one : KeyKind → ℕ
 asked_one kind.Hole = 0

@@ -20,7 +20,7 @@ pub record DrawsItsOwn (seed : ℕ) (reader : Caller) (outcome : Outcome) : Type
   pub empty : old.kept ≡ None
   pub ends : new.reader ≡ outcome.reader
   pub generator : Lcg
-  pub works : Works 1000000 reader.table.shape.keys outcome.worked.made (stream_of seed reader.number) outcome.worked.answered (replicate reader.table.shape.keys 0) (of_gets outcome.worked.fault) old new generator
+  pub works : Works 1000000 reader.table.shape.keys outcome.worked.made (replicate reader.table.shape.keys 0) (stream_of seed reader.number) old generator new outcome.worked.answered (of_gets outcome.worked.fault)
 
 -- what a worker says of the reader that it was given
 pub record Serves (seed gets : ℕ) (reader : Caller) (outcome : Outcome) : Type 0 where

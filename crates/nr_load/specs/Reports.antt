@@ -41,7 +41,7 @@ pub record MakesAll (plan : Plan) (map : Table) (number answered : ℕ) (calls :
   pub begins : old.reader ≡ newcomer map number no_marks
   pub empty : old.kept ≡ None
   pub generator : Lcg
-  pub works : Works 1000000 plan.keys plan.gets (stream_of plan.seed number) answered (replicate plan.keys 0) None old new generator
+  pub works : Works 1000000 plan.keys plan.gets (replicate plan.keys 0) (stream_of plan.seed number) old generator new answered None
   pub all : calls ≡ new.reader.mine
 
 -- the report is of one legal history of a new map, in which each reader made all its gets, and the writer requested and cancelled nothing and did all fills

@@ -79,7 +79,7 @@ impl Base {
     /// where x is the last number; then nothing is changed.
     pub(crate) fn step(&mut self, key: u32) -> Option<[Delta; 2]>
         requires { key < length self.old }
-        ensures { StepsBase self.old key result self.new }
+        ensures { StepsBase key self.old self.new result }
     {
         let before = self.values[key as usize];
         let after = before.checked_add(1)?;

@@ -42,7 +42,7 @@ pub(crate) enum Turned {
 fn change(flow: &mut Dataflow<'_, Base>, key: u32, fills: u64) -> Result<(), UpdateFault>
     requires key { (key < flow.old.map.shape.keys) × (key < length flow.old.source) }
     requires room { HasRoomForAll flow.old.map }
-    ensures gained { (gained : Gained flow.old.map.shape.keys flow.old.writer flow.new.writer 0 0) × Changed result flow.old.writer.number fills key flow.old.source gained.entries flow.new.source }
+    ensures gained { (gained : Gained flow.old.map.shape.keys flow.old.writer flow.new.writer 0 0) × Changed flow.old.writer.number fills key gained.entries flow.old.source flow.new.source result }
     ensures places { (flow.new.map ≡ flow.old.map) × (flow.new.queue ≡ flow.old.queue) }
     ensures triggers { (flow.new.taker ≡ flow.old.taker) × (flow.new.kept ≡ flow.old.kept) }
 {
@@ -59,7 +59,7 @@ fn change(flow: &mut Dataflow<'_, Base>, key: u32, fills: u64) -> Result<(), Upd
 fn turn_once<R: Wait>(rt: &R, flow: &mut Dataflow<'_, Base>, fills: &mut u64) -> Turned
     requires base { length flow.old.source ≡ flow.old.map.shape.keys }
     requires room { HasRoomForAll flow.old.map }
-    ensures turns { TurnsOnce flow.old flow.new result fills.old fills.new }
+    ensures turns { TurnsOnce flow.old fills.old flow.new fills.new result }
     ensures places { (flow.new.map ≡ flow.old.map) × (flow.new.queue ≡ flow.old.queue) }
 {
     let before = *fills;

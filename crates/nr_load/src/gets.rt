@@ -65,7 +65,7 @@ fn only_row(rows: &RowSet) -> Option<Row>
 // Whether it is one row of the key, not below what was known of it; then that is known.
 fn is_news(rows: &RowSet, key: u32, known: &mut [u64]) -> bool
     requires { key < length known.old }
-    ensures { MatchBool result (AreNews key known.old rows.now known.new) ((known.new ≡ known.old) × ((later : List ℕ) → AreNews key known.old rows.now later → ⊥)) }
+    ensures { MatchBool result (AreNews key rows.now known.old known.new) ((known.new ≡ known.old) × ((later : List ℕ) → AreNews key rows.now known.old later → ⊥)) }
 {
     let Some(row) = only_row(rows) else {
         return false;
@@ -89,7 +89,7 @@ fn answers_of(got: Got) -> u32
 // The fault that is told of a get, whose rows are noted where they are news.
 fn judge(got: Got, rows: &RowSet, key: u32, known: &mut [u64]) -> Option<LoadFault>
     requires { key < length known.old }
-    ensures { Judged key known.old got rows.now result known.new }
+    ensures { Judged key got rows.now known.old known.new result }
 {
     match got {
         Got::Barred => Some(LoadFault::Barred),
@@ -116,8 +116,8 @@ fn get_drawn<R: Wait, G: Gate>(
     requires known { length known.old ≡ draws.old.keys }
     ensures places { (client.new.map ≡ client.old.map) × (client.new.queue ≡ client.old.queue) × (client.new.opened ≡ client.old.opened) }
     ensures draws { (draws.new.keys ≡ draws.old.keys) × (draws.new.generator ≡ drawn_on draws.old.generator) }
-    ensures gets { let (got, _) = result in GetsKey TRIES (drawn draws.old.keys draws.old.generator) client.old.hands got rows.new client.new.hands }
-    ensures judged { let (got, fault) = result in Judged (drawn draws.old.keys draws.old.generator) known.old got rows.new fault known.new }
+    ensures gets { let (got, _) = result in GetsKey TRIES (drawn draws.old.keys draws.old.generator) client.old.hands client.new.hands got rows.new }
+    ensures judged { let (got, fault) = result in Judged (drawn draws.old.keys draws.old.generator) got rows.new known.old known.new fault }
 {
     let key = draws.next();
     let got = client.get(rt, key, TRIES, rows);
@@ -139,7 +139,7 @@ pub fn load_gets<R: Wait, G: Gate>(
     lobby: &Lobby,
 ) -> (Worked, Guest)
     requires { draws.old.keys ≤ client.old.map.shape.keys }
-    ensures works { let (worked, _) = result in Works TRIES draws.old.keys worked.made draws.old.generator worked.answered (replicate draws.old.keys 0) (of_gets worked.fault) client.old.hands client.new.hands draws.new.generator }
+    ensures works { let (worked, _) = result in Works TRIES draws.old.keys worked.made (replicate draws.old.keys 0) draws.old.generator client.old.hands draws.new.generator client.new.hands worked.answered (of_gets worked.fault) }
     ensures memory { let (worked, _) = result in worked.fault ≡ Some LoadFault.Memory → worked.made ≡ 0 }
     ensures few { let (worked, _) = result in (worked.made ≤ gets) × (worked.answered ≤ worked.made) }
     ensures all { let (worked, _) = result in worked.stopped ≡ false → worked.fault ≡ None → worked.made ≡ gets }

@@ -95,7 +95,7 @@ stands_so writer put given slot books low kept = (omega (arith, (stands_once wri
 
 -- A PUT
 
-module _ (steps : ℕ) (call : Call) (rows : List Row) (old new : Caller) (put : List (List Row)) (given : List Given) (published : Publishes steps old call rows new) (books : Books old put given) where
+module _ (steps : ℕ) (call : Call) (rows : List Row) (old new : Caller) (put : List (List Row)) (given : List Given) (published : Publishes steps call rows old new) (books : Books old put given) where
   sets_are : new.marks.sets ≡ set old.marks.sets published.slot rows
   sets_are = ap (λ (m : Marks). m.sets) published.marks
 
@@ -140,7 +140,7 @@ module _ (steps : ℕ) (call : Call) (rows : List Row) (old new : Caller) (put :
 
 -- what a reclaiming call gives out is what its slot had
 module _ {Room : Type 0} (shows : Room → List Row → Type 0) (others : ℕ) (call : Call) (rows : List Row) (old new : Caller) (before after : Room) (put : List (List Row)) (given : List Given) (books : Books old put given) where
-  gives_what_it_had : (steps : ℕ) (published : Publishes (others + steps) old call rows new) (answer : Reclaimed) → HandsOutAt shows old.table (spare_of old) old.marks published.slot before after steps answer
+  gives_what_it_had : (steps : ℕ) (published : Publishes (others + steps) call rows old new) (answer : Reclaimed) → HandsOutAt shows old.table (spare_of old) old.marks published.slot before after steps answer
       → (numbers (given_by old published.slot answer) ≡ had_number old published.slot) × ((at : ℕ) (one : Given) → get_elem? (given_by old published.slot answer) at ≡ some one → HasItsRows put one)
   gives_what_it_had steps published reclaimed.Set hands =
       let low : published.slot < old.fresh = omega (arith, published.inside, hands.0) in let slot : ℕ = published.slot in (
@@ -161,7 +161,7 @@ module _ {Room : Type 0} (shows : Room → List Row → Type 0) (others : ℕ) (
         λ at one there. absurd (some-ne-none one (sym there)),
       )
 
-  gave_back : (steps : ℕ) (published : Publishes (others + steps) old call rows new) (answer : Reclaimed) → HandsOutAt shows old.table (spare_of old) old.marks published.slot before after steps answer
+  gave_back : (steps : ℕ) (published : Publishes (others + steps) call rows old new) (answer : Reclaimed) → HandsOutAt shows old.table (spare_of old) old.marks published.slot before after steps answer
       → Books new (put ++ rows ∷ []) (given ++ given_by old published.slot answer)
   gave_back steps published answer hands = let gives = gives_what_it_had steps published answer hands in
       put_goes_on (others + steps) call rows old new put given published books (given_by old published.slot answer) gives.0 gives.1
@@ -211,11 +211,11 @@ module _ (old new : Caller) (put : List (List Row)) (given : List Given) (books 
     gave = books.gave;
   })
 
-  quiet_goes_on : (steps : ℕ) (call : Call) (answer : Reply) → is_done answer ≡ false → Gains steps old call answer new → SlotsStay old new → Books new (put ++ []) (given ++ [])
+  quiet_goes_on : (steps : ℕ) (call : Call) (answer : Reply) → is_done answer ≡ false → Gains steps call old new answer → SlotsStay old new → Books new (put ++ []) (given ++ [])
   quiet_goes_on steps call answer quiet gains stays = books_stay (quiet_leaves_lem steps call answer old new (numbers given) quiet gains stays books.ledger) gains.number gains.table
       (ap (λ (s : Spare). s.fresh) stays.0) (ap (λ (m : Marks). m.puts) stays.1) (ap (λ (m : Marks). m.sets) stays.1) (ap (λ (m : Marks). m.reaped) stays.1) (quiet_puts steps call answer old new quiet gains)
 
-  without_goes_on : (steps : ℕ) (call : Call) (counts : NoSlot) → HasNoSlot steps old call counts new → Books new (put ++ []) (given ++ [])
+  without_goes_on : (steps : ℕ) (call : Call) (counts : NoSlot) → HasNoSlot steps call old new counts → Books new (put ++ []) (given ++ [])
   without_goes_on steps call counts without = books_stay (no_slot_leaves_lem steps call counts old new (numbers given) without books.ledger) without.grows.number without.grows.table
       (ap (λ (s : Spare). s.fresh) without.slots) (ap (λ (m : Marks). m.puts) without.marks) (ap (λ (m : Marks). m.sets) without.marks) (ap (λ (m : Marks). m.reaped) without.marks)
       (ap put_count (without.grows.mine ∙ append-nil old.mine))

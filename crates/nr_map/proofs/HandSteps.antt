@@ -70,7 +70,7 @@ looks_not key other held says is apart silent = ap (λ (o : Option ℕ). looks_f
 -- a look by a hand that holds a set, after which it goes on
 module _ (key word : ℕ) (old asked new : Handed) (looks : looks_first key old.key old.reader.says ≡ true) (table : asked.reader.table ≡ old.reader.table) (number : asked.reader.number ≡ old.reader.number) (says : asked.reader.says ≡ old.reader.says)
     (key_is : asked.key ≡ old.key) (marks : asked.reader.marks ≡ with_look old.reader.marks key (name_number word))
-    (grown : (answer : Reply) (m sum : ℕ) → sum ≡ 1 + m → Gains m asked.reader (model.Find key) answer new.reader → Gains sum old.reader (model.Find key) answer new.reader) where
+    (grown : (answer : Reply) (m sum : ℕ) → sum ≡ 1 + m → Gains m (model.Find key) asked.reader new.reader answer → Gains sum (model.Find key) old.reader new.reader answer) where
   same_words : finds_by_word asked.reader ≡ finds_by_word old.reader
   same_words = λ j. nat_lt (number j - 1) (table j).announcers
 
@@ -111,7 +111,7 @@ module _ (key word : ℕ) (old asked new : Handed) (looks : looks_first key old.
       (λ _ goes. let so = goes_so goes in
       let takes' : HeldIn (finds_by_word old.reader) (name_number word ∷ named) new.reader.says steps = subst (λ (p : Bool × Bool). HeldIn p.0 (cond {A = List ℕ} p.1 (name_number word ∷ []) [] ++ named) new.reader.says steps) (λ j. (same_words j, goes j)) takes in
       let some = some_held (finds_by_word old.reader) (name_number word ∷ named) new.reader.says steps takes' in
-      let gains' = subst (λ (b : Bool). Gains (steps + cond {A = ℕ} b 0 2 - 1) asked.reader (model.Find key) (reply.Rows new.rows) new.reader) goes gains in (
+      let gains' = subst (λ (b : Bool). Gains (steps + cond {A = ℕ} b 0 2 - 1) (model.Find key) asked.reader new.reader (reply.Rows new.rows)) goes gains in (
         0,
         [],
         record { steps = steps; named = name_number word ∷ named; says = new.reader.says; holds_in = takes'; looks = loads_on named loads; gains = grown (reply.Rows new.rows) (steps + 0 - 1) (steps + (0 + 0)) (omega (arith, some)) gains' },
@@ -121,7 +121,7 @@ module _ (key word : ℕ) (old asked new : Handed) (looks : looks_first key old.
       ))
       (λ _ stays.
       let takes' : HeldIn (finds_by_word old.reader) named new.reader.says steps = subst (λ (p : Bool × Bool). HeldIn p.0 (cond {A = List ℕ} p.1 (name_number word ∷ []) [] ++ named) new.reader.says steps) (λ j. (same_words j, stays j)) takes in
-      let gains' = subst (λ (b : Bool). Gains (steps + cond {A = ℕ} b 0 2 - 1) asked.reader (model.Find key) (reply.Rows new.rows) new.reader) stays gains in (
+      let gains' = subst (λ (b : Bool). Gains (steps + cond {A = ℕ} b 0 2 - 1) (model.Find key) asked.reader new.reader (reply.Rows new.rows)) stays gains in (
         2,
         name_number word ∷ [],
         record { steps = steps; named = named; says = new.reader.says; holds_in = takes'; looks = loads_on named loads; gains = grown (reply.Rows new.rows) (steps + 2 - 1) (steps + (2 + 0)) (omega arith) gains' },
@@ -135,7 +135,7 @@ module _ (key word : ℕ) (old asked new : Handed) (looks : looks_first key old.
       (λ _ goes. let so = goes_so goes in
       let takes' : HoleIn (finds_by_word old.reader) (name_number word ∷ named) steps = subst (λ (p : Bool × Bool). HoleIn p.0 (cond {A = List ℕ} p.1 (name_number word ∷ []) [] ++ named) steps) (λ j. (same_words j, goes j)) takes in
       let some = some_hole (finds_by_word old.reader) (name_number word ∷ named) steps takes' in
-      let gains' = subst (λ (b : Bool). Gains (steps + cond {A = ℕ} b 0 2 - 1) asked.reader (model.Find key) reply.Hole new.reader) goes gains in (
+      let gains' = subst (λ (b : Bool). Gains (steps + cond {A = ℕ} b 0 2 - 1) (model.Find key) asked.reader new.reader reply.Hole) goes gains in (
         0,
         [],
         record { steps = steps; named = name_number word ∷ named; finds_in = takes'; looks = loads_on named loads; gains = grown reply.Hole (steps + 0 - 1) (steps + 0) (omega (arith, some)) gains' },
@@ -144,7 +144,7 @@ module _ (key word : ℕ) (old asked new : Handed) (looks : looks_first key old.
       ))
       (λ _ stays.
       let takes' : HoleIn (finds_by_word old.reader) named steps = subst (λ (p : Bool × Bool). HoleIn p.0 (cond {A = List ℕ} p.1 (name_number word ∷ []) [] ++ named) steps) (λ j. (same_words j, stays j)) takes in
-      let gains' = subst (λ (b : Bool). Gains (steps + cond {A = ℕ} b 0 2 - 1) asked.reader (model.Find key) reply.Hole new.reader) stays gains in (
+      let gains' = subst (λ (b : Bool). Gains (steps + cond {A = ℕ} b 0 2 - 1) (model.Find key) asked.reader new.reader reply.Hole) stays gains in (
         2,
         name_number word ∷ [],
         record { steps = steps; named = named; finds_in = takes'; looks = loads_on named loads; gains = grown reply.Hole (steps + 2 - 1) (steps + 2) (omega arith) gains' },
@@ -154,10 +154,10 @@ module _ (key word : ℕ) (old asked new : Handed) (looks : looks_first key old.
 
 -- a hand that asked in vain goes on
 module _ (key word : ℕ) (old asked new : Handed) (vain : AsksInVain key old asked) (held : old.key ≡ Some key) (marks : asked.reader.marks ≡ with_look old.reader.marks key (name_number word)) where
-  asked_before : (more : ℕ) (entries : List Entry) (named : List ℕ) → Grows more asked.reader entries new.reader → new.reader.marks.loads ≡ asked.reader.marks.loads ++ looks_at key named → AskedBefore key old new
+  asked_before : (more : ℕ) (entries : List Entry) (named : List ℕ) → Grows more entries asked.reader new.reader → new.reader.marks.loads ≡ asked.reader.marks.loads ++ looks_at key named → AskedBefore key old new
   asked_before more entries named grows loads = (asked, vain, record { rest = grows.between ++ entries; is = grows.seen ∙ append_assoc asked.reader.seen grows.between entries }, (looks_at key named, loads))
 
-  went_on : (answer : Reply) (m sum : ℕ) → sum ≡ 1 + m → Gains m asked.reader (model.Find key) answer new.reader → Gains sum old.reader (model.Find key) answer new.reader
+  went_on : (answer : Reply) (m sum : ℕ) → sum ≡ 1 + m → Gains m (model.Find key) asked.reader new.reader answer → Gains sum (model.Find key) old.reader new.reader answer
   went_on answer m sum is gains = grows_gains 1 m sum old.reader asked.reader new.reader (model.Find key) answer is vain.grows gains
 
   pub asked_anew : (answer : Bool) → MovesByHand key word asked new answer → KeepsAnew key old new answer
@@ -169,7 +169,7 @@ module _ (key word other : ℕ) (old ahead new : Handed) (held : old.key ≡ Som
   rests : Rests 1 old.reader ahead.reader
   rests = subst (Rests 1 old.reader) (sym look) (record { table = refl; number = refl; seen = refl; mine = refl; steps_made = refl; pasts = refl })
 
-  gains_on : (answer : Reply) (m sum : ℕ) → sum ≡ 1 + m → Gains m ahead.reader (model.Find key) answer new.reader → Gains sum old.reader (model.Find key) answer new.reader
+  gains_on : (answer : Reply) (m sum : ℕ) → sum ≡ 1 + m → Gains m (model.Find key) ahead.reader new.reader answer → Gains sum (model.Find key) old.reader new.reader answer
   gains_on answer m sum is gains = rests_gains 1 m sum old.reader ahead.reader new.reader (model.Find key) answer is rests gains
 
   pub looked_anew : (answer : Bool) → MovesByHand key word ahead new answer → KeepsAnew key old new answer
@@ -184,7 +184,7 @@ module _ (key : ℕ) (old new : Handed) (apart : old.key ≢ Some key) (looks : 
   pub pinned_anew : (answer : Bool) → PinsByHand key old new answer → KeepsAnew key old new answer
   pinned_anew true (finds, holds, says) = (
     (λ own. absurd (apart own)),
-    (steps_to_depart old.key, [], record { steps = finds.steps; named = finds.named; says = finds.says; holds_in = finds.holds_in; looks = finds.looks; gains = subst (λ (n : ℕ). Gains (finds.steps + n) old.reader (model.Find key) (reply.Rows new.rows) new.reader) (no_more (steps_to_depart old.key)) finds.gains }, inl (looks, refl, refl), holds, says),
+    (steps_to_depart old.key, [], record { steps = finds.steps; named = finds.named; says = finds.says; holds_in = finds.holds_in; looks = finds.looks; gains = subst (λ (n : ℕ). Gains (finds.steps + n) (model.Find key) old.reader new.reader (reply.Rows new.rows)) (no_more (steps_to_depart old.key)) finds.gains }, inl (looks, refl, refl), holds, says),
   )
   pinned_anew false (finds, holds) = ((λ own. absurd (apart own)), (steps_to_depart old.key, [], finds, inl (looks, refl, refl), holds))
 
@@ -213,7 +213,7 @@ pinned_late key word old new answer held silent pins = late answer pins
       finds.steps,
       finds.named,
       subst (λ (p : Bool × ℕ). HeldIn (finds_by_word old.reader) (cond {A = List ℕ} p.0 (name_number word ∷ []) [] ++ finds.named) p.1 finds.steps) (λ j. (sym stays j, sym says j)) finds.holds_in,
-      subst (λ (n : ℕ). Gains n old.reader (model.Find key) (reply.Rows new.rows) new.reader) (steps_so finds.steps) finds.gains,
+      subst (λ (n : ℕ). Gains n (model.Find key) old.reader new.reader (reply.Rows new.rows)) (steps_so finds.steps) finds.gains,
       holds,
       finds.looks,
     )
@@ -221,7 +221,7 @@ pinned_late key word old new answer held silent pins = late answer pins
       finds.steps,
       finds.named,
       subst (λ (b : Bool). HoleIn (finds_by_word old.reader) (cond {A = List ℕ} b (name_number word ∷ []) [] ++ finds.named) finds.steps) (sym stays) finds.finds_in,
-      subst (λ (n : ℕ). Gains n old.reader (model.Find key) reply.Hole new.reader) (steps_so finds.steps) finds.gains,
+      subst (λ (n : ℕ). Gains n (model.Find key) old.reader new.reader reply.Hole) (steps_so finds.steps) finds.gains,
       holds,
       finds.looks,
     )
@@ -232,7 +232,7 @@ anew_keeps key old new false anew = anew
 
 -- what a look and a load tell of the hand, whose seat they are made by
 module _ (key : ℕ) (before after : MapSeat) (held : Option Kept) (role : after.me.0.role ≡ before.me.0.role) (says : after.me.0.says ≡ before.me.0.says) where
-  pub looked_in_vain : (slot word : ℕ) → (token before).holds ≡ Some slot → names_slot slot word ≡ false → Grows 1 (token before) [] (token after) → (names_slot slot word ≡ true) ↔ HasPut key before.me.0.marks.put (token after)
+  pub looked_in_vain : (slot word : ℕ) → (token before).holds ≡ Some slot → names_slot slot word ≡ false → Grows 1 [] (token before) (token after) → (names_slot slot word ≡ true) ↔ HasPut key before.me.0.marks.put (token after)
       → after.me.0.marks ≡ found_again (names_slot slot word) (with_look before.me.0.marks key (name_number word)) → AsksInVain key (handed before held) (handed after held) × (after.me.0.marks ≡ with_look before.me.0.marks key (name_number word))
   looked_in_vain slot word grips gone grows exact marks = let is = marks ∙ ap (λ (b : Bool). found_again b (with_look before.me.0.marks key (name_number word))) gone in (
     record {

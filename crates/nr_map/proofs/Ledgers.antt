@@ -216,7 +216,7 @@ stands_after_reap_lem shows old new before after reader = (
   λ nothing stands. subst (λ (c : Caller). StandsYet c reader) (sym nothing.1) stands,
 )
 
-module _ (steps : ℕ) (call : Call) (rows : List Row) (old new : Caller) (gone : List ℕ) (writes : old.number ≡ 0) (published : Publishes steps old call rows new) (ledger : Ledger old gone) where
+module _ (steps : ℕ) (call : Call) (rows : List Row) (old new : Caller) (gone : List ℕ) (writes : old.number ≡ 0) (published : Publishes steps call rows old new) (ledger : Ledger old gone) where
   pub put_now : put_count new.mine ≡ put_count old.mine + 1
   put_now = ap put_count published.gains.mine ∙ total-append puts_set old.mine (entry old.number call reply.Done ∷ [])
 
@@ -392,7 +392,7 @@ opening_begins_lem shape words map writer readers opened = let size : shape.slot
 
 -- CALLS THAT PUT NOTHING
 
-pub quiet_puts : (steps : ℕ) (call : Call) (answer : Reply) (old new : Caller) → is_done answer ≡ false → Gains steps old call answer new → put_count new.mine ≡ put_count old.mine
+pub quiet_puts : (steps : ℕ) (call : Call) (answer : Reply) (old new : Caller) → is_done answer ≡ false → Gains steps call old new answer → put_count new.mine ≡ put_count old.mine
 quiet_puts steps call answer old new quiet gains = let none : puts_set (entry old.number call answer) ≡ 0 = ap (λ (b : Bool). cond {A = ℕ} b 1 0) quiet in
     omega (arith, ap put_count gains.mine, total-append puts_set old.mine (entry old.number call answer ∷ []), none)
 

@@ -34,7 +34,7 @@ no_slot_lem law steps call counts old new after readers all known counted withou
     lists gathered.current (let room = lists.room in omega arith)
 
 -- the number of the set that a call put is none of those before the call
-takes_so : (steps : ℕ) (old : Caller) (call : Call) (rows : List Row) (new : Caller) → Publishes steps old call rows new → TookSpare old.table.shape (desk_seen old) new.marks old.seen
+takes_so : (steps : ℕ) (old : Caller) (call : Call) (rows : List Row) (new : Caller) → Publishes steps call rows old new → TookSpare old.table.shape (desk_seen old) new.marks old.seen
 takes_so steps old call rows new published = ⊎_elim (λ fresh. inl fresh.0)
     (λ again. let grows = published.gains in
     let all : put_count new.seen ≡ put_count ((old.seen ++ grows.between) ++ entry old.number call reply.Done ∷ []) = ap put_count grows.seen in

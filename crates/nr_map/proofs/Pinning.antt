@@ -120,7 +120,7 @@ module _ {Room : Type 0} (shows : Room → List Row → Type 0) (key : ℕ) (old
               says = f.says;
               holds_in = f.holds_in;
               looks = ap (λ (m : Marks). m.loads) copies.marks ∙ f.looks;
-              gains = subst (λ (rows : List Row). Gains (f.steps + (so.0 + 2 * length new.rows)) old.reader (model.Find key) (reply.Rows rows) new.reader) (sym copies.rows)
+              gains = subst (λ (rows : List Row). Gains (f.steps + (so.0 + 2 * length new.rows)) (model.Find key) old.reader new.reader (reply.Rows rows)) (sym copies.rows)
                   (grows_rests (f.steps + (so.0 + 0)) (2 * length mid.rows) (f.steps + (so.0 + 2 * length new.rows)) old.reader (entry old.reader.number (model.Find key) (reply.Rows mid.rows) ∷ []) mid.reader new.reader
                   (omega (arith, ap (λ (l : List Row). length l) copies.rows)) f.gains copies.rests);
             },

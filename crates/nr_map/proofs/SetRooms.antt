@@ -17,7 +17,7 @@ module _ (key : ℕ) (old new : Caller) (before after : List Row) where
   finds_set found.Hole told = told
 
   pub looks_set : (answer : Found) → LooksIn (λ (room rows : List Row). room ≡ rows) key old before new after answer → LooksAt key old before new after answer
-  looks_set found.Rows (rows, gains, stay, same, held) = (subst (λ (set : List Row). Gains (2 * length set + 2) old (model.Find key) (reply.Rows set) new) (sym same) gains, stay)
+  looks_set found.Rows (rows, gains, stay, same, held) = (subst (λ (set : List Row). Gains (2 * length set + 2) (model.Find key) old new (reply.Rows set)) (sym same) gains, stay)
   looks_set found.Hole told = told
 
   -- of rows that the find found, and no others

@@ -207,7 +207,7 @@ finds_written_lem map before later put key caller found near puts_it legal =
     }
 
 -- the history in which who heard a note finds a key
-module _ (old asking new : Caller) (note : Known) (key steps : ℕ) (found : Reply) (heard : HeardBefore old note asking) (gains : Gains steps asking (Find key) found new) where
+module _ (old asking new : Caller) (note : Known) (key steps : ℕ) (found : Reply) (heard : HeardBefore note old asking) (gains : Gains steps (Find key) asking new found) where
   abbrev find : Entry
   find = entry asking.number (Find key) found
 

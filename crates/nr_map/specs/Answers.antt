@@ -22,7 +22,7 @@ abbrev pub FindsByCounts : Type 0
 FindsByCounts =
     (more key : ℕ) (rows : List Row) (old new : Caller) →
     old.table.announcers ≡ 0 →
-    (FindsRows more key rows old new → Gains (2 + more) old (model.Find key) (reply.Rows rows) new) × (FindsHole more key old new → Gains (1 + more) old (model.Find key) reply.Hole new)
+    (FindsRows more key rows old new → Gains (2 + more) (model.Find key) old new (reply.Rows rows)) × (FindsHole more key old new → Gains (1 + more) (model.Find key) old new reply.Hole)
 
 -- a find into any room: on a hole it stays; else it shows all rows of the reply, which ascend and are at most the map's rows
 abbrev pub FindsIn : {Room : Type 0} → (Room → List Row → Type 0) → ℕ → Caller → Room → Caller → Room → Found → Type 0
@@ -41,6 +41,6 @@ marks_found found.Hole marks put = acted marks put
 
 -- a request: a ticket comes with Send alone, and has the map, the key and the number of the reply
 abbrev pub AsksKey : ℕ → Caller → Caller → Asked → Type 0
-AsksKey key old new (asked.Send ticket) = Gains 1 old (model.Ask key) (reply.Send ticket.number) new × (ticket.table ≡ old.table) × (ticket.key ≡ key)
-AsksKey key old new asked.Waiting = Gains 1 old (model.Ask key) reply.Waiting new
-AsksKey key old new asked.Filled = Gains 1 old (model.Ask key) reply.Filled new
+AsksKey key old new (asked.Send ticket) = Gains 1 (model.Ask key) old new (reply.Send ticket.number) × (ticket.table ≡ old.table) × (ticket.key ≡ key)
+AsksKey key old new asked.Waiting = Gains 1 (model.Ask key) old new reply.Waiting
+AsksKey key old new asked.Filled = Gains 1 (model.Ask key) old new reply.Filled

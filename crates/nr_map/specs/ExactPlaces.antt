@@ -35,7 +35,7 @@ NoSlotMeansAllInUse =
     AllReaders old.table.shape.readers readers →
     AllKnown old.pasts readers →
     old.table.announcers ≡ 0 →
-    HasNoSlot steps old call counts new →
+    HasNoSlot steps call old new counts →
     OnlyLearnt new after →
     HasGathered after readers →
     in_use after readers ≡ after.table.shape.slots
@@ -45,7 +45,7 @@ abbrev pub DoneMeansFewerInUse : Type 0
 DoneMeansFewerInUse =
     (steps : ℕ) (call : Call) (rows : List Row) (old new after : Caller) (readers : List Past) →
     HasGathered old readers →
-    Publishes steps old call rows new →
+    Publishes steps call rows old new →
     OnlyLearnt new after →
     AllCurrent after.retired after.marks readers →
     in_use old readers < old.table.shape.slots

@@ -52,8 +52,8 @@ module _ {Room : Type 0} (shows : Room → List Row → Type 0) where
     Evicts : (key : ℕ) (old new : Caller) (answer : Evict) → EvictsKey key old new answer → Deals old [] [] new
     Cancels : (key : ℕ) (old new : Caller) (answer : Cancel) → CancelsKey key old new answer → Deals old [] [] new
     -- a find of the writer's own, and a plain call that its key refuses, or that finds no slot
-    Quiet : (steps : ℕ) (call : Call) (answer : Reply) (old new : Caller) → is_done answer ≡ false → Gains steps old call answer new → SlotsStay old new → Deals old [] [] new
-    Lacks : (steps : ℕ) (call : Call) (counts : NoSlot) (old new : Caller) → HasNoSlot steps old call counts new → Deals old [] [] new
+    Quiet : (steps : ℕ) (call : Call) (answer : Reply) (old new : Caller) → is_done answer ≡ false → Gains steps call old new answer → SlotsStay old new → Deals old [] [] new
+    Lacks : (steps : ℕ) (call : Call) (counts : NoSlot) (old new : Caller) → HasNoSlot steps call old new counts → Deals old [] [] new
     -- a meeting, a note that is heard, a key's state, a count of slots
     LearnsMore : (steps : ℕ) (old new : Caller) → Learns steps old new → Deals old [] [] new
     -- a note that is made, a meeting by which another token learns

@@ -110,7 +110,7 @@ PinsByHand key old new false = FindsHole (steps_to_depart old.key) key old.reade
 -- the key has the set still that the hand holds, and the find is answered with its rows in that many steps; nothing is let go
 pub record FindsHeld (steps key : ℕ) (old new : Handed) : Type 0 where
   pub held : old.key ≡ Some key
-  pub gains : Gains steps old.reader (model.Find key) (reply.Rows old.rows) new.reader
+  pub gains : Gains steps (model.Find key) old.reader new.reader (reply.Rows old.rows)
   pub put : HasPut key old.reader.marks.put new.reader
   pub key_is : new.key ≡ old.key
   pub rows : new.rows ≡ old.rows
@@ -120,7 +120,7 @@ pub record FindsHeld (steps key : ℕ) (old new : Handed) : Type 0 where
 
 -- the hand asked, in 1 step that is no entry, and the key had another set or none
 pub record AsksInVain (key : ℕ) (old new : Handed) : Type 0 where
-  pub grows : Grows 1 old.reader [] new.reader
+  pub grows : Grows 1 [] old.reader new.reader
   pub other : HasPut key old.reader.marks.put new.reader → ⊥
   pub key_is : new.key ≡ old.key
   pub rows : new.rows ≡ old.rows
@@ -161,10 +161,10 @@ late_by says word = (if goes_on says word then 0 else 2)
 -- so after that look
 abbrev pub MovesByHand : ℕ → ℕ → Handed → Handed → Bool → Type 0
 MovesByHand key word old new true =
-    (steps : ℕ) × (named : List ℕ) × HeldIn (finds_by_word old.reader) (first_by old.reader.says word ++ named) new.reader.says steps × Gains (steps + late_by old.reader.says word - 1) old.reader (model.Find key) (reply.Rows new.rows) new.reader
+    (steps : ℕ) × (named : List ℕ) × HeldIn (finds_by_word old.reader) (first_by old.reader.says word ++ named) new.reader.says steps × Gains (steps + late_by old.reader.says word - 1) (model.Find key) old.reader new.reader (reply.Rows new.rows)
     × HoldsKey key old new × (new.reader.marks.loads ≡ old.reader.marks.loads ++ looks_at key named)
 MovesByHand key word old new false =
-    (steps : ℕ) × (named : List ℕ) × HoleIn (finds_by_word old.reader) (first_by old.reader.says word ++ named) steps × Gains (steps + late_by old.reader.says word - 1) old.reader (model.Find key) reply.Hole new.reader
+    (steps : ℕ) × (named : List ℕ) × HoleIn (finds_by_word old.reader) (first_by old.reader.says word ++ named) steps × Gains (steps + late_by old.reader.says word - 1) (model.Find key) old.reader new.reader reply.Hole
     × HoldsNothing key old new × (new.reader.marks.loads ≡ old.reader.marks.loads ++ looks_at key named)
 
 -- whether a hand that keeps its hold, and whose reader's word says that, looks at the key before it lets anything go: it holds a set of the key, or another one by the word

@@ -32,6 +32,6 @@ PinsKey key old (Ok pin) = (finds : FindsRows 0 key pin.rows old pin.reader) × 
 PinsKey key old (Err reader) = (finds : FindsHole 0 key old reader) × (reader.marks ≡ acted (looked old.marks key finds.named) (put_number reader.seen key)) × (reader.holds ≡ None) × (reader.says ≡ 0)
 
 -- a find by a pin: where the key has the set that the pin holds, it is answered with its rows; else it is no entry, and the pin learns the history so far
-abbrev pub FindsByPin : ℕ → Caller → List Row → Caller → Bool → Type 0
-FindsByPin key old rows new true = Gains 1 old (model.Find key) (reply.Rows rows) new
-FindsByPin key old rows new false = Grows 1 old [] new
+abbrev pub FindsByPin : ℕ → List Row → Caller → Caller → Bool → Type 0
+FindsByPin key rows old new true = Gains 1 (model.Find key) old new (reply.Rows rows)
+FindsByPin key rows old new false = Grows 1 [] old new

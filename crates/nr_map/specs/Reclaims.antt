@@ -46,7 +46,7 @@ abbrev pub HandedOutOnce : Type 0
 HandedOutOnce =
     (steps : ℕ) (call : Call) (rows : List Row) (old new : Caller) (gone : List ℕ) →
     old.number ≡ 0 →
-    (published : Publishes steps old call rows new) →
+    (published : Publishes steps call rows old new) →
     Ledger old gone →
     Ledger new (gone ++ had_number old published.slot)
 
@@ -87,7 +87,7 @@ abbrev pub QuietLeaves : Type 0
 QuietLeaves =
     (steps : ℕ) (call : Call) (answer : Reply) (old new : Caller) (gone : List ℕ) →
     is_done answer ≡ false →
-    Gains steps old call answer new →
+    Gains steps call old new answer →
     SlotsStay old new →
     Ledger old gone →
     Ledger new gone
@@ -96,7 +96,7 @@ QuietLeaves =
 abbrev pub NoSlotLeaves : Type 0
 NoSlotLeaves =
     (steps : ℕ) (call : Call) (counts : NoSlot) (old new : Caller) (gone : List ℕ) →
-    HasNoSlot steps old call counts new →
+    HasNoSlot steps call old new counts →
     Ledger old gone →
     Ledger new gone
 

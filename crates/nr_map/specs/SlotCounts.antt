@@ -21,6 +21,6 @@ pub record CountsSlots (old new : Caller) (counts : SlotCounts) : Type 0 where
 abbrev pub CountsAtNoSlot : Type 0
 CountsAtNoSlot =
     (steps : ℕ) (call : Call) (answered : NoSlot) (old new after : Caller) (counts : SlotCounts) →
-    HasNoSlot steps old call answered new →
+    HasNoSlot steps call old new answered →
     CountsSlots new after counts →
     counts ≡ record { filled = answered.live; retired = answered.held; free = 0 }

@@ -56,10 +56,10 @@ FindsWritten =
     FindsPut map key (before ++ put ∷ []) later found
 
 -- the caller heard the note, and made whatever calls then
-pub record HeardBefore (old : Caller) (note : Known) (asking : Caller) : Type 0 where
+pub record HeardBefore (note : Known) (old asking : Caller) : Type 0 where
   pub steps : ℕ
   pub heard : Caller
-  pub hears : HearsNote steps old note heard
+  pub hears : HearsNote steps note old heard
   pub table : asking.table ≡ heard.table
   pub seen : StartsWith asking.seen heard.seen
 
@@ -70,8 +70,8 @@ FindsWhatItHeard =
     key < old.table.shape.keys →
     note.seen ≡ (before ++ put ∷ []) ++ since →
     puts_at key put ≡ true →
-    HeardBefore old note asking →
-    Gains steps asking (model.Find key) found new →
+    HeardBefore note old asking →
+    Gains steps (model.Find key) asking new found →
     (more : List Entry) × (new.seen ≡ ((before ++ put ∷ []) ++ (since ++ more)) ++ entry asking.number (model.Find key) found ∷ []) × FindsPut (map_at_opening old.table) key (before ++ put ∷ []) (since ++ more) found
 
 -- a find's answer: the rows that it found, or a hole
@@ -91,10 +91,10 @@ FindsAfter table key told found =
 abbrev pub ReadsNoOlder : Type 0
 ReadsNoOlder =
     (old asking new : Caller) (note : Known) (key steps : ℕ) (found : Reply) →
-    HeardBefore old note asking →
-    Gains steps asking (model.Find key) found new →
+    HeardBefore note old asking →
+    Gains steps (model.Find key) asking new found →
     (log : List Entry) × StartsWith log note.seen × (new.seen ≡ log ++ entry asking.number (model.Find key) found ∷ []) × IsLegal (map_at_opening old.table) log × (found ≡ find_reply (state_of (after (map_at_opening old.table) log) key))
 
 -- who hears a note has all calls that its maker had made
 abbrev pub HearsAllCalls : Type 0
-HearsAllCalls = (steps : ℕ) (old maker new : Caller) → KnowsOwn maker → HearsNote steps old (known_to maker) new → Meets steps old maker new
+HearsAllCalls = (steps : ℕ) (old maker new : Caller) → KnowsOwn maker → HearsNote steps (known_to maker) old new → Meets steps maker old new

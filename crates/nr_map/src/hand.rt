@@ -284,7 +284,7 @@ impl Hand {
     /// Its reader learns, in 1 step, all that the note's maker had seen. What is held stays held.
     pub fn hear(&mut self, map: &ReaderMap, note: Note)
         requires own { (self.old.reader.table ≡ map.now) × (note.table ≡ map.now) }
-        ensures reader { HearsNote 1 self.old.reader note self.new.reader }
+        ensures reader { HearsNote 1 note self.old.reader self.new.reader }
         ensures held { (self.new.key ≡ self.old.key) × (self.new.rows ≡ self.old.rows) }
     {
         self.caller.hear(map, note);

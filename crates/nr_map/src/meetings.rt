@@ -24,7 +24,7 @@ impl ReaderMap {
     /// and else stays as it is.
     pub fn meet(&self, reader: &mut Reader, writer: &mut Writer)
         requires own { (reader.old.table ≡ self.now) × (writer.old.table ≡ self.now) }
-        ensures reader { Meets 1 reader.old writer.old reader.new }
+        ensures reader { Meets 1 writer.old reader.old reader.new }
         ensures writer { writer.new ≡ with_step writer.old }
     {
         self.board.hear(&mut reader.caller.seat, &mut writer.seat);
@@ -34,7 +34,7 @@ impl ReaderMap {
     /// step, and else stays as it is.
     pub fn meet_readers(&self, reader: &mut Reader, other: &mut Reader)
         requires own { (reader.old.table ≡ self.now) × (other.old.table ≡ self.now) }
-        ensures reader { Meets 1 reader.old other.old reader.new }
+        ensures reader { Meets 1 other.old reader.old reader.new }
         ensures other { other.new ≡ with_step other.old }
     {
         self.board

@@ -68,7 +68,7 @@ impl ReaderMap {
     /// The reader learns, in 1 step, all that the note's maker had seen.
     pub fn hear(&self, reader: &mut Reader, note: Note)
         requires own { (reader.old.table ≡ self.now) × (note.table ≡ self.now) }
-        ensures { HearsNote 1 reader.old note reader.new }
+        ensures { HearsNote 1 note reader.old reader.new }
     {
         reader.caller.hear(self, note);
     }
@@ -76,7 +76,7 @@ impl ReaderMap {
     /// The writer learns the same.
     pub fn hear_writer(&self, writer: &mut Writer, note: Note)
         requires own { (writer.old.table ≡ self.now) × (note.table ≡ self.now) }
-        ensures { HearsNote 1 writer.old note writer.new }
+        ensures { HearsNote 1 note writer.old writer.new }
     {
         self.board.hear_note(&mut writer.seat, note.told);
     }
@@ -84,7 +84,7 @@ impl ReaderMap {
     /// So does a reader that holds a set, which it keeps.
     pub fn hear_pin(&self, pin: &mut Pin, note: Note)
         requires own { (pin.old.reader.table ≡ self.now) × (note.table ≡ self.now) }
-        ensures reader { HearsNote 1 pin.old.reader note pin.new.reader }
+        ensures reader { HearsNote 1 note pin.old.reader pin.new.reader }
         ensures rows { pin.new.rows ≡ pin.old.rows }
     {
         pin.caller.hear(self, note);

@@ -105,7 +105,7 @@ impl Pin {
         requires own { self.old.reader.table ≡ map.now }
         requires key { key < map.now.shape.keys }
         ensures own { self.new.reader.table ≡ map.now }
-        ensures finds { FindsByPin key self.old.reader self.old.rows self.new.reader result }
+        ensures finds { FindsByPin key self.old.rows self.old.reader self.new.reader result }
         ensures exact { (result ≡ true) ↔ HasPut key self.old.reader.marks.put self.new.reader }
         ensures rows { self.new.rows ≡ self.old.rows }
         ensures holds { self.new.reader.holds ≡ self.old.reader.holds }

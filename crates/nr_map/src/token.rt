@@ -83,7 +83,7 @@ impl Token {
         ensures own { self.new.own ≡ self.old.own }
         ensures held { HeldAs map.now held self.new.seat }
         ensures role { (view_of self.new.seat).role ≡ (view_of self.old.seat).role }
-        ensures finds { FindsByPin key (token self.old.seat) (rows_held (view_of self.old.seat).role) (token self.new.seat) result }
+        ensures finds { FindsByPin key (rows_held (view_of self.old.seat).role) (token self.old.seat) (token self.new.seat) result }
         ensures exact { (result ≡ true) ↔ HasPut key (view_of self.old.seat).marks.put (token self.new.seat) }
         ensures marks { LooksAgain key (token self.old.seat).holds result (view_of self.old.seat).marks (view_of self.new.seat).marks }
     {
@@ -177,7 +177,7 @@ impl Token {
         requires own { ((token self.old.seat).table ≡ map.now) × (note.table ≡ map.now) }
         requires caller { IsCaller (view_of self.old.seat).role }
         ensures own { self.new.own ≡ self.old.own }
-        ensures hears { HearsNote 1 (token self.old.seat) note (token self.new.seat) }
+        ensures hears { HearsNote 1 note (token self.old.seat) (token self.new.seat) }
         ensures role { (view_of self.new.seat).role ≡ (view_of self.old.seat).role }
         ensures says { (view_of self.new.seat).says ≡ (view_of self.old.seat).says }
     {

@@ -79,7 +79,7 @@ module _ {A : Type 0} (role : A → Role) (marks : A → Marks) where
       → (desk desk' : Desk) → role me ≡ Writer desk
       → (after : Role) (entries : List Entry) → after ≡ Writer desk' → (now : Marks) (news : List Past) → AllSince role marks callers news → NotesPresent role marks callers (marks me).polls now.polls
       → Desked role marks shape (set words (target_of operation) (becomes operation (get_or words (target_of operation) 0))) callers (log ++ entries) desk' now
-      → tells (get_or words (target_of operation) 0) after (log ++ entries) now news → Remarked role marks shape words callers log id me operation after entries tells
+      → tells (get_or words (target_of operation) 0) after (log ++ entries) now news → Remarked role marks shape words callers log id operation me after entries tells
   writer_step shape id me operation tells words callers log core m at desk desk' was after entries is now news since noted own told = record {
     now = now;
     news = news;

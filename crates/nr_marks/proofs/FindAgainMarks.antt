@@ -59,7 +59,7 @@ module _ {A : Type 0} (role : A → Role) (marks : A → Marks) where
         let looked : Marks = with_look (marks me) key (name_number word) in
         let finish : (b : Bool) (told : List Entry) → names_slot slot word ≡ b → entries ≡ told → ((k : ℕ) → put_number (log ++ told) k ≡ put_number log k) → put_count (log ++ told) ≡ put_count log
         → (((marks me).acts < (found_again b looked).acts) × (b ≡ true)) ⊎ ((found_again b looked ≡ looked) × (b ≡ false)) → ((found_again b looked).put ≡ (marks me).put) → ((found_again b looked).polls ≡ (marks me).polls)
-        → ComparesPuts b word (marks me).put (put_number log key) → Remarked role marks shape words callers log id me (Load key) after entries tells
+        → ComparesPuts b word (marks me).put (put_number log key) → Remarked role marks shape words callers log id (Load key) me after entries tells
         = λ b told b_is is_entries numbers many moves same_put same_polls compares. let now = found_again b looked in
         let kept : (k : ℕ) → put_number (log ++ entries) k ≡ put_number log k = λ k. ap (λ l. put_number (log ++ l) k) is_entries ∙ numbers k in
         reader_step role marks shape id me known (Load key) (FindsAgain shape reader slot rows sized key) tells words callers log m at reader grip
@@ -67,7 +67,7 @@ module _ {A : Type 0} (role : A → Role) (marks : A → Marks) where
         (⊎_elim (λ (t : ((marks me).acts < now.acts) × (b ≡ true)). inr t.0) (λ (t : (now ≡ looked) × (b ≡ false)). inl (refl, ap (λ (k : Marks). k.acts) t.0, ap (λ (k : Marks). k.put) t.0)) moves)
         (λ j held u desk there writes t on. let kept = t.held id reader held me grip at was on in ((kept.0 ∙ sym same_put, kept.1), λ _. on)) (contents_loaded shape words key)
         (ap (λ (c : Bool). found_again c looked) (sym b_is), refl, subst (λ (p : Bool × ℕ). ComparesPuts p.0 word (marks me).put p.1) (λ i. (sym b_is i, sym (kept key) i)) compares) in
-        by_cases (λ _. Remarked role marks shape words callers log id me (Load key) after entries tells) (names_slot slot word)
+        by_cases (λ _. Remarked role marks shape words callers log id (Load key) me after entries tells) (names_slot slot word)
         (λ yes. let same : name_number word ≡ suc slot = eqb-true (name_number word) (suc slot) yes in
         finish true (e ∷ []) yes (ans.1 ∙ ap (λ (b : Bool). cond {A = List Entry} b (e ∷ []) []) yes) (λ k. quiet_number log e k refl)
         (quiet_count log e refl) (inl (omega arith, refl)) refl refl (sym (own.puts key slot near same).0 ∙ held_put))

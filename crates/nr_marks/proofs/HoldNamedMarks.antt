@@ -34,12 +34,12 @@ module _ {A : Type 0} (role : A → Role) (marks : A → Marks) (shape : Shape) 
       let word : ℕ = get_or words key 0 in let looked : Marks = with_look (marks me) key (name_number word) in let e = entry reader (model.Find key) reply.Hole in
       let finish : (now : Marks) (more : List Entry) → entries ≡ more → ((k : ℕ) → put_number (log ++ more) k ≡ put_number log k) → put_count (log ++ more) ≡ put_count log → now.polls ≡ (marks me).polls
       → ((now.acts ≡ (marks me).acts) × (now.put ≡ (marks me).put)) ⊎ ((marks me).acts < now.acts) → now ≡ cond (is_filled word) looked (acted looked (put_number (log ++ entries) key))
-      → Remarked role marks shape words callers log id me (Load key) after entries (LooksUpMarks (marks me) key)
+      → Remarked role marks shape words callers log id (Load key) me after entries (LooksUpMarks (marks me) key)
       = λ now more is numbers many polls moves told. reader_step role marks shape id me known (Load key) (LooksUp reader key) (LooksUpMarks (marks me) key) words callers log m at reader Nothing Nothing was after entries ans.0
       (λ k _. ap (λ l. name_number (get_or l k 0)) (set-get_or words key 0)) (λ k. ap (λ l. put_number (log ++ l) k) is ∙ numbers k) (ap (λ l. put_count (log ++ l)) is ∙ many) now polls
       (⊎_elim (λ (s : (now.acts ≡ (marks me).acts) × (now.put ≡ (marks me).put)). inl (refl, s.0, s.1)) inr moves)
       (λ j s u desk there writes t on. absurd (cc)) (contents_loaded shape words key) (told, refl) in
-      by_cases (λ (_ : Bool). Remarked role marks shape words callers log id me (Load key) after entries (LooksUpMarks (marks me) key)) (is_filled word)
+      by_cases (λ (_ : Bool). Remarked role marks shape words callers log id (Load key) me after entries (LooksUpMarks (marks me) key)) (is_filled word)
       (λ full. finish looked [] (ans.1 ∙ ap (λ (b : Bool). cond {A = List Entry} b [] (e ∷ [])) full) (nil_number log) (nil_count log) refl (inl (refl, refl))
       (sym (ap (λ (b : Bool). cond {A = Marks} b looked (acted looked (put_number (log ++ entries) key))) full)))
       (λ empty. finish (acted looked (put_number (log ++ entries) key)) (e ∷ []) (ans.1 ∙ ap (λ (b : Bool). cond {A = List Entry} b [] (e ∷ [])) empty) (λ k. quiet_number log e k refl) (quiet_count log e refl) refl (inr (omega arith))

@@ -50,7 +50,7 @@ module _ {A : Type 0} (role : A → Role) (marks : A → Marks) where
 
   -- after a step the caller knows what it knew and what it learnt, and the others what they knew
   pub knowing_step : (pasts told : A → List Past) (shape : Shape) (words : List ℕ) (callers : List A) (log : List Entry) (id : ℕ) (me : A) (operation : Operation) (after : Role) (entries : List Entry) (tells : MarkTelling)
-      → get_elem? callers id ≡ some me → Knowing role marks pasts callers → Knowing role marks told callers → (step : Remarked role marks shape words callers log id me operation after entries tells)
+      → get_elem? callers id ≡ some me → Knowing role marks pasts callers → Knowing role marks told callers → (step : Remarked role marks shape words callers log id operation me after entries tells)
       → (next : A) → role next ≡ after → marks next ≡ step.now → pasts next ≡ step.news ++ pasts me → told next ≡ told me → Knowing role marks pasts (set callers id next) × Knowing role marks told (set callers id next)
   knowing_step pasts told shape words callers log id me operation after entries tells at knows hears step next is_role is_marks learns keeps = let evolves = step.evolves next is_role is_marks in (
     knowing_set pasts callers id me next at evolves (subst (AllSince role marks callers) (sym learns) (since_both callers step.news (pasts me) step.since (knows id me at))) knows,

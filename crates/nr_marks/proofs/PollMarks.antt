@@ -103,7 +103,7 @@ module _ {A : Type 0} (role : A → Role) (marks : A → Marks) where
         let here : get_elem? desk.retired poll ≡ some entry = got_at desk.retired poll no_retired p.1 in let count = (mine.retired poll entry here).1 in
         let wants = p.0 in
         let tells = PollsMarks shape (marks me) known desk call poll in
-        let Goal : Type 0 = Remarked role marks shape words callers log id me (Load i) after entries tells in
+        let Goal : Type 0 = Remarked role marks shape words callers log id (Load i) me after entries tells in
         let stays : (j : ℕ) → j < shape.keys → get_or words' j 0 ≡ get_or words j 0 = λ j _. ap (λ l. get_or l j 0) (set-get_or words i 0) in
         let finish : (desk' : Desk) (polls : List Past) (loads : List LoggedLoad) → after ≡ Writer desk' → entries ≡ []
         → ((s : ℕ) → retirements s desk'.retired ≤ retirements s desk.retired) → AllSince role marks callers polls
@@ -145,7 +145,7 @@ module _ {A : Type 0} (role : A → Role) (marks : A → Marks) where
         } in
         finish desk' polls (with_poll (marks me) slot false).loads is none (λ s. let e = ap (retirements s) same in omega arith) since present (sweeping polls sweep) (
           refl,
-          subst (λ b. PollTells b shape (marks me) known desk call poll (log ++ entries) (with_polls (with_poll (marks me) slot false) polls)) (sym miss) (
+          subst (λ b. PollTells b shape known desk call poll (log ++ entries) (marks me) (with_polls (with_poll (marks me) slot false) polls)) (sym miss) (
             refl,
             missed,
             λ last.
@@ -166,7 +166,7 @@ module _ {A : Type 0} (role : A → Role) (marks : A → Marks) where
         (λ _ hit is none. finish (taking_retired desk call rows poll word) (marks me).polls (with_poll (marks me) slot true).loads is none
         (λ s. let gone = total-remove (λ (y : Retired). only s y.slot) desk.retired poll entry here in
         omega arith) own.noted (λ n e there'. inl there') tt
-        (refl, subst (λ b. PollTells b shape (marks me) known desk call poll (log ++ entries) (with_poll (marks me) slot true)) (sym hit) refl))
+        (refl, subst (λ b. PollTells b shape known desk call poll (log ++ entries) (marks me) (with_poll (marks me) slot true)) (sym hit) refl))
         (λ _ miss. by_cases (λ b. after ≡ Writer (cond {A = Desk × Step} b (moved_to desk (Searching call rows (poll + 1)), Going)
         (moved_to desk Idle, no_slot shape desk)).0 → entries ≡ ending (call_of call)
         (cond {A = Desk × Step} b (moved_to desk (Searching call rows (poll + 1)), Going) (moved_to desk Idle, no_slot shape desk)).1 → Goal)

@@ -86,7 +86,7 @@ module _ {A : Type 0} (role : A → Role) (marks : A → Marks) (shape : Shape) 
       → ((j slot : ℕ) (u : A) (desk : Desk) → get_elem? callers j ≡ some u → role u ≡ Writer desk → Desked role marks shape words callers log desk (marks u) → gripped y ≡ Some slot
       → Keeps (marks u) slot now.put × (0 < retirements slot desk.retired → gripped x ≡ Some slot))
       → SameContents shape words (set words (target_of operation) (becomes operation (get_or words (target_of operation) 0)))
-      → tells (get_or words (target_of operation) 0) after (log ++ entries) now [] → Remarked role marks shape words callers log id me operation after entries tells
+      → tells (get_or words (target_of operation) 0) after (log ++ entries) now [] → Remarked role marks shape words callers log id operation me after entries tells
   reader_step operation answers tells words callers log m at reader x y was after entries is names puts many now same_polls moves holds contents told =
       let evolves : (who : A) → role who ≡ after → marks who ≡ now → Evolves role marks me who = λ who is_role is_marks c z e.
       let n : reader ≡ c = ap number_of (sym was ∙ e) in let g : gripped x ≡ gripped z = ap (λ r. gripped (grip_of r)) (sym was ∙ e) in (
@@ -148,7 +148,7 @@ module _ {A : Type 0} (role : A → Role) (marks : A → Marks) (shape : Shape) 
   pub arrives_marked : (reader key : ℕ) → key < shape.keys → role me ≡ Reader reader Nothing → CanMark role marks shape id me known (Add key ARRIVE) (Arrives shape reader key) (ArrivesMarks (marks me) key)
   arrives_marked reader key near was words callers log core m once at since after entries ans =
       let word : ℕ = get_or words key 0 in let x : ℕ = (word + ARRIVE) % 2 ^ 64 in let now = acted (marks me) (put_number (log ++ entries) key) in let wide = core.wide in
-      let Goal : Type 0 = Remarked role marks shape words callers log id me (Add key ARRIVE) after entries (ArrivesMarks (marks me) key) in
+      let Goal : Type 0 = Remarked role marks shape words callers log id (Add key ARRIVE) me after entries (ArrivesMarks (marks me) key) in
       let finish : (y : Grip) (r : Reply) → is_done r ≡ false → after ≡ Reader reader y → entries ≡ entry reader (model.Find key) r ∷ [] → ((slot : ℕ) → gripped y ≡ Some slot → name_number word ≡ suc slot) → Goal
       = λ y r quiet is is_entries holds. let e = entry reader (model.Find key) r in let numbers : (k : ℕ) → put_number (log ++ entries) k ≡ put_number log k = λ k. ap (λ l. put_number (log ++ l) k) is_entries ∙ quiet_number log e k quiet in
       reader_step (Add key ARRIVE) (Arrives shape reader key) (ArrivesMarks (marks me) key) words callers log m at reader Nothing y was after entries is (λ k _. names_kept words key x (omega arith) (name-bumped word) k)

@@ -70,7 +70,7 @@ module _ {A : Type 0} (role : A → Role) (marks : A → Marks) where
         let listed = term_le (λ (y : Retired). only slot y.slot) desk.retired poll entry here in let one = only-same slot in
         let alone = rests role marks shape words callers log id me desk slot core at was (omega arith) in
         let tells = ProbesMarks shape (marks me) entry in
-        let Goal : Type 0 = Remarked role marks shape words callers log id me (Load i) after entries tells in
+        let Goal : Type 0 = Remarked role marks shape words callers log id (Load i) me after entries tells in
         let others : HoldNoOthers role marks callers desk (marks me).polls = subst (Sweeping role marks callers desk (marks me).polls) idle own.sweep in
         let stays : (polls : List Past) (loads : List LoggedLoad) → AllSince role marks callers polls → HoldNoOthers role marks callers desk polls → Desked role marks shape words' callers (log ++ entries) desk (with_scan (marks me) polls loads)
         = λ polls loads since others. desk_loads role marks shape words' callers (log ++ entries) desk (with_polls (marks me) polls) loads (desk_stay role marks shape words words' callers log entries desk desk (marks me) polls own
@@ -88,7 +88,7 @@ module _ {A : Type 0} (role : A → Role) (marks : A → Marks) where
         let e' : name_number (get_or words key 0) ≡ suc slot = sym (ap (λ l. name_number (get_or l key 0)) (set-get_or words i 0)) ∙ e in
         let once_more : only (suc slot) (name_number (get_or words key 0)) ≡ 1 = ap (only (suc slot)) e' ∙ only-same (suc slot) in let none = alone.1 in omega arith)
         (λ place reader who grip is_there is on. let l = term_le (holds slot) roles place (Reader reader grip) (at_maps role callers place who is_there ∙ ap some is) in let g = grips_it grip slot on in omega arith))
-        (refl, subst (λ b. ProbeTells b shape (marks me) slot (with_reaped (with_poll (marks me) slot true) slot)) (sym hit) refl))
+        (refl, subst (λ b. ProbeTells b shape slot (marks me) (with_reaped (with_poll (marks me) slot true) slot)) (sym hit) refl))
         (λ _ miss. let differs : word % 2 ^ 40 ≢ entry.arrivals % 2 ^ 40 = eqb-false (word % 2 ^ 40) (entry.arrivals % 2 ^ 40) miss in
         let someone : 0 < held roles slot = dite (ℕ_discrete (held roles slot) 0) (λ z. absurd (differs (omega arith))) (λ nz. omega arith) in
         let f = some_term (holds slot) roles someone in let g = at_unmap role callers f.0 f.1 f.2 in let o = reader_of slot f.1 f.3 in
@@ -109,6 +109,6 @@ module _ {A : Type 0} (role : A → Role) (marks : A → Marks) where
         ap (λ (b : Past). b.slot) (sym z.1) ∙ ap gripped (ap grip_in (sym reads ∙ ap role uw ∙ is')) ∙ on) (at_last (marks me).polls note e n there') in
         finish (with_polls (with_poll (marks me) slot false) polls) present (stays polls (with_poll (marks me) slot false).loads since no_others) (
           refl,
-          subst (λ b. ProbeTells b shape (marks me) slot (with_polls (with_poll (marks me) slot false) polls)) (sym miss) (note, refl, o.3, range.0, range.1, elsewhere),
+          subst (λ b. ProbeTells b shape slot (marks me) (with_polls (with_poll (marks me) slot false) polls)) (sym miss) (note, refl, o.3, range.0, range.1, elsewhere),
         ))
         refl

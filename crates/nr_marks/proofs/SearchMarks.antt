@@ -60,7 +60,7 @@ module _ {A : Type 0} (role : A → Role) (marks : A → Marks) where
     -- a load by the search, after which its notes and its loads of readers' words are these
     notes_now : (place : ℕ) (answers : Telling) (tells : MarkTelling) (words : List ℕ) (callers : List A) (log : List Entry) → Core shape words (map role callers) log → Marked role marks shape words callers log → get_elem? callers id ≡ some me
         → (after : Role) (entries : List Entry) → after ≡ Writer desk → entries ≡ [] → (polls : List Past) (loads : List LoggedLoad) → AllSince role marks callers polls → NotesPresent role marks callers (marks me).polls polls → HoldNoOthers role marks callers desk polls
-        → tells (get_or words place 0) after (log ++ entries) (with_scan (marks me) polls loads) [] → Remarked role marks shape words callers log id me (Load place) after entries tells
+        → tells (get_or words place 0) after (log ++ entries) (with_scan (marks me) polls loads) [] → Remarked role marks shape words callers log id (Load place) me after entries tells
     notes_now place answers tells words callers log core m at after entries is none_added polls loads since present others told =
         let own = desk_of role marks shape words callers log id me desk m at was in let words' = set words place (get_or words place 0) in
         writer_step role marks shape id me (Load place) tells words callers log core m at desk desk was after entries is (with_scan (marks me) polls loads) [] (no_places (Since role marks callers)) present
@@ -75,7 +75,7 @@ module _ {A : Type 0} (role : A → Role) (marks : A → Marks) where
         let here : get_elem? desk.retired poll ≡ some entry = got_at desk.retired poll no_retired low in let count = (mine.retired poll entry here).1 in
         let listed = term_le (λ (y : Retired). only slot y.slot) desk.retired poll entry here in let one = only-same slot in
         let tells = TriesMarks shape (marks me) desk poll in let taken_it = taking_retired desk call rows poll word in
-        let Goal : Type 0 = Remarked role marks shape words callers log id me (Load i) after entries tells in
+        let Goal : Type 0 = Remarked role marks shape words callers log id (Load i) me after entries tells in
         let others : HoldNoOthers role marks callers desk (marks me).polls = (subst (Sweeping role marks callers desk (marks me).polls) is_at own.sweep).0 in
         by_cases (λ b. same_count word entry.arrivals ≡ b → after ≡ Writer (cond {A = Desk} b taken_it desk) → Goal) (same_count word entry.arrivals)
         (λ _ hit is. writer_step role marks shape id me (Load i) tells words callers log core m at desk taken_it was after entries is (with_poll (marks me) slot true) [] (no_places (Since role marks callers)) (λ n e there'. inl there')
@@ -83,7 +83,7 @@ module _ {A : Type 0} (role : A → Role) (marks : A → Marks) where
         (λ j _. ap (λ l. get_or l j 0) (set-get_or words i 0)) (subst (QuietEnd log) (sym ans.1) (nothing_ends log))
         (λ s. let gone = total-remove (λ (y : Retired). only s y.slot) desk.retired poll entry here in omega arith) own.noted tt
         (λ s _ _. (subst (Untouched s) (sym is_at) tt, contents_loaded shape words i s))))
-        (refl, subst (λ b. TryTells b shape (marks me) slot (with_poll (marks me) slot true)) (sym hit) refl))
+        (refl, subst (λ b. TryTells b shape slot (marks me) (with_poll (marks me) slot true)) (sym hit) refl))
         (λ _ miss is. let differs : word % 2 ^ 40 ≢ entry.arrivals % 2 ^ 40 = eqb-false (word % 2 ^ 40) (entry.arrivals % 2 ^ 40) miss in
         let someone : 0 < held roles slot = dite (ℕ_discrete (held roles slot) 0) (λ z. absurd (differs (omega arith))) (λ nz. omega arith) in
         let f = some_term (holds slot) roles someone in let g = at_unmap role callers f.0 f.1 f.2 in let o = reader_of slot f.1 f.3 in
@@ -99,7 +99,7 @@ module _ {A : Type 0} (role : A → Role) (marks : A → Marks) where
         others n e there' f.0 slot u y g.1 (reads ∙ ap (λ (b : ℕ). Reader b y) (sym same_reader)) o.3 (omega arith) ∙ sym o.3 in
         notes_now i (Tries desk call rows poll) tells words callers log core m at after entries is ans.1 polls (with_poll (marks me) slot false).loads since present
         (present_alone callers desk (same_caller role marks callers once) (marks me).polls others f.0 c u y g.1 reads)
-        (refl, subst (λ b. TryTells b shape (marks me) slot (with_polls (with_poll (marks me) slot false) polls)) (sym miss) (note, refl, o.3, range.0, range.1, elsewhere)))
+        (refl, subst (λ b. TryTells b shape slot (marks me) (with_polls (with_poll (marks me) slot false) polls)) (sym miss) (note, refl, o.3, range.0, range.1, elsewhere)))
         refl ans.0
 
     -- a scan goes on with the notes that there are, or begins anew with none
@@ -130,7 +130,7 @@ module _ {A : Type 0} (role : A → Role) (marks : A → Marks) where
     -- and notes a reader as it is
     pub notes_marked : (base : List Past) → Begins base → (loads : List LoggedLoad) (place : ℕ) (words : List ℕ) (callers : List A) (log : List Entry) → Core shape words (map role callers) log → Marked role marks shape words callers log → Once role marks callers → get_elem? callers id ≡ some me
         → (after : Role) (entries : List Entry) → LoadsWord (role me) (get_or words place 0) after entries → (other reader : ℕ) (who : A) (grip : Grip) → get_elem? callers other ≡ some who → role who ≡ Reader reader grip
-        → Remarked role marks shape words callers log id me (Load place) after entries (λ word after log now news. (now ≡ with_scan (marks me) (base ++ past reader grip (marks who) ∷ []) loads) × (news ≡ []))
+        → Remarked role marks shape words callers log id (Load place) me after entries (λ word after log now news. (now ≡ with_scan (marks me) (base ++ past reader grip (marks who) ∷ []) loads) × (news ≡ []))
     notes_marked base begins loads place words callers log core m once at after entries ans other reader who grip here reads =
         let own = own_so words callers log m at in let note : Past = past reader grip (marks who) in let polls = base ++ note ∷ [] in
         notes_now place (LoadsWord (role me)) (λ word after log now news. (now ≡ with_scan (marks me) polls loads) × (news ≡ [])) words callers log core m at after entries (ans.0 ∙ was) ans.1 polls loads

@@ -72,13 +72,13 @@ ReadsOnMarks shape marks desk call slot got word after log now news =
     (now ≡ marks) × (news ≡ []) × (IsNoSlot (step_in (read_on shape desk call slot (got ++ word ∷ []))) → NoRoom shape call desk.retired [] log)
 
 -- a poll that finds its slot held notes a reader that holds it, and the last such one leaves no room
-abbrev pub PollTells : Bool → Shape → Marks → List Past → Desk → WriterCall → ℕ → List Entry → Marks → Type 0
-PollTells true shape marks known desk call poll log now = now ≡ with_poll marks (retired_at desk poll).slot true
-PollTells false shape marks known desk call poll log now =
+abbrev pub PollTells : Bool → Shape → List Past → Desk → WriterCall → ℕ → List Entry → Marks → Marks → Type 0
+PollTells true shape known desk call poll log marks now = now ≡ with_poll marks (retired_at desk poll).slot true
+PollTells false shape known desk call poll log marks now =
     (now ≡ with_polls (with_poll marks (retired_at desk poll).slot false) now.polls) × Missed shape known marks.polls (retired_at desk poll).slot now.polls × (length desk.retired ≤ poll + 1 → NoRoom shape call desk.retired now.polls log)
 
 abbrev pub PollsMarks : Shape → Marks → List Past → Desk → WriterCall → ℕ → MarkTelling
-PollsMarks shape marks known desk call poll word after log now news = (news ≡ []) × PollTells (same_count word (retired_at desk poll).arrivals) shape marks known desk call poll log now
+PollsMarks shape marks known desk call poll word after log now news = (news ≡ []) × PollTells (same_count word (retired_at desk poll).arrivals) shape known desk call poll log marks now
 
 -- a publish gives the slot the next put number, and the set
 abbrev pub PublishesMarks : Marks → ℕ → ℕ → List Row → MarkTelling
@@ -118,20 +118,20 @@ abbrev pub NotedNowhereElse : List Past → Past → Type 0
 NotedNowhereElse polls note = (at : ℕ) (poll : Past) → get_elem? polls at ≡ some poll → poll.reader ≡ note.reader → poll.slot ≡ note.slot
 
 -- a poll by a reap: where no reader holds the slot its set is reaped; else a reader that holds it is noted
-abbrev pub ProbeTells : Bool → Shape → Marks → ℕ → Marks → Type 0
-ProbeTells true shape marks slot now = now ≡ with_reaped (with_poll marks slot true) slot
-ProbeTells false shape marks slot now = (note : Past) × (now ≡ with_polls (with_poll marks slot false) (marks.polls ++ note ∷ [])) × (note.slot ≡ Some slot) × (0 < note.reader) × (note.reader ≤ shape.readers) × NotedNowhereElse marks.polls note
+abbrev pub ProbeTells : Bool → Shape → ℕ → Marks → Marks → Type 0
+ProbeTells true shape slot marks now = now ≡ with_reaped (with_poll marks slot true) slot
+ProbeTells false shape slot marks now = (note : Past) × (now ≡ with_polls (with_poll marks slot false) (marks.polls ++ note ∷ [])) × (note.slot ≡ Some slot) × (0 < note.reader) × (note.reader ≤ shape.readers) × NotedNowhereElse marks.polls note
 
 abbrev pub ProbesMarks : Shape → Marks → Retired → MarkTelling
-ProbesMarks shape marks entry word after log now news = (news ≡ []) × ProbeTells (same_count word entry.arrivals) shape marks entry.slot now
+ProbesMarks shape marks entry word after log now news = (news ≡ []) × ProbeTells (same_count word entry.arrivals) shape entry.slot marks now
 
 -- a poll of any retired slot by a search: a slot that no reader holds is taken; else a reader that holds it is noted
-abbrev pub TryTells : Bool → Shape → Marks → ℕ → Marks → Type 0
-TryTells true shape marks slot now = now ≡ with_poll marks slot true
-TryTells false shape marks slot now = ProbeTells false shape marks slot now
+abbrev pub TryTells : Bool → Shape → ℕ → Marks → Marks → Type 0
+TryTells true shape slot marks now = now ≡ with_poll marks slot true
+TryTells false shape slot marks now = ProbeTells false shape slot marks now
 
 abbrev pub TriesMarks : Shape → Marks → Desk → ℕ → MarkTelling
-TriesMarks shape marks desk poll word after log now news = (news ≡ []) × TryTells (same_count word (retired_at desk poll).arrivals) shape marks (retired_at desk poll).slot now
+TriesMarks shape marks desk poll word after log now news = (news ≡ []) × TryTells (same_count word (retired_at desk poll).arrivals) shape (retired_at desk poll).slot marks now
 
 -- the writer learns how the readers are that it was told of, and what its lists say of the history so far
 abbrev pub WriterLearns : Shape → Marks → Desk → List Past → MarkTelling

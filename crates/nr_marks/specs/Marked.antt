@@ -140,7 +140,7 @@ module _ {A : Type 0} (role : A → Role) (marks : A → Marks) where
     pub writer : HasWriter callers
 
   -- the marks of the caller at `id` after its step, and what it learnt of readers; then what stands goes on
-  pub record Remarked (shape : Shape) (words : List ℕ) (callers : List A) (log : List Entry) (id : ℕ) (before : A) (operation : Operation) (after : Role) (entries : List Entry) (tells : MarkTelling) : Type 0 where
+  pub record Remarked (shape : Shape) (words : List ℕ) (callers : List A) (log : List Entry) (id : ℕ) (operation : Operation) (before : A) (after : Role) (entries : List Entry) (tells : MarkTelling) : Type 0 where
     pub now : Marks
     pub news : List Past
     pub since : AllSince callers news
@@ -154,11 +154,11 @@ module _ {A : Type 0} (role : A → Role) (marks : A → Marks) where
   CanMark shape id before known operation answers tells =
       (words : List ℕ) (callers : List A) (log : List Entry) → Core shape words (map role callers) log → Marked shape words callers log → Once callers → get_elem? callers id ≡ some before → AllSince callers known
       → (after : Role) (entries : List Entry) → answers (slice_index words (target_of operation)) after entries
-      → Remarked shape words callers log id before operation after entries tells
+      → Remarked shape words callers log id operation before after entries tells
 
   -- the same where the words are so
   abbrev pub CanMarkWhere : Shape → ℕ → A → List Past → Operation → (List ℕ → Type 0) → Telling → MarkTelling → Type 0
   CanMarkWhere shape id before known operation so answers tells =
       (words : List ℕ) (callers : List A) (log : List Entry) → Core shape words (map role callers) log → Marked shape words callers log → so words → Once callers → get_elem? callers id ≡ some before → AllSince callers known
       → (after : Role) (entries : List Entry) → answers (slice_index words (target_of operation)) after entries
-      → Remarked shape words callers log id before operation after entries tells
+      → Remarked shape words callers log id operation before after entries tells

@@ -30,7 +30,7 @@ pub record Made (a b : Caller) (fills : List Filling) : Type 0 where
 pub made_none : (a b : Caller) → b.mine ≡ a.mine → Made a b []
 made_none a b same = record { calls = []; mine = same ∙ sym (append-nil a.mine); done = refl }
 
-pub made : (steps : ℕ) (a b : Caller) (calls : List Entry) (fills : List Filling) → Grows steps a calls b → fills_done calls ≡ fills → Made a b fills
+pub made : (steps : ℕ) (a b : Caller) (calls : List Entry) (fills : List Filling) → Grows steps calls a b → fills_done calls ≡ fills → Made a b fills
 made steps a b calls fills grows done = record { calls = calls; mine = grows.mine; done = done }
 
 pub update_made : (bound key : ℕ) (batch : List Delta) (a b : Caller) (answer : Result (Unit {0}) UpdateFault) → UpdatesKey bound key batch a b answer → Made a b []

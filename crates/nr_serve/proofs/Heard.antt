@@ -32,7 +32,7 @@ stands [] caller first rest e is = absurd (no_entry first rest e is)
 stands (x ∷ log) caller first rest e is = stands_by (x.caller == caller) x log (entries_of log caller) first rest e is (λ others same. stands log caller others rest e same)
 
 -- a call that the caller made stands behind all that it had seen, in a sound history
-module _ (steps : ℕ) (old new : Caller) (first rest : List Entry) (e : Entry) (makes : Makes steps old (first ++ e ∷ rest) new) (knows : KnowsOwn old) where
+module _ (steps : ℕ) (old new : Caller) (first rest : List Entry) (e : Entry) (makes : Makes steps (first ++ e ∷ rest) old new) (knows : KnowsOwn old) where
   is_sound : IsSound new
   is_sound = ⊎_elim
       (λ (same : (new.seen ≡ old.seen) × (new.mine ≡ old.mine)). absurd (no_entry first rest e (append_cancel_left old.mine [] (first ++ e ∷ rest) (append-nil old.mine ∙ sym same.1 ∙ makes.mine))))
@@ -50,7 +50,7 @@ module _ (steps : ℕ) (old new : Caller) (first rest : List Entry) (e : Entry) 
 pub gets_what_it_heard_lem : FindsWritten → GetsWhatItHeard
 gets_what_it_heard_lem finds_written old note asking new key tries rows_before rows got before since first rest put answer near had puts_it heard knows gets among =
     let by = asking.reader in let find = found by.number key answer in let written = before ++ put ∷ [] in let opening = map_at_opening old.table in
-    let makes = subst (λ (entries : List Entry). Makes gets.steps by entries new.reader) among gets.moves.makes in
+    let makes = subst (λ (entries : List Entry). Makes gets.steps entries by new.reader) among gets.moves.makes in
     let there = made gets.steps by new.reader first rest find makes knows in
     let sound = is_sound gets.steps by new.reader first rest find makes knows in
     let known = heard.hears.seen.rest ++ heard.seen.rest in

@@ -29,7 +29,7 @@ posts_of-append : (l m : List Ending) → posts_of (l ++ m) ≡ posts_of l ++ po
 posts_of-append [] m = refl
 posts_of-append (e ∷ l) m = ap (λ (posts : List Post). e.post ∷ posts) (posts_of-append l m)
 
-back_made : (upquery : Upquery) (a b : Caller) (answer : Cancel) → TakesBack upquery a answer b → Made a b []
+back_made : (upquery : Upquery) (a b : Caller) (answer : Cancel) → TakesBack upquery a b answer → Made a b []
 back_made upquery a b cancel.Cancelled is = cancel_made upquery.key a b cancel.Cancelled is.1
 back_made upquery a b cancel.Nothing (inl none) = made_none a b (ap (λ (c : Caller). c.mine) none.1)
 back_made upquery a b cancel.Nothing (inr is) = cancel_made upquery.key a b cancel.Nothing is
@@ -64,7 +64,7 @@ module _ {S : Type 0} where
   quiet old new taker kept writes = stays old new [] [] [] taker kept (λ count. refl) writes
 
   -- a call that took by the queue or what was kept, spent these, and kept that
-  spends_books : (old new : FlowSeen S) (out : List Post) (more : List Ending) (after : Option Post) → Spends old.kept old.taker (posts_of more ++ out) after new.taker
+  spends_books : (old new : FlowSeen S) (out : List Post) (more : List Ending) (after : Option Post) → Spends (posts_of more ++ out) old.taker old.kept new.taker after
       → new.kept ≡ after → Made old.writer new.writer (fills_of more) → Books old new out [] more
   spends_books old new out more after spends kept writes = record {
     gain = spends.gain;
@@ -80,14 +80,14 @@ module _ {S : Type 0} where
     writes = writes;
   }
 
-  fills_books : (old new : FlowSeen S) (post : Post) (rows : List Row) (spent : Spent) → FillsOne old post rows (Ok spent) new → Books old new [] (post ∷ []) (ended post (fate_of spent rows))
+  fills_books : (old new : FlowSeen S) (post : Post) (rows : List Row) (spent : Spent) → FillsOne post rows old new (Ok spent) → Books old new [] (post ∷ []) (ended post (fate_of spent rows))
   fills_books old new post rows spent.Filled is = stays old new [] (post ∷ []) _ (ap (λ (f : FlowSeen S). f.taker) is.0.rest) (ap (λ (f : FlowSeen S). f.kept) is.0.rest)
       (λ count. omega arith) (fill_made post.upquery.key post.upquery.number rows old.writer new.writer is.0.fills)
   fills_books old new post rows spent.Passed is = stays old new [] (post ∷ []) _ (ap (λ (f : FlowSeen S). f.taker) is.2.rest) (ap (λ (f : FlowSeen S). f.kept) is.2.rest)
       (λ count. omega arith) (pass_made post.upquery.key post.upquery.number rows old.writer new.writer is.0 is.2.fills)
   fills_books old new post rows spent.Failed is = absurd is
 
-  fails_books : (old new : FlowSeen S) (post : Post) (spent : Spent) → FailsOne old post (Ok spent) new → Books old new [] (post ∷ []) (ended post (fate_of spent []))
+  fails_books : (old new : FlowSeen S) (post : Post) (spent : Spent) → FailsOne post old new (Ok spent) → Books old new [] (post ∷ []) (ended post (fate_of spent []))
   fails_books old new post spent.Filled is = absurd is
   fails_books old new post spent.Passed is = stays old new [] (post ∷ []) _ (ap (λ (f : FlowSeen S). f.taker) is.rest) (ap (λ (f : FlowSeen S). f.kept) is.rest)
       (λ count. omega arith) (back_made post.upquery old.writer new.writer cancel.Nothing is.takes_back)
@@ -95,13 +95,13 @@ module _ {S : Type 0} where
       (λ count. omega arith) (back_made post.upquery old.writer new.writer cancel.Cancelled is.takes_back)
 
   -- a turn whose source failed
-  over_books : (old new : FlowSeen S) (post : Post) (answer : Cancel) → TakesBack post.upquery old.writer answer new.writer → Spends old.kept old.taker (post ∷ []) None new.taker → new.kept ≡ None
+  over_books : (old new : FlowSeen S) (post : Post) (answer : Cancel) → TakesBack post.upquery old.writer new.writer answer → Spends (post ∷ []) old.taker old.kept new.taker None → new.kept ≡ None
       → Books old new [] [] (ended post (fate_by answer))
   over_books old new post cancel.Cancelled back spends none = spends_books old new [] _ None spends none (back_made post.upquery old.writer new.writer cancel.Cancelled back)
   over_books old new post cancel.Nothing back spends none = spends_books old new [] _ None spends none (back_made post.upquery old.writer new.writer cancel.Nothing back)
   over_books old new post cancel.Worn back spends none = spends_books old new [] _ None spends none (back_made post.upquery old.writer new.writer cancel.Worn back)
 
-  takes_books : (old new : FlowSeen S) (post : Post) → Takes old post new → Books old new (post ∷ []) [] []
+  takes_books : (old new : FlowSeen S) (post : Post) → Takes old new post → Books old new (post ∷ []) [] []
   takes_books old new post is = record {
     gain = is.spends.gain;
     taken = is.spends.taken;
@@ -110,7 +110,7 @@ module _ {S : Type 0} where
   }
 
 module _ {S : Type 0} (gives : S → (key bound : ℕ) → List Row → S → Type 0) (fails : S → (key bound : ℕ) → S → Type 0) where
-  turns_books : (old new : FlowSeen S) (turned : Turn) (turns : Turns gives fails old turned new) → Books old new [] [] (ended_by gives fails old turned new turns)
+  turns_books : (old new : FlowSeen S) (turned : Turn) (turns : Turns gives fails old new turned) → Books old new [] [] (ended_by gives fails old turned new turns)
   turns_books old new turn.Idle turns = record {
     gain = [];
     taken = ap (λ (f : FlowSeen S). f.taker.taken) turns.2 ∙ sym (append-nil old.taker.taken);

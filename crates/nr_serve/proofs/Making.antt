@@ -12,7 +12,7 @@ use Rattle.nr_serve.specs.Callers.{Makes}
 starts_both : (a b c : List Entry) → StartsWith b a → StartsWith c b → StartsWith c a
 starts_both a b c one two = record { rest = one.rest ++ two.rest; is = two.is ∙ ap (λ (l : List Entry). l ++ two.rest) one.is ∙ append_assoc a one.rest two.rest }
 
-pub makes_by_rests : (steps : ℕ) (a b : Caller) → Rests steps a b → Makes steps a [] b
+pub makes_by_rests : (steps : ℕ) (a b : Caller) → Rests steps a b → Makes steps [] a b
 makes_by_rests steps a b rests = record {
   table = rests.table;
   number = rests.number;
@@ -22,7 +22,7 @@ makes_by_rests steps a b rests = record {
   sound = inl (rests.seen, rests.mine);
 }
 
-pub makes_none : (a : Caller) → Makes 0 a [] a
+pub makes_none : (a : Caller) → Makes 0 [] a a
 makes_none a = record {
   table = refl;
   number = refl;
@@ -32,7 +32,7 @@ makes_none a = record {
   sound = inl (refl, refl);
 }
 
-pub makes_by_gains : (steps : ℕ) (a : Caller) (call : Call) (reply : Reply) (b : Caller) → Gains steps a call reply b → Makes steps a (entry a.number call reply ∷ []) b
+pub makes_by_gains : (steps : ℕ) (a : Caller) (call : Call) (reply : Reply) (b : Caller) → Gains steps call a b reply → Makes steps (entry a.number call reply ∷ []) a b
 makes_by_gains steps a call reply b gains = record {
   table = gains.table;
   number = gains.number;
@@ -53,7 +53,7 @@ still_sound a b table number seen mine sound = record {
   callers = subst (λ (at : Table × List Entry). AreCallers at.0.shape at.1) (λ i. (sym table i, sym seen i)) sound.callers;
 }
 
-pub makes_both : (m n sum : ℕ) (a : Caller) (es : List Entry) (b : Caller) (fs : List Entry) (c : Caller) → sum ≡ m + n → Makes m a es b → Makes n b fs c → Makes sum a (es ++ fs) c
+pub makes_both : (m n sum : ℕ) (a : Caller) (es : List Entry) (b : Caller) (fs : List Entry) (c : Caller) → sum ≡ m + n → Makes m es a b → Makes n fs b c → Makes sum (es ++ fs) a c
 makes_both m n sum a es b fs c is one two = record {
   table = two.table ∙ one.table;
   number = two.number ∙ one.number;

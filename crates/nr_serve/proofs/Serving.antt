@@ -12,7 +12,7 @@ use Rattle.nr_serve.specs.Hands.{IsReady, Moves}
 use Rattle.nr_serve.specs.Tickets.{sent}
 use Rattle.nr_serve.proofs.Moving.{sent-append}
 
-serves_on : (map : Table) (queue : Queue) (opened old new : Hands) (steps : ℕ) (entries : List Entry) → IsServing map queue opened old → IsReady map queue new → Moves steps old entries new → IsServing map queue opened new
+serves_on : (map : Table) (queue : Queue) (opened old new : Hands) (steps : ℕ) (entries : List Entry) → IsServing map queue opened old → IsReady map queue new → Moves steps entries old new → IsServing map queue opened new
 serves_on map queue opened old new steps entries serving ready moves =
     let before = opened.reader.mine in
     let begins = serving.begins in
@@ -30,7 +30,7 @@ serves_on map queue opened old new steps entries serving ready moves =
 
 -- so it does where its hands were taken out and other ones put back
 pub stays_serving : (map : Table) (queue : Queue) (opened old new : Hands) (before after : Option Hands) (steps : ℕ) (entries : List Entry) → before ≡ Some old → after ≡ Some new
-    → IsServing map queue opened (unwrap_or before opened) → IsReady map queue new → Moves steps old entries new
+    → IsServing map queue opened (unwrap_or before opened) → IsReady map queue new → Moves steps entries old new
     → IsSome after × IsServing map queue opened (unwrap_or after opened)
 stays_serving map queue opened old new before after steps entries was is serving ready moves =
     let old_serving = subst (λ (hands : Option Hands). IsServing map queue opened (unwrap_or hands opened)) was serving in

@@ -24,9 +24,9 @@ HasPut key note = (before since : List Entry) × (put : Entry) × (note.seen ≡
 
 module _ (reached : ℕ → Known → Type 0) where
   -- of so much at least the caller heard in 4 steps: a note whose maker had seen it; or the lobby is closed, and the caller is as it was
-  abbrev pub HearsApplied : ℕ → Caller → Option ℕ → GuestSeen → Caller → Type 0
-  HearsApplied least old (Some amount) guest new = (least ≤ amount) × (note : Known) × reached amount note × HearsNote 4 old note new
-  HearsApplied least old None guest new = (new ≡ old) × (0 < slice_index guest.seen closed_at)
+  abbrev pub HearsApplied : ℕ → GuestSeen → Caller → Caller → Option ℕ → Type 0
+  HearsApplied least guest old new (Some amount) = (least ≤ amount) × (note : Known) × reached amount note × HearsNote 4 note old new
+  HearsApplied least guest old new None = (new ≡ old) × (0 < slice_index guest.seen closed_at)
 
   -- the note of so much always has it
   abbrev pub HasPutOf : ℕ → ℕ → Type 0
@@ -38,10 +38,10 @@ module _ (reached : ℕ → Known → Type 0) where
       (old heard : Caller) (least amount : ℕ) (guest : GuestSeen) (asking new : Hands) (key tries : ℕ) (rows_before rows : List Row) (got : Got) (first rest : List Entry) (answer : Reply) →
       key < old.table.shape.keys →
       HasPutOf key amount →
-      HearsApplied least old (Some amount) guest heard →
+      HearsApplied least guest old heard (Some amount) →
       asking.reader.table ≡ heard.table →
       StartsWith asking.reader.seen heard.seen →
       KnowsOwn asking.reader →
-      (gets : Gets key tries asking rows_before got new rows) →
+      (gets : Gets key tries asking rows_before new rows got) →
       misses asking.reader.number key gets.requests ++ gets.last ≡ first ++ found asking.reader.number key answer ∷ rest →
       (before since : List Entry) × (put : Entry) × (puts_at key put ≡ true) × FindsHeard old key (before ++ put ∷ []) since (found asking.reader.number key answer) new.reader.seen

@@ -51,7 +51,7 @@ abbrev pub IsNearLast : GuestSeen → Type 0
 IsNearLast guest = (place : ℕ) × (place ≢ closed_at) × (last_count ≤ slice_index guest.seen place + 1)
 
 -- it raised these counts, in that order, and closed the lobby only for a raise to the last number
-pub record Raises (old : GuestSeen) (places : List ℕ) (new : GuestSeen) : Type 0 where
+pub record Raises (places : List ℕ) (old new : GuestSeen) : Type 0 where
   pub later : IsLaterOf old new
   pub raised : new.raised ≡ old.raised ++ places
   pub closes : (new.closes ≡ old.closes) ⊎ IsNearLast new

@@ -23,37 +23,37 @@ IsPast fill.Stale = Unit {0}
 IsPast (fill.NoSlot counts) = ⊥
 
 -- the trigger's key was to be filled by its ticket number with these rows, which was answered so
-pub record FillsBy {S : Type 0} (old : FlowSeen S) (post : Post) (rows : List Row) (answer : Result (Unit {0}) FillFault) (new : FlowSeen S) : Type 0 where
+pub record FillsBy {S : Type 0} (post : Post) (rows : List Row) (old new : FlowSeen S) (answer : Result (Unit {0}) FillFault) : Type 0 where
   pub fills : FillsKey post.upquery.key post.upquery.number rows old.writer new.writer answer
   pub rest : new ≡ record old { writer = new.writer; guest = new.guest }
 
 -- a trigger is given these rows: it is spent and the lobby raised for its key, or there is no slot and it comes back
-abbrev pub FillsOne : {S : Type 0} → FlowSeen S → Post → List Row → Result Spent (Post × NoSlot) → FlowSeen S → Type 0
-FillsOne old post rows (Ok spent.Filled) new = FillsBy old post rows (Ok tt) new × Raises old.guest (raises_for post.upquery.key) new.guest
-FillsOne old post rows (Ok spent.Passed) new = (fault : FillFault) × IsPast fault × FillsBy old post rows (Err fault) new × Raises old.guest (raises_for post.upquery.key) new.guest
-FillsOne old post rows (Ok spent.Failed) new = ⊥
-FillsOne old post rows (Err (back, counts)) new = FillsBy old post rows (Err (fill.NoSlot counts)) new × (back ≡ post) × (new.guest ≡ old.guest)
+abbrev pub FillsOne : {S : Type 0} → Post → List Row → FlowSeen S → FlowSeen S → Result Spent (Post × NoSlot) → Type 0
+FillsOne post rows old new (Ok spent.Filled) = FillsBy post rows old new (Ok tt) × Raises (raises_for post.upquery.key) old.guest new.guest
+FillsOne post rows old new (Ok spent.Passed) = (fault : FillFault) × IsPast fault × FillsBy post rows old new (Err fault) × Raises (raises_for post.upquery.key) old.guest new.guest
+FillsOne post rows old new (Ok spent.Failed) = ⊥
+FillsOne post rows old new (Err (back, counts)) = FillsBy post rows old new (Err (fill.NoSlot counts)) × (back ≡ post) × (new.guest ≡ old.guest)
 
 -- the key's request is cancelled if it has that ticket number, and else left alone
-abbrev pub TakesBack : Upquery → Caller → Cancel → Caller → Type 0
-TakesBack upquery old cancel.Cancelled new = (slice_index old.numbers upquery.key ≡ upquery.number) × CancelsKey upquery.key old new cancel.Cancelled
-TakesBack upquery old cancel.Nothing new = ((slice_index old.numbers upquery.key ≢ upquery.number) × (new ≡ old)) ⊎ CancelsKey upquery.key old new cancel.Nothing
-TakesBack upquery old cancel.Worn new = (slice_index old.numbers upquery.key ≡ upquery.number) × CancelsKey upquery.key old new cancel.Worn
+abbrev pub TakesBack : Upquery → Caller → Caller → Cancel → Type 0
+TakesBack upquery old new cancel.Cancelled = (slice_index old.numbers upquery.key ≡ upquery.number) × CancelsKey upquery.key old new cancel.Cancelled
+TakesBack upquery old new cancel.Nothing = ((slice_index old.numbers upquery.key ≢ upquery.number) × (new ≡ old)) ⊎ CancelsKey upquery.key old new cancel.Nothing
+TakesBack upquery old new cancel.Worn = (slice_index old.numbers upquery.key ≡ upquery.number) × CancelsKey upquery.key old new cancel.Worn
 
 -- a request that is taken back for want of rows is told to who waits for the key
 abbrev pub FailRaises : Cancel → ℕ → GuestSeen → GuestSeen → Type 0
-FailRaises cancel.Cancelled key old new = Raises old (fails_for key) new
+FailRaises cancel.Cancelled key old new = Raises (fails_for key) old new
 FailRaises _ key old new = OnlyLooks old new
 
 -- the rows of a trigger can't be had, and its request is taken back, if it still stands and can be
-pub record FailsBy {S : Type 0} (old : FlowSeen S) (post : Post) (answer : Cancel) (new : FlowSeen S) : Type 0 where
-  pub takes_back : TakesBack post.upquery old.writer answer new.writer
+pub record FailsBy {S : Type 0} (post : Post) (old new : FlowSeen S) (answer : Cancel) : Type 0 where
+  pub takes_back : TakesBack post.upquery old.writer new.writer answer
   pub raised : FailRaises answer post.upquery.key old.guest new.guest
   pub rest : new ≡ record old { writer = new.writer; guest = new.guest }
 
 -- it is spent then, or comes back where the request can't be taken back
-abbrev pub FailsOne : {S : Type 0} → FlowSeen S → Post → Result Spent Post → FlowSeen S → Type 0
-FailsOne old post (Ok spent.Filled) new = ⊥
-FailsOne old post (Ok spent.Passed) new = FailsBy old post cancel.Nothing new
-FailsOne old post (Ok spent.Failed) new = FailsBy old post cancel.Cancelled new
-FailsOne old post (Err back) new = FailsBy old post cancel.Worn new × (back ≡ post)
+abbrev pub FailsOne : {S : Type 0} → Post → FlowSeen S → FlowSeen S → Result Spent Post → Type 0
+FailsOne post old new (Ok spent.Filled) = ⊥
+FailsOne post old new (Ok spent.Passed) = FailsBy post old new cancel.Nothing
+FailsOne post old new (Ok spent.Failed) = FailsBy post old new cancel.Cancelled
+FailsOne post old new (Err back) = FailsBy post old new cancel.Worn × (back ≡ post)

@@ -56,12 +56,12 @@ LeavesKept Waiting kept = kept ≡ None
 LeavesKept Filled kept = kept ≡ None
 
 -- one try that found a hole: the ticket that was kept is posted or kept still, and where none is kept a request is made, whose ticket is posted or kept
-pub record MissesOnce (key : ℕ) (old : Hands) (request : Requested) (new : Hands) : Type 0 where
+pub record MissesOnce (key : ℕ) (old new : Hands) (request : Requested) : Type 0 where
   pub steps : ℕ
   pub named : List ℕ
   pub finds_in : HoleIn (finds_by_word old.reader) named steps
   pub looks : new.reader.marks ≡ acted (looked old.reader.marks key named) new.reader.marks.put
-  pub moves : Moves (steps + length (requested old.reader.number key request)) old (miss old.reader.number key request) new
+  pub moves : Moves (steps + length (requested old.reader.number key request)) (miss old.reader.number key request) old new
   pub leaves : LeavesKept request new.kept
   pub attempts : new.poster.tries ≡ old.poster.tries + (kept_attempts old.kept + sent_attempts request)
 
@@ -73,38 +73,38 @@ IsPending Waiting = Unit {0}
 IsPending Filled = ⊥
 
 -- one try was made between these two, it found a hole, a fill is to come, and no ticket is kept
-pub record AwaitsFill (key : ℕ) (old : Hands) (request : Requested) (new : Hands) : Type 0 where
-  pub missed : MissesOnce key old request new
+pub record AwaitsFill (key : ℕ) (old new : Hands) (request : Requested) : Type 0 where
+  pub missed : MissesOnce key old new request
   pub pending : IsPending request
   pub posted : new.kept ≡ None
 
 -- tries that found a hole, one after the other
-abbrev pub MissesAll : ℕ → Hands → List Requested → Hands → Type 0
-MissesAll key old [] new = new ≡ old
-MissesAll key old (request ∷ requests) new = (mid : Hands) × MissesOnce key old request mid × MissesAll key mid requests new
+abbrev pub MissesAll : ℕ → Hands → Hands → List Requested → Type 0
+MissesAll key old new [] = new ≡ old
+MissesAll key old new (request ∷ requests) = (mid : Hands) × MissesOnce key old mid request × MissesAll key mid new requests
 
 -- a pin is answered: the caller gets its rows, unless it is barred, and the reader is released
-abbrev pub AnswersPin : Pinned → List Row → Got → Caller → List Row → Type 0
-AnswersPin pin before got.Rows reader rows = Rests (2 * length pin.rows + 1) pin.reader reader × (rows ≡ pin.rows)
-AnswersPin pin before got.GaveUp reader rows = ⊥
-AnswersPin pin before got.Barred reader rows = Rests 1 pin.reader reader × (rows ≡ before)
+abbrev pub AnswersPin : Pinned → List Row → Caller → List Row → Got → Type 0
+AnswersPin pin before reader rows got.Rows = Rests (2 * length pin.rows + 1) pin.reader reader × (rows ≡ pin.rows)
+AnswersPin pin before reader rows got.GaveUp = ⊥
+AnswersPin pin before reader rows got.Barred = Rests 1 pin.reader reader × (rows ≡ before)
 
 -- one try that found rows, in the steps of a hold and so many more: the ticket that was kept is posted or kept still, and no other call is made
-pub record FindsOnce (key more : ℕ) (old : Hands) (set : List Row) (new : Hands) : Type 0 where
+pub record FindsOnce (key more : ℕ) (old new : Hands) (set : List Row) : Type 0 where
   pub steps : ℕ
   pub named : List ℕ
   pub says : ℕ
   pub holds_in : HeldIn (finds_by_word old.reader) named says steps
   pub looks : new.reader.marks ≡ acted (acted (looked old.reader.marks key named) new.reader.marks.put) new.reader.marks.put
-  pub moves : Moves (steps + more) old (found old.reader.number key (reply.Rows set) ∷ []) new
+  pub moves : Moves (steps + more) (found old.reader.number key (reply.Rows set) ∷ []) old new
   pub attempts : new.poster.tries ≡ old.poster.tries + kept_attempts old.kept
 
 -- one try: it finds a hole, or rows, which the caller gets unless it is barred
-abbrev pub TriesOnce : ℕ → Hands → List Row → Tried → Hands → List Row → Type 0
-TriesOnce key old before (tried.Missed request) new rows = MissesOnce key old request new × (rows ≡ before)
-TriesOnce key old before (tried.Ended got.Rows) new rows = FindsOnce key (2 * length rows + 1) old rows new
-TriesOnce key old before (tried.Ended got.GaveUp) new rows = ⊥
-TriesOnce key old before (tried.Ended got.Barred) new rows = (set : List Row) × FindsOnce key 1 old set new × (rows ≡ before)
+abbrev pub TriesOnce : ℕ → Hands → List Row → Hands → List Row → Tried → Type 0
+TriesOnce key old before new rows (tried.Missed request) = MissesOnce key old new request × (rows ≡ before)
+TriesOnce key old before new rows (tried.Ended got.Rows) = FindsOnce key (2 * length rows + 1) old new rows
+TriesOnce key old before new rows (tried.Ended got.GaveUp) = ⊥
+TriesOnce key old before new rows (tried.Ended got.Barred) = (set : List Row) × FindsOnce key 1 old new set × (rows ≡ before)
 
 -- after that many tries that found a hole a get of so many may end so
 abbrev pub MayEnd : ℕ → Got → ℕ → Type 0
@@ -114,16 +114,16 @@ MayEnd tries got.Barred missed = missed < tries
 
 -- how a get ends after those: by one try more, whose find is its last entry, or by none
 abbrev pub Ends : ℕ → Got → Hands → List Row → List Entry → Hands → List Row → Type 0
-Ends key got.Rows between before last new rows = (last ≡ found between.reader.number key (reply.Rows rows) ∷ []) × FindsOnce key (2 * length rows + 1) between rows new
+Ends key got.Rows between before last new rows = (last ≡ found between.reader.number key (reply.Rows rows) ∷ []) × FindsOnce key (2 * length rows + 1) between new rows
 Ends key got.GaveUp between before last new rows = (last ≡ []) × (new ≡ between) × (rows ≡ before)
-Ends key got.Barred between before last new rows = (set : List Row) × (last ≡ found between.reader.number key (reply.Rows set) ∷ []) × FindsOnce key 1 between set new × (rows ≡ before)
+Ends key got.Barred between before last new rows = (set : List Row) × (last ≡ found between.reader.number key (reply.Rows set) ∷ []) × FindsOnce key 1 between new set × (rows ≡ before)
 
 -- a get of that many tries: those that found a hole, and how it ended
-pub record Gets (key tries : ℕ) (old : Hands) (before : List Row) (got : Got) (new : Hands) (rows : List Row) : Type 0 where
+pub record Gets (key tries : ℕ) (old : Hands) (before : List Row) (new : Hands) (rows : List Row) (got : Got) : Type 0 where
   pub requests : List Requested
   -- what the client had in its hands after them
   pub between : Hands
-  pub missed : MissesAll key old requests between
+  pub missed : MissesAll key old between requests
   -- by the counts each of their calls is one step
   pub counted : finds_by_word old.reader ≡ false → between.reader.steps ≡ old.reader.steps + length (misses old.reader.number key requests)
   pub few : MayEnd tries got (length requests)
@@ -131,7 +131,7 @@ pub record Gets (key tries : ℕ) (old : Hands) (before : List Row) (got : Got) 
   pub ends : Ends key got between before last new rows
   -- and all that together
   pub steps : ℕ
-  pub moves : Moves steps old (misses old.reader.number key requests ++ last) new
+  pub moves : Moves steps (misses old.reader.number key requests ++ last) old new
 
 -- a get that a sleep ended which timed out: tries were left, those that it made found a hole, and to the last of them a fill was to come
 pub record EndsLate (key tries : ℕ) (old : Hands) (before : List Row) (new : Hands) (rows : List Row) : Type 0 where
@@ -139,11 +139,11 @@ pub record EndsLate (key tries : ℕ) (old : Hands) (before : List Row) (new : H
   pub made : ℕ
   pub few : made + 1 < tries
   pub last : Hands
-  pub gets : Gets key made old before got.GaveUp last rows
+  pub gets : Gets key made old before last rows got.GaveUp
   pub request : Requested
-  pub slept : AwaitsFill key last request new
+  pub slept : AwaitsFill key last new request
 
 -- a get that may end by a sleep that timed out
-abbrev pub GetsInTime : ℕ → ℕ → Hands → List Row → Result Got TooLate → Hands → List Row → Type 0
-GetsInTime key tries old before (Ok got) new rows = Gets key tries old before got new rows
-GetsInTime key tries old before (Err late) new rows = EndsLate key tries old before new rows
+abbrev pub GetsInTime : ℕ → ℕ → Hands → List Row → Hands → List Row → Result Got TooLate → Type 0
+GetsInTime key tries old before new rows (Ok got) = Gets key tries old before new rows got
+GetsInTime key tries old before new rows (Err late) = EndsLate key tries old before new rows

@@ -29,7 +29,7 @@ pub record IsReady (map : Table) (queue : Queue) (hands : Hands) : Type 0 where
   pub few : hands.sends ≤ last_count
 
 -- in that many steps the reader made these calls, no ticket was lost, and the requests that were sent are counted
-pub record Moves (steps : ℕ) (old : Hands) (entries : List Entry) (new : Hands) : Type 0 where
-  pub makes : Makes steps old.reader entries new.reader
-  pub posts : Posts old.kept old.poster (sent entries) new.kept new.poster
+pub record Moves (steps : ℕ) (entries : List Entry) (old new : Hands) : Type 0 where
+  pub makes : Makes steps entries old.reader new.reader
+  pub posts : Posts (sent entries) old.poster old.kept new.poster new.kept
   pub sends : new.sends ≡ capped (old.sends + length (sent entries))

@@ -25,8 +25,8 @@ GetsWhatItHeard =
     key < old.table.shape.keys →
     note.seen ≡ (before ++ put ∷ []) ++ since →
     puts_at key put ≡ true →
-    HeardBefore old note asking.reader →
+    HeardBefore note old asking.reader →
     KnowsOwn asking.reader →
-    (gets : Gets key tries asking rows_before got new rows) →
+    (gets : Gets key tries asking rows_before new rows got) →
     misses asking.reader.number key gets.requests ++ gets.last ≡ first ++ found asking.reader.number key answer ∷ rest →
     FindsHeard old key (before ++ put ∷ []) since (found asking.reader.number key answer) new.reader.seen

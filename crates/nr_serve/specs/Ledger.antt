@@ -52,7 +52,7 @@ fate_by cancel.Worn = Passed
 
 module _ {S : Type 0} (gives : S → (key bound : ℕ) → List Row → S → Type 0) (fails : S → (key bound : ℕ) → S → Type 0) where
   -- the trigger that a turn spent
-  abbrev pub ended_by : (old : FlowSeen S) (turned : Turn) (new : FlowSeen S) → Turns gives fails old turned new → List Ending
+  abbrev pub ended_by : (old : FlowSeen S) (turned : Turn) (new : FlowSeen S) → Turns gives fails old new turned → List Ending
   ended_by old turn.Idle new turns = []
   ended_by old (turn.Filled key) new turns = ended turns.post (Filled turns.answers.rows)
   ended_by old (turn.Passed key) new (_, _, spends) = ended spends.post Passed
@@ -62,14 +62,14 @@ module _ {S : Type 0} (gives : S → (key bound : ℕ) → List Row → S → Ty
 
   -- a call of the dataflow, by what its contract says, with the triggers that it gave out, those that it got back, and those that ended
   pub data Does : FlowSeen S → List Post → List Post → List Ending → FlowSeen S → Type 0 where
-    TakesOne : (old new : FlowSeen S) (post : Post) → Takes old post new → Does old (post ∷ []) [] [] new
+    TakesOne : (old new : FlowSeen S) (post : Post) → Takes old new post → Does old (post ∷ []) [] [] new
     TakesNone : (old new : FlowSeen S) → FindsNone old new → Does old [] [] [] new
-    Fills : (old new : FlowSeen S) (post : Post) (rows : List Row) (spent : Spent) → FillsOne old post rows (Ok spent) new → Does old [] (post ∷ []) (ended post (fate_of spent rows)) new
-    FillLacks : (old new : FlowSeen S) (post : Post) (rows : List Row) (back : Post) (counts : NoSlot) → FillsOne old post rows (Err (back, counts)) new → Does old (back ∷ []) (post ∷ []) [] new
-    Fails : (old new : FlowSeen S) (post : Post) (spent : Spent) → FailsOne old post (Ok spent) new → Does old [] (post ∷ []) (ended post (fate_of spent [])) new
-    FailWorn : (old new : FlowSeen S) (post back : Post) → FailsOne old post (Err back) new → Does old (back ∷ []) (post ∷ []) [] new
+    Fills : (old new : FlowSeen S) (post : Post) (rows : List Row) (spent : Spent) → FillsOne post rows old new (Ok spent) → Does old [] (post ∷ []) (ended post (fate_of spent rows)) new
+    FillLacks : (old new : FlowSeen S) (post : Post) (rows : List Row) (back : Post) (counts : NoSlot) → FillsOne post rows old new (Err (back, counts)) → Does old (back ∷ []) (post ∷ []) [] new
+    Fails : (old new : FlowSeen S) (post : Post) (spent : Spent) → FailsOne post old new (Ok spent) → Does old [] (post ∷ []) (ended post (fate_of spent [])) new
+    FailWorn : (old new : FlowSeen S) (post back : Post) → FailsOne post old new (Err back) → Does old (back ∷ []) (post ∷ []) [] new
     Keeps : (old new : FlowSeen S) (post : Post) → new ≡ record old { kept = Some post } → Does old (kept_posts old.kept) (post ∷ []) [] new
-    TurnsOnce : (old new : FlowSeen S) (turned : Turn) (turns : Turns gives fails old turned new) → Does old [] [] (ended_by old turned new turns) new
+    TurnsOnce : (old new : FlowSeen S) (turned : Turn) (turns : Turns gives fails old new turned) → Does old [] [] (ended_by old turned new turns) new
     Updates : (old new : FlowSeen S) (key : ℕ) (batch : List Delta) (answer : Result (Unit {0}) UpdateFault)
         → UpdatesKey old.map.shape.rows key batch old.writer new.writer answer → new ≡ record old { writer = new.writer } → Does old [] [] [] new
     Replaces : (old new : FlowSeen S) (key : ℕ) (rows : List Row) (answer : Result (Unit {0}) ReplaceFault)
@@ -78,7 +78,7 @@ module _ {S : Type 0} (gives : S → (key bound : ℕ) → List Row → S → Ty
     Cancels : (old new : FlowSeen S) (key : ℕ) (answer : Cancel) → CancelsKey key old.writer new.writer answer
         → new ≡ record old { writer = new.writer; guest = new.guest } → Does old [] [] [] new
     Tells : (old new : FlowSeen S) → new ≡ record old { writer = with_step old.writer } → Does old [] [] [] new
-    Hears : (old new : FlowSeen S) (note : Known) → HearsNote 1 old.writer note new.writer → new ≡ record old { writer = new.writer } → Does old [] [] [] new
+    Hears : (old new : FlowSeen S) (note : Known) → HearsNote 1 note old.writer new.writer → new ≡ record old { writer = new.writer } → Does old [] [] [] new
     -- it reads the bell or sleeps, and its source is changed
     Looks : (old new : FlowSeen S) → new ≡ record old { guest = new.guest } → Does old [] [] [] new
     Lends : (old new : FlowSeen S) → new ≡ record old { source = new.source } → Does old [] [] [] new

@@ -8,7 +8,7 @@ use Rattle.nr_serve.specs.Counts.{GuestSeen, Raises, rung_at}
 pub record Rings (old : Hands) (before : GuestSeen) (new : Hands) (after : GuestSeen) : Type 0 where
   pub count : ℕ
   pub posted : length new.poster.posted ≡ length old.poster.posted + count
-  pub raises : Raises before (replicate count rung_at) after
+  pub raises : Raises (replicate count rung_at) before after
 
 -- how often the bell was rung when it was read, and the taker then
 pub record RungSeen : Type 0 where

@@ -21,16 +21,16 @@ kept_posts None = []
 kept_posts (Some post) = post ∷ []
 
 -- no trigger is lost: the one kept before, and then those that were taken, are those that were spent, and then the one kept after
-pub record Spends (before : Option Post) (old : TakerSeen) (spent : List Post) (after : Option Post) (new : TakerSeen) : Type 0 where
+pub record Spends (spent : List Post) (old : TakerSeen) (before : Option Post) (new : TakerSeen) (after : Option Post) : Type 0 where
   pub same : IsSameTaker old new
   pub gain : List Post
   pub taken : new.taken ≡ old.taken ++ gain
   pub all : kept_posts before ++ gain ≡ spent ++ kept_posts after
 
 -- the trigger that is kept, or else the next one of the queue, if there is any
-pub record Takes {S : Type 0} (old : FlowSeen S) (post : Post) (new : FlowSeen S) : Type 0 where
+pub record Takes {S : Type 0} (old new : FlowSeen S) (post : Post) : Type 0 where
   pub near : post.upquery.key < old.map.shape.keys
-  pub spends : Spends old.kept old.taker [] (Some post) new.taker
+  pub spends : Spends [] old.taker old.kept new.taker (Some post)
   pub rest : new ≡ record old { taker = new.taker; kept = None }
 
 -- none is kept, and one attempt to take finds none
@@ -41,33 +41,33 @@ FindsNone old new = (old.kept ≡ None) × WasEmpty old.taker × (new ≡ record
 abbrev pub AwaitsPost : TakerSeen → TakerSeen → Type 0
 AwaitsPost old new = WasEmpty old × (new ≡ taker_tried old)
 
-abbrev pub Nexts : {S : Type 0} → FlowSeen S → Option Post → FlowSeen S → Type 0
-Nexts old None new = FindsNone old new
-Nexts old (Some post) new = Takes old post new
+abbrev pub Nexts : {S : Type 0} → FlowSeen S → FlowSeen S → Option Post → Type 0
+Nexts old new None = FindsNone old new
+Nexts old new (Some post) = Takes old new post
 
 module _ {S : Type 0} (gives : S → (key bound : ℕ) → List Row → S → Type 0) where
   -- one fill of the trigger's key, by its number, with rows that the source gave in this turn, told the map's bound on them
-  pub record FillsPost (old : FlowSeen S) (post : Post) (answer : Result (Unit {0}) FillFault) (new : FlowSeen S) : Type 0 where
+  pub record FillsPost (post : Post) (old new : FlowSeen S) (answer : Result (Unit {0}) FillFault) : Type 0 where
     pub rows : List Row
     pub gave : gives old.source post.upquery.key old.map.shape.rows rows new.source
     pub few : length rows ≤ old.map.shape.rows
     pub fills : FillsKey post.upquery.key post.upquery.number rows old.writer new.writer answer
 
   -- the trigger of that key, which is one of the map's, is spent, none is kept, and the lobby is raised for the key
-  pub record SpendsOne (old : FlowSeen S) (key : ℕ) (answer : Result (Unit {0}) FillFault) (new : FlowSeen S) : Type 0 where
+  pub record SpendsOne (key : ℕ) (old new : FlowSeen S) (answer : Result (Unit {0}) FillFault) : Type 0 where
     pub near : key < old.map.shape.keys
     pub post : Post
     pub key_is : post.upquery.key ≡ key
-    pub answers : FillsPost old post answer new
-    pub spends : Spends old.kept old.taker (post ∷ []) None new.taker
+    pub answers : FillsPost post old new answer
+    pub spends : Spends (post ∷ []) old.taker old.kept new.taker None
     pub none : new.kept ≡ None
-    pub raised : Raises old.guest (raises_for key) new.guest
+    pub raised : Raises (raises_for key) old.guest new.guest
 
   -- the trigger is kept, and the lobby is left alone
-  pub record KeepsOne (old : FlowSeen S) (answer : Result (Unit {0}) FillFault) (new : FlowSeen S) : Type 0 where
+  pub record KeepsOne (old new : FlowSeen S) (answer : Result (Unit {0}) FillFault) : Type 0 where
     pub post : Post
-    pub answers : FillsPost old post answer new
-    pub spends : Spends old.kept old.taker [] (Some post) new.taker
+    pub answers : FillsPost post old new answer
+    pub spends : Spends [] old.taker old.kept new.taker (Some post)
     pub kept : new.kept ≡ Some post
     pub raised : OnlyLooks old.guest new.guest
 
@@ -79,54 +79,54 @@ IsOver cancel.Worn = ⊥
 
 module _ {S : Type 0} (fails : S → (key bound : ℕ) → S → Type 0) where
   -- the source, told the map's bound, failed for the trigger's key, and the trigger's own request is taken back, if it still stands and can be; who waits for the key is told
-  pub record FailsPost (old : FlowSeen S) (post : Post) (answer : Cancel) (new : FlowSeen S) : Type 0 where
+  pub record FailsPost (post : Post) (old new : FlowSeen S) (answer : Cancel) : Type 0 where
     pub failed : fails old.source post.upquery.key old.map.shape.rows new.source
-    pub takes_back : TakesBack post.upquery old.writer answer new.writer
+    pub takes_back : TakesBack post.upquery old.writer new.writer answer
     pub raised : FailRaises answer post.upquery.key old.guest new.guest
 
   -- the trigger of that key, which is one of the map's, is spent without a fill, and none is kept
-  pub record GivesUp (old : FlowSeen S) (key : ℕ) (new : FlowSeen S) : Type 0 where
+  pub record GivesUp (key : ℕ) (old new : FlowSeen S) : Type 0 where
     pub near : key < old.map.shape.keys
     pub post : Post
     pub key_is : post.upquery.key ≡ key
     pub answer : Cancel
     pub over : IsOver answer
-    pub ends : FailsPost old post answer new
-    pub spends : Spends old.kept old.taker (post ∷ []) None new.taker
+    pub ends : FailsPost post old new answer
+    pub spends : Spends (post ∷ []) old.taker old.kept new.taker None
     pub none : new.kept ≡ None
 
   -- its request can't be taken back, and the trigger is kept
-  pub record KeepsWorn (old : FlowSeen S) (key : ℕ) (new : FlowSeen S) : Type 0 where
+  pub record KeepsWorn (key : ℕ) (old new : FlowSeen S) : Type 0 where
     pub post : Post
     pub key_is : post.upquery.key ≡ key
-    pub ends : FailsPost old post cancel.Worn new
-    pub spends : Spends old.kept old.taker [] (Some post) new.taker
+    pub ends : FailsPost post old new cancel.Worn
+    pub spends : Spends [] old.taker old.kept new.taker (Some post)
     pub kept : new.kept ≡ Some post
 
 module _ {S : Type 0} (gives : S → (key bound : ℕ) → List Row → S → Type 0) (fails : S → (key bound : ℕ) → S → Type 0) where
-  abbrev pub Turns : FlowSeen S → Turn → FlowSeen S → Type 0
-  Turns old turn.Idle new = FindsNone old new
-  Turns old (turn.Filled key) new = SpendsOne gives old key (Ok tt) new
-  Turns old (turn.Passed key) new = (fault : FillFault) × IsPast fault × SpendsOne gives old key (Err fault) new
-  Turns old (turn.Failed key) new = GivesUp fails old key new
-  Turns old (turn.Kept counts) new = KeepsOne gives old (Err (fill.NoSlot counts)) new
-  Turns old (turn.Worn key) new = KeepsWorn fails old key new
+  abbrev pub Turns : FlowSeen S → FlowSeen S → Turn → Type 0
+  Turns old new turn.Idle = FindsNone old new
+  Turns old new (turn.Filled key) = SpendsOne gives key old new (Ok tt)
+  Turns old new (turn.Passed key) = (fault : FillFault) × IsPast fault × SpendsOne gives key old new (Err fault)
+  Turns old new (turn.Failed key) = GivesUp fails key old new
+  Turns old new (turn.Kept counts) = KeepsOne gives old new (Err (fill.NoSlot counts))
+  Turns old new (turn.Worn key) = KeepsWorn fails key old new
 
   -- the source is asked for the rows of a trigger, which its key is filled with; or it fails
-  abbrev pub AsksSource : FlowSeen S → Post → Result (Result (Unit {0}) FillFault) SourceFault → FlowSeen S → Type 0
-  AsksSource old post (Ok answer) new = FillsPost gives old post answer new
-  AsksSource old post (Err fault) new = fails old.source post.upquery.key old.map.shape.rows new.source × (new.writer ≡ old.writer)
+  abbrev pub AsksSource : Post → FlowSeen S → FlowSeen S → Result (Result (Unit {0}) FillFault) SourceFault → Type 0
+  AsksSource post old new (Ok answer) = FillsPost gives post old new answer
+  AsksSource post old new (Err fault) = fails old.source post.upquery.key old.map.shape.rows new.source × (new.writer ≡ old.writer)
 
 -- a turn goes on with a trigger for whose key the source failed
-abbrev pub TurnsFailed : {S : Type 0} → FlowSeen S → Post → Turn → FlowSeen S → Type 0
-TurnsFailed old post turn.Idle new = ⊥
-TurnsFailed old post (turn.Filled key) new = ⊥
-TurnsFailed old post (turn.Passed key) new = ⊥
-TurnsFailed old post (turn.Failed key) new = (key ≡ post.upquery.key) × (answer : Cancel) × IsOver answer × FailsBy old post answer new
-TurnsFailed old post (turn.Kept counts) new = ⊥
-TurnsFailed old post (turn.Worn key) new = (key ≡ post.upquery.key) × TakesBack post.upquery old.writer cancel.Worn new.writer × OnlyLooks old.guest new.guest × (new ≡ record old { writer = new.writer; guest = new.guest; kept = Some post })
+abbrev pub TurnsFailed : {S : Type 0} → Post → FlowSeen S → FlowSeen S → Turn → Type 0
+TurnsFailed post old new turn.Idle = ⊥
+TurnsFailed post old new (turn.Filled key) = ⊥
+TurnsFailed post old new (turn.Passed key) = ⊥
+TurnsFailed post old new (turn.Failed key) = (key ≡ post.upquery.key) × (answer : Cancel) × IsOver answer × FailsBy post old new answer
+TurnsFailed post old new (turn.Kept counts) = ⊥
+TurnsFailed post old new (turn.Worn key) = (key ≡ post.upquery.key) × TakesBack post.upquery old.writer new.writer cancel.Worn × OnlyLooks old.guest new.guest × (new ≡ record old { writer = new.writer; guest = new.guest; kept = Some post })
 
 -- a cancel raises the lobby for the key where it took a request back, and else leaves it alone
 abbrev pub CancelRaises : Cancel → ℕ → GuestSeen → GuestSeen → Type 0
-CancelRaises cancel.Cancelled key old new = Raises old (raises_for key) new
+CancelRaises cancel.Cancelled key old new = Raises (raises_for key) old new
 CancelRaises _ key old new = new ≡ old

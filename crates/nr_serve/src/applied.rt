@@ -141,7 +141,7 @@ impl<'a, M: Measure> Applied<'a, M> {
     ) -> Option<u64>
         requires own { reader.old.table ≡ map.now }
         requires notes { (amount : _) (note : _) → M.reached amount note → note.table ≡ map.now }
-        ensures hears { HearsApplied M.reached least reader.old result lobby.new reader.new }
+        ensures hears { HearsApplied M.reached least lobby.new reader.old reader.new result }
         ensures looks { OnlyLooks lobby.old lobby.new }
     {
         for _ in rt.forever() {

@@ -100,7 +100,7 @@ impl<'a, G: Gate> Client<'a, G> {
     /// nothing else.
     pub fn get<R: Wait>(&mut self, rt: &R, key: u32, tries: u32, rows: &mut RowSet) -> Got
         requires { key < self.old.map.shape.keys }
-        ensures gets { Gets key tries self.old.hands rows.old result self.new.hands rows.new }
+        ensures gets { Gets key tries self.old.hands rows.old self.new.hands rows.new result }
         ensures released { self.new.hands.reader.holds ≡ None }
         ensures at_once { tries ≡ 0 → self.new.hands ≡ self.old.hands }
         ensures rings { Rings self.old.hands self.old.guest self.new.hands self.new.guest }
@@ -129,7 +129,7 @@ impl<'a, G: Gate> Client<'a, G> {
         until: Instant,
     ) -> Result<Got, TooLate>
         requires { key < self.old.map.shape.keys }
-        ensures gets { GetsInTime key tries self.old.hands rows.old result self.new.hands rows.new }
+        ensures gets { GetsInTime key tries self.old.hands rows.old self.new.hands rows.new result }
         ensures late { IfErr result (λ late. late.until ≡ until) }
         ensures released { self.new.hands.reader.holds ≡ None }
         ensures at_once { tries ≡ 0 → self.new.hands ≡ self.old.hands }
@@ -153,7 +153,7 @@ impl<'a, G: Gate> Client<'a, G> {
         limit: &L,
     ) -> Result<Got, TooLate>
         requires { key < self.old.map.shape.keys }
-        ensures gets { GetsInTime key tries self.old.hands rows.old result self.new.hands rows.new }
+        ensures gets { GetsInTime key tries self.old.hands rows.old self.new.hands rows.new result }
         ensures late { IfErr result (λ late. L.lapses limit.now late) }
         ensures released { self.new.hands.reader.holds ≡ None }
         ensures at_once { tries ≡ 0 → self.new.hands ≡ self.old.hands }
@@ -201,7 +201,7 @@ impl<'a, G: Gate> Client<'a, G> {
     /// The client learns, in 1 step of its reader, all that the note's maker had seen.
     pub fn hear(&mut self, note: Note)
         requires { note.table ≡ self.old.map }
-        ensures hears { HearsNote 1 self.old.hands.reader note self.new.hands.reader }
+        ensures hears { HearsNote 1 note self.old.hands.reader self.new.hands.reader }
         ensures rest { self.new ≡ record self.old { hands = with_idle_reader self.old.hands self.new.hands.reader } }
     {
         match &mut self.hands {
@@ -222,7 +222,7 @@ impl<'a, G: Gate> Client<'a, G> {
     ) -> Option<u64>
         requires lobby { applied.now ≡ self.old.guest.lobby }
         requires notes { (amount : _) (note : _) → M.reached amount note → note.table ≡ self.old.map }
-        ensures hears { HearsApplied M.reached least self.old.hands.reader result self.new.guest self.new.hands.reader }
+        ensures hears { HearsApplied M.reached least self.new.guest self.old.hands.reader self.new.hands.reader result }
         ensures looks { OnlyLooks self.old.guest self.new.guest }
         ensures rest { self.new ≡ record self.old { hands = with_idle_reader self.old.hands self.new.hands.reader; guest = self.new.guest } }
     {

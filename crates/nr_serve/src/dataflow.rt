@@ -137,7 +137,7 @@ impl<'a, S> Dataflow<'a, S> {
     )
         requires lobby { applied.now ≡ self.old.guest.lobby }
         requires reached { KnowsOwn self.old.writer → M.reached amount (known_to self.old.writer) }
-        ensures raised { Raises self.old.guest (told_at ∷ []) self.new.guest }
+        ensures raised { Raises (told_at ∷ []) self.old.guest self.new.guest }
         ensures rest { self.new ≡ record self.old { writer = with_step self.old.writer; guest = self.new.guest } }
     {
         let note = self.map.note_writer(&mut self.writer);
@@ -159,7 +159,7 @@ impl<'a, S> Dataflow<'a, S> {
     /// The dataflow learns, in 1 step of its writer, all that the note's maker had seen.
     pub fn hear(&mut self, note: Note)
         requires { note.table ≡ self.old.map }
-        ensures hears { HearsNote 1 self.old.writer note self.new.writer }
+        ensures hears { HearsNote 1 note self.old.writer self.new.writer }
         ensures rest { self.new ≡ record self.old { writer = self.new.writer } }
     {
         self.map.hear_writer(&mut self.writer, note);

@@ -113,7 +113,7 @@ impl Lobby {
     #[tactic(auto, using(crate::proofs::Later::raises_none, crate::proofs::Later::raises_both))]
     pub fn raise<R: Wait>(&self, rt: &R, guest: &mut Guest)
         requires { guest.old.lobby ≡ self.now }
-        ensures { Raises guest.old (groups_below 64 ++ whole_at ∷ []) guest.new }
+        ensures { Raises (groups_below 64 ++ whole_at ∷ []) guest.old guest.new }
     {
         for group in 0..GROUPS {
             self.raise_at(rt, guest, 8 * group as usize);
@@ -127,7 +127,7 @@ impl Lobby {
     #[tactic(auto, using(crate::proofs::Later::raises_both))]
     pub fn raise_for<R: Wait>(&self, rt: &R, guest: &mut Guest, key: u32)
         requires { guest.old.lobby ≡ self.now }
-        ensures { Raises guest.old (raises_for key) guest.new }
+        ensures { Raises (raises_for key) guest.old guest.new }
     {
         self.raise_at(rt, guest, group_at(key));
         self.raise_at(rt, guest, WHOLE_AT);
@@ -140,7 +140,7 @@ impl Lobby {
     #[tactic(auto, using(crate::proofs::Later::raises_both))]
     pub(crate) fn fail_for<R: Wait>(&self, rt: &R, guest: &mut Guest, key: u32)
         requires { guest.old.lobby ≡ self.now }
-        ensures { Raises guest.old (fails_for key) guest.new }
+        ensures { Raises (fails_for key) guest.old guest.new }
     {
         self.raise_at(rt, guest, failed_at(key));
         self.raise_for(rt, guest, key);
@@ -223,7 +223,7 @@ impl Lobby {
     /// 2^64 - 1 closes the lobby.
     pub fn ring<R: Wait>(&self, rt: &R, guest: &mut Guest)
         requires { guest.old.lobby ≡ self.now }
-        ensures { Raises guest.old (rung_at ∷ []) guest.new }
+        ensures { Raises (rung_at ∷ []) guest.old guest.new }
     {
         self.raise_at(rt, guest, RUNG_AT);
         self.rung.wake_all();
@@ -232,7 +232,7 @@ impl Lobby {
     // Wakes those who wait until the dataflow told that more was applied.
     pub(crate) fn tell<R: Wait>(&self, rt: &R, guest: &mut Guest)
         requires { guest.old.lobby ≡ self.now }
-        ensures { Raises guest.old (told_at ∷ []) guest.new }
+        ensures { Raises (told_at ∷ []) guest.old guest.new }
     {
         self.raise_at(rt, guest, TOLD_AT);
         self.told.wake_all();
@@ -280,7 +280,7 @@ impl Lobby {
     fn raise_at<R: Wait>(&self, rt: &R, guest: &mut Guest, place: usize)
         requires lobby { guest.old.lobby ≡ self.now }
         requires place { (place < 536) × (place ≢ closed_at) }
-        ensures { Raises guest.old (place ∷ []) guest.new }
+        ensures { Raises (place ∷ []) guest.old guest.new }
     {
         for _ in rt.forever() {
             let (count, next) = self.next_count(guest, place);
@@ -297,7 +297,7 @@ impl Lobby {
     fn next_count(&self, guest: &mut Guest, place: usize) -> (u64, u64)
         requires lobby { guest.old.lobby ≡ self.now }
         requires place { (place < 536) × (place ≢ closed_at) }
-        ensures raises { Raises guest.old [] guest.new }
+        ensures raises { Raises [] guest.old guest.new }
         ensures next { let (count, next) = result in next ≡ capped (count + 1) }
         ensures last { let (_, next) = result in next ≡ last_count → 0 < slice_index guest.new.seen closed_at }
     {

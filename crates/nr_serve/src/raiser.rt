@@ -56,21 +56,21 @@ impl<'a> Raiser<'a> {
 
     /// Raises the count of this key's group and that of the whole lobby.
     pub fn raise_for<R: Wait>(&mut self, rt: &R, key: u32)
-        ensures { Raises self.old (raises_for key) self.new }
+        ensures { Raises (raises_for key) self.old self.new }
     {
         self.lobby.raise_for(rt, &mut self.guest, key);
     }
 
     /// As `raise_for`, and counts for the key's group that a source failed.
     pub fn fail_for<R: Wait>(&mut self, rt: &R, key: u32)
-        ensures { Raises self.old (fails_for key) self.new }
+        ensures { Raises (fails_for key) self.old self.new }
     {
         self.lobby.fail_for(rt, &mut self.guest, key);
     }
 
     /// Wakes those who wait until more was applied, once that was told.
     pub fn tell<R: Wait>(&mut self, rt: &R)
-        ensures { Raises self.old (told_at ∷ []) self.new }
+        ensures { Raises (told_at ∷ []) self.old self.new }
     {
         self.lobby.tell(rt, &mut self.guest);
     }

@@ -38,7 +38,7 @@ fn post_kept<R: Wait>(
 ) -> Hands
     requires { IsReady map.now triggers.now hands }
     ensures ready { IsReady map.now triggers.now result }
-    ensures moves { Moves 0 hands [] result }
+    ensures moves { Moves 0 [] hands result }
     ensures reader { result.reader ≡ hands.reader }
     ensures attempts { result.poster.tries ≡ hands.poster.tries + kept_attempts hands.kept }
     ensures rings { Rings hands lobby.old result lobby.new }
@@ -76,7 +76,7 @@ fn request<R: Wait>(
     requires ready { IsReady map.now triggers.now hands }
     requires key { key < map.now.shape.keys }
     ensures ready { let (_, after) = result in IsReady map.now triggers.now after }
-    ensures moves { let (answer, after) = result in Moves (length (requested hands.reader.number key answer)) hands (requested hands.reader.number key answer) after }
+    ensures moves { let (answer, after) = result in Moves (length (requested hands.reader.number key answer)) (requested hands.reader.number key answer) hands after }
     ensures marks { let (_, after) = result in after.reader.marks ≡ hands.reader.marks }
     ensures leaves { let (answer, after) = result in LeavesKept answer after.kept }
     ensures attempts { let (answer, after) = result in after.poster.tries ≡ hands.poster.tries + sent_attempts answer }
@@ -127,7 +127,7 @@ fn lets_pass<G: Gate>(places: &Places<'_, G>, get: u64) -> bool
 #[inline(always)]
 fn answer<G: Gate>(places: &Places<'_, G>, get: u64, pin: Pin, rows: &mut RowSet) -> (Got, Reader)
     requires own { pin.reader.table ≡ places.now.map.now }
-    ensures answers { let (got, reader) = result in AnswersPin pin rows.old got reader rows.new }
+    ensures answers { let (got, reader) = result in AnswersPin pin rows.old reader rows.new got }
     ensures asks { let (got, _) = result in AsksGate G.lets G.hears places.now.gate.now places.now.reader get got }
     ensures idle { let (_, reader) = result in reader.holds ≡ None }
     ensures marks { let (_, reader) = result in reader.marks ≡ acted pin.reader.marks pin.reader.marks.put }
@@ -156,7 +156,7 @@ fn try_once<G: Gate, R: Wait>(
     requires ready { IsReady places.now.map.now places.now.triggers.now hands }
     requires key { key < places.now.map.now.shape.keys }
     ensures ready { let (_, after) = result in IsReady places.now.map.now places.now.triggers.now after }
-    ensures tries { let (tried, after) = result in TriesOnce key hands rows.old tried after rows.new }
+    ensures tries { let (tried, after) = result in TriesOnce key hands rows.old after rows.new tried }
     ensures rings { let (_, after) = result in Rings hands lobby.old after lobby.new }
     ensures asks { let (tried, _) = result in AsksOnce G.lets G.hears places.now.gate.now places.now.reader get tried }
 {
@@ -191,10 +191,10 @@ fn sleep_if<L: Limit<R>, R: Wait>(
     hands: &Hands,
     limit: &L,
 ) -> Result<(), TooLate>
-    requires { MissesOnce counted.now.key counted.now.hands.value requested.now hands.now }
+    requires { MissesOnce counted.now.key counted.now.hands.value hands.now requested.now }
     ensures looks { OnlyLooks lobby.old lobby.new }
     ensures late { IfErr result (λ late. L.lapses limit.now late) }
-    ensures slept { IfErr result (λ _. (0 < tries_left) × AwaitsFill counted.now.key counted.now.hands.value requested.now hands.now) }
+    ensures slept { IfErr result (λ _. (0 < tries_left) × AwaitsFill counted.now.key counted.now.hands.value hands.now requested.now) }
 {
     if tries_left > 0 && requested.is_pending() && hands.kept.is_none() {
         lobby.wait_past(rt, counted, requested, hands, limit)?;
@@ -219,7 +219,7 @@ pub(crate) fn get_by_tries<G: Gate, L: Limit<R>, R: Wait>(
     requires ready { IsReady places.now.map.now places.now.triggers.now hands }
     requires key { key < places.now.map.now.shape.keys }
     ensures ready { let (_, after) = result in IsReady places.now.map.now places.now.triggers.now after }
-    ensures gets { let (ended, after) = result in GetsInTime key tries hands rows.old ended after rows.new }
+    ensures gets { let (ended, after) = result in GetsInTime key tries hands rows.old after rows.new ended }
     ensures late { let (ended, _) = result in IfErr ended (λ late. L.lapses limit.now late) }
     ensures at_once { let (_, after) = result in tries ≡ 0 → after ≡ hands }
     ensures rings { let (_, after) = result in Rings hands lobby.old after lobby.new }

@@ -52,7 +52,7 @@ impl<'a, S> Dataflow<'a, S> {
     /// had meanwhile. It can't be dropped: `fill`, `fail` or `keep` has it back, and any other
     /// trigger may come and go before. May wait for a thread that is within a call of its own.
     pub fn take<R: Wait>(&mut self, rt: &R) -> Option<Trigger>
-        ensures { Nexts self.old result self.new }
+        ensures { Nexts self.old self.new result }
     {
         match self.kept.take() {
             Some(trigger) => Some(trigger),
@@ -72,7 +72,7 @@ impl<'a, S> Dataflow<'a, S> {
     ) -> Result<Spent, (Trigger, NoSlot)>
         requires key { trigger.upquery.key < self.old.map.shape.keys }
         requires few { length rows.now ≤ self.old.map.shape.rows }
-        ensures fills { FillsOne self.old trigger rows.now result self.new }
+        ensures fills { FillsOne trigger rows.now self.old self.new result }
         ensures room { HasRoomForAll self.old.map → IsTrue (is_ok result) }
     {
         laws::room_for_fills();
@@ -95,7 +95,7 @@ impl<'a, S> Dataflow<'a, S> {
     /// the request can't be taken back, since its ticket number is the last one.
     pub fn fail<R: Wait>(&mut self, rt: &R, trigger: Trigger) -> Result<Spent, Trigger>
         requires key { trigger.upquery.key < self.old.map.shape.keys }
-        ensures { FailsOne self.old trigger result self.new }
+        ensures { FailsOne trigger self.old self.new result }
     {
         match self.take_back(&trigger) {
             Cancel::Cancelled => {
@@ -155,7 +155,7 @@ impl<'a, S> Dataflow<'a, S> {
 
     // Spends a trigger after its fill, and raises the lobby for its key.
     fn spend<R: Wait>(&mut self, rt: &R, trigger: Trigger)
-        ensures raised { Raises self.old.guest (raises_for trigger.upquery.key) self.new.guest }
+        ensures raised { Raises (raises_for trigger.upquery.key) self.old.guest self.new.guest }
         ensures rest { self.new ≡ record self.old { guest = self.new.guest } }
     {
         self.raiser.raise_for(rt, trigger.into_key());
@@ -164,7 +164,7 @@ impl<'a, S> Dataflow<'a, S> {
     // Cancels the trigger's own request. A request of another ticket number is left alone.
     fn take_back(&mut self, trigger: &Trigger) -> Cancel
         requires key { trigger.now.upquery.key < self.old.map.shape.keys }
-        ensures cancels { TakesBack trigger.now.upquery self.old.writer result self.new.writer }
+        ensures cancels { TakesBack trigger.now.upquery self.old.writer self.new.writer result }
         ensures rest { self.new ≡ record self.old { writer = self.new.writer } }
     {
         let key = trigger.key();
@@ -199,7 +199,7 @@ impl<'a, S: Source> Dataflow<'a, S> {
     /// one more, none is ever kept for want of a slot. May wait for a thread that is within a call of
     /// its own.
     pub fn turn<R: Wait>(&mut self, rt: &R) -> Turn
-        ensures turns { Turns S.gives S.fails self.old result self.new }
+        ensures turns { Turns S.gives S.fails self.old self.new result }
         ensures places { (self.new.map ≡ self.old.map) × (self.new.queue ≡ self.old.queue) }
         ensures room { HasRoomForAll self.old.map → (counts : NoSlot) → result ≢ Turn.Kept counts }
     {
@@ -228,7 +228,7 @@ impl<'a, S: Source> Dataflow<'a, S> {
     /// lobby is closed, and then tells that it was idle. Call it again after that. It never sleeps
     /// while a trigger is kept.
     pub fn turn_or_sleep<R: Wait>(&mut self, rt: &R) -> Turn
-        ensures turns { Turns S.gives S.fails self.old result self.new }
+        ensures turns { Turns S.gives S.fails self.old self.new result }
         ensures places { (self.new.map ≡ self.old.map) × (self.new.queue ≡ self.old.queue) }
         ensures room { HasRoomForAll self.old.map → (counts : NoSlot) → result ≢ Turn.Kept counts }
     {
@@ -243,7 +243,7 @@ impl<'a, S: Source> Dataflow<'a, S> {
     // Fills the trigger's key with rows that the source gives now, if it does.
     fn fill_from_source(&mut self, trigger: &Trigger) -> Result<Result<(), FillFault>, SourceFault>
         requires key { trigger.now.upquery.key < self.old.map.shape.keys }
-        ensures asks { AsksSource S.gives S.fails self.old trigger.now result self.new }
+        ensures asks { AsksSource S.gives S.fails trigger.now self.old self.new result }
         ensures rest { self.new ≡ record self.old { writer = self.new.writer; source = self.new.source } }
         ensures room { HasRoomForAll self.old.map → (counts : NoSlot) → result ≢ Ok (Err (FillFault.NoSlot counts)) }
     {
@@ -260,7 +260,7 @@ impl<'a, S: Source> Dataflow<'a, S> {
     fn turn_failed<R: Wait>(&mut self, rt: &R, trigger: Trigger) -> Turn
         requires none { self.old.kept ≡ None }
         requires key { trigger.upquery.key < self.old.map.shape.keys }
-        ensures { TurnsFailed self.old trigger result self.new }
+        ensures { TurnsFailed trigger self.old self.new result }
     {
         let key = trigger.key();
         match self.fail(rt, trigger) {

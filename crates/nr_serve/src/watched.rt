@@ -107,7 +107,7 @@ impl<'a> Watched<'a> {
         hands: &Hands,
         limit: &L,
     ) -> Result<(), TooLate>
-        requires { AwaitsFill counted.now.key counted.now.hands.value requested.now hands.now }
+        requires { AwaitsFill counted.now.key counted.now.hands.value hands.now requested.now }
         ensures looks { OnlyLooks self.old self.new }
         ensures past { IfOk result (λ _. (counted.now.count < slice_index self.new.seen (group_at counted.now.key)) ⊎ (0 < slice_index self.new.seen closed_at)) }
         ensures late { IfErr result (λ late. L.lapses limit.now late) }
@@ -144,7 +144,7 @@ impl<'a> Watched<'a> {
 
     /// Rings the bell, once a ticket was posted.
     pub fn ring<R: Wait>(&mut self, rt: &R)
-        ensures { Raises self.old (rung_at ∷ []) self.new }
+        ensures { Raises (rung_at ∷ []) self.old self.new }
     {
         self.lobby.ring(rt, &mut self.guest);
     }

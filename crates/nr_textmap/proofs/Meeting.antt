@@ -75,7 +75,7 @@ module _ (text : Named) (old mid : Keeper) (set : List Row) (tied : IsTied mid) 
 
   -- so a call of the id's way is answered as one of a filled key
   module _ (was : IsTied old) (real : 0 < text.id) (new : Caller) (clerk : Token) (way : ℕ) (finds : FindsWay text.id mid.clerk clerk (Some way)) where
-    meets : (steps : ℕ) (call : Call) (answer : Reply) → call_key call ≡ way → Gains steps mid.writer call answer new →
+    meets : (steps : ℕ) (call : Call) (answer : Reply) → call_key call ≡ way → Gains steps call mid.writer new answer →
         (bound number : ℕ) × (answer ≡ reply_at bound call (Rows number (tag_of text.id ∷ found.1)))
     meets steps call answer key gains =
         let inside : call_key call < mid.writer.table.shape.keys = subst (λ (n : ℕ). n < mid.writer.table.shape.keys) (sym key)
@@ -93,15 +93,15 @@ module _ (text : Named) (old mid : Keeper) (set : List Row) (tied : IsTied mid) 
     applied_some (Err apply.NoRow) is = absurd (cc (is))
     applied_some (Err apply.TooMany) is = absurd (cc (is))
 
-    update_meets : (batch : List Delta) → Gains 1 mid.writer (Update way batch) reply.Dropped new → ⊥
+    update_meets : (batch : List Delta) → Gains 1 (Update way batch) mid.writer new reply.Dropped → ⊥
     update_meets batch gains = let it = meets 1 (Update way batch) reply.Dropped refl gains in
         applied_some (applied it.0 (tag_of text.id ∷ found.1) batch) it.2
 
-    replace_meets : (rows : List Row) → Gains 1 mid.writer (Replace way rows) reply.Dropped new → ⊥
+    replace_meets : (rows : List Row) → Gains 1 (Replace way rows) mid.writer new reply.Dropped → ⊥
     replace_meets rows gains = let it = meets 1 (Replace way rows) reply.Dropped refl gains in
         let e : reply.Dropped ≡ reply.Done = it.2 in absurd (cc (e))
 
-    evict_meets : Gains 1 mid.writer (Evict way) reply.Nothing new → ⊥
+    evict_meets : Gains 1 (Evict way) mid.writer new reply.Nothing → ⊥
     evict_meets gains = let it = meets 1 (Evict way) reply.Nothing refl gains in
         let e : reply.Nothing ≡ reply.Evicted = it.2 in absurd (cc (e))
 

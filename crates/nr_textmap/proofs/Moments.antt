@@ -24,7 +24,7 @@ set_found (Asked n) set is = absurd (cc (is))
 set_found (Rows n rows) set is = let same : rows ≡ set = cc (is) in (n, ap (Rows n) same)
 
 -- the entry itself
-gained : (steps id way : ℕ) (set rows : List Row) (old new : Caller) → set ≡ tag_of id ∷ rows → Gains steps old (Find way) (reply.Rows set) new →
+gained : (steps id way : ℕ) (set rows : List Row) (old new : Caller) → set ≡ tag_of id ∷ rows → Gains steps (Find way) old new (reply.Rows set) →
     WasResident id rows old new
 gained steps id way set rows old new tagged gains =
     let e : Entry = entry old.number (Find way) (reply.Rows set) in

@@ -75,12 +75,12 @@ EvictsText text old new evicted.Nothing = LooksAtText text old new looked.Pendin
 
 -- UPQUERIES
 -- the upquery of the text's id keeps the text
-pub record AdmitsText (text : Named) (old : Keeper) (upquery : SentText) (new : Keeper) : Type 0 where
+pub record AdmitsText (text : Named) (old new : Keeper) (upquery : SentText) : Type 0 where
   pub text_is : upquery.text ≡ text
-  pub admits : AdmitsId text.id old upquery.sent.owed new
+  pub admits : AdmitsId text.id old new upquery.sent.owed
 
-abbrev pub RefusesText : Named → Keeper → Refused → Keeper → Type 0
-RefusesText text old why new = RefusesId text.id old why new
+abbrev pub RefusesText : Named → Keeper → Keeper → Refused → Type 0
+RefusesText text old new why = RefusesId text.id old new why
 
 abbrev pub FillsText : SentText → List Row → Keeper → Keeper → Result (Unit {0}) UnfilledText → Type 0
 FillsText upquery rows old new (Ok done) = FillsId upquery.sent.owed (text_rows upquery.text ++ rows) old new (Ok done)

@@ -73,8 +73,8 @@ impl TextMap {
     pub fn admit(&self, writer: &mut TextWriter, text: Text) -> Result<TextUpquery, Refused>
         requires own { writer.old.ids.table ≡ self.now.ids }
         ensures own { writer.new.ids.table ≡ self.now.ids }
-        ensures admits { IfOk result (λ upquery. (upquery.sent.table ≡ self.now.ids) × AdmitsText text writer.old.ids upquery writer.new.ids) }
-        ensures refused { IfErr result (λ why. RefusesText text writer.old.ids why writer.new.ids) }
+        ensures admits { IfOk result (λ upquery. (upquery.sent.table ≡ self.now.ids) × AdmitsText text writer.old.ids writer.new.ids upquery) }
+        ensures refused { IfErr result (λ why. RefusesText text writer.old.ids writer.new.ids why) }
     {
         let upquery = self.ids.admit(&mut writer.ids, text.id())?;
         Ok(TextUpquery { upquery, text })

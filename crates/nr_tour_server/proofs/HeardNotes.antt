@@ -9,8 +9,8 @@ use Rattle.nr_board.specs.Meetings.{HearsNote, Known}
 use Rattle.nr_map.specs.Answers.{FindsKey}
 use Rattle.nr_map.specs.Written.{FindsAfter, FindsWhatItHeard, HeardBefore, answered}
 
-module _ (law : FindsWhatItHeard) (old heard new : Caller) (note : Known) (hears : HearsNote 1 old note heard) (near : 0 < old.table.shape.keys) where
-  just_heard : HeardBefore old note heard
+module _ (law : FindsWhatItHeard) (old heard new : Caller) (note : Known) (hears : HearsNote 1 note old heard) (near : 0 < old.table.shape.keys) where
+  just_heard : HeardBefore note old heard
   just_heard = record { steps = 1; heard = heard; hears = hears; table = refl; seen = record { rest = []; is = sym (append-nil heard.seen) } }
 
   pub finds_after : (answer : Found) (before rows : List Row) → FindsKey 0 heard before new rows answer → FindsAfter old.table 0 note.seen (answered answer rows)

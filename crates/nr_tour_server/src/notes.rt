@@ -81,7 +81,7 @@ fn acknowledge(map: &ReaderMap, writer: &mut Writer) -> Note
 fn hear(map: &ReaderMap, reader: &mut Reader, note: Note)
     requires own { (reader.old.table ≡ map.now) × (note.table ≡ map.now) }
     ensures own { reader.new.table ≡ map.now }
-    ensures hears { HearsNote 1 reader.old note reader.new }
+    ensures hears { HearsNote 1 note reader.old reader.new }
 {
     map.hear(reader, note);
 }

@@ -18,13 +18,13 @@ returns-then-not-again c =
     let x : Pin = record { key = c.in-Pinned.field-1; rows = pin.rows; put = pin.reader.marks.put } in (
       x,
       ap pin_of is,
-      subst (λ s. Grows 1 (caller_in s) [] c.again.new.self.reader) (sym is) told.finds,
+      subst (λ s. Grows 1 [] (caller_in s) c.again.new.self.reader) (sym is) told.finds,
       λ has. let never : false ≡ true = told.exact.1 has in cc,
       ((λ j. Some (record x { rows = told.rows j; put = (told.marks.marks j).put })) ∙ sym (ap pin_of is), told.holds ∙ ap (λ s. (caller_in s).holds) (sym is)),
     )
 
 -- a find, and then steps that read what it found
-finds_and_reads : (steps : ℕ) (old mid new : Caller) (key : ℕ) (rows : List Row) → Gains 1 old (model.Find key) (reply.Rows rows) mid → Rests steps mid new → Calls old.seen (model.Find key) (reply.Rows rows) old new
+finds_and_reads : (steps : ℕ) (old mid new : Caller) (key : ℕ) (rows : List Row) → Gains 1 (model.Find key) old mid (reply.Rows rows) → Rests steps mid new → Calls old.seen (model.Find key) old new (reply.Rows rows)
 finds_and_reads steps old mid new key rows finds rests = record {
   quiet = refl;
   table = rests.table ∙ finds.table;
@@ -50,8 +50,8 @@ returns c =
       x,
       ap pin_of is,
       ap reply.Rows copied,
-      subst (λ s. Calls (caller_in s).seen (model.Find c.args.key) (reply.Rows c.copy_to.new.rows) (caller_in s) new) (sym is)
-          (subst (λ rows. Calls pin.reader.seen (model.Find c.args.key) (reply.Rows rows) pin.reader new) (sym copied)
+      subst (λ s. Calls (caller_in s).seen (model.Find c.args.key) (caller_in s) new (reply.Rows c.copy_to.new.rows)) (sym is)
+          (subst (λ rows. Calls pin.reader.seen (model.Find c.args.key) pin.reader new (reply.Rows rows)) (sym copied)
           (finds_and_reads _ pin.reader mid new c.args.key pin.rows found.finds told.rests)),
       still_put _ c.args.key pin.reader.marks.put mid new told.rests (found.exact.0 refl),
       (

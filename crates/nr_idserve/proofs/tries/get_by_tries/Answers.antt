@@ -22,7 +22,7 @@ pub returns-in-Err-clause-gets : goal.returns-in-Err-clause-gets
 returns-in-Err-clause-gets g c =
     let so_far = c.loop-i.invariant in
     let capacity = c.args.service.now.queue.capacity in
-    let once = subst (λ (tried : TriedId). TriesOnce g.R.RowRoom.shows capacity c.args.id c.loop-i.hands c.loop-i.rows tried c.try_once-tried.result.1 c.try_once-tried.new.rows) c.in-Missed.is c.try_once-tried.ensures.tries in
+    let once = subst (λ (tried : TriedId). TriesOnce g.R.RowRoom.shows capacity c.args.id c.loop-i.hands c.loop-i.rows c.try_once-tried.result.1 c.try_once-tried.new.rows tried) c.in-Missed.is c.try_once-tried.ensures.tries in
     let slept = c.in-Err.ensures.slept in
     record {
       made = c.loop-i.i;
@@ -31,14 +31,14 @@ returns-in-Err-clause-gets g c =
       misses = so_far.missed;
       same = once.1 ∙ so_far.rows;
       missed = c.in-Missed.missed;
-      slept = subst (λ (from : ℕ × IdHands). AwaitsRaise capacity from.0 from.1 c.in-Missed.missed c.try_once-tried.result.1) (λ j. (c.count_for-counted.ensures.id.0 j, c.count_for-counted.ensures.hands j)) slept.1;
+      slept = subst (λ (from : ℕ × IdHands). AwaitsRaise capacity from.0 from.1 c.try_once-tried.result.1 c.in-Missed.missed) (λ j. (c.count_for-counted.ensures.id.0 j, c.count_for-counted.ensures.hands j)) slept.1;
     }
 
 pub loop-i-preserved : goal.loop-i-preserved
 loop-i-preserved g c =
     let so_far = c.loop-i.invariant in
     let capacity = c.args.service.now.queue.capacity in
-    let once = subst (λ (tried : TriedId). TriesOnce g.R.RowRoom.shows capacity c.args.id c.loop-i.hands c.loop-i.rows tried c.try_once-tried.result.1 c.try_once-tried.new.rows) c.in-Missed.is c.try_once-tried.ensures.tries in
+    let once = subst (λ (tried : TriedId). TriesOnce g.R.RowRoom.shows capacity c.args.id c.loop-i.hands c.loop-i.rows c.try_once-tried.result.1 c.try_once-tried.new.rows tried) c.in-Missed.is c.try_once-tried.ensures.tries in
     record {
       ready = c.try_once-tried.ensures.ready;
       missed = missed_more capacity c.args.id c.loop-i.i c.args.hands c.loop-i.hands c.try_once-tried.result.1 c.in-Missed.missed so_far.missed once.0;

@@ -20,10 +20,10 @@ returns-clause-serves g c =
     let table : c.args.shared.now.service.map ≡ c.args.reader.table = sym c.requires.own in
     let keys : c.open-draws.result.keys ≡ c.args.reader.table.shape.keys = c.open-draws.ensures.keys ∙ c.keys.ensures ∙ ap (λ (t : Table). t.shape.keys) (c.map.ensures ∙ table) in
     let stream : c.open-draws.result.generator ≡ stream_of c.args.shared.now.plan.seed c.args.reader.number = c.open-draws.ensures.generator ∙ ap (stream_of c.args.shared.now.plan.seed) c.number.ensures.number in
-    let works : Works 1000000 c.args.reader.table.shape.keys load.result.0.made (stream_of c.args.shared.now.plan.seed c.args.reader.number)
-    load.result.0.answered (replicate c.args.reader.table.shape.keys 0) (of_gets load.result.0.fault) old new load.new.draws.generator =
-    subst (λ (k : ℕ). Works 1000000 k load.result.0.made (stream_of c.args.shared.now.plan.seed c.args.reader.number) load.result.0.answered (replicate k 0) (of_gets load.result.0.fault) old new load.new.draws.generator) keys
-    (subst (λ (x : Lcg). Works 1000000 c.open-draws.result.keys load.result.0.made x load.result.0.answered (replicate c.open-draws.result.keys 0) (of_gets load.result.0.fault) old new load.new.draws.generator) stream load.ensures.works) in
+    let works : Works 1000000 c.args.reader.table.shape.keys load.result.0.made (replicate c.args.reader.table.shape.keys 0)
+    (stream_of c.args.shared.now.plan.seed c.args.reader.number) old load.new.draws.generator new load.result.0.answered (of_gets load.result.0.fault) =
+    subst (λ (k : ℕ). Works 1000000 k load.result.0.made (replicate k 0) (stream_of c.args.shared.now.plan.seed c.args.reader.number) old load.new.draws.generator new load.result.0.answered (of_gets load.result.0.fault)) keys
+    (subst (λ (x : Lcg). Works 1000000 c.open-draws.result.keys load.result.0.made (replicate c.open-draws.result.keys 0) x old load.new.draws.generator new load.result.0.answered (of_gets load.result.0.fault)) stream load.ensures.works) in
     let some : 0 < c.args.reader.table.shape.keys = subst (λ (t : Table). 0 < t.shape.keys) table c.args.shared.now.keys.0 in
     let first : old.reader ≡ c.args.reader = ap (λ (hands : Hands). hands.reader) c.open-client.ensures.hands in
     let few = works_few 1000000 _ load.result.0.made _ _ _ _ old new _ some works in

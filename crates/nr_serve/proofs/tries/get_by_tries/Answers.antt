@@ -13,14 +13,14 @@ loop-i-init g c = record { ready = c.requires.ready; missed = missed_none c.args
 pub returns-in-Ended-clause-gets : goal.returns-in-Ended-clause-gets
 returns-in-Ended-clause-gets g c =
     let so_far = c.loop-i.invariant in
-    let once = subst (λ (tried : Tried). TriesOnce c.args.key c.loop-i.hands c.loop-i.rows tried c.try_once-tried.result.1 c.try_once-tried.new.rows) c.in-Ended.is c.try_once-tried.ensures.tries in
-    subst (λ (before : List Row). Gets c.args.key c.args.tries c.args.hands before c.in-Ended.got c.try_once-tried.result.1 c.try_once-tried.new.rows) so_far.rows
+    let once = subst (λ (tried : Tried). TriesOnce c.args.key c.loop-i.hands c.loop-i.rows c.try_once-tried.result.1 c.try_once-tried.new.rows tried) c.in-Ended.is c.try_once-tried.ensures.tries in
+    subst (λ (before : List Row). Gets c.args.key c.args.tries c.args.hands before c.try_once-tried.result.1 c.try_once-tried.new.rows c.in-Ended.got) so_far.rows
     (gets_by_end c.args.key c.loop-i.i c.args.tries c.args.hands c.loop-i.hands c.try_once-tried.result.1 c.loop-i.rows c.try_once-tried.new.rows c.in-Ended.got c.loop-i-test.true so_far.missed once)
 
 pub loop-i-preserved : goal.loop-i-preserved
 loop-i-preserved g c =
     let so_far = c.loop-i.invariant in
-    let once = subst (λ (tried : Tried). TriesOnce c.args.key c.loop-i.hands c.loop-i.rows tried c.try_once-tried.result.1 c.try_once-tried.new.rows) c.in-Missed.is c.try_once-tried.ensures.tries in
+    let once = subst (λ (tried : Tried). TriesOnce c.args.key c.loop-i.hands c.loop-i.rows c.try_once-tried.result.1 c.try_once-tried.new.rows tried) c.in-Missed.is c.try_once-tried.ensures.tries in
     record {
       ready = c.try_once-tried.ensures.ready;
       missed = missed_more c.args.key c.loop-i.i c.args.hands c.loop-i.hands c.try_once-tried.result.1 c.loop-i.rows c.try_once-tried.new.rows c.in-Missed.requested so_far.missed once;
@@ -37,11 +37,11 @@ returns-in-Ended-clause-rings g c =
 pub returns-in-Err-clause-gets : goal.returns-in-Err-clause-gets
 returns-in-Err-clause-gets g c =
     let so_far = c.loop-i.invariant in
-    let once = subst (λ (tried : Tried). TriesOnce c.args.key c.loop-i.hands c.loop-i.rows tried c.try_once-tried.result.1 c.try_once-tried.new.rows) c.in-Missed.is c.try_once-tried.ensures.tries in
+    let once = subst (λ (tried : Tried). TriesOnce c.args.key c.loop-i.hands c.loop-i.rows c.try_once-tried.result.1 c.try_once-tried.new.rows tried) c.in-Missed.is c.try_once-tried.ensures.tries in
     let slept = c.in-Err.ensures.slept in
     ends_late c.args.key c.loop-i.i c.args.tries c.args.hands c.loop-i.hands c.try_once-tried.result.1 c.args.rows.now c.try_once-tried.new.rows c.in-Missed.requested (omega (arith, slept.0))
     so_far.missed (once.1 ∙ so_far.rows)
-    (subst (λ (from : ℕ × Hands). AwaitsFill from.0 from.1 c.in-Missed.requested c.try_once-tried.result.1) (λ j. (c.count_for-counted.ensures.key j, c.count_for-counted.ensures.hands j)) slept.1)
+    (subst (λ (from : ℕ × Hands). AwaitsFill from.0 from.1 c.try_once-tried.result.1 c.in-Missed.requested) (λ j. (c.count_for-counted.ensures.key j, c.count_for-counted.ensures.hands j)) slept.1)
 
 pub returns-in-Err-clause-rings : goal.returns-in-Err-clause-rings
 returns-in-Err-clause-rings g c =

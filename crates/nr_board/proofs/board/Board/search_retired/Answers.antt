@@ -15,7 +15,7 @@ returns-in-Some-pass-clause-searches c = let map = c.args.self.now in let spare 
     (subst (λ (s : Spare). ScannedTo s.retired c.pass.new.seat.me.0 c.scan_words.new.seat.me.0 c.scan_words.new.unheard map.announcers) first.0 scan.scans)
     (subst (λ (s : Spare). Flagged map s.retired c.scan_words.new.seat.me.0.heard c.scan_words.new.unheard) first.0 scan.flagged)
     c.pass-2.new.spare c.pass-2.new.seat c.in-Some-pass.taken
-    (subst (λ (s : Spare). PassTakes map s c.pass-2.new.spare c.scan_words.new.unheard c.scan_words.new.seat c.pass-2.new.seat c.in-Some-pass.taken) first.0 c.in-Some-pass.ensures)
+    (subst (λ (s : Spare). PassTakes map c.scan_words.new.unheard c.scan_words.new.seat s c.pass-2.new.seat c.pass-2.new.spare c.in-Some-pass.taken) first.0 c.in-Some-pass.ensures)
 
 pub returns-clause-searches : goal.returns-clause-searches
 returns-clause-searches c = let map = c.args.self.now in let spare = c.args.spare.now in let first = c.in_default.ensures in let scan = c.scan_words.ensures in let second = c.in_default-pass.ensures in

@@ -37,4 +37,4 @@ returns-clause-answer c = let id = c.args.id in let way = c.in_ok-way.way in let
     let old = token c.clerk.inside.seat in let first = token c.look_at_turn-turn.new.seat in let second = token c.room_for.new.seat in let third = token c.name.new.seat in let last = token c.close.new.seat in
     let of_is = group_is id c.group_of-group.result c.plan.result.now c.args.self.now old own c.group_of-group.ensures.value c.plan.ensures.value in
     subst (λ (t : Token). Admits id t last (Ok way)) c.clerk.view_is
-    (admission id way c.requires.id old first second third last clerk turn.grows c.in_ok-way.ensures.rooms c.name.ensures.grows (subst (λ (g : ℕ). Grows third (cleared g ∷ []) last) of_is c.close.ensures.grows))
+    (admission id way c.requires.id old first second third last clerk turn.grows c.in_ok-way.ensures.rooms c.name.ensures.grows (subst (λ (g : ℕ). Grows (cleared g ∷ []) third last) of_is c.close.ensures.grows))

@@ -8,6 +8,6 @@ pub returns-then-marks-bit-eq0-clause-marks : goal.returns-then-marks-bit-eq0-cl
 returns-then-marks-bit-eq0-clause-marks c = let new = token c.add_marks.new.seat in (
   2,
   inr refl,
-  subst (λ (t : Token). Grows t (looks 2 t.number) new) c.reader.view_is
+  subst (λ (t : Token). Grows (looks 2 t.number) t new) c.reader.view_is
       (then_looks (token c.reader.inside.seat) (token c.marks.new.seat) new 1 c.marks.ensures.grows c.add_marks.ensures.grows),
 )

@@ -40,7 +40,7 @@ returns-then-name-id-clause-room c = let was = c.loop-place.invariant in let pla
     let old = token c.args.seat.now in let mid = token c.loop-place.seat in let new = token c.look-name.new.seat in
     let at : (8 * group + place) % 8 ≡ place = place_is group place c.loop-place-test.true in (
       omega (arith, c.loop-place-test.true),
-      subst (λ (k : ℕ). Grows old (looks (k + 1) old.number) new) (sym at) (looks_on old mid new place was.grows c.look-name.ensures.grows),
+      subst (λ (k : ℕ). Grows (looks (k + 1) old.number) old new) (sym at) (looks_on old mid new place was.grows c.look-name.ensures.grows),
       record {
         inside = subst (λ (d : Opened). 8 * group + place < ways d.plan) (sym c.look-name.ensures.caller.own) (way_inside group c.args.self.now.plan.groups place c.requires.group c.loop-place-test.true);
         has = sym c.look-name.ensures.value ∙ c.if-name-id.true;
@@ -50,7 +50,7 @@ returns-then-name-id-clause-room c = let was = c.loop-place.invariant in let pla
 pub returns-clause-room : goal.returns-clause-room
 returns-clause-room c = let was = c.loop-place.invariant in let old = token c.args.seat.now in let new = token c.loop-place.seat in let group = c.args.group in
     let all : c.loop-place.place ≡ 8 = omega (arith, was.bound, c.loop-place-test.false) in record {
-      grows = subst (λ (k : ℕ). Grows old (looks k old.number) new) all was.grows;
+      grows = subst (λ (k : ℕ). Grows (looks k old.number) old new) all was.grows;
       passed = subst (λ (k : ℕ). PassedByClerk (way_in group) c.args.id old k new) all was.passed;
       free = was.free;
       full = subst (λ (k : ℕ). IfNone c.loop-place.room.way (PassedByClerk (way_in group) 0 old k new)) all was.full;

@@ -47,5 +47,5 @@ returns-then-look-id-clause-scans c = let was = c.loop-place.invariant in let pl
 pub returns-clause-scans : goal.returns-clause-scans
 returns-clause-scans c = let was = c.loop-place.invariant in let id = c.args.id in let old = token c.args.seat.now in let new = token c.loop-place.seat in
     let all : c.loop-place.place ≡ places = omega (arith, was.bound, c.loop-place-test.false) in
-    missed id c.requires.id old new (subst (λ (k : ℕ). Grows old (looks k old.number) new) all was.grows) (subst (λ (k : ℕ). Ahead id old k new) all (was.ahead (omega arith)))
+    missed id c.requires.id old new (subst (λ (k : ℕ). Grows (looks k old.number) old new) all was.grows) (subst (λ (k : ℕ). Ahead id k old new) all (was.ahead (omega arith)))
     (subst (λ (k : ℕ). (at : ℕ) → at < k → Passed old.seen new.seen (way_for old id at) id) all was.passed) (subst (λ (k : ℕ). PassedByClerk (way_for old id) id old k new) all was.clerk)

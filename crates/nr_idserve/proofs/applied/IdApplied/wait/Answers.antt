@@ -10,5 +10,5 @@ returns-in-Some-look-clause-hears g c =
       told.0,
       c.in-Some-look.note,
       told.1,
-      subst (λ (reader : IdCaller). HearsIdNote reader c.in-Some-look.note c.hear.new.reader) same c.hear.ensures.hears,
+      subst (λ (reader : IdCaller). HearsIdNote c.in-Some-look.note reader c.hear.new.reader) same c.hear.ensures.hears,
     )

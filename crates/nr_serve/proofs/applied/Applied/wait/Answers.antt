@@ -12,5 +12,5 @@ returns-in-Some-look-clause-hears g c =
       c.in-Some-look.note,
       told.1,
       hears_after_steps 3 c.args.reader.now c.hear.new.reader c.in-Some-look.note
-          (subst (λ (reader : Caller). HearsNote 1 reader c.in-Some-look.note c.hear.new.reader) same c.hear.ensures),
+          (subst (λ (reader : Caller). HearsNote 1 c.in-Some-look.note reader c.hear.new.reader) same c.hear.ensures),
     )

@@ -2,4 +2,4 @@ use Rattle.nr_serve.specs.Counts.{Raises, groups_below}
 use Rattle.nr_serve.proofs.lobby.Lobby.raise.Given as goal
 
 abbrev pub invariant-loop-group : goal.invariant-loop-group
-invariant-loop-group g l = Raises l.fn.guest (groups_below l.group) l.guest
+invariant-loop-group g l = Raises (groups_below l.group) l.fn.guest l.guest
