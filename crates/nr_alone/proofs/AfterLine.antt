@@ -1,4 +1,5 @@
--- What a reader's line leaves: the tokens that its round gathered lie in the map's list again, and the map shows what the line was answered.
+-- What a reader's line leaves: the tokens that its round gathered lie in the map's list again, and the map shows what
+-- the line was answered.
 use Rattle.std.proofs.Common.{◌≡◌, ◌<◌, ℕ, List, length, set, sym, ap, ◌∙◌, subst, arith, refl, Vec, Ok, Result}
 use Rattle.std.proofs.lemmas.List.{with_items_is}
 use Rattle.std.specs.Vec.{with_item, with_items}
@@ -15,15 +16,23 @@ use Rattle.nr_alone.proofs.Rounds.{same_length}
 
 module _ {Z : Type 0} (table : Table) (w0 : Caller) (tokens : Vec ReaderToken Z) (at : ℕ) where
   -- the reader's place is that of a token
-  pub place_here : (now : MapState) → shown_by table w0 tokens.items ≡ now → at < length now.pins → at < length tokens.items
-  place_here now shows low = let few = subst (λ (s : MapState). at < length s.pins) (sym shows) low in omega (arith, many_pins tokens.items)
+  pub place_here : (now : MapState) → shown_by table w0 tokens.items ≡ now → at < length now.pins
+      → at < length tokens.items
+  place_here now shows low =
+      let few = subst (λ (s : MapState). at < length s.pins) (sym shows) low in
+      omega (arith, many_pins tokens.items)
 
-  module _ (x : ReaderToken) (w' : Caller) (tokens' slice : List ReaderToken) (items : slice ≡ set tokens.items at x) where
-    pub round_here : (w : Caller) → w ≡ w0 → Gathered at w slice w' tokens' → Gathered at w0 (set tokens.items at x) w' tokens'
-    round_here w same g = subst (λ (l : List ReaderToken). Gathered at w0 l w' tokens') items (subst (λ (c : Caller). Gathered at c slice w' tokens') same g)
+  module _ (x : ReaderToken) (w' : Caller) (tokens' slice : List ReaderToken)
+      (items : slice ≡ set tokens.items at x) where
+    pub round_here : (w : Caller) → w ≡ w0 → Gathered at w slice w' tokens'
+        → Gathered at w0 (set tokens.items at x) w' tokens'
+    round_here w same g =
+        subst (λ (l : List ReaderToken). Gathered at w0 l w' tokens') items
+        (subst (λ (c : Caller). Gathered at c slice w' tokens') same g)
 
     -- the same where the writer made a note before the round
-    pub round_after_note : (w : Caller) (result : Result Answer PinRefusal) (answer : Answer) → result ≡ Ok answer → NotesFor w0 w result → Gathered at w slice w' tokens' → Gathered at w0 (set tokens.items at x) w' tokens'
+    pub round_after_note : (w : Caller) (result : Result Answer PinRefusal) (answer : Answer) → result ≡ Ok answer
+        → NotesFor w0 w result → Gathered at w slice w' tokens' → Gathered at w0 (set tokens.items at x) w' tokens'
     round_after_note w result answer was notes g =
         let h = subst (λ (c : Caller). Gathered at c slice w' tokens') (subst (NotesFor w0 w) was notes) g in
         let stays : WriterStays w0 h.mid = record {
@@ -38,18 +47,28 @@ module _ {Z : Type 0} (table : Table) (w0 : Caller) (tokens : Vec ReaderToken Z)
             marks = h.stays.only.marks;
           };
         } in
-        round_here w0 refl (record { mid = h.mid; stays = stays; sound = h.sound; all = h.all; heard = h.heard; round = h.round })
+        round_here w0 refl
+        (record { mid = h.mid; stays = stays; sound = h.sound; all = h.all; heard = h.heard; round = h.round })
 
-    module _ (len : length slice ≡ (with_item tokens at x).len) (g : Gathered at w0 (set tokens.items at x) w' tokens') where
+    module _ (len : length slice ≡ (with_item tokens at x).len)
+        (g : Gathered at w0 (set tokens.items at x) w' tokens') where
       all_here : (with_items (with_item tokens at x) tokens').items ≡ tokens'
-      all_here = with_items_is (with_item tokens at x) tokens' (same_length tokens' (set tokens.items at x) g.round.same ∙ ap (λ (l : List ReaderToken). length l) (sym items) ∙ len)
+      all_here =
+          with_items_is (with_item tokens at x) tokens'
+          (same_length tokens' (set tokens.items at x) g.round.same
+          ∙ ap (λ (l : List ReaderToken). length l) (sym items) ∙ len)
 
       pub alone_here : IsAlone table w' tokens' → IsAlone table w' (with_items (with_item tokens at x) tokens').items
       alone_here alone = subst (λ (l : List ReaderToken). IsAlone table w' l) (sym all_here) alone
 
-      pub answers_here : (line : MapState → MapOutcome) (now : MapState) (answer : Answer) → shown_by table w0 tokens.items ≡ now
+      pub answers_here : (line : MapState → MapOutcome) (now : MapState) (answer : Answer)
+          → shown_by table w0 tokens.items ≡ now
           → line (shown_by table w0 tokens.items) ≡ (Ok answer, shown_by table w' tokens')
           → line now ≡ (Ok answer, shown_by table w' (with_items (with_item tokens at x) tokens').items)
       answers_here line now answer shows said =
-          subst (λ (s : MapState). line s ≡ (Ok answer, shown_by table w' (with_items (with_item tokens at x) tokens').items)) shows
-          (subst (λ (l : List ReaderToken). line (shown_by table w0 tokens.items) ≡ (Ok answer, shown_by table w' l)) (sym all_here) said)
+          subst
+          (λ (s : MapState). line s
+          ≡ (Ok answer, shown_by table w' (with_items (with_item tokens at x) tokens').items))
+          shows
+          (subst (λ (l : List ReaderToken). line (shown_by table w0 tokens.items) ≡ (Ok answer, shown_by table w' l))
+          (sym all_here) said)

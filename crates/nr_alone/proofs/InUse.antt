@@ -1,5 +1,6 @@
 -- The slots that are in use, as the state has them and as the readers' tokens show them.
-use Rattle.std.proofs.Common.{◌≡◌, ◌<◌, ℕ, suc, zero, ◌+◌, List, [], ◌∷◌, true, false, length, map, get_or, refl, sym, ap, ◌∙◌, subst, arith, eq-eqb, ne_eqb, Option, None, Some, option_map, IsSome}
+use Rattle.std.proofs.Common.{◌≡◌, ◌<◌, ℕ, suc, zero, ◌+◌, List, [], ◌∷◌, true, false, length, map, get_or, refl, sym}
+use Rattle.std.proofs.Common.{ap, ◌∙◌, subst, arith, eq-eqb, ne_eqb, Option, None, Some, option_map, IsSome}
 use mathlib.Core.Option.{some, some-injective, some-ne-none}
 use lib.ListN.{get_elem?}
 use Rattle.core.specs.List.{cons_option}
@@ -27,11 +28,14 @@ pin_same : (s : ReaderToken) → TokenHoldsItsPin s → put_of (pin_of s) ≡ pi
 pin_same (Idle reader) fits = ap (λ (o : Option ℕ). option_map (λ (slot : ℕ). reader.marks.put) o) (sym fits)
 pin_same (Pinned pin key) fits = some_put pin.reader.holds pin.reader.marks.put fits
 
-pub pins_same : (tokens : List ReaderToken) → ((at : ℕ) (other : ReaderToken) → at < length tokens → TokenHoldsItsPin (get_or tokens at other)) → pinned_puts (map pin_of tokens) ≡ pins (map how_of tokens)
+pub pins_same : (tokens : List ReaderToken)
+    → ((at : ℕ) (other : ReaderToken) → at < length tokens → TokenHoldsItsPin (get_or tokens at other))
+    → pinned_puts (map pin_of tokens) ≡ pins (map how_of tokens)
 pins_same [] fits = refl
 pins_same (s ∷ tokens) fits =
     ap (λ (o : Option ℕ). cons_option o (pinned_puts (map pin_of tokens))) (pin_same s (fits 0 s (omega arith)))
-    ∙ ap (λ (l : List ℕ). cons_option (pinned_put (how_of s)) l) (pins_same tokens (λ at other low. fits (suc at) other (omega arith)))
+    ∙ ap (λ (l : List ℕ). cons_option (pinned_put (how_of s)) l)
+    (pins_same tokens (λ at other low. fits (suc at) other (omega arith)))
 
 or_is : (l : List ReaderToken) (i : ℕ) (a d : ReaderToken) → get_elem? l i ≡ some a → get_or l i d ≡ a
 or_is [] i a d e = absurd (some-ne-none a (sym e))
@@ -50,26 +54,42 @@ module _ (table : Table) (w : Caller) (tokens : List ReaderToken) (alone : IsAlo
         at,
         how_of there.0,
         at_maps how_of tokens at there.0 there.1,
-        ap (λ (s : ReaderToken). (caller_in s).number) (sym (or_is tokens at there.0 there.0 there.1)) ∙ (alone.places at there.0 (inside tokens at there.0 there.1)).number,
+        ap (λ (s : ReaderToken). (caller_in s).number) (sym (or_is tokens at there.0 there.0 there.1))
+            ∙ (alone.places at there.0 (inside tokens at there.0 there.1)).number,
       )
 
-  known_at : (at : ℕ) (one : Past) → get_elem? readers at ≡ some one → (s : ReaderToken) × IsKnown (log_of w tokens) w s × (how_of s ≡ one)
+  known_at : (at : ℕ) (one : Past) → get_elem? readers at ≡ some one
+      → (s : ReaderToken) × IsKnown (log_of w tokens) w s × (how_of s ≡ one)
   known_at at one is =
-      let here = at_unmap how_of tokens at one is in
-      (here.0, subst (λ (s : ReaderToken). IsKnown (log_of w tokens) w s) (or_is tokens at here.0 here.0 here.1) (alone.known at here.0 (inside tokens at here.0 here.1)), here.2)
+      let here = at_unmap how_of tokens at one is in (
+        here.0,
+        subst (λ (s : ReaderToken). IsKnown (log_of w tokens) w s) (or_is tokens at here.0 here.0 here.1)
+            (alone.known at here.0 (inside tokens at here.0 here.1)),
+        here.2,
+      )
 
   pub all_known : AllKnown w.pasts readers
   all_known at one is = let k = known_at at one is in (k.1.place, k.1.known ∙ ap some k.2)
 
   pub all_current : AllCurrent w.retired w.marks readers
-  all_current at one is = let k = known_at at one is in subst (λ (p : Past). Current w.retired w.marks p) k.2 k.1.current
+  all_current at one is =
+      let k = known_at at one is in
+      subst (λ (p : Past). Current w.retired w.marks p) k.2 k.1.current
 
   -- the state's count of slots in use
-  pub in_use_is : (log : List Entry) → filled_count (map_after table.shape log) + strays (keyed (map_after table.shape log).states (put_numbers table.shape log)) (pinned_puts (map pin_of tokens)) ≡ slots_in_use table.shape log readers
-  in_use_is log = ap (λ (l : List ℕ). filled_count (map_after table.shape log) + strays (filled_puts table.shape log) l) (pins_same tokens (λ at other low. (alone.places at other low).fits))
+  pub in_use_is : (log : List Entry)
+      → filled_count (map_after table.shape log)
+      + strays (keyed (map_after table.shape log).states (put_numbers table.shape log))
+      (pinned_puts (map pin_of tokens))
+      ≡ slots_in_use table.shape log readers
+  in_use_is log =
+      ap (λ (l : List ℕ). filled_count (map_after table.shape log) + strays (filled_puts table.shape log) l)
+      (pins_same tokens (λ at other low. (alone.places at other low).fits))
 
-  pub full : (log : List Entry) → slots_in_use table.shape log readers ≡ table.shape.slots → is_full (shown_after table log tokens) ≡ true
+  pub full : (log : List Entry) → slots_in_use table.shape log readers ≡ table.shape.slots
+      → is_full (shown_after table log tokens) ≡ true
   full log all = eq-eqb _ _ (in_use_is log ∙ all)
 
-  pub not_full : (log : List Entry) → slots_in_use table.shape log readers < table.shape.slots → is_full (shown_after table log tokens) ≡ false
+  pub not_full : (log : List Entry) → slots_in_use table.shape log readers < table.shape.slots
+      → is_full (shown_after table log tokens) ≡ false
   not_full log less = ne_eqb _ _ (λ e. let same = sym (in_use_is log) ∙ e in omega arith)

@@ -1,5 +1,6 @@
 -- The opening, after which every reader is gathered once.
-use Rattle.std.proofs.Common.{◌≡◌, ◌<◌, ◌≤◌, ⊎_elim, ℕ, suc, zero, ◌+◌, List, [], ◌∷◌, ◌++◌, All, length, map, take, get_or, refl, sym, ap, ◌∙◌, subst, arith, Option, None, replicate}
+use Rattle.std.proofs.Common.{◌≡◌, ◌<◌, ◌≤◌, ⊎_elim, ℕ, suc, zero, ◌+◌, List, [], ◌∷◌, ◌++◌, All, length, map, take}
+use Rattle.std.proofs.Common.{get_or, refl, sym, ap, ◌∙◌, subst, arith, Option, None, replicate}
 use Rattle.std.proofs.lemmas.List.{append-nil, get_or-map}
 use Rattle.std.proofs.lemmas.Option.{get_or_from_slice_get}
 use Rattle.std.proofs.lemmas.Bool.{cases_lt}
@@ -35,7 +36,8 @@ no_puts : (a n : ℕ) → map (put_number []) (range_with_len a n) ≡ replicate
 no_puts a zero = refl
 no_puts a (suc n) = ap (λ (l : List ℕ). 0 ∷ l) (no_puts (a + 1) n)
 
-module _ (laws : Laws) (shape : Shape) (table : Table) (w : Caller) (readers : List Caller) (new : IsOpened shape 0 table w readers) (some : 0 < shape.readers) (w' : Caller) (tokens' : List ReaderToken)
+module _ (laws : Laws) (shape : Shape) (table : Table) (w : Caller) (readers : List Caller)
+    (new : IsOpened shape 0 table w readers) (some : 0 < shape.readers) (w' : Caller) (tokens' : List ReaderToken)
     (g : Gathered 0 w (map Idle readers) w' tokens') where
   abbrev tokens : List ReaderToken
   tokens = map Idle readers
@@ -43,9 +45,11 @@ module _ (laws : Laws) (shape : Shape) (table : Table) (w : Caller) (readers : L
   size : length tokens ≡ shape.readers
   size = many_idle readers ∙ new.count
 
-  token_at : (at : ℕ) (other : ReaderToken) → at < length tokens → get_or tokens at other ≡ Idle (newcomer table (at + 1) no_marks)
+  token_at : (at : ℕ) (other : ReaderToken) → at < length tokens
+      → get_or tokens at other ≡ Idle (newcomer table (at + 1) no_marks)
   token_at at other low =
-      let inside : at < length readers = omega (arith, many_idle readers, low) in let near : at < shape.readers = omega (arith, size, low) in
+      let inside : at < length readers = omega (arith, many_idle readers, low) in
+      let near : at < shape.readers = omega (arith, size, low) in
       let c : Caller = newcomer table (at + 1) no_marks in
       get_or-map Idle readers at c other inside ∙ ap Idle (get_or_from_slice_get readers at c c (new.reads at near))
 
@@ -97,13 +101,20 @@ module _ (laws : Laws) (shape : Shape) (table : Table) (w : Caller) (readers : L
 
   pub shows : shown_by table w' tokens' ≡ opened_map shape
   shows =
-      let pins : map pin_of tokens ≡ replicate shape.readers None = no_pins readers ∙ ap (λ (n : ℕ). replicate n None) new.count in
+      let pins : map pin_of tokens ≡ replicate shape.readers None
+      = no_pins readers ∙ ap (λ (n : ℕ). replicate n None) new.count in
       shown_with laws table w tokens tokens [] g.mid.seen w' tokens' settles (replicate shape.readers None) pins
-      ∙ ap (λ (l : List Entry). record (shown_after table (l ++ []) tokens) { pins = replicate shape.readers None }) log_none
-      ∙ ap (λ (s : Shape). record (shown_after (record table { shape = s }) [] tokens) { pins = replicate shape.readers None }) new.sizes
+      ∙ ap (λ (l : List Entry). record (shown_after table (l ++ []) tokens) { pins = replicate shape.readers None })
+      log_none
+      ∙ ap
+      (λ (s : Shape).
+      record (shown_after (record table { shape = s }) [] tokens) { pins = replicate shape.readers None })
+      new.sizes
       ∙ (λ j. record (opened_map shape) { puts = no_puts 0 shape.keys j })
 
-pub all_idle : (t : Table) (readers : List Caller) → All (λ (r : Caller). r.table ≡ t) readers → All (λ (s : ReaderToken). (caller_in s).table ≡ t) (map Idle readers)
+pub all_idle : (t : Table) (readers : List Caller) → All (λ (r : Caller). r.table ≡ t) readers
+    → All (λ (s : ReaderToken). (caller_in s).table ≡ t) (map Idle readers)
 all_idle t readers own at other low =
     let inside : at < length readers = omega (arith, many_idle readers, low) in
-    ap (λ (s : ReaderToken). (caller_in s).table) (get_or-map Idle readers at (caller_in other) other inside) ∙ own at (caller_in other) inside
+    ap (λ (s : ReaderToken). (caller_in s).table) (get_or-map Idle readers at (caller_in other) other inside)
+    ∙ own at (caller_in other) inside

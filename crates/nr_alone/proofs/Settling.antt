@@ -1,5 +1,6 @@
 -- A line and its round.
-use Rattle.std.proofs.Common.{◌≡◌, ◌≢◌, ◌<◌, ◌≤◌, ℕ, suc, zero, List, [], ◌∷◌, ◌++◌, length, map, get_or, refl, sym, ap, ◌∙◌, subst, arith, ⊎_elim}
+use Rattle.std.proofs.Common.{◌≡◌, ◌≢◌, ◌<◌, ◌≤◌, ℕ, suc, zero, List, [], ◌∷◌, ◌++◌, length, map, get_or, refl, sym, ap}
+use Rattle.std.proofs.Common.{◌∙◌, subst, arith, ⊎_elim}
 use Rattle.std.proofs.lemmas.List.{append-nil}
 use Rattle.std.proofs.lemmas.Bool.{cases_lt}
 use mathlib.Core.Logic.{dite}
@@ -17,11 +18,13 @@ use Rattle.nr_alone.proofs.Rounds.{same_at, same_length, starts_both, starts_eac
 use Rattle.nr_board.proofs.Entries.{nobody_else}
 use Rattle.nr_alone.proofs.Exactly.{calls_at, exact_step, log_begins, log_is, many_mines}
 
-pub map_still : {B : Type 0} (f : Still → B) (xs : List ReaderToken) → map f (map still xs) ≡ map (λ (x : ReaderToken). f (still x)) xs
+pub map_still : {B : Type 0} (f : Still → B) (xs : List ReaderToken)
+    → map f (map still xs) ≡ map (λ (x : ReaderToken). f (still x)) xs
 map_still f [] = refl
 map_still f (x ∷ xs) = ap (λ l. f (still x) ∷ l) (map_still f xs)
 
-pub same_map : {B : Type 0} (f : Still → B) (xs ys : List ReaderToken) → map still xs ≡ map still ys → map (λ (x : ReaderToken). f (still x)) xs ≡ map (λ (x : ReaderToken). f (still x)) ys
+pub same_map : {B : Type 0} (f : Still → B) (xs ys : List ReaderToken) → map still xs ≡ map still ys
+    → map (λ (x : ReaderToken). f (still x)) xs ≡ map (λ (x : ReaderToken). f (still x)) ys
 same_map f xs ys e = sym (map_still f xs) ∙ ap (λ (l : List Still). map f l) e ∙ map_still f ys
 
 pub beyond_it : (xs : List (List Entry)) (at : ℕ) → length xs ≤ at → get_or xs at [] ≡ []
@@ -29,8 +32,10 @@ beyond_it [] at past = refl
 beyond_it (x ∷ xs) zero past = absurd (omega arith)
 beyond_it (x ∷ xs) (suc at) past = beyond_it xs at (omega arith)
 
-module _ (laws : Laws) (table : Table) (w0 : Caller) (tokens0 : List ReaderToken) (w : Caller) (tokens : List ReaderToken) (first : ℕ) (es : List Entry) (w' : Caller) (tokens' : List ReaderToken)
-    (alone : ReadyForRound table w0 tokens0) (line : IsLine table w0 tokens0 w tokens first es) (g : Gathered first w tokens w' tokens') where
+module _ (laws : Laws) (table : Table) (w0 : Caller) (tokens0 : List ReaderToken) (w : Caller)
+    (tokens : List ReaderToken) (first : ℕ) (es : List Entry) (w' : Caller) (tokens' : List ReaderToken)
+    (alone : ReadyForRound table w0 tokens0) (line : IsLine table w0 tokens0 w tokens first es)
+    (g : Gathered first w tokens w' tokens') where
   abbrev log : List Entry
   log = log_of w0 tokens0
 
@@ -38,32 +43,45 @@ module _ (laws : Laws) (table : Table) (w0 : Caller) (tokens0 : List ReaderToken
   size = same_length tokens' tokens g.round.same
 
   goes : StartsWith g.mid.seen log
-  goes = starts_then log w0.seen g.mid.seen (log_begins w0 tokens0) (starts_then w0.seen w.seen g.mid.seen line.seen g.stays.seen)
+  goes =
+      starts_then log w0.seen g.mid.seen (log_begins w0 tokens0)
+      (starts_then w0.seen w.seen g.mid.seen line.seen g.stays.seen)
 
   table_is : g.mid.table ≡ table
   table_is = g.stays.only.table ∙ line.same_table ∙ alone.own
 
   -- the reader at a place, which is not the line's
-  of_other : (at : ℕ) (other : ReaderToken) → at < length tokens → at ≢ first → entries_of g.mid.seen (suc at) ≡ mine_of (get_or tokens at other)
+  of_other : (at : ℕ) (other : ReaderToken) → at < length tokens → at ≢ first
+      → entries_of g.mid.seen (suc at) ≡ mine_of (get_or tokens at other)
   of_other at other low apart =
       let shown = g.round.each at other low in
-      let same : still (get_or tokens' at other) ≡ still (get_or tokens at other) = same_at tokens' tokens g.round.same at other other (omega (arith, size, low)) in
-      let number : (caller_in (get_or tokens' at other)).number ≡ suc at = ap (λ (s : Still). s.how.reader) same ∙ (line.places at other low).number in
+      let same : still (get_or tokens' at other) ≡ still (get_or tokens at other)
+      = same_at tokens' tokens g.round.same at other other (omega (arith, size, low)) in
+      let number : (caller_in (get_or tokens' at other)).number ≡ suc at
+      = ap (λ (s : Still). s.how.reader) same ∙ (line.places at other low).number in
       let most : StartsWith (mine_of (get_or tokens at other)) (entries_of g.mid.seen (suc at)) =
       subst (λ (m : List Entry). StartsWith m (entries_of g.mid.seen (suc at))) (ap (λ (s : Still). s.mine) same)
       (subst (λ (n : ℕ). StartsWith (mine_of (get_or tokens' at other)) (entries_of g.mid.seen n)) number shown.few) in
       let had : entries_of log (suc at) ≡ mine_of (get_or tokens at other) =
-      alone.just (suc at) ∙ sym (line.grown (suc at) ∙ ap (λ (l : List Entry). calls_of w0.mine (map mine_of tokens0) (suc at) ++ l) (line.others at apart) ∙ append-nil (calls_of w0.mine (map mine_of tokens0) (suc at)))
+      alone.just (suc at)
+      ∙ sym
+      (line.grown (suc at)
+      ∙ ap (λ (l : List Entry). calls_of w0.mine (map mine_of tokens0) (suc at) ++ l) (line.others at apart)
+      ∙ append-nil (calls_of w0.mine (map mine_of tokens0) (suc at)))
       ∙ calls_at w.mine tokens at other low in
-      let least : StartsWith (entries_of g.mid.seen (suc at)) (mine_of (get_or tokens at other)) = subst (λ (m : List Entry). StartsWith (entries_of g.mid.seen (suc at)) m) had (starts_each g.mid.seen log (suc at) goes) in
+      let least : StartsWith (entries_of g.mid.seen (suc at)) (mine_of (get_or tokens at other))
+      = subst (λ (m : List Entry). StartsWith (entries_of g.mid.seen (suc at)) m) had
+      (starts_each g.mid.seen log (suc at) goes) in
       starts_both (entries_of g.mid.seen (suc at)) (mine_of (get_or tokens at other)) least most
 
   of_first : (other : ReaderToken) → entries_of g.mid.seen (suc first) ≡ mine_of (get_or tokens first other)
   of_first other = ap (entries_of g.mid.seen) (sym (line.places first other line.low).number) ∙ g.all other
 
-  of_reader : (at : ℕ) (other : ReaderToken) → at < length tokens → entries_of g.mid.seen (suc at) ≡ mine_of (get_or tokens at other)
+  of_reader : (at : ℕ) (other : ReaderToken) → at < length tokens
+      → entries_of g.mid.seen (suc at) ≡ mine_of (get_or tokens at other)
   of_reader at other low = dite (ℕ_discrete at first)
-      (λ is. ap (λ (n : ℕ). entries_of g.mid.seen (suc n)) is ∙ of_first other ∙ ap (λ (n : ℕ). mine_of (get_or tokens n other)) (sym is))
+      (λ is. ap (λ (n : ℕ). entries_of g.mid.seen (suc n)) is ∙ of_first other
+      ∙ ap (λ (n : ℕ). mine_of (get_or tokens n other)) (sym is))
       (λ isnt. of_other at other low isnt)
 
   many : length (map mine_of tokens) ≡ length tokens
@@ -76,17 +94,23 @@ module _ (laws : Laws) (table : Table) (w0 : Caller) (tokens0 : List ReaderToken
   now zero = ap (entries_of g.mid.seen) (sym (g.stays.number ∙ line.number ∙ alone.number)) ∙ g.sound.own ∙ g.stays.mine
   now (suc at) = ⊎_elim
       (λ (low : at < length tokens). of_reader at (Idle w) low ∙ sym (calls_at w.mine tokens at (Idle w) low))
-      (λ (past : length tokens ≤ at). nobody_else g.mid.table.shape g.mid.seen (suc at) g.sound.callers (omega (arith, readers_are, past)) ∙ sym (beyond_it (map mine_of tokens) at (omega (arith, many, past))))
+      (λ (past : length tokens ≤ at). nobody_else g.mid.table.shape g.mid.seen (suc at) g.sound.callers
+      (omega (arith, readers_are, past))
+      ∙ sym (beyond_it (map mine_of tokens) at (omega (arith, many, past))))
       (cases_lt at (length tokens))
 
   mid_is : g.mid.seen ≡ log ++ es
-  mid_is = exact_step log g.mid.seen es line.few goes (calls_of w0.mine (map mine_of tokens0)) (calls_of w.mine (map mine_of tokens)) alone.just now line.grown
+  mid_is =
+      exact_step log g.mid.seen es line.few goes (calls_of w0.mine (map mine_of tokens0))
+      (calls_of w.mine (map mine_of tokens)) alone.just now line.grown
 
   mines : map mine_of tokens' ≡ map mine_of tokens
   mines = same_map (λ (s : Still). s.mine) tokens' tokens g.round.same
 
   just : HasJust (log ++ es) w' tokens'
-  just caller = ap (λ (l : List Entry). entries_of l caller) (sym mid_is) ∙ now caller ∙ ap (λ (m : List Entry). calls_of m (map mine_of tokens) caller) (sym (g.round.stays.mine ∙ g.stays.mine))
+  just caller =
+      ap (λ (l : List Entry). entries_of l caller) (sym mid_is) ∙ now caller
+      ∙ ap (λ (m : List Entry). calls_of m (map mine_of tokens) caller) (sym (g.round.stays.mine ∙ g.stays.mine))
       ∙ ap (λ (m : List (List Entry)). calls_of w'.mine m caller) (sym mines)
 
   own : w'.table ≡ table
@@ -104,7 +128,8 @@ module _ (laws : Laws) (table : Table) (w0 : Caller) (tokens0 : List ReaderToken
   places : (at : ℕ) (other : ReaderToken) → at < length tokens' → IsToken table at (get_or tokens' at other)
   places at other low =
       let low0 : at < length tokens = omega (arith, size, low) in
-      let same : still (get_or tokens' at other) ≡ still (get_or tokens at other) = same_at tokens' tokens g.round.same at other other low in
+      let same : still (get_or tokens' at other) ≡ still (get_or tokens at other)
+      = same_at tokens' tokens g.round.same at other other low in
       record {
         table = ap (λ (s : Still). s.table) same ∙ (line.places at other low0).table;
         number = ap (λ (s : Still). s.how.reader) same ∙ (line.places at other low0).number;
@@ -118,14 +143,24 @@ module _ (laws : Laws) (table : Table) (w0 : Caller) (tokens0 : List ReaderToken
   pub settled : SettlesLine table es g.mid.seen w0 tokens0 tokens w' tokens'
   settled = record {
     alone = record {
-      stands = record { counted = alone.counted; own = own; number = number; count = count; some_one = omega (arith, size, some_one); just = subst (λ (l : List Entry). HasJust l w' tokens') (sym log_now) just };
+      stands =
+          record {
+            counted = alone.counted;
+            own = own;
+            number = number;
+            count = count;
+            some_one = omega (arith, size, some_one);
+            just = subst (λ (l : List Entry). HasJust l w' tokens') (sym log_now) just;
+          };
       places = places;
       sound = g.round.sound;
       known = λ at other low. let shown = g.round.each at other (omega (arith, size, low)) in record {
         place = shown.place;
         known = shown.known;
         current = shown.current;
-        heard = subst (λ (l : List Entry). StartsWith (caller_in (get_or tokens' at other)).seen l) (mid_is ∙ sym log_now) shown.heard;
+        heard =
+            subst (λ (l : List Entry). StartsWith (caller_in (get_or tokens' at other)).seen l) (mid_is ∙ sym log_now)
+            shown.heard;
       };
     };
     log = log_now;

@@ -1,5 +1,6 @@
 -- The state that a history shows, as it goes on by a call.
-use Rattle.std.proofs.Common.{◌≡◌, ◌≢◌, ◌<◌, ℕ, suc, zero, ◌+◌, List, [], ◌∷◌, ◌++◌, true, false, cond, ◌==◌, ◌&&◌, map, set, refl, ap, ◌∙◌, arith, eq-eqb, ne_eqb, Ok}
+use Rattle.std.proofs.Common.{◌≡◌, ◌≢◌, ◌<◌, ℕ, suc, zero, ◌+◌, List, [], ◌∷◌, ◌++◌, true, false, cond, ◌==◌, ◌&&◌, map}
+use Rattle.std.proofs.Common.{set, refl, ap, ◌∙◌, arith, eq-eqb, ne_eqb, Ok}
 use Rattle.std.specs.List.{range_with_len}
 use Rattle.nr_model.specs.declared.calls.Call.{Call}
 use Rattle.nr_model.specs.declared.calls.Reply.{Reply}
@@ -19,14 +20,16 @@ use Rattle.nr_alone.specs.MapState.{MapOutcome, MapState, after_call, answer_cal
 use Rattle.nr_alone.specs.Alone.{shown_after}
 
 -- a number in a range is changed at its place
-range_past : (g : ℕ → ℕ) (v key a n : ℕ) → key < a → map (λ k. cond (key == k) v (g k)) (range_with_len a n) ≡ map g (range_with_len a n)
+range_past : (g : ℕ → ℕ) (v key a n : ℕ) → key < a
+    → map (λ k. cond (key == k) v (g k)) (range_with_len a n) ≡ map g (range_with_len a n)
 range_past g v key a zero low = refl
 range_past g v key a (suc n) low =
     let apart : key ≢ a = omega arith in
     ap (λ b. cond b v (g a) ∷ map (λ k. cond (key == k) v (g k)) (range_with_len (a + 1) n)) (ne_eqb key a apart)
     ∙ ap (λ l. g a ∷ l) (range_past g v key (a + 1) n (omega arith))
 
-range_set : (g : ℕ → ℕ) (v key a n i : ℕ) → key ≡ a + i → map (λ k. cond (key == k) v (g k)) (range_with_len a n) ≡ set (map g (range_with_len a n)) i v
+range_set : (g : ℕ → ℕ) (v key a n i : ℕ) → key ≡ a + i
+    → map (λ k. cond (key == k) v (g k)) (range_with_len a n) ≡ set (map g (range_with_len a n)) i v
 range_set g v key a zero i is = refl
 range_set g v key a (suc n) zero is =
     let same : key ≡ a = omega arith in
@@ -37,19 +40,28 @@ range_set g v key a (suc n) (suc i) is =
     ap (λ b. cond b v (g a) ∷ map (λ k. cond (key == k) v (g k)) (range_with_len (a + 1) n)) (ne_eqb key a apart)
     ∙ ap (λ l. g a ∷ l) (range_set g v key (a + 1) n i (omega arith))
 
-pub quiet_count : PutGoesOn → (log : List Entry) (e : Entry) → is_done e.reply ≡ false → put_count (log ++ e ∷ []) ≡ put_count log
-quiet_count law log e quiet = let none : puts_set e ≡ 0 = ap (λ b. cond {A = ℕ} b 1 0) quiet in omega (arith, (law log e 0).0)
+pub quiet_count : PutGoesOn → (log : List Entry) (e : Entry) → is_done e.reply ≡ false
+    → put_count (log ++ e ∷ []) ≡ put_count log
+quiet_count law log e quiet =
+    let none : puts_set e ≡ 0 = ap (λ b. cond {A = ℕ} b 1 0) quiet in
+    omega (arith, (law log e 0).0)
 
-pub quiet_number : PutGoesOn → (log : List Entry) (e : Entry) (key : ℕ) → is_done e.reply ≡ false → put_number (log ++ e ∷ []) key ≡ put_number log key
-quiet_number law log e key quiet = (law log e key).1 ∙ ap (λ b. cond (b && (call_key e.call == key)) (put_count log) (put_number log key)) quiet
+pub quiet_number : PutGoesOn → (log : List Entry) (e : Entry) (key : ℕ) → is_done e.reply ≡ false
+    → put_number (log ++ e ∷ []) key ≡ put_number log key
+quiet_number law log e key quiet =
+    (law log e key).1 ∙ ap (λ b. cond (b && (call_key e.call == key)) (put_count log) (put_number log key)) quiet
 
-puts_done : PutGoesOn → (shape : Shape) (log : List Entry) (n : ℕ) (call : Call) → put_numbers shape (log ++ entry n call reply.Done ∷ []) ≡ set (put_numbers shape log) (call_key call) (put_count log)
+puts_done : PutGoesOn → (shape : Shape) (log : List Entry) (n : ℕ) (call : Call)
+    → put_numbers shape (log ++ entry n call reply.Done ∷ [])
+    ≡ set (put_numbers shape log) (call_key call) (put_count log)
 puts_done law shape log n call =
     ap (λ (f : ℕ → ℕ). map f (range_with_len 0 shape.keys)) (λ j key. (law log (entry n call reply.Done) key).1 j)
     ∙ range_set (put_number log) (put_count log) (call_key call) 0 shape.keys (call_key call) (omega arith)
 
-pub puts_quiet : PutGoesOn → (shape : Shape) (log : List Entry) (e : Entry) → is_done e.reply ≡ false → put_numbers shape (log ++ e ∷ []) ≡ put_numbers shape log
-puts_quiet law shape log e quiet = ap (λ (f : ℕ → ℕ). map f (range_with_len 0 shape.keys)) (λ j key. quiet_number law log e key quiet j)
+pub puts_quiet : PutGoesOn → (shape : Shape) (log : List Entry) (e : Entry) → is_done e.reply ≡ false
+    → put_numbers shape (log ++ e ∷ []) ≡ put_numbers shape log
+puts_quiet law shape log e quiet =
+    ap (λ (f : ℕ → ℕ). map f (range_with_len 0 shape.keys)) (λ j key. quiet_number law log e key quiet j)
 
 module _ (puts : PutGoesOn) (table : Table) (log : List Entry) (n : ℕ) (call : Call) (tokens : List ReaderToken) where
   abbrev state : MapState
@@ -97,12 +109,23 @@ module _ (puts : PutGoesOn) (table : Table) (log : List Entry) (n : ℕ) (call :
 
   pub goes_on : LegalGoesOn → shown_after table (log ++ entry n call reply_here ∷ []) tokens ≡ after_call state call
   goes_on law =
-      let maps : map_after table.shape (log ++ entry n call reply_here ∷ []) ≡ next (map_after table.shape log) call = (law (map_at_opening table) log (entry n call reply_here)).0 in
+      let maps : map_after table.shape (log ++ entry n call reply_here ∷ []) ≡ next (map_after table.shape log) call
+      = (law (map_at_opening table) log (entry n call reply_here)).0 in
       λ j. record state { map = maps j; puts = puts_are reply_here j; put_count = count_is reply_here j }
 
 -- the call's answer is the map's reply, where no slot is needed or one is left
-pub answered : (state : MapState) (call : Call) → (is_done (reply_to state.map call) && is_full state) ≡ false → answer_call state call ≡ (Ok (answers.Reply (reply_to state.map call)), after_call state call)
-answered state call none = ap (λ b. cond {A = MapOutcome} b (Ok answers.NoSlot, state) (Ok (answers.Reply (reply_to state.map call)), after_call state call)) none
+pub answered : (state : MapState) (call : Call) → (is_done (reply_to state.map call) && is_full state) ≡ false
+    → answer_call state call ≡ (Ok (answers.Reply (reply_to state.map call)), after_call state call)
+answered state call none =
+    ap
+    (λ b. cond {A = MapOutcome} b (Ok answers.NoSlot, state)
+    (Ok (answers.Reply (reply_to state.map call)), after_call state call))
+    none
 
-pub lacking : (state : MapState) (call : Call) → (is_done (reply_to state.map call) && is_full state) ≡ true → answer_call state call ≡ (Ok answers.NoSlot, state)
-lacking state call none = ap (λ b. cond {A = MapOutcome} b (Ok answers.NoSlot, state) (Ok (answers.Reply (reply_to state.map call)), after_call state call)) none
+pub lacking : (state : MapState) (call : Call) → (is_done (reply_to state.map call) && is_full state) ≡ true
+    → answer_call state call ≡ (Ok answers.NoSlot, state)
+lacking state call none =
+    ap
+    (λ b. cond {A = MapOutcome} b (Ok answers.NoSlot, state)
+    (Ok (answers.Reply (reply_to state.map call)), after_call state call))
+    none

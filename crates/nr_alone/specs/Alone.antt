@@ -34,7 +34,8 @@ abbrev pub one_each : Entry → Bool
 one_each entry = true
 
 abbrev pub made : Caller → List ReaderToken → ℕ
-made writer tokens = count_by one_each writer.mine + total (λ (reader : Caller). count_by one_each reader.mine) (map caller_in tokens)
+made writer tokens =
+    count_by one_each writer.mine + total (λ (reader : Caller). count_by one_each reader.mine) (map caller_in tokens)
 
 -- the history of these calls alone: no clause says that the writer has not seen more
 abbrev pub log_of : Caller → List ReaderToken → List Entry
@@ -68,12 +69,20 @@ pub record IsAlone (table : Table) (writer : Caller) (tokens : List ReaderToken)
   pub stands : ReadyForRound table writer tokens
   pub places : (at : ℕ) (other : ReaderToken) → at < length tokens → IsToken table at (slice_index_or tokens at other)
   pub sound : IsSoundWriter writer
-  pub known : (at : ℕ) (other : ReaderToken) → at < length tokens → IsKnown (log_of writer tokens) writer (slice_index_or tokens at other)
+  pub known : (at : ℕ) (other : ReaderToken) → at < length tokens
+      → IsKnown (log_of writer tokens) writer (slice_index_or tokens at other)
 
 -- the state after a history, with what is pinned
 abbrev pub shown_after : Table → List Entry → List ReaderToken → MapState
 shown_after table log tokens =
-    record { map = map_after table.shape log; slots = table.shape.slots; first_count = table.shape.first_count; puts = put_numbers table.shape log; put_count = put_count log; pins = map pin_of tokens }
+    record {
+      map = map_after table.shape log;
+      slots = table.shape.slots;
+      first_count = table.shape.first_count;
+      puts = put_numbers table.shape log;
+      put_count = put_count log;
+      pins = map pin_of tokens;
+    }
 
 abbrev pub shown_by : Table → Caller → List ReaderToken → MapState
 shown_by table writer tokens = shown_after table (log_of writer tokens) tokens

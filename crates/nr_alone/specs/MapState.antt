@@ -1,5 +1,6 @@
 -- A map, what its readers have pinned, and what each call makes of them.
-use Rattle.std.specs.Prelude.{ℕ, ◌+◌, ◌==◌, ◌&&◌, if◌then◌else◌, Bool, List, Option, None, Some, option_map, Result, Ok, Err, slice_index, slice_index_or, slice_set, replicate}
+use Rattle.std.specs.Prelude.{ℕ, ◌+◌, ◌==◌, ◌&&◌, if◌then◌else◌, Bool, List, Option, None, Some, option_map, Result, Ok}
+use Rattle.std.specs.Prelude.{Err, slice_index, slice_index_or, slice_set, replicate}
 use Rattle.std.specs.List.{filter_map}
 use Rattle.nr_model.specs.declared.rows.Row.{Row}
 use Rattle.nr_model.specs.declared.states.KeyState.{KeyState}
@@ -43,7 +44,8 @@ pinned_puts pins = filter_map put_of pins
 
 -- each slot holds the set of a key, or a stray
 abbrev pub is_full : MapState → Bool
-is_full state = filled_count state.map + strays (keyed state.map.states state.puts) (pinned_puts state.pins) == state.slots
+is_full state =
+    filled_count state.map + strays (keyed state.map.states state.puts) (pinned_puts state.pins) == state.slots
 
 -- what a call is answered, or why it is refused, and the state after it
 abbrev pub MapOutcome : Type 0
@@ -60,12 +62,18 @@ put_count_after other state = state.put_count
 
 abbrev pub after_call : MapState → Call → MapState
 after_call state call =
-    record state { map = next state.map call; puts = puts_after (reply_to state.map call) (call_key call) state; put_count = put_count_after (reply_to state.map call) state }
+    record state {
+      map = next state.map call;
+      puts = puts_after (reply_to state.map call) (call_key call) state;
+      put_count = put_count_after (reply_to state.map call) state;
+    }
 
 -- the map's reply to a call, unless the call would be done and no slot is left for it
 abbrev pub answer_call : MapState → Call → MapOutcome
 answer_call state call =
-    if is_done (reply_to state.map call) && is_full state then (Ok answers.NoSlot, state) else (Ok (answers.Reply (reply_to state.map call)), after_call state call)
+    if is_done (reply_to state.map call)
+    && is_full state then (Ok answers.NoSlot, state) else
+    (Ok (answers.Reply (reply_to state.map call)), after_call state call)
 
 -- the readers stand by their numbers, from index 0
 abbrev pub pin_at : MapState → ℕ → Option Pin
@@ -101,14 +109,17 @@ answer_pinning state at key found = without_pin (pin_at state at) state (answer_
 abbrev pub answer_show : MapState → ℕ → MapOutcome
 answer_show state at = with_pin (pin_at state at) state (λ pin. (Ok (answers.Reply (reply.Rows pin.rows)), state))
 
--- a reader finds a key again by its pin: where the key's set is the one that it pinned, by their put numbers, that is a find of the key
+-- a reader finds a key again by its pin: where the key's set is the one that it pinned, by their put numbers, that is a
+-- find of the key
 abbrev pub find_again : KeyState → ℕ → Pin → Answer
 find_again (states.Hole n) put pin = answers.Other
 find_again (states.Asked n) put pin = answers.Other
 find_again (states.Rows n rows) put pin = if put == pin.put then answers.Reply (reply.Rows rows) else answers.Other
 
 abbrev pub answer_again : MapState → ℕ → ℕ → MapOutcome
-answer_again state at key = with_pin (pin_at state at) state (λ pin. (Ok (find_again (state_of state.map key) (slice_index state.puts key) pin), state))
+answer_again state at key =
+    with_pin (pin_at state at) state
+    (λ pin. (Ok (find_again (state_of state.map key) (slice_index state.puts key) pin), state))
 
 -- a reader lets its pin go
 abbrev pub answer_unpin : MapState → ℕ → MapOutcome
@@ -117,4 +128,11 @@ answer_unpin state at = with_pin (pin_at state at) state (λ pin. (Ok answers.Ok
 -- a map of holes
 abbrev pub opened_map : Shape → MapState
 opened_map shape =
-    record { map = opening shape.keys shape.rows shape.first_number; slots = shape.slots; first_count = shape.first_count; puts = replicate shape.keys 0; put_count = 0; pins = replicate shape.readers None }
+    record {
+      map = opening shape.keys shape.rows shape.first_number;
+      slots = shape.slots;
+      first_count = shape.first_count;
+      puts = replicate shape.keys 0;
+      put_count = 0;
+      pins = replicate shape.readers None;
+    }

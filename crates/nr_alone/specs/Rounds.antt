@@ -24,7 +24,8 @@ pub record IsSoundWriter (writer : Caller) : Type 0 where
   pub callers : AreCallers writer.table.shape writer.seen
   pub lists : Lists (desk_seen writer) writer.marks writer.table.shape writer.seen
 
--- what the writer learnt of a reader, and the reader of the writer; `log` is what the writer knew first: it has no more calls of the reader than the reader made
+-- what the writer learnt of a reader, and the reader of the writer; `log` is what the writer knew first: it has no more
+-- calls of the reader than the reader made
 pub record IsShown (log : List Entry) (writer : Caller) (token : ReaderToken) : Type 0 where
   pub few : StartsWith (mine_of token) (entries_of log (caller_in token).number)
   pub place : ℕ
@@ -39,18 +40,23 @@ pub record WriterStays (old new : Caller) : Type 0 where
   pub seen : StartsWith new.seen old.seen
   pub only : OnlyLearnt old new
 
-pub record Round (writer : Caller) (tokens : List ReaderToken) (writer' : Caller) (tokens' : List ReaderToken) : Type 0 where
+pub record Round (writer : Caller) (tokens : List ReaderToken) (writer' : Caller) (tokens' : List ReaderToken) : Type
+    0 where
   pub stays : WriterStays writer writer'
   pub sound : IsSoundWriter writer'
   pub same : map still tokens' ≡ map still tokens
-  pub each : (at : ℕ) (other : ReaderToken) → at < length tokens → IsShown writer.seen writer' (slice_index_or tokens' at other)
+  pub each : (at : ℕ) (other : ReaderToken) → at < length tokens
+      → IsShown writer.seen writer' (slice_index_or tokens' at other)
 
 -- a round with that token first: the first writer has exactly that reader's calls
-pub record Gathered (first : ℕ) (writer : Caller) (tokens : List ReaderToken) (writer' : Caller) (tokens' : List ReaderToken) : Type 0 where
+pub record Gathered (first : ℕ) (writer : Caller) (tokens : List ReaderToken) (writer' : Caller)
+    (tokens' : List ReaderToken) : Type 0 where
   pub mid : Caller
   pub stays : WriterStays writer mid
   pub sound : IsSoundWriter mid
-  pub all : (other : ReaderToken) → entries_of mid.seen (caller_in (slice_index_or tokens first other)).number ≡ mine_of (slice_index_or tokens first other)
+  pub all : (other : ReaderToken)
+      → entries_of mid.seen (caller_in (slice_index_or tokens first other)).number
+      ≡ mine_of (slice_index_or tokens first other)
   -- so it has all that the reader had seen
   pub heard : (other : ReaderToken) → StartsWith mid.seen (caller_in (slice_index_or tokens first other)).seen
   pub round : Round mid tokens writer' tokens'

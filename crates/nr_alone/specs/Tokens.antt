@@ -70,15 +70,23 @@ NotesFor old new (Ok answer) = new ≡ with_step old
 NotesFor old new (Err refusal) = new ≡ old
 
 abbrev pub MakesCall : List Entry → Call → ReaderToken → ReaderToken → Result Answer PinRefusal → Type 0
-MakesCall heard call old new (Ok answer) = (reply' : Reply) × (answer ≡ answers.Reply reply') × Calls heard call (caller_in old) (caller_in new) reply' × (pin_of old ≡ None) × (pin_of new ≡ None) × TokenHoldsItsPin new
+MakesCall heard call old new (Ok answer) =
+    (reply' : Reply) × (answer ≡ answers.Reply reply') × Calls heard call (caller_in old) (caller_in new) reply'
+    × (pin_of old ≡ None) × (pin_of new ≡ None) × TokenHoldsItsPin new
 MakesCall heard call old new (Err refusals.Holding) = (new ≡ old) × IsSome (pin_of old)
 MakesCall heard call old new (Err refusals.NotHolding) = ⊥
 
--- a pin is a find, made in some way: of a filled key it holds the rows of the reply, with the put number that the key had
-abbrev pub PinsBy : (Caller → Caller → Reply → Type 0) → ℕ → ReaderToken → ReaderToken → Result Answer PinRefusal → Type 0
+-- a pin is a find, made in some way: of a filled key it holds the rows of the reply, with the put number that the key
+-- had
+abbrev pub PinsBy : (Caller → Caller → Reply → Type 0) → ℕ → ReaderToken → ReaderToken → Result Answer PinRefusal
+    → Type 0
 PinsBy Made key old new (Ok answers.Ok) =
-    (rows : List Row) × Made (caller_in old) (caller_in new) (reply.Rows rows) × (pin_of old ≡ None) × (pin_of new ≡ Some (record { key = key; rows = rows; put = put_number (caller_in new).seen key })) × TokenHoldsItsPin new
-PinsBy Made key old new (Ok (answers.Reply reply')) = (reply' ≡ reply.Hole) × Made (caller_in old) (caller_in new) reply.Hole × (pin_of old ≡ None) × (pin_of new ≡ None) × TokenHoldsItsPin new
+    (rows : List Row) × Made (caller_in old) (caller_in new) (reply.Rows rows) × (pin_of old ≡ None)
+    × (pin_of new ≡ Some (record { key = key; rows = rows; put = put_number (caller_in new).seen key }))
+    × TokenHoldsItsPin new
+PinsBy Made key old new (Ok (answers.Reply reply')) =
+    (reply' ≡ reply.Hole) × Made (caller_in old) (caller_in new) reply.Hole × (pin_of old ≡ None) × (pin_of new ≡ None)
+    × TokenHoldsItsPin new
 PinsBy Made key old new (Ok answers.Other) = ⊥
 PinsBy Made key old new (Ok answers.NoSlot) = ⊥
 PinsBy Made key old new (Err refusals.Holding) = (new ≡ old) × IsSome (pin_of old)
@@ -92,7 +100,9 @@ MakesPin heard key old new result = PinsBy (Calls heard (model.Find key)) key ol
 
 -- the end of a pin
 abbrev pub Unpins : ReaderToken → ReaderToken → Result Answer PinRefusal → Type 0
-Unpins old new (Ok answer) = (answer ≡ answers.Ok) × Rests 1 (caller_in old) (caller_in new) × IsSome (pin_of old) × (pin_of new ≡ None) × TokenHoldsItsPin new
+Unpins old new (Ok answer) =
+    (answer ≡ answers.Ok) × Rests 1 (caller_in old) (caller_in new) × IsSome (pin_of old) × (pin_of new ≡ None)
+    × TokenHoldsItsPin new
 Unpins old new (Err refusals.Holding) = ⊥
 Unpins old new (Err refusals.NotHolding) = (new ≡ old) × (pin_of old ≡ None)
 
@@ -102,16 +112,23 @@ KeepsPin old new = (pin_of new ≡ pin_of old) × ((caller_in new).holds ≡ (ca
 
 -- steps that read the pinned rows
 abbrev pub ShowsPin : ReaderToken → ReaderToken → Result Answer PinRefusal → Type 0
-ShowsPin old new (Ok answer) = (pin : Pin) × (pin_of old ≡ Some pin) × (answer ≡ answers.Reply (reply.Rows pin.rows)) × (steps : ℕ) × Rests steps (caller_in old) (caller_in new)
+ShowsPin old new (Ok answer) =
+    (pin : Pin) × (pin_of old ≡ Some pin) × (answer ≡ answers.Reply (reply.Rows pin.rows)) × (steps : ℕ)
+    × Rests steps (caller_in old) (caller_in new)
     × KeepsPin old new
 ShowsPin old new (Err refusals.Holding) = ⊥
 ShowsPin old new (Err refusals.NotHolding) = (new ≡ old) × (pin_of old ≡ None)
 
--- a find by the pin: where the key has the set of its put it is the reader's call, answered with the pinned rows; else the reader learns the history so far
+-- a find by the pin: where the key has the set of its put it is the reader's call, answered with the pinned rows; else
+-- the reader learns the history so far
 abbrev pub AgainByToken : ℕ → ReaderToken → ReaderToken → Result Answer PinRefusal → Type 0
-AgainByToken key old new (Ok (answers.Reply reply')) = (pin : Pin) × (pin_of old ≡ Some pin) × (reply' ≡ reply.Rows pin.rows)
-    × Calls (caller_in old).seen (model.Find key) (caller_in old) (caller_in new) reply' × HasPut key pin.put (caller_in new) × KeepsPin old new
-AgainByToken key old new (Ok answers.Other) = (pin : Pin) × (pin_of old ≡ Some pin) × Grows 1 [] (caller_in old) (caller_in new) × (HasPut key pin.put (caller_in new) → ⊥) × KeepsPin old new
+AgainByToken key old new (Ok (answers.Reply reply')) =
+    (pin : Pin) × (pin_of old ≡ Some pin) × (reply' ≡ reply.Rows pin.rows)
+    × Calls (caller_in old).seen (model.Find key) (caller_in old) (caller_in new) reply'
+    × HasPut key pin.put (caller_in new) × KeepsPin old new
+AgainByToken key old new (Ok answers.Other) =
+    (pin : Pin) × (pin_of old ≡ Some pin) × Grows 1 [] (caller_in old) (caller_in new)
+    × (HasPut key pin.put (caller_in new) → ⊥) × KeepsPin old new
 AgainByToken key old new (Ok answers.Ok) = ⊥
 AgainByToken key old new (Ok answers.NoSlot) = ⊥
 AgainByToken key old new (Err refusals.Holding) = ⊥

@@ -16,15 +16,21 @@ pub record Stands (board : Table) (key : Shape) (words : ℕ) : Type 0 where
   pub few : board.shape.keys < 2 ^ 32
   pub fits : IsShape board.shape
 
-pub stands : {shown board : Table} {key : Shape} {words : ℕ} → shown ≡ board → (key ≡ shown.shape) × (words ≡ total_of (layout shown.shape) + 8 * shown.announcers)
-    × (0 < shown.shape.keys) × (shown.shape.keys < 2 ^ 32) × IsShape shown.shape × (shown.announcers ≤ shown.shape.readers) → Stands board key words
-stands {key = key} {words = words} is kept = subst (λ (board : Table). Stands board key words) is (record { key_is = kept.0; size = kept.1; few = kept.3; fits = kept.4 })
+pub stands : {shown board : Table} {key : Shape} {words : ℕ} → shown ≡ board
+    → (key ≡ shown.shape) × (words ≡ total_of (layout shown.shape) + 8 * shown.announcers)
+    × (0 < shown.shape.keys) × (shown.shape.keys < 2 ^ 32) × IsShape shown.shape
+    × (shown.announcers ≤ shown.shape.readers)
+    → Stands board key words
+stands {key = key} {words = words} is kept =
+    subst (λ (board : Table). Stands board key words) is
+    (record { key_is = kept.0; size = kept.1; few = kept.3; fits = kept.4 })
 
 module _ {board : Table} {key : Shape} {words : ℕ} (stand : Stands board key words) where
   -- all places fit
   pub total_fits : total_of (layout board.shape) < 2 ^ 64
   total_fits = let shape = board.shape in let fits = stand.fits in
-      let slots = mul-le (slot_words shape.rows) shape.slots 512 (2 ^ 22) (omega (arith, fits.bound)) fits.slots in omega (arith, stand.few)
+      let slots = mul-le (slot_words shape.rows) shape.slots 512 (2 ^ 22) (omega (arith, fits.bound)) fits.slots in
+      omega (arith, stand.few)
 
   pub key_in : {place : ℕ} → place < board.shape.keys → place < words
   key_in near = omega (arith, near, stand.size)

@@ -1,5 +1,7 @@
--- The call that ends brings a row set of the map: each was given one, and so the set that a call wants at its key is the one that it brings.
-use Rattle.std.proofs.Common.{◌≡◌, ℕ, ◌+◌, ◌*◌, ◌<◌, ◌==◌, Bool, true, false, if◌then◌else◌, List, length, inl, refl, sym, ap, subst}
+-- The call that ends brings a row set of the map: each was given one, and so the set that a call wants at its key is
+-- the one that it brings.
+use Rattle.std.proofs.Common.{◌≡◌, ℕ, ◌+◌, ◌*◌, ◌<◌, ◌==◌, Bool, true, false, if◌then◌else◌, List, length, inl, refl}
+use Rattle.std.proofs.Common.{sym, ap, subst}
 use Rattle.std.specs.Prelude.{None, Some, Option, slice_index}
 use Rattle.nr_model.specs.declared.rows.Row.{Row}
 use Rattle.nr_model.specs.declared.calls.Call.{Call}
@@ -8,7 +10,8 @@ use Rattle.nr_model.specs.declared.calls.Reply.TheVariants as reply
 use Rattle.nr_model.specs.declared.states.KeyState.{KeyState}
 use Rattle.nr_model.specs.declared.states.KeyState.TheVariants as states
 use Rattle.nr_model.specs.Laws.{BringsRowSet}
-use Rattle.nr_model.specs.Maps.{PartialMap, call_key, number_of, replace_reply, replaced, reply_at, state_after, state_of}
+use Rattle.nr_model.specs.Maps.{PartialMap, call_key, number_of, replace_reply, replaced, reply_at, state_after}
+use Rattle.nr_model.specs.Maps.{state_of}
 use Rattle.nr_model.specs.Rows.{IsRowSet}
 use Rattle.nr_words.specs.SetWords.{decode}
 use Rattle.nr_machine.specs.declared.calls.Step.{Step}
@@ -28,7 +31,8 @@ use Rattle.nr_board.specs.Entries.{AreCallers}
 use Rattle.nr_board.specs.NamedRows.{rows_of_state}
 
 -- a call that ends is an entry of the writer's
-pub writer_entries : (shape : Shape) (call : Call) (step : Step) → call_key call < shape.keys → BringsRowSet shape.rows call → AreCallers shape (ending call step)
+pub writer_entries : (shape : Shape) (call : Call) (step : Step) → call_key call < shape.keys
+    → BringsRowSet shape.rows call → AreCallers shape (ending call step)
 writer_entries shape call Going near brings = tt
 writer_entries shape call (Ended (writer.Reply answer)) near brings = ((near, inl (refl, brings)), tt)
 writer_entries shape call (Ended (writer.NoSlot counts)) near brings = tt
@@ -42,7 +46,8 @@ given_brings bound (Evict key) given = tt
 given_brings bound (Cancel key) given = tt
 
 -- what a done fill leaves at its key is the set that it brings
-fill_leaves : (bound key number : ℕ) (new rows : List Row) (state : KeyState) → reply_at bound (model.Fill key number new) state ≡ reply.Done
+fill_leaves : (bound key number : ℕ) (new rows : List Row) (state : KeyState)
+    → reply_at bound (model.Fill key number new) state ≡ reply.Done
     → state_after bound (model.Fill key number new) state ≡ states.Rows (number_of state) rows → new ≡ rows
 fill_leaves bound key number new rows (states.Hole n) done leaves = absurd (cc)
 fill_leaves bound key number new rows (states.Asked n) done leaves = of_test (n == number) leaves
@@ -53,15 +58,20 @@ fill_leaves bound key number new rows (states.Asked n) done leaves = of_test (n 
 fill_leaves bound key number new rows (states.Rows n had) done leaves = absurd (cc)
 
 -- and so of a replacement
-replace_leaves : (new rows : List Row) (state : KeyState) → replace_reply state ≡ reply.Done → replaced new state ≡ states.Rows (number_of state) rows → new ≡ rows
+replace_leaves : (new rows : List Row) (state : KeyState) → replace_reply state ≡ reply.Done
+    → replaced new state ≡ states.Rows (number_of state) rows → new ≡ rows
 replace_leaves new rows (states.Hole n) done leaves = absurd (cc)
 replace_leaves new rows (states.Asked n) done leaves = absurd (cc)
 replace_leaves new rows (states.Rows n had) done leaves = ap rows_of_state leaves
 
-pub wants_brings : (shape : Shape) (words : List ℕ) (map : PartialMap) (hold : ℕ → ℕ) (call : WriterCall) (rows : List Row) → Wants shape words map hold call rows → BringsRowSet shape.rows (call_of call)
+pub wants_brings : (shape : Shape) (words : List ℕ) (map : PartialMap) (hold : ℕ → ℕ) (call : WriterCall)
+    (rows : List Row)
+    → Wants shape words map hold call rows → BringsRowSet shape.rows (call_of call)
 wants_brings shape words map hold (Find key) rows wants = tt
 wants_brings shape words map hold (Fill key number new) rows wants =
-    subst (IsRowSet shape.rows) (sym (fill_leaves (bound_of shape) key number new rows (state_of map key) wants.done wants.leaves)) wants.row_set
+    subst (IsRowSet shape.rows)
+    (sym (fill_leaves (bound_of shape) key number new rows (state_of map key) wants.done wants.leaves))
+    wants.row_set
 wants_brings shape words map hold (Update key batch) rows wants = tt
 wants_brings shape words map hold (Replace key new) rows wants =
     subst (IsRowSet shape.rows) (sym (replace_leaves new rows (state_of map key) wants.done wants.leaves)) wants.row_set
@@ -69,22 +79,36 @@ wants_brings shape words map hold (Evict key) rows wants = tt
 wants_brings shape words map hold (Cancel key) rows wants = tt
 
 -- a call that brings its set ends with no read
-quiet_read : (shape : Shape) (desk : Desk) (call : WriterCall) (slot : ℕ) (got : List ℕ) → ((found : List Row) → (decided shape desk call found).1 ≡ Going) → AreCallers shape (ending (call_of call) (read_on shape desk call slot got).1)
+quiet_read : (shape : Shape) (desk : Desk) (call : WriterCall) (slot : ℕ) (got : List ℕ)
+    → ((found : List Row) → (decided shape desk call found).1 ≡ Going)
+    → AreCallers shape (ending (call_of call) (read_on shape desk call slot got).1)
 quiet_read shape desk call slot got quiet = by_length (length got == 2 * slice_index got 0 + 1)
   where
     by_set : (set : Option (List Row)) → AreCallers shape (ending (call_of call) (decoded shape desk call set).1)
     by_set None = tt
     by_set (Some found) = subst (λ (step : Step). AreCallers shape (ending (call_of call) step)) (sym (quiet found)) tt
 
-    by_length : (whole : Bool) → AreCallers shape (ending (call_of call) (if whole then decoded shape desk call (decode got) else (moved_to desk (Reading call slot got), Going)).1)
+    by_length : (whole : Bool)
+        → AreCallers shape
+        (ending (call_of call)
+        (if whole then decoded shape desk call (decode got) else
+        (moved_to desk (Reading call slot got), Going)).1)
     by_length true = by_set (decode got)
     by_length false = tt
 
 -- only finds and updates read
-pub reads_no_fill : (shape : Shape) (desk : Desk) (call : WriterCall) (slot : ℕ) (got : List ℕ) → call_key (call_of call) < shape.keys → AreCallers shape (ending (call_of call) (read_on shape desk call slot got).1)
-reads_no_fill shape desk (Find key) slot got near = writer_entries shape (model.Find key) (read_on shape desk (Find key) slot got).1 near tt
-reads_no_fill shape desk (Fill key number rows) slot got near = quiet_read shape desk (Fill key number rows) slot got (λ found. refl)
-reads_no_fill shape desk (Replace key rows) slot got near = quiet_read shape desk (Replace key rows) slot got (λ found. refl)
-reads_no_fill shape desk (Update key batch) slot got near = writer_entries shape (model.Update key batch) (read_on shape desk (Update key batch) slot got).1 near tt
-reads_no_fill shape desk (Evict key) slot got near = writer_entries shape (model.Evict key) (read_on shape desk (Evict key) slot got).1 near tt
-reads_no_fill shape desk (Cancel key) slot got near = writer_entries shape (model.Cancel key) (read_on shape desk (Cancel key) slot got).1 near tt
+pub reads_no_fill : (shape : Shape) (desk : Desk) (call : WriterCall) (slot : ℕ) (got : List ℕ)
+    → call_key (call_of call) < shape.keys
+    → AreCallers shape (ending (call_of call) (read_on shape desk call slot got).1)
+reads_no_fill shape desk (Find key) slot got near =
+    writer_entries shape (model.Find key) (read_on shape desk (Find key) slot got).1 near tt
+reads_no_fill shape desk (Fill key number rows) slot got near =
+    quiet_read shape desk (Fill key number rows) slot got (λ found. refl)
+reads_no_fill shape desk (Replace key rows) slot got near =
+    quiet_read shape desk (Replace key rows) slot got (λ found. refl)
+reads_no_fill shape desk (Update key batch) slot got near =
+    writer_entries shape (model.Update key batch) (read_on shape desk (Update key batch) slot got).1 near tt
+reads_no_fill shape desk (Evict key) slot got near =
+    writer_entries shape (model.Evict key) (read_on shape desk (Evict key) slot got).1 near tt
+reads_no_fill shape desk (Cancel key) slot got near =
+    writer_entries shape (model.Cancel key) (read_on shape desk (Cancel key) slot got).1 near tt

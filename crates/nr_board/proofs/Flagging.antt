@@ -1,5 +1,7 @@
--- The writer's flags go along with what it hears: with a scan, with a set that it puts, and with a slot that it retires.
-use Rattle.std.proofs.Common.{◌≡◌, ◌≢◌, ℕ, suc, zero, ◌<◌, ⊎_elim, List, [], ◌∷◌, ◌++◌, Bool, true, false, set, get_or, take, get_or-set_other, length-set, refl, sym, ap, ◌∙◌, subst, arith}
+-- The writer's flags go along with what it hears: with a scan, with a set that it puts, and with a slot that it
+-- retires.
+use Rattle.std.proofs.Common.{◌≡◌, ◌≢◌, ℕ, suc, zero, ◌<◌, ⊎_elim, List, [], ◌∷◌, ◌++◌, Bool, true, false, set, get_or}
+use Rattle.std.proofs.Common.{take, get_or-set_other, length-set, refl, sym, ap, ◌∙◌, subst, arith}
 use Rattle.std.proofs.lemmas.Bool.{le-ltb, lt-ltb}
 use Rattle.std.specs.Prelude.{nat_lt}
 use mathlib.Core.Logic.{dite}
@@ -19,9 +21,14 @@ use Rattle.nr_board.specs.Passes.{AreHeard, unflagged}
 use Rattle.nr_board.specs.Spares.{TookBySearch, heard_all, not_passed}
 use Rattle.nr_board.specs.WholeScans.{is_unheard}
 
-module _ (table : Table) (retired : List Retired) (heard : List ℕ) (flags : List Bool) (flagged : Flagged table retired heard flags) where
+module _ (table : Table) (retired : List Retired) (heard : List ℕ) (flags : List Bool)
+    (flagged : Flagged table retired heard flags) where
   flag_is : (slot : ℕ) → is_unheard flags slot ≡ nat_lt (get_or heard slot 0) table.announcers
-  flag_is slot = by_cases (λ (b : Bool). is_unheard flags slot ≡ b → is_unheard flags slot ≡ nat_lt (get_or heard slot 0) table.announcers) (is_unheard flags slot)
+  flag_is slot =
+      by_cases
+      (λ (b : Bool). is_unheard flags slot ≡ b
+      → is_unheard flags slot ≡ nat_lt (get_or heard slot 0) table.announcers)
+      (is_unheard flags slot)
       (λ _ is. is ∙ sym (lt-ltb (get_or heard slot 0) table.announcers (flagged.stuck slot is)))
       (λ _ is. is ∙ sym (le-ltb (get_or heard slot 0) table.announcers (flagged.whole slot is))) refl
 
@@ -40,17 +47,28 @@ flag_set (flag ∷ flags) zero = refl
 flag_set (flag ∷ flags) (suc slot) = flag_set flags slot
 
 -- of the slot into which a set was put nothing is heard
-pub flags_put : (table : Table) (retired last : List Retired) (scanned heard : List ℕ) (flags : List Bool) (mine : ℕ) → IsFlagged table retired scanned flags → heard ≡ set scanned mine 0
-    → ((slot : ℕ) → slot ≢ mine → retirements slot last ≡ 0 → retirements slot retired ≡ 0) → IsFlagged table last heard (set flags mine true)
-flags_put table retired last scanned heard flags mine flagged is fewer some_words = let before = flagged some_words in let count : (slot : ℕ) → get_or heard slot 0 ≡ get_or (set scanned mine 0) slot 0 = λ slot. ap (λ (l : List ℕ). get_or l slot 0) is in
+pub flags_put : (table : Table) (retired last : List Retired) (scanned heard : List ℕ) (flags : List Bool) (mine : ℕ)
+    → IsFlagged table retired scanned flags → heard ≡ set scanned mine 0
+    → ((slot : ℕ) → slot ≢ mine → retirements slot last ≡ 0 → retirements slot retired ≡ 0)
+    → IsFlagged table last heard (set flags mine true)
+flags_put table retired last scanned heard flags mine flagged is fewer some_words =
+    let before = flagged some_words in
+    let count : (slot : ℕ) → get_or heard slot 0 ≡ get_or (set scanned mine 0) slot 0
+    = λ slot. ap (λ (l : List ℕ). get_or l slot 0) is in
     record {
       wide = length-set flags mine true ∙ before.wide;
       whole = λ slot unset. dite (ℕ_discrete slot mine)
           (λ e. absurd (clash (sym (ap (is_unheard (set flags mine true)) e ∙ flag_set flags mine) ∙ unset)))
-          (λ ne. let was = before.whole slot (sym (flag_elsewhere flags mine slot ne) ∙ unset) in let same = get_or-set_other scanned mine slot 0 0 ne in omega (arith, count slot));
+          (λ ne.
+          let was = before.whole slot (sym (flag_elsewhere flags mine slot ne) ∙ unset) in
+          let same = get_or-set_other scanned mine slot 0 0 ne in
+          omega (arith, count slot));
       stuck = λ slot set_now. dite (ℕ_discrete slot mine)
           (λ e. let none = ap (get_or_at (set scanned mine 0)) e ∙ zero_at scanned mine in omega (arith, count slot))
-          (λ ne. let was = before.stuck slot (sym (flag_elsewhere flags mine slot ne) ∙ set_now) in let same = get_or-set_other scanned mine slot 0 0 ne in omega (arith, count slot));
+          (λ ne.
+          let was = before.stuck slot (sym (flag_elsewhere flags mine slot ne) ∙ set_now) in
+          let same = get_or-set_other scanned mine slot 0 0 ne in
+          omega (arith, count slot));
       others = λ slot none. dite (ℕ_discrete slot mine)
           (λ e. ap (is_unheard (set flags mine true)) e ∙ flag_set flags mine)
           (λ ne. flag_elsewhere flags mine slot ne ∙ before.others slot (fewer slot ne none));
@@ -63,21 +81,38 @@ flags_put table retired last scanned heard flags mine flagged is fewer some_word
     get_or_at l slot = get_or l slot 0
 
 -- what was retired when a slot was taken is retired still, but for that slot
-pub fewer_retired : (table : Table) (heard scanned : List ℕ) (loads : List LoggedLoad) (mine steps : ℕ) (spare mid : Spare) (more : List Retired) → TookBySearch table heard scanned loads mine steps spare mid
+pub fewer_retired : (table : Table) (heard scanned : List ℕ) (loads : List LoggedLoad) (mine steps : ℕ)
+    (spare mid : Spare) (more : List Retired)
+    → TookBySearch table heard scanned loads mine steps spare mid
     → (slot : ℕ) → slot ≢ mine → retirements slot (mid.retired ++ more) ≡ 0 → retirements slot spare.retired ≡ 0
-fewer_retired table heard scanned loads mine steps spare mid more took slot ne none = let both = total-append (λ (entry : Retired). only slot entry.slot) mid.retired more in ⊎_elim
+fewer_retired table heard scanned loads mine steps spare mid more took slot ne none =
+    let both = total-append (λ (entry : Retired). only slot entry.slot) mid.retired more in
+    ⊎_elim
     (λ (fresh : _). let same = ap (retirements slot) fresh.4 in omega arith)
-    (λ (polled : _). let gone = total-remove (λ (entry : Retired). only slot entry.slot) spare.retired polled.1 polled.2 polled.3 in
-    let other = only-other slot polled.2.slot (λ e. ne (sym e ∙ polled.4)) in let left = ap (retirements slot) polled.7 in omega arith) took
+    (λ (polled : _).
+    let gone = total-remove (λ (entry : Retired). only slot entry.slot) spare.retired polled.1 polled.2 polled.3 in
+    let other = only-other slot polled.2.slot (λ e. ne (sym e ∙ polled.4)) in
+    let left = ap (retirements slot) polled.7 in
+    omega arith)
+    took
 
 -- a slot that is retired was flagged
-pub flags_retire : (table : Table) (retired last : List Retired) (heard now : List ℕ) (flags : List Bool) → IsFlagged table retired heard flags → now ≡ heard
+pub flags_retire : (table : Table) (retired last : List Retired) (heard now : List ℕ) (flags : List Bool)
+    → IsFlagged table retired heard flags → now ≡ heard
     → ((slot : ℕ) → retirements slot last ≡ 0 → retirements slot retired ≡ 0) → IsFlagged table last now flags
-flags_retire table retired last heard now flags flagged is fewer some_words = let before = flagged some_words in subst (λ (l : List ℕ). Flagged table last l flags) (sym is)
-    (record { wide = before.wide; whole = before.whole; stuck = before.stuck; others = λ slot none. before.others slot (fewer slot none) })
+flags_retire table retired last heard now flags flagged is fewer some_words =
+    let before = flagged some_words in
+    subst (λ (l : List ℕ). Flagged table last l flags) (sym is)
+    (record {
+      wide = before.wide;
+      whole = before.whole;
+      stuck = before.stuck;
+      others = λ slot none. before.others slot (fewer slot none);
+    })
 
 -- what a flag tells, where readers have words or not
-pub unheard_is : (table : Table) (retired : List Retired) (heard : List ℕ) (flags : List Bool) → IsFlagged table retired heard flags → (slot : ℕ) (told : Bool) → (table.announcers ≡ 0 → told ≡ false)
+pub unheard_is : (table : Table) (retired : List Retired) (heard : List ℕ) (flags : List Bool)
+    → IsFlagged table retired heard flags → (slot : ℕ) (told : Bool) → (table.announcers ≡ 0 → told ≡ false)
     → (0 < table.announcers → told ≡ is_unheard flags slot) → told ≡ nat_lt (get_or heard slot 0) table.announcers
 unheard_is table retired heard flags flagged slot told none some_words = dite (ℕ_discrete table.announcers 0)
     (λ e. none e ∙ sym (le-ltb (get_or heard slot 0) table.announcers (omega arith)))

@@ -1,5 +1,6 @@
 -- What the writer has heard of slots stays so while tokens step, and tells that nobody holds a slot by a word.
-use Rattle.std.proofs.Common.{◌≡◌, ◌≢◌, ℕ, suc, zero, ◌+◌, ◌<◌, ◌≤◌, ◌⊎◌, ⊎_elim, inl, List, [], ◌∷◌, ◌++◌, Bool, true, cond, eq-eqb, get_or, set, ne_eqb, refl, sym, ap, ◌∙◌, subst, arith}
+use Rattle.std.proofs.Common.{◌≡◌, ◌≢◌, ℕ, suc, zero, ◌+◌, ◌<◌, ◌≤◌, ◌⊎◌, ⊎_elim, inl, List, [], ◌∷◌, ◌++◌, Bool, true}
+use Rattle.std.proofs.Common.{cond, eq-eqb, get_or, set, ne_eqb, refl, sym, ap, ◌∙◌, subst, arith}
 use Rattle.std.proofs.lemmas.Bool.{eqb-true, ltb-false, ltb-true}
 use Rattle.std.specs.Prelude.{nat_lt}
 use mathlib.Core.Option.{some}
@@ -23,7 +24,8 @@ AllHear views = (id : ℕ) (view : View) → get_elem? views id ≡ some view �
 -- the token has heard no more than before, and nothing of what a key names newly
 pub record HearsOn (view next : View) : Type 0 where
   pub fewer : (slot : ℕ) → get_or next.heard slot 0 ≤ get_or view.heard slot 0
-  pub named : (key slot : ℕ) → get_or next.marks.names key 0 ≡ suc slot → (get_or view.marks.names key 0 ≡ suc slot) ⊎ (get_or next.heard slot 0 ≡ 0)
+  pub named : (key slot : ℕ) → get_or next.marks.names key 0 ≡ suc slot
+      → (get_or view.marks.names key 0 ≡ suc slot) ⊎ (get_or next.heard slot 0 ≡ 0)
 
 -- a writer is no reader
 pub no_reader : (role : Role) (own : ℕ) → is_writer role ≡ 1 → is_by (suc own) role ≡ true → ⊥
@@ -31,49 +33,75 @@ no_reader (Writer desk) own writes his = absurd (let z = eqb-true 0 (suc own) hi
 no_reader (Reader reader grip) own writes his = absurd (omega arith)
 no_reader Note own writes his = absurd (omega arith)
 
--- one token's view changes: it lends nothing that another heard it not to say, and if it is the writer what it has heard is so
+-- one token's view changes: it lends nothing that another heard it not to say, and if it is the writer what it has
+-- heard is so
 pub hears_after : (views : List View) (id : ℕ) (view next : View) → get_elem? views id ≡ some view
-    → ((other slot own : ℕ) (writer : View) → other ≢ id → get_elem? views other ≡ some writer → is_writer writer.role ≡ 1 → is_by (suc own) next.role ≡ true → own < get_or writer.heard slot 0 → lends slot next ≡ 0)
+    → ((other slot own : ℕ) (writer : View) → other ≢ id → get_elem? views other ≡ some writer
+    → is_writer writer.role ≡ 1 → is_by (suc own) next.role ≡ true → own < get_or writer.heard slot 0
+    → lends slot next ≡ 0)
     → (is_writer next.role ≡ 1 → Hears (set views id next) next) → AllHear views → AllHear (set views id next)
 hears_after views id view next at lend mine before j u there writes = ⊎_elim
-    (λ (q : (j ≡ id) × (next ≡ u)). subst (Hears (set views id next)) q.1 (mine (ap (λ (v : View). is_writer v.role) q.1 ∙ writes)))
+    (λ (q : (j ≡ id) × (next ≡ u)). subst (Hears (set views id next)) q.1
+    (mine (ap (λ (v : View). is_writer v.role) q.1 ∙ writes)))
     (λ (q : (j ≢ id) × (get_elem? views j ≡ some u)). let heard = before j u q.1 writes in record {
       quiet = λ k slot own v here his low. ⊎_elim
-          (λ (p : (k ≡ id) × (next ≡ v)). subst (λ (w : View). lends slot w ≡ 0) p.1 (lend j slot own u q.0 q.1 writes (ap (λ (w : View). is_by (suc own) w.role) p.1 ∙ his) low))
-          (λ (p : (k ≢ id) × (get_elem? views k ≡ some v)). heard.quiet k slot own v p.1 his low) (at_set views id k next v here);
+          (λ (p : (k ≡ id) × (next ≡ v)). subst (λ (w : View). lends slot w ≡ 0) p.1
+          (lend j slot own u q.0 q.1 writes (ap (λ (w : View). is_by (suc own) w.role) p.1 ∙ his) low))
+          (λ (p : (k ≢ id) × (get_elem? views k ≡ some v)). heard.quiet k slot own v p.1 his low)
+          (at_set views id k next v here);
       unheard = heard.unheard;
     }) (at_set views id j next u there)
 
 -- the writer goes on, and hears on
-hears_itself : (views : List View) (id : ℕ) (view next : View) → is_writer next.role ≡ 1 → HearsOn view next → Hears views view → Hears (set views id next) next
+hears_itself : (views : List View) (id : ℕ) (view next : View) → is_writer next.role ≡ 1 → HearsOn view next
+    → Hears views view → Hears (set views id next) next
 hears_itself views id view next writes on heard = record {
   quiet = λ k slot own v here his low. ⊎_elim
-      (λ (p : (k ≡ id) × (next ≡ v)). absurd (no_reader next.role own writes (ap (λ (w : View). is_by (suc own) w.role) p.1 ∙ his)))
-      (λ (p : (k ≢ id) × (get_elem? views k ≡ some v)). heard.quiet k slot own v p.1 his (let few = on.fewer slot in omega arith)) (at_set views id k next v here);
-  unheard = λ key slot names. ⊎_elim (λ (was : get_or view.marks.names key 0 ≡ suc slot). let none_heard = heard.unheard key slot was in let few = on.fewer slot in omega arith)
+      (λ (p : (k ≡ id) × (next ≡ v)). absurd
+      (no_reader next.role own writes (ap (λ (w : View). is_by (suc own) w.role) p.1 ∙ his)))
+      (λ (p : (k ≢ id) × (get_elem? views k ≡ some v)). heard.quiet k slot own v p.1 his
+      (let few = on.fewer slot in omega arith))
+      (at_set views id k next v here);
+  unheard = λ key slot names. ⊎_elim
+      (λ (was : get_or view.marks.names key 0 ≡ suc slot).
+      let none_heard = heard.unheard key slot was in let few = on.fewer slot in omega arith)
       (λ (none_now : get_or next.heard slot 0 ≡ 0). none_now) (on.named key slot names);
 }
 
 -- where it lends as before, the others have heard it as before
-pub hears_on : (views : List View) (id : ℕ) (view next : View) → get_elem? views id ≡ some view → ((caller : ℕ) → is_by caller next.role ≡ is_by caller view.role) → is_writer next.role ≡ is_writer view.role
-    → ((slot : ℕ) → lends slot next ≡ lends slot view) → (is_writer view.role ≡ 1 → HearsOn view next) → AllHear views → AllHear (set views id next)
+pub hears_on : (views : List View) (id : ℕ) (view next : View) → get_elem? views id ≡ some view
+    → ((caller : ℕ) → is_by caller next.role ≡ is_by caller view.role) → is_writer next.role ≡ is_writer view.role
+    → ((slot : ℕ) → lends slot next ≡ lends slot view) → (is_writer view.role ≡ 1 → HearsOn view next) → AllHear views
+    → AllHear (set views id next)
 hears_on views id view next at same writer lend on before = hears_after views id view next at
-    (λ other slot own w _ there writes his low. lend slot ∙ (before other w there writes).quiet id slot own view at (sym (same (suc own)) ∙ his) low)
-    (λ writes. hears_itself views id view next writes (on (sym writer ∙ writes)) (before id view at (sym writer ∙ writes))) before
+    (λ other slot own w _ there writes his low. lend slot
+    ∙ (before other w there writes).quiet id slot own view at (sym (same (suc own)) ∙ his) low)
+    (λ writes. hears_itself views id view next writes (on (sym writer ∙ writes))
+    (before id view at (sym writer ∙ writes)))
+    before
 
 -- one token more, which is no writer and says nothing
-pub hears_more : (views : List View) (next : View) → next.says ≡ 0 → is_writer next.role ≡ 0 → AllHear views → AllHear (views ++ next ∷ [])
+pub hears_more : (views : List View) (next : View) → next.says ≡ 0 → is_writer next.role ≡ 0 → AllHear views
+    → AllHear (views ++ next ∷ [])
 hears_more views next silent reads before j u there writes = ⊎_elim
     (λ (q : get_elem? views j ≡ some u). let heard = before j u q writes in record {
-      quiet = λ k slot own v here his low. ⊎_elim (λ (p : get_elem? views k ≡ some v). heard.quiet k slot own v p his low)
-          (λ (p : next ≡ v). subst (λ (w : View). lends slot w ≡ 0) p (ap (λ (n : ℕ). cond (nat_lt 0 n) (holds slot next.role) 0) silent)) (at_snoc views next v k here);
+      quiet = λ k slot own v here his low. ⊎_elim
+          (λ (p : get_elem? views k ≡ some v). heard.quiet k slot own v p his low)
+          (λ (p : next ≡ v). subst (λ (w : View). lends slot w ≡ 0) p
+          (ap (λ (n : ℕ). cond (nat_lt 0 n) (holds slot next.role) 0) silent))
+          (at_snoc views next v k here);
       unheard = heard.unheard;
     })
-    (λ (q : next ≡ u). absurd (let none = ap (λ (w : View). is_writer w.role) q in omega arith)) (at_snoc views next u j there)
+    (λ (q : next ≡ u). absurd (let none = ap (λ (w : View). is_writer w.role) q in omega arith))
+    (at_snoc views next u j there)
 
 -- a token that has heard what it had, and whose marks name what they did
 pub hears_as : (view next : View) → next.heard ≡ view.heard → next.marks.names ≡ view.marks.names → HearsOn view next
-hears_as view next same names = record { fewer = λ slot. let e = ap (λ (l : List ℕ). get_or l slot 0) same in omega arith; named = λ key slot is. inl (ap (λ (l : List ℕ). get_or l key 0) (sym names) ∙ is) }
+hears_as view next same names =
+    record {
+      fewer = λ slot. let e = ap (λ (l : List ℕ). get_or l slot 0) same in omega arith;
+      named = λ key slot is. inl (ap (λ (l : List ℕ). get_or l key 0) (sym names) ∙ is);
+    }
 
 -- what is set to 0 is 0, and no other place has more
 pub zero_at : (l : List ℕ) (place : ℕ) → get_or (set l place 0) place 0 ≡ 0
@@ -103,24 +131,34 @@ forgets (Reader reader grip) heard slot = omega arith
 forgets Note heard slot = omega arith
 
 -- a sum without terms
-no_terms : (f : View → ℕ) (views : List View) → ((id : ℕ) (view : View) → get_elem? views id ≡ some view → f view ≡ 0) → total f views ≡ 0
+no_terms : (f : View → ℕ) (views : List View) → ((id : ℕ) (view : View) → get_elem? views id ≡ some view → f view ≡ 0)
+    → total f views ≡ 0
 no_terms f [] zeros = refl
-no_terms f (view ∷ views) zeros = omega (arith, zeros 0 view refl, no_terms f views (λ id other at. zeros (suc id) other at))
+no_terms f (view ∷ views) zeros =
+    omega (arith, zeros 0 view refl, no_terms f views (λ id other at. zeros (suc id) other at))
 
 -- who is no reader with a word lends nothing
 pub lends_none : (view : View) (slot : ℕ) → holds slot view.role ≡ 0 → lends slot view ≡ 0
-lends_none view slot nothing = by_cases (λ (b : Bool). cond b (holds slot view.role) 0 ≡ 0) (nat_lt 0 view.says) (λ _. nothing) (λ _. refl)
+lends_none view slot nothing =
+    by_cases (λ (b : Bool). cond b (holds slot view.role) 0 ≡ 0) (nat_lt 0 view.says) (λ _. nothing) (λ _. refl)
 
 -- where all readers that have a word were heard, nobody holds the slot by a word
-pub lent_heard : (shape : Shape) (announcers : ℕ) (words : List ℕ) (views : List View) (writer : View) (slot : ℕ) → Announces shape announcers words views → Hears views writer → announcers ≤ get_or writer.heard slot 0
-    → ((id : ℕ) (view : View) → get_elem? views id ≡ some view → is_by 0 view.role ≡ true → is_writer view.role ≡ 1) → lent views slot ≡ 0
-lent_heard shape announcers words views writer slot announced hears all numbered = no_terms (lends slot) views (λ id view at. by_role id view at view.role refl)
+pub lent_heard : (shape : Shape) (announcers : ℕ) (words : List ℕ) (views : List View) (writer : View) (slot : ℕ)
+    → Announces shape announcers words views → Hears views writer → announcers ≤ get_or writer.heard slot 0
+    → ((id : ℕ) (view : View) → get_elem? views id ≡ some view → is_by 0 view.role ≡ true → is_writer view.role ≡ 1)
+    → lent views slot ≡ 0
+lent_heard shape announcers words views writer slot announced hears all numbered =
+    no_terms (lends slot) views (λ id view at. by_role id view at view.role refl)
   where
-    by_role : (id : ℕ) (view : View) → get_elem? views id ≡ some view → (role : Role) → view.role ≡ role → lends slot view ≡ 0
+    by_role : (id : ℕ) (view : View) → get_elem? views id ≡ some view → (role : Role) → view.role ≡ role
+        → lends slot view ≡ 0
     by_role id view at (Writer desk) is = lends_none view slot (ap (holds slot) is)
     by_role id view at Note is = lends_none view slot (ap (holds slot) is)
-    by_role id view at (Reader zero grip) is = absurd (let one = numbered id view at (ap (is_by 0) is) in let none = ap is_writer is in omega arith)
+    by_role id view at (Reader zero grip) is =
+        absurd (let one = numbered id view at (ap (is_by 0) is) in let none = ap is_writer is in omega arith)
     by_role id view at (Reader (suc own) grip) is = by_cases (λ (_ : Bool). lends slot view ≡ 0) (nat_lt own announcers)
-        (λ low. hears.quiet id slot own view at (ap (is_by (suc own)) is ∙ eq-eqb (suc own) (suc own) refl) (let has = ltb-true own announcers low in omega arith))
+        (λ low. hears.quiet id slot own view at (ap (is_by (suc own)) is ∙ eq-eqb (suc own) (suc own) refl)
+        (let has = ltb-true own announcers low in omega arith))
         (λ high. ap (λ (n : ℕ). cond (nat_lt 0 n) (holds slot view.role) 0) (announced.wordless id view at
-        (λ other low. ap (is_by (suc other)) is ∙ ne_eqb (suc own) (suc other) (λ e. let late = ltb-false own announcers high in omega arith))))
+        (λ other low. ap (is_by (suc other)) is
+        ∙ ne_eqb (suc own) (suc other) (λ e. let late = ltb-false own announcers high in omega arith))))

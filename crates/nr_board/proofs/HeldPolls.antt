@@ -11,7 +11,8 @@ abbrev held_poll : Retired → LoggedLoad
 held_poll entry = OfSlot entry.slot false
 
 -- one slot more
-pub held_next : (retired : List Retired) (entry : Retired) → held_polls (retired ++ entry ∷ []) ≡ held_polls retired ++ OfSlot entry.slot false ∷ []
+pub held_next : (retired : List Retired) (entry : Retired)
+    → held_polls (retired ++ entry ∷ []) ≡ held_polls retired ++ OfSlot entry.slot false ∷ []
 held_next retired entry = map-append held_poll retired (entry ∷ [])
 
 pub held_many : (retired : List Retired) → length (held_polls retired) ≡ length retired
@@ -19,12 +20,22 @@ held_many retired = length-map retired held_poll
 
 -- SLOTS THAT ARE NOT PASSED BY
 
-pub passed_both : (passes : ℕ → Bool) (retired more : List Retired) → not_passed passes (retired ++ more) ≡ not_passed passes retired ++ not_passed passes more
+pub passed_both : (passes : ℕ → Bool) (retired more : List Retired)
+    → not_passed passes (retired ++ more) ≡ not_passed passes retired ++ not_passed passes more
 passed_both passes [] more = refl
 passed_both passes (entry ∷ retired) more = let rest = passed_both passes retired more in
-    by_cases (λ (b : Bool). cond {A = List Retired} b (not_passed passes (retired ++ more)) (entry ∷ not_passed passes (retired ++ more)) ≡ cond {A = List Retired} b (not_passed passes retired) (entry ∷ not_passed passes retired) ++ not_passed passes more) (passes entry.slot)
+    by_cases
+    (λ (b : Bool). cond {A = List Retired} b (not_passed passes (retired ++ more))
+    (entry ∷ not_passed passes (retired ++ more))
+    ≡ cond {A = List Retired} b (not_passed passes retired) (entry ∷ not_passed passes retired)
+    ++ not_passed passes more)
+    (passes entry.slot)
     (λ _. rest) (λ _. ap (λ (l : List Retired). entry ∷ l) rest)
 
-pub none_passed : (passes : ℕ → Bool) (retired : List Retired) → ((slot : ℕ) → passes slot ≡ false) → not_passed passes retired ≡ retired
+pub none_passed : (passes : ℕ → Bool) (retired : List Retired) → ((slot : ℕ) → passes slot ≡ false)
+    → not_passed passes retired ≡ retired
 none_passed passes [] none = refl
-none_passed passes (entry ∷ retired) none = ap (λ (b : Bool). cond {A = List Retired} b (not_passed passes retired) (entry ∷ not_passed passes retired)) (none entry.slot) ∙ ap (λ (l : List Retired). entry ∷ l) (none_passed passes retired none)
+none_passed passes (entry ∷ retired) none =
+    ap (λ (b : Bool). cond {A = List Retired} b (not_passed passes retired) (entry ∷ not_passed passes retired))
+    (none entry.slot)
+    ∙ ap (λ (l : List Retired). entry ∷ l) (none_passed passes retired none)

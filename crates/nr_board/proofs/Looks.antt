@@ -1,5 +1,6 @@
 -- What the look of a call tells the writer, by the word that it found.
-use Rattle.std.proofs.Common.{Bool, List, [], ap, cond, eq-eqb, false, ne_eqb, not, refl, subst, sym, true, ℕ, ◌<◌, ◌∙◌, ◌≡◌, ◌≢◌, ◌≤◌}
+use Rattle.std.proofs.Common.{Bool, List, [], ap, cond, eq-eqb, false, ne_eqb, not, refl, subst, sym, true, ℕ, ◌<◌, ◌∙◌}
+use Rattle.std.proofs.Common.{◌≡◌, ◌≢◌, ◌≤◌}
 use Rattle.std.proofs.lemmas.Bool.{le-ltb, lt-ltb, not-false, not-true}
 use Rattle.nr_model.specs.declared.calls.Reply.TheVariants as reply
 use Rattle.nr_model.specs.declared.batches.Delta.{Delta}
@@ -24,10 +25,12 @@ use Rattle.nr_marks.specs.Marks.{with_polls}
 use Rattle.nr_board.specs.WriterSeats.{IsBetween, LeadsIn, MapSeat, RestsAt}
 
 -- the writer rests with its slots at its own map
-pub rests_own : (table : Table) (spare : Spare) (seat : MapSeat) → RestsAt table spare seat → RestsAt (token seat).table spare seat
+pub rests_own : (table : Table) (spare : Spare) (seat : MapSeat) → RestsAt table spare seat
+    → RestsAt (token seat).table spare seat
 rests_own table spare seat rests = subst (λ (t : Table). RestsAt t spare seat) (sym rests.writes.own) rests
 
-pub rests_here : (table : Table) (spare : Spare) (seat : MapSeat) → (token seat).table ≡ table → RestsAt (token seat).table spare seat → RestsAt table spare seat
+pub rests_here : (table : Table) (spare : Spare) (seat : MapSeat) → (token seat).table ≡ table
+    → RestsAt (token seat).table spare seat → RestsAt table spare seat
 rests_here table spare seat own rests = subst (λ (t : Table). RestsAt t spare seat) own rests
 
 pub between_calls : (table : Table) (spare : Spare) (seat : MapSeat) → RestsAt table spare seat → IsBetween table seat
@@ -54,87 +57,181 @@ module _ {parts : KeyParts} (word : ℕ) (is : parts ≡ parts_of word) where
   slot_so = ap (λ (p : KeyParts). p.slot) is
 
 -- the writer, which was between two calls, has looked at the key of this one
-pub record HasLooked (table : Table) (spare : Spare) (call : WriterCall) (found : ℕ) (before after : MapSeat) : Type 0 where
+pub record HasLooked (table : Table) (spare : Spare) (call : WriterCall) (found : ℕ) (before after : MapSeat) : Type
+    0 where
   pub own : (token before).table ≡ table
   pub rests : RestsAt table spare before
   pub leads : LeadsIn 1 table (call_of call) (looked table.shape (desk_with spare Idle) call found) before after
   pub marks : after.me.0.marks ≡ with_polls before.me.0.marks []
   pub heard : after.me.0.heard ≡ before.me.0.heard
 
-pub has_looked : {board table : Table} {spare : Spare} {given call : WriterCall} {found : ℕ} {before after : MapSeat} → board ≡ table → (token before).table ≡ table → RestsAt (token before).table spare before → given ≡ call
-    → ((desk : Desk) → before.me.0.role ≡ Writer desk → LeadsIn 1 board (call_of given) (looked board.shape desk given found) before after) → after.me.0.marks ≡ with_polls before.me.0.marks [] → after.me.0.heard ≡ before.me.0.heard → HasLooked table spare call found before after
-has_looked {spare = spare} {found = found} {before = before} {after = after} board_is own rests call_is told marks heard = record {
-  own = own;
-  rests = rests_here _ spare before own rests;
-  leads = subst (λ (p : Table × WriterCall). LeadsIn 1 p.0 (call_of p.1) (looked p.0.shape (desk_with spare Idle) p.1 found) before after) (λ j. (board_is j, call_is j)) (told (desk_with spare Idle) rests.writes.role);
-  marks = marks;
-  heard = heard;
-}
+pub has_looked : {board table : Table} {spare : Spare} {given call : WriterCall} {found : ℕ} {before after : MapSeat}
+    → board ≡ table → (token before).table ≡ table → RestsAt (token before).table spare before → given ≡ call
+    → ((desk : Desk) → before.me.0.role ≡ Writer desk
+    → LeadsIn 1 board (call_of given) (looked board.shape desk given found) before after)
+    → after.me.0.marks ≡ with_polls before.me.0.marks [] → after.me.0.heard ≡ before.me.0.heard
+    → HasLooked table spare call found before after
+has_looked {spare = spare} {found = found} {before = before} {after = after} board_is own rests call_is told marks
+    heard =
+    record {
+      own = own;
+      rests = rests_here _ spare before own rests;
+      leads =
+          subst
+          (λ (p : Table × WriterCall). LeadsIn 1 p.0 (call_of p.1) (looked p.0.shape (desk_with spare Idle) p.1 found)
+          before after)
+          (λ j. (board_is j, call_is j)) (told (desk_with spare Idle) rests.writes.role);
+      marks = marks;
+      heard = heard;
+    }
 
 -- THE OUTCOMES OF LOOKS, by the word that was found
 
 module _ (shape : Shape) (desk : Desk) (key word : ℕ) where
   pub find_hole : is_filled word ≡ false → looked shape desk (Find key) word ≡ (moved_to desk Idle, ended reply.Hole)
-  find_hole empty = ap (λ (b : Bool). cond {A = Desk × Step} b (moved_to desk (Reading (Find key) (slot_of word) []), Going) (moved_to desk Idle, ended reply.Hole)) empty
+  find_hole empty =
+      ap
+      (λ (b : Bool). cond {A = Desk × Step} b (moved_to desk (Reading (Find key) (slot_of word) []), Going)
+      (moved_to desk Idle, ended reply.Hole))
+      empty
 
-  pub find_reads : is_filled word ≡ true → looked shape desk (Find key) word ≡ (moved_to desk (Reading (Find key) (slot_of word) []), Going)
-  find_reads full = ap (λ (b : Bool). cond {A = Desk × Step} b (moved_to desk (Reading (Find key) (slot_of word) []), Going) (moved_to desk Idle, ended reply.Hole)) full
+  pub find_reads : is_filled word ≡ true
+      → looked shape desk (Find key) word ≡ (moved_to desk (Reading (Find key) (slot_of word) []), Going)
+  find_reads full =
+      ap
+      (λ (b : Bool). cond {A = Desk × Step} b (moved_to desk (Reading (Find key) (slot_of word) []), Going)
+      (moved_to desk Idle, ended reply.Hole))
+      full
 
-  pub evict_nothing : is_filled word ≡ false → looked shape desk (Evict key) word ≡ (moved_to desk Idle, ended reply.Nothing)
-  evict_nothing empty = ap (λ (b : Bool). cond {A = Desk × Step} b (moved_to desk (Leaving key), Going) (moved_to desk Idle, ended reply.Nothing)) empty
+  pub evict_nothing : is_filled word ≡ false
+      → looked shape desk (Evict key) word ≡ (moved_to desk Idle, ended reply.Nothing)
+  evict_nothing empty =
+      ap
+      (λ (b : Bool). cond {A = Desk × Step} b (moved_to desk (Leaving key), Going)
+      (moved_to desk Idle, ended reply.Nothing))
+      empty
 
   pub evict_leaves : is_filled word ≡ true → looked shape desk (Evict key) word ≡ (moved_to desk (Leaving key), Going)
-  evict_leaves full = ap (λ (b : Bool). cond {A = Desk × Step} b (moved_to desk (Leaving key), Going) (moved_to desk Idle, ended reply.Nothing)) full
+  evict_leaves full =
+      ap
+      (λ (b : Bool). cond {A = Desk × Step} b (moved_to desk (Leaving key), Going)
+      (moved_to desk Idle, ended reply.Nothing))
+      full
 
-  pub cancel_filled : is_filled word ≡ true → looked shape desk (Cancel key) word ≡ (moved_to desk Idle, ended reply.Nothing)
-  cancel_filled full = ap (λ (b : Bool). cond {A = Desk × Step} b (moved_to desk Idle, ended reply.Nothing) (cond {A = Desk × Step} (has_ask word) (cancel_asked desk key (slot_of word)) (moved_to desk Idle, ended reply.Nothing))) full
+  pub cancel_filled : is_filled word ≡ true
+      → looked shape desk (Cancel key) word ≡ (moved_to desk Idle, ended reply.Nothing)
+  cancel_filled full =
+      ap
+      (λ (b : Bool). cond {A = Desk × Step} b (moved_to desk Idle, ended reply.Nothing)
+      (cond {A = Desk × Step} (has_ask word) (cancel_asked desk key (slot_of word))
+      (moved_to desk Idle, ended reply.Nothing)))
+      full
 
-  pub cancel_unasked : is_filled word ≡ false → has_ask word ≡ false → looked shape desk (Cancel key) word ≡ (moved_to desk Idle, ended reply.Nothing)
-  cancel_unasked empty unasked = (λ j. cond {A = Desk × Step} (empty j) (moved_to desk Idle, ended reply.Nothing) (cond {A = Desk × Step} (unasked j) (cancel_asked desk key (slot_of word)) (moved_to desk Idle, ended reply.Nothing)))
+  pub cancel_unasked : is_filled word ≡ false → has_ask word ≡ false
+      → looked shape desk (Cancel key) word ≡ (moved_to desk Idle, ended reply.Nothing)
+  cancel_unasked empty unasked =
+      (λ j. cond {A = Desk × Step} (empty j) (moved_to desk Idle, ended reply.Nothing)
+      (cond {A = Desk × Step} (unasked j) (cancel_asked desk key (slot_of word))
+      (moved_to desk Idle, ended reply.Nothing)))
 
   -- of an asked key, by whether its number is the last one
-  cancel_of_asked : is_filled word ≡ false → has_ask word ≡ true → looked shape desk (Cancel key) word ≡ cancel_asked desk key (slot_of word)
-  cancel_of_asked empty asked = (λ j. cond {A = Desk × Step} (empty j) (moved_to desk Idle, ended reply.Nothing) (cond {A = Desk × Step} (asked j) (cancel_asked desk key (slot_of word)) (moved_to desk Idle, ended reply.Nothing)))
+  cancel_of_asked : is_filled word ≡ false → has_ask word ≡ true
+      → looked shape desk (Cancel key) word ≡ cancel_asked desk key (slot_of word)
+  cancel_of_asked empty asked =
+      (λ j. cond {A = Desk × Step} (empty j) (moved_to desk Idle, ended reply.Nothing)
+      (cond {A = Desk × Step} (asked j) (cancel_asked desk key (slot_of word))
+      (moved_to desk Idle, ended reply.Nothing)))
 
-  pub cancel_worn : is_filled word ≡ false → has_ask word ≡ true → last_number ≤ slot_of word → looked shape desk (Cancel key) word ≡ (moved_to desk Idle, ended reply.Worn)
-  cancel_worn empty asked last = cancel_of_asked empty asked ∙ ap (λ (b : Bool). cond {A = Desk × Step} b (moved_to desk (Withdrawing key), Going) (moved_to desk Idle, ended reply.Worn)) (le-ltb (slot_of word) last_number last)
+  pub cancel_worn : is_filled word ≡ false → has_ask word ≡ true → last_number ≤ slot_of word
+      → looked shape desk (Cancel key) word ≡ (moved_to desk Idle, ended reply.Worn)
+  cancel_worn empty asked last =
+      cancel_of_asked empty asked
+      ∙ ap
+      (λ (b : Bool). cond {A = Desk × Step} b (moved_to desk (Withdrawing key), Going)
+      (moved_to desk Idle, ended reply.Worn))
+      (le-ltb (slot_of word) last_number last)
 
-  pub cancel_withdraws : is_filled word ≡ false → has_ask word ≡ true → slot_of word < last_number → looked shape desk (Cancel key) word ≡ (moved_to desk (Withdrawing key), Going)
-  cancel_withdraws empty asked early = cancel_of_asked empty asked ∙ ap (λ (b : Bool). cond {A = Desk × Step} b (moved_to desk (Withdrawing key), Going) (moved_to desk Idle, ended reply.Worn)) (lt-ltb (slot_of word) last_number early)
+  pub cancel_withdraws : is_filled word ≡ false → has_ask word ≡ true → slot_of word < last_number
+      → looked shape desk (Cancel key) word ≡ (moved_to desk (Withdrawing key), Going)
+  cancel_withdraws empty asked early =
+      cancel_of_asked empty asked
+      ∙ ap
+      (λ (b : Bool). cond {A = Desk × Step} b (moved_to desk (Withdrawing key), Going)
+      (moved_to desk Idle, ended reply.Worn))
+      (lt-ltb (slot_of word) last_number early)
 
   module _ (number : ℕ) (rows : List Row) where
-    pub fill_already : is_filled word ≡ true → looked shape desk (Fill key number rows) word ≡ (moved_to desk Idle, ended reply.Already)
+    pub fill_already : is_filled word ≡ true
+        → looked shape desk (Fill key number rows) word ≡ (moved_to desk Idle, ended reply.Already)
     fill_already full = ap (λ (b : Bool). cond {A = Desk × Step} b (moved_to desk Idle, ended reply.Already)
         (cond {A = Desk × Step} (has_ask word) (fill_asked shape desk (Fill key number rows) number rows (slot_of word))
         (moved_to desk Idle, ended reply.NotAsked))) full
 
-    pub fill_not_asked : is_filled word ≡ false → has_ask word ≡ false → looked shape desk (Fill key number rows) word ≡ (moved_to desk Idle, ended reply.NotAsked)
+    pub fill_not_asked : is_filled word ≡ false → has_ask word ≡ false
+        → looked shape desk (Fill key number rows) word ≡ (moved_to desk Idle, ended reply.NotAsked)
     fill_not_asked empty unasked = (λ j. cond {A = Desk × Step} (empty j) (moved_to desk Idle, ended reply.Already)
         (cond {A = Desk × Step} (unasked j) (fill_asked shape desk (Fill key number rows) number rows (slot_of word))
         (moved_to desk Idle, ended reply.NotAsked)))
 
     -- of an asked key, by the number of its request
-    fill_of_asked : is_filled word ≡ false → has_ask word ≡ true → looked shape desk (Fill key number rows) word ≡ fill_asked shape desk (Fill key number rows) number rows (slot_of word)
+    fill_of_asked : is_filled word ≡ false → has_ask word ≡ true
+        → looked shape desk (Fill key number rows) word
+        ≡ fill_asked shape desk (Fill key number rows) number rows (slot_of word)
     fill_of_asked empty asked = (λ j. cond {A = Desk × Step} (empty j) (moved_to desk Idle, ended reply.Already)
         (cond {A = Desk × Step} (asked j) (fill_asked shape desk (Fill key number rows) number rows (slot_of word))
         (moved_to desk Idle, ended reply.NotAsked)))
 
-    pub fill_stale : is_filled word ≡ false → has_ask word ≡ true → slot_of word ≢ number → looked shape desk (Fill key number rows) word ≡ (moved_to desk Idle, ended reply.Stale)
-    fill_stale empty asked other = fill_of_asked empty asked ∙ ap (λ (b : Bool). cond {A = Desk × Step} b (settled shape desk (Fill key number rows) rows) (moved_to desk Idle, ended reply.Stale)) (ne_eqb (slot_of word) number other)
+    pub fill_stale : is_filled word ≡ false → has_ask word ≡ true → slot_of word ≢ number
+        → looked shape desk (Fill key number rows) word ≡ (moved_to desk Idle, ended reply.Stale)
+    fill_stale empty asked other =
+        fill_of_asked empty asked
+        ∙ ap
+        (λ (b : Bool). cond {A = Desk × Step} b (settled shape desk (Fill key number rows) rows)
+        (moved_to desk Idle, ended reply.Stale))
+        (ne_eqb (slot_of word) number other)
 
-    pub fill_settles : is_filled word ≡ false → has_ask word ≡ true → slot_of word ≡ number → looked shape desk (Fill key number rows) word ≡ settled shape desk (Fill key number rows) rows
-    fill_settles empty asked own = fill_of_asked empty asked ∙ ap (λ (b : Bool). cond {A = Desk × Step} b (settled shape desk (Fill key number rows) rows) (moved_to desk Idle, ended reply.Stale)) (eq-eqb (slot_of word) number own)
+    pub fill_settles : is_filled word ≡ false → has_ask word ≡ true → slot_of word ≡ number
+        → looked shape desk (Fill key number rows) word ≡ settled shape desk (Fill key number rows) rows
+    fill_settles empty asked own =
+        fill_of_asked empty asked
+        ∙ ap
+        (λ (b : Bool). cond {A = Desk × Step} b (settled shape desk (Fill key number rows) rows)
+        (moved_to desk Idle, ended reply.Stale))
+        (eq-eqb (slot_of word) number own)
 
   module _ (rows : List Row) where
-    pub replace_dropped : is_filled word ≡ false → looked shape desk (Replace key rows) word ≡ (moved_to desk Idle, ended reply.Dropped)
-    replace_dropped empty = ap (λ (b : Bool). cond {A = Desk × Step} b (settled shape desk (Replace key rows) rows) (moved_to desk Idle, ended reply.Dropped)) empty
+    pub replace_dropped : is_filled word ≡ false
+        → looked shape desk (Replace key rows) word ≡ (moved_to desk Idle, ended reply.Dropped)
+    replace_dropped empty =
+        ap
+        (λ (b : Bool). cond {A = Desk × Step} b (settled shape desk (Replace key rows) rows)
+        (moved_to desk Idle, ended reply.Dropped))
+        empty
 
-    pub replace_settles : is_filled word ≡ true → looked shape desk (Replace key rows) word ≡ settled shape desk (Replace key rows) rows
-    replace_settles full = ap (λ (b : Bool). cond {A = Desk × Step} b (settled shape desk (Replace key rows) rows) (moved_to desk Idle, ended reply.Dropped)) full
+    pub replace_settles : is_filled word ≡ true
+        → looked shape desk (Replace key rows) word ≡ settled shape desk (Replace key rows) rows
+    replace_settles full =
+        ap
+        (λ (b : Bool). cond {A = Desk × Step} b (settled shape desk (Replace key rows) rows)
+        (moved_to desk Idle, ended reply.Dropped))
+        full
 
   module _ (batch : List Delta) where
-    pub update_dropped : is_filled word ≡ false → looked shape desk (Update key batch) word ≡ (moved_to desk Idle, ended reply.Dropped)
-    update_dropped empty = ap (λ (b : Bool). cond {A = Desk × Step} b (moved_to desk (Reading (Update key batch) (slot_of word) []), Going) (moved_to desk Idle, ended reply.Dropped)) empty
+    pub update_dropped : is_filled word ≡ false
+        → looked shape desk (Update key batch) word ≡ (moved_to desk Idle, ended reply.Dropped)
+    update_dropped empty =
+        ap
+        (λ (b : Bool). cond {A = Desk × Step} b
+        (moved_to desk (Reading (Update key batch) (slot_of word) []), Going)
+        (moved_to desk Idle, ended reply.Dropped))
+        empty
 
-    pub update_reads : is_filled word ≡ true → looked shape desk (Update key batch) word ≡ (moved_to desk (Reading (Update key batch) (slot_of word) []), Going)
-    update_reads full = ap (λ (b : Bool). cond {A = Desk × Step} b (moved_to desk (Reading (Update key batch) (slot_of word) []), Going) (moved_to desk Idle, ended reply.Dropped)) full
+    pub update_reads : is_filled word ≡ true
+        → looked shape desk (Update key batch) word
+        ≡ (moved_to desk (Reading (Update key batch) (slot_of word) []), Going)
+    update_reads full =
+        ap
+        (λ (b : Bool). cond {A = Desk × Step} b
+        (moved_to desk (Reading (Update key batch) (slot_of word) []), Going)
+        (moved_to desk Idle, ended reply.Dropped))
+        full

@@ -1,5 +1,6 @@
 -- What a step does to its token's own view: it learns the history so far and adds entries, or it learns nothing.
-use Rattle.std.proofs.Common.{◌≡◌, ℕ, suc, get_or, inl, ◌⊎◌, ◌<◌, ◌+◌, List, [], ◌++◌, map, cond, true, refl, sym, ap, ◌∙◌, subst, arith, append_assoc, append-nil}
+use Rattle.std.proofs.Common.{◌≡◌, ℕ, suc, get_or, inl, ◌⊎◌, ◌<◌, ◌+◌, List, [], ◌++◌, map, cond, true, refl, sym, ap}
+use Rattle.std.proofs.Common.{◌∙◌, subst, arith, append_assoc, append-nil}
 use mathlib.Core.Option.{some}
 use lib.ListN.{get_elem?}
 use Rattle.atomic_table.specs.Table.{State}
@@ -60,7 +61,9 @@ waited view after marks news = record {
 
 -- after the writer's step a key names what it did, or a slot of which nothing is heard
 abbrev pub NamesGo : View → Marks → Type 0
-NamesGo view marks = is_writer view.role ≡ 1 → (key slot : ℕ) → get_or marks.names key 0 ≡ suc slot → (get_or view.marks.names key 0 ≡ suc slot) ⊎ (get_or (heard_after view.role view.heard) slot 0 ≡ 0)
+NamesGo view marks =
+    is_writer view.role ≡ 1 → (key slot : ℕ) → get_or marks.names key 0 ≡ suc slot
+    → (get_or view.marks.names key 0 ≡ suc slot) ⊎ (get_or (heard_after view.role view.heard) slot 0 ≡ 0)
 
 abbrev pub NamesStay : View → Marks → Type 0
 NamesStay view marks = is_writer view.role ≡ 1 → marks.names ≡ view.marks.names
@@ -74,42 +77,63 @@ reads_only view marks reads writes = absurd (omega arith)
 
 -- a reader's count of acts goes along with its entries, but for the departure that is to come
 abbrev pub ActsGo : View → Role → List Entry → Marks → Type 0
-ActsGo view after entries marks = 0 < is_reader after → marks.acts + to_depart (gripped (grip_of after)) ≡ view.marks.acts + to_depart (gripped (grip_of view.role)) + acts_told entries
+ActsGo view after entries marks =
+    0 < is_reader after
+    → marks.acts + to_depart (gripped (grip_of after))
+    ≡ view.marks.acts + to_depart (gripped (grip_of view.role)) + acts_told entries
 
 module _ (shape : Shape) (log : List Entry) (view : View) (fits : Fits shape log view) (after : Role)
     (same : (caller : ℕ) → is_by caller after ≡ is_by caller view.role) (writer : is_writer after ≡ is_writer view.role)
     (reader : is_reader after ≡ is_reader view.role) where
   -- the history with the step's entries has the caller's, and no more of it
-  pub learned_own : (entries : List Entry) → ((caller : ℕ) → entries_of entries caller ≡ cond (is_by caller view.role) entries []) → (caller : ℕ) → is_by caller after ≡ true → entries_of (log ++ entries) caller ≡ view.mine ++ entries
+  pub learned_own : (entries : List Entry)
+      → ((caller : ℕ) → entries_of entries caller ≡ cond (is_by caller view.role) entries []) → (caller : ℕ)
+      → is_by caller after ≡ true → entries_of (log ++ entries) caller ≡ view.mine ++ entries
   learned_own entries own caller his = let before : is_by caller view.role ≡ true = sym (same caller) ∙ his in
-      of-append caller log entries ∙ ap (λ (l : List Entry). l ++ entries_of entries caller) (fits.own caller before) ∙ ap (λ (l : List Entry). view.mine ++ l) (own caller ∙ ap (λ y. cond y entries []) before)
+      of-append caller log entries ∙ ap (λ (l : List Entry). l ++ entries_of entries caller) (fits.own caller before)
+      ∙ ap (λ (l : List Entry). view.mine ++ l) (own caller ∙ ap (λ y. cond y entries []) before)
 
   pub learned_fits : (entries : List Entry) (marks : Marks) (news : List Past)
-      → ((caller : ℕ) → entries_of entries caller ≡ cond (is_by caller view.role) entries []) → ActsGo view after entries marks
+      → ((caller : ℕ) → entries_of entries caller ≡ cond (is_by caller view.role) entries [])
+      → ActsGo view after entries marks
       → Fits shape (log ++ entries) (learned view after (log ++ entries) entries marks news)
   learned_fits entries marks news own acts =
       let all = learned_own entries own in record {
         begins = record { rest = []; is = sym (append-nil (log ++ entries)) };
-        told = record { rest = fits.told.rest ++ entries; is = ap (λ (l : List Entry). l ++ entries) fits.told.is ∙ append_assoc view.told fits.told.rest entries };
+        told =
+            record {
+              rest = fits.told.rest ++ entries;
+              is = ap (λ (l : List Entry). l ++ entries) fits.told.is
+                  ∙ append_assoc view.told fits.told.rest entries;
+            };
         own = all;
         knows_own = all;
-        acts = λ reads. omega (arith, fits.acts (omega arith), acts reads, total-append (λ (e : Entry). acts_at e.call e.reply) view.mine entries);
+        acts = λ reads. omega (
+          arith,
+          fits.acts (omega arith),
+          acts reads,
+          total-append (λ (e : Entry). acts_at e.call e.reply) view.mine entries,
+        );
         sized = λ l. fits.sized (omega arith);
       }
 
-  pub waited_fits : (marks : Marks) (news : List Past) → ActsGo view after [] marks → Fits shape (log ++ []) (waited view after marks news)
+  pub waited_fits : (marks : Marks) (news : List Past) → ActsGo view after [] marks
+      → Fits shape (log ++ []) (waited view after marks news)
   waited_fits marks news acts = record {
     begins = record { rest = fits.begins.rest; is = append-nil log ∙ fits.begins.is };
     told = record { rest = fits.told.rest; is = append-nil log ∙ fits.told.is };
-    own = λ caller his. ap (λ (l : List Entry). entries_of l caller) (append-nil log) ∙ fits.own caller (sym (same caller) ∙ his);
+    own = λ caller his. ap (λ (l : List Entry). entries_of l caller) (append-nil log)
+        ∙ fits.own caller (sym (same caller) ∙ his);
     knows_own = λ caller his. fits.knows_own caller (sym (same caller) ∙ his);
     acts = λ reads. omega (arith, fits.acts (omega arith), acts reads);
     sized = λ l. fits.sized (omega arith);
   }
 
   module _ (number : caller_number after ≡ caller_number view.role) (sized : view.shape ≡ shape) where
-    pub learned_advances : (entries : List Entry) (marks : Marks) (news : List Past) → news ≡ [] → is_by (caller_number view.role) view.role ≡ true
-        → ((caller : ℕ) → entries_of entries caller ≡ cond (is_by caller view.role) entries []) → IsLegal (opening_map shape) (log ++ entries)
+    pub learned_advances : (entries : List Entry) (marks : Marks) (news : List Past) → news ≡ []
+        → is_by (caller_number view.role) view.role ≡ true
+        → ((caller : ℕ) → entries_of entries caller ≡ cond (is_by caller view.role) entries [])
+        → IsLegal (opening_map shape) (log ++ entries)
         → AreCallers shape (log ++ entries)
         → Advances entries view (learned view after (log ++ entries) entries marks news)
     learned_advances entries marks news no_news caller own legal callers id = record {
@@ -119,19 +143,33 @@ module _ (shape : Shape) (log : List Entry) (view : View) (fits : Fits shape log
       seen = ap (λ (l : List Entry). l ++ entries) fits.begins.is;
       mine = refl;
       legal = subst (λ (g : Shape). IsLegal (opening_map g) (log ++ entries)) (sym sized) legal;
-      own = learned_own entries own (caller_number after) (same (caller_number after) ∙ ap (λ (n : ℕ). is_by n view.role) number ∙ caller);
+      own =
+          learned_own entries own (caller_number after)
+          (same (caller_number after) ∙ ap (λ (n : ℕ). is_by n view.role) number ∙ caller);
       callers = subst (λ (g : Shape). AreCallers g (log ++ entries)) (sym sized) callers;
       steps_made = refl;
       pasts = ap (λ (l : List Past). l ++ view.pasts) no_news;
     }
 
     pub waited_waits : (marks : Marks) (news : List Past) → news ≡ [] → Waits view (waited view after marks news)
-    waited_waits marks news no_news id = record { table = refl; number = number; seen = refl; mine = refl; steps_made = refl; pasts = ap (λ (l : List Past). l ++ view.pasts) no_news }
+    waited_waits marks news no_news id =
+        record {
+          table = refl;
+          number = number;
+          seen = refl;
+          mine = refl;
+          steps_made = refl;
+          pasts = ap (λ (l : List Past). l ++ view.pasts) no_news;
+        }
 
 -- The two ways in which a step of the core becomes one of the token.
-module _ (shape : Shape) (id : ℕ) (view : View) (operation : Operation) (tells : Telling) (notes : MarkTelling) (state : State (Unit {0}) View) (kept : Kept shape state) (at : get_elem? state.views id ≡ some view)
-    (step : Stepped shape kept.counted (map role_of state.views) kept.log id view.role operation tells) (marked : Remarked role_of marks_of shape kept.counted state.views kept.log id operation view step.after step.entries notes)
-    (same_number : caller_number step.after ≡ caller_number view.role) (sized : view.shape ≡ shape) (callers : AreCallers shape step.entries) (acts : ActsGo view step.after step.entries marked.now) where
+module _ (shape : Shape) (id : ℕ) (view : View) (operation : Operation) (tells : Telling) (notes : MarkTelling)
+    (state : State (Unit {0}) View) (kept : Kept shape state) (at : get_elem? state.views id ≡ some view)
+    (step : Stepped shape kept.counted (map role_of state.views) kept.log id view.role operation tells)
+    (marked : Remarked role_of marks_of shape kept.counted state.views kept.log id operation view step.after
+    step.entries notes)
+    (same_number : caller_number step.after ≡ caller_number view.role) (sized : view.shape ≡ shape)
+    (callers : AreCallers shape step.entries) (acts : ActsGo view step.after step.entries marked.now) where
   -- the view of a token that learns the history so far, with the step's entries
   abbrev pub learned_next : View
   learned_next = learned view step.after (kept.log ++ step.entries) step.entries marked.now marked.news
@@ -144,11 +182,14 @@ module _ (shape : Shape) (id : ℕ) (view : View) (operation : Operation) (tells
     marks = refl;
     pasts = refl;
     told_pasts = refl;
-    fits = learned_fits shape kept.log view (kept.fits id view at) step.after step.same step.writer step.reader step.entries marked.now marked.news step.own acts;
+    fits =
+        learned_fits shape kept.log view (kept.fits id view at) step.after step.same step.writer step.reader
+        step.entries marked.now marked.news step.own acts;
     callers = callers;
   }
 
-  pub chosen : NamesGo view marked.now → (then : View → Type 0) → then learned_next → Choice shape id view operation tells notes state kept step marked then
+  pub chosen : NamesGo view marked.now → (then : View → Type 0) → then learned_next
+      → Choice shape id view operation tells notes state kept step marked then
   chosen names then told = record {
     next = learned_next;
     follows = learned_follows;
@@ -161,7 +202,8 @@ module _ (shape : Shape) (id : ℕ) (view : View) (operation : Operation) (tells
   abbrev pub still_next : View
   still_next = record learned_next { heard = view.heard }
 
-  pub still_chosen : NamesStay view marked.now → (then : View → Type 0) → then still_next → Choice shape id view operation tells notes state kept step marked then
+  pub still_chosen : NamesStay view marked.now → (then : View → Type 0) → then still_next
+      → Choice shape id view operation tells notes state kept step marked then
   still_chosen stay then told = let fits = learned_follows.fits in record {
     next = still_next;
     follows = record {
@@ -171,7 +213,15 @@ module _ (shape : Shape) (id : ℕ) (view : View) (operation : Operation) (tells
       marks = refl;
       pasts = refl;
       told_pasts = refl;
-      fits = record { begins = fits.begins; told = fits.told; own = fits.own; knows_own = fits.knows_own; acts = fits.acts; sized = fits.sized };
+      fits =
+          record {
+            begins = fits.begins;
+            told = fits.told;
+            own = fits.own;
+            knows_own = fits.knows_own;
+            acts = fits.acts;
+            sized = fits.sized;
+          };
       callers = callers;
     };
     says = refl;
@@ -179,20 +229,26 @@ module _ (shape : Shape) (id : ℕ) (view : View) (operation : Operation) (tells
     told = told;
   }
 
-  pub learned_gains : is_by (caller_number view.role) view.role ≡ true → marked.news ≡ [] → (told : List Entry) → step.entries ≡ told → Advances told view learned_next
+  pub learned_gains : is_by (caller_number view.role) view.role ≡ true → marked.news ≡ [] → (told : List Entry)
+      → step.entries ≡ told → Advances told view learned_next
   learned_gains caller no_news told is = subst (λ (entries : List Entry). Advances entries view learned_next) is
-      (learned_advances shape kept.log view (kept.fits id view at) step.after step.same step.writer step.reader same_number sized step.entries
-      marked.now marked.news no_news caller step.own step.core.legal (callers_both shape kept.log step.entries kept.callers callers))
+      (learned_advances shape kept.log view (kept.fits id view at) step.after step.same step.writer step.reader
+      same_number sized step.entries
+      marked.now marked.news no_news caller step.own step.core.legal
+      (callers_both shape kept.log step.entries kept.callers callers))
 
-  pub learning : NamesGo view marked.now → (then : View → Type 0) → is_by (caller_number view.role) view.role ≡ true → marked.news ≡ [] → (told : List Entry) → step.entries ≡ told
-      → (Advances told view learned_next → then learned_next) → Choice shape id view operation tells notes state kept step marked then
+  pub learning : NamesGo view marked.now → (then : View → Type 0) → is_by (caller_number view.role) view.role ≡ true
+      → marked.news ≡ [] → (told : List Entry) → step.entries ≡ told
+      → (Advances told view learned_next → then learned_next)
+      → Choice shape id view operation tells notes state kept step marked then
   learning names then caller no_news told is tell = chosen names then (tell (learned_gains caller no_news told is))
 
   -- the token learns nothing from a step without an entry
   abbrev pub waited_next : View
   waited_next = waited view step.after marked.now marked.news
 
-  pub waited_follows : step.entries ≡ [] → Follows shape id view operation tells notes state kept step marked waited_next
+  pub waited_follows : step.entries ≡ []
+      → Follows shape id view operation tells notes state kept step marked waited_next
   waited_follows none = let fits = kept.fits id view at in record {
     role = refl;
     made = refl;
@@ -207,9 +263,13 @@ module _ (shape : Shape) (id : ℕ) (view : View) (operation : Operation) (tells
   }
 
   pub waited_rests : marked.news ≡ [] → Waits view waited_next
-  waited_rests no_news = waited_waits shape kept.log view (kept.fits id view at) step.after step.same step.writer step.reader same_number sized marked.now marked.news no_news
+  waited_rests no_news =
+      waited_waits shape kept.log view (kept.fits id view at) step.after step.same step.writer step.reader same_number
+      sized marked.now marked.news no_news
 
-  pub waiting : NamesStay view marked.now → (then : View → Type 0) → marked.news ≡ [] → step.entries ≡ [] → (Waits view waited_next → then waited_next) → Choice shape id view operation tells notes state kept step marked then
+  pub waiting : NamesStay view marked.now → (then : View → Type 0) → marked.news ≡ [] → step.entries ≡ []
+      → (Waits view waited_next → then waited_next)
+      → Choice shape id view operation tells notes state kept step marked then
   waiting stay then no_news none tell = record {
     next = waited_next;
     follows = waited_follows none;

@@ -1,5 +1,6 @@
 -- Notes are split from a token and joined to another.
-use Rattle.std.proofs.Common.{◌≡◌, ◌<◌, ℕ, suc, cond, ◌+◌, ◌≢◌, List, [], ◌∷◌, ◌++◌, map, get_or, set, ◌⊎◌, ⊎_elim, inl, inr, refl, sym, ap, ◌∙◌, subst, arith}
+use Rattle.std.proofs.Common.{◌≡◌, ◌<◌, ℕ, suc, cond, ◌+◌, ◌≢◌, List, [], ◌∷◌, ◌++◌, map, get_or, set, ◌⊎◌, ⊎_elim, inl}
+use Rattle.std.proofs.Common.{inr, refl, sym, ap, ◌∙◌, subst, arith}
 use mathlib.Core.List.{map-append}
 use mathlib.Core.Option.{none, some}
 use lib.ListN.{get_elem?}
@@ -34,42 +35,66 @@ use Rattle.nr_board.proofs.Heard.{AllHear, hears_as, hears_more, hears_on}
 use Rattle.nr_board.proofs.Counting.{announces_more, announces_on, counted_same, lent_more, lent_same}
 
 -- a number that is no caller's has no entries
-note_fits : (shape : Shape) (log : List Entry) (view note : View) → note.role ≡ Note → StartsWith log note.seen → note.told ≡ [] → Fits shape log note
+note_fits : (shape : Shape) (log : List Entry) (view note : View) → note.role ≡ Note → StartsWith log note.seen
+    → note.told ≡ [] → Fits shape log note
 note_fits shape log view note is begins untold = record {
   begins = begins;
   told = subst (StartsWith log) (sym untold) (record { rest = log; is = refl });
   own = λ caller his. absurd (cc);
   knows_own = λ caller his. absurd (cc);
   acts = λ reads. let no_reader : is_reader note.role ≡ 0 = ap is_reader is in absurd (omega arith);
-  sized = λ call. let no_writer : is_writer note.role ≡ 0 = ap is_writer is in let no_reader : is_reader note.role ≡ 0 = ap is_reader is in absurd (omega arith);
+  sized = λ call.
+      let no_writer : is_writer note.role ≡ 0 = ap is_writer is in
+      let no_reader : is_reader note.role ≡ 0 = ap is_reader is in
+      absurd (omega arith);
 }
 
 -- a view that keeps its role, and what it names and has heard, leaves what all have heard
-pub heard_same : (views : List View) (id : ℕ) (view next : View) → get_elem? views id ≡ some view → next.role ≡ view.role → next.says ≡ view.says
-    → (is_writer view.role ≡ 1 → (next.heard ≡ view.heard) × (next.marks.names ≡ view.marks.names)) → AllHear views → AllHear (set views id next)
-heard_same views id view next at same says alike = hears_on views id view next at (λ caller. ap (is_by caller) same) (ap is_writer same)
-    (λ slot j. cond (nat_lt 0 (says j)) (holds slot (same j)) 0) (λ writes. let both = alike writes in hears_as view next both.0 both.1)
+pub heard_same : (views : List View) (id : ℕ) (view next : View) → get_elem? views id ≡ some view
+    → next.role ≡ view.role → next.says ≡ view.says
+    → (is_writer view.role ≡ 1 → (next.heard ≡ view.heard) × (next.marks.names ≡ view.marks.names)) → AllHear views
+    → AllHear (set views id next)
+heard_same views id view next at same says alike =
+    hears_on views id view next at (λ caller. ap (is_by caller) same) (ap is_writer same)
+    (λ slot j. cond (nat_lt 0 (says j)) (holds slot (same j)) 0)
+    (λ writes. let both = alike writes in hears_as view next both.0 both.1)
 
--- a view that keeps its role, its marks but the loads, and what it knows of itself takes the place of one; what it was told of readers is so
+-- a view that keeps its role, its marks but the loads, and what it knows of itself takes the place of one; what it was
+-- told of readers is so
 module _ (shape : Shape) (state : State (Unit {0}) View) (id : ℕ) (view next : View) (kept : Kept shape state)
-    (at : get_elem? state.views id ≡ some view) (same : next.role ≡ view.role) (alike : (next.marks ≡ with_loads view.marks next.marks.loads) ⊎ (view.role ≡ Note)) (says : next.says ≡ view.says) (heard : AllHear (set state.views id next)) (of_announcers : 0 < is_writer next.role + is_reader next.role → next.announcers ≡ kept.announcers) where
+    (at : get_elem? state.views id ≡ some view) (same : next.role ≡ view.role)
+    (alike : (next.marks ≡ with_loads view.marks next.marks.loads) ⊎ (view.role ≡ Note))
+    (says : next.says ≡ view.says) (heard : AllHear (set state.views id next))
+    (of_announcers : 0 < is_writer next.role + is_reader next.role → next.announcers ≡ kept.announcers) where
   abbrev later : List View
   later = set state.views id next
 
   same_roles : map role_of later ≡ map role_of state.views
-  same_roles = map-set role_of state.views id next ∙ ap (λ (r : Role). set (map role_of state.views) id r) same ∙ set_again (map role_of state.views) id view.role (at_map role_of state.views id view at)
+  same_roles =
+      map-set role_of state.views id next ∙ ap (λ (r : Role). set (map role_of state.views) id r) same
+      ∙ set_again (map role_of state.views) id view.role (at_map role_of state.views id view at)
 
-  pub replaced : Fits shape kept.log next → (is_writer next.role ≡ 1 → next.made ≡ kept.made) → AllSince role_of marks_of state.views next.pasts
-      → AllSince role_of marks_of state.views next.told_pasts → Kept shape (record { words = state.words; homes = state.homes; views = later })
+  pub replaced : Fits shape kept.log next → (is_writer next.role ≡ 1 → next.made ≡ kept.made)
+      → AllSince role_of marks_of state.views next.pasts
+      → AllSince role_of marks_of state.views next.told_pasts
+      → Kept shape (record { words = state.words; homes = state.homes; views = later })
   replaced fits made pasts told =
       let evolves = evolves_alike role_of marks_of shape kept.counted state.views kept.log id view next at same alike in
-      let lend : (slot : ℕ) → lends slot next ≡ lends slot view = λ slot j. cond (nat_lt 0 (says j)) (holds slot (same j)) 0 in record {
+      let lend : (slot : ℕ) → lends slot next ≡ lends slot view
+      = λ slot j. cond (nat_lt 0 (says j)) (holds slot (same j)) 0 in
+      record {
         log = kept.log;
         counted = kept.counted;
-        counts_words = counted_same shape (lent state.views) (lent later) state.words kept.counted (lent_same state.views id view next at lend) kept.counts_words;
-        announced = announces_on shape kept.announcers state.words state.words state.views id view next at (λ caller. ap (is_by caller) same) says lend (λ _ _. refl) refl kept.announced;
+        counts_words =
+            counted_same shape (lent state.views) (lent later) state.words kept.counted
+            (lent_same state.views id view next at lend) kept.counts_words;
+        announced =
+            announces_on shape kept.announcers state.words state.words state.views id view next at
+            (λ caller. ap (is_by caller) same) says lend (λ _ _. refl) refl kept.announced;
         announcers = kept.announcers;
-        told_of = at_any (λ (u : View). 0 < is_writer u.role + is_reader u.role → u.announcers ≡ kept.announcers) of_announcers kept.told_of;
+        told_of =
+            at_any (λ (u : View). 0 < is_writer u.role + is_reader u.role → u.announcers ≡ kept.announcers)
+            of_announcers kept.told_of;
         hears = heard;
         core = subst (λ (rs : List Role). Core shape kept.counted rs kept.log) (sym same_roles) kept.core;
         fits = at_any (Fits shape kept.log) fits kept.fits;
@@ -79,33 +104,55 @@ module _ (shape : Shape) (state : State (Unit {0}) View) (id : ℕ) (view next :
         readers = ap (total is_reader) same_roles ∙ kept.readers;
         fresh = λ caller later. ap (total (counts caller)) same_roles ∙ kept.fresh caller later;
         silent = kept.silent;
-        marked = alike_marked role_of marks_of shape kept.counted state.views kept.log id view next at same alike kept.marked;
+        marked =
+            alike_marked role_of marks_of shape kept.counted state.views kept.log id view next at same alike
+            kept.marked;
         pasts = knowing_set role_of marks_of pasts_of state.views id view next at evolves pasts kept.pasts;
-        told_pasts = knowing_set role_of marks_of told_pasts_of state.views id view next at evolves told kept.told_pasts;
+        told_pasts =
+            knowing_set role_of marks_of told_pasts_of state.views id view next at evolves told kept.told_pasts;
         maker = at_any (λ (u : View). is_writer u.role ≡ 1 → u.made ≡ kept.made) made kept.maker;
       }
     where
-      at_any : (P : View → Type 0) → P next → ((j : ℕ) (u : View) → get_elem? state.views j ≡ some u → P u) → (j : ℕ) (u : View) → get_elem? later j ≡ some u → P u
-      at_any P of_next of_other j u there = ⊎_elim (λ (t : (j ≡ id) × (next ≡ u)). subst P t.1 of_next) (λ (t : (j ≢ id) × (get_elem? state.views j ≡ some u)). of_other j u t.1) (at_set state.views id j next u there)
+      at_any : (P : View → Type 0) → P next → ((j : ℕ) (u : View) → get_elem? state.views j ≡ some u → P u)
+          → (j : ℕ) (u : View) → get_elem? later j ≡ some u → P u
+      at_any P of_next of_other j u there =
+          ⊎_elim (λ (t : (j ≡ id) × (next ≡ u)). subst P t.1 of_next)
+          (λ (t : (j ≢ id) × (get_elem? state.views j ≡ some u)). of_other j u t.1)
+          (at_set state.views id j next u there)
 
 -- a note stands beside the tokens that there are: it says what begins the history, and of readers what is so
-adds_note : (shape : Shape) (source : View) (state : State (Unit {0}) View) (kept : Kept shape state) → StartsWith kept.log source.seen
+adds_note : (shape : Shape) (source : View) (state : State (Unit {0}) View) (kept : Kept shape state)
+    → StartsWith kept.log source.seen
     → AllSince role_of marks_of state.views (told_by source.role source.marks source.pasts)
     → Kept shape (record { words = state.words; homes = state.homes; views = state.views ++ note_of source ∷ [] })
 adds_note shape source state kept begins since =
-    let views = state.views in let note = note_of source in let views' = views ++ note ∷ [] in let roles = map role_of views in
+    let views = state.views in
+    let note = note_of source in
+    let views' = views ++ note ∷ [] in
+    let roles = map role_of views in
     let more : map role_of views' ≡ roles ++ Note ∷ [] = map-append role_of views (note ∷ []) in
-    let tally : (caller : ℕ) → total (counts caller) (map role_of views') ≡ total (counts caller) roles = λ caller. omega (arith, ap (total (counts caller)) more, total-append (counts caller) roles (Note ∷ [])) in
+    let tally : (caller : ℕ) → total (counts caller) (map role_of views') ≡ total (counts caller) roles
+    = λ caller. omega (arith, ap (total (counts caller)) more, total-append (counts caller) roles (Note ∷ [])) in
     record {
       log = kept.log;
       counted = kept.counted;
-      counts_words = counted_same shape (lent views) (lent views') state.words kept.counted (lent_more views note refl) kept.counts_words;
-      announced = announces_more shape kept.announcers state.words views note refl (λ own his. absurd (cc)) kept.announced;
+      counts_words =
+          counted_same shape (lent views) (lent views') state.words kept.counted (lent_more views note refl)
+          kept.counts_words;
+      announced =
+          announces_more shape kept.announcers state.words views note refl (λ own his. absurd (cc)) kept.announced;
       announcers = kept.announcers;
-      told_of = λ j u there calls. ⊎_elim (λ (t : get_elem? views j ≡ some u). kept.told_of j u t calls) (λ (t : note ≡ u). absurd (let none = ap (λ (y : View). is_writer y.role + is_reader y.role) t in omega arith)) (at_snoc views note u j there);
+      told_of = λ j u there calls. ⊎_elim (λ (t : get_elem? views j ≡ some u). kept.told_of j u t calls)
+          (λ (t : note ≡ u). absurd
+          (let none = ap (λ (y : View). is_writer y.role + is_reader y.role) t in omega arith))
+          (at_snoc views note u j there);
       hears = hears_more views note refl refl kept.hears;
-      core = subst (λ (rs : List Role). Core shape kept.counted rs kept.log) (sym more) (notes shape kept.counted roles kept.log kept.core);
-      fits = λ j u there. ⊎_elim (λ (t : get_elem? views j ≡ some u). kept.fits j u t) (λ (t : note ≡ u). subst (Fits shape kept.log) t (note_fits shape kept.log source note refl begins refl)) (at_snoc views note u j there);
+      core =
+          subst (λ (rs : List Role). Core shape kept.counted rs kept.log) (sym more)
+          (notes shape kept.counted roles kept.log kept.core);
+      fits = λ j u there. ⊎_elim (λ (t : get_elem? views j ≡ some u). kept.fits j u t)
+          (λ (t : note ≡ u). subst (Fits shape kept.log) t (note_fits shape kept.log source note refl begins refl))
+          (at_snoc views note u j there);
       callers = kept.callers;
       once = λ caller. omega (arith, kept.once caller, tally caller);
       made = kept.made;
@@ -113,13 +160,20 @@ adds_note shape source state kept begins since =
       fresh = λ caller later. tally caller ∙ kept.fresh caller later;
       silent = kept.silent;
       maker = λ j u there writes. ⊎_elim (λ (t : get_elem? views j ≡ some u). kept.maker j u t writes)
-          (λ (t : note ≡ u). absurd (let none : is_writer Note ≡ is_writer u.role = ap (λ (y : View). is_writer y.role) t in omega arith)) (at_snoc views note u j there);
-      marked = seats_marked role_of marks_of shape kept.counted views kept.log note (λ reader grip reads. absurd (cc)) kept.marked tt;
+          (λ (t : note ≡ u). absurd
+          (let none : is_writer Note ≡ is_writer u.role = ap (λ (y : View). is_writer y.role) t in omega arith))
+          (at_snoc views note u j there);
+      marked =
+          seats_marked role_of marks_of shape kept.counted views kept.log note (λ reader grip reads. absurd (cc))
+          kept.marked tt;
       pasts = knowing_snoc role_of marks_of pasts_of views note since kept.pasts;
-      told_pasts = knowing_snoc role_of marks_of told_pasts_of views note (no_places (Since role_of marks_of views)) kept.told_pasts;
+      told_pasts =
+          knowing_snoc role_of marks_of told_pasts_of views note (no_places (Since role_of marks_of views))
+          kept.told_pasts;
     }
 
-module _ (shape : Shape) (id : ℕ) (view : View) (state : State (Unit {0}) View) (kept : Kept shape state) (at : get_elem? state.views id ≡ some view) where
+module _ (shape : Shape) (id : ℕ) (view : View) (state : State (Unit {0}) View) (kept : Kept shape state)
+    (at : get_elem? state.views id ≡ some view) where
   abbrev maker : View
   maker = has_noted view
 
@@ -130,59 +184,144 @@ module _ (shape : Shape) (id : ℕ) (view : View) (state : State (Unit {0}) View
   makes : Kept shape counted
   makes =
       let fits = kept.fits id view at in
-      let own : Fits shape kept.log maker = record { begins = fits.begins; told = fits.told; own = fits.own; knows_own = fits.knows_own; acts = fits.acts; sized = fits.sized } in
-      replaced shape state id view maker kept at refl (inl refl) refl (heard_same state.views id view maker at refl refl (λ _. (refl, refl)) kept.hears) (kept.told_of id view at) own (kept.maker id view at) (kept.pasts id view at) (kept.told_pasts id view at)
+      let own : Fits shape kept.log maker
+      = record {
+        begins = fits.begins;
+        told = fits.told;
+        own = fits.own;
+        knows_own = fits.knows_own;
+        acts = fits.acts;
+        sized = fits.sized;
+      } in
+      replaced shape state id view maker kept at refl (inl refl) refl
+      (heard_same state.views id view maker at refl refl (λ _. (refl, refl)) kept.hears) (kept.told_of id view at)
+      own (kept.maker id view at) (kept.pasts id view at) (kept.told_pasts id view at)
 
   there : get_elem? counted.views id ≡ some maker
   there = here_after state.views id view maker at
 
   -- and then the note of what it has seen is there
-  pub splits_so : Kept shape (record { words = state.words; homes = state.homes; views = set state.views id maker ++ note_of view ∷ [] })
-  splits_so = adds_note shape maker counted makes (makes.fits id maker there).begins (told_since role_of marks_of pasts_of counted.views id maker there (makes.pasts id maker there))
+  pub splits_so : Kept shape
+      (record { words = state.words; homes = state.homes; views = set state.views id maker ++ note_of view ∷ [] })
+  splits_so =
+      adds_note shape maker counted makes (makes.fits id maker there).begins
+      (told_since role_of marks_of pasts_of counted.views id maker there (makes.pasts id maker there))
 
   -- or the one that says again what it was told
-  pub retells_so : Kept shape (record { words = state.words; homes = state.homes; views = set state.views id maker ++ retold view ∷ [] })
-  retells_so = adds_note shape (record maker { role = Writer no_desk; seen = view.told; pasts = view.told_pasts }) counted makes (makes.fits id maker there).told (makes.told_pasts id maker there)
+  pub retells_so : Kept shape
+      (record { words = state.words; homes = state.homes; views = set state.views id maker ++ retold view ∷ [] })
+  retells_so =
+      adds_note shape (record maker { role = Writer no_desk; seen = view.told; pasts = view.told_pasts }) counted makes
+      (makes.fits id maker there).told (makes.told_pasts id maker there)
 
 -- a load that tells nothing leaves the words, and its token counts the step
-pub loads_so : (shape : Shape) (slots id : ℕ) (me : Me (Unit {0}) View) (place : ℕ) → Allows (Kept shape) slots id me place (λ word. word) (has_loaded (step slots place 0 0 none) me)
+pub loads_so : (shape : Shape) (slots id : ℕ) (me : Me (Unit {0}) View) (place : ℕ)
+    → Allows (Kept shape) slots id me place (λ word. word) (has_loaded (step slots place 0 0 none) me)
 loads_so shape slots id me place state kept homes at bounded =
     let view = me.0 in let next = has_noted view in let fits = kept.fits id view at in
-    let own : Fits shape kept.log next = record { begins = fits.begins; told = fits.told; own = fits.own; knows_own = fits.knows_own; acts = fits.acts; sized = fits.sized } in
-    let rests = replaced shape state id view next kept at refl (inl refl) refl (heard_same state.views id view next at refl refl (λ _. (refl, refl)) kept.hears) (kept.told_of id view at) own (kept.maker id view at) (kept.pasts id view at) (kept.told_pasts id view at) in
-    (next, keeps, tt, subst (λ (words : List ℕ). Kept shape (record { words = words; homes = state.homes; views = set state.views id next })) (sym (set-get_or state.words place 0)) rests, refl)
+    let own : Fits shape kept.log next
+    = record {
+      begins = fits.begins;
+      told = fits.told;
+      own = fits.own;
+      knows_own = fits.knows_own;
+      acts = fits.acts;
+      sized = fits.sized;
+    } in
+    let rests
+    = replaced shape state id view next kept at refl (inl refl) refl
+    (heard_same state.views id view next at refl refl (λ _. (refl, refl)) kept.hears) (kept.told_of id view at)
+    own (kept.maker id view at) (kept.pasts id view at) (kept.told_pasts id view at) in (
+      next,
+      keeps,
+      tt,
+      subst
+          (λ (words : List ℕ). Kept shape
+          (record { words = words; homes = state.homes; views = set state.views id next }))
+          (sym (set-get_or state.words place 0)) rests,
+      refl,
+    )
 
 -- so does a look at a key, whose marks tell what it named
-pub looks_ahead_so : (shape : Shape) (slots id : ℕ) (me : Me (Unit {0}) View) (key : ℕ) → Allows (Kept shape) slots id me key (λ word. word) (has_looked_ahead (step slots key 0 0 none) me)
+pub looks_ahead_so : (shape : Shape) (slots id : ℕ) (me : Me (Unit {0}) View) (key : ℕ)
+    → Allows (Kept shape) slots id me key (λ word. word) (has_looked_ahead (step slots key 0 0 none) me)
 looks_ahead_so shape slots id me key state kept homes at bounded =
-    let view = me.0 in let next = ahead key (name_number (get_or state.words key 0)) view in let fits = kept.fits id view at in
-    let own : Fits shape kept.log next = record { begins = fits.begins; told = fits.told; own = fits.own; knows_own = fits.knows_own; acts = fits.acts; sized = fits.sized } in
-    let rests = replaced shape state id view next kept at refl (inl refl) refl (heard_same state.views id view next at refl refl (λ _. (refl, refl)) kept.hears) (kept.told_of id view at) own (kept.maker id view at) (kept.pasts id view at) (kept.told_pasts id view at) in
-    (next, keeps, tt, subst (λ (words : List ℕ). Kept shape (record { words = words; homes = state.homes; views = set state.views id next })) (sym (set-get_or state.words key 0)) rests, refl)
+    let view = me.0 in
+    let next = ahead key (name_number (get_or state.words key 0)) view in
+    let fits = kept.fits id view at in
+    let own : Fits shape kept.log next
+    = record {
+      begins = fits.begins;
+      told = fits.told;
+      own = fits.own;
+      knows_own = fits.knows_own;
+      acts = fits.acts;
+      sized = fits.sized;
+    } in
+    let rests
+    = replaced shape state id view next kept at refl (inl refl) refl
+    (heard_same state.views id view next at refl refl (λ _. (refl, refl)) kept.hears) (kept.told_of id view at)
+    own (kept.maker id view at) (kept.pasts id view at) (kept.told_pasts id view at) in (
+      next,
+      keeps,
+      tt,
+      subst
+          (λ (words : List ℕ). Kept shape
+          (record { words = words; homes = state.homes; views = set state.views id next }))
+          (sym (set-get_or state.words key 0)) rests,
+      refl,
+    )
 
-pub ahead_token : (seat next : MapSeat) (key named : ℕ) → next.table_id ≡ seat.table_id → next.me.0 ≡ ahead key named seat.me.0 → token next ≡ after_look key named (token seat)
+pub ahead_token : (seat next : MapSeat) (key named : ℕ) → next.table_id ≡ seat.table_id
+    → next.me.0 ≡ ahead key named seat.me.0 → token next ≡ after_look key named (token seat)
 ahead_token seat next key named same told = λ j. caller_of (same j) (told j)
 
 -- as contracts see the token
-pub loaded_token : (seat next : MapSeat) → next.table_id ≡ seat.table_id → next.me.0 ≡ has_noted seat.me.0 → token next ≡ with_step (token seat)
+pub loaded_token : (seat next : MapSeat) → next.table_id ≡ seat.table_id → next.me.0 ≡ has_noted seat.me.0
+    → token next ≡ with_step (token seat)
 loaded_token seat next same told = λ j. caller_of (same j) (told j)
 
 -- the hearer is told what the note tells, and then what is left of the note tells nothing
-pub takes_so : (shape : Shape) (id : ℕ) (view : View) (steps other : ℕ) (note : View) → note.role ≡ Note → (state : State (Unit {0}) View)
+pub takes_so : (shape : Shape) (id : ℕ) (view : View) (steps other : ℕ) (note : View) → note.role ≡ Note
+    → (state : State (Unit {0}) View)
     → Kept shape state → get_elem? state.views id ≡ some view → ¬ (other ≡ id) → get_elem? state.views other ≡ some note
-    → Kept shape (record { words = state.words; homes = state.homes; views = set (set state.views id (record (told_by_note view note) { steps = steps })) other spent })
+    → Kept shape
+    (record {
+      words = state.words;
+      homes = state.homes;
+      views = set (set state.views id (record (told_by_note view note) { steps = steps })) other spent;
+    })
 takes_so shape id view steps other note is state kept at apart beside =
     let both = record (told_by_note view note) { steps = steps } in let views = set state.views id both in
     let fits = kept.fits id view at in
-    let mine : Fits shape kept.log both = record { begins = fits.begins; told = (kept.fits other note beside).begins; own = fits.own; knows_own = fits.knows_own; acts = fits.acts; sized = fits.sized } in
-    let taken = replaced shape state id view both kept at refl (inl refl) refl (heard_same state.views id view both at refl refl (λ _. (refl, refl)) kept.hears) (kept.told_of id view at) mine (kept.maker id view at) (kept.pasts id view at) (kept.pasts other note beside) in
+    let mine : Fits shape kept.log both
+    = record {
+      begins = fits.begins;
+      told = (kept.fits other note beside).begins;
+      own = fits.own;
+      knows_own = fits.knows_own;
+      acts = fits.acts;
+      sized = fits.sized;
+    } in
+    let taken
+    = replaced shape state id view both kept at refl (inl refl) refl
+    (heard_same state.views id view both at refl refl (λ _. (refl, refl)) kept.hears) (kept.told_of id view at)
+    mine (kept.maker id view at) (kept.pasts id view at) (kept.pasts other note beside) in
     let beside_now = set_else state.views id other both apart ∙ beside in
-    let silent : spent.says ≡ note.says = sym (taken.announced.wordless other note beside_now (λ own low. ap (is_by (suc own)) is)) in
+    let silent : spent.says ≡ note.says
+    = sym (taken.announced.wordless other note beside_now (λ own low. ap (is_by (suc own)) is)) in
     replaced shape (record { words = state.words; homes = state.homes; views = views }) other note spent taken
-    beside_now (sym is) (inr is) silent (heard_same views other note spent beside_now (sym is) silent (λ writes. absurd (let none = ap is_writer is in omega arith)) taken.hears) (λ calls. absurd (omega arith))
-    (note_fits shape taken.log view spent refl (record { rest = taken.log; is = refl }) refl) (λ writes. absurd (omega arith))
+    beside_now (sym is) (inr is) silent
+    (heard_same views other note spent beside_now (sym is) silent
+    (λ writes. absurd (let none = ap is_writer is in omega arith)) taken.hears)
+    (λ calls. absurd (omega arith))
+    (note_fits shape taken.log view spent refl (record { rest = taken.log; is = refl }) refl)
+    (λ writes. absurd (omega arith))
     (no_places (Since role_of marks_of views)) (no_places (Since role_of marks_of views))
 
 -- a step of the hearer's own
-pub joins_so : (shape : Shape) (id : ℕ) (view : View) (other : ℕ) (note : View) → note.role ≡ Note → Joins (Kept shape) id view other note (with_note view note) spent
-joins_so shape id view other note is state kept at apart beside = takes_so shape id view (view.steps + 1) other note is state kept at apart (sym (set_else state.views id other (with_note view note) apart) ∙ beside)
+pub joins_so : (shape : Shape) (id : ℕ) (view : View) (other : ℕ) (note : View) → note.role ≡ Note
+    → Joins (Kept shape) id view other note (with_note view note) spent
+joins_so shape id view other note is state kept at apart beside =
+    takes_so shape id view (view.steps + 1) other note is state kept at apart
+    (sym (set_else state.views id other (with_note view note) apart) ∙ beside)

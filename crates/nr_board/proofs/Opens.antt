@@ -1,5 +1,6 @@
 -- The table at opening keeps the rule.
-use Rattle.std.proofs.Common.{Bool, List, [], ap, arith, cond, false, get_or, length, ne_eqb, refl, replicate, subst, suc, sym, true, zero, ℕ, ◌^◌, ◌*◌, ◌+◌, ◌++◌, ◌-◌, ◌<◌, ◌∙◌, ◌∷◌, ◌≡◌, ◌≤◌}
+use Rattle.std.proofs.Common.{Bool, List, [], ap, arith, cond, false, get_or, length, ne_eqb, refl, replicate, subst}
+use Rattle.std.proofs.Common.{suc, sym, true, zero, ℕ, ◌^◌, ◌*◌, ◌+◌, ◌++◌, ◌-◌, ◌<◌, ◌∙◌, ◌∷◌, ◌≡◌, ◌≤◌}
 use mathlib.Core.Option.{some, some-injective, some-ne-none}
 use lib.ListN.{get_elem?, get_or-append, length-append, length-replicate}
 use lib.Seq.{get_or-append_right}
@@ -35,31 +36,47 @@ zeros (suc n) zero = refl
 zeros (suc n) (suc at) = zeros n at
 
 -- no key names a slot
-none_named : (shape : Shape) → IsShape shape → (key : ℕ) → key < shape.keys → name_number (get_or (words_at_opening shape) key 0) ≡ 0
+none_named : (shape : Shape) → IsShape shape → (key : ℕ) → key < shape.keys
+    → name_number (get_or (words_at_opening shape) key 0) ≡ 0
 none_named shape fits key near = let core = core_opens shape fits 0 (omega arith) in
-    (subst (ShowsState shape (words_at_opening shape) (get_or (words_at_opening shape) key 0)) (get_or-replicate shape.keys key (states.Hole shape.first_number) (states.Hole 0) near) (core.shows key near)).0
+    (subst (ShowsState shape (words_at_opening shape) (get_or (words_at_opening shape) key 0))
+    (get_or-replicate shape.keys key (states.Hole shape.first_number) (states.Hole 0) near) (core.shows key near)).0
 
 -- the departures begin at the first count
-first_counts : (shape : Shape) → IsShape shape → (slot : ℕ) → slot < shape.slots → get_or (words_at_opening shape) (departures shape slot) 0 ≡ shape.first_count
-first_counts shape fits slot near = (((core_opens shape fits 0 (omega arith)).knows 0 (Writer (opening_desk shape)) refl).free slot (omega arith) near).1
+first_counts : (shape : Shape) → IsShape shape → (slot : ℕ) → slot < shape.slots
+    → get_or (words_at_opening shape) (departures shape slot) 0 ≡ shape.first_count
+first_counts shape fits slot near =
+    (((core_opens shape fits 0 (omega arith)).knows 0 (Writer (opening_desk shape)) refl).free slot (omega arith)
+    near).1
 
 -- behind the layout lie eight zeros for each reader that has a word
 abbrev pub words_of : Plan → List ℕ
 words_of plan = words_at_opening plan.shape ++ replicate (8 * plan.announcers) 0
 
-pub words_stand : (plan : Plan) → IsShape plan.shape → length (words_of plan) ≡ total_of (layout plan.shape) + 8 * plan.announcers
+pub words_stand : (plan : Plan) → IsShape plan.shape
+    → length (words_of plan) ≡ total_of (layout plan.shape) + 8 * plan.announcers
 words_stand plan fits = let room = 8 * plan.announcers in
-    length-append (words_at_opening plan.shape) (replicate room 0) ∙ omega (arith, (core_opens plan.shape fits 0 (omega arith)).wide, length-replicate {A = ℕ} room 0)
+    length-append (words_at_opening plan.shape) (replicate room 0)
+    ∙ omega (arith, (core_opens plan.shape fits 0 (omega arith)).wide, length-replicate {A = ℕ} room 0)
 
-pub opens_so : (plan : Plan) → IsShape plan.shape → plan.shape.first_count < 2 ^ 64 → Kept plan.shape (opening (words_of plan) [] (opener plan))
+pub opens_so : (plan : Plan) → IsShape plan.shape → plan.shape.first_count < 2 ^ 64
+    → Kept plan.shape (opening (words_of plan) [] (opener plan))
 opens_so plan fits small = let shape = plan.shape in let view = opener plan in
     let wide = (core_opens shape fits 0 (omega arith)).wide in
     let behind = replicate {A = ℕ} (8 * plan.announcers) 0 in
     let long = words_stand plan fits in
-    let within : (at : ℕ) → at < total_of (layout shape) → get_or (words_of plan) at 0 ≡ get_or (words_at_opening shape) at 0 = λ at low. get_or-append (words_at_opening shape) behind 0 at (omega (arith, wide, low)) in
-    let departs : (slot : ℕ) → slot < shape.slots → get_or (words_of plan) (departures shape slot) 0 ≡ shape.first_count = λ slot near. within (departures shape slot) (departures_inside shape slot near) ∙ first_counts shape fits slot near in
-    let unsaid : (own : ℕ) → get_or (words_of plan) (says_at shape own) 0 ≡ 0 = λ own. get_or-append_right (words_at_opening shape) behind (says_at shape own) 0 (omega (arith, wide)) ∙ zeros (8 * plan.announcers) (says_at shape own - length (words_at_opening shape)) in
-    let at_most : (y : Bool) → cond y 1 0 + 0 ≤ 1 = λ y. elim y as (λ z. cond z 1 0 + 0 ≤ 1) [ true ↦ omega arith | false ↦ omega arith ] in record {
+    let within : (at : ℕ) → at < total_of (layout shape)
+    → get_or (words_of plan) at 0 ≡ get_or (words_at_opening shape) at 0
+    = λ at low. get_or-append (words_at_opening shape) behind 0 at (omega (arith, wide, low)) in
+    let departs : (slot : ℕ) → slot < shape.slots → get_or (words_of plan) (departures shape slot) 0 ≡ shape.first_count
+    = λ slot near. within (departures shape slot) (departures_inside shape slot near)
+    ∙ first_counts shape fits slot near in
+    let unsaid : (own : ℕ) → get_or (words_of plan) (says_at shape own) 0 ≡ 0
+    = λ own. get_or-append_right (words_at_opening shape) behind (says_at shape own) 0 (omega (arith, wide))
+    ∙ zeros (8 * plan.announcers) (says_at shape own - length (words_at_opening shape)) in
+    let at_most : (y : Bool) → cond y 1 0 + 0 ≤ 1
+    = λ y. elim y as (λ z. cond z 1 0 + 0 ≤ 1) [ true ↦ omega arith | false ↦ omega arith ] in
+    record {
       log = [];
       counted = words_at_opening shape;
       counts_words = record {
@@ -74,10 +91,15 @@ opens_so plan fits small = let shape = plan.shape in let view = opener plan in
         space = omega (arith, long);
         says = λ id own u at his low. unsaid own ∙ ap (λ (v : View). v.says) (only_one view id u at);
         wordless = λ id u at _. ap (λ (v : View). v.says) (sym (only_one view id u at));
-        holds_it = λ id slot u at loud grips. absurd (let none : u.says ≡ 0 = ap (λ (v : View). v.says) (sym (only_one view id u at)) in omega arith);
+        holds_it = λ id slot u at loud grips. absurd
+            (let none : u.says ≡ 0 = ap (λ (v : View). v.says) (sym (only_one view id u at)) in omega arith);
         unsaid = λ own _ _. unsaid own;
       };
-      hears = λ id u at _. subst (Hears (view ∷ [])) (only_one view id u at) (record { quiet = λ k slot own v _ _ low. absurd (let none = zeros shape.slots slot in omega arith); unheard = λ key slot _. zeros shape.slots slot });
+      hears = λ id u at _. subst (Hears (view ∷ [])) (only_one view id u at)
+          (record {
+            quiet = λ k slot own v _ _ low. absurd (let none = zeros shape.slots slot in omega arith);
+            unheard = λ key slot _. zeros shape.slots slot;
+          });
       core = core_opens shape fits 0 (omega arith);
       fits = λ j u at. subst (Fits shape []) (only_one view j u at)
           (record {
@@ -92,14 +114,22 @@ opens_so plan fits small = let shape = plan.shape in let view = opener plan in
       once = λ caller. at_most (is_by caller view.role);
       made = 0;
       readers = refl;
-      fresh = λ caller later. let none : cond (is_by caller view.role) 1 0 ≡ 0 = ap (λ (y : Bool). cond {A = ℕ} y 1 0) (ne_eqb 0 caller (λ e. omega arith)) in omega arith;
+      fresh = λ caller later.
+          let none : cond (is_by caller view.role) 1 0 ≡ 0
+          = ap (λ (y : Bool). cond {A = ℕ} y 1 0) (ne_eqb 0 caller (λ e. omega arith)) in
+          omega arith;
       silent = λ _ _. refl;
-      marked = opens_marked role_of marks_of shape (words_at_opening shape) view refl refl (none_named shape fits) (blank_at_opening shape);
-      pasts = λ place who there. subst (λ (v : View). AllSince role_of marks_of (view ∷ []) v.pasts) (only_one view place who there) (no_places (Since role_of marks_of (view ∷ [])));
-      told_pasts = λ place who there. subst (λ (v : View). AllSince role_of marks_of (view ∷ []) v.told_pasts) (only_one view place who there) (no_places (Since role_of marks_of (view ∷ [])));
+      marked =
+          opens_marked role_of marks_of shape (words_at_opening shape) view refl refl (none_named shape fits)
+          (blank_at_opening shape);
+      pasts = λ place who there. subst (λ (v : View). AllSince role_of marks_of (view ∷ []) v.pasts)
+          (only_one view place who there) (no_places (Since role_of marks_of (view ∷ [])));
+      told_pasts = λ place who there. subst (λ (v : View). AllSince role_of marks_of (view ∷ []) v.told_pasts)
+          (only_one view place who there) (no_places (Since role_of marks_of (view ∷ [])));
       maker = λ j u at w. ap (λ (y : View). y.made) (sym (only_one view j u at));
     }
 
 -- each key has the first number
-pub numbers_open : (shape : Shape) → IsShape shape → AreNumbers shape (map_after shape []) (replicate shape.keys shape.first_number)
+pub numbers_open : (shape : Shape) → IsShape shape
+    → AreNumbers shape (map_after shape []) (replicate shape.keys shape.first_number)
 numbers_open shape fits = ((core_opens shape fits 0 (omega arith)).knows 0 (Writer (opening_desk shape)) refl).numbers

@@ -1,5 +1,7 @@
 -- A pass of a search, slot by slot.
-use Rattle.std.proofs.Common.{◌≡◌, ◌≢◌, ℕ, suc, ◌+◌, ◌<◌, ◌≤◌, ◌⊎◌, ⊎_elim, inl, inr, List, [], ◌∷◌, ◌++◌, Bool, true, false, cond, length, take, get_or, refl, sym, ap, ◌∙◌, subst, arith, append-nil, append_assoc, length-append, take-suc}
+use Rattle.std.proofs.Common.{◌≡◌, ◌≢◌, ℕ, suc, ◌+◌, ◌<◌, ◌≤◌, ◌⊎◌, ⊎_elim, inl, inr, List, [], ◌∷◌, ◌++◌, Bool, true}
+use Rattle.std.proofs.Common.{false, cond, length, take, get_or, refl, sym, ap, ◌∙◌, subst, arith, append-nil}
+use Rattle.std.proofs.Common.{append_assoc, length-append, take-suc}
 use Rattle.std.specs.Prelude.{Some, None, Option, remove}
 use mathlib.Core.Logic.{dite}
 use mathlib.Core.Option.{some, some-injective, some-ne-none}
@@ -47,33 +49,62 @@ module _ (retired : List Retired) (flags : List Bool) (place : ℕ) (low : place
   abbrev next_one : Retired
   next_one = get_or retired place no_retired
 
-  unflagged_next : unflagged retired flags (place + 1) ≡ unflagged retired flags place ++ not_passed (is_unheard flags) (next_one ∷ [])
-  unflagged_next = let more : place + 1 ≡ suc place = omega arith in ap (unflagged retired flags) more ∙ ap (not_passed (is_unheard flags)) (take-suc retired place no_retired low)
+  unflagged_next : unflagged retired flags (place + 1)
+      ≡ unflagged retired flags place ++ not_passed (is_unheard flags) (next_one ∷ [])
+  unflagged_next =
+      let more : place + 1 ≡ suc place = omega arith in
+      ap (unflagged retired flags) more ∙ ap (not_passed (is_unheard flags)) (take-suc retired place no_retired low)
       ∙ passed_both (is_unheard flags) (take place retired) (next_one ∷ [])
 
-  unflagged_past : is_unheard flags next_one.slot ≡ true → unflagged retired flags (place + 1) ≡ unflagged retired flags place
-  unflagged_past flagged = unflagged_next ∙ ap (λ (b : Bool). unflagged retired flags place ++ cond {A = List Retired} b [] (next_one ∷ [])) flagged ∙ append-nil (unflagged retired flags place)
+  unflagged_past : is_unheard flags next_one.slot ≡ true
+      → unflagged retired flags (place + 1) ≡ unflagged retired flags place
+  unflagged_past flagged =
+      unflagged_next
+      ∙ ap (λ (b : Bool). unflagged retired flags place ++ cond {A = List Retired} b [] (next_one ∷ [])) flagged
+      ∙ append-nil (unflagged retired flags place)
 
-  unflagged_more : is_unheard flags next_one.slot ≡ false → unflagged retired flags (place + 1) ≡ unflagged retired flags place ++ next_one ∷ []
-  unflagged_more free = unflagged_next ∙ ap (λ (b : Bool). unflagged retired flags place ++ cond {A = List Retired} b [] (next_one ∷ [])) free
+  unflagged_more : is_unheard flags next_one.slot ≡ false
+      → unflagged retired flags (place + 1) ≡ unflagged retired flags place ++ next_one ∷ []
+  unflagged_more free =
+      unflagged_next
+      ∙ ap (λ (b : Bool). unflagged retired flags place ++ cond {A = List Retired} b [] (next_one ∷ [])) free
 
-  polls_past : is_unheard flags next_one.slot ≡ true → polls_before retired flags (place + 1) ≡ polls_before retired flags place
+  polls_past : is_unheard flags next_one.slot ≡ true
+      → polls_before retired flags (place + 1) ≡ polls_before retired flags place
   polls_past flagged = ap length (unflagged_past flagged)
 
-  polls_more : is_unheard flags next_one.slot ≡ false → polls_before retired flags (place + 1) ≡ polls_before retired flags place + 1
+  polls_more : is_unheard flags next_one.slot ≡ false
+      → polls_before retired flags (place + 1) ≡ polls_before retired flags place + 1
   polls_more free = ap length (unflagged_more free) ∙ length-append (unflagged retired flags place) (next_one ∷ [])
 
 -- the notes as the pass goes on
-notes_on : (retired : List Retired) (flags : List Bool) (readers place : ℕ) (note : Past) → NotesOne retired flags readers place note → NotesOne retired flags readers (place + 1) note
+notes_on : (retired : List Retired) (flags : List Bool) (readers place : ℕ) (note : Past)
+    → NotesOne retired flags readers place note → NotesOne retired flags readers (place + 1) note
 notes_on retired flags readers place note one = record {
   made = one.made;
   few = one.few;
-  holds = ⊎_elim inl (λ (h : (slot : ℕ) × (note.slot ≡ Some slot) × ((is_unheard flags slot ≡ true) ⊎ ((at : ℕ) × (entry : Retired) × (at < place) × (get_elem? retired at ≡ some entry) × (slot ≡ entry.slot)))).
-      inr (h.0, h.1, ⊎_elim inl (λ (p : (at : ℕ) × (entry : Retired) × (at < place) × (get_elem? retired at ≡ some entry) × (h.0 ≡ entry.slot)). inr (p.0, p.1, omega (arith, p.2), p.3, p.4)) h.2)) one.holds;
+  holds =
+      ⊎_elim inl
+      (λ (h : (slot : ℕ) × (note.slot ≡ Some slot)
+      × ((is_unheard flags slot ≡ true)
+      ⊎ ((at : ℕ) × (entry : Retired) × (at < place) × (get_elem? retired at ≡ some entry)
+      × (slot ≡ entry.slot)))).
+      inr (
+        h.0,
+        h.1,
+        ⊎_elim inl
+            (λ (p : (at : ℕ) × (entry : Retired) × (at < place) × (get_elem? retired at ≡ some entry)
+            × (h.0 ≡ entry.slot)).
+            inr (p.0, p.1, omega (arith, p.2), p.3, p.4))
+            h.2,
+      ))
+      one.holds;
 }
 
 -- a slot with a flag is passed by
-pub notes_past : (retired : List Retired) (flags : List Bool) (readers place first : ℕ) (notes : List Past) → place < length retired → is_unheard flags (get_or retired place no_retired).slot ≡ true → NotesTo retired flags readers place first notes
+pub notes_past : (retired : List Retired) (flags : List Bool) (readers place first : ℕ) (notes : List Past)
+    → place < length retired → is_unheard flags (get_or retired place no_retired).slot ≡ true
+    → NotesTo retired flags readers place first notes
     → NotesTo retired flags readers (place + 1) first notes
 notes_past retired flags readers place first notes low flagged so_far = record {
   many = let same = polls_past retired flags place low flagged in let many = so_far.many in omega arith;
@@ -81,9 +112,14 @@ notes_past retired flags readers place first notes low flagged so_far = record {
   apart = so_far.apart;
 }
 
-module _ (retired : List Retired) (flags : List Bool) (readers place first : ℕ) (notes : List Past) (low : place < length retired) (free : is_unheard flags (get_or retired place no_retired).slot ≡ false)
-    (differ : (one other : ℕ) (a b : Retired) → get_elem? retired one ≡ some a → get_elem? retired other ≡ some b → a.slot ≡ b.slot → one ≡ other) (here : get_elem? retired place ≡ some (get_or retired place no_retired))
-    (so_far : NotesTo retired flags readers place first notes) (note : Past) (holds : note.slot ≡ Some (get_or retired place no_retired).slot) (made : 0 < note.reader) (few : note.reader ≤ readers) (nowhere_else : NotedNowhereElse notes note) where
+module _ (retired : List Retired) (flags : List Bool) (readers place first : ℕ) (notes : List Past)
+    (low : place < length retired) (free : is_unheard flags (get_or retired place no_retired).slot ≡ false)
+    (differ : (one other : ℕ) (a b : Retired) → get_elem? retired one ≡ some a → get_elem? retired other ≡ some b
+    → a.slot ≡ b.slot → one ≡ other)
+    (here : get_elem? retired place ≡ some (get_or retired place no_retired))
+    (so_far : NotesTo retired flags readers place first notes) (note : Past)
+    (holds : note.slot ≡ Some (get_or retired place no_retired).slot) (made : 0 < note.reader)
+    (few : note.reader ≤ readers) (nowhere_else : NotedNowhereElse notes note) where
   clash : true ≡ false → ⊥
   clash e = absurd (cc)
 
@@ -96,13 +132,20 @@ module _ (retired : List Retired) (flags : List Bool) (readers place first : ℕ
 
   -- its reader was not noted before
   is_new : (at : ℕ) (old : Past) → get_elem? notes at ≡ some old → old.reader ≢ note.reader
-  is_new at old there same = let slot_is : old.slot ≡ Some (get_or retired place no_retired).slot = nowhere_else at old there same ∙ holds in
+  is_new at old there same =
+      let slot_is : old.slot ≡ Some (get_or retired place no_retired).slot = nowhere_else at old there same ∙ holds in
       ⊎_elim (λ (none : old.slot ≡ None). not_none (get_or retired place no_retired).slot old.slot slot_is none)
-      (λ (h : (slot : ℕ) × (old.slot ≡ Some slot) × ((is_unheard flags slot ≡ true) ⊎ ((at : ℕ) × (entry : Retired) × (at < place) × (get_elem? retired at ≡ some entry) × (slot ≡ entry.slot)))).
+      (λ (h : (slot : ℕ) × (old.slot ≡ Some slot)
+      × ((is_unheard flags slot ≡ true)
+      ⊎ ((at : ℕ) × (entry : Retired) × (at < place) × (get_elem? retired at ≡ some entry)
+      × (slot ≡ entry.slot)))).
       let is : h.0 ≡ (get_or retired place no_retired).slot = ap value (sym h.1 ∙ slot_is) in
       ⊎_elim (λ (flagged : is_unheard flags h.0 ≡ true). clash (sym flagged ∙ ap (is_unheard flags) is ∙ free))
       (λ (p : (at : ℕ) × (entry : Retired) × (at < place) × (get_elem? retired at ≡ some entry) × (h.0 ≡ entry.slot)).
-      absurd (let one = differ p.0 place p.1 (get_or retired place no_retired) p.3 here (sym p.4 ∙ is) in omega (arith, p.2))) h.2)
+      absurd
+      (let one = differ p.0 place p.1 (get_or retired place no_retired) p.3 here (sym p.4 ∙ is) in
+      omega (arith, p.2)))
+      h.2)
       (so_far.each at old there).holds
 
   -- a slot that was held is noted
@@ -110,38 +153,71 @@ module _ (retired : List Retired) (flags : List Bool) (readers place first : ℕ
   notes_more = record {
     many = let more = polls_more retired flags place low free in
         let long = length-append notes (note ∷ []) in let many = so_far.many in omega arith;
-    each = λ at other there. ⊎_elim (λ (old : get_elem? notes at ≡ some other). notes_on retired flags readers place other (so_far.each at other old))
+    each = λ at other there. ⊎_elim
+        (λ (old : get_elem? notes at ≡ some other). notes_on retired flags readers place other
+        (so_far.each at other old))
         (λ (new : note ≡ other). subst (NotesOne retired flags readers (place + 1)) new (record {
           made = made;
           few = few;
-          holds = inr ((get_or retired place no_retired).slot, holds, inr (place, get_or retired place no_retired, omega arith, here, refl));
+          holds =
+              inr (
+                (get_or retired place no_retired).slot,
+                holds,
+                inr (place, get_or retired place no_retired, omega arith, here, refl),
+              );
         })) (at_snoc notes note other at there);
-    apart = λ reader. let both = total-append (λ (n : Past). only reader n.reader) notes (note ∷ []) in dite (ℕ_discrete note.reader reader)
-        (λ e. let none : total (λ (n : Past). only reader n.reader) notes ≡ 0 = dite (ℕ_discrete (total (λ (n : Past). only reader n.reader) notes) 0) (λ z. z)
-        (λ some_there. absurd (let t = some_term (λ (n : Past). only reader n.reader) notes (omega arith) in is_new t.0 t.1 t.2 (only-is reader t.1.reader t.3 ∙ sym e))) in
+    apart = λ reader.
+        let both = total-append (λ (n : Past). only reader n.reader) notes (note ∷ []) in
+        dite (ℕ_discrete note.reader reader)
+        (λ e.
+        let none : total (λ (n : Past). only reader n.reader) notes ≡ 0
+        = dite (ℕ_discrete (total (λ (n : Past). only reader n.reader) notes) 0) (λ z. z)
+        (λ some_there. absurd
+        (let t = some_term (λ (n : Past). only reader n.reader) notes (omega arith) in
+        is_new t.0 t.1 t.2 (only-is reader t.1.reader t.3 ∙ sym e))) in
         let one = only-le reader note.reader in omega arith)
         (λ ne. let none = only-other reader note.reader ne in let before = so_far.apart reader in omega arith);
   }
 
 -- as many notes at most as there are readers
-pub notes_few : (retired : List Retired) (flags : List Bool) (readers place first : ℕ) (notes : List Past) → NotesTo retired flags readers place first notes → first + polls_before retired flags place ≤ readers
-notes_few retired flags readers place first notes so_far = let few = few_of (λ (n : Past). n.reader) notes readers so_far.apart (λ at note there. ((so_far.each at note there).made, (so_far.each at note there).few)) in let many = so_far.many in omega arith
+pub notes_few : (retired : List Retired) (flags : List Bool) (readers place first : ℕ) (notes : List Past)
+    → NotesTo retired flags readers place first notes → first + polls_before retired flags place ≤ readers
+notes_few retired flags readers place first notes so_far =
+    let few
+    = few_of (λ (n : Past). n.reader) notes readers so_far.apart
+    (λ at note there. ((so_far.each at note there).made, (so_far.each at note there).few)) in
+    let many = so_far.many in
+    omega arith
 
 -- THE SEAT
 
 -- a desk over these lists has what they have
-there_too : (desk : Desk) (spare : Spare) (place : ℕ) (entry : Retired) → desk.retired ≡ spare.retired → get_elem? spare.retired place ≡ some entry → get_elem? desk.retired place ≡ some entry
+there_too : (desk : Desk) (spare : Spare) (place : ℕ) (entry : Retired) → desk.retired ≡ spare.retired
+    → get_elem? spare.retired place ≡ some entry → get_elem? desk.retired place ≡ some entry
 there_too desk spare place entry listed here = ap (λ (l : List Retired). get_elem? l place) listed ∙ here
 
-pub passed_none : (table : Table) (spare : Spare) (flags : List Bool) (seat : MapSeat) → SearchesIn table spare seat → IsSound (token seat) → NotesTo spare.retired flags table.shape.readers 0 (length seat.me.0.marks.polls) seat.me.0.marks.polls
+pub passed_none : (table : Table) (spare : Spare) (flags : List Bool) (seat : MapSeat) → SearchesIn table spare seat
+    → IsSound (token seat)
+    → NotesTo spare.retired flags table.shape.readers 0 (length seat.me.0.marks.polls) seat.me.0.marks.polls
     → PassedTo table spare flags seat seat 0
-passed_none table spare flags seat search knows notes = record { own = refl; role = refl; search = search; grows = grows_none (token seat) knows; notes = notes; heard = refl; marks = no_loads seat.me.0.marks seat.me.0.marks.polls }
+passed_none table spare flags seat search knows notes =
+    record {
+      own = refl;
+      role = refl;
+      search = search;
+      grows = grows_none (token seat) knows;
+      notes = notes;
+      heard = refl;
+      marks = no_loads seat.me.0.marks seat.me.0.marks.polls;
+    }
 
 -- the entry at a place of the list, which the pass leaves as it was
-pub entry_at : (entry : Retired) (spare before : Spare) (place : ℕ) → entry ≡ get_or spare.retired place no_retired → spare ≡ before → entry ≡ get_or before.retired place no_retired
+pub entry_at : (entry : Retired) (spare before : Spare) (place : ℕ) → entry ≡ get_or spare.retired place no_retired
+    → spare ≡ before → entry ≡ get_or before.retired place no_retired
 entry_at entry spare before place is same = is ∙ ap (λ (s : Spare). get_or s.retired place no_retired) same
 
-module _ (table : Table) (spare : Spare) (flags : List Bool) (before now : MapSeat) (place : ℕ) (so_far : PassedTo table spare flags before now place) (low : place < length spare.retired) where
+module _ (table : Table) (spare : Spare) (flags : List Bool) (before now : MapSeat) (place : ℕ)
+    (so_far : PassedTo table spare flags before now place) (low : place < length spare.retired) where
   abbrev entry : Retired
   entry = get_or spare.retired place no_retired
 
@@ -160,21 +236,32 @@ module _ (table : Table) (spare : Spare) (flags : List Bool) (before now : MapSe
     role = so_far.role;
     search = so_far.search;
     grows = subst (λ (l : List Retired). Grows (length l) [] (token before) (token now)) lists so_far.grows;
-    notes = notes_past spare.retired flags table.shape.readers place (length before.me.0.marks.polls) now.me.0.marks.polls low flagged so_far.notes;
+    notes =
+        notes_past spare.retired flags table.shape.readers place (length before.me.0.marks.polls) now.me.0.marks.polls
+        low flagged so_far.notes;
     heard = so_far.heard;
-    marks = so_far.marks ∙ ap (λ (l : List Retired). with_scan before.me.0.marks now.me.0.marks.polls (before.me.0.marks.loads ++ held_polls l)) lists;
+    marks =
+        so_far.marks
+        ∙ ap
+        (λ (l : List Retired). with_scan before.me.0.marks now.me.0.marks.polls
+        (before.me.0.marks.loads ++ held_polls l))
+        lists;
   }
 
   -- the slot may be polled
-  pub tries_at : AreHeard spare.retired flags table.announcers before.me.0.heard → is_unheard flags entry.slot ≡ false → TriesAt table entry now
+  pub tries_at : AreHeard spare.retired flags table.announcers before.me.0.heard → is_unheard flags entry.slot ≡ false
+      → TriesAt table entry now
   tries_at heard free = record {
     search = so_far.search.search;
     poll = place;
     here = here_now;
-    heard = subst (λ (l : List ℕ). table.announcers ≤ get_or l entry.slot 0) (sym so_far.heard) (heard entry.slot (is_retired spare.retired place entry here) free);
+    heard =
+        subst (λ (l : List ℕ). table.announcers ≤ get_or l entry.slot 0) (sym so_far.heard)
+        (heard entry.slot (is_retired spare.retired place entry here) free);
   }
 
-  module _ (free : is_unheard flags entry.slot ≡ false) (found : ℕ) (next : MapSeat) (same : next.table_id ≡ now.table_id) (tells : TriesTo entry found now.me.0 next.me.0) where
+  module _ (free : is_unheard flags entry.slot ≡ false) (found : ℕ) (next : MapSeat)
+      (same : next.table_id ≡ now.table_id) (tells : TriesTo entry found now.me.0 next.me.0) where
     abbrev search_now : IsSearching table now
     search_now = so_far.search.search
 
@@ -185,21 +272,39 @@ module _ (table : Table) (spare : Spare) (flags : List Bool) (before now : MapSe
     entry_is = there_is search_now.desk.retired place entry here_now
 
     grown : Grows (polls_before spare.retired flags place + 1) [] (token before) (token next)
-    grown = grows_both (polls_before spare.retired flags place) 1 (polls_before spare.retired flags place + 1) (token before) (token now) [] (token next) refl so_far.grows (seat_grows now next [] same told.leads.advances)
+    grown =
+        grows_both (polls_before spare.retired flags place) 1 (polls_before spare.retired flags place + 1)
+        (token before) (token now)
+        [] (token next) refl so_far.grows (seat_grows now next [] same told.leads.advances)
 
     -- the loads with this poll
-    marks_are : (marks : Marks) (held : Bool) → marks ≡ with_polls (with_poll now.me.0.marks entry.slot held) marks.polls
-        → marks ≡ with_scan before.me.0.marks marks.polls (before.me.0.marks.loads ++ (held_polls (unflagged spare.retired flags place) ++ OfSlot entry.slot held ∷ []))
+    marks_are : (marks : Marks) (held : Bool)
+        → marks ≡ with_polls (with_poll now.me.0.marks entry.slot held) marks.polls
+        → marks
+        ≡ with_scan before.me.0.marks marks.polls
+        (before.me.0.marks.loads
+        ++ (held_polls (unflagged spare.retired flags place) ++ OfSlot entry.slot held ∷ []))
     marks_are marks held is = is ∙ ap (λ (m : Marks). with_polls (with_poll m entry.slot held) marks.polls) so_far.marks
-        ∙ ap (with_scan before.me.0.marks marks.polls) (append_assoc before.me.0.marks.loads (held_polls (unflagged spare.retired flags place)) (OfSlot entry.slot held ∷ []))
+        ∙ ap (with_scan before.me.0.marks marks.polls)
+        (append_assoc before.me.0.marks.loads (held_polls (unflagged spare.retired flags place))
+        (OfSlot entry.slot held ∷ []))
 
     pub passed_more : same_count found entry.arrivals ≡ false → PassedTo table spare flags before next (place + 1)
-    passed_more apart = let differs : same_count found (retired_at search_now.desk place).arrivals ≡ false = ap (λ (e : Retired). same_count found e.arrivals) (sym entry_is) ∙ apart in
-        let stays : tried search_now.desk search_now.call search_now.rows place found ≡ search_now.desk = ap (λ (b : Bool). cond {A = Desk} b (taking_retired search_now.desk search_now.call search_now.rows place found) search_now.desk) differs in
+    passed_more apart =
+        let differs : same_count found (retired_at search_now.desk place).arrivals ≡ false
+        = ap (λ (e : Retired). same_count found e.arrivals) (sym entry_is) ∙ apart in
+        let stays : tried search_now.desk search_now.call search_now.rows place found ≡ search_now.desk
+        = ap
+        (λ (b : Bool). cond {A = Desk} b
+        (taking_retired search_now.desk search_now.call search_now.rows place found) search_now.desk)
+        differs in
         let role : next.me.0.role ≡ Writer search_now.desk = told.leads.role ∙ ap Writer stays in
-        let noted = subst (λ (p : Bool × Retired). TryTells p.0 now.me.0.shape p.1.slot now.me.0.marks next.me.0.marks) (λ j. (differs j, sym entry_is j)) told.marks in
+        let noted
+        = subst (λ (p : Bool × Retired). TryTells p.0 now.me.0.shape p.1.slot now.me.0.marks next.me.0.marks)
+        (λ j. (differs j, sym entry_is j)) told.marks in
         let polls = ap (λ (m : Marks). m.polls) noted.1 in
-        let count : polls_before spare.retired flags place + 1 ≡ polls_before spare.retired flags (place + 1) = sym (polls_more spare.retired flags place low free) in
+        let count : polls_before spare.retired flags place + 1 ≡ polls_before spare.retired flags (place + 1)
+        = sym (polls_more spare.retired flags place low free) in
         let size = ap (λ (t : Table). t.shape.readers) search_now.own in record {
           own = same ∙ so_far.own;
           role = role ∙ sym search_now.role ∙ so_far.role;
@@ -217,19 +322,38 @@ module _ (table : Table) (spare : Spare) (flags : List Bool) (before now : MapSe
             slots = so_far.search.slots;
           };
           grows = subst (λ (n : ℕ). Grows n [] (token before) (token next)) count grown;
-          notes = subst (NotesTo spare.retired flags table.shape.readers (place + 1) (length before.me.0.marks.polls)) (sym polls)
-              (notes_more spare.retired flags table.shape.readers place (length before.me.0.marks.polls) now.me.0.marks.polls low free
-              (λ one other a b at_a at_b. search_now.room.apart one other a b (there_too search_now.desk spare one a so_far.search.retired at_a) (there_too search_now.desk spare other b so_far.search.retired at_b)) here so_far.notes
+          notes =
+              subst (NotesTo spare.retired flags table.shape.readers (place + 1) (length before.me.0.marks.polls))
+              (sym polls)
+              (notes_more spare.retired flags table.shape.readers place (length before.me.0.marks.polls)
+              now.me.0.marks.polls low free
+              (λ one other a b at_a at_b. search_now.room.apart one other a b
+              (there_too search_now.desk spare one a so_far.search.retired at_a)
+              (there_too search_now.desk spare other b so_far.search.retired at_b))
+              here so_far.notes
               noted.0 noted.2 noted.3 (let few = noted.4 in omega arith) noted.5);
           heard = told.heard ∙ so_far.heard;
-          marks = marks_are next.me.0.marks false (noted.1 ∙ ap (with_polls (with_poll now.me.0.marks entry.slot false)) (sym polls))
-              ∙ ap (λ (l : List LoggedLoad). with_scan before.me.0.marks next.me.0.marks.polls (before.me.0.marks.loads ++ l)) (sym (ap held_polls (unflagged_more spare.retired flags place low free) ∙ held_next (unflagged spare.retired flags place) entry));
+          marks =
+              marks_are next.me.0.marks false
+              (noted.1 ∙ ap (with_polls (with_poll now.me.0.marks entry.slot false)) (sym polls))
+              ∙ ap
+              (λ (l : List LoggedLoad). with_scan before.me.0.marks next.me.0.marks.polls
+              (before.me.0.marks.loads ++ l))
+              (sym
+              (ap held_polls (unflagged_more spare.retired flags place low free)
+              ∙ held_next (unflagged spare.retired flags place) entry));
         }
 
-    pub pass_takes : same_count found entry.arrivals ≡ true → (taken : Taken) → taken.slot ≡ entry.slot → taken.departures ≡ found → (after : Spare) → after ≡ record spare { retired = remove spare.retired place }
+    pub pass_takes : same_count found entry.arrivals ≡ true → (taken : Taken) → taken.slot ≡ entry.slot
+        → taken.departures ≡ found → (after : Spare) → after ≡ record spare { retired = remove spare.retired place }
         → PassTakes table flags before spare next after taken
-    pass_takes agree taken slot_is departed after is = let agrees : same_count found (retired_at search_now.desk place).arrivals ≡ true = ap (λ (e : Retired). same_count found e.arrivals) (sym entry_is) ∙ agree in
-        let marked = subst (λ (p : Bool × Retired). TryTells p.0 now.me.0.shape p.1.slot now.me.0.marks next.me.0.marks) (λ j. (agrees j, sym entry_is j)) told.marks in record {
+    pass_takes agree taken slot_is departed after is =
+        let agrees : same_count found (retired_at search_now.desk place).arrivals ≡ true
+        = ap (λ (e : Retired). same_count found e.arrivals) (sym entry_is) ∙ agree in
+        let marked
+        = subst (λ (p : Bool × Retired). TryTells p.0 now.me.0.shape p.1.slot now.me.0.marks next.me.0.marks)
+        (λ j. (agrees j, sym entry_is j)) told.marks in
+        record {
           place = place;
           entry = entry;
           here = here;
@@ -239,20 +363,37 @@ module _ (table : Table) (spare : Spare) (flags : List Bool) (before now : MapSe
           own = same ∙ so_far.own;
           writes = λ desk call rows is_desk is_at. writes_so desk call rows (so_far.role ∙ is_desk) is_at;
           grows = grown;
-          few = notes_few spare.retired flags table.shape.readers place (length before.me.0.marks.polls) now.me.0.marks.polls so_far.notes;
+          few =
+              notes_few spare.retired flags table.shape.readers place (length before.me.0.marks.polls)
+              now.me.0.marks.polls so_far.notes;
           heard = told.heard ∙ so_far.heard;
-          marks = marks_are next.me.0.marks true (marked ∙ ap (λ (m : Marks). with_polls (with_poll now.me.0.marks entry.slot true) m.polls) (sym marked));
+          marks =
+              marks_are next.me.0.marks true
+              (marked
+              ∙ ap (λ (m : Marks). with_polls (with_poll now.me.0.marks entry.slot true) m.polls) (sym marked));
         }
       where
-        writes_so : (desk : Desk) (call : WriterCall) (rows : List Row) → now.me.0.role ≡ Writer desk → desk.place ≡ Searching call rows 0 → WritesAt table (taking_retired desk call rows place taken.departures) next
-        writes_so desk call rows is_desk is_at = let one = same_desk now.me.0.role search_now.desk desk search_now.role is_desk in
-            let there : get_elem? desk.retired place ≡ some entry = ap (λ (d : Desk). get_elem? d.retired place) (sym one) ∙ here_now in
+        writes_so : (desk : Desk) (call : WriterCall) (rows : List Row) → now.me.0.role ≡ Writer desk
+            → desk.place ≡ Searching call rows 0
+            → WritesAt table (taking_retired desk call rows place taken.departures) next
+        writes_so desk call rows is_desk is_at =
+            let one = same_desk now.me.0.role search_now.desk desk search_now.role is_desk in
+            let there : get_elem? desk.retired place ≡ some entry
+            = ap (λ (d : Desk). get_elem? d.retired place) (sym one) ∙ here_now in
             let mine = tells desk call rows place is_desk is_at there in
-            let agrees : same_count found (retired_at desk place).arrivals ≡ true = ap (λ (e : Retired). same_count found e.arrivals) (sym (there_is desk.retired place entry there)) ∙ agree in
-            let goes : tried desk call rows place found ≡ taking_retired desk call rows place taken.departures = ap (λ (b : Bool). cond {A = Desk} b (taking_retired desk call rows place found) desk) agrees ∙ ap (taking_retired desk call rows place) (sym departed) in
+            let agrees : same_count found (retired_at desk place).arrivals ≡ true
+            = ap (λ (e : Retired). same_count found e.arrivals) (sym (there_is desk.retired place entry there))
+            ∙ agree in
+            let goes : tried desk call rows place found ≡ taking_retired desk call rows place taken.departures
+            = ap (λ (b : Bool). cond {A = Desk} b (taking_retired desk call rows place found) desk) agrees
+            ∙ ap (taking_retired desk call rows place) (sym departed) in
             let stays = grown.table ∙ sym so_far.grows.table in record {
               own = stays ∙ search_now.own;
               role = mine.leads.role ∙ ap Writer goes;
-              room = subst (λ (p : Shape × Desk). Room p.0 p.1) (λ j. (ap (λ (t : Table). t.shape) search_now.own j, goes j)) mine.leads.room;
-              numbers = subst (λ (d : Desk). AreNumbers table.shape (map_seen (token next)) d.numbers) goes (numbers_seat table now next same search_now.own _ stays mine.leads.numbers);
+              room =
+                  subst (λ (p : Shape × Desk). Room p.0 p.1)
+                  (λ j. (ap (λ (t : Table). t.shape) search_now.own j, goes j)) mine.leads.room;
+              numbers =
+                  subst (λ (d : Desk). AreNumbers table.shape (map_seen (token next)) d.numbers) goes
+                  (numbers_seat table now next same search_now.own _ stays mine.leads.numbers);
             }

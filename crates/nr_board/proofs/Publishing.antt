@@ -1,5 +1,6 @@
 -- A set is put word by word, and published.
-use Rattle.std.proofs.Common.{◌≡◌, ℕ, ◌+◌, ◌*◌, ◌≤◌, List, [], ◌++◌, Bool, cond, false, get_or, length, set, refl, sym, ap, ◌∙◌, subst, arith}
+use Rattle.std.proofs.Common.{◌≡◌, ℕ, ◌+◌, ◌*◌, ◌≤◌, List, [], ◌++◌, Bool, cond, false, get_or, length, set, refl, sym}
+use Rattle.std.proofs.Common.{ap, ◌∙◌, subst, arith}
 use Rattle.std.specs.Prelude.{slice_set}
 use Rattle.std.proofs.lemmas.Bool.{lt-leb}
 use Rattle.std.proofs.lemmas.List.{set-set}
@@ -28,7 +29,8 @@ use Rattle.nr_machine.specs.Slots.{content}
 use Rattle.nr_words.specs.SetWords.{encode}
 
 -- what the writer knows after a step is legal
-pub knows_after : (steps : ℕ) (old : Caller) (entries : List Entry) (new : Caller) → Grows steps entries old new → IsSound new
+pub knows_after : (steps : ℕ) (old : Caller) (entries : List Entry) (new : Caller) → Grows steps entries old new
+    → IsSound new
 knows_after steps old entries new grows = record {
   legal = subst (λ (t : Table). IsLegal (map_at_opening t) new.seen) (sym grows.table) grows.legal;
   callers = subst (λ (t : Table). AreCallers t.shape new.seen) (sym grows.table) grows.callers;
@@ -36,20 +38,25 @@ knows_after steps old entries new grows = record {
 }
 
 -- that many words are put
-pub record PutSoFar (table : Table) (desk : Desk) (call : WriterCall) (rows : List Row) (slot departed : ℕ) (before after : MapSeat) (index : ℕ) : Type 0 where
+pub record PutSoFar (table : Table) (desk : Desk) (call : WriterCall) (rows : List Row) (slot departed : ℕ)
+    (before after : MapSeat) (index : ℕ) : Type 0 where
   pub writes : WritesAt table (moved_to desk (Putting call rows slot departed index)) after
   pub grows : Grows index [] (token before) (token after)
   pub marks : after.me.0.marks ≡ before.me.0.marks
   -- of the slot nothing is heard any more, once a word is put
   pub heard : set after.me.0.heard slot 0 ≡ set before.me.0.heard slot 0
 
-module _ (table board : Table) (own : board ≡ table) (desk : Desk) (call : WriterCall) (rows : List Row) (slot departed : ℕ) (before : MapSeat) where
+module _ (table board : Table) (own : board ≡ table) (desk : Desk) (call : WriterCall) (rows : List Row)
+    (slot departed : ℕ) (before : MapSeat) where
   -- the next word of the set can be put
-  pub puts_next : (mid : MapSeat) (begin index word : ℕ) → begin ≡ content board.shape slot 0 → PutSoFar table desk call rows slot departed before mid
+  pub puts_next : (mid : MapSeat) (begin index word : ℕ) → begin ≡ content board.shape slot 0
+      → PutSoFar table desk call rows slot departed before mid
       index → index ≤ 2 * length rows → word ≡ get_or (encode rows) index 0 → IsPutting board begin index word mid
   puts_next mid begin index word begin_is so_far more word_is = record {
     desk = _;
-    writes = subst (λ (t : Table). WritesAt t (moved_to desk (Putting call rows slot departed index)) mid) (sym own) so_far.writes;
+    writes =
+        subst (λ (t : Table). WritesAt t (moved_to desk (Putting call rows slot departed index)) mid) (sym own)
+        so_far.writes;
     call = call;
     rows = rows;
     slot = slot;
@@ -62,8 +69,10 @@ module _ (table board : Table) (own : board ≡ table) (desk : Desk) (call : Wri
 
   -- one word more is put
   pub put_more : (mid after : MapSeat) (index : ℕ) → PutSoFar table desk call rows slot departed before mid index
-      → ((at : Desk) → mid.me.0.role ≡ Writer at → PutsTo board at mid after) → PutSoFar table desk call rows slot departed before after (index + 1)
-  put_more mid after index so_far puts = let told = subst (λ (t : Table). PutsTo t (moved_to desk (Putting call rows slot departed index)) mid after)
+      → ((at : Desk) → mid.me.0.role ≡ Writer at → PutsTo board at mid after)
+      → PutSoFar table desk call rows slot departed before after (index + 1)
+  put_more mid after index so_far puts =
+      let told = subst (λ (t : Table). PutsTo t (moved_to desk (Putting call rows slot departed index)) mid after)
       own (puts (moved_to desk (Putting call rows slot departed index)) so_far.writes.role) in record {
         writes = told.writes;
         grows = grows_both index 1 (index + 1) (token before) (token mid) [] (token after) refl so_far.grows told.grows;
@@ -72,22 +81,41 @@ module _ (table board : Table) (own : board ≡ table) (desk : Desk) (call : Wri
       }
 
 -- the swap that publishes the set
-pub published : (table : Table) (call : WriterCall) (rows : List Row) (spare mid_spare after_spare : Spare) (slot departed polls : ℕ)
-    (before mid after : MapSeat) (scanned : List ℕ) (loads : List LoggedLoad) (found : ℕ) → TookBySearch table before.me.0.heard scanned loads slot polls spare mid_spare → AreFewSteps table polls
+pub published : (table : Table) (call : WriterCall) (rows : List Row) (spare mid_spare after_spare : Spare)
+    (slot departed polls : ℕ)
+    (before mid after : MapSeat) (scanned : List ℕ) (loads : List LoggedLoad) (found : ℕ)
+    → TookBySearch table before.me.0.heard scanned loads slot polls spare mid_spare → AreFewSteps table polls
     → mid_spare.slots ≡ spare.slots → mid_spare.numbers ≡ spare.numbers → mid_spare.reaped ≡ spare.reaped
-    → mid.me.0.marks ≡ with_scan before.me.0.marks mid.me.0.marks.polls (before.me.0.marks.loads ++ loads) → set mid.me.0.heard slot 0 ≡ set scanned slot 0
-    → WritesAt table (desk_with mid_spare (Putting call rows slot departed (2 * length rows + 1))) mid → Grows (polls + (2 * length rows + 1)) [] (token before) (token mid) → GoesOn table found mid after
-    → after_spare ≡ record mid_spare { retired = mid_spare.retired ++ unnamed found; reaped = slice_set mid_spare.reaped slot false } → (put : PublishesSet table call rows before spare after after_spare) × (put.slot ≡ slot)
-published table call rows spare mid_spare after_spare slot departed polls before mid after scanned loads found took few slots numbers flags only_polls heard writes grows goes retires =
+    → mid.me.0.marks ≡ with_scan before.me.0.marks mid.me.0.marks.polls (before.me.0.marks.loads ++ loads)
+    → set mid.me.0.heard slot 0 ≡ set scanned slot 0
+    → WritesAt table (desk_with mid_spare (Putting call rows slot departed (2 * length rows + 1))) mid
+    → Grows (polls + (2 * length rows + 1)) [] (token before) (token mid) → GoesOn table found mid after
+    → after_spare
+    ≡ record mid_spare {
+      retired = mid_spare.retired ++ unnamed found;
+      reaped = slice_set mid_spare.reaped slot false;
+    }
+    → (put : PublishesSet table call rows before spare after after_spare) × (put.slot ≡ slot)
+published table call rows spare mid_spare after_spare slot departed polls before mid after scanned loads found took few
+    slots numbers flags only_polls heard writes grows goes retires =
     let last : ℕ = 2 * length rows + 1 in let desk = desk_with mid_spare (Putting call rows slot departed last) in
     let told = goes desk writes.role in
-    let outcome : put_on desk call rows slot departed last found ≡ (swapped desk found, ended reply.Done) = ap (λ (b : Bool). cond {A = Desk × Step} b
+    let outcome : put_on desk call rows slot departed last found ≡ (swapped desk found, ended reply.Done)
+    = ap (λ (b : Bool). cond {A = Desk × Step} b
     (moved_to desk (Putting call rows slot departed (last + 1)), Going) (swapped desk found, ended reply.Done))
     (lt-leb last (2 * length rows) (omega arith)) in
     let leads = subst (λ (o : Desk × Step). LeadsIn 1 table (call_of call) o mid after) outcome told.leads in
-    let marks = subst (λ (b : Bool). PutsMarks b mid.me.0.marks (key_of call) slot rows found after.me.0.role after.me.0.seen after.me.0.marks []) (lt-leb last (2 * length rows) (omega arith)) told.marks in
-    let swaps = subst (λ (b : Bool). SwapsOrPuts b table.shape (key_of call) found told.log mid.me.0.marks) (lt-leb last (2 * length rows) (omega arith)) told.finds in
-    let same_names : get_or before.me.0.marks.names (key_of call) 0 ≡ get_or mid.me.0.marks.names (key_of call) 0 = ap (λ (m : Marks). get_or m.names (key_of call) 0) (sym only_polls) in (
+    let marks
+    = subst
+    (λ (b : Bool). PutsMarks b mid.me.0.marks (key_of call) slot rows found after.me.0.role after.me.0.seen
+    after.me.0.marks
+    [])
+    (lt-leb last (2 * length rows) (omega arith)) told.marks in
+    let swaps
+    = subst (λ (b : Bool). SwapsOrPuts b table.shape (key_of call) found told.log mid.me.0.marks)
+    (lt-leb last (2 * length rows) (omega arith)) told.finds in
+    let same_names : get_or before.me.0.marks.names (key_of call) 0 ≡ get_or mid.me.0.marks.names (key_of call) 0
+    = ap (λ (m : Marks). get_or m.names (key_of call) 0) (sym only_polls) in (
       record {
         slot = slot;
         inside = writes.room.place.0;
@@ -106,11 +134,21 @@ published table call rows spare mid_spare after_spare slot departed polls before
         heard = told.heard ∙ heard;
         few = few;
         word = found;
-        retires = retires ∙ ap (λ (l : List Bool). record mid_spare { retired = mid_spare.retired ++ unnamed found; reaped = slice_set l slot false }) flags;
+        retires =
+            retires
+            ∙ ap
+            (λ (l : List Bool).
+            record mid_spare {
+              retired = mid_spare.retired ++ unnamed found;
+              reaped = slice_set l slot false;
+            })
+            flags;
         slots = ap (λ (s : Spare). s.slots) retires ∙ slots;
         numbers = ap (λ (s : Spare). s.numbers) retires ∙ numbers;
         writes = subst (λ (s : Spare). WritesAt table (desk_with s Idle) after) (sym retires) leads.writes;
-        grows = grows_both (polls + (2 * length rows + 1)) 1 (2 * length rows + 2 + polls) (token before) (token mid) _ (token after) (omega arith) grows leads.grows;
+        grows =
+            grows_both (polls + (2 * length rows + 1)) 1 (2 * length rows + 2 + polls) (token before) (token mid) _
+            (token after) (omega arith) grows leads.grows;
       },
       refl,
     )

@@ -1,5 +1,6 @@
 -- What the reader's steps tell of its seat.
-use Rattle.std.proofs.Common.{Bool, refl, cond, eq-eqb, nat_eq, ne_eqb, suc, ◌+◌, ◌≡◌, ℕ, ◌<◌, true, false, [], ap, sym, subst, arith, ◌∙◌, Some}
+use Rattle.std.proofs.Common.{Bool, refl, cond, eq-eqb, nat_eq, ne_eqb, suc, ◌+◌, ◌≡◌, ℕ, ◌<◌, true, false, [], ap, sym}
+use Rattle.std.proofs.Common.{subst, arith, ◌∙◌, Some}
 use Rattle.std.proofs.lemmas.Bool.{eqb-true}
 use Rattle.std.specs.Prelude.{◌↔◌, ◌&&◌}
 use mathlib.Core.Logic.{dite}
@@ -35,78 +36,133 @@ use Rattle.nr_board.specs.Seats.{HoldsAt, IdlesAt}
 use Rattle.nr_board.specs.Views.{grip_of, is_sized, caller_number, rows_held, slot_held}
 
 module _ (table : Table) (before after : MapSeat) (same : after.table_id ≡ before.table_id) where
-  pub asked_seat : (key found : ℕ) → IdlesAt table before → Asked key found before.me.0 after.me.0 → IdlesAt table after × Gains 1 (model.Ask key) (token before) (token after) (ask_word found)
-  asked_seat key found idles told = let grows = seat_grows before after _ same told.gains in (record { own = grows.table ∙ idles.own; idle = subst IsIdle (sym told.role) idles.idle; silent = told.says ∙ idles.silent }, grows)
+  pub asked_seat : (key found : ℕ) → IdlesAt table before → Asked key found before.me.0 after.me.0
+      → IdlesAt table after × Gains 1 (model.Ask key) (token before) (token after) (ask_word found)
+  asked_seat key found idles told =
+      let grows = seat_grows before after _ same told.gains in (
+        record {
+          own = grows.table ∙ idles.own;
+          idle = subst IsIdle (sym told.role) idles.idle;
+          silent = told.says ∙ idles.silent;
+        },
+        grows,
+      )
 
-  pub hole_seat : (key found : ℕ) → IdlesAt table before → Arrived key found before.me.0 after.me.0 → is_filled found ≡ false → IdlesAt table after × Gains 1 (model.Find key) (token before) (token after) reply.Hole
-  hole_seat key found idles told empty = let hole = told.hole empty in let grows = seat_grows before after _ same hole.1 in (record { own = grows.table ∙ idles.own; idle = subst IsIdle (sym hole.0) idles.idle; silent = told.says ∙ idles.silent }, grows)
+  pub hole_seat : (key found : ℕ) → IdlesAt table before → Arrived key found before.me.0 after.me.0
+      → is_filled found ≡ false → IdlesAt table after × Gains 1 (model.Find key) (token before) (token after) reply.Hole
+  hole_seat key found idles told empty =
+      let hole = told.hole empty in
+      let grows = seat_grows before after _ same hole.1 in (
+        record {
+          own = grows.table ∙ idles.own;
+          idle = subst IsIdle (sym hole.0) idles.idle;
+          silent = told.says ∙ idles.silent;
+        },
+        grows,
+      )
 
-  pub held_seat : (key found : ℕ) → IdlesAt table before → Arrived key found before.me.0 after.me.0 → is_filled found ≡ true
-      → HoldsAt table (content table.shape (slot_of found) 0) after × Gains 1 (model.Find key) (token before) (token after) (reply.Rows (rows_held after.me.0.role))
-  held_seat key found idles told full = let held = told.held full in let grows = seat_grows before after _ same held.2 in (
-    record {
-      own = grows.table ∙ idles.own;
-      holds = subst (λ (shape : Shape). Holds shape after.me.0.role) (ap (λ (t : Table). t.shape) idles.own) held.0;
-      begin_is = ap (λ (slot : ℕ). content table.shape slot 0) (sym held.1);
-    },
-    grows,
-  )
+  pub held_seat : (key found : ℕ) → IdlesAt table before → Arrived key found before.me.0 after.me.0
+      → is_filled found ≡ true
+      → HoldsAt table (content table.shape (slot_of found) 0) after
+      × Gains 1 (model.Find key) (token before) (token after) (reply.Rows (rows_held after.me.0.role))
+  held_seat key found idles told full =
+      let held = told.held full in
+      let grows = seat_grows before after _ same held.2 in (
+        record {
+          own = grows.table ∙ idles.own;
+          holds = subst (λ (shape : Shape). Holds shape after.me.0.role) (ap (λ (t : Table). t.shape) idles.own) held.0;
+          begin_is = ap (λ (slot : ℕ). content table.shape slot 0) (sym held.1);
+        },
+        grows,
+      )
 
-  pub read_seat : (begin place found : ℕ) → HoldsAt table begin before → Read place found before.me.0 after.me.0 → HoldsAt table begin after × (rows_held after.me.0.role ≡ rows_held before.me.0.role) × Rests 1 (token before) (token after)
-  read_seat begin place found holds told = let rests = seat_rests before after same told.waits in let slot = ap slot_held told.hold in let rows = ap rows_held told.hold in (
-    record {
-      own = rests.table ∙ holds.own;
-      holds = record {
-        is = told.hold ∙ (λ j. Reader (sym (ap caller_number told.hold) j) (On (sym slot j) (sym rows j) (is_sized (grip_of after.me.0.role))));
-        inside = subst (λ (s : ℕ). s < table.shape.slots) (sym slot) holds.holds.inside;
-        row_set = subst (IsRowSet (bound_of table.shape)) (sym rows) holds.holds.row_set;
-      };
-      begin_is = holds.begin_is ∙ ap (λ (s : ℕ). content table.shape s 0) (sym slot);
-    },
-    rows,
-    rests,
-  )
+  pub read_seat : (begin place found : ℕ) → HoldsAt table begin before → Read place found before.me.0 after.me.0
+      → HoldsAt table begin after × (rows_held after.me.0.role ≡ rows_held before.me.0.role)
+      × Rests 1 (token before) (token after)
+  read_seat begin place found holds told =
+      let rests = seat_rests before after same told.waits in
+      let slot = ap slot_held told.hold in
+      let rows = ap rows_held told.hold in (
+        record {
+          own = rests.table ∙ holds.own;
+          holds = record {
+            is =
+                told.hold
+                ∙ (λ j. Reader (sym (ap caller_number told.hold) j)
+                (On (sym slot j) (sym rows j) (is_sized (grip_of after.me.0.role))));
+            inside = subst (λ (s : ℕ). s < table.shape.slots) (sym slot) holds.holds.inside;
+            row_set = subst (IsRowSet (bound_of table.shape)) (sym rows) holds.holds.row_set;
+          };
+          begin_is = holds.begin_is ∙ ap (λ (s : ℕ). content table.shape s 0) (sym slot);
+        },
+        rows,
+        rests,
+      )
 
-  pub departed_seat : (begin : ℕ) → HoldsAt table begin before → before.me.0.says ≡ 0 → Departed before.me.0 after.me.0 → IdlesAt table after × Rests 1 (token before) (token after)
-  departed_seat begin holds silent told = let rests = seat_rests before after same told.waits in (record { own = rests.table ∙ holds.own; idle = told.role ∙ ap (λ (n : ℕ). Reader n Nothing) (sym (ap caller_number told.role)); silent = told.says ∙ silent }, rests)
+  pub departed_seat : (begin : ℕ) → HoldsAt table begin before → before.me.0.says ≡ 0 → Departed before.me.0 after.me.0
+      → IdlesAt table after × Rests 1 (token before) (token after)
+  departed_seat begin holds silent told =
+      let rests = seat_rests before after same told.waits in (
+        record {
+          own = rests.table ∙ holds.own;
+          idle = told.role ∙ ap (λ (n : ℕ). Reader n Nothing) (sym (ap caller_number told.role));
+          silent = told.says ∙ silent;
+        },
+        rests,
+      )
 
 -- the slot that a reader holds, by where its first content word stands; it is one of the map's
-pub held_slot : {table : Table} {seat : MapSeat} (slot : ℕ) → HoldsAt table (content table.shape slot 0) seat → slot ≡ slot_held seat.me.0.role
-held_slot {table = table} {seat = seat} slot holds = same_content table.shape slot 0 (slot_held seat.me.0.role) 0 (omega arith) (omega arith) holds.begin_is
+pub held_slot : {table : Table} {seat : MapSeat} (slot : ℕ) → HoldsAt table (content table.shape slot 0) seat
+    → slot ≡ slot_held seat.me.0.role
+held_slot {table = table} {seat = seat} slot holds =
+    same_content table.shape slot 0 (slot_held seat.me.0.role) 0 (omega arith) (omega arith) holds.begin_is
 
-pub held_gripped : {table : Table} {seat : MapSeat} (slot : ℕ) → HoldsAt table (content table.shape slot 0) seat → (token seat).holds ≡ Some slot
+pub held_gripped : {table : Table} {seat : MapSeat} (slot : ℕ) → HoldsAt table (content table.shape slot 0) seat
+    → (token seat).holds ≡ Some slot
 held_gripped slot holds = ap (λ (r : Role). gripped (grip_of r)) holds.holds.is ∙ ap Some (sym (held_slot slot holds))
 
-pub held_inside : {table : Table} {seat : MapSeat} (slot : ℕ) → HoldsAt table (content table.shape slot 0) seat → slot < table.shape.slots
+pub held_inside : {table : Table} {seat : MapSeat} (slot : ℕ) → HoldsAt table (content table.shape slot 0) seat
+    → slot < table.shape.slots
 held_inside slot holds = omega (arith, held_slot slot holds, holds.holds.inside)
 
 -- what it holds by its word is the slot that this says
 pub held_says : (table : Table) (held : Held) (seat : MapSeat) → HeldAs table held seat → HoldsWhatItSays (token seat)
 held_says table held seat so loud =
-    let slot : held.slot ≡ slot_held seat.me.0.role = same_content table.shape held.slot 0 (slot_held seat.me.0.role) 0 (omega arith) (omega arith) (sym so.begin_is ∙ so.holds.begin_is) in
-    so.says ∙ so.said (omega (arith, loud, so.says)) ∙ ap suc (slot ∙ sym (ap (λ (r : Role). slot_in (gripped (grip_of r))) so.holds.holds.is))
+    let slot : held.slot ≡ slot_held seat.me.0.role
+    = same_content table.shape held.slot 0 (slot_held seat.me.0.role) 0 (omega arith) (omega arith)
+    (sym so.begin_is ∙ so.holds.begin_is) in
+    so.says ∙ so.said (omega (arith, loud, so.says))
+    ∙ ap suc (slot ∙ sym (ap (λ (r : Role). slot_in (gripped (grip_of r))) so.holds.holds.is))
 
 -- the name of a filled word
 pub filled_name : (word : ℕ) → is_filled word ≡ true → name_number word ≡ suc (slot_of word)
 filled_name word full = ap (λ (b : Bool). cond {A = ℕ} b (slot_of word + 1) 0) full ∙ omega arith
 
 names_filled : (held word : ℕ) → is_filled word ≡ true → names_slot held word ≡ nat_eq (slot_of word) held
-names_filled held word full = let found : ℕ = slot_of word in let name = filled_name word full in dite (ℕ_discrete found held)
+names_filled held word full =
+    let found : ℕ = slot_of word in
+    let name = filled_name word full in
+    dite (ℕ_discrete found held)
     (λ e. eq-eqb (name_number word) (suc held) (omega arith) ∙ sym (eq-eqb found held e))
     (λ ne. ne_eqb (name_number word) (suc held) (λ e. ne (omega arith)) ∙ sym (ne_eqb found held ne))
 
 names_empty : (held word : ℕ) → is_filled word ≡ false → names_slot held word ≡ false
-names_empty held word empty = let none : name_number word ≡ 0 = ap (λ (b : Bool). cond {A = ℕ} b (slot_of word + 1) 0) empty in ne_eqb (name_number word) (suc held) (λ e. absurd (omega arith))
+names_empty held word empty =
+    let none : name_number word ≡ 0 = ap (λ (b : Bool). cond {A = ℕ} b (slot_of word + 1) 0) empty in
+    ne_eqb (name_number word) (suc held) (λ e. absurd (omega arith))
 
 -- a word names the slot that is held exactly where it is filled and the slot is its own
 pub names_held : (held word : ℕ) → names_slot held word ≡ (is_filled word && nat_eq (slot_of word) held)
-names_held held word = let same : Bool = nat_eq (slot_of word) held in by_cases (λ _. names_slot held word ≡ (is_filled word && same)) (is_filled word)
+names_held held word =
+    let same : Bool = nat_eq (slot_of word) held in
+    by_cases (λ _. names_slot held word ≡ (is_filled word && same)) (is_filled word)
     (λ full. names_filled held word full ∙ sym (ap (λ (b : Bool). b && same) full))
     (λ empty. names_empty held word empty ∙ sym (ap (λ (b : Bool). b && same) empty))
 
 -- a key has rows exactly where its word is filled
 rows_shown : (word : ℕ) → is_filled word ≡ true → kind_shown word ≡ kind.Rows
-rows_shown word full = ap (λ (b : Bool). cond {A = KeyKind} b kind.Rows (cond {A = KeyKind} (has_ask word) kind.Asked kind.Hole)) full
+rows_shown word full =
+    ap (λ (b : Bool). cond {A = KeyKind} b kind.Rows (cond {A = KeyKind} (has_ask word) kind.Asked kind.Hole)) full
 
 abbrev of_rows : KeyKind → ℕ
 of_rows kind.Hole = 0
@@ -116,7 +172,10 @@ of_rows kind.Rows = 1
 shown_filled : (word : ℕ) → kind_shown word ≡ kind.Rows → is_filled word ≡ true
 shown_filled word is = by_cases (λ (b : Bool). b ≡ true) (is_filled word) (λ full. refl)
     (λ empty. absurd (let shown : of_rows (kind_shown word) ≡ 1 = ap of_rows is in let none = none_of (has_ask word) in
-    let other : kind_shown word ≡ cond {A = KeyKind} (has_ask word) kind.Asked kind.Hole = ap (λ (b : Bool). cond {A = KeyKind} b kind.Rows (cond {A = KeyKind} (has_ask word) kind.Asked kind.Hole)) empty in omega (arith, ap of_rows other)))
+    let other : kind_shown word ≡ cond {A = KeyKind} (has_ask word) kind.Asked kind.Hole
+    = ap (λ (b : Bool). cond {A = KeyKind} b kind.Rows (cond {A = KeyKind} (has_ask word) kind.Asked kind.Hole))
+    empty in
+    omega (arith, ap of_rows other)))
   where
     none_of : (b : Bool) → of_rows (cond {A = KeyKind} b kind.Asked kind.Hole) ≡ 0
     none_of true = refl
@@ -126,26 +185,47 @@ shown_filled word is = by_cases (λ (b : Bool). b ≡ true) (is_filled word) (λ
 module _ (table : Table) (before after : MapSeat) (same : after.table_id ≡ before.table_id) (begin key found : ℕ)
     (holds : HoldsAt table begin before) (told : FoundAgain key found before.me.0 after.me.0)
     (answer : Bool) (names : names_slot (slot_held before.me.0.role) found ≡ answer) where
-  pub again_gains : answer ≡ true → Gains 1 (model.Find key) (token before) (token after) (reply.Rows (rows_held before.me.0.role))
+  pub again_gains : answer ≡ true
+      → Gains 1 (model.Find key) (token before) (token after) (reply.Rows (rows_held before.me.0.role))
   again_gains so = seat_grows before after _ same (told.same (names ∙ so))
 
   pub again_learns : answer ≡ false → Grows 1 [] (token before) (token after)
   again_learns not_so = seat_grows before after _ same (told.other (names ∙ not_so))
 
   own_table : (token after).table ≡ (token before).table
-  own_table = by_cases (λ _. (token after).table ≡ (token before).table) answer (λ yes. (again_gains yes).table) (λ no. (again_learns no).table)
+  own_table =
+      by_cases (λ _. (token after).table ≡ (token before).table) answer (λ yes. (again_gains yes).table)
+      (λ no. (again_learns no).table)
 
   pub again_holds : HoldsAt table begin after
-  again_holds = record { own = own_table ∙ holds.own; holds = subst (Holds table.shape) (sym told.role) holds.holds; begin_is = holds.begin_is ∙ ap (λ r. content table.shape (slot_held r) 0) (sym told.role) }
+  again_holds =
+      record {
+        own = own_table ∙ holds.own;
+        holds = subst (Holds table.shape) (sym told.role) holds.holds;
+        begin_is = holds.begin_is ∙ ap (λ r. content table.shape (slot_held r) 0) (sym told.role);
+      }
 
   pub again_marks : after.me.0.marks ≡ found_again answer (with_look before.me.0.marks key (name_number found))
-  again_marks = told.marks ∙ ap (λ (b : Bool). found_again b (with_look before.me.0.marks key (name_number found))) names
+  again_marks =
+      told.marks ∙ ap (λ (b : Bool). found_again b (with_look before.me.0.marks key (name_number found))) names
 
   -- the key has the put number of the hold exactly where the answer is yes
   pub again_exact : (answer ≡ true) ↔ HasPut key before.me.0.marks.put (token after)
-  again_exact = let held : ℕ = slot_held before.me.0.role in let put : ℕ = before.me.0.marks.put in let Compares : Bool → Type 0 = λ b. ComparesPuts b found put (put_number after.me.0.seen key) in
-      let kind_is : kind_shown found ≡ kind_of (state_of (map_seen (token after)) key) = told.kind ∙ ap (λ (t : Table). kind_of (state_of (map_after t.shape after.me.0.seen) key)) (sym own_table) in
+  again_exact =
+      let held : ℕ = slot_held before.me.0.role in
+      let put : ℕ = before.me.0.marks.put in
+      let Compares : Bool → Type 0 = λ b. ComparesPuts b found put (put_number after.me.0.seen key) in
+      let kind_is : kind_shown found ≡ kind_of (state_of (map_seen (token after)) key)
+      = told.kind
+      ∙ ap (λ (t : Table). kind_of (state_of (map_after t.shape after.me.0.seen) key)) (sym own_table) in
       let compares : Compares answer = subst Compares names told.put in (
-        (λ yes. (sym kind_is ∙ rows_shown found (names_one found held (eqb-true (name_number found) (suc held) (names ∙ yes))).0, subst Compares yes compares)),
-        (λ has. let named = filled_name found (shown_filled found (kind_is ∙ has.0)) in by_cases (λ (b : Bool). b ≡ true) answer (λ yes. refl) (λ no. absurd (subst Compares no compares (omega arith) has.1))),
+        (λ yes. (
+          sym kind_is
+              ∙ rows_shown found (names_one found held (eqb-true (name_number found) (suc held) (names ∙ yes))).0,
+          subst Compares yes compares,
+        )),
+        (λ has.
+            let named = filled_name found (shown_filled found (kind_is ∙ has.0)) in
+            by_cases (λ (b : Bool). b ≡ true) answer (λ yes. refl)
+            (λ no. absurd (subst Compares no compares (omega arith) has.1))),
       )

@@ -1,5 +1,7 @@
 -- The reader's steps on the table: request, arrive, read, find again, depart.
-use Rattle.std.proofs.Common.{get_or-set_other, inr, ◌≡◌, ℕ, suc, ◌+◌, ◌-◌, ◌%◌, ◌^◌, ◌<◌, ◌≤◌, List, [], ◌∷◌, ◌++◌, Bool, true, false, cond, length, get_or, set, ⊎_elim, refl, sym, ap, ◌∙◌, subst, arith, eq-eqb}
+use Rattle.std.proofs.Common.{get_or-set_other, inr, ◌≡◌, ℕ, suc, ◌+◌, ◌-◌, ◌%◌, ◌^◌, ◌<◌, ◌≤◌, List, [], ◌∷◌, ◌++◌}
+use Rattle.std.proofs.Common.{Bool, true, false, cond, length, get_or, set, ⊎_elim, refl, sym, ap, ◌∙◌, subst, arith}
+use Rattle.std.proofs.Common.{eq-eqb}
 use Rattle.std.specs.Prelude.{None, Option, Some, bit_or}
 use mathlib.Core.Option.{none, some}
 use Rattle.atomic_table.specs.Table.{Allows, Me, State, step}
@@ -33,7 +35,8 @@ use Rattle.nr_marks.proofs.FindAgainMarks.{finds_again_marked}
 use Rattle.nr_marks.proofs.ReaderMarks.{arrives_marked, asks_marked, departs_marked, reads_marked}
 use Rattle.nr_marks.specs.MarkSteps.{ArrivesMarks, DepartsMarks, FindsAgainMarks, KeepsMarks, found_again}
 use Rattle.nr_board.proofs.Learning.{shows_kind}
-use Rattle.nr_board.proofs.Lift.{Choice, content_no_count, key_inside, key_no_count, knows_pasts, lends_on, lent_small, lifts, sees_plain, silent_lends}
+use Rattle.nr_board.proofs.Lift.{Choice, content_no_count, key_inside, key_no_count, knows_pasts, lends_on, lent_small}
+use Rattle.nr_board.proofs.Lift.{lifts, sees_plain, silent_lends}
 use Rattle.nr_board.proofs.Counting.{counted_departure}
 use Rattle.nr_board.specs.Announcing.{lent, says_at}
 use Rattle.nr_core.proofs.WordPlaces.{content_inside, departures_inside}
@@ -46,81 +49,134 @@ use lib.Seq.{set-get_or}
 use Rattle.nr_model.specs.declared.calls.Call.{Call}
 use Rattle.nr_model.specs.declared.calls.Reply.{Reply}
 use Rattle.nr_board.specs.Kinds.{kind_of, kind_shown}
-use Rattle.nr_board.specs.Plays.{Advances, Arrived, Asked, Departed, FoundAgain, IsIdle, holding, Read, has_arrived, has_asked, has_departed, has_found_again, has_read_word}
+use Rattle.nr_board.specs.Plays.{Advances, Arrived, Asked, Departed, FoundAgain, IsIdle, holding, Read, has_arrived}
+use Rattle.nr_board.specs.Plays.{has_asked, has_departed, has_found_again, has_read_word}
 use Rattle.nr_board.specs.Rule.{Fits, Kept, marks_of, role_of}
 use Rattle.nr_board.specs.Views.{View, grip_of, is_sized, caller_number, rows_held, slot_held}
 
 -- a reader's own entries are told by its number
-pub reader_is : (role : Role) (grip : Grip) → role ≡ Reader (caller_number role) grip → is_by (caller_number role) role ≡ true
+pub reader_is : (role : Role) (grip : Grip) → role ≡ Reader (caller_number role) grip
+    → is_by (caller_number role) role ≡ true
 reader_is role grip is = ap (is_by (caller_number role)) is ∙ eq-eqb (caller_number role) (caller_number role) refl
 
 -- a reader has its map's shape
-reader_shape : (shape : Shape) (log : List Entry) (view : View) (grip : Grip) → view.role ≡ Reader (caller_number view.role) grip → Fits shape log view → view.shape ≡ shape
-reader_shape shape log view grip is fits = fits.sized (let one : is_reader view.role ≡ 1 = ap is_reader is in omega arith)
+reader_shape : (shape : Shape) (log : List Entry) (view : View) (grip : Grip)
+    → view.role ≡ Reader (caller_number view.role) grip → Fits shape log view → view.shape ≡ shape
+reader_shape shape log view grip is fits =
+    fits.sized (let one : is_reader view.role ≡ 1 = ap is_reader is in omega arith)
 
 -- a reader's number is one of the map's
-pub reader_within : (shape : Shape) (id : ℕ) (view : View) (grip : Grip) (state : State (Unit {0}) View) (kept : Kept shape state)
-    → get_elem? state.views id ≡ some view → view.role ≡ Reader (caller_number view.role) grip → caller_number view.role ≤ shape.readers
-reader_within shape id view grip state kept at is = (subst (λ r. KnowsMarks role_of marks_of shape kept.counted state.views kept.log r view.marks) is (kept.marked.each id view at)).1
+pub reader_within : (shape : Shape) (id : ℕ) (view : View) (grip : Grip) (state : State (Unit {0}) View)
+    (kept : Kept shape state)
+    → get_elem? state.views id ≡ some view → view.role ≡ Reader (caller_number view.role) grip
+    → caller_number view.role ≤ shape.readers
+reader_within shape id view grip state kept at is =
+    (subst (λ r. KnowsMarks role_of marks_of shape kept.counted state.views kept.log r view.marks) is
+    (kept.marked.each id view at)).1
 
 -- a find or a request is an entry of the reader's
-pub reader_entry : (shape : Shape) (reader : ℕ) (call : Call) (answer : Reply) (entries : List Entry) → entries ≡ entry reader call answer ∷ []
+pub reader_entry : (shape : Shape) (reader : ℕ) (call : Call) (answer : Reply) (entries : List Entry)
+    → entries ≡ entry reader call answer ∷ []
     → call_key call < shape.keys → reader ≤ shape.readers → is_reading call ≡ true → AreCallers shape entries
-reader_entry shape reader call answer entries is near low reads = subst (AreCallers shape) (sym is) ((near, inr (low, reads)), tt)
+reader_entry shape reader call answer entries is near low reads =
+    subst (AreCallers shape) (sym is) ((near, inr (low, reads)), tt)
 
 -- the reader's count, by its hold before and after
-pub acts_so : (view : View) (after : Role) (entries : List Entry) (marks : Marks) (before now : Option ℕ) (told : List Entry)
-    → gripped (grip_of view.role) ≡ before → gripped (grip_of after) ≡ now → entries ≡ told → marks.acts + to_depart now ≡ view.marks.acts + to_depart
+pub acts_so : (view : View) (after : Role) (entries : List Entry) (marks : Marks) (before now : Option ℕ)
+    (told : List Entry)
+    → gripped (grip_of view.role) ≡ before → gripped (grip_of after) ≡ now → entries ≡ told
+    → marks.acts + to_depart now ≡ view.marks.acts + to_depart
     before + acts_told told → ActsGo view after entries marks
 acts_so view after entries marks before now told held holds is count reads =
-    let b = ap to_depart held in let n = ap to_depart holds in let t : acts_told entries ≡ acts_told told = ap acts_told is in omega arith
+    let b = ap to_depart held in
+    let n = ap to_depart holds in
+    let t : acts_told entries ≡ acts_told told = ap acts_told is in
+    omega arith
 
-pub asks_so : (shape : Shape) (slots id : ℕ) (me : Me (Unit {0}) View) (key : ℕ) → key < shape.keys → IsIdle me.0.role → Allows (Kept shape) slots id me key (λ word. bit_or word 1) (has_asked (step slots key 1 0 none) me)
-asks_so shape slots id me key near idle = let view = me.0 in let reader = caller_number view.role in let tells = Asks reader key in
-    lifts shape id view (Or key 1) tells (KeepsMarks view.marks) slots me.1 (λ found next. Asked key found view next) view.pasts (subst (λ r. CanStep shape id r (Or key 1) tells) (sym idle) (asks shape id reader key near))
+pub asks_so : (shape : Shape) (slots id : ℕ) (me : Me (Unit {0}) View) (key : ℕ) → key < shape.keys → IsIdle me.0.role
+    → Allows (Kept shape) slots id me key (λ word. bit_or word 1) (has_asked (step slots key 1 0 none) me)
+asks_so shape slots id me key near idle =
+    let view = me.0 in
+    let reader = caller_number view.role in
+    let tells = Asks reader key in
+    lifts shape id view (Or key 1) tells (KeepsMarks view.marks) slots me.1 (λ found next. Asked key found view next)
+    view.pasts (subst (λ r. CanStep shape id r (Or key 1) tells) (sym idle) (asks shape id reader key near))
     (asks_marked role_of marks_of shape id view view.pasts reader key near idle) (knows_pasts shape id view)
-    (sees_plain shape id view (Or key 1) tells (KeepsMarks view.marks) (λ found next. Asked key found view next) (key_inside shape key near) (key_no_count shape key near)
+    (sees_plain shape id view (Or key 1) tells (KeepsMarks view.marks) (λ found next. Asked key found view next)
+    (key_inside shape key near) (key_no_count shape key near)
     (λ state kept at step. lends_on view step.after (λ slot. ap (holds slot) (step.told.0 ∙ sym idle))))
     (λ state kept at step marked. let role : step.after ≡ view.role = step.told.0 ∙ sym idle in
-    learning shape id view (Or key 1) tells (KeepsMarks view.marks) state kept at step marked (ap caller_number role) (reader_shape shape kept.log view Nothing idle (kept.fits id view at))
-    (reader_entry shape reader (model.Ask key) _ step.entries step.told.1 near (reader_within shape id view Nothing state kept at idle) refl)
-    (acts_so view step.after step.entries marked.now None None _ (ap (λ r. gripped (grip_of r)) idle) (ap (λ r. gripped (grip_of r)) step.told.0) step.told.1 (let same = ap (λ (m : Marks). m.acts) marked.told.0 in omega arith))
-    (names_go view marked.now (reads_only view marked.now (ap is_writer idle))) (λ next. Asked key (get_or kept.counted key 0) view next) (reader_is view.role Nothing idle) marked.told.1
-    (entry reader (model.Ask key) (ask_word (get_or kept.counted key 0)) ∷ []) step.told.1 (λ advances. record { role = role; gains = advances; marks = marked.told.0; says = refl }))
+    learning shape id view (Or key 1) tells (KeepsMarks view.marks) state kept at step marked (ap caller_number role)
+    (reader_shape shape kept.log view Nothing idle (kept.fits id view at))
+    (reader_entry shape reader (model.Ask key) _ step.entries step.told.1 near
+    (reader_within shape id view Nothing state kept at idle) refl)
+    (acts_so view step.after step.entries marked.now None None _ (ap (λ r. gripped (grip_of r)) idle)
+    (ap (λ r. gripped (grip_of r)) step.told.0) step.told.1
+    (let same = ap (λ (m : Marks). m.acts) marked.told.0 in omega arith))
+    (names_go view marked.now (reads_only view marked.now (ap is_writer idle)))
+    (λ next. Asked key (get_or kept.counted key 0) view next) (reader_is view.role Nothing idle) marked.told.1
+    (entry reader (model.Ask key) (ask_word (get_or kept.counted key 0)) ∷ []) step.told.1
+    (λ advances. record { role = role; gains = advances; marks = marked.told.0; says = refl }))
 
 -- what is true is not false
 pub differ : (b : Bool) (P : Type 0) → b ≡ true → b ≡ false → P
 differ b P is not = let clash : true ≡ false = sym is ∙ not in absurd (cc)
 
-pub arrives_so : (shape : Shape) (slots id : ℕ) (me : Me (Unit {0}) View) (key : ℕ) → key < shape.keys → IsIdle me.0.role → me.0.says ≡ 0
-    → Allows (Kept shape) slots id me key (λ word. (word + ARRIVE) % 2 ^ 64) (has_arrived (step slots key ARRIVE 0 none) me)
-arrives_so shape slots id me key near idle silent = let view = me.0 in let reader = caller_number view.role in let tells = Arrives shape reader key in
-    lifts shape id view (Add key ARRIVE) tells (ArrivesMarks view.marks key) slots me.1 (λ found next. Arrived key found view next) view.pasts
+pub arrives_so : (shape : Shape) (slots id : ℕ) (me : Me (Unit {0}) View) (key : ℕ) → key < shape.keys
+    → IsIdle me.0.role → me.0.says ≡ 0
+    → Allows (Kept shape) slots id me key (λ word. (word + ARRIVE) % 2 ^ 64)
+    (has_arrived (step slots key ARRIVE 0 none) me)
+arrives_so shape slots id me key near idle silent =
+    let view = me.0 in
+    let reader = caller_number view.role in
+    let tells = Arrives shape reader key in
+    lifts shape id view (Add key ARRIVE) tells (ArrivesMarks view.marks key) slots me.1
+    (λ found next. Arrived key found view next) view.pasts
     (subst (λ r. CanStep shape id r (Add key ARRIVE) tells) (sym idle) (arrives shape id reader key near))
     (arrives_marked role_of marks_of shape id view view.pasts reader key near idle) (knows_pasts shape id view)
-    (sees_plain shape id view (Add key ARRIVE) tells (ArrivesMarks view.marks key) (λ found next. Arrived key found view next) (key_inside shape key near) (key_no_count shape key near)
+    (sees_plain shape id view (Add key ARRIVE) tells (ArrivesMarks view.marks key)
+    (λ found next. Arrived key found view next) (key_inside shape key near) (key_no_count shape key near)
     (λ state kept at step. silent_lends view step.after silent))
-    (λ state kept at step marked. let found : ℕ = get_or kept.counted key 0 in let sized = reader_shape shape kept.log view Nothing idle (kept.fits id view at) in
+    (λ state kept at step marked.
+    let found : ℕ = get_or kept.counted key 0 in
+    let sized = reader_shape shape kept.log view Nothing idle (kept.fits id view at) in
     let next = learned view step.after (kept.log ++ step.entries) step.entries marked.now marked.news in
     let choose : caller_number step.after ≡ reader → (told : List Entry) → AreCallers shape step.entries
-    → ActsGo view step.after step.entries marked.now → step.entries ≡ told → (Advances told view next → Arrived key found view next)
-    → Choice shape id view (Add key ARRIVE) tells (ArrivesMarks view.marks key) state kept step marked (λ next. Arrived key found view next)
-    = λ same told callers acts. learning shape id view (Add key ARRIVE) tells (ArrivesMarks view.marks key) state kept at step marked same sized
-    callers acts (names_go view marked.now (reads_only view marked.now (ap is_writer idle))) (λ next. Arrived key found view next) (reader_is view.role Nothing idle) marked.told.1 told in
-    let within = reader_within shape id view Nothing state kept at idle in let acts_are = ap (λ (m : Marks). m.acts) marked.told.0 in
+    → ActsGo view step.after step.entries marked.now → step.entries ≡ told
+    → (Advances told view next → Arrived key found view next)
+    → Choice shape id view (Add key ARRIVE) tells (ArrivesMarks view.marks key) state kept step marked
+    (λ next. Arrived key found view next)
+    = λ same told callers acts. learning shape id view (Add key ARRIVE) tells (ArrivesMarks view.marks key) state kept
+    at step marked same sized
+    callers acts (names_go view marked.now (reads_only view marked.now (ap is_writer idle)))
+    (λ next. Arrived key found view next) (reader_is view.role Nothing idle) marked.told.1 told in
+    let within = reader_within shape id view Nothing state kept at idle in
+    let acts_are = ap (λ (m : Marks). m.acts) marked.told.0 in
     ⊎_elim
-    (λ (t : (slot : ℕ) × (rows : List Row) × (name_number found ≡ suc slot) × (slot < shape.slots) × IsRowSet (bound_of shape) rows
-    × (step.after ≡ Reader reader (On slot rows false)) × (step.entries ≡ entry reader (model.Find key) (reply.Rows rows) ∷ [])).
-    let names = names_one found t.0 t.2 in let same : caller_number step.after ≡ reader = ap caller_number t.5 in let rows_so : rows_held step.after ≡ t.1 = ap rows_held t.5 in let slot_so : slot_held step.after ≡ t.0 = ap slot_held t.5 in
-    choose same (entry reader (model.Find key) (reply.Rows (rows_held step.after)) ∷ []) (reader_entry shape reader (model.Find key) _ step.entries t.6 near within refl)
-    (acts_so view step.after step.entries marked.now None (Some t.0) _ (ap (λ r. gripped (grip_of r)) idle) (ap (λ r. gripped (grip_of r)) t.5) t.6
-    (omega arith)) (t.6 ∙ ap (λ (rows : List Row). entry reader (model.Find key) (reply.Rows rows) ∷ []) (sym rows_so)) (λ advances. record {
+    (λ (t : (slot : ℕ) × (rows : List Row) × (name_number found ≡ suc slot) × (slot < shape.slots)
+    × IsRowSet (bound_of shape) rows
+    × (step.after ≡ Reader reader (On slot rows false))
+    × (step.entries ≡ entry reader (model.Find key) (reply.Rows rows) ∷ [])).
+    let names = names_one found t.0 t.2 in
+    let same : caller_number step.after ≡ reader = ap caller_number t.5 in
+    let rows_so : rows_held step.after ≡ t.1 = ap rows_held t.5 in
+    let slot_so : slot_held step.after ≡ t.0 = ap slot_held t.5 in
+    choose same (entry reader (model.Find key) (reply.Rows (rows_held step.after)) ∷ [])
+    (reader_entry shape reader (model.Find key) _ step.entries t.6 near within refl)
+    (acts_so view step.after step.entries marked.now None (Some t.0) _ (ap (λ r. gripped (grip_of r)) idle)
+    (ap (λ r. gripped (grip_of r)) t.5) t.6
+    (omega arith)) (t.6 ∙ ap (λ (rows : List Row). entry reader (model.Find key) (reply.Rows rows) ∷ []) (sym rows_so))
+    (λ advances. record {
       number = same;
       held = λ _. (
         record {
-          is = t.5 ∙ (λ j. Reader (sym same j) (On (sym slot_so j) (sym rows_so j) (sym (ap (λ r. is_sized (grip_of r)) t.5) j)));
+          is =
+              t.5
+              ∙ (λ j. Reader (sym same j)
+              (On (sym slot_so j) (sym rows_so j) (sym (ap (λ r. is_sized (grip_of r)) t.5) j)));
           inside = subst (λ (p : ℕ × Shape). p.0 < p.1.slots) (λ j. (sym slot_so j, sym sized j)) t.3;
-          row_set = subst (λ (p : Shape × List Row). IsRowSet (bound_of p.0) p.1) (λ j. (sym sized j, sym rows_so j)) t.4;
+          row_set =
+              subst (λ (p : Shape × List Row). IsRowSet (bound_of p.0) p.1) (λ j. (sym sized j, sym rows_so j)) t.4;
         },
         slot_so ∙ sym names.1,
         advances,
@@ -129,9 +185,13 @@ arrives_so shape slots id me key near idle silent = let view = me.0 in let reade
       marks = marked.told.0;
       says = refl;
     }))
-    (λ (t : (name_number found ≡ 0) × (step.after ≡ Reader reader Nothing) × (step.entries ≡ entry reader (model.Find key) reply.Hole ∷ [])).
-    choose (ap caller_number t.1) (entry reader (model.Find key) reply.Hole ∷ []) (reader_entry shape reader (model.Find key) _ step.entries t.2 near within refl)
-    (acts_so view step.after step.entries marked.now None None _ (ap (λ r. gripped (grip_of r)) idle) (ap (λ r. gripped (grip_of r)) t.1) t.2 (omega arith)) t.2 (λ advances. record {
+    (λ (t : (name_number found ≡ 0) × (step.after ≡ Reader reader Nothing)
+    × (step.entries ≡ entry reader (model.Find key) reply.Hole ∷ [])).
+    choose (ap caller_number t.1) (entry reader (model.Find key) reply.Hole ∷ [])
+    (reader_entry shape reader (model.Find key) _ step.entries t.2 near within refl)
+    (acts_so view step.after step.entries marked.now None None _ (ap (λ r. gripped (grip_of r)) idle)
+    (ap (λ r. gripped (grip_of r)) t.1) t.2 (omega arith))
+    t.2 (λ advances. record {
       number = ap caller_number t.1;
       held = λ full. differ (is_filled found) _ full (names_none found t.0);
       hole = λ _. (t.1 ∙ sym idle, advances);
@@ -140,23 +200,38 @@ arrives_so shape slots id me key near idle silent = let view = me.0 in let reade
     }))
     step.told)
 
-pub reads_so : (shape : Shape) (slots id : ℕ) (me : Me (Unit {0}) View) (index : ℕ) → me.0.role ≡ holding me.0.role (is_sized (grip_of me.0.role)) → slot_held me.0.role < shape.slots
+pub reads_so : (shape : Shape) (slots id : ℕ) (me : Me (Unit {0}) View) (index : ℕ)
+    → me.0.role ≡ holding me.0.role (is_sized (grip_of me.0.role)) → slot_held me.0.role < shape.slots
     → index < slot_room shape → index < length (encode (rows_held me.0.role)) → me.0.shape ≡ shape
-    → let place = content shape (slot_held me.0.role) index in Allows (Kept shape) slots id me place (λ word. word) (has_read_word (step slots place 0 0 none) me)
-reads_so shape slots id me index is near short low sized = let view = me.0 in let reader = caller_number view.role in let slot : ℕ = slot_held view.role in let rows = rows_held view.role in let sized_so = is_sized (grip_of view.role) in
+    → let place = content shape (slot_held me.0.role) index in
+    Allows (Kept shape) slots id me place (λ word. word) (has_read_word (step slots place 0 0 none) me)
+reads_so shape slots id me index is near short low sized =
+    let view = me.0 in
+    let reader = caller_number view.role in
+    let slot : ℕ = slot_held view.role in
+    let rows = rows_held view.role in
+    let sized_so = is_sized (grip_of view.role) in
     let place : ℕ = content shape slot index in let tells = ReadsHeld reader slot rows sized_so index in
-    lifts shape id view (Load place) tells (KeepsMarks view.marks) slots me.1 (λ found next. Read place found view next) view.pasts
+    lifts shape id view (Load place) tells (KeepsMarks view.marks) slots me.1 (λ found next. Read place found view next)
+    view.pasts
     (subst (λ r. CanStep shape id r (Load place) tells) (sym is) (reads shape id reader slot rows sized_so index low))
-    (reads_marked role_of marks_of shape id view view.pasts reader slot index rows sized_so is) (knows_pasts shape id view)
-    (sees_plain shape id view (Load place) tells (KeepsMarks view.marks) (λ found next. Read place found view next) (content_inside shape slot index near short) (content_no_count shape slot index short)
+    (reads_marked role_of marks_of shape id view view.pasts reader slot index rows sized_so is)
+    (knows_pasts shape id view)
+    (sees_plain shape id view (Load place) tells (KeepsMarks view.marks) (λ found next. Read place found view next)
+    (content_inside shape slot index near short) (content_no_count shape slot index short)
     (λ state kept at step. lends_on view step.after (λ s. ap (holds s) step.told.1 ∙ sym (ap (holds s) is))))
     (λ state kept at step marked. let same : caller_number step.after ≡ reader = ap caller_number step.told.1 in
-    waiting shape id view (Load place) tells (KeepsMarks view.marks) state kept at step marked same sized (subst (AreCallers shape) (sym step.told.2) tt)
+    waiting shape id view (Load place) tells (KeepsMarks view.marks) state kept at step marked same sized
+    (subst (AreCallers shape) (sym step.told.2) tt)
     (acts_so view step.after step.entries marked.now (Some slot) (Some slot) [] (ap (λ r. gripped (grip_of r)) is)
-    (ap (λ r. gripped (grip_of r)) step.told.1) step.told.2 (let same = ap (λ (m : Marks). m.acts) marked.told.0 in omega arith))
-    (reads_only view marked.now (ap is_writer is)) (λ next. Read place (get_or kept.counted place 0) view next) marked.told.1 step.told.2
+    (ap (λ r. gripped (grip_of r)) step.told.1) step.told.2
+    (let same = ap (λ (m : Marks). m.acts) marked.told.0 in omega arith))
+    (reads_only view marked.now (ap is_writer is)) (λ next. Read place (get_or kept.counted place 0) view next)
+    marked.told.1 step.told.2
     (λ waits. record {
-      value = let begins : content view.shape slot 0 ≡ content shape slot 0 = ap (λ (s : Shape). content s slot 0) sized in let back : index ≡ place - content view.shape slot 0 = omega arith in
+      value =
+          let begins : content view.shape slot 0 ≡ content shape slot 0 = ap (λ (s : Shape). content s slot 0) sized in
+          let back : index ≡ place - content view.shape slot 0 = omega arith in
           step.told.0 ∙ ap (λ (i : ℕ). get_or (encode rows) i 0) back;
       hold = step.told.1 ∙ ap (holding view.role) (sym (ap (λ r. is_sized (grip_of r)) step.told.1));
       waits = waits;
@@ -164,31 +239,60 @@ reads_so shape slots id me index is near short low sized = let view = me.0 in le
       says = refl;
     }))
 
-pub finds_again_so : (shape : Shape) (slots id : ℕ) (me : Me (Unit {0}) View) (key : ℕ) → key < shape.keys → me.0.role ≡ holding me.0.role (is_sized (grip_of me.0.role)) → me.0.shape ≡ shape
+pub finds_again_so : (shape : Shape) (slots id : ℕ) (me : Me (Unit {0}) View) (key : ℕ) → key < shape.keys
+    → me.0.role ≡ holding me.0.role (is_sized (grip_of me.0.role)) → me.0.shape ≡ shape
     → Allows (Kept shape) slots id me key (λ word. word) (has_found_again (step slots key 0 0 none) me)
-finds_again_so shape slots id me key near is sized = let view = me.0 in let reader = caller_number view.role in let slot : ℕ = slot_held view.role in let rows = rows_held view.role in let sized_so = is_sized (grip_of view.role) in
-    let tells = FindsAgain shape reader slot rows sized_so key in let notes = FindsAgainMarks view.marks slot key in let e = entry reader (model.Find key) (reply.Rows rows) in
-    lifts shape id view (Load key) tells notes slots me.1 (λ found next. FoundAgain key found view next) view.pasts (subst (λ r. CanStep shape id r (Load key) tells) (sym is) (finds_again shape id reader slot rows sized_so key near))
-    (finds_again_marked role_of marks_of shape id view view.pasts reader slot key rows sized_so near is) (knows_pasts shape id view)
-    (sees_plain shape id view (Load key) tells notes (λ found next. FoundAgain key found view next) (key_inside shape key near) (key_no_count shape key near)
+finds_again_so shape slots id me key near is sized =
+    let view = me.0 in
+    let reader = caller_number view.role in
+    let slot : ℕ = slot_held view.role in
+    let rows = rows_held view.role in
+    let sized_so = is_sized (grip_of view.role) in
+    let tells = FindsAgain shape reader slot rows sized_so key in
+    let notes = FindsAgainMarks view.marks slot key in
+    let e = entry reader (model.Find key) (reply.Rows rows) in
+    lifts shape id view (Load key) tells notes slots me.1 (λ found next. FoundAgain key found view next) view.pasts
+    (subst (λ r. CanStep shape id r (Load key) tells) (sym is)
+    (finds_again shape id reader slot rows sized_so key near))
+    (finds_again_marked role_of marks_of shape id view view.pasts reader slot key rows sized_so near is)
+    (knows_pasts shape id view)
+    (sees_plain shape id view (Load key) tells notes (λ found next. FoundAgain key found view next)
+    (key_inside shape key near) (key_no_count shape key near)
     (λ state kept at step. lends_on view step.after (λ s. ap (holds s) step.told.0 ∙ sym (ap (holds s) is))))
     (λ state kept at step marked. let found : ℕ = get_or kept.counted key 0 in let names = names_slot slot found in
-    let role : step.after ≡ view.role = step.told.0 ∙ sym is in let within = reader_within shape id view _ state kept at is in
-    let inside : (other : ℕ) → name_number found ≡ suc other → other < view.shape.slots = λ other so. subst (λ (s : Shape). other < s.slots) (sym sized) (step.told.2 other so) in
-    let log : List Entry = kept.log ++ step.entries in let kind : kind_shown found ≡ kind_of (state_of (map_after view.shape log) key) = sym (ap (λ (l : List ℕ). kind_shown (get_or l key 0)) (set-get_or kept.counted key 0))
-    ∙ shows_kind shape (set kept.counted key found) (get_or (set kept.counted key found) key 0) (state_of (map_after shape log) key) (step.core.shows key near) ∙ ap (λ (s : Shape). kind_of (state_of (map_after s log) key)) (sym sized) in
+    let role : step.after ≡ view.role = step.told.0 ∙ sym is in
+    let within = reader_within shape id view _ state kept at is in
+    let inside : (other : ℕ) → name_number found ≡ suc other → other < view.shape.slots
+    = λ other so. subst (λ (s : Shape). other < s.slots) (sym sized) (step.told.2 other so) in
+    let log : List Entry = kept.log ++ step.entries in
+    let kind : kind_shown found ≡ kind_of (state_of (map_after view.shape log) key)
+    = sym (ap (λ (l : List ℕ). kind_shown (get_or l key 0)) (set-get_or kept.counted key 0))
+    ∙ shows_kind shape (set kept.counted key found) (get_or (set kept.counted key found) key 0)
+    (state_of (map_after shape log) key) (step.core.shows key near)
+    ∙ ap (λ (s : Shape). kind_of (state_of (map_after s log) key)) (sym sized) in
     let holds = ap (λ r. gripped (grip_of r)) is in let held = ap (λ r. gripped (grip_of r)) step.told.0 in
     let after = learned view step.after log step.entries marked.now marked.news in
-    let choose : (told : List Entry) → AreCallers shape step.entries → step.entries ≡ told → marked.now.acts ≡ view.marks.acts + acts_told told
+    let choose : (told : List Entry) → AreCallers shape step.entries → step.entries ≡ told
+    → marked.now.acts ≡ view.marks.acts + acts_told told
     → (Advances told view after → FoundAgain key found view after)
     → Choice shape id view (Load key) tells notes state kept step marked (λ next. FoundAgain key found view next)
-    = λ told callers is_told count tell. learning shape id view (Load key) tells notes state kept at step marked (ap caller_number role) sized callers
+    = λ told callers is_told count tell. learning shape id view (Load key) tells notes state kept at step marked
+    (ap caller_number role) sized callers
     (acts_so view step.after step.entries marked.now (Some slot) (Some slot) told holds held is_told (omega arith))
-    (names_go view marked.now (reads_only view marked.now (ap is_writer is))) (λ next. FoundAgain key found view next) (reader_is view.role _ is) marked.told.1 told is_told tell in
-    by_cases (λ _. Choice shape id view (Load key) tells notes state kept step marked (λ next. FoundAgain key found view next)) names
-    (λ yes. let is_told : step.entries ≡ e ∷ [] = step.told.1 ∙ ap (λ (b : Bool). cond {A = List Entry} b (e ∷ []) []) yes in
-    let count : marked.now.acts ≡ suc (suc view.marks.acts) = ap (λ (m : Marks). m.acts) marked.told.0 ∙ ap (λ (b : Bool). (found_again b (with_look view.marks key (name_number found))).acts) yes in
-    choose (e ∷ []) (reader_entry shape reader (model.Find key) _ step.entries is_told near within refl) is_told (omega arith) (λ advances. record {
+    (names_go view marked.now (reads_only view marked.now (ap is_writer is))) (λ next. FoundAgain key found view next)
+    (reader_is view.role _ is) marked.told.1 told is_told tell in
+    by_cases
+    (λ _. Choice shape id view (Load key) tells notes state kept step marked
+    (λ next. FoundAgain key found view next))
+    names
+    (λ yes.
+    let is_told : step.entries ≡ e ∷ []
+    = step.told.1 ∙ ap (λ (b : Bool). cond {A = List Entry} b (e ∷ []) []) yes in
+    let count : marked.now.acts ≡ suc (suc view.marks.acts)
+    = ap (λ (m : Marks). m.acts) marked.told.0
+    ∙ ap (λ (b : Bool). (found_again b (with_look view.marks key (name_number found))).acts) yes in
+    choose (e ∷ []) (reader_entry shape reader (model.Find key) _ step.entries is_told near within refl) is_told
+    (omega arith) (λ advances. record {
       role = role;
       same = λ _. advances;
       other = λ no. differ names _ yes no;
@@ -199,7 +303,9 @@ finds_again_so shape slots id me key near is sized = let view = me.0 in let read
       says = refl;
     }))
     (λ no. let is_told : step.entries ≡ [] = step.told.1 ∙ ap (λ (b : Bool). cond {A = List Entry} b (e ∷ []) []) no in
-    let count : marked.now.acts ≡ view.marks.acts = ap (λ (m : Marks). m.acts) marked.told.0 ∙ ap (λ (b : Bool). (found_again b (with_look view.marks key (name_number found))).acts) no in
+    let count : marked.now.acts ≡ view.marks.acts
+    = ap (λ (m : Marks). m.acts) marked.told.0
+    ∙ ap (λ (b : Bool). (found_again b (with_look view.marks key (name_number found))).acts) no in
     choose [] (subst (AreCallers shape) (sym is_told) tt) is_told (omega arith) (λ advances. record {
       role = role;
       same = λ yes. differ names _ yes no;
@@ -211,21 +317,39 @@ finds_again_so shape slots id me key near is sized = let view = me.0 in let read
       says = refl;
     })))
 
-pub departs_so : (shape : Shape) (slots id : ℕ) (me : Me (Unit {0}) View) → me.0.role ≡ holding me.0.role (is_sized (grip_of me.0.role)) → slot_held me.0.role < shape.slots → me.0.shape ≡ shape → me.0.says ≡ 0
-    → let place = departures shape (slot_held me.0.role) in Allows (Kept shape) slots id me place (λ word. (word + 1) % 2 ^ 64) (has_departed (step slots place 1 0 none) me)
-departs_so shape slots id me is near sized silent = let view = me.0 in let reader = caller_number view.role in let slot : ℕ = slot_held view.role in let rows = rows_held view.role in let sized_so = is_sized (grip_of view.role) in
+pub departs_so : (shape : Shape) (slots id : ℕ) (me : Me (Unit {0}) View)
+    → me.0.role ≡ holding me.0.role (is_sized (grip_of me.0.role)) → slot_held me.0.role < shape.slots
+    → me.0.shape ≡ shape → me.0.says ≡ 0
+    → let place = departures shape (slot_held me.0.role) in
+    Allows (Kept shape) slots id me place (λ word. (word + 1) % 2 ^ 64)
+    (has_departed (step slots place 1 0 none) me)
+departs_so shape slots id me is near sized silent =
+    let view = me.0 in
+    let reader = caller_number view.role in
+    let slot : ℕ = slot_held view.role in
+    let rows = rows_held view.role in
+    let sized_so = is_sized (grip_of view.role) in
     let place : ℕ = departures shape slot in let tells = Departs reader in
-    lifts shape id view (Add place 1) tells (DepartsMarks view.marks) slots me.1 (λ found next. Departed view next) view.pasts (subst (λ r. CanStep shape id r (Add place 1) tells) (sym is) (departs shape id reader slot rows sized_so))
+    lifts shape id view (Add place 1) tells (DepartsMarks view.marks) slots me.1 (λ found next. Departed view next)
+    view.pasts
+    (subst (λ r. CanStep shape id r (Add place 1) tells) (sym is) (departs shape id reader slot rows sized_so))
     (departs_marked role_of marks_of shape id view view.pasts reader slot rows sized_so is) (knows_pasts shape id view)
     (λ state kept at step. let wide = kept.core.wide in let few = lent_small shape state kept slot in (
       record {
-        counts = counted_departure shape (lent state.views) state.words kept.counted slot near (omega arith) (omega (arith, wide)) kept.counts_words;
-        behind = λ own _. get_or-set_other state.words place (says_at shape own) ((get_or state.words place 0 + 1) % 2 ^ 64) 0 (λ e. let inside = departures_inside shape slot near in omega arith);
+        counts =
+            counted_departure shape (lent state.views) state.words kept.counted slot near (omega arith)
+            (omega (arith, wide)) kept.counts_words;
+        behind = λ own _. get_or-set_other state.words place (says_at shape own)
+            ((get_or state.words place 0 + 1) % 2 ^ 64) 0
+            (λ e. let inside = departures_inside shape slot near in omega arith);
       },
       silent_lends view step.after silent,
       λ next told. told,
     ))
-    (λ state kept at step marked. waiting shape id view (Add place 1) tells (DepartsMarks view.marks) state kept at step marked (ap caller_number step.told.0) sized (subst (AreCallers shape) (sym step.told.1) tt)
+    (λ state kept at step marked. waiting shape id view (Add place 1) tells (DepartsMarks view.marks) state kept at step
+    marked (ap caller_number step.told.0) sized (subst (AreCallers shape) (sym step.told.1) tt)
     (acts_so view step.after step.entries marked.now (Some slot) None [] (ap (λ r. gripped (grip_of r)) is)
-    (ap (λ r. gripped (grip_of r)) step.told.0) step.told.1 (let same = ap (λ (m : Marks). m.acts) marked.told.0 in omega arith))
-    (reads_only view marked.now (ap is_writer is)) (λ next. Departed view next) marked.told.1 step.told.1 (λ waits. record { role = step.told.0; waits = waits; marks = marked.told.0; says = refl }))
+    (ap (λ r. gripped (grip_of r)) step.told.0) step.told.1
+    (let same = ap (λ (m : Marks). m.acts) marked.told.0 in omega arith))
+    (reads_only view marked.now (ap is_writer is)) (λ next. Departed view next) marked.told.1 step.told.1
+    (λ waits. record { role = step.told.0; waits = waits; marks = marked.told.0; says = refl }))

@@ -1,5 +1,7 @@
--- The writer reads the set of the slot that its key names, word by word: each read finds the next word of the set that the key has, which stays the same meanwhile.
-use Rattle.std.proofs.Common.{◌≡◌, ℕ, ◌+◌, ◌-◌, ◌*◌, ◌<◌, ◌≤◌, List, [], ◌∷◌, ◌++◌, Bool, cond, get_or, length, take, nat_eq, refl, sym, ap, ◌∙◌, subst, arith, append-nil}
+-- The writer reads the set of the slot that its key names, word by word: each read finds the next word of the set that
+-- the key has, which stays the same meanwhile.
+use Rattle.std.proofs.Common.{◌≡◌, ℕ, ◌+◌, ◌-◌, ◌*◌, ◌<◌, ◌≤◌, List, [], ◌∷◌, ◌++◌, Bool, cond, get_or, length, take}
+use Rattle.std.proofs.Common.{nat_eq, refl, sym, ap, ◌∙◌, subst, arith, append-nil}
 use mathlib.Core.Logic.{dite}
 use native.Mathlib.Decide.{ℕ_discrete}
 use Rattle.std.proofs.lemmas.Bool.{eq-eqb, ne_eqb}
@@ -41,12 +43,19 @@ use Rattle.nr_board.specs.Views.{desk_of, caller_number}
 use Rattle.nr_board.specs.WriterSeats.{GoesOn, IsReading, KeyHas, LeadsIn, MapSeat, WritesAt}
 
 -- a call that has its set ends with no reply yet
-pub settled_quiet : (shape : Shape) (desk : Desk) (call : WriterCall) (rows : List Row) (c : Call) → ending c (settled shape desk call rows).1 ≡ []
+pub settled_quiet : (shape : Shape) (desk : Desk) (call : WriterCall) (rows : List Row) (c : Call)
+    → ending c (settled shape desk call rows).1 ≡ []
 settled_quiet shape desk call rows c = by_cases (λ v. ending c
     (cond {A = Desk × Step} v (taking_fresh shape desk call rows, Going)
     (cond {A = Desk × Step} (nat_eq (length desk.retired) 0) (moved_to desk Idle, no_slot shape desk)
     (moved_to desk (Searching call rows 0), Going))).1 ≡ []) (nat_lt desk.fresh shape.slots)
-    (λ _. refl) (λ _. by_cases (λ v. ending c (cond {A = Desk × Step} v (moved_to desk Idle, no_slot shape desk) (moved_to desk (Searching call rows 0), Going)).1 ≡ []) (nat_eq (length desk.retired) 0) (λ _. refl) (λ _. refl))
+    (λ _. refl)
+    (λ _. by_cases
+    (λ v. ending c
+    (cond {A = Desk × Step} v (moved_to desk Idle, no_slot shape desk)
+    (moved_to desk (Searching call rows 0), Going)).1
+    ≡ [])
+    (nat_eq (length desk.retired) 0) (λ _. refl) (λ _. refl))
 
 -- an entry that a step of the writer adds is its own
 ending_own : (call : Call) (step : Step) → entries_of (ending call step) 0 ≡ ending call step
@@ -56,20 +65,35 @@ ending_own call (Ended (writer.NoSlot counts)) = refl
 
 -- the reply that ends a call with its last read leaves the key's set
 module _ (shape : Shape) (desk : Desk) (number : ℕ) (rows : List Row) (log : List Entry) where
-  quiet_leaves : (key : ℕ) (more : List Entry) → more ≡ [] → state_of (map_after shape log) key ≡ states.Rows number rows → state_of (map_after shape (log ++ more)) key ≡ states.Rows number rows
-  quiet_leaves key more none had = ap (λ (l : List Entry). state_of (map_after shape (log ++ l)) key) none ∙ ap (λ (l : List Entry). state_of (map_after shape l) key) (append-nil log) ∙ had
+  quiet_leaves : (key : ℕ) (more : List Entry) → more ≡ []
+      → state_of (map_after shape log) key ≡ states.Rows number rows
+      → state_of (map_after shape (log ++ more)) key ≡ states.Rows number rows
+  quiet_leaves key more none had =
+      ap (λ (l : List Entry). state_of (map_after shape (log ++ l)) key) none
+      ∙ ap (λ (l : List Entry). state_of (map_after shape l) key) (append-nil log) ∙ had
 
-  renewed_leaves : (key : ℕ) (batch : List Delta) → key < shape.keys → state_of (map_after shape log) key ≡ states.Rows number rows → (left : Result (List Row) ApplyFault) → applied (bound_of shape) rows batch ≡ left
-      → state_of (map_after shape (log ++ ending (model.Update key batch) (renewed shape desk (Update key batch) left).1)) key ≡ states.Rows number rows
-  renewed_leaves key batch near had (Ok left) is = quiet_leaves key (ending (model.Update key batch) (renewed shape desk (Update key batch) (Ok left)).1) (settled_quiet shape desk (Update key batch) left (model.Update key batch)) had
-  renewed_leaves key batch near had (Err fault) is = state_same shape log (entry 0 (model.Update key batch) (applied_reply (Err fault))) near
-      ∙ ap (updated (bound_of shape) batch) had ∙ ap (λ (r : Result (List Row) ApplyFault). states.Rows number (rows_or r rows)) is
+  renewed_leaves : (key : ℕ) (batch : List Delta) → key < shape.keys
+      → state_of (map_after shape log) key ≡ states.Rows number rows → (left : Result (List Row) ApplyFault)
+      → applied (bound_of shape) rows batch ≡ left
+      → state_of
+      (map_after shape (log ++ ending (model.Update key batch) (renewed shape desk (Update key batch) left).1)) key
+      ≡ states.Rows number rows
+  renewed_leaves key batch near had (Ok left) is =
+      quiet_leaves key (ending (model.Update key batch) (renewed shape desk (Update key batch) (Ok left)).1)
+      (settled_quiet shape desk (Update key batch) left (model.Update key batch)) had
+  renewed_leaves key batch near had (Err fault) is =
+      state_same shape log (entry 0 (model.Update key batch) (applied_reply (Err fault))) near
+      ∙ ap (updated (bound_of shape) batch) had
+      ∙ ap (λ (r : Result (List Row) ApplyFault). states.Rows number (rows_or r rows)) is
 
-  decided_leaves : (call : WriterCall) → key_of call < shape.keys → state_of (map_after shape log) (key_of call) ≡ states.Rows number rows
-      → state_of (map_after shape (log ++ ending (call_of call) (decided shape desk call rows).1)) (key_of call) ≡ states.Rows number rows
+  decided_leaves : (call : WriterCall) → key_of call < shape.keys
+      → state_of (map_after shape log) (key_of call) ≡ states.Rows number rows
+      → state_of (map_after shape (log ++ ending (call_of call) (decided shape desk call rows).1)) (key_of call)
+      ≡ states.Rows number rows
   decided_leaves (Find key) near had = state_same shape log (entry 0 (model.Find key) (reply.Rows rows)) near ∙ had
   decided_leaves (Fill key given new) near had = quiet_leaves key [] refl had
-  decided_leaves (Update key batch) near had = renewed_leaves key batch near had (applied (bound_of shape) rows batch) refl
+  decided_leaves (Update key batch) near had =
+      renewed_leaves key batch near had (applied (bound_of shape) rows batch) refl
   decided_leaves (Replace key new) near had = quiet_leaves key [] refl had
   decided_leaves (Evict key) near had = quiet_leaves key [] refl had
   decided_leaves (Cancel key) near had = quiet_leaves key [] refl had
@@ -79,39 +103,60 @@ module _ (table : Table) (call : WriterCall) (begin : ℕ) (before : MapSeat) wh
   desk = desk_of before.me.0.role
 
   -- some words are left to be read
-  reads_more : (slot : ℕ) (rows : List Row) (words : ℕ) → 0 < words → words ≤ 2 * length rows → reads_on table desk call slot rows words ≡ (moved_to desk (Reading call slot (take words (encode rows))), Going)
+  reads_more : (slot : ℕ) (rows : List Row) (words : ℕ) → 0 < words → words ≤ 2 * length rows
+      → reads_on table desk call slot rows words ≡ (moved_to desk (Reading call slot (take words (encode rows))), Going)
   reads_more slot rows words some more = let got = take words (encode rows) in
       let size : length got ≡ words = length-take-le words (encode rows) (omega (arith, length-encode rows)) in
       let count : get_or got 0 0 ≡ length rows = get_or-take words (encode rows) 0 0 some in
-      ap (λ (b : Bool). cond {A = Desk × Step} b (decoded table.shape desk call (decode got)) (moved_to desk (Reading call slot got), Going)) (ne_eqb (length got) (2 * get_or got 0 0 + 1) (λ e. absurd (omega arith)))
+      ap
+      (λ (b : Bool). cond {A = Desk × Step} b (decoded table.shape desk call (decode got))
+      (moved_to desk (Reading call slot got), Going))
+      (ne_eqb (length got) (2 * get_or got 0 0 + 1) (λ e. absurd (omega arith)))
 
   -- all are read
-  reads_last : (slot : ℕ) (rows : List Row) → IsRowSet (bound_of table.shape) rows → reads_on table desk call slot rows (2 * length rows + 1) ≡ decided table.shape desk call rows
+  reads_last : (slot : ℕ) (rows : List Row) → IsRowSet (bound_of table.shape) rows
+      → reads_on table desk call slot rows (2 * length rows + 1) ≡ decided table.shape desk call rows
   reads_last slot rows row_set = let all = encode rows in
-      let whole : take (2 * length rows + 1) all ≡ all = take_all (2 * length rows + 1) all (omega (arith, length-encode rows)) in
-      ap (λ (got : List ℕ). cond {A = Desk × Step} (nat_eq (length got) (2 * get_or got 0 0 + 1)) (decoded table.shape desk call (decode got)) (moved_to desk (Reading call slot got), Going)) whole
-      ∙ ap (λ (b : Bool). cond {A = Desk × Step} b (decoded table.shape desk call (decode all)) (moved_to desk (Reading call slot all), Going)) (eq-eqb (length all) (2 * length rows + 1) (length-encode rows))
+      let whole : take (2 * length rows + 1) all ≡ all
+      = take_all (2 * length rows + 1) all (omega (arith, length-encode rows)) in
+      ap
+      (λ (got : List ℕ). cond {A = Desk × Step} (nat_eq (length got) (2 * get_or got 0 0 + 1))
+      (decoded table.shape desk call (decode got)) (moved_to desk (Reading call slot got), Going))
+      whole
+      ∙ ap
+      (λ (b : Bool). cond {A = Desk × Step} b (decoded table.shape desk call (decode all))
+      (moved_to desk (Reading call slot all), Going))
+      (eq-eqb (length all) (2 * length rows + 1) (length-encode rows))
       ∙ ap (decoded table.shape desk call) (set_back (bound_of table.shape) rows row_set)
 
   -- the key has the set still
-  still_named : (slot : ℕ) (rows : List Row) (words : ℕ) (after : MapSeat) → IsRowSet (bound_of table.shape) rows → key_of call < table.shape.keys
-      → 0 < words → words ≤ 2 * length rows + 1 → (had : KeyHas table call rows (reads_on table desk call slot rows words).1 after)
+  still_named : (slot : ℕ) (rows : List Row) (words : ℕ) (after : MapSeat) → IsRowSet (bound_of table.shape) rows
+      → key_of call < table.shape.keys
+      → 0 < words → words ≤ 2 * length rows + 1
+      → (had : KeyHas table call rows (reads_on table desk call slot rows words).1 after)
       → state_of (map_after table.shape after.me.0.seen) (key_of call) ≡ states.Rows had.number rows
   still_named slot rows words after row_set near some few had =
       ap (λ (l : List Entry). state_of (map_after table.shape l) (key_of call)) had.seen
       ∙ dite (ℕ_discrete words (2 * length rows + 1))
-      (λ all. ap (λ (o : Desk × Step). state_of (map_after table.shape (had.log ++ ending (call_of call) o.1)) (key_of call))
-      (ap (reads_on table desk call slot rows) all ∙ reads_last slot rows row_set) ∙ decided_leaves table.shape desk had.number rows had.log call
+      (λ all. ap
+      (λ (o : Desk × Step). state_of (map_after table.shape (had.log ++ ending (call_of call) o.1)) (key_of call))
+      (ap (reads_on table desk call slot rows) all ∙ reads_last slot rows row_set)
+      ∙ decided_leaves table.shape desk had.number rows had.log call
       near had.state)
-      (λ some_left. quiet_leaves table.shape desk had.number rows had.log (key_of call) _ (ap (λ (o : Desk × Step). ending (call_of call) o.1) (reads_more slot rows words some (omega arith))) had.state)
+      (λ some_left. quiet_leaves table.shape desk had.number rows had.log (key_of call) _
+      (ap (λ (o : Desk × Step). ending (call_of call) o.1) (reads_more slot rows words some (omega arith)))
+      had.state)
 
   -- what was read says how far the writer is
-  read_so : (slot : ℕ) (rows : List Row) (words : ℕ) (after : MapSeat) → begin ≡ content table.shape slot 0 → IsRowSet (bound_of table.shape) rows → key_of call < table.shape.keys → 0 < words → words ≤ 2 * length rows + 1
+  read_so : (slot : ℕ) (rows : List Row) (words : ℕ) (after : MapSeat) → begin ≡ content table.shape slot 0
+      → IsRowSet (bound_of table.shape) rows → key_of call < table.shape.keys → 0 < words → words ≤ 2 * length rows + 1
       → LeadsIn words table (call_of call) (reads_on table desk call slot rows words) before after
-      → KeyHas table call rows (reads_on table desk call slot rows words).1 after → after.me.0.marks ≡ before.me.0.marks → after.me.0.heard ≡ before.me.0.heard
+      → KeyHas table call rows (reads_on table desk call slot rows words).1 after → after.me.0.marks ≡ before.me.0.marks
+      → after.me.0.heard ≡ before.me.0.heard
       → (rows_named table call after ≡ rows) × ReadTo table call begin before after words
   read_so slot rows words after begin_is row_set near some few leads had marks heard =
-      let named : rows_named table call after ≡ rows = ap rows_of_state (still_named slot rows words after row_set near some few had) in (
+      let named : rows_named table call after ≡ rows
+      = ap rows_of_state (still_named slot rows words after row_set near some few had) in (
         named,
         record {
           near = near;
@@ -120,8 +165,14 @@ module _ (table : Table) (call : WriterCall) (begin : ℕ) (before : MapSeat) wh
           row_set = subst (IsRowSet (bound_of table.shape)) (sym named) row_set;
           positive = some;
           few = omega (arith, few, ap length named);
-          leads = subst (λ (l : List Row). LeadsIn words table (call_of call) (reads_on table desk call slot l words) before after) (sym named) leads;
-          had = subst (λ (l : List Row). KeyHas table call l (reads_on table desk call slot l words).1 after) (sym named) had;
+          leads =
+              subst
+              (λ (l : List Row). LeadsIn words table (call_of call) (reads_on table desk call slot l words) before
+              after)
+              (sym named) leads;
+          had =
+              subst (λ (l : List Row). KeyHas table call l (reads_on table desk call slot l words).1 after) (sym named)
+              had;
           marks = marks;
           heard = heard;
         },
@@ -131,13 +182,25 @@ module _ (table : Table) (call : WriterCall) (begin : ℕ) (before : MapSeat) wh
   read_first : (slot found : ℕ) (after : MapSeat) → begin ≡ content table.shape slot 0 → key_of call < table.shape.keys
       → WritesAt table (moved_to desk (Reading call slot [])) before → GoesOn table found before after
       → (found ≡ length (rows_named table call after)) × ReadTo table call begin before after 1
-  read_first slot found after begin_is near writes goes = let told = goes (moved_to desk (Reading call slot [])) writes.role in let on = told.finds in
+  read_first slot found after begin_is near writes goes =
+      let told = goes (moved_to desk (Reading call slot [])) writes.role in
+      let on = told.finds in
       let so = read_so slot on.0 1 after begin_is on.1 near (omega arith) (omega arith)
-      (subst (λ (got : List ℕ). LeadsIn 1 table (call_of call) (read_on table.shape desk call slot got) before after) on.2 told.leads)
-      (record { log = told.log; seen = told.seen ∙ ap (λ (got : List ℕ). told.log ++ ending (call_of call) (read_on table.shape desk call slot got).1) on.2; number = on.4; state = on.5 }) told.marks.0 told.heard in
+      (subst (λ (got : List ℕ). LeadsIn 1 table (call_of call) (read_on table.shape desk call slot got) before after)
+      on.2 told.leads)
+      (record {
+        log = told.log;
+        seen = told.seen
+            ∙ ap (λ (got : List ℕ). told.log ++ ending (call_of call) (read_on table.shape desk call slot got).1)
+            on.2;
+        number = on.4;
+        state = on.5;
+      })
+      told.marks.0 told.heard in
       (ap (λ (l : List ℕ). get_or l 0 0) on.2 ∙ ap length (sym so.0), so.1)
 
-  module _ (mid : MapSeat) (words : ℕ) (so_far : ReadTo table call begin before mid words) (left : words < 2 * length (rows_named table call mid) + 1) where
+  module _ (mid : MapSeat) (words : ℕ) (so_far : ReadTo table call begin before mid words)
+      (left : words < 2 * length (rows_named table call mid) + 1) where
     abbrev rows : List Row
     rows = rows_named table call mid
 
@@ -148,27 +211,59 @@ module _ (table : Table) (call : WriterCall) (begin : ℕ) (before : MapSeat) wh
     length-got = length-take-le words (encode rows) (omega (arith, left, length-encode rows))
 
     leads_here : LeadsIn words table (call_of call) (moved_to desk (Reading call so_far.slot got), Going) before mid
-    leads_here = subst (λ (o : Desk × Step). LeadsIn words table (call_of call) o before mid) (reads_more so_far.slot rows words so_far.positive (omega (arith, left))) so_far.leads
+    leads_here =
+        subst (λ (o : Desk × Step). LeadsIn words table (call_of call) o before mid)
+        (reads_more so_far.slot rows words so_far.positive (omega (arith, left))) so_far.leads
 
     -- the writer can read the next word
     pub reading_next : IsReading table begin words mid
-    reading_next = record { desk = moved_to desk (Reading call so_far.slot got); writes = leads_here.writes; call = call; slot = so_far.slot; got = got; place = refl; begin_is = so_far.begin_is; index_is = sym length-got }
+    reading_next =
+        record {
+          desk = moved_to desk (Reading call so_far.slot got);
+          writes = leads_here.writes;
+          call = call;
+          slot = so_far.slot;
+          got = got;
+          place = refl;
+          begin_is = so_far.begin_is;
+          index_is = sym length-got;
+        }
 
     -- it finds the next word of the key's set, which is the same still
-    pub read_next : (found : ℕ) (after : MapSeat) → GoesOn table found mid after → (rows_named table call after ≡ rows) × (found ≡ get_or (encode rows) words 0) × ReadTo table call begin before after (words + 1)
-    read_next found after goes = let told = goes (moved_to desk (Reading call so_far.slot got)) leads_here.writes.role in let on = told.finds in
+    pub read_next : (found : ℕ) (after : MapSeat) → GoesOn table found mid after
+        → (rows_named table call after ≡ rows) × (found ≡ get_or (encode rows) words 0)
+        × ReadTo table call begin before after (words + 1)
+    read_next found after goes =
+        let told = goes (moved_to desk (Reading call so_far.slot got)) leads_here.writes.role in
+        let on = told.finds in
         let then = told.leads.grows in let e = ending (call_of call)
         (went table.shape (moved_to desk (Reading call so_far.slot got)) (Reading call so_far.slot got) found).1 in
         let own_table = ap (λ (t : Table). t.shape) leads_here.writes.own in
-        let had = still_named so_far.slot rows words mid so_far.row_set so_far.near so_far.positive so_far.few so_far.had in
-        let log_is : told.log ≡ mid.me.0.seen ++ then.between = append_cancel_right told.log (mid.me.0.seen ++ then.between) e (sym told.seen ∙ then.seen) in
-        let had_then : state_of (map_after table.shape told.log) (key_of call) ≡ states.Rows so_far.had.number rows = ap (λ (l : List Entry). state_of (map_after table.shape l) (key_of call)) log_is
-        ∙ stays_between table.shape (key_of call) so_far.had.number rows (token mid) (token after) 1 e own_table so_far.near (ap caller_number leads_here.writes.role) leads_here.grows.own (ending_own (call_of call) _) then had in
+        let had
+        = still_named so_far.slot rows words mid so_far.row_set so_far.near so_far.positive so_far.few so_far.had in
+        let log_is : told.log ≡ mid.me.0.seen ++ then.between
+        = append_cancel_right told.log (mid.me.0.seen ++ then.between) e (sym told.seen ∙ then.seen) in
+        let had_then : state_of (map_after table.shape told.log) (key_of call) ≡ states.Rows so_far.had.number rows
+        = ap (λ (l : List Entry). state_of (map_after table.shape l) (key_of call)) log_is
+        ∙ stays_between table.shape (key_of call) so_far.had.number rows (token mid) (token after) 1 e own_table
+        so_far.near (ap caller_number leads_here.writes.role) leads_here.grows.own (ending_own (call_of call) _)
+        then had in
         let same : on.0 ≡ rows = ap rows_of_state (sym on.5 ∙ had_then) in
-        let words_are : got ++ found ∷ [] ≡ take (words + 1) (encode rows) = on.2 ∙ (λ j. take (length-got j + 1) (encode (same j))) in
-        let so = read_so so_far.slot rows (words + 1) after so_far.begin_is so_far.row_set so_far.near (omega arith) (omega (arith, left))
-        (let leads = subst (λ (l : List ℕ). LeadsIn 1 table (call_of call) (read_on table.shape desk call so_far.slot l) mid after) words_are told.leads in
-        record { writes = leads.writes; grows = grows_both words 1 (words + 1) (token before) (token mid) _ (token after) refl leads_here.grows leads.grows; short = leads.short })
+        let words_are : got ++ found ∷ [] ≡ take (words + 1) (encode rows)
+        = on.2 ∙ (λ j. take (length-got j + 1) (encode (same j))) in
+        let so
+        = read_so so_far.slot rows (words + 1) after so_far.begin_is so_far.row_set so_far.near (omega arith)
+        (omega (arith, left))
+        (let leads
+        = subst
+        (λ (l : List ℕ). LeadsIn 1 table (call_of call) (read_on table.shape desk call so_far.slot l) mid after)
+        words_are told.leads in
+        record {
+          writes = leads.writes;
+          grows = grows_both words 1 (words + 1) (token before) (token mid) _ (token after) refl leads_here.grows
+              leads.grows;
+          short = leads.short;
+        })
         (record {
           log = told.log;
           seen = told.seen ∙ ap (λ (l : List ℕ). told.log ++ ending (call_of call)
@@ -181,27 +276,38 @@ module _ (table : Table) (call : WriterCall) (begin : ℕ) (before : MapSeat) wh
       where
         word_is : got ++ found ∷ [] ≡ take (words + 1) (encode rows) → found ≡ get_or (encode rows) words 0
         word_is is = let none : words - words ≡ 0 = omega arith in
-            sym (get_or-append_right got (found ∷ []) words words 0 length-got (omega arith) ∙ ap (λ (n : ℕ). get_or (found ∷ []) n 0) none)
+            sym
+            (get_or-append_right got (found ∷ []) words words 0 length-got (omega arith)
+            ∙ ap (λ (n : ℕ). get_or (found ∷ []) n 0) none)
             ∙ ap (λ (l : List ℕ). get_or l words 0) is ∙ get_or-take (words + 1) (encode rows) words 0 (omega arith)
 
   -- two words are a row
-  module _ (mid half : MapSeat) (place first : ℕ) (so_far : ReadTo table call begin before mid (2 * place + 1)) (more : place < length (rows_named table call mid)) (goes : GoesOn table first mid half) where
+  module _ (mid half : MapSeat) (place first : ℕ) (so_far : ReadTo table call begin before mid (2 * place + 1))
+      (more : place < length (rows_named table call mid)) (goes : GoesOn table first mid half) where
     left_two : 2 * place + 1 < 2 * length (rows_named table call mid) + 1
     left_two = omega (arith, more)
 
     left_one : 2 * place + 1 + 1 < 2 * length (rows_named table call half) + 1
-    left_one = let same = ap length (read_next mid (2 * place + 1) so_far left_two first half goes).0 in omega (arith, more, same)
+    left_one =
+        let same = ap length (read_next mid (2 * place + 1) so_far left_two first half goes).0 in
+        omega (arith, more, same)
 
     pub reading_second : IsReading table begin (2 * place + 1 + 1) half
-    reading_second = reading_next half (2 * place + 1 + 1) (read_next mid (2 * place + 1) so_far left_two first half goes).2 left_one
+    reading_second =
+        reading_next half (2 * place + 1 + 1) (read_next mid (2 * place + 1) so_far left_two first half goes).2 left_one
 
     pub read_row : (second : ℕ) (after : MapSeat) → GoesOn table second half after
-        → (rows_named table call after ≡ rows_named table call mid) × (slice_get (rows_named table call mid) place ≡ Some (record { a = first; b = second })) × ReadTo table call begin before after (2 * (place + 1) + 1)
+        → (rows_named table call after ≡ rows_named table call mid)
+        × (slice_get (rows_named table call mid) place ≡ Some (record { a = first; b = second }))
+        × ReadTo table call begin before after (2 * (place + 1) + 1)
     read_row second after goes_on =
-        let one = read_next mid (2 * place + 1) so_far left_two first half goes in let two = read_next half (2 * place + 1 + 1) one.2 left_one second after goes_on in
-        let second_is : second ≡ get_or (encode (rows_named table call mid)) (2 * place + 2) 0 = two.1 ∙ (λ j. get_or (encode (one.0 j)) (next j) 0) in (
+        let one = read_next mid (2 * place + 1) so_far left_two first half goes in
+        let two = read_next half (2 * place + 1 + 1) one.2 left_one second after goes_on in
+        let second_is : second ≡ get_or (encode (rows_named table call mid)) (2 * place + 2) 0
+        = two.1 ∙ (λ j. get_or (encode (one.0 j)) (next j) 0) in (
           two.0 ∙ one.0,
-          encoded_row (rows_named table call mid) place more ∙ (λ j. Some (record { a = sym one.1 j; b = sym second_is j })),
+          encoded_row (rows_named table call mid) place more
+              ∙ (λ j. Some (record { a = sym one.1 j; b = sym second_is j })),
           subst (ReadTo table call begin before after) all two.2,
         )
       where
@@ -212,20 +318,33 @@ module _ (table : Table) (call : WriterCall) (begin : ℕ) (before : MapSeat) wh
         all = omega arith
 
   -- after the last word the call has its set, to whomever the rows were given
-  pub reads_all : (mid last other_before : MapSeat) (other : Table) (count : ℕ) (rows : List Row) → count ≡ length (rows_named table call mid)
-      → rows ≡ rows_named table call mid → rows_named other call last ≡ rows_named table call mid → other ≡ table → other_before ≡ before
+  pub reads_all : (mid last other_before : MapSeat) (other : Table) (count : ℕ) (rows : List Row)
+      → count ≡ length (rows_named table call mid)
+      → rows ≡ rows_named table call mid → rows_named other call last ≡ rows_named table call mid → other ≡ table
+      → other_before ≡ before
       → ReadTo other call begin other_before last (2 * count + 1)
       → ReadsAll table call rows before last
   reads_all mid last other_before other count rows size rows_are same own begun read =
-      let all = subst (λ (p : Table × MapSeat). ReadTo p.0 call begin p.1 last (2 * count + 1)) (λ j. (own j, begun j)) read in
-      let named : rows_named table call last ≡ rows = ap (λ (t : Table). rows_named t call last) (sym own) ∙ same ∙ sym rows_are in
+      let all
+      = subst (λ (p : Table × MapSeat). ReadTo p.0 call begin p.1 last (2 * count + 1)) (λ j. (own j, begun j))
+      read in
+      let named : rows_named table call last ≡ rows
+      = ap (λ (t : Table). rows_named t call last) (sym own) ∙ same ∙ sym rows_are in
       let row_set : IsRowSet (bound_of table.shape) rows = subst (IsRowSet (bound_of table.shape)) named all.row_set in
       let length_is : count ≡ length rows = size ∙ ap length (sym rows_are) in
-      let outcome : reads_on table desk call all.slot (rows_named table call last) (2 * count + 1) ≡ decided table.shape desk call
-      rows = (λ j. reads_on table desk call all.slot (named j) (2 * (length_is j) + 1)) ∙ reads_last all.slot rows row_set in record {
+      let outcome : reads_on table desk call all.slot (rows_named table call last) (2 * count + 1)
+      ≡ decided table.shape desk call
+      rows =
+      (λ j. reads_on table desk call all.slot (named j) (2 * (length_is j) + 1))
+      ∙ reads_last all.slot rows row_set in
+      record {
         row_set = row_set;
-        leads = subst (λ (p : ℕ × (Desk × Step)). LeadsIn (2 * p.0 + 1) table (call_of call) p.1 before last) (λ j. (length_is j, outcome j)) all.leads;
-        had = subst (λ (p : List Row × (Desk × Step)). KeyHas table call p.0 p.1.1 last) (λ j. (named j, outcome j)) all.had;
+        leads =
+            subst (λ (p : ℕ × (Desk × Step)). LeadsIn (2 * p.0 + 1) table (call_of call) p.1 before last)
+            (λ j. (length_is j, outcome j)) all.leads;
+        had =
+            subst (λ (p : List Row × (Desk × Step)). KeyHas table call p.0 p.1.1 last) (λ j. (named j, outcome j))
+            all.had;
         marks = all.marks;
         heard = all.heard;
       }
@@ -233,7 +352,9 @@ module _ (table : Table) (call : WriterCall) (begin : ℕ) (before : MapSeat) wh
 -- a read-through begins at the map's own table
 pub begins : (table board : Table) (call : WriterCall) (begin slot found : ℕ) (before after : MapSeat) → board ≡ table
     → begin ≡ content board.shape slot 0 → key_of call < table.shape.keys
-    → WritesAt table (moved_to (desk_of before.me.0.role) (Reading call slot [])) before → GoesOn board found before after
+    → WritesAt table (moved_to (desk_of before.me.0.role) (Reading call slot [])) before
+    → GoesOn board found before after
     → (found ≡ length (rows_named table call after)) × ReadTo table call begin before after 1
 begins table board call begin slot found before after own begin_is near writes goes =
-    read_first table call begin before slot found after (begin_is ∙ ap (λ (t : Table). content t.shape slot 0) own) near writes (subst (λ (t : Table). GoesOn t found before after) own goes)
+    read_first table call begin before slot found after (begin_is ∙ ap (λ (t : Table). content t.shape slot 0) own) near
+    writes (subst (λ (t : Table). GoesOn t found before after) own goes)

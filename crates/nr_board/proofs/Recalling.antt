@@ -21,32 +21,60 @@ use Rattle.nr_board.specs.Rule.{Fits, Kept, marks_of, role_of}
 use Rattle.nr_board.specs.Views.{View}
 use Rattle.nr_board.specs.WriterSeats.{MapSeat}
 
-pub recalls_so : (shape : Shape) (slots id : ℕ) (me : Me (Unit {0}) View) (place : ℕ) → Allows (Kept shape) slots id me place (λ word. word) (has_recalled (step slots place 0 0 none) me)
+pub recalls_so : (shape : Shape) (slots id : ℕ) (me : Me (Unit {0}) View) (place : ℕ)
+    → Allows (Kept shape) slots id me place (λ word. word) (has_recalled (step slots place 0 0 none) me)
 recalls_so shape slots id me place state kept homes at bounded =
     let view = me.0 in let next = has_noted view in let fits = kept.fits id view at in
-    let own : Fits shape kept.log next = record { begins = fits.begins; told = fits.told; own = fits.own; knows_own = fits.knows_own; acts = fits.acts; sized = fits.sized } in
-    let rests = replaced shape state id view next kept at refl (inl refl) refl (heard_same state.views id view next at refl refl (λ _. (refl, refl)) kept.hears) (kept.told_of id view at) own (kept.maker id view at) (kept.pasts id view at) (kept.told_pasts id view at) in
+    let own : Fits shape kept.log next
+    = record {
+      begins = fits.begins;
+      told = fits.told;
+      own = fits.own;
+      knows_own = fits.knows_own;
+      acts = fits.acts;
+      sized = fits.sized;
+    } in
+    let rests
+    = replaced shape state id view next kept at refl (inl refl) refl
+    (heard_same state.views id view next at refl refl (λ _. (refl, refl)) kept.hears) (kept.told_of id view at)
+    own (kept.maker id view at) (kept.pasts id view at) (kept.told_pasts id view at) in
     let found : ℕ = get_or state.words place 0 in (
       next,
       keeps,
       tt,
-      subst (λ (words : List ℕ). Kept shape (record { words = words; homes = state.homes; views = set state.views id next })) (sym (set-get_or state.words place 0)) rests,
+      subst
+          (λ (words : List ℕ). Kept shape
+          (record { words = words; homes = state.homes; views = set state.views id next }))
+          (sym (set-get_or state.words place 0)) rests,
       record {
         step = refl;
         finds = λ desk slot index is near untouched there.
-            let mine = subst (λ (r : Role). KnowsMarks role_of marks_of shape kept.counted state.views kept.log r view.marks) is (kept.marked.each id view at) in
-            let size : view.shape ≡ shape = fits.sized (let one : is_writer view.role ≡ 1 = ap is_writer is in omega arith) in
-            subst (λ (s : Shape). slot < s.slots → place ≡ content s slot index → IsWordOf (bound_of s) (set_in view.marks slot) index found) (sym size)
+            let mine
+            = subst (λ (r : Role). KnowsMarks role_of marks_of shape kept.counted state.views kept.log r view.marks)
+            is (kept.marked.each id view at) in
+            let size : view.shape ≡ shape
+            = fits.sized (let one : is_writer view.role ≡ 1 = ap is_writer is in omega arith) in
+            subst
+            (λ (s : Shape). slot < s.slots → place ≡ content s slot index
+            → IsWordOf (bound_of s) (set_in view.marks slot) index found)
+            (sym size)
             (λ low place_is. let spelled = mine.sets slot low untouched in (
               spelled.0,
-              λ short. let room : index < slot_room shape = omega (arith, short, length-encode (set_in view.marks slot), spelled.0.1) in
-                  ap (λ (p : ℕ). get_or state.words p 0) place_is ∙ sym (kept.counts_words.same (content shape slot index) (content_inside shape slot index low room) (content_no_count shape slot index room)) ∙ spelled.1 index short,
+              λ short.
+                  let room : index < slot_room shape
+                  = omega (arith, short, length-encode (set_in view.marks slot), spelled.0.1) in
+                  ap (λ (p : ℕ). get_or state.words p 0) place_is
+                  ∙ sym
+                  (kept.counts_words.same (content shape slot index) (content_inside shape slot index low room)
+                  (content_no_count shape slot index room))
+                  ∙ spelled.1 index short,
             )) near there;
       },
     )
 
 -- the seat can recall the slot after steps that tell it nothing
-pub recalls_later : (table : Table) (slot : ℕ) (before after : MapSeat) (steps : ℕ) → after.table_id ≡ before.table_id → after.me.0 ≡ waited steps before.me.0 → RecallsAt table slot before → RecallsAt table slot after
+pub recalls_later : (table : Table) (slot : ℕ) (before after : MapSeat) (steps : ℕ) → after.table_id ≡ before.table_id
+    → after.me.0 ≡ waited steps before.me.0 → RecallsAt table slot before → RecallsAt table slot after
 recalls_later table slot before after steps same waits at = record {
   own = (λ j. record { id = same j; shape = (waits j).shape; announcers = (waits j).announcers }) ∙ at.own;
   desk = at.desk;
@@ -55,7 +83,8 @@ recalls_later table slot before after steps same waits at = record {
   untouched = at.untouched;
 }
 
-pub rows_later : (table : Table) (slot : ℕ) (before after : MapSeat) (steps : ℕ) → after.table_id ≡ before.table_id → after.me.0 ≡ waited steps before.me.0 → RecallsRows table slot before → RecallsRows table slot after
+pub rows_later : (table : Table) (slot : ℕ) (before after : MapSeat) (steps : ℕ) → after.table_id ≡ before.table_id
+    → after.me.0 ≡ waited steps before.me.0 → RecallsRows table slot before → RecallsRows table slot after
 rows_later table slot before after steps same waits ready = record {
   at = recalls_later table slot before after steps same waits ready.at;
   row_set = subst (λ (v : View). IsRowSet (bound_of table.shape) (set_in v.marks slot)) (sym waits) ready.row_set;

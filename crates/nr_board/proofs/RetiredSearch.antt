@@ -1,5 +1,7 @@
 -- The two passes of a search and the scan between them, put together.
-use Rattle.std.proofs.Common.{◌≡◌, ℕ, suc, ◌+◌, ◌<◌, ◌≤◌, ⊎_elim, inl, inr, List, [], ◌∷◌, ◌++◌, Bool, true, cond, ne_eqb, get_or, append_assoc, length, length-append, take, take_all, refl, sym, ap, ◌∙◌, subst, arith}
+use Rattle.std.proofs.Common.{◌≡◌, ℕ, suc, ◌+◌, ◌<◌, ◌≤◌, ⊎_elim, inl, inr, List, [], ◌∷◌, ◌++◌, Bool, true, cond}
+use Rattle.std.proofs.Common.{ne_eqb, get_or, append_assoc, length, length-append, take, take_all, refl, sym, ap, ◌∙◌}
+use Rattle.std.proofs.Common.{subst, arith}
 use mathlib.Core.Option.{some-ne-none}
 use lib.ListN.{get_elem?}
 use Rattle.nr_core.proofs.Choices.{by_cases}
@@ -40,22 +42,27 @@ use Rattle.nr_board.specs.WholeScans.{KeepBack, ScannedTo, is_unheard, misses}
 use Rattle.nr_board.specs.WriterSeats.{MapSeat}
 
 -- no notes, before the first pass
-pub no_notes : (retired : List Retired) (flags : List Bool) (readers : ℕ) (notes : List Past) → notes ≡ [] → NotesTo retired flags readers 0 (length notes) notes
+pub no_notes : (retired : List Retired) (flags : List Bool) (readers : ℕ) (notes : List Past) → notes ≡ []
+    → NotesTo retired flags readers 0 (length notes) notes
 no_notes retired flags readers notes none = record {
   many = omega arith;
   each = λ at note there. absurd (some-ne-none note (sym there ∙ ap (λ (l : List Past). get_elem? l at) none));
-  apart = λ reader. let empty = ap (λ (l : List Past). total (λ (n : Past). only reader n.reader) l) none in omega arith;
+  apart = λ reader.
+      let empty = ap (λ (l : List Past). total (λ (n : Past). only reader n.reader) l) none in omega arith;
 }
 
 -- what a caller knows stays sound as it grows
-pub sound_on : (steps : ℕ) (table : Table) (old new : MapSeat) → Grows steps [] (token old) (token new) → IsSound (token new)
+pub sound_on : (steps : ℕ) (table : Table) (old new : MapSeat) → Grows steps [] (token old) (token new)
+    → IsSound (token new)
 sound_on steps table old new grows = record {
   legal = subst (λ (t : Table). IsLegal (map_at_opening t) (token new).seen) (sym grows.table) grows.legal;
   own = grows.own;
   callers = subst (λ (t : Table). AreCallers t.shape (token new).seen) (sym grows.table) grows.callers;
 }
 
-module _ (table : Table) (spare : Spare) (flags : List Bool) (before now : MapSeat) (same : now.table_id ≡ before.table_id) (sized : (token before).table ≡ table) (some_words : 0 < table.announcers) (scanned : ScannedTo spare.retired before.me.0 now.me.0 flags table.announcers) where
+module _ (table : Table) (spare : Spare) (flags : List Bool) (before now : MapSeat)
+    (same : now.table_id ≡ before.table_id) (sized : (token before).table ≡ table) (some_words : 0 < table.announcers)
+    (scanned : ScannedTo spare.retired before.me.0 now.me.0 flags table.announcers) where
   -- the scan adds nothing
   pub scan_rests : Rests table.announcers (token before) (token now)
   scan_rests = record {
@@ -68,19 +75,24 @@ module _ (table : Table) (spare : Spare) (flags : List Bool) (before now : MapSe
   }
 
   base_is : scan_base table.announcers now.me.0.marks.polls ≡ now.me.0.marks.polls
-  base_is = ap (λ (b : Bool). cond {A = List Past} b [] now.me.0.marks.polls) (ne_eqb table.announcers 0 (λ e. omega arith))
+  base_is =
+      ap (λ (b : Bool). cond {A = List Past} b [] now.me.0.marks.polls) (ne_eqb table.announcers 0 (λ e. omega arith))
 
   keep : KeepBack spare.retired flags table.announcers now.me.0.marks.polls
   keep = subst (KeepBack spare.retired flags table.announcers) base_is scanned.keep
 
   -- its notes are those that the second pass begins with
-  pub scan_notes : table.announcers ≤ table.shape.readers → NotesTo spare.retired flags table.shape.readers 0 (length now.me.0.marks.polls) now.me.0.marks.polls
+  pub scan_notes : table.announcers ≤ table.shape.readers
+      → NotesTo spare.retired flags table.shape.readers 0 (length now.me.0.marks.polls) now.me.0.marks.polls
   scan_notes few = record {
     many = omega arith;
     each = λ at note there. let one = keep.each at note there in record {
       made = one.made;
       few = let low = one.few in omega arith;
-      holds = ⊎_elim inl (λ (h : (slot : ℕ) × (note.slot ≡ Some slot) × (is_unheard flags slot ≡ true)). inr (h.0, h.1, inl h.2)) one.holds;
+      holds =
+          ⊎_elim inl
+          (λ (h : (slot : ℕ) × (note.slot ≡ Some slot) × (is_unheard flags slot ≡ true)). inr (h.0, h.1, inl h.2))
+          one.holds;
     };
     apart = keep.apart;
   }
@@ -89,27 +101,42 @@ module _ (table : Table) (spare : Spare) (flags : List Bool) (before now : MapSe
   scan_many = keep.many
 
 -- each retired slot has a flag or is polled
-pub all_of : (retired : List Retired) (flags : List Bool) → total (misses flags) retired + polls_before retired flags (length retired) ≡ length retired
+pub all_of : (retired : List Retired) (flags : List Bool)
+    → total (misses flags) retired + polls_before retired flags (length retired) ≡ length retired
 all_of retired flags = sum retired
   where
     sums : (l : List Retired) → total (misses flags) l + length (not_passed (is_unheard flags) l) ≡ length l
     sums [] = refl
     sums (entry ∷ l) = let rest = sums l in
-        by_cases (λ (b : Bool). cond {A = ℕ} b 1 0 + total (misses flags) l + length (cond {A = List Retired} b (not_passed (is_unheard flags) l) (entry ∷ not_passed (is_unheard flags) l)) ≡ suc (length l)) (is_unheard flags entry.slot)
+        by_cases
+        (λ (b : Bool). cond {A = ℕ} b 1 0 + total (misses flags) l
+        + length
+        (cond {A = List Retired} b (not_passed (is_unheard flags) l)
+        (entry ∷ not_passed (is_unheard flags) l))
+        ≡ suc (length l))
+        (is_unheard flags entry.slot)
         (λ _. omega arith) (λ _. omega arith)
 
-    sum : (l : List Retired) → total (misses flags) l + length (not_passed (is_unheard flags) (take (length l) l)) ≡ length l
-    sum l = ap (λ (m : List Retired). total (misses flags) l + length (not_passed (is_unheard flags) m)) (take_all (length l) l (omega arith)) ∙ sums l
+    sum : (l : List Retired)
+        → total (misses flags) l + length (not_passed (is_unheard flags) (take (length l) l)) ≡ length l
+    sum l =
+        ap (λ (m : List Retired). total (misses flags) l + length (not_passed (is_unheard flags) m))
+        (take_all (length l) l (omega arith))
+        ∙ sums l
 
 -- the polls of a pass that takes a slot
 abbrev taking_polls : List Retired → List Bool → ℕ → ℕ → List LoggedLoad
 taking_polls retired flags place slot = held_polls (unflagged retired flags place) ++ OfSlot slot true ∷ []
 
-taking_many : (retired : List Retired) (flags : List Bool) (place slot : ℕ) → length (taking_polls retired flags place slot) ≡ polls_before retired flags place + 1
-taking_many retired flags place slot = length-append (held_polls (unflagged retired flags place)) (OfSlot slot true ∷ []) ∙ ap (λ (n : ℕ). n + 1) (held_many (unflagged retired flags place))
+taking_many : (retired : List Retired) (flags : List Bool) (place slot : ℕ)
+    → length (taking_polls retired flags place slot) ≡ polls_before retired flags place + 1
+taking_many retired flags place slot =
+    length-append (held_polls (unflagged retired flags place)) (OfSlot slot true ∷ [])
+    ∙ ap (λ (n : ℕ). n + 1) (held_many (unflagged retired flags place))
 
 -- a pass takes a slot that was heard before
-pub takes_first : (table : Table) (spare after : Spare) (flags : List Bool) (before now : MapSeat) (taken : Taken) → Flagged table spare.retired before.me.0.heard flags → before.me.0.marks.polls ≡ []
+pub takes_first : (table : Table) (spare after : Spare) (flags : List Bool) (before now : MapSeat) (taken : Taken)
+    → Flagged table spare.retired before.me.0.heard flags → before.me.0.marks.polls ≡ []
     → PassTakes table flags before spare now after taken → SearchTakes table before spare now after taken
 takes_first table spare after flags before now taken flagged begins takes = record {
   place = takes.place;
@@ -120,41 +147,73 @@ takes_first table spare after flags before now taken flagged begins takes = reco
   writes = takes.writes;
   loads = taking_polls spare.retired flags takes.place takes.entry.slot;
   takes = (
-    let heard = flagged.whole takes.entry.slot takes.no_flag in subst (λ (p : List ℕ × ℕ). table.announcers ≤ get_or p.0 p.1 0) (λ j. (sym takes.heard j, sym takes.slot j)) heard,
-    inl (takes.heard, λ j. held_polls (polls_are table spare.retired before.me.0.heard flags flagged takes.place j) ++ OfSlot (sym takes.slot j) true ∷ []),
+    let heard = flagged.whole takes.entry.slot takes.no_flag in
+        subst (λ (p : List ℕ × ℕ). table.announcers ≤ get_or p.0 p.1 0) (λ j. (sym takes.heard j, sym takes.slot j))
+        heard,
+    inl (
+      takes.heard,
+      λ j. held_polls (polls_are table spare.retired before.me.0.heard flags flagged takes.place j)
+          ++ OfSlot (sym takes.slot j) true ∷ [],
+    ),
   );
-  grows = subst (λ (n : ℕ). Grows n [] (token before) (token now)) (sym (taking_many spare.retired flags takes.place takes.entry.slot)) takes.grows;
+  grows =
+      subst (λ (n : ℕ). Grows n [] (token before) (token now))
+      (sym (taking_many spare.retired flags takes.place takes.entry.slot)) takes.grows;
   few = let few = takes.few in let count = taking_many spare.retired flags takes.place takes.entry.slot in omega arith;
   marks = takes.marks;
 }
 
-module _ (table : Table) (spare : Spare) (flags scanned : List Bool) (before mid swept : MapSeat) (flagged : Flagged table spare.retired before.me.0.heard flags) (first : PassedTo table spare flags before mid (length spare.retired)) (begins : before.me.0.marks.polls ≡ [])
-    (same : swept.table_id ≡ mid.table_id) (sized : (token mid).table ≡ table) (few : table.announcers ≤ table.shape.readers) (some_words : 0 < table.announcers) (scan : ScannedTo spare.retired mid.me.0 swept.me.0 scanned table.announcers)
+module _ (table : Table) (spare : Spare) (flags scanned : List Bool) (before mid swept : MapSeat)
+    (flagged : Flagged table spare.retired before.me.0.heard flags)
+    (first : PassedTo table spare flags before mid (length spare.retired)) (begins : before.me.0.marks.polls ≡ [])
+    (same : swept.table_id ≡ mid.table_id) (sized : (token mid).table ≡ table)
+    (few : table.announcers ≤ table.shape.readers) (some_words : 0 < table.announcers)
+    (scan : ScannedTo spare.retired mid.me.0 swept.me.0 scanned table.announcers)
     (flagged_now : Flagged table spare.retired swept.me.0.heard scanned) where
   abbrev polls : ℕ
   polls = polls_before spare.retired flags (length spare.retired)
 
   up_to : Grows (polls + table.announcers) [] (token before) (token swept)
-  up_to = grows_rests polls table.announcers (polls + table.announcers) (token before) [] (token mid) (token swept) refl first.grows (scan_rests table spare scanned mid swept same sized some_words scan)
+  up_to =
+      grows_rests polls table.announcers (polls + table.announcers) (token before)
+      [] (token mid) (token swept) refl first.grows
+      (scan_rests table spare scanned mid swept same sized some_words scan)
 
   role_is : swept.me.0.role ≡ before.me.0.role
   role_is = ap (λ (v : View). v.role) scan.rest ∙ first.role
 
   polls_few : polls ≤ table.shape.readers
-  polls_few = let most = notes_few spare.retired flags table.shape.readers (length spare.retired) (length before.me.0.marks.polls) mid.me.0.marks.polls first.notes in omega arith
+  polls_few =
+      let most
+      = notes_few spare.retired flags table.shape.readers (length spare.retired) (length before.me.0.marks.polls)
+      mid.me.0.marks.polls first.notes in
+      omega arith
 
   abbrev first_polls : List LoggedLoad
   first_polls = held_polls (unflagged spare.retired flags (length spare.retired))
 
   first_are : first_polls ≡ held_polls (heard_all table.announcers before.me.0.heard spare.retired)
-  first_are = ap held_polls (polls_are table spare.retired before.me.0.heard flags flagged (length spare.retired) ∙ ap (heard_all table.announcers before.me.0.heard) (take_all (length spare.retired) spare.retired (omega arith)))
+  first_are =
+      ap held_polls
+      (polls_are table spare.retired before.me.0.heard flags flagged (length spare.retired)
+      ∙ ap (heard_all table.announcers before.me.0.heard)
+      (take_all (length spare.retired) spare.retired (omega arith)))
 
-  second_are : (now : MapSeat) (place : ℕ) → now.me.0.heard ≡ swept.me.0.heard → held_polls (unflagged spare.retired scanned place) ≡ held_polls (heard_all table.announcers now.me.0.heard (take place spare.retired))
-  second_are now place heard = ap held_polls (polls_are table spare.retired swept.me.0.heard scanned flagged_now place ∙ ap (λ (l : List ℕ). heard_all table.announcers l (take place spare.retired)) (sym heard))
+  second_are : (now : MapSeat) (place : ℕ) → now.me.0.heard ≡ swept.me.0.heard
+      → held_polls (unflagged spare.retired scanned place)
+      ≡ held_polls (heard_all table.announcers now.me.0.heard (take place spare.retired))
+  second_are now place heard =
+      ap held_polls
+      (polls_are table spare.retired swept.me.0.heard scanned flagged_now place
+      ∙ ap (λ (l : List ℕ). heard_all table.announcers l (take place spare.retired)) (sym heard))
 
   -- what the scan heard is what the words tell
-  words_are : (scan : List LoggedLoad) × WordsTell table.announcers spare.retired mid.me.0.shape.slots scan swept.me.0.heard × (swept.me.0.marks.loads ≡ mid.me.0.marks.loads ++ scan)
-  words_are = words_told table.announcers spare.retired mid.me.0.shape.slots mid.me.0.marks.loads swept.me.0.marks.loads swept.me.0.heard some_words scan.words
+  words_are : (scan : List LoggedLoad)
+      × WordsTell table.announcers spare.retired mid.me.0.shape.slots scan swept.me.0.heard
+      × (swept.me.0.marks.loads ≡ mid.me.0.marks.loads ++ scan)
+  words_are =
+      words_told table.announcers spare.retired mid.me.0.shape.slots mid.me.0.marks.loads swept.me.0.marks.loads
+      swept.me.0.heard some_words scan.words
 
   abbrev scan_loads : List LoggedLoad
   scan_loads = words_are.0
@@ -164,51 +223,91 @@ module _ (table : Table) (spare : Spare) (flags scanned : List Bool) (before mid
   all_loads more = first_polls ++ (scan_loads ++ more)
 
   all_many : (more : List LoggedLoad) → length (all_loads more) ≡ polls + table.announcers + length more
-  all_many more = length-append first_polls (scan_loads ++ more) ∙ (λ j. held_many (unflagged spare.retired flags (length spare.retired)) j + length-append scan_loads more j)
-      ∙ ap (λ (n : ℕ). polls + (n + length more)) (words_many words_are.1) ∙ (let sum : polls + (table.announcers + length more) ≡ polls + table.announcers + length more = omega arith in sum)
+  all_many more =
+      length-append first_polls (scan_loads ++ more)
+      ∙ (λ j. held_many (unflagged spare.retired flags (length spare.retired)) j + length-append scan_loads more j)
+      ∙ ap (λ (n : ℕ). polls + (n + length more)) (words_many words_are.1)
+      ∙ (let sum : polls + (table.announcers + length more) ≡ polls + table.announcers + length more
+      = omega arith in
+      sum)
 
-  tells : (now : MapSeat) → now.me.0.heard ≡ swept.me.0.heard → WordsTell table.announcers spare.retired table.shape.slots scan_loads now.me.0.heard
-  tells now heard = subst (λ (p : ℕ × List ℕ). WordsTell table.announcers spare.retired p.0 scan_loads p.1) (λ j. ((sized j).shape.slots, sym heard j)) words_are.1
+  tells : (now : MapSeat) → now.me.0.heard ≡ swept.me.0.heard
+      → WordsTell table.announcers spare.retired table.shape.slots scan_loads now.me.0.heard
+  tells now heard =
+      subst (λ (p : ℕ × List ℕ). WordsTell table.announcers spare.retired p.0 scan_loads p.1)
+      (λ j. ((sized j).shape.slots, sym heard j)) words_are.1
 
-  marks_on : (marks : Marks) (more : List LoggedLoad) → marks ≡ with_scan swept.me.0.marks marks.polls (swept.me.0.marks.loads ++ more) → marks ≡ with_scan before.me.0.marks marks.polls (before.me.0.marks.loads ++ all_loads more)
+  marks_on : (marks : Marks) (more : List LoggedLoad)
+      → marks ≡ with_scan swept.me.0.marks marks.polls (swept.me.0.marks.loads ++ more)
+      → marks ≡ with_scan before.me.0.marks marks.polls (before.me.0.marks.loads ++ all_loads more)
   marks_on marks more is = is ∙ ap (λ (v : View). with_scan v.marks marks.polls (v.marks.loads ++ more)) scan.rest
-      ∙ (λ j. with_scan mid.me.0.marks marks.polls (words_are.2 j ++ more)) ∙ ap (λ (m : Marks). with_scan m marks.polls ((m.loads ++ scan_loads) ++ more)) first.marks
-      ∙ ap (with_scan before.me.0.marks marks.polls) (append_assoc (before.me.0.marks.loads ++ first_polls) scan_loads more ∙ append_assoc before.me.0.marks.loads first_polls (scan_loads ++ more))
+      ∙ (λ j. with_scan mid.me.0.marks marks.polls (words_are.2 j ++ more))
+      ∙ ap (λ (m : Marks). with_scan m marks.polls ((m.loads ++ scan_loads) ++ more)) first.marks
+      ∙ ap (with_scan before.me.0.marks marks.polls)
+      (append_assoc (before.me.0.marks.loads ++ first_polls) scan_loads more
+      ∙ append_assoc before.me.0.marks.loads first_polls (scan_loads ++ more))
 
-  pub takes_second : (after : Spare) (now : MapSeat) (taken : Taken) → PassTakes table scanned swept spare now after taken → SearchTakes table before spare now after taken
-  takes_second after now taken takes = let more = taking_polls spare.retired scanned takes.place takes.entry.slot in let count = taking_many spare.retired scanned takes.place takes.entry.slot in record {
-    place = takes.place;
-    entry = takes.entry;
-    here = takes.here;
-    slot = takes.slot;
-    after_is = takes.after_is;
-    writes = λ desk call rows is is_at. takes.writes desk call rows (role_is ∙ is) is_at;
-    loads = all_loads more;
-    takes = (
-      subst (λ (p : List ℕ × ℕ). table.announcers ≤ get_or p.0 p.1 0) (λ j. (sym takes.heard j, sym takes.slot j)) (flagged_now.whole takes.entry.slot takes.no_flag),
-      inr (some_words, scan_loads, tells now takes.heard, λ j. first_are j ++ (scan_loads ++ (second_are now takes.place takes.heard j ++ OfSlot (sym takes.slot j) true ∷ []))),
-    );
-    grows = grows_both (polls + table.announcers) (polls_before spare.retired scanned takes.place + 1) (length (all_loads more)) (token before) (token swept) [] (token now) (omega (arith, count, all_many more)) up_to takes.grows;
-    few = let one = polls_few in let other = takes.few in omega (arith, count, all_many more);
-    marks = marks_on now.me.0.marks more takes.marks;
-  }
+  pub takes_second : (after : Spare) (now : MapSeat) (taken : Taken)
+      → PassTakes table scanned swept spare now after taken → SearchTakes table before spare now after taken
+  takes_second after now taken takes =
+      let more = taking_polls spare.retired scanned takes.place takes.entry.slot in
+      let count = taking_many spare.retired scanned takes.place takes.entry.slot in
+      record {
+        place = takes.place;
+        entry = takes.entry;
+        here = takes.here;
+        slot = takes.slot;
+        after_is = takes.after_is;
+        writes = λ desk call rows is is_at. takes.writes desk call rows (role_is ∙ is) is_at;
+        loads = all_loads more;
+        takes = (
+          subst (λ (p : List ℕ × ℕ). table.announcers ≤ get_or p.0 p.1 0) (λ j. (sym takes.heard j, sym takes.slot j))
+              (flagged_now.whole takes.entry.slot takes.no_flag),
+          inr (
+            some_words,
+            scan_loads,
+            tells now takes.heard,
+            λ j. first_are j
+                ++ (scan_loads ++ (second_are now takes.place takes.heard j ++ OfSlot (sym takes.slot j) true ∷ [])),
+          ),
+        );
+        grows =
+            grows_both (polls + table.announcers) (polls_before spare.retired scanned takes.place + 1)
+            (length (all_loads more)) (token before) (token swept)
+            [] (token now) (omega (arith, count, all_many more)) up_to takes.grows;
+        few = let one = polls_few in let other = takes.few in omega (arith, count, all_many more);
+        marks = marks_on now.me.0.marks more takes.marks;
+      }
 
-  pub lacks_so : (after : Spare) (last now : MapSeat) (counts : NoSlot) → PassedTo table spare scanned swept last (length spare.retired) → now.table_id ≡ last.table_id → Ends last.me.0 now.me.0 → after ≡ spare → counts ≡ none_spare spare
+  pub lacks_so : (after : Spare) (last now : MapSeat) (counts : NoSlot)
+      → PassedTo table spare scanned swept last (length spare.retired) → now.table_id ≡ last.table_id
+      → Ends last.me.0 now.me.0 → after ≡ spare → counts ≡ none_spare spare
       → SearchLacks table before spare now after counts
-  lacks_so after last now counts second own ends is counted = let search = second.search.search in let gave = ends search.desk search.call search.rows search.role search.place in
+  lacks_so after last now counts second own ends is counted =
+      let search = second.search.search in
+      let gave = ends search.desk search.call search.rows search.role search.place in
       let shape_is = ap (λ (t : Table). t.shape) search.own in
       let one = seat_grows last now [] own gave.leads.advances in
-      let length_is = second.notes.many in let missed = scan_many table spare scanned mid swept same sized some_words scan in let all = all_of spare.retired scanned in
+      let length_is = second.notes.many in
+      let missed = scan_many table spare scanned mid swept same sized some_words scan in
+      let all = all_of spare.retired scanned in
       let polls_now : now.me.0.marks.polls ≡ last.me.0.marks.polls = ap (λ (m : Marks). m.polls) gave.marks in
-      let many : length now.me.0.marks.polls ≡ length spare.retired = ap length polls_now ∙ omega (arith, length_is, missed, all) in
+      let many : length now.me.0.marks.polls ≡ length spare.retired
+      = ap length polls_now ∙ omega (arith, length_is, missed, all) in
       let second_count : ℕ = polls_before spare.retired scanned (length spare.retired) in
-      let last_grows = grows_both (polls + table.announcers) second_count (polls + table.announcers + second_count) (token before) (token swept) [] (token last) refl up_to second.grows in
+      let last_grows
+      = grows_both (polls + table.announcers) second_count (polls + table.announcers + second_count) (token before)
+      (token swept)
+      [] (token last) refl up_to second.grows in
       let heard_now = gave.heard ∙ second.heard in
       let more : List LoggedLoad = held_polls (unflagged spare.retired scanned (length spare.retired)) in
-      let steps : polls + table.announcers + second_count + 1 ≡ length (all_loads more) + 1 = omega (arith, all_many more, held_many (unflagged spare.retired scanned (length spare.retired))) in record {
+      let steps : polls + table.announcers + second_count + 1 ≡ length (all_loads more) + 1
+      = omega (arith, all_many more, held_many (unflagged spare.retired scanned (length spare.retired))) in
+      record {
         same = is;
         counts_are = counted;
-        writes = λ desk call rows is_desk is_at. let gave_so = ends desk call rows (second.role ∙ role_is ∙ is_desk) is_at in
+        writes = λ desk call rows is_desk is_at.
+            let gave_so = ends desk call rows (second.role ∙ role_is ∙ is_desk) is_at in
             let one_desk = same_desk last.me.0.role search.desk desk search.role (second.role ∙ role_is ∙ is_desk) in
             let shapes : last.me.0.shape ≡ now.me.0.shape = ap (λ (t : Table). t.shape) (sym one.table) in (
               record {
@@ -217,18 +316,37 @@ module _ (table : Table) (spare : Spare) (flags scanned : List Bool) (before mid
                 room = subst (λ (s : Shape). Room s (moved_to desk Idle)) shape_is gave_so.leads.room;
                 numbers = numbers_seat table last now own search.own desk.numbers one.table gave_so.leads.numbers;
               },
-              subst (λ (s : Shape). reply_to (map_after s now.me.0.seen) (call_of call) ≡ reply.Done) shapes gave_so.would_be_done,
-              ap (λ (s : Shape). filled_count (map_after s now.me.0.seen) + length spare.retired) (sym shapes) ∙ ap (λ (l : List Retired). filled_count (map_after last.me.0.shape now.me.0.seen) + length l) (sym second.search.retired ∙ ap (λ (d : Desk). d.retired) one_desk)
+              subst (λ (s : Shape). reply_to (map_after s now.me.0.seen) (call_of call) ≡ reply.Done) shapes
+                  gave_so.would_be_done,
+              ap (λ (s : Shape). filled_count (map_after s now.me.0.seen) + length spare.retired) (sym shapes)
+                  ∙ ap (λ (l : List Retired). filled_count (map_after last.me.0.shape now.me.0.seen) + length l)
+                  (sym second.search.retired ∙ ap (λ (d : Desk). d.retired) one_desk)
                   ∙ gave_so.slots ∙ ap (λ (s : Shape). s.slots) shape_is,
             );
         grows = subst (λ (n : ℕ). Grows n [] (token before) (token now)) steps
-            (grows_both (polls + table.announcers + second_count) 1 (polls + table.announcers + second_count + 1) (token before) (token last) [] (token now) refl last_grows one);
+            (grows_both (polls + table.announcers + second_count) 1 (polls + table.announcers + second_count + 1)
+            (token before) (token last)
+            [] (token now) refl last_grows one);
         many = many;
-        apart = λ reader. subst (λ (l : List Past). total (λ (note : Past). only reader note.reader) l ≤ 1) (sym polls_now) (second.notes.apart reader);
-        few = let most = notes_few spare.retired scanned table.shape.readers (length spare.retired) (length swept.me.0.marks.polls) last.me.0.marks.polls second.notes in omega (arith, missed, all);
+        apart = λ reader. subst (λ (l : List Past). total (λ (note : Past). only reader note.reader) l ≤ 1)
+            (sym polls_now) (second.notes.apart reader);
+        few =
+            let most
+            = notes_few spare.retired scanned table.shape.readers (length spare.retired)
+            (length swept.me.0.marks.polls) last.me.0.marks.polls second.notes in
+            omega (arith, missed, all);
         scan = scan_loads;
         words = tells now heard_now;
         loads = all_loads more;
-        loads_are = λ j. first_are j ++ (scan_loads ++ (second_are now (length spare.retired) heard_now ∙ ap (λ (l : List Retired). held_polls (heard_all table.announcers now.me.0.heard l)) (take_all (length spare.retired) spare.retired (omega arith))) j);
-        marks = marks_on now.me.0.marks more (gave.marks ∙ second.marks ∙ ap (λ (l : List Past). with_scan swept.me.0.marks l (swept.me.0.marks.loads ++ more)) (sym polls_now));
+        loads_are = λ j. first_are j
+            ++ (scan_loads
+            ++ (second_are now (length spare.retired) heard_now
+            ∙ ap (λ (l : List Retired). held_polls (heard_all table.announcers now.me.0.heard l))
+            (take_all (length spare.retired) spare.retired (omega arith)))
+            j);
+        marks =
+            marks_on now.me.0.marks more
+            (gave.marks ∙ second.marks
+            ∙ ap (λ (l : List Past). with_scan swept.me.0.marks l (swept.me.0.marks.loads ++ more))
+            (sym polls_now));
       }

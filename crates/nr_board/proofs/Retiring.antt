@@ -1,10 +1,12 @@
 -- What a call that swapped in another word retires, by the word that its key had.
-use Rattle.std.proofs.Common.{◌≡◌, ℕ, suc, ◌+◌, List, [], ◌∷◌, ◌++◌, Bool, true, false, cond, refl, ap, ◌∙◌, arith, append-nil, get_or}
+use Rattle.std.proofs.Common.{◌≡◌, ℕ, suc, ◌+◌, List, [], ◌∷◌, ◌++◌, Bool, true, false, cond, refl, ap, ◌∙◌, arith}
+use Rattle.std.proofs.Common.{append-nil, get_or}
 use Rattle.nr_model.specs.declared.batches.Delta.{Delta}
 use Rattle.nr_model.specs.declared.calls.Reply.TheVariants as reply
 use Rattle.nr_model.specs.declared.states.KeyState.{KeyState}
 use Rattle.nr_model.specs.declared.states.KeyState.TheVariants as states
-use Rattle.nr_model.specs.Maps.{PartialMap, cancel_reply, evict_reply, fill_reply, find_reply, last_number, replace_reply, reply_to, state_of, update_reply}
+use Rattle.nr_model.specs.Maps.{PartialMap, cancel_reply, evict_reply, fill_reply, find_reply, last_number}
+use Rattle.nr_model.specs.Maps.{replace_reply, reply_to, state_of, update_reply}
 use Rattle.nr_words.specs.KeyWords.{arrivals_of, has_ask, is_filled, slot_of}
 use Rattle.nr_core.proofs.Choices.{by_cases}
 use Rattle.nr_machine.specs.declared.calls.WriterCall.{WriterCall}
@@ -28,7 +30,8 @@ asked_if number (states.Hole n) is = absurd (cc)
 asked_if number (states.Asked n) is = refl
 asked_if number (states.Rows n rows) is = absurd (cc)
 
-full_if_updated : (bound : ℕ) (batch : List Delta) (state : KeyState) → reply.Done ≡ update_reply bound batch state → kind_of state ≡ kind.Rows
+full_if_updated : (bound : ℕ) (batch : List Delta) (state : KeyState) → reply.Done ≡ update_reply bound batch state
+    → kind_of state ≡ kind.Rows
 full_if_updated bound batch (states.Hole n) is = absurd (cc)
 full_if_updated bound batch (states.Asked n) is = absurd (cc)
 full_if_updated bound batch (states.Rows n rows) is = refl
@@ -55,39 +58,70 @@ no_evict (states.Rows n rows) P is = absurd (cc)
 
 no_cancel : (state : KeyState) (P : Type 0) → reply.Done ≡ cancel_reply state → P
 no_cancel (states.Hole n) P is = absurd (cc)
-no_cancel (states.Asked n) P is = by_cases (λ b. reply.Done ≡ cond {A = Reply} b reply.Cancelled reply.Worn → P) (nat_lt n last_number) (λ _ done. absurd (cc)) (λ _ done. absurd (cc)) is
+no_cancel (states.Asked n) P is =
+    by_cases (λ b. reply.Done ≡ cond {A = Reply} b reply.Cancelled reply.Worn → P) (nat_lt n last_number)
+    (λ _ done. absurd (cc)) (λ _ done. absurd (cc)) is
 no_cancel (states.Rows n rows) P is = absurd (cc)
 
 -- the word that shows that state
 full_word : (word : ℕ) → kind_shown word ≡ kind.Rows → is_filled word ≡ true
-full_word word shows = by_cases (λ b. cond {A = KeyKind} b kind.Rows (cond {A = KeyKind} (has_ask word) kind.Asked kind.Hole) ≡ kind.Rows → b ≡ true) (is_filled word) (λ _ _. refl)
-    (λ _. by_cases (λ a. cond {A = KeyKind} a kind.Asked kind.Hole ≡ kind.Rows → false ≡ true) (has_ask word) (λ _ is. absurd (cc)) (λ _ is. absurd (cc))) shows
+full_word word shows =
+    by_cases
+    (λ b. cond {A = KeyKind} b kind.Rows (cond {A = KeyKind} (has_ask word) kind.Asked kind.Hole) ≡ kind.Rows
+    → b ≡ true)
+    (is_filled word) (λ _ _. refl)
+    (λ _. by_cases (λ a. cond {A = KeyKind} a kind.Asked kind.Hole ≡ kind.Rows → false ≡ true) (has_ask word)
+    (λ _ is. absurd (cc)) (λ _ is. absurd (cc)))
+    shows
 
 asked_word : (word : ℕ) → kind_shown word ≡ kind.Asked → is_filled word ≡ false
-asked_word word shows = by_cases (λ b. cond {A = KeyKind} b kind.Rows (cond {A = KeyKind} (has_ask word) kind.Asked kind.Hole) ≡ kind.Asked → b ≡ false) (is_filled word) (λ _ is. absurd (cc)) (λ _ _. refl) shows
+asked_word word shows =
+    by_cases
+    (λ b. cond {A = KeyKind} b kind.Rows (cond {A = KeyKind} (has_ask word) kind.Asked kind.Hole) ≡ kind.Asked
+    → b ≡ false)
+    (is_filled word) (λ _ is. absurd (cc)) (λ _ _. refl) shows
 
 module _ (word : ℕ) (old : Caller) (before after : List Retired) (retires : after ≡ before ++ unnamed word) where
-  pub one_retired : (key : ℕ) → get_or old.marks.names key 0 ≡ name_number word → kind_shown word ≡ kind.Rows → RetiresOne key old before after
+  pub one_retired : (key : ℕ) → get_or old.marks.names key 0 ≡ name_number word → kind_shown word ≡ kind.Rows
+      → RetiresOne key old before after
   one_retired key named shows = let full = full_word word shows in record {
     slot = slot_of word;
     arrivals = arrivals_of word;
-    named = named ∙ ap (λ (b : Bool). cond {A = ℕ} b (slot_of word + 1) 0) full ∙ (let next : slot_of word + 1 ≡ suc (slot_of word) = omega arith in next);
-    retires = retires ∙ ap (λ (b : Bool). before ++ cond {A = List Retired} b (record { slot = slot_of word; arrivals = arrivals_of word } ∷ []) []) full;
+    named =
+        named ∙ ap (λ (b : Bool). cond {A = ℕ} b (slot_of word + 1) 0) full
+        ∙ (let next : slot_of word + 1 ≡ suc (slot_of word) = omega arith in next);
+    retires =
+        retires
+        ∙ ap
+        (λ (b : Bool). before
+        ++ cond {A = List Retired} b (record { slot = slot_of word; arrivals = arrivals_of word } ∷ []) [])
+        full;
   }
 
   -- by the call's reply, Done
   pub retires_so : (map : PartialMap) (call : WriterCall) → reply.Done ≡ reply_to map (call_of call)
-      → kind_shown word ≡ kind_of (state_of map (key_of call)) → get_or old.marks.names (key_of call) 0 ≡ name_number word
+      → kind_shown word ≡ kind_of (state_of map (key_of call))
+      → get_or old.marks.names (key_of call) 0 ≡ name_number word
       → Retires (call_of call) old before after
   retires_so map (Find key) done shows named = no_find (state_of map key) _ done
-  retires_so map (Fill key number rows) done shows named = let empty = asked_word word (shows ∙ asked_if number (state_of map key) done) in (
-    named ∙ ap (λ (b : Bool). cond {A = ℕ} b (slot_of word + 1) 0) empty,
-    retires ∙ ap (λ (b : Bool). before ++ cond {A = List Retired} b (record { slot = slot_of word; arrivals = arrivals_of word } ∷ []) []) empty ∙ append-nil before,
-  )
-  retires_so map (Update key batch) done shows named = one_retired key named (shows ∙ full_if_updated map.bound batch (state_of map key) done)
-  retires_so map (Replace key rows) done shows named = one_retired key named (shows ∙ full_if_replaced (state_of map key) done)
+  retires_so map (Fill key number rows) done shows named =
+      let empty = asked_word word (shows ∙ asked_if number (state_of map key) done) in (
+        named ∙ ap (λ (b : Bool). cond {A = ℕ} b (slot_of word + 1) 0) empty,
+        retires
+            ∙ ap
+            (λ (b : Bool). before
+            ++ cond {A = List Retired} b (record { slot = slot_of word; arrivals = arrivals_of word } ∷ []) [])
+            empty
+            ∙ append-nil before,
+      )
+  retires_so map (Update key batch) done shows named =
+      one_retired key named (shows ∙ full_if_updated map.bound batch (state_of map key) done)
+  retires_so map (Replace key rows) done shows named =
+      one_retired key named (shows ∙ full_if_replaced (state_of map key) done)
   retires_so map (Evict key) done shows named = no_evict (state_of map key) _ done
   retires_so map (Cancel key) done shows named = no_cancel (state_of map key) _ done
 
-  pub evicted_one : (map : PartialMap) (key : ℕ) → reply.Evicted ≡ evict_reply (state_of map key) → kind_shown word ≡ kind_of (state_of map key) → get_or old.marks.names key 0 ≡ name_number word → RetiresOne key old before after
+  pub evicted_one : (map : PartialMap) (key : ℕ) → reply.Evicted ≡ evict_reply (state_of map key)
+      → kind_shown word ≡ kind_of (state_of map key) → get_or old.marks.names key 0 ≡ name_number word
+      → RetiresOne key old before after
   evicted_one map key evicted shows named = one_retired key named (shows ∙ full_if_evicted (state_of map key) evicted)

@@ -1,4 +1,5 @@
--- What stands at the writer's desk in every core state: its slots are the map's, and there is room to retire one where its call will.
+-- What stands at the writer's desk in every core state: its slots are the map's, and there is room to retire one where
+-- its call will.
 use Rattle.std.proofs.Common.{◌≡◌, ℕ, List, ap, refl, subst, arith, ◌∙◌}
 use mathlib.Core.Option.{some}
 use lib.ListN.{get_elem?}
@@ -21,31 +22,46 @@ use Rattle.nr_machine.specs.declared.roles.Role.TheVariants.{Writer}
 use Rattle.nr_machine.specs.declared.shape.Shape.{Shape}
 use Rattle.nr_board.specs.Plays.{Room, RoomAt}
 
-module _ (shape : Shape) (words : List ℕ) (roles : List Role) (log : List Entry) (core : Core shape words roles log) (id : ℕ) (desk : Desk) (there : get_elem? roles id ≡ some (Writer desk)) where
+module _ (shape : Shape) (words : List ℕ) (roles : List Role) (log : List Entry) (core : Core shape words roles log)
+    (id : ℕ) (desk : Desk) (there : get_elem? roles id ≡ some (Writer desk)) where
   mine : AtDesk shape words (map_after shape log) (held roles) desk
   mine = core.knows id (Writer desk) there
 
   place_room : (place : Place) → desk.place ≡ place → RoomAt shape desk place
-  place_room place is = go place is (subst (AtPlace shape words (map_after shape log) (held roles) desk.fresh desk.retired) is mine.place)
+  place_room place is =
+      go place is (subst (AtPlace shape words (map_after shape log) (held roles) desk.fresh desk.retired) is mine.place)
     where
-      go : (at : Place) → desk.place ≡ at → AtPlace shape words (map_after shape log) (held roles) desk.fresh desk.retired at → RoomAt shape desk at
+      go : (at : Place) → desk.place ≡ at
+          → AtPlace shape words (map_after shape log) (held roles) desk.fresh desk.retired at → RoomAt shape desk at
       go Idle is stands = tt
       go (Reading call slot got) is stands = (
         named_inside shape words roles log core (key_of call) slot stands.near stands.names,
-        (let few = (read_set shape words roles log core (key_of call) slot got stands).1 in let more = stands.more in omega arith),
+        (let few = (read_set shape words roles log core (key_of call) slot got stands).1 in
+            let more = stands.more in
+            omega arith),
       )
       go (Leaving key) is stands = (
         stands.1.near,
-        fewer_retired shape words roles log core id desk there stands.0 (named_inside shape words roles log core key stands.0 stands.1.near stands.1.names)
+        fewer_retired shape words roles log core id desk there stands.0
+            (named_inside shape words roles log core key stands.0 stands.1.near stands.1.names)
             (let named = names_it shape words roles log core key stands.0 stands.1.near stands.1.names in omega arith),
         number_within shape log desk.numbers core.fits core.legal mine.numbers key stands.1.near,
       )
-      go (Withdrawing key) is stands = (stands.near, (let early = stands.early in let listed : number_at desk key ≡ stands.number = mine.numbers.agree key stands.near ∙ ap number_of stands.asked in omega arith))
+      go (Withdrawing key) is stands = (
+        stands.near,
+        (let early = stands.early in
+            let listed : number_at desk key ≡ stands.number
+            = mine.numbers.agree key stands.near ∙ ap number_of stands.asked in
+            omega arith),
+      )
       go (Searching call rows poll) is stands = stands.1
       go (Putting call rows slot departed index) is stands = (
         stands.inside,
         stands.wants.row_set,
-        fewer_retired shape words roles log core id desk there slot stands.inside (let one = only-same slot in let mine_taken : taken slot desk.place ≡ only slot slot = ap (taken slot) is in omega arith),
+        fewer_retired shape words roles log core id desk there slot stands.inside
+            (let one = only-same slot in
+            let mine_taken : taken slot desk.place ≡ only slot slot = ap (taken slot) is in
+            omega arith),
       )
 
   pub room_at : Room shape desk

@@ -1,5 +1,7 @@
--- The steps of a scan and of a search in any order as the writer's seat makes them, whatever its desk, its call and its rows.
-use Rattle.std.proofs.Common.{◌≡◌, ℕ, ◌<◌, ◌≤◌, List, [], ◌∷◌, zero, suc, length, get_or, refl, sym, ap, ◌∙◌, subst, arith}
+-- The steps of a scan and of a search in any order as the writer's seat makes them, whatever its desk, its call and its
+-- rows.
+use Rattle.std.proofs.Common.{◌≡◌, ℕ, ◌<◌, ◌≤◌, List, [], ◌∷◌, zero, suc, length, get_or, refl, sym, ap, ◌∙◌, subst}
+use Rattle.std.proofs.Common.{arith}
 use mathlib.Core.Option.{none, some, some-injective, some-ne-none}
 use lib.ListN.{get_elem?}
 use Rattle.atomic_table.specs.Table.{Allows, Me, State, step}
@@ -26,18 +28,26 @@ use Rattle.nr_board.specs.SearchPlays.{GaveUp, Scanned, Tried, has_given_up, has
 use Rattle.nr_board.specs.Views.{View}
 
 -- what a step tells is more than what it is shown to tell
-allows_more : (holds : State (Unit {0}) View → Type 0) (slots id : ℕ) (me : Me (Unit {0}) View) (at : ℕ) (becomes : ℕ → ℕ) (then more : ℕ → Me (Unit {0}) View → Type 0)
-    → ((found : ℕ) (after : Me (Unit {0}) View) → then found after → more found after) → Allows holds slots id me at becomes then → Allows holds slots id me at becomes more
-allows_more holds slots id me at becomes then more gives can state kept homes there bounded = let made = can state kept homes there bounded in (made.0, made.1, made.2, made.3, gives _ _ made.4)
+allows_more : (holds : State (Unit {0}) View → Type 0) (slots id : ℕ) (me : Me (Unit {0}) View) (at : ℕ)
+    (becomes : ℕ → ℕ) (then more : ℕ → Me (Unit {0}) View → Type 0)
+    → ((found : ℕ) (after : Me (Unit {0}) View) → then found after → more found after)
+    → Allows holds slots id me at becomes then → Allows holds slots id me at becomes more
+allows_more holds slots id me at becomes then more gives can state kept homes there bounded =
+    let made = can state kept homes there bounded in
+    (made.0, made.1, made.2, made.3, gives _ _ made.4)
 
 -- an entry that stands at a place of the list is the one there
-pub inside_list : (retired : List Retired) (place : ℕ) (entry : Retired) → get_elem? retired place ≡ some entry → place < length retired
+pub inside_list : (retired : List Retired) (place : ℕ) (entry : Retired) → get_elem? retired place ≡ some entry
+    → place < length retired
 inside_list [] place entry here = absurd (some-ne-none entry (sym here))
 inside_list (x ∷ retired) zero entry here = omega arith
 inside_list (x ∷ retired) (suc place) entry here = omega (arith, inside_list retired place entry here)
 
-pub there_is : (retired : List Retired) (place : ℕ) (entry : Retired) → get_elem? retired place ≡ some entry → entry ≡ get_or retired place no_retired
-there_is retired place entry here = some-injective entry (get_or retired place no_retired) (sym here ∙ at_get retired place (inside_list retired place entry here))
+pub there_is : (retired : List Retired) (place : ℕ) (entry : Retired) → get_elem? retired place ≡ some entry
+    → entry ≡ get_or retired place no_retired
+there_is retired place entry here =
+    some-injective entry (get_or retired place no_retired)
+    (sym here ∙ at_get retired place (inside_list retired place entry here))
 
 -- the call and the rows of a search
 abbrev call_in : Place → WriterCall
@@ -56,40 +66,71 @@ rows_in (Withdrawing key) = []
 rows_in (Searching call rows poll) = rows
 rows_in (Putting call rows slot departed index) = rows
 
-module _ (shape : Shape) (slots id : ℕ) (me : Me (Unit {0}) View) (desk : Desk) (call : WriterCall) (rows : List Row) (is : me.0.role ≡ Writer desk) (is_at : desk.place ≡ Searching call rows 0) (sized : me.0.shape ≡ shape) where
+module _ (shape : Shape) (slots id : ℕ) (me : Me (Unit {0}) View) (desk : Desk) (call : WriterCall) (rows : List Row)
+    (is : me.0.role ≡ Writer desk) (is_at : desk.place ≡ Searching call rows 0) (sized : me.0.shape ≡ shape) where
   -- one writer is in one search
   module _ (other : Desk) (also : me.0.role ≡ Writer other) where
     one_desk : desk ≡ other
     one_desk = same_desk me.0.role desk other is also
 
-    module _ (other_call : WriterCall) (other_rows : List Row) (also_at : other.place ≡ Searching other_call other_rows 0) where
+    module _ (other_call : WriterCall) (other_rows : List Row)
+        (also_at : other.place ≡ Searching other_call other_rows 0) where
       one_call : call ≡ other_call
       one_call = sym (ap call_in is_at) ∙ ap (λ (d : Desk). call_in d.place) one_desk ∙ ap call_in also_at
 
       one_rows : rows ≡ other_rows
       one_rows = sym (ap rows_in is_at) ∙ ap (λ (d : Desk). rows_in d.place) one_desk ∙ ap rows_in also_at
 
-  pub has_searched_so : (own : ℕ) → own < me.0.announcers → Allows (Kept shape) slots id me (says_at shape own) (λ word. word) (has_searched (step slots (says_at shape own) 0 0 none) me)
-  has_searched_so own within = allows_more (Kept shape) slots id me (says_at shape own) (λ word. word) (λ found after. Scanned desk own found me.0 after.0) (has_searched (step slots (says_at shape own) 0 0 none) me)
+  pub has_searched_so : (own : ℕ) → own < me.0.announcers
+      → Allows (Kept shape) slots id me (says_at shape own) (λ word. word)
+      (has_searched (step slots (says_at shape own) 0 0 none) me)
+  has_searched_so own within =
+      allows_more (Kept shape) slots id me (says_at shape own) (λ word. word)
+      (λ found after. Scanned desk own found me.0 after.0)
+      (has_searched (step slots (says_at shape own) 0 0 none) me)
       (λ found after told other other_call other_rows mine also also_at low place_is.
-      subst (λ (p : Desk × ℕ). Scanned p.0 p.1 found me.0 after.0) (λ j. (one_desk other also j, says_apart shape me.0.shape own mine sized place_is j)) told)
+      subst (λ (p : Desk × ℕ). Scanned p.0 p.1 found me.0 after.0)
+      (λ j. (one_desk other also j, says_apart shape me.0.shape own mine sized place_is j)) told)
       (searches_so shape slots id own me desk call rows is is_at within)
 
-  pub has_tried_so : (poll : ℕ) (entry : Retired) → get_elem? desk.retired poll ≡ some entry → poll < length desk.retired → entry ≡ retired_at desk poll → me.0.announcers ≤ get_or me.0.heard entry.slot 0
-      → Allows (Kept shape) slots id me (departures shape entry.slot) (λ word. word) (has_tried (step slots (departures shape entry.slot) 0 0 none) me)
-  has_tried_so poll entry here low entry_is heard = allows_more (Kept shape) slots id me (departures shape entry.slot) (λ word. word) (λ found after. Tried desk call rows poll found me.0 after.0) (has_tried (step slots (departures shape entry.slot) 0 0 none) me)
+  pub has_tried_so : (poll : ℕ) (entry : Retired) → get_elem? desk.retired poll ≡ some entry
+      → poll < length desk.retired → entry ≡ retired_at desk poll → me.0.announcers ≤ get_or me.0.heard entry.slot 0
+      → Allows (Kept shape) slots id me (departures shape entry.slot) (λ word. word)
+      (has_tried (step slots (departures shape entry.slot) 0 0 none) me)
+  has_tried_so poll entry here low entry_is heard =
+      allows_more (Kept shape) slots id me (departures shape entry.slot) (λ word. word)
+      (λ found after. Tried desk call rows poll found me.0 after.0)
+      (has_tried (step slots (departures shape entry.slot) 0 0 none) me)
       (λ found after told other other_call other_rows place also also_at room near place_is.
       let desks = one_desk other also in
-      let there : get_elem? other.retired poll ≡ some entry = ap (λ (d : Desk). get_elem? d.retired poll) (sym desks) ∙ here in
+      let there : get_elem? other.retired poll ≡ some entry
+      = ap (λ (d : Desk). get_elem? d.retired poll) (sym desks) ∙ here in
       let named : get_elem? other.retired place ≡ some (retired_at other place) = at_get other.retired place near in
-      let slot_is : entry.slot ≡ (retired_at other place).slot = same_departures shape entry.slot (retired_at other place).slot (place_is ∙ ap (λ (s : Shape). departures s (retired_at other place).slot) sized) in
+      let slot_is : entry.slot ≡ (retired_at other place).slot
+      = same_departures shape entry.slot (retired_at other place).slot
+      (place_is ∙ ap (λ (s : Shape). departures s (retired_at other place).slot) sized) in
       let one_place : poll ≡ place = room.apart poll place entry (retired_at other place) there named slot_is in
-      subst (λ (p : Desk × WriterCall × List Row × ℕ). Tried p.0 p.1 p.2 p.3 found me.0 after.0) (λ j. (desks j, one_call other also other_call other_rows also_at j, one_rows other also other_call other_rows also_at j, one_place j)) told)
-      (subst (λ (e : Retired). Allows (Kept shape) slots id me (departures shape e.slot) (λ word. word) (λ found after. Tried desk call rows poll found me.0 after.0)) (sym entry_is)
-      (tries_so shape slots id me desk call rows poll is is_at low (subst (λ (e : Retired). me.0.announcers ≤ get_or me.0.heard e.slot 0) entry_is heard)))
+      subst (λ (p : Desk × WriterCall × List Row × ℕ). Tried p.0 p.1 p.2 p.3 found me.0 after.0)
+      (λ j. (
+        desks j,
+        one_call other also other_call other_rows also_at j,
+        one_rows other also other_call other_rows also_at j,
+        one_place j,
+      ))
+      told)
+      (subst
+      (λ (e : Retired). Allows (Kept shape) slots id me (departures shape e.slot) (λ word. word)
+      (λ found after. Tried desk call rows poll found me.0 after.0))
+      (sym entry_is)
+      (tries_so shape slots id me desk call rows poll is is_at low
+      (subst (λ (e : Retired). me.0.announcers ≤ get_or me.0.heard e.slot 0) entry_is heard)))
 
-  pub has_given_up_so : (key : ℕ) → key < shape.keys → Allows (Kept shape) slots id me key (λ word. word) (has_given_up (step slots key 0 0 none) me)
-  has_given_up_so key near = allows_more (Kept shape) slots id me key (λ word. word) (λ found after. GaveUp desk call me.0 after.0) (has_given_up (step slots key 0 0 none) me)
+  pub has_given_up_so : (key : ℕ) → key < shape.keys
+      → Allows (Kept shape) slots id me key (λ word. word) (has_given_up (step slots key 0 0 none) me)
+  has_given_up_so key near =
+      allows_more (Kept shape) slots id me key (λ word. word) (λ found after. GaveUp desk call me.0 after.0)
+      (has_given_up (step slots key 0 0 none) me)
       (λ found after told other other_call other_rows also also_at.
-      subst (λ (p : Desk × WriterCall). GaveUp p.0 p.1 me.0 after.0) (λ j. (one_desk other also j, one_call other also other_call other_rows also_at j)) told)
+      subst (λ (p : Desk × WriterCall). GaveUp p.0 p.1 me.0 after.0)
+      (λ j. (one_desk other also j, one_call other also other_call other_rows also_at j)) told)
       (gives_up_so shape slots id me desk call rows key near is is_at)

@@ -1,5 +1,7 @@
 -- The search for a slot: each retired one is polled in order, until one is not held.
-use Rattle.std.proofs.Common.{◌≡◌, ℕ, ◌+◌, ◌-◌, ◌<◌, ◌≤◌, List, [], ◌∷◌, ◌++◌, length-append, Bool, true, false, cond, length, nat_eq, refl, sym, ap, ◌∙◌, subst, arith, append-nil, append_assoc, ⊎_elim, ◌⊎◌, inl, suc, take, take_all, take-suc}
+use Rattle.std.proofs.Common.{◌≡◌, ℕ, ◌+◌, ◌-◌, ◌<◌, ◌≤◌, List, [], ◌∷◌, ◌++◌, length-append, Bool, true, false, cond}
+use Rattle.std.proofs.Common.{length, nat_eq, refl, sym, ap, ◌∙◌, subst, arith, append-nil, append_assoc, ⊎_elim, ◌⊎◌}
+use Rattle.std.proofs.Common.{inl, suc, take, take_all, take-suc}
 use Rattle.std.proofs.lemmas.Bool.{eq-eqb, lt-ltb, le-ltb, ne_eqb}
 use Rattle.std.specs.Prelude.{Some, nat_lt}
 use mathlib.Core.Option.{some, some-ne-none}
@@ -54,14 +56,17 @@ grows_none caller knows = record {
 }
 
 -- the search so far
-pub record Searched (table : Table) (call : WriterCall) (rows : List Row) (spare : Spare) (before after : MapSeat) (polls : ℕ) : Type 0 where
+pub record Searched (table : Table) (call : WriterCall) (rows : List Row) (spare : Spare) (before after : MapSeat)
+    (polls : ℕ) : Type 0 where
   pub slots : spare.slots ≡ table.shape.slots
   pub leads : LeadsIn polls table (call_of call) (swept table.shape (desk_with spare Idle) call rows polls) before after
   pub noted : Noted table.shape before.me.0.pasts after.me.0.marks.polls
   pub many : length after.me.0.marks.polls ≡ polls
   pub few : polls ≤ table.shape.readers
   pub held : AllHeldThen before.me.0.seen after.me.0.seen after.me.0.marks.polls
-  pub marks : after.me.0.marks ≡ with_scan before.me.0.marks after.me.0.marks.polls (before.me.0.marks.loads ++ held_polls (take polls spare.retired))
+  pub marks : after.me.0.marks
+      ≡ with_scan before.me.0.marks after.me.0.marks.polls
+      (before.me.0.marks.loads ++ held_polls (take polls spare.retired))
   pub heard : after.me.0.heard ≡ before.me.0.heard
 
 module _ (shape : Shape) (desk : Desk) (call : WriterCall) (rows : List Row) where
@@ -72,123 +77,215 @@ module _ (shape : Shape) (desk : Desk) (call : WriterCall) (rows : List Row) whe
   none_left = (moved_to desk Idle, no_slot shape desk)
 
   swept_more : (polls : ℕ) → polls < length desk.retired → swept shape desk call rows polls ≡ on_to polls
-  swept_more polls low = ap (λ (b : Bool). cond {A = Desk × Step} b (on_to polls) none_left) (lt-ltb polls (length desk.retired) low)
+  swept_more polls low =
+      ap (λ (b : Bool). cond {A = Desk × Step} b (on_to polls) none_left) (lt-ltb polls (length desk.retired) low)
 
   pub swept_all : (polls : ℕ) → length desk.retired ≤ polls → swept shape desk call rows polls ≡ none_left
-  swept_all polls all = ap (λ (b : Bool). cond {A = Desk × Step} b (on_to polls) none_left) (le-ltb polls (length desk.retired) all)
+  swept_all polls all =
+      ap (λ (b : Bool). cond {A = Desk × Step} b (on_to polls) none_left) (le-ltb polls (length desk.retired) all)
 
   swept_quiet : (c : Call) (polls : ℕ) → ending c (swept shape desk call rows polls).1 ≡ []
-  swept_quiet c polls = by_cases (λ b. ending c (cond {A = Desk × Step} b (on_to polls) none_left).1 ≡ []) (nat_lt polls (length desk.retired)) (λ _. refl) (λ _. refl)
+  swept_quiet c polls =
+      by_cases (λ b. ending c (cond {A = Desk × Step} b (on_to polls) none_left).1 ≡ [])
+      (nat_lt polls (length desk.retired)) (λ _. refl) (λ _. refl)
 
   -- a call that finds no slot that was never taken begins to poll, or has none
   settled_swept : shape.slots ≤ desk.fresh → settled shape desk call rows ≡ swept shape desk call rows 0
-  settled_swept full = ap (λ (b : Bool). cond {A = Desk × Step} b (taking_fresh shape desk call rows, Going) (cond {A = Desk × Step} (nat_eq (length desk.retired) 0) none_left (on_to 0))) (le-ltb desk.fresh shape.slots full)
+  settled_swept full =
+      ap
+      (λ (b : Bool). cond {A = Desk × Step} b (taking_fresh shape desk call rows, Going)
+      (cond {A = Desk × Step} (nat_eq (length desk.retired) 0) none_left (on_to 0)))
+      (le-ltb desk.fresh shape.slots full)
       ∙ dite (ℕ_discrete (length desk.retired) 0)
-      (λ none. ap (λ (b : Bool). cond {A = Desk × Step} b none_left (on_to 0)) (eq-eqb (length desk.retired) 0 none) ∙ sym (swept_all 0 (omega arith)))
-      (λ some_there. ap (λ (b : Bool). cond {A = Desk × Step} b none_left (on_to 0)) (ne_eqb (length desk.retired) 0 some_there) ∙ sym (swept_more 0 (omega arith)))
+      (λ none. ap (λ (b : Bool). cond {A = Desk × Step} b none_left (on_to 0)) (eq-eqb (length desk.retired) 0 none)
+      ∙ sym (swept_all 0 (omega arith)))
+      (λ some_there. ap (λ (b : Bool). cond {A = Desk × Step} b none_left (on_to 0))
+      (ne_eqb (length desk.retired) 0 some_there)
+      ∙ sym (swept_more 0 (omega arith)))
 
 -- the search begins
-pub searched_none : (table : Table) (call : WriterCall) (rows : List Row) (spare : Spare) (seat : MapSeat) → Settles table call rows spare seat → spare.slots ≤ spare.fresh → Searched table call rows spare seat seat 0
+pub searched_none : (table : Table) (call : WriterCall) (rows : List Row) (spare : Spare) (seat : MapSeat)
+    → Settles table call rows spare seat → spare.slots ≤ spare.fresh → Searched table call rows spare seat seat 0
 searched_none table call rows spare seat settles full =
     let shape = table.shape in let desk = desk_with spare Idle in let size = settles.slots in
     let is = settled_swept shape desk call rows (omega arith) in record {
       slots = settles.slots;
       leads = record {
         writes = subst (λ (o : Desk × Step). WritesAt table o.0 seat) is settles.writes;
-        grows = subst (λ (es : List Entry). Grows 0 es (token seat) (token seat)) (sym (swept_quiet shape desk call rows (call_of call) 0)) (grows_none (token seat) settles.knows);
+        grows =
+            subst (λ (es : List Entry). Grows 0 es (token seat) (token seat))
+            (sym (swept_quiet shape desk call rows (call_of call) 0)) (grows_none (token seat) settles.knows);
         short = λ counts without. settles.short counts (ap (λ (o : Desk × Step). o.1) is ∙ without);
       };
       noted = subst (Noted table.shape seat.me.0.pasts) (sym settles.polls) (noted_none table.shape seat.me.0.pasts);
       many = ap length settles.polls;
       few = omega arith;
-      held = λ at note there. absurd (some-ne-none note (sym there ∙ ap (λ (l : List Past). get_elem? l at) settles.polls));
+      held = λ at note there. absurd
+          (some-ne-none note (sym there ∙ ap (λ (l : List Past). get_elem? l at) settles.polls));
       marks = no_loads seat.me.0.marks seat.me.0.marks.polls;
       heard = refl;
     }
 
 -- what was held at a poll was so, as the history goes on
-held_on : (before mid after : List Entry) (note : Past) → StartsWith after mid → HeldThen before mid note → HeldThen before after note
+held_on : (before mid after : List Entry) (note : Past) → StartsWith after mid → HeldThen before mid note
+    → HeldThen before after note
 held_on before mid after note more held = record {
   log = held.log;
   since = held.since;
-  until = record { rest = held.until.rest ++ more.rest; is = more.is ∙ ap (λ (l : List Entry). l ++ more.rest) held.until.is ∙ append_assoc held.log held.until.rest more.rest };
+  until =
+      record {
+        rest = held.until.rest ++ more.rest;
+        is = more.is ∙ ap (λ (l : List Entry). l ++ more.rest) held.until.is
+            ∙ append_assoc held.log held.until.rest more.rest;
+      };
   count = held.count;
 }
 
 -- what grew begins with what it was
-pub grows_from : (steps : ℕ) (old : Caller) (entries : List Entry) (new : Caller) → Grows steps entries old new → StartsWith new.seen old.seen
-grows_from steps old entries new grows = record { rest = grows.between ++ entries; is = grows.seen ∙ append_assoc old.seen grows.between entries }
+pub grows_from : (steps : ℕ) (old : Caller) (entries : List Entry) (new : Caller) → Grows steps entries old new
+    → StartsWith new.seen old.seen
+grows_from steps old entries new grows =
+    record { rest = grows.between ++ entries; is = grows.seen ∙ append_assoc old.seen grows.between entries }
 
-module _ (table : Table) (call : WriterCall) (rows : List Row) (spare : Spare) (before mid : MapSeat) (polls : ℕ) (so_far : Searched table call rows spare before mid polls) (low : polls < length spare.retired) where
+module _ (table : Table) (call : WriterCall) (rows : List Row) (spare : Spare) (before mid : MapSeat) (polls : ℕ)
+    (so_far : Searched table call rows spare before mid polls) (low : polls < length spare.retired) where
   abbrev desk_now : Desk
   desk_now = desk_with spare (Searching call rows polls)
 
   pub searching_at : WritesAt table desk_now mid
-  searching_at = subst (λ (o : Desk × Step). WritesAt table o.0 mid) (swept_more table.shape (desk_with spare Idle) call rows polls low) so_far.leads.writes
+  searching_at =
+      subst (λ (o : Desk × Step). WritesAt table o.0 mid)
+      (swept_more table.shape (desk_with spare Idle) call rows polls low) so_far.leads.writes
 
   so_far_quiet : Grows polls [] (token before) (token mid)
-  so_far_quiet = subst (λ (es : List Entry). Grows polls es (token before) (token mid)) (swept_quiet table.shape (desk_with spare Idle) call rows (call_of call) polls) so_far.leads.grows
+  so_far_quiet =
+      subst (λ (es : List Entry). Grows polls es (token before) (token mid))
+      (swept_quiet table.shape (desk_with spare Idle) call rows (call_of call) polls) so_far.leads.grows
 
   module _ (found : ℕ) (after : MapSeat) (goes : GoesOn table found mid after) where
     told : GoesTo table desk_now found mid after
     told = goes desk_now searching_at.role
 
     -- the loads with this poll
-    polled_marks : (free : Bool) (marks : Marks) → marks ≡ with_polls (with_poll mid.me.0.marks (retired_at desk_now polls).slot free) marks.polls
-        → marks ≡ with_scan before.me.0.marks marks.polls (before.me.0.marks.loads ++ (held_polls (take polls spare.retired) ++ OfSlot (retired_at desk_now polls).slot free ∷ []))
-    polled_marks free marks is = is ∙ ap (λ (m : Marks). with_polls (with_poll m (retired_at desk_now polls).slot free) marks.polls) so_far.marks
-        ∙ ap (with_scan before.me.0.marks marks.polls) (append_assoc before.me.0.marks.loads (held_polls (take polls spare.retired)) (OfSlot (retired_at desk_now polls).slot free ∷ []))
+    polled_marks : (free : Bool) (marks : Marks)
+        → marks ≡ with_polls (with_poll mid.me.0.marks (retired_at desk_now polls).slot free) marks.polls
+        → marks
+        ≡ with_scan before.me.0.marks marks.polls
+        (before.me.0.marks.loads
+        ++ (held_polls (take polls spare.retired) ++ OfSlot (retired_at desk_now polls).slot free ∷ []))
+    polled_marks free marks is =
+        is ∙ ap (λ (m : Marks). with_polls (with_poll m (retired_at desk_now polls).slot free) marks.polls) so_far.marks
+        ∙ ap (with_scan before.me.0.marks marks.polls)
+        (append_assoc before.me.0.marks.loads (held_polls (take polls spare.retired))
+        (OfSlot (retired_at desk_now polls).slot free ∷ []))
 
-    one_more : held_polls (take (polls + 1) spare.retired) ≡ held_polls (take polls spare.retired) ++ OfSlot (retired_at desk_now polls).slot false ∷ []
-    one_more = let next : polls + 1 ≡ suc polls = omega arith in ap (λ (n : ℕ). held_polls (take n spare.retired)) next ∙ ap held_polls (take-suc spare.retired polls no_retired low) ∙ held_next (take polls spare.retired) (retired_at desk_now polls)
+    one_more : held_polls (take (polls + 1) spare.retired)
+        ≡ held_polls (take polls spare.retired) ++ OfSlot (retired_at desk_now polls).slot false ∷ []
+    one_more =
+        let next : polls + 1 ≡ suc polls = omega arith in
+        ap (λ (n : ℕ). held_polls (take n spare.retired)) next
+        ∙ ap held_polls (take-suc spare.retired polls no_retired low)
+        ∙ held_next (take polls spare.retired) (retired_at desk_now polls)
 
     -- the slot is not held: it is taken
-    pub takes_it : same_count found (retired_at desk_now polls).arrivals ≡ true → WritesAt table (taking_retired desk_now call rows polls found) after
-        × Grows (polls + 1) [] (token before) (token after) × (after.me.0.marks ≡ with_scan before.me.0.marks after.me.0.marks.polls (before.me.0.marks.loads ++ (held_polls (take polls spare.retired) ++ OfSlot (retired_at desk_now polls).slot true ∷ []))) × (after.me.0.heard ≡ before.me.0.heard)
+    pub takes_it : same_count found (retired_at desk_now polls).arrivals ≡ true
+        → WritesAt table (taking_retired desk_now call rows polls found) after
+        × Grows (polls + 1) [] (token before) (token after)
+        × (after.me.0.marks
+        ≡ with_scan before.me.0.marks after.me.0.marks.polls
+        (before.me.0.marks.loads
+        ++ (held_polls (take polls spare.retired) ++ OfSlot (retired_at desk_now polls).slot true ∷
+        [])))
+        × (after.me.0.heard ≡ before.me.0.heard)
     takes_it agree =
-        let outcome : polled table.shape desk_now call rows polls found ≡ (taking_retired desk_now call rows polls found, Going) = ap (λ
+        let outcome : polled table.shape desk_now call rows polls found
+        ≡ (taking_retired desk_now call rows polls found, Going)
+        = ap (λ
         (b : Bool). cond {A = Desk × Step} b (taking_retired desk_now call rows polls found, Going)
         (polls_on table.shape desk_now call rows polls)) agree in
         let leads = subst (λ (o : Desk × Step). LeadsIn 1 table (call_of call) o mid after) outcome told.leads in
-        let same = subst (λ (b : Bool). PollTells b table.shape mid.me.0.pasts desk_now call polls after.me.0.seen mid.me.0.marks after.me.0.marks) agree told.marks.1 in
-        (leads.writes, grows_both polls 1 (polls + 1) (token before) (token mid) [] (token after) refl so_far_quiet leads.grows, polled_marks true after.me.0.marks (same ∙ ap (λ (m : Marks). with_polls (with_poll mid.me.0.marks (retired_at desk_now polls).slot true) m.polls) (sym same)), told.heard ∙ so_far.heard)
+        let same
+        = subst
+        (λ (b : Bool). PollTells b table.shape mid.me.0.pasts desk_now call polls after.me.0.seen mid.me.0.marks
+        after.me.0.marks)
+        agree told.marks.1 in (
+          leads.writes,
+          grows_both polls 1 (polls + 1) (token before) (token mid) [] (token after) refl so_far_quiet leads.grows,
+          polled_marks true after.me.0.marks
+              (same
+              ∙ ap
+              (λ (m : Marks). with_polls (with_poll mid.me.0.marks (retired_at desk_now polls).slot true)
+              m.polls)
+              (sym same)),
+          told.heard ∙ so_far.heard,
+        )
 
     -- the slot is held: the search goes on, or there is none
-    pub searched_more : same_count found (retired_at desk_now polls).arrivals ≡ false → Searched table call rows spare before after (polls + 1)
+    pub searched_more : same_count found (retired_at desk_now polls).arrivals ≡ false
+        → Searched table call rows spare before after (polls + 1)
     searched_more apart =
-        let outcome : polled table.shape desk_now call rows polls found ≡ swept table.shape (desk_with spare Idle) call rows
+        let outcome : polled table.shape desk_now call rows polls found
+        ≡ swept table.shape (desk_with spare Idle) call rows
         (polls + 1) = ap (λ (b : Bool). cond {A = Desk × Step} b (taking_retired desk_now call rows polls found, Going)
         (polls_on table.shape desk_now call rows polls)) apart in
         let leads = subst (λ (o : Desk × Step). LeadsIn 1 table (call_of call) o mid after) outcome told.leads in
-        let quiet : ending (call_of call) (polled table.shape desk_now call rows polls found).1 ≡ [] = ap (λ (o : Desk × Step). ending
-        (call_of call) o.1) outcome ∙ swept_quiet table.shape (desk_with spare Idle) call rows (call_of call) (polls + 1) in
-        let seen_is : after.me.0.seen ≡ told.log = told.seen ∙ ap (λ (l : List Entry). told.log ++ l) quiet ∙ append-nil told.log in
-        let now_grown = grows_both polls 1 (polls + 1) (token before) (token mid) _ (token after) refl so_far_quiet leads.grows in
-        let polled_so = subst (λ (b : Bool). PollTells b table.shape mid.me.0.pasts desk_now call polls after.me.0.seen mid.me.0.marks after.me.0.marks) apart told.marks.1 in record {
+        let quiet : ending (call_of call) (polled table.shape desk_now call rows polls found).1 ≡ []
+        = ap (λ (o : Desk × Step). ending
+        (call_of call) o.1) outcome
+        ∙ swept_quiet table.shape (desk_with spare Idle) call rows (call_of call) (polls + 1) in
+        let seen_is : after.me.0.seen ≡ told.log
+        = told.seen ∙ ap (λ (l : List Entry). told.log ++ l) quiet ∙ append-nil told.log in
+        let now_grown
+        = grows_both polls 1 (polls + 1) (token before) (token mid) _ (token after) refl so_far_quiet leads.grows in
+        let polled_so
+        = subst
+        (λ (b : Bool). PollTells b table.shape mid.me.0.pasts desk_now call polls after.me.0.seen mid.me.0.marks
+        after.me.0.marks)
+        apart told.marks.1 in
+        record {
           slots = so_far.slots;
           leads = record { writes = leads.writes; grows = now_grown; short = leads.short };
-          noted = noted_more table.shape before.me.0.pasts mid.me.0.marks.polls (retired_at desk_now polls).slot after.me.0.marks.polls so_far.noted
-              (subst (λ (l : List Past). Missed table.shape l mid.me.0.marks.polls (retired_at desk_now polls).slot after.me.0.marks.polls) so_far.leads.grows.pasts polled_so.1);
-          many = ap length polled_so.1.more ∙ length-append mid.me.0.marks.polls (polled_so.1.note ∷ []) ∙ ap (λ (n : ℕ). n + 1) so_far.many;
+          noted =
+              noted_more table.shape before.me.0.pasts mid.me.0.marks.polls (retired_at desk_now polls).slot
+              after.me.0.marks.polls so_far.noted
+              (subst
+              (λ (l : List Past). Missed table.shape l mid.me.0.marks.polls (retired_at desk_now polls).slot
+              after.me.0.marks.polls)
+              so_far.leads.grows.pasts polled_so.1);
+          many =
+              ap length polled_so.1.more ∙ length-append mid.me.0.marks.polls (polled_so.1.note ∷ [])
+              ∙ ap (λ (n : ℕ). n + 1) so_far.many;
           few = let missed = polled_so.1 in let few = missed.few in
-              let more : length after.me.0.marks.polls ≡ length mid.me.0.marks.polls + 1 = ap length missed.more ∙ length-append mid.me.0.marks.polls
+              let more : length after.me.0.marks.polls ≡ length mid.me.0.marks.polls + 1
+              = ap length missed.more ∙ length-append mid.me.0.marks.polls
               (missed.note ∷ []) in let many = so_far.many in omega arith;
           held = λ at note there. ⊎_elim
-              (λ (old : get_elem? mid.me.0.marks.polls at ≡ some note). held_on before.me.0.seen mid.me.0.seen after.me.0.seen note (grows_from 1 (token mid) _ (token after) leads.grows) (so_far.held at note old))
+              (λ (old : get_elem? mid.me.0.marks.polls at ≡ some note). held_on before.me.0.seen mid.me.0.seen
+              after.me.0.seen note (grows_from 1 (token mid) _ (token after) leads.grows) (so_far.held at note old))
               (λ (new : (at ≡ length mid.me.0.marks.polls) × (polled_so.1.note ≡ note)). held_now at note there new.0
               (ap (λ (n : Past). n.slot) (sym new.1) ∙ polled_so.1.holds) seen_is
               (grows_from (polls + 1) (token before) _ (token after) now_grown))
-              (at_last mid.me.0.marks.polls polled_so.1.note note at (ap (λ (l : List Past). get_elem? l at) (sym polled_so.1.more) ∙ there));
-          marks = polled_marks false after.me.0.marks polled_so.0 ∙ ap (λ (l : List LoggedLoad). with_scan before.me.0.marks after.me.0.marks.polls (before.me.0.marks.loads ++ l)) (sym one_more);
+              (at_last mid.me.0.marks.polls polled_so.1.note note at
+              (ap (λ (l : List Past). get_elem? l at) (sym polled_so.1.more) ∙ there));
+          marks =
+              polled_marks false after.me.0.marks polled_so.0
+              ∙ ap
+              (λ (l : List LoggedLoad). with_scan before.me.0.marks after.me.0.marks.polls
+              (before.me.0.marks.loads ++ l))
+              (sym one_more);
           heard = told.heard ∙ so_far.heard;
         }
       where
-        held_now : (at : ℕ) (note : Past) → get_elem? after.me.0.marks.polls at ≡ some note → at ≡ length mid.me.0.marks.polls
-            → note.slot ≡ Some (retired_at desk_now polls).slot → after.me.0.seen ≡ told.log → StartsWith after.me.0.seen before.me.0.seen
+        held_now : (at : ℕ) (note : Past) → get_elem? after.me.0.marks.polls at ≡ some note
+            → at ≡ length mid.me.0.marks.polls
+            → note.slot ≡ Some (retired_at desk_now polls).slot → after.me.0.seen ≡ told.log
+            → StartsWith after.me.0.seen before.me.0.seen
             → HeldThen before.me.0.seen after.me.0.seen note
         held_now at note there last holds seen_is begins = ⊎_elim
-            (λ (old : get_elem? mid.me.0.marks.polls at ≡ some note). absurd (let low = inside mid.me.0.marks.polls at note old in omega arith))
-            (λ (now : note.count + to_depart note.slot ≡ acts_told (entries_of told.log note.reader)). let one : to_depart note.slot ≡ 1 = ap to_depart holds in record {
+            (λ (old : get_elem? mid.me.0.marks.polls at ≡ some note). absurd
+            (let low = inside mid.me.0.marks.polls at note old in omega arith))
+            (λ (now : note.count + to_depart note.slot ≡ acts_told (entries_of told.log note.reader)).
+            let one : to_depart note.slot ≡ 1 = ap to_depart holds in record {
               log = told.log;
               since = subst (λ (l : List Entry). StartsWith l before.me.0.seen) seen_is begins;
               until = record { rest = []; is = seen_is ∙ sym (append-nil told.log) };
@@ -196,37 +293,76 @@ module _ (table : Table) (call : WriterCall) (rows : List Row) (spare : Spare) (
             }) (told.notes at note there)
 
 -- every retired slot was found held
-pub lacks_slot : (table : Table) (call : WriterCall) (rows : List Row) (spare : Spare) (before after : MapSeat) (polls : ℕ)
-    → Searched table call rows spare before after polls → (table.announcers ≡ 0) ⊎ (spare.retired ≡ []) → polls ≡ length spare.retired → LacksSlot table call before spare after spare
+pub lacks_slot : (table : Table) (call : WriterCall) (rows : List Row) (spare : Spare) (before after : MapSeat)
+    (polls : ℕ)
+    → Searched table call rows spare before after polls → (table.announcers ≡ 0) ⊎ (spare.retired ≡ [])
+    → polls ≡ length spare.retired → LacksSlot table call before spare after spare
     (none_spare spare)
 lacks_slot table call rows spare before after polls so_far counted all =
-    let desk = desk_with spare Idle in let is = swept_all table.shape desk call rows polls (omega arith) in let leads = so_far.leads in record {
+    let desk = desk_with spare Idle in
+    let is = swept_all table.shape desk call rows polls (omega arith) in
+    let leads = so_far.leads in
+    record {
       same = refl;
       writes = subst (λ (o : Desk × Step). WritesAt table o.0 after) is leads.writes;
       steps = polls;
       loads = held_polls spare.retired;
       searched = inl (counted, so_far.heard, refl, all ∙ sym (held_many spare.retired));
-      grows = subst (λ (es : List Entry). Grows polls es (token before) (token after)) (swept_quiet table.shape desk call rows (call_of call) polls) leads.grows;
-      lacks = leads.short (none_spare spare) (ap (λ (o : Desk × Step). o.1) is ∙ ap (λ (n : ℕ). Ended (writer.NoSlot (record { live = n - length spare.retired; held = length spare.retired }))) (sym so_far.slots));
+      grows =
+          subst (λ (es : List Entry). Grows polls es (token before) (token after))
+          (swept_quiet table.shape desk call rows (call_of call) polls) leads.grows;
+      lacks =
+          leads.short (none_spare spare)
+          (ap (λ (o : Desk × Step). o.1) is
+          ∙ ap
+          (λ (n : ℕ). Ended
+          (writer.NoSlot (record { live = n - length spare.retired; held = length spare.retired })))
+          (sym so_far.slots));
       noted = λ _. so_far.noted;
       held = λ _. so_far.held;
-      marks = so_far.marks ∙ ap (λ (l : List Retired). with_scan before.me.0.marks after.me.0.marks.polls (before.me.0.marks.loads ++ held_polls l)) (take_all polls spare.retired (omega arith));
+      marks =
+          so_far.marks
+          ∙ ap
+          (λ (l : List Retired). with_scan before.me.0.marks after.me.0.marks.polls
+          (before.me.0.marks.loads ++ held_polls l))
+          (take_all polls spare.retired (omega arith));
     }
 
 -- a slot is taken that was never taken, without a step
-pub takes_fresh : (table : Table) (call : WriterCall) (rows : List Row) (spare after : Spare) (seat : MapSeat) (slot : ℕ) → Settles table call rows spare seat
-    → spare.fresh < spare.slots → slot ≡ spare.fresh → after ≡ record spare { fresh = spare.fresh + 1 } → TakesSlot table call rows seat spare seat after slot table.shape.first_count
-takes_fresh table call rows spare after seat slot settles low slot_is after_is = let shape = table.shape in let desk = desk_with spare Idle in let size = settles.slots in
-    let outcome : settled shape desk call rows ≡ (taking_fresh shape desk call rows, Going) = ap (λ (b : Bool). cond {A = Desk × Step} b (taking_fresh shape desk call rows, Going)
-    (cond {A = Desk × Step} (nat_eq (length desk.retired) 0) (moved_to desk Idle, no_slot shape desk) (moved_to desk (Searching call rows 0), Going))) (lt-ltb spare.fresh shape.slots (omega arith)) in record {
+pub takes_fresh : (table : Table) (call : WriterCall) (rows : List Row) (spare after : Spare) (seat : MapSeat)
+    (slot : ℕ)
+    → Settles table call rows spare seat
+    → spare.fresh < spare.slots → slot ≡ spare.fresh → after ≡ record spare { fresh = spare.fresh + 1 }
+    → TakesSlot table call rows seat spare seat after slot table.shape.first_count
+takes_fresh table call rows spare after seat slot settles low slot_is after_is =
+    let shape = table.shape in
+    let desk = desk_with spare Idle in
+    let size = settles.slots in
+    let outcome : settled shape desk call rows ≡ (taking_fresh shape desk call rows, Going)
+    = ap (λ (b : Bool). cond {A = Desk × Step} b (taking_fresh shape desk call rows, Going)
+    (cond {A = Desk × Step} (nat_eq (length desk.retired) 0) (moved_to desk Idle, no_slot shape desk)
+    (moved_to desk (Searching call rows 0), Going)))
+    (lt-ltb spare.fresh shape.slots (omega arith)) in
+    record {
       steps = 0;
       loads = [];
-      took = inl (low, slot_is, refl, ap (λ (s : Spare). s.fresh) after_is, ap (λ (s : Spare). s.retired) after_is, refl, refl);
+      took =
+          inl (
+            low,
+            slot_is,
+            refl,
+            ap (λ (s : Spare). s.fresh) after_is,
+            ap (λ (s : Spare). s.retired) after_is,
+            refl,
+            refl,
+          );
       few = (omega arith, λ _. omega arith);
       slots = ap (λ (s : Spare). s.slots) after_is;
       numbers = ap (λ (s : Spare). s.numbers) after_is;
       reaped = ap (λ (s : Spare). s.reaped) after_is;
-      writes = subst (λ (p : ℕ × Spare). WritesAt table (desk_with p.1 (Putting call rows p.0 shape.first_count 0)) seat) (λ j. (sym slot_is j, sym after_is j))
+      writes =
+          subst (λ (p : ℕ × Spare). WritesAt table (desk_with p.1 (Putting call rows p.0 shape.first_count 0)) seat)
+          (λ j. (sym slot_is j, sym after_is j))
           (subst (λ (o : Desk × Step). WritesAt table o.0 seat) outcome settles.writes);
       grows = grows_none (token seat) settles.knows;
       marks = no_loads seat.me.0.marks seat.me.0.marks.polls;

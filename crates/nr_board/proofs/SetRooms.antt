@@ -6,5 +6,7 @@ use Rattle.nr_board.specs.Callers.{Table}
 use Rattle.nr_board.specs.NamedRows.{ReadsAll}
 use Rattle.nr_board.specs.WriterSeats.{MapSeat}
 
-pub reads_set : {table : Table} {call : WriterCall} {before after : MapSeat} {rows : List Row} → ((set : List Row) × (rows ≡ set) × ReadsAll table call set before after) → ReadsAll table call rows before after
-reads_set {table = table} {call = call} {before = before} {after = after} (set, same, reads) = subst (λ (r : List Row). ReadsAll table call r before after) (sym same) reads
+pub reads_set : {table : Table} {call : WriterCall} {before after : MapSeat} {rows : List Row}
+    → ((set : List Row) × (rows ≡ set) × ReadsAll table call set before after) → ReadsAll table call rows before after
+reads_set {table = table} {call = call} {before = before} {after = after} (set, same, reads) =
+    subst (λ (r : List Row). ReadsAll table call r before after) (sym same) reads

@@ -12,14 +12,20 @@ abbrev pub MapSeat : Type 0
 MapSeat = Seat (Unit {0}) View
 
 -- what a play tells of a seat's views, it tells of the token
-pub seat_grows : (before after : MapSeat) (entries : List Entry) → after.table_id ≡ before.table_id → Advances entries before.me.0 after.me.0 → Grows 1 entries (token before) (token after)
-seat_grows before after entries same advances = subst (λ (id : TableId). Grows 1 entries (token before) (caller_of id after.me.0)) (sym same) (advances before.table_id)
+pub seat_grows : (before after : MapSeat) (entries : List Entry) → after.table_id ≡ before.table_id
+    → Advances entries before.me.0 after.me.0 → Grows 1 entries (token before) (token after)
+seat_grows before after entries same advances =
+    subst (λ (id : TableId). Grows 1 entries (token before) (caller_of id after.me.0)) (sym same)
+    (advances before.table_id)
 
-pub seat_rests : (before after : MapSeat) → after.table_id ≡ before.table_id → Waits before.me.0 after.me.0 → Rests 1 (token before) (token after)
-seat_rests before after same waits = subst (λ (id : TableId). Rests 1 (token before) (caller_of id after.me.0)) (sym same) (waits before.table_id)
+pub seat_rests : (before after : MapSeat) → after.table_id ≡ before.table_id → Waits before.me.0 after.me.0
+    → Rests 1 (token before) (token after)
+seat_rests before after same waits =
+    subst (λ (id : TableId). Rests 1 (token before) (caller_of id after.me.0)) (sym same) (waits before.table_id)
 
 pub rests_none : (caller : Caller) → Rests 0 caller caller
-rests_none caller = record { table = refl; number = refl; seen = refl; mine = refl; steps_made = omega arith; pasts = refl }
+rests_none caller =
+    record { table = refl; number = refl; seen = refl; mine = refl; steps_made = omega arith; pasts = refl }
 
 pub rests_both : (m n sum : ℕ) (a b c : Caller) → sum ≡ m + n → Rests m a b → Rests n b c → Rests sum a c
 rests_both m n sum a b c is first then = record {
@@ -31,7 +37,8 @@ rests_both m n sum a b c is first then = record {
   pasts = then.pasts ∙ first.pasts;
 }
 
-pub grows_rests : (m n sum : ℕ) (a : Caller) (entries : List Entry) (b c : Caller) → sum ≡ m + n → Grows m entries a b → Rests n b c → Grows sum entries a c
+pub grows_rests : (m n sum : ℕ) (a : Caller) (entries : List Entry) (b c : Caller) → sum ≡ m + n → Grows m entries a b
+    → Rests n b c → Grows sum entries a c
 grows_rests m n sum a entries b c is first then = record {
   table = then.table ∙ first.table;
   number = then.number ∙ first.number;
@@ -45,12 +52,16 @@ grows_rests m n sum a entries b c is first then = record {
   pasts = then.pasts ∙ first.pasts;
 }
 
-pub grows_both : (m n sum : ℕ) (a b : Caller) (entries : List Entry) (c : Caller) → sum ≡ m + n → Grows m [] a b → Grows n entries b c → Grows sum entries a c
+pub grows_both : (m n sum : ℕ) (a b : Caller) (entries : List Entry) (c : Caller) → sum ≡ m + n → Grows m [] a b
+    → Grows n entries b c → Grows sum entries a c
 grows_both m n sum a b entries c is first then = record {
   table = then.table ∙ first.table;
   number = then.number ∙ first.number;
   between = first.between ++ then.between;
-  seen = then.seen ∙ ap (λ (l : List Entry). (l ++ then.between) ++ entries) (first.seen ∙ append-nil (a.seen ++ first.between)) ∙ ap (λ (l : List Entry). l ++ entries) (append_assoc a.seen first.between then.between);
+  seen =
+      then.seen
+      ∙ ap (λ (l : List Entry). (l ++ then.between) ++ entries) (first.seen ∙ append-nil (a.seen ++ first.between))
+      ∙ ap (λ (l : List Entry). l ++ entries) (append_assoc a.seen first.between then.between);
   mine = then.mine ∙ ap (λ (l : List Entry). l ++ entries) (first.mine ∙ append-nil a.mine);
   legal = subst (λ (t : Table). IsLegal (map_at_opening t) c.seen) first.table then.legal;
   own = then.own;

@@ -1,4 +1,5 @@
--- A call that reads what its taken slot had stands as if it had made these steps before it looked for the slot: they tell it nothing.
+-- A call that reads what its taken slot had stands as if it had made these steps before it looked for the slot: they
+-- tell it nothing.
 use Rattle.std.proofs.Common.{◌≡◌, ℕ, ◌+◌, ◌++◌, ◌∙◌, List, refl, sym, ap, subst, arith, []}
 use Rattle.nr_model.specs.Histories.{Entry}
 use Rattle.nr_model.specs.declared.calls.Call.{Call}
@@ -21,7 +22,8 @@ use Rattle.nr_board.specs.Reclaiming.{HandsOut}
 use Rattle.nr_board.specs.Spares.{TookBySearch, spare_of}
 
 -- the slots that a resting token shows
-pub spare_shown : (table : Table) (spare : Spare) (seat : MapSeat) → RestsAt table spare seat → spare_of (token seat) ≡ spare
+pub spare_shown : (table : Table) (spare : Spare) (seat : MapSeat) → RestsAt table spare seat
+    → spare_of (token seat) ≡ spare
 spare_shown table spare seat rests = λ j. record {
   slots = (ap (λ (t : Table). t.shape.slots) rests.writes.own ∙ sym rests.slots) j;
   fresh = ap (λ r. (desk_of r).fresh) rests.writes.role j;
@@ -37,11 +39,13 @@ later_none seat = λ j. record seat { me = (record seat.me.0 { steps = none j },
     none : seat.me.0.steps + 0 ≡ seat.me.0.steps
     none = omega arith
 
-waited_token : (mid new : MapSeat) (steps : ℕ) → new.table_id ≡ mid.table_id → new.me.0 ≡ waited steps mid.me.0 → token new ≡ with_steps steps (token mid)
+waited_token : (mid new : MapSeat) (steps : ℕ) → new.table_id ≡ mid.table_id → new.me.0 ≡ waited steps mid.me.0
+    → token new ≡ with_steps steps (token mid)
 waited_token mid new steps same waits = λ j. caller_of (same j) (waits j)
 
 -- both began and ended that many steps later
-grows_later : (steps made : ℕ) (old mid : Caller) (entries : List Entry) → Grows made entries old mid → Grows made entries (with_steps steps old) (with_steps steps mid)
+grows_later : (steps made : ℕ) (old mid : Caller) (entries : List Entry) → Grows made entries old mid
+    → Grows made entries (with_steps steps old) (with_steps steps mid)
 grows_later steps made old mid entries grows = record {
   table = grows.table;
   number = grows.number;
@@ -56,7 +60,8 @@ grows_later steps made old mid entries grows = record {
 }
 
 -- the steps are its own
-pub grows_with : (steps made sum : ℕ) (old : Caller) (entries : List Entry) (new : Caller) → sum ≡ made + steps → Grows made entries (with_steps steps old) new → Grows sum entries old new
+pub grows_with : (steps made sum : ℕ) (old : Caller) (entries : List Entry) (new : Caller) → sum ≡ made + steps
+    → Grows made entries (with_steps steps old) new → Grows sum entries old new
 grows_with steps made sum old entries new is grows = record {
   table = grows.table;
   number = grows.number;
@@ -70,66 +75,108 @@ grows_with steps made sum old entries new is grows = record {
   pasts = grows.pasts;
 }
 
-writes_later : (table : Table) (desk : Desk) (mid new : MapSeat) (steps : ℕ) → new.table_id ≡ mid.table_id → new.me.0 ≡ waited steps mid.me.0 → WritesAt table desk mid → WritesAt table desk new
+writes_later : (table : Table) (desk : Desk) (mid new : MapSeat) (steps : ℕ) → new.table_id ≡ mid.table_id
+    → new.me.0 ≡ waited steps mid.me.0 → WritesAt table desk mid → WritesAt table desk new
 writes_later table desk mid new steps same waits writes = record {
   own = (λ j. record { id = same j; shape = (waits j).shape; announcers = (waits j).announcers }) ∙ writes.own;
   role = ap (λ (v : View). v.role) waits ∙ writes.role;
   room = writes.room;
-  numbers = subst (λ (caller : Caller). AreNumbers table.shape (map_seen caller) desk.numbers) (sym (waited_token mid new steps same waits)) writes.numbers;
+  numbers =
+      subst (λ (caller : Caller). AreNumbers table.shape (map_seen caller) desk.numbers)
+      (sym (waited_token mid new steps same waits)) writes.numbers;
 }
 
 -- the slot is taken still
-pub takes_later : (table : Table) (call : WriterCall) (rows : List Row) (slot departed : ℕ) (spare after : Spare) (old mid new : MapSeat) (steps : ℕ)
-    → TakesSlot table call rows old spare mid after slot departed → new.table_id ≡ mid.table_id → new.me.0 ≡ waited steps mid.me.0
+pub takes_later : (table : Table) (call : WriterCall) (rows : List Row) (slot departed : ℕ) (spare after : Spare)
+    (old mid new : MapSeat) (steps : ℕ)
+    → TakesSlot table call rows old spare mid after slot departed → new.table_id ≡ mid.table_id
+    → new.me.0 ≡ waited steps mid.me.0
     → TakesSlot table call rows (later steps old) spare new after slot departed
 takes_later table call rows slot departed spare after old mid new steps takes same waits = record {
   steps = takes.steps;
   loads = takes.loads;
-  took = subst (λ (heard : List ℕ). TookBySearch table old.me.0.heard heard takes.loads slot takes.steps spare after) (ap (λ (v : View). v.heard) (sym waits)) takes.took;
+  took =
+      subst (λ (heard : List ℕ). TookBySearch table old.me.0.heard heard takes.loads slot takes.steps spare after)
+      (ap (λ (v : View). v.heard) (sym waits)) takes.took;
   few = takes.few;
   slots = takes.slots;
   numbers = takes.numbers;
   reaped = takes.reaped;
   writes = writes_later table _ mid new steps same waits takes.writes;
-  grows = subst (λ (caller : Caller). Grows takes.steps [] (token (later steps old)) caller) (sym (waited_token mid new steps same waits)) (grows_later steps takes.steps (token old) (token mid) [] takes.grows);
-  marks = ap (λ (v : View). v.marks) waits ∙ takes.marks ∙ ap (λ (v : View). with_scan old.me.0.marks v.marks.polls (old.me.0.marks.loads ++ takes.loads)) (sym waits);
+  grows =
+      subst (λ (caller : Caller). Grows takes.steps [] (token (later steps old)) caller)
+      (sym (waited_token mid new steps same waits))
+      (grows_later steps takes.steps (token old) (token mid) [] takes.grows);
+  marks =
+      ap (λ (v : View). v.marks) waits ∙ takes.marks
+      ∙ ap (λ (v : View). with_scan old.me.0.marks v.marks.polls (old.me.0.marks.loads ++ takes.loads)) (sym waits);
 }
 
 -- what the call gives out, as contracts see it
-pub given_out : {Room : Type 0} (shows : Room → List Row → Type 0) {table : Table} {spare : Spare} {made : ℕ} {call : WriterCall} {rows : List Row}
-    {before mid : MapSeat} (slot taken : ℕ) (room then : Room) (steps : ℕ) (given : Reclaimed) → HasSet table spare made call rows before mid
+pub given_out : {Room : Type 0} (shows : Room → List Row
+    → Type 0) {table : Table} {spare : Spare} {made : ℕ} {call : WriterCall} {rows : List Row}
+    {before mid : MapSeat} (slot taken : ℕ) (room then : Room) (steps : ℕ) (given : Reclaimed)
+    → HasSet table spare made call rows before mid
     → (token before).table ≡ table → slot ≡ taken
-    → HandsOut shows table.shape.rows spare taken (set_in mid.me.0.marks taken) room then steps given → HandsOut shows (token before).table.shape.rows (spare_of (token before)) slot (set_in before.me.0.marks slot) room then steps given
-given_out shows {table = table} {spare = spare} {before = before} {mid = mid} slot taken room then steps given set own same out =
-    subst (λ (p : ℕ × Spare × ℕ × List Row). HandsOut shows p.0 p.1 p.2 p.3 room then steps given) (λ j. ((sym own j).shape.rows, sym (spare_shown table spare before set.rests) j, sym same j, set_in (set.marks j) (sym same j))) out
+    → HandsOut shows table.shape.rows spare taken (set_in mid.me.0.marks taken) room then steps given
+    → HandsOut shows (token before).table.shape.rows (spare_of (token before)) slot (set_in before.me.0.marks slot)
+    room then steps given
+given_out shows {table = table} {spare = spare} {before = before} {mid = mid} slot taken room then steps given set own
+    same out =
+    subst (λ (p : ℕ × Spare × ℕ × List Row). HandsOut shows p.0 p.1 p.2 p.3 room then steps given)
+    (λ j. (
+      (sym own j).shape.rows,
+      sym (spare_shown table spare before set.rests) j,
+      sym same j,
+      set_in (set.marks j) (sym same j),
+    ))
+    out
 
-lacks_later : (call : Call) (counts : NoSlot) (caller : Caller) (steps : ℕ) → Lacks call counts caller → Lacks call counts (with_steps steps caller)
-lacks_later call counts caller steps lacks = record { would_be_done = lacks.would_be_done; live = lacks.live; held = lacks.held; all = lacks.all; full = lacks.full; apart = lacks.apart; many = lacks.many; others = lacks.others; few = lacks.few; polled = lacks.polled }
+lacks_later : (call : Call) (counts : NoSlot) (caller : Caller) (steps : ℕ) → Lacks call counts caller
+    → Lacks call counts (with_steps steps caller)
+lacks_later call counts caller steps lacks =
+    record {
+      would_be_done = lacks.would_be_done;
+      live = lacks.live;
+      held = lacks.held;
+      all = lacks.all;
+      full = lacks.full;
+      apart = lacks.apart;
+      many = lacks.many;
+      others = lacks.others;
+      few = lacks.few;
+      polled = lacks.polled;
+    }
 
 -- a call that has its set has it still
-pub set_later : {table : Table} {spare : Spare} {made : ℕ} {call : WriterCall} {rows : List Row} {before mid : MapSeat} (steps : ℕ)
-    → HasSet table spare made call rows before mid → HasSet table spare (made + steps) call rows before (later steps mid)
-set_later {table = table} {made = made} {before = before} {mid = mid} steps set = let settles = set.settles in let grows = set.grows in record {
-  rests = set.rests;
-  settles = record {
-    slots = settles.slots;
-    writes = writes_later table _ mid (later steps mid) steps refl refl settles.writes;
-    short = λ counts without. lacks_later _ counts (token mid) steps (settles.short counts without);
-    knows = record { legal = settles.knows.legal; own = settles.knows.own; callers = settles.knows.callers };
-    polls = settles.polls;
-  };
-  grows = record {
-    table = grows.table;
-    number = grows.number;
-    between = grows.between;
-    seen = grows.seen;
-    mine = grows.mine;
-    legal = grows.legal;
-    own = grows.own;
-    callers = grows.callers;
-    steps_made = omega (arith, grows.steps_made);
-    pasts = grows.pasts;
-  };
-  marks = set.marks;
-  heard = set.heard;
-}
+pub set_later : {table : Table} {spare : Spare} {made : ℕ} {call : WriterCall} {rows : List Row} {before
+    mid : MapSeat} (steps : ℕ)
+    → HasSet table spare made call rows before mid
+    → HasSet table spare (made + steps) call rows before (later steps mid)
+set_later {table = table} {made = made} {before = before} {mid = mid} steps set =
+    let settles = set.settles in
+    let grows = set.grows in
+    record {
+      rests = set.rests;
+      settles = record {
+        slots = settles.slots;
+        writes = writes_later table _ mid (later steps mid) steps refl refl settles.writes;
+        short = λ counts without. lacks_later _ counts (token mid) steps (settles.short counts without);
+        knows = record { legal = settles.knows.legal; own = settles.knows.own; callers = settles.knows.callers };
+        polls = settles.polls;
+      };
+      grows = record {
+        table = grows.table;
+        number = grows.number;
+        between = grows.between;
+        seen = grows.seen;
+        mine = grows.mine;
+        legal = grows.legal;
+        own = grows.own;
+        callers = grows.callers;
+        steps_made = omega (arith, grows.steps_made);
+        pasts = grows.pasts;
+      };
+      marks = set.marks;
+      heard = set.heard;
+    }

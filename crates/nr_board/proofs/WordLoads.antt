@@ -1,5 +1,7 @@
 -- What a whole scan tells, load by load: after each load what was heard is what the words so far tell.
-use Rattle.std.proofs.Common.{◌≡◌, ◌≢◌, ℕ, suc, zero, ◌+◌, ◌<◌, ◌≤◌, List, [], ◌∷◌, ◌++◌, Bool, cond, length, get_or, nat_eq, eq-eqb, ne_eqb, refl, sym, ap, ◌∙◌, arith, append_assoc, append-nil, length-append}
+use Rattle.std.proofs.Common.{◌≡◌, ◌≢◌, ℕ, suc, zero, ◌+◌, ◌<◌, ◌≤◌, List, [], ◌∷◌, ◌++◌, Bool, cond, length, get_or}
+use Rattle.std.proofs.Common.{nat_eq, eq-eqb, ne_eqb, refl, sym, ap, ◌∙◌, arith, append_assoc, append-nil}
+use Rattle.std.proofs.Common.{length-append}
 use Rattle.std.specs.Prelude.{nat_lt, not, ◌&&◌}
 use mathlib.Core.Logic.{dite}
 use native.Mathlib.Decide.{ℕ_discrete}
@@ -17,10 +19,12 @@ pub loads_length : (own : ℕ) (words : List ℕ) → length (loads_of own words
 loads_length own [] = refl
 loads_length own (word ∷ words) = let rest = loads_length (suc own) words in omega arith
 
-loads_more : (own found : ℕ) (words : List ℕ) → loads_of own (words ++ found ∷ []) ≡ loads_of own words ++ word_load (own + length words) found ∷ []
+loads_more : (own found : ℕ) (words : List ℕ)
+    → loads_of own (words ++ found ∷ []) ≡ loads_of own words ++ word_load (own + length words) found ∷ []
 loads_more own found [] = let same : own ≡ own + 0 = omega arith in ap (λ (n : ℕ). word_load n found ∷ []) same
 loads_more own found (word ∷ words) = let same : suc own + length words ≡ own + length (word ∷ words) = omega arith in
-    ap (λ (l : List LoggedLoad). word_load own word ∷ l) (loads_more (suc own) found words ∙ ap (λ (n : ℕ). loads_of (suc own) words ++ word_load n found ∷ []) same)
+    ap (λ (l : List LoggedLoad). word_load own word ∷ l)
+    (loads_more (suc own) found words ∙ ap (λ (n : ℕ). loads_of (suc own) words ++ word_load n found ∷ []) same)
 
 -- a search that loads no word
 pub no_loads : (marks : Marks) (polls : List Past) → with_polls marks polls ≡ with_scan marks polls (marks.loads ++ [])
@@ -31,72 +35,132 @@ no_loads marks polls = λ j. record marks { polls = polls; loads = sym (append-n
 unsaid_few : (slot : ℕ) (words : List ℕ) → unsaid slot words ≤ length words
 unsaid_few slot [] = omega arith
 unsaid_few slot (word ∷ words) = let rest = unsaid_few slot words in
-    by_cases (λ (b : Bool). cond {A = ℕ} b 0 (suc (unsaid slot words)) ≤ length (word ∷ words)) (nat_eq word (suc slot)) (λ _. omega arith) (λ _. omega arith)
+    by_cases (λ (b : Bool). cond {A = ℕ} b 0 (suc (unsaid slot words)) ≤ length (word ∷ words)) (nat_eq word (suc slot))
+    (λ _. omega arith) (λ _. omega arith)
 
 -- what a word says, those behind it can't take back
-unsaid_stays : (slot : ℕ) (words more : List ℕ) → unsaid slot words < length words → unsaid slot (words ++ more) ≡ unsaid slot words
+unsaid_stays : (slot : ℕ) (words more : List ℕ) → unsaid slot words < length words
+    → unsaid slot (words ++ more) ≡ unsaid slot words
 unsaid_stays slot [] more low = absurd (omega arith)
 unsaid_stays slot (word ∷ words) more low =
-    by_cases (λ (b : Bool). cond {A = ℕ} b 0 (suc (unsaid slot words)) < length (word ∷ words) → cond {A = ℕ} b 0 (suc (unsaid slot (words ++ more))) ≡ cond {A = ℕ} b 0 (suc (unsaid slot words))) (nat_eq word (suc slot))
+    by_cases
+    (λ (b : Bool). cond {A = ℕ} b 0 (suc (unsaid slot words)) < length (word ∷ words)
+    → cond {A = ℕ} b 0 (suc (unsaid slot (words ++ more))) ≡ cond {A = ℕ} b 0 (suc (unsaid slot words)))
+    (nat_eq word (suc slot))
     (λ _ _. refl) (λ _ below. ap suc (unsaid_stays slot words more (omega arith))) low
 
-unsaid_on : (slot found : ℕ) (words : List ℕ) → unsaid slot words ≡ length words → unsaid slot (words ++ found ∷ []) ≡ cond {A = ℕ} (nat_eq found (suc slot)) (length words) (suc (length words))
+unsaid_on : (slot found : ℕ) (words : List ℕ) → unsaid slot words ≡ length words
+    → unsaid slot (words ++ found ∷ []) ≡ cond {A = ℕ} (nat_eq found (suc slot)) (length words) (suc (length words))
 unsaid_on slot found [] all = refl
 unsaid_on slot found (word ∷ words) all =
-    by_cases (λ (b : Bool). cond {A = ℕ} b 0 (suc (unsaid slot words)) ≡ length (word ∷ words) → cond {A = ℕ} b 0 (suc (unsaid slot (words ++ found ∷ []))) ≡ cond {A = ℕ} (nat_eq found (suc slot)) (length (word ∷ words)) (suc (length (word ∷ words)))) (nat_eq word (suc slot))
+    by_cases
+    (λ (b : Bool). cond {A = ℕ} b 0 (suc (unsaid slot words)) ≡ length (word ∷ words)
+    → cond {A = ℕ} b 0 (suc (unsaid slot (words ++ found ∷ [])))
+    ≡ cond {A = ℕ} (nat_eq found (suc slot)) (length (word ∷ words)) (suc (length (word ∷ words))))
+    (nat_eq word (suc slot))
     (λ _ none. absurd (omega arith))
-    (λ _ full. ap suc (unsaid_on slot found words (omega arith)) ∙ by_cases (λ (b : Bool). suc (cond {A = ℕ} b (length words) (suc (length words))) ≡ cond {A = ℕ} b (length (word ∷ words)) (suc (length (word ∷ words)))) (nat_eq found (suc slot)) (λ _. omega arith) (λ _. omega arith)) all
+    (λ _ full. ap suc (unsaid_on slot found words (omega arith))
+    ∙ by_cases
+    (λ (b : Bool). suc (cond {A = ℕ} b (length words) (suc (length words)))
+    ≡ cond {A = ℕ} b (length (word ∷ words)) (suc (length (word ∷ words))))
+    (nat_eq found (suc slot)) (λ _. omega arith) (λ _. omega arith))
+    all
 
 -- ONE LOAD
 
 module _ (desk : Desk) (found : ℕ) where
   -- the first load hears all slots anew
   first_now : (slot count : ℕ) → heard_now desk 0 found slot count ≡ heard_of desk.retired (found ∷ []) slot
-  first_now slot count = by_cases (λ (b : Bool). cond {A = ℕ} (b && not (nat_eq found (suc slot))) 1 0 ≡ cond {A = ℕ} b (cond {A = ℕ} (nat_eq found (suc slot)) 0 1) 0) (nat_lt 0 (retirements slot desk.retired))
-      (λ _. by_cases (λ (b : Bool). cond {A = ℕ} (not b) 1 0 ≡ cond {A = ℕ} b 0 1) (nat_eq found (suc slot)) (λ _. refl) (λ _. refl)) (λ _. refl)
+  first_now slot count =
+      by_cases
+      (λ (b : Bool). cond {A = ℕ} (b && not (nat_eq found (suc slot))) 1 0
+      ≡ cond {A = ℕ} b (cond {A = ℕ} (nat_eq found (suc slot)) 0 1) 0)
+      (nat_lt 0 (retirements slot desk.retired))
+      (λ _. by_cases (λ (b : Bool). cond {A = ℕ} (not b) 1 0 ≡ cond {A = ℕ} b 0 1) (nat_eq found (suc slot)) (λ _. refl)
+      (λ _. refl))
+      (λ _. refl)
 
-  first_from : (heard : List ℕ) (slot more : ℕ) → heard_from desk 0 found heard slot more ≡ heard_by desk.retired (found ∷ []) slot more
+  first_from : (heard : List ℕ) (slot more : ℕ)
+      → heard_from desk 0 found heard slot more ≡ heard_by desk.retired (found ∷ []) slot more
   first_from heard slot zero = refl
   first_from heard slot (suc more) = λ j. first_now slot (get_or heard slot 0) j ∷ first_from heard (suc slot) more j
 
   module _ (own : ℕ) (words : List ℕ) (each : length words ≡ own) (later : 0 < own) where
     -- a later one goes on where the words so far heard of all readers before
-    next_now : (slot count : ℕ) → count ≡ heard_of desk.retired words slot → heard_now desk own found slot count ≡ heard_of desk.retired (words ++ found ∷ []) slot
-    next_now slot count is = ap (λ (n : ℕ). cond {A = ℕ} (nat_lt 0 (retirements slot desk.retired) && (nat_eq n own && not (nat_eq found (suc slot)))) (suc own) n) (before ∙ is)
-        ∙ by_cases (λ (b : Bool). cond {A = ℕ} (b && (nat_eq (cond {A = ℕ} b (unsaid slot words) 0) own && not (nat_eq found (suc slot)))) (suc own) (cond {A = ℕ} b (unsaid slot words) 0) ≡ cond {A = ℕ} b (unsaid slot (words ++ found ∷ [])) 0) (nat_lt 0 (retirements slot desk.retired))
+    next_now : (slot count : ℕ) → count ≡ heard_of desk.retired words slot
+        → heard_now desk own found slot count ≡ heard_of desk.retired (words ++ found ∷ []) slot
+    next_now slot count is =
+        ap
+        (λ (n : ℕ).
+        cond {A = ℕ} (nat_lt 0 (retirements slot desk.retired)
+        && (nat_eq n own && not (nat_eq found (suc slot))))
+        (suc own) n)
+        (before ∙ is)
+        ∙ by_cases
+        (λ (b : Bool).
+        cond {A = ℕ} (b && (nat_eq (cond {A = ℕ} b (unsaid slot words) 0) own && not (nat_eq found (suc slot))))
+        (suc own) (cond {A = ℕ} b (unsaid slot words) 0)
+        ≡ cond {A = ℕ} b (unsaid slot (words ++ found ∷ [])) 0)
+        (nat_lt 0 (retirements slot desk.retired))
         (λ _. dite (ℕ_discrete (unsaid slot words) own)
-        (λ e. ap (λ (b : Bool). cond {A = ℕ} (b && not (nat_eq found (suc slot))) (suc own) (unsaid slot words)) (eq-eqb (unsaid slot words) own e) ∙ full e ∙ sym (unsaid_on slot found words (e ∙ sym each)))
-        (λ ne. ap (λ (b : Bool). cond {A = ℕ} (b && not (nat_eq found (suc slot))) (suc own) (unsaid slot words)) (ne_eqb (unsaid slot words) own ne) ∙ sym (unsaid_stays slot words (found ∷ []) (let few = unsaid_few slot words in omega arith))))
+        (λ e. ap (λ (b : Bool). cond {A = ℕ} (b && not (nat_eq found (suc slot))) (suc own) (unsaid slot words))
+        (eq-eqb (unsaid slot words) own e)
+        ∙ full e ∙ sym (unsaid_on slot found words (e ∙ sym each)))
+        (λ ne. ap (λ (b : Bool). cond {A = ℕ} (b && not (nat_eq found (suc slot))) (suc own) (unsaid slot words))
+        (ne_eqb (unsaid slot words) own ne)
+        ∙ sym (unsaid_stays slot words (found ∷ []) (let few = unsaid_few slot words in omega arith))))
         (λ _. refl)
       where
         before : heard_before own count ≡ count
         before = ap (λ (b : Bool). cond {A = ℕ} b 0 count) (ne_eqb own 0 (λ e. omega arith))
 
-        full : unsaid slot words ≡ own → cond {A = ℕ} (not (nat_eq found (suc slot))) (suc own) (unsaid slot words) ≡ cond {A = ℕ} (nat_eq found (suc slot)) (length words) (suc (length words))
-        full e = by_cases (λ (b : Bool). cond {A = ℕ} (not b) (suc own) (unsaid slot words) ≡ cond {A = ℕ} b (length words) (suc (length words))) (nat_eq found (suc slot)) (λ _. omega arith) (λ _. omega arith)
+        full : unsaid slot words ≡ own
+            → cond {A = ℕ} (not (nat_eq found (suc slot))) (suc own) (unsaid slot words)
+            ≡ cond {A = ℕ} (nat_eq found (suc slot)) (length words) (suc (length words))
+        full e =
+            by_cases
+            (λ (b : Bool). cond {A = ℕ} (not b) (suc own) (unsaid slot words)
+            ≡ cond {A = ℕ} b (length words) (suc (length words)))
+            (nat_eq found (suc slot)) (λ _. omega arith) (λ _. omega arith)
 
-    next_from : (heard : List ℕ) (slot more : ℕ) → ((at : ℕ) → slot ≤ at → at < slot + more → get_or heard at 0 ≡ heard_of desk.retired words at)
+    next_from : (heard : List ℕ) (slot more : ℕ)
+        → ((at : ℕ) → slot ≤ at → at < slot + more → get_or heard at 0 ≡ heard_of desk.retired words at)
         → heard_from desk own found heard slot more ≡ heard_by desk.retired (words ++ found ∷ []) slot more
     next_from heard slot zero so = refl
-    next_from heard slot (suc more) so = λ j. next_now slot (get_or heard slot 0) (so slot (omega arith) (omega arith)) j ∷ next_from heard (suc slot) more (λ at low high. so at (omega arith) (omega arith)) j
+    next_from heard slot (suc more)
+        so = λ j. next_now slot (get_or heard slot 0) (so slot (omega arith) (omega arith)) j
+        ∷ next_from heard (suc slot) more (λ at low high. so at (omega arith) (omega arith)) j
 
-at_heard_by : (retired : List Retired) (words : List ℕ) (slot more at : ℕ) → at < more → get_or (heard_by retired words slot more) at 0 ≡ heard_of retired words (slot + at)
+at_heard_by : (retired : List Retired) (words : List ℕ) (slot more at : ℕ) → at < more
+    → get_or (heard_by retired words slot more) at 0 ≡ heard_of retired words (slot + at)
 at_heard_by retired words slot zero at low = absurd (omega arith)
-at_heard_by retired words slot (suc more) zero low = let same : slot ≡ slot + 0 = omega arith in ap (heard_of retired words) same
-at_heard_by retired words slot (suc more) (suc at) low = let same : suc slot + at ≡ slot + suc at = omega arith in at_heard_by retired words (suc slot) more at (omega arith) ∙ ap (heard_of retired words) same
+at_heard_by retired words slot (suc more) zero low =
+    let same : slot ≡ slot + 0 = omega arith in
+    ap (heard_of retired words) same
+at_heard_by retired words slot (suc more) (suc at) low =
+    let same : suc slot + at ≡ slot + suc at = omega arith in
+    at_heard_by retired words (suc slot) more at (omega arith) ∙ ap (heard_of retired words) same
 
 -- THE SCAN
 
-pub words_begin : (retired : List Retired) (slots : ℕ) (loads : List LoggedLoad) (heard : List ℕ) → WordsSoFar 0 retired slots loads loads heard
-words_begin retired slots loads heard = record { words = []; each = refl; loads_are = sym (append-nil loads); tell = λ later. absurd (omega arith) }
+pub words_begin : (retired : List Retired) (slots : ℕ) (loads : List LoggedLoad) (heard : List ℕ)
+    → WordsSoFar 0 retired slots loads loads heard
+words_begin retired slots loads heard =
+    record { words = []; each = refl; loads_are = sym (append-nil loads); tell = λ later. absurd (omega arith) }
 
-pub words_more : (desk : Desk) (own found slots : ℕ) (before now next : List LoggedLoad) (heard after : List ℕ) → WordsSoFar own desk.retired slots before now heard
-    → next ≡ now ++ word_load own found ∷ [] → after ≡ heard_from desk own found heard 0 slots → WordsSoFar (suc own) desk.retired slots before next after
+pub words_more : (desk : Desk) (own found slots : ℕ) (before now next : List LoggedLoad) (heard after : List ℕ)
+    → WordsSoFar own desk.retired slots before now heard
+    → next ≡ now ++ word_load own found ∷ [] → after ≡ heard_from desk own found heard 0 slots
+    → WordsSoFar (suc own) desk.retired slots before next after
 words_more desk own found slots before now next heard after so_far loads told = record {
   words = so_far.words ++ found ∷ [];
   each = let both = length-append so_far.words (found ∷ []) in let each = so_far.each in omega arith;
-  loads_are = loads ∙ ap (λ (l : List LoggedLoad). l ++ word_load own found ∷ []) so_far.loads_are ∙ append_assoc before (loads_of 0 so_far.words) (word_load own found ∷ [])
-      ∙ ap (λ (l : List LoggedLoad). before ++ l) (ap (λ (n : ℕ). loads_of 0 so_far.words ++ word_load n found ∷ []) place ∙ sym (loads_more 0 found so_far.words));
+  loads_are =
+      loads ∙ ap (λ (l : List LoggedLoad). l ++ word_load own found ∷ []) so_far.loads_are
+      ∙ append_assoc before (loads_of 0 so_far.words) (word_load own found ∷ [])
+      ∙ ap (λ (l : List LoggedLoad). before ++ l)
+      (ap (λ (n : ℕ). loads_of 0 so_far.words ++ word_load n found ∷ []) place
+      ∙ sym (loads_more 0 found so_far.words));
   tell = λ _. told ∙ dite (ℕ_discrete own 0) begins goes_on;
 }
   where
@@ -107,20 +171,30 @@ words_more desk own found slots before now next heard after so_far loads told = 
     none [] e = refl
     none (word ∷ words) e = absurd (omega arith)
 
-    begins : own ≡ 0 → heard_from desk own found heard 0 slots ≡ heard_by desk.retired (so_far.words ++ found ∷ []) 0 slots
+    begins : own ≡ 0
+        → heard_from desk own found heard 0 slots ≡ heard_by desk.retired (so_far.words ++ found ∷ []) 0 slots
     begins e = ap (λ (n : ℕ). heard_from desk n found heard 0 slots) e ∙ first_from desk found heard 0 slots
-        ∙ ap (λ (l : List ℕ). heard_by desk.retired (l ++ found ∷ []) 0 slots) (sym (none so_far.words (so_far.each ∙ e)))
+        ∙ ap (λ (l : List ℕ). heard_by desk.retired (l ++ found ∷ []) 0 slots)
+        (sym (none so_far.words (so_far.each ∙ e)))
 
-    goes_on : own ≢ 0 → heard_from desk own found heard 0 slots ≡ heard_by desk.retired (so_far.words ++ found ∷ []) 0 slots
+    goes_on : own ≢ 0
+        → heard_from desk own found heard 0 slots ≡ heard_by desk.retired (so_far.words ++ found ∷ []) 0 slots
     goes_on ne = next_from desk found own so_far.words so_far.each (omega arith) heard 0 slots
-        (λ at low high. ap (λ (l : List ℕ). get_or l at 0) (so_far.tell (omega arith)) ∙ at_heard_by desk.retired so_far.words 0 slots at (omega arith) ∙ (let same : 0 + at ≡ at = omega arith in ap (heard_of desk.retired so_far.words) same))
+        (λ at low high. ap (λ (l : List ℕ). get_or l at 0) (so_far.tell (omega arith))
+        ∙ at_heard_by desk.retired so_far.words 0 slots at (omega arith)
+        ∙ (let same : 0 + at ≡ at = omega arith in ap (heard_of desk.retired so_far.words) same))
 
 -- all words were loaded
-pub words_told : (readers : ℕ) (retired : List Retired) (slots : ℕ) (before now : List LoggedLoad) (heard : List ℕ) → 0 < readers → WordsSoFar readers retired slots before now heard
+pub words_told : (readers : ℕ) (retired : List Retired) (slots : ℕ) (before now : List LoggedLoad) (heard : List ℕ)
+    → 0 < readers → WordsSoFar readers retired slots before now heard
     → (loads : List LoggedLoad) × WordsTell readers retired slots loads heard × (now ≡ before ++ loads)
-words_told readers retired slots before now heard some_words so_far =
-    (loads_of 0 so_far.words, record { words = so_far.words; each = so_far.each; loads_are = refl; tell = so_far.tell some_words }, so_far.loads_are)
+words_told readers retired slots before now heard some_words so_far = (
+  loads_of 0 so_far.words,
+  record { words = so_far.words; each = so_far.each; loads_are = refl; tell = so_far.tell some_words },
+  so_far.loads_are,
+)
 
 -- that many loads
-pub words_many : {readers slots : ℕ} {retired : List Retired} {loads : List LoggedLoad} {heard : List ℕ} → WordsTell readers retired slots loads heard → length loads ≡ readers
+pub words_many : {readers slots : ℕ} {retired : List Retired} {loads : List LoggedLoad} {heard : List ℕ}
+    → WordsTell readers retired slots loads heard → length loads ≡ readers
 words_many told = ap length told.loads_are ∙ loads_length 0 told.words ∙ told.each

@@ -21,42 +21,84 @@ use Rattle.nr_board.specs.Spares.{desk_with}
 use Rattle.nr_board.specs.Views.{desk_of}
 use Rattle.nr_board.specs.WriterSeats.{LacksSlot, MapSeat, Settles, TakesSlot, WritesAt}
 
-module _ (table : Table) (call : WriterCall) (rows : List Row) (spare : Spare) (before : MapSeat) (settles : Settles table call rows spare before) (full : spare.slots ≤ spare.fresh) (some_words : 0 < table.announcers) where
+module _ (table : Table) (call : WriterCall) (rows : List Row) (spare : Spare) (before : MapSeat)
+    (settles : Settles table call rows spare before) (full : spare.slots ≤ spare.fresh)
+    (some_words : 0 < table.announcers) where
   -- where no slot is retired the look was the call's last step
   pub lacks_none : spare.retired ≡ [] → LacksSlot table call before spare before spare (none_spare spare)
-  lacks_none none = lacks_slot table call rows spare before before 0 (searched_none table call rows spare before settles full) (inr none) (sym (ap length none))
+  lacks_none none =
+      lacks_slot table call rows spare before before 0 (searched_none table call rows spare before settles full)
+      (inr none) (sym (ap length none))
 
   module _ (waits : 0 < length spare.retired) where
     abbrev desk : Desk
     desk = desk_with spare (Searching call rows 0)
 
     begun : WritesAt table desk before
-    begun = searching_at table call rows spare before before 0 (searched_none table call rows spare before settles full) waits
+    begun =
+        searching_at table call rows spare before before 0 (searched_none table call rows spare before settles full)
+        waits
 
     pub searches_in : SearchesIn table spare before
-    searches_in = record { search = record { own = begun.own; desk = desk; role = begun.role; room = begun.room; call = call; rows = rows; place = refl }; retired = refl; slots = settles.slots }
+    searches_in =
+        record {
+          search = record {
+            own = begun.own;
+            desk = desk;
+            role = begun.role;
+            room = begun.room;
+            call = call;
+            rows = rows;
+            place = refl;
+          };
+          retired = refl;
+          slots = settles.slots;
+        }
 
-    pub takes_words : (after : Spare) (now : MapSeat) (taken : Taken) → SearchTakes table before spare now after taken → TakesSlot table call rows before spare now after taken.slot taken.departures
+    pub takes_words : (after : Spare) (now : MapSeat) (taken : Taken) → SearchTakes table before spare now after taken
+        → TakesSlot table call rows before spare now after taken.slot taken.departures
     takes_words after now taken takes = let is = takes.after_is in
-        let slot_is : (retired_at desk takes.place).slot ≡ taken.slot = ap (λ (e : Retired). e.slot) (sym (there_is spare.retired takes.place takes.entry takes.here)) ∙ sym takes.slot in record {
+        let slot_is : (retired_at desk takes.place).slot ≡ taken.slot
+        = ap (λ (e : Retired). e.slot) (sym (there_is spare.retired takes.place takes.entry takes.here))
+        ∙ sym takes.slot in
+        record {
           steps = length takes.loads;
           loads = takes.loads;
-          took = inr (full, takes.place, takes.entry, takes.here, sym takes.slot, takes.takes, ap (λ (s : Spare). s.fresh) is, ap (λ (s : Spare). s.retired) is, refl);
+          took =
+              inr (
+                full,
+                takes.place,
+                takes.entry,
+                takes.here,
+                sym takes.slot,
+                takes.takes,
+                ap (λ (s : Spare). s.fresh) is,
+                ap (λ (s : Spare). s.retired) is,
+                refl,
+              );
           few = (takes.few, λ none. absurd (omega arith));
           slots = ap (λ (s : Spare). s.slots) is;
           numbers = ap (λ (s : Spare). s.numbers) is;
           reaped = ap (λ (s : Spare). s.reaped) is;
-          writes = subst (λ (p : ℕ × Spare). WritesAt table (desk_with p.1 (Putting call rows p.0 taken.departures 0)) now) (λ j. (slot_is j, sym is j)) (takes.writes desk call rows begun.role refl);
+          writes =
+              subst (λ (p : ℕ × Spare). WritesAt table (desk_with p.1 (Putting call rows p.0 taken.departures 0)) now)
+              (λ j. (slot_is j, sym is j)) (takes.writes desk call rows begun.role refl);
           grows = takes.grows;
           marks = takes.marks;
         }
 
-    pub lacks_words : (after : Spare) (now : MapSeat) (counts : NoSlot) → SearchLacks table before spare now after counts → LacksSlot table call before spare now after counts
-    lacks_words after now counts lacks = let (writes, done, sum) = lacks.writes desk call rows begun.role refl in let size = settles.slots in
+    pub lacks_words : (after : Spare) (now : MapSeat) (counts : NoSlot)
+        → SearchLacks table before spare now after counts → LacksSlot table call before spare now after counts
+    lacks_words after now counts lacks =
+        let (writes, done, sum) = lacks.writes desk call rows begun.role refl in
+        let size = settles.slots in
         let held : (token now).retired ≡ spare.retired = ap (λ (r : Role). (desk_of r).retired) writes.role in
-        let live_is = ap (λ (n : NoSlot). n.live) lacks.counts_are in let held_is = ap (λ (n : NoSlot). n.held) lacks.counts_are in
-        let slots_now : (token now).table.shape.slots ≡ table.shape.slots = ap (λ (t : Table). t.shape.slots) writes.own in
-        let readers_now : (token now).table.shape.readers ≡ table.shape.readers = ap (λ (t : Table). t.shape.readers) writes.own in
+        let live_is = ap (λ (n : NoSlot). n.live) lacks.counts_are in
+        let held_is = ap (λ (n : NoSlot). n.held) lacks.counts_are in
+        let slots_now : (token now).table.shape.slots ≡ table.shape.slots
+        = ap (λ (t : Table). t.shape.slots) writes.own in
+        let readers_now : (token now).table.shape.readers ≡ table.shape.readers
+        = ap (λ (t : Table). t.shape.readers) writes.own in
         let many = lacks.many in record {
           same = lacks.same;
           writes = writes;
@@ -69,8 +111,11 @@ module _ (table : Table) (call : WriterCall) (rows : List Row) (spare : Spare) (
             live = omega arith;
             held = held_is ∙ ap length (sym held);
             all = omega arith;
-            full = let fresh : (token now).fresh ≡ spare.fresh = ap (λ (r : Role). (desk_of r).fresh) writes.role in omega arith;
-            apart = λ slot. subst (λ (l : List Retired). retirements slot l ≤ 1) (sym held) (retired_once table.shape (desk_with spare Idle) writes.room slot);
+            full =
+                let fresh : (token now).fresh ≡ spare.fresh = ap (λ (r : Role). (desk_of r).fresh) writes.role in
+                omega arith;
+            apart = λ slot. subst (λ (l : List Retired). retirements slot l ≤ 1) (sym held)
+                (retired_once table.shape (desk_with spare Idle) writes.room slot);
             many = many ∙ ap length (sym held);
             others = lacks.apart;
             few = let few = lacks.few in omega arith;

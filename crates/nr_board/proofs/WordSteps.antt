@@ -1,5 +1,7 @@
 -- A reader's steps by its own word: it looks a key up, announces a slot, confirms it, and ends the announcement.
-use Rattle.std.proofs.Common.{◌≡◌, ◌≢◌, ℕ, suc, ◌+◌, ◌-◌, ◌%◌, ◌^◌, ◌<◌, ◌⊎◌, ⊎_elim, List, [], ◌∷◌, ◌++◌, Bool, true, cond, length-set, map, get_or, get_or-set_same, set, refl, sym, ap, ◌∙◌, subst, arith, lt-ltb}
+use Rattle.std.proofs.Common.{◌≡◌, ◌≢◌, ℕ, suc, ◌+◌, ◌-◌, ◌%◌, ◌^◌, ◌<◌, ◌⊎◌, ⊎_elim, List, [], ◌∷◌, ◌++◌, Bool, true}
+use Rattle.std.proofs.Common.{cond, length-set, map, get_or, get_or-set_same, set, refl, sym, ap, ◌∙◌, subst, arith}
+use Rattle.std.proofs.Common.{lt-ltb}
 use Rattle.std.specs.Prelude.{None, Some, nat_lt}
 use Rattle.std.proofs.lemmas.Bool.{eqb-true}
 use mathlib.Core.Option.{none, some}
@@ -38,8 +40,10 @@ use Rattle.nr_marks.specs.MarkSteps.{DepartsMarks, HoldsNamedMarks, LooksUpMarks
 use Rattle.nr_marks.specs.Marks.{Marks, acted, gripped, with_look}
 use Rattle.nr_marks.specs.Puts.{put_number}
 use Rattle.nr_board.proofs.Counting.{counted_same}
-use Rattle.nr_board.proofs.Lift.{Choice, Follows, Makes, allowed, apart, key_inside, key_no_count, keeps_core, knows_pasts, lends_on, lent_small, makes, sees_plain, words_after}
-use Rattle.nr_board.proofs.Moves.{ActsGo, learned_follows, learned_gains, learned_next, learning, names_go, reads_only, waited_follows, waited_next, waited_rests}
+use Rattle.nr_board.proofs.Lift.{Choice, Follows, Makes, allowed, apart, key_inside, key_no_count, keeps_core}
+use Rattle.nr_board.proofs.Lift.{knows_pasts, lends_on, lent_small, makes, sees_plain, words_after}
+use Rattle.nr_board.proofs.Moves.{ActsGo, learned_follows, learned_gains, learned_next, learning, names_go, reads_only}
+use Rattle.nr_board.proofs.Moves.{waited_follows, waited_next, waited_rests}
 use Rattle.nr_board.proofs.ReaderSteps.{acts_so, differ, reader_entry, reader_is, reader_within}
 use Rattle.nr_board.proofs.Saying.{announces_own, counted_behind, counted_lent, is_one, says_apart}
 use Rattle.nr_board.proofs.Heard.{AllHear, hears_after, no_reader}
@@ -48,57 +52,106 @@ use Rattle.nr_board.specs.Entries.{AreCallers}
 use Rattle.nr_board.specs.Plays.{Advances, IsIdle, Waits}
 use Rattle.nr_board.specs.Rule.{Kept, marks_of, role_of}
 use Rattle.nr_board.specs.Views.{View, grip_of, is_sized, caller_number, rows_held, slot_held}
-use Rattle.nr_board.specs.WordPlays.{Confirmed, HasWord, HoldsByWord, HoldsSaid, LookedUp, Said, has_confirmed, has_looked_up, has_said, let_go, saying, slot_said}
+use Rattle.nr_board.specs.WordPlays.{Confirmed, HasWord, HoldsByWord, HoldsSaid, LookedUp, Said, has_confirmed}
+use Rattle.nr_board.specs.WordPlays.{has_looked_up, has_said, let_go, saying, slot_said}
 
 -- THE LOOK
 
-look_up_makes : (shape : Shape) (id : ℕ) (me : Me (Unit {0}) View) (key : ℕ) → key < shape.keys → IsIdle me.0.role → me.0.shape ≡ shape
+look_up_makes : (shape : Shape) (id : ℕ) (me : Me (Unit {0}) View) (key : ℕ) → key < shape.keys → IsIdle me.0.role
+    → me.0.shape ≡ shape
     → Makes shape id me.0 (Load key) me.1 (λ found next. LookedUp key found me.0 next)
-look_up_makes shape id me key near idle sized = let view = me.0 in let reader = caller_number view.role in let tells = LooksUp reader key in let notes = LooksUpMarks view.marks key in let e = entry reader (model.Find key) reply.Hole in
+look_up_makes shape id me key near idle sized =
+    let view = me.0 in
+    let reader = caller_number view.role in
+    let tells = LooksUp reader key in
+    let notes = LooksUpMarks view.marks key in
+    let e = entry reader (model.Find key) reply.Hole in
     let looked : ℕ → Marks = λ found. with_look view.marks key (name_number found) in
-    makes shape id view (Load key) tells notes me.1 (λ found next. LookedUp key found view next) view.pasts (subst (λ r. CanStep shape id r (Load key) tells) (sym idle) (looks_up shape id reader key near))
+    makes shape id view (Load key) tells notes me.1 (λ found next. LookedUp key found view next) view.pasts
+    (subst (λ r. CanStep shape id r (Load key) tells) (sym idle) (looks_up shape id reader key near))
     (looks_up_marked role_of marks_of shape id view view.pasts reader key idle) (knows_pasts shape id view)
-    (sees_plain shape id view (Load key) tells notes (λ found next. LookedUp key found view next) (key_inside shape key near) (key_no_count shape key near)
+    (sees_plain shape id view (Load key) tells notes (λ found next. LookedUp key found view next)
+    (key_inside shape key near) (key_no_count shape key near)
     (λ state kept at step. lends_on view step.after (λ slot. ap (holds slot) (step.told.0 ∙ sym idle))))
-    (λ state kept at step marked. let found : ℕ = get_or kept.counted key 0 in let role : step.after ≡ view.role = step.told.0 ∙ sym idle in
-    let choose : (told : List Entry) → AreCallers shape step.entries → step.entries ≡ told → ActsGo view step.after step.entries marked.now
-    → ((next : View) → next.says ≡ view.says → next.role ≡ view.role → next.marks ≡ marked.now → next.seen ≡ kept.log ++ step.entries → Advances told view next → LookedUp key found view next)
+    (λ state kept at step marked.
+    let found : ℕ = get_or kept.counted key 0 in let role : step.after ≡ view.role = step.told.0 ∙ sym idle in
+    let choose : (told : List Entry) → AreCallers shape step.entries → step.entries ≡ told
+    → ActsGo view step.after step.entries marked.now
+    → ((next : View) → next.says ≡ view.says → next.role ≡ view.role → next.marks ≡ marked.now
+    → next.seen ≡ kept.log ++ step.entries → Advances told view next → LookedUp key found view next)
     → Choice shape id view (Load key) tells notes state kept step marked (λ next. LookedUp key found view next)
-    = λ told callers is acts tell. learning shape id view (Load key) tells notes state kept at step marked (ap caller_number role) sized callers acts (names_go view marked.now (reads_only view marked.now (ap is_writer idle))) (λ next. LookedUp key found view next)
+    = λ told callers is acts tell. learning shape id view (Load key) tells notes state kept at step marked
+    (ap caller_number role) sized callers acts
+    (names_go view marked.now (reads_only view marked.now (ap is_writer idle)))
+    (λ next. LookedUp key found view next)
     (reader_is view.role Nothing idle) marked.told.1 told is (λ advances. tell _ refl role refl refl advances) in
     let holds_none = ap (λ r. gripped (grip_of r)) idle in let still_none = ap (λ r. gripped (grip_of r)) step.told.0 in
-    by_cases (λ (_ : Bool). Choice shape id view (Load key) tells notes state kept step marked (λ next. LookedUp key found view next)) (is_filled found)
+    by_cases
+    (λ (_ : Bool). Choice shape id view (Load key) tells notes state kept step marked
+    (λ next. LookedUp key found view next))
+    (is_filled found)
     (λ full. let is : step.entries ≡ [] = step.told.1 ∙ ap (λ (b : Bool). cond {A = List Entry} b [] (e ∷ [])) full in
-    let same : marked.now ≡ looked found = marked.told.0 ∙ ap (λ (b : Bool). cond {A = Marks} b (looked found) (acted (looked found) (put_number (kept.log ++ step.entries) key))) full in
+    let same : marked.now ≡ looked found
+    = marked.told.0
+    ∙ ap
+    (λ (b : Bool). cond {A = Marks} b (looked found)
+    (acted (looked found) (put_number (kept.log ++ step.entries) key)))
+    full in
     let same_acts = ap (λ (m : Marks). m.acts) same in
-    choose [] (subst (AreCallers shape) (sym is) tt) is (acts_so view step.after step.entries marked.now None None [] holds_none still_none is (omega arith))
+    choose
+    [] (subst (AreCallers shape) (sym is) tt) is
+    (acts_so view step.after step.entries marked.now None None [] holds_none still_none is (omega arith))
     (λ next says role_is marks_are seen advances. record {
       role = role_is;
       says = says;
       hole = λ empty. differ (is_filled found) _ full empty;
       named = λ _. advances;
-      marks = marks_are ∙ marked.told.0 ∙ ap (λ (l : List Entry). cond {A = Marks} (is_filled found) (looked found) (acted (looked found) (put_number l key))) (sym seen);
+      marks =
+          marks_are ∙ marked.told.0
+          ∙ ap
+          (λ (l : List Entry). cond {A = Marks} (is_filled found) (looked found)
+          (acted (looked found) (put_number l key)))
+          (sym seen);
     }))
-    (λ empty. let is : step.entries ≡ e ∷ [] = step.told.1 ∙ ap (λ (b : Bool). cond {A = List Entry} b [] (e ∷ [])) empty in
-    let one : marked.now ≡ acted (looked found) (put_number (kept.log ++ step.entries) key) = marked.told.0 ∙ ap (λ (b : Bool). cond {A = Marks} b (looked found) (acted (looked found) (put_number (kept.log ++ step.entries) key))) empty in
+    (λ empty.
+    let is : step.entries ≡ e ∷ [] = step.told.1 ∙ ap (λ (b : Bool). cond {A = List Entry} b [] (e ∷ [])) empty in
+    let one : marked.now ≡ acted (looked found) (put_number (kept.log ++ step.entries) key)
+    = marked.told.0
+    ∙ ap
+    (λ (b : Bool). cond {A = Marks} b (looked found)
+    (acted (looked found) (put_number (kept.log ++ step.entries) key)))
+    empty in
     let one_act = ap (λ (m : Marks). m.acts) one in
-    choose (e ∷ []) (reader_entry shape reader (model.Find key) _ step.entries is near (reader_within shape id view Nothing state kept at idle) refl) is
+    choose (e ∷ [])
+    (reader_entry shape reader (model.Find key) _ step.entries is near
+    (reader_within shape id view Nothing state kept at idle) refl)
+    is
     (acts_so view step.after step.entries marked.now None None (e ∷ []) holds_none still_none is (omega arith))
     (λ next says role_is marks_are seen advances. record {
       role = role_is;
       says = says;
       hole = λ _. advances;
       named = λ full. differ (is_filled found) _ full empty;
-      marks = marks_are ∙ marked.told.0 ∙ ap (λ (l : List Entry). cond {A = Marks} (is_filled found) (looked found) (acted (looked found) (put_number l key))) (sym seen);
+      marks =
+          marks_are ∙ marked.told.0
+          ∙ ap
+          (λ (l : List Entry). cond {A = Marks} (is_filled found) (looked found)
+          (acted (looked found) (put_number l key)))
+          (sym seen);
     })))
 
-pub looks_up_so : (shape : Shape) (slots id : ℕ) (me : Me (Unit {0}) View) (key : ℕ) → key < shape.keys → IsIdle me.0.role → me.0.shape ≡ shape → Allows (Kept shape) slots id me key (λ word. word) (has_looked_up (step slots key 0 0 none) me)
-looks_up_so shape slots id me key near idle sized = allowed shape slots id me.0 (Load key) me.1 (λ found next. LookedUp key found me.0 next) (look_up_makes shape id me key near idle sized)
+pub looks_up_so : (shape : Shape) (slots id : ℕ) (me : Me (Unit {0}) View) (key : ℕ) → key < shape.keys
+    → IsIdle me.0.role → me.0.shape ≡ shape
+    → Allows (Kept shape) slots id me key (λ word. word) (has_looked_up (step slots key 0 0 none) me)
+looks_up_so shape slots id me key near idle sized =
+    allowed shape slots id me.0 (Load key) me.1 (λ found next. LookedUp key found me.0 next)
+    (look_up_makes shape id me key near idle sized)
 
 -- WHAT THE READER'S WORD SAYS
 
 -- the holds by words where one token's changes
-lent_after : (views : List View) (id : ℕ) (view next : View) → get_elem? views id ≡ some view → (slot : ℕ) → lent (set views id next) slot + lends slot view ≡ lent views slot + lends slot next
+lent_after : (views : List View) (id : ℕ) (view next : View) → get_elem? views id ≡ some view → (slot : ℕ)
+    → lent (set views id next) slot + lends slot view ≡ lent views slot + lends slot next
 lent_after views id view next at slot = total-set (lends slot) views id view next at
 
 -- what a token that says something holds, it holds by its word; one that holds nothing lends nothing
@@ -106,9 +159,12 @@ loud_lends : (view : View) (slot : ℕ) → 0 < view.says → lends slot view �
 loud_lends view slot loud = ap (λ (b : Bool). cond b (holds slot view.role) 0) (lt-ltb 0 view.says loud)
 
 idle_lends : (view : View) → ((slot : ℕ) → holds slot view.role ≡ 0) → (slot : ℕ) → lends slot view ≡ 0
-idle_lends view nothing slot = by_cases (λ (b : Bool). cond b (holds slot view.role) 0 ≡ 0) (nat_lt 0 view.says) (λ _. nothing slot) (λ _. refl)
+idle_lends view nothing slot =
+    by_cases (λ (b : Bool). cond b (holds slot view.role) 0 ≡ 0) (nat_lt 0 view.says) (λ _. nothing slot) (λ _. refl)
 
-module _ (shape : Shape) (id own : ℕ) (view : View) (has : HasWord own view) (state : State (Unit {0}) View) (kept : Kept shape state) (at : get_elem? state.views id ≡ some view) (mine : is_by (caller_number view.role) view.role ≡ true) where
+module _ (shape : Shape) (id own : ℕ) (view : View) (has : HasWord own view) (state : State (Unit {0}) View)
+    (kept : Kept shape state) (at : get_elem? state.views id ≡ some view)
+    (mine : is_by (caller_number view.role) view.role ≡ true) where
   is_own : is_by (suc own) view.role ≡ true
   is_own = ap (λ (n : ℕ). is_by n view.role) (sym has.number) ∙ mine
 
@@ -121,72 +177,130 @@ module _ (shape : Shape) (id own : ℕ) (view : View) (has : HasWord own view) (
       is_caller Note his = absurd (cc)
 
   -- no other token is that reader
-  alone : (other : ℕ) (viewed : View) → other ≢ id → get_elem? state.views other ≡ some viewed → is_by (suc own) viewed.role ≡ true → ⊥
-  alone other viewed ne there his = differ (is_by (suc own) view.role) ⊥ is_own (apart shape state kept id other view viewed (suc own) at there ne his)
+  alone : (other : ℕ) (viewed : View) → other ≢ id → get_elem? state.views other ≡ some viewed
+      → is_by (suc own) viewed.role ≡ true → ⊥
+  alone other viewed ne there his =
+      differ (is_by (suc own) view.role)
+      ⊥ is_own (apart shape state kept id other view viewed (suc own) at there ne his)
 
   -- the reader holds by its word no slot of which the writer has heard that reader
   abbrev LendsUnheard : View → Type 0
-  LendsUnheard next = (other slot : ℕ) (writer : View) → get_elem? state.views other ≡ some writer → is_writer writer.role ≡ 1 → own < get_or writer.heard slot 0 → lends slot next ≡ 0
+  LendsUnheard next =
+      (other slot : ℕ) (writer : View) → get_elem? state.views other ≡ some writer → is_writer writer.role ≡ 1
+      → own < get_or writer.heard slot 0 → lends slot next ≡ 0
 
   -- what the writer has heard stays so
-  heard_still : (operation : Operation) (tells : Telling) (notes : MarkTelling) (step : Stepped shape kept.counted (map role_of state.views) kept.log id view.role operation tells)
-      (marked : Remarked role_of marks_of shape kept.counted state.views kept.log id operation view step.after step.entries notes) (next : View)
-      → Follows shape id view operation tells notes state kept step marked next → LendsUnheard next → AllHear (set state.views id next)
-  heard_still operation tells notes step marked next follows unheard = let mine_next = ap (is_by (suc own)) follows.role ∙ step.same (suc own) ∙ is_own in
+  heard_still : (operation : Operation) (tells : Telling) (notes : MarkTelling)
+      (step : Stepped shape kept.counted (map role_of state.views) kept.log id view.role operation tells)
+      (marked : Remarked role_of marks_of shape kept.counted state.views kept.log id operation view step.after
+      step.entries notes)
+      (next : View)
+      → Follows shape id view operation tells notes state kept step marked next → LendsUnheard next
+      → AllHear (set state.views id next)
+  heard_still operation tells notes step marked next follows unheard =
+      let mine_next = ap (is_by (suc own)) follows.role ∙ step.same (suc own) ∙ is_own in
       hears_after state.views id view next at
-      (λ other slot reader writer _ there writes his low. unheard other slot writer there writes (let same = is_one next.role (suc own) (suc reader) mine_next his in omega arith))
+      (λ other slot reader writer _ there writes his low. unheard other slot writer there writes
+      (let same = is_one next.role (suc own) (suc reader) mine_next his in omega arith))
       (λ writes. absurd (no_reader next.role own writes mine_next)) kept.hears
 
-  -- the rule after a step of the core that the reader's view goes along with, where its word then says what the view says
-  says_kept : (operation : Operation) (tells : Telling) (notes : MarkTelling) (step : Stepped shape kept.counted (map role_of state.views) kept.log id view.role operation tells)
-      (marked : Remarked role_of marks_of shape kept.counted state.views kept.log id operation view step.after step.entries notes) (next : View)
-      → Follows shape id view operation tells notes state kept step marked next → ((slot : ℕ) → 0 < next.says → 0 < holds slot next.role → next.says ≡ suc slot) → LendsUnheard next
+  -- the rule after a step of the core that the reader's view goes along with, where its word then says what the view
+  -- says
+  says_kept : (operation : Operation) (tells : Telling) (notes : MarkTelling)
+      (step : Stepped shape kept.counted (map role_of state.views) kept.log id view.role operation tells)
+      (marked : Remarked role_of marks_of shape kept.counted state.views kept.log id operation view step.after
+      step.entries notes)
+      (next : View)
+      → Follows shape id view operation tells notes state kept step marked next
+      → ((slot : ℕ) → 0 < next.says → 0 < holds slot next.role → next.says ≡ suc slot) → LendsUnheard next
       → Counted shape (lent (set state.views id next)) state.words (words_after operation kept.counted)
-      → Kept shape (record { words = set state.words (says_at shape own) next.says; homes = state.homes; views = set state.views id next })
-  says_kept operation tells notes step marked next follows holds_it unheard seen = let place : ℕ = says_at shape own in let within = is_within in let space = kept.announced.space in
-      keeps_core shape id view operation tells notes state kept at step marked next follows (set state.words place next.says)
-      (counted_behind shape (lent (set state.views id next)) state.words (words_after operation kept.counted) place next.says (omega arith) seen)
+      → Kept shape
+      (record {
+        words = set state.words (says_at shape own) next.says;
+        homes = state.homes;
+        views = set state.views id next;
+      })
+  says_kept operation tells notes step marked next follows holds_it unheard seen =
+      let place : ℕ = says_at shape own in
+      let within = is_within in
+      let space = kept.announced.space in
+      keeps_core shape id view operation tells notes state kept at step marked next follows
+      (set state.words place next.says)
+      (counted_behind shape (lent (set state.views id next)) state.words (words_after operation kept.counted) place
+      next.says (omega arith) seen)
       (announces_own shape kept.announcers state.words (set state.words place next.says) state.views id own view next at
-      (ap (is_by (suc own)) follows.role ∙ step.same (suc own) ∙ is_own) within (λ caller. ap (is_by caller) follows.role ∙ step.same caller) alone
-      (get_or-set_same state.words place next.says 0 (omega arith)) (says_apart shape state.words own next.says) holds_it (length-set state.words place next.says) kept.announced)
+      (ap (is_by (suc own)) follows.role ∙ step.same (suc own) ∙ is_own) within
+      (λ caller. ap (is_by caller) follows.role ∙ step.same caller) alone
+      (get_or-set_same state.words place next.says 0 (omega arith)) (says_apart shape state.words own next.says)
+      holds_it (length-set state.words place next.says) kept.announced)
       (heard_still operation tells notes step marked next follows unheard)
 
   -- and where its word says what it said
-  says_still : (operation : Operation) (tells : Telling) (notes : MarkTelling) (step : Stepped shape kept.counted (map role_of state.views) kept.log id view.role operation tells)
-      (marked : Remarked role_of marks_of shape kept.counted state.views kept.log id operation view step.after step.entries notes) (next : View)
-      → Follows shape id view operation tells notes state kept step marked next → next.says ≡ view.says → ((slot : ℕ) → 0 < next.says → 0 < holds slot next.role → next.says ≡ suc slot) → LendsUnheard next
+  says_still : (operation : Operation) (tells : Telling) (notes : MarkTelling)
+      (step : Stepped shape kept.counted (map role_of state.views) kept.log id view.role operation tells)
+      (marked : Remarked role_of marks_of shape kept.counted state.views kept.log id operation view step.after
+      step.entries notes)
+      (next : View)
+      → Follows shape id view operation tells notes state kept step marked next → next.says ≡ view.says
+      → ((slot : ℕ) → 0 < next.says → 0 < holds slot next.role → next.says ≡ suc slot) → LendsUnheard next
       → Counted shape (lent (set state.views id next)) state.words (words_after operation kept.counted)
       → Kept shape (record { words = state.words; homes = state.homes; views = set state.views id next })
   says_still operation tells notes step marked next follows same holds_it unheard seen =
       keeps_core shape id view operation tells notes state kept at step marked next follows state.words seen
       (announces_own shape kept.announcers state.words state.words state.views id own view next at
-      (ap (is_by (suc own)) follows.role ∙ step.same (suc own) ∙ is_own) is_within (λ caller. ap (is_by caller) follows.role ∙ step.same caller) alone
+      (ap (is_by (suc own)) follows.role ∙ step.same (suc own) ∙ is_own) is_within
+      (λ caller. ap (is_by caller) follows.role ∙ step.same caller) alone
       (kept.announced.says id own view at is_own is_within ∙ sym same) (λ _ _. refl) holds_it refl kept.announced)
       (heard_still operation tells notes step marked next follows unheard)
 
 -- a view that says something else goes along with the step too
-saying_follows : (shape : Shape) (id : ℕ) (view : View) (operation : Operation) (tells : Telling) (notes : MarkTelling) (state : State (Unit {0}) View) (kept : Kept shape state)
+saying_follows : (shape : Shape) (id : ℕ) (view : View) (operation : Operation) (tells : Telling) (notes : MarkTelling)
+    (state : State (Unit {0}) View) (kept : Kept shape state)
     (step : Stepped shape kept.counted (map role_of state.views) kept.log id view.role operation tells)
-    (marked : Remarked role_of marks_of shape kept.counted state.views kept.log id operation view step.after step.entries notes) (next : View) (says : ℕ)
-    → Follows shape id view operation tells notes state kept step marked next → Follows shape id view operation tells notes state kept step marked (saying says next)
-saying_follows shape id view operation tells notes state kept step marked next says follows = let fits = follows.fits in record {
-  role = follows.role;
-  made = follows.made;
-  announcers = follows.announcers;
-  marks = follows.marks;
-  pasts = follows.pasts;
-  told_pasts = follows.told_pasts;
-  fits = record { begins = fits.begins; told = fits.told; own = fits.own; knows_own = fits.knows_own; acts = fits.acts; sized = fits.sized };
-  callers = follows.callers;
-}
+    (marked : Remarked role_of marks_of shape kept.counted state.views kept.log id operation view step.after
+    step.entries notes)
+    (next : View) (says : ℕ)
+    → Follows shape id view operation tells notes state kept step marked next
+    → Follows shape id view operation tells notes state kept step marked (saying says next)
+saying_follows shape id view operation tells notes state kept step marked next says follows =
+    let fits = follows.fits in
+    record {
+      role = follows.role;
+      made = follows.made;
+      announcers = follows.announcers;
+      marks = follows.marks;
+      pasts = follows.pasts;
+      told_pasts = follows.told_pasts;
+      fits =
+          record {
+            begins = fits.begins;
+            told = fits.told;
+            own = fits.own;
+            knows_own = fits.knows_own;
+            acts = fits.acts;
+            sized = fits.sized;
+          };
+      callers = follows.callers;
+    }
 
 -- and what its step told it stands
 saying_waits : (view next : View) (says : ℕ) → Waits view next → Waits view (saying says next)
-saying_waits view next says waits table = let rests = waits table in record { table = rests.table; number = rests.number; seen = rests.seen; mine = rests.mine; steps_made = rests.steps_made; pasts = rests.pasts }
+saying_waits view next says waits table =
+    let rests = waits table in
+    record {
+      table = rests.table;
+      number = rests.number;
+      seen = rests.seen;
+      mine = rests.mine;
+      steps_made = rests.steps_made;
+      pasts = rests.pasts;
+    }
 
 -- THE ANNOUNCEMENT, AND ITS END
 
-module _ (shape : Shape) (slots id own says : ℕ) (me : Me (Unit {0}) View) (has : HasWord own me.0) (sized : me.0.shape ≡ shape) (state : State (Unit {0}) View) (kept : Kept shape state) (at : get_elem? state.views id ≡ some me.0) where
+module _ (shape : Shape) (slots id own says : ℕ) (me : Me (Unit {0}) View) (has : HasWord own me.0)
+    (sized : me.0.shape ≡ shape) (state : State (Unit {0}) View) (kept : Kept shape state)
+    (at : get_elem? state.views id ≡ some me.0) where
   abbrev view : View
   view = me.0
 
@@ -194,122 +308,267 @@ module _ (shape : Shape) (slots id own says : ℕ) (me : Me (Unit {0}) View) (ha
   reader = caller_number view.role
 
   -- a step of the core after which the reader holds nothing
-  says_after : is_by reader view.role ≡ true → (operation : Operation) (tells : Telling) (notes : MarkTelling) (step : Stepped shape kept.counted (map role_of state.views) kept.log id view.role operation tells)
-      (marked : Remarked role_of marks_of shape kept.counted state.views kept.log id operation view step.after step.entries notes)
-      → step.after ≡ Reader reader Nothing → step.entries ≡ [] → marked.news ≡ [] → marked.now ≡ let_go (grip_of view.role) view.marks → ActsGo view step.after step.entries marked.now
-      → ((next : View) → ((slot : ℕ) → lends slot next ≡ 0) → Counted shape (lent (set state.views id next)) state.words (words_after operation kept.counted))
-      → (next : View) × Kept shape (record { words = set state.words (says_at shape own) says; homes = state.homes; views = set state.views id next }) × Said says view next
+  says_after : is_by reader view.role ≡ true
+      → (operation : Operation) (tells : Telling) (notes : MarkTelling)
+      (step : Stepped shape kept.counted (map role_of state.views) kept.log id view.role operation tells)
+      (marked : Remarked role_of marks_of shape kept.counted state.views kept.log id operation view step.after
+      step.entries notes)
+      → step.after ≡ Reader reader Nothing → step.entries ≡ [] → marked.news ≡ []
+      → marked.now ≡ let_go (grip_of view.role) view.marks → ActsGo view step.after step.entries marked.now
+      → ((next : View) → ((slot : ℕ) → lends slot next ≡ 0)
+      → Counted shape (lent (set state.views id next)) state.words (words_after operation kept.counted))
+      → (next : View)
+      × Kept shape
+      (record {
+        words = set state.words (says_at shape own) says;
+        homes = state.homes;
+        views = set state.views id next;
+      })
+      × Said says view next
   says_after mine operation tells notes step marked after no_entries no_news lets_go acts seen =
-      let same : caller_number step.after ≡ reader = ap caller_number after in let callers : AreCallers shape step.entries = subst (AreCallers shape) (sym no_entries) tt in
-      let quiet = waited_next shape id view operation tells notes state kept at step marked same sized callers acts in let next = saying says quiet in
+      let same : caller_number step.after ≡ reader = ap caller_number after in
+      let callers : AreCallers shape step.entries = subst (AreCallers shape) (sym no_entries) tt in
+      let quiet = waited_next shape id view operation tells notes state kept at step marked same sized callers acts in
+      let next = saying says quiet in
       let holds_none : (slot : ℕ) → holds slot next.role ≡ 0 = λ slot. ap (holds slot) after in (
         next,
         says_kept shape id own view has state kept at mine operation tells notes step marked next
-            (saying_follows shape id view operation tells notes state kept step marked quiet says (waited_follows shape id view operation tells notes state kept at step marked same sized callers acts no_entries))
-            (λ slot _ grips. absurd (omega (arith, holds_none slot))) (λ _ slot _ _ _ _. idle_lends next holds_none slot) (seen next (idle_lends next holds_none)),
-        record { role = after; says_it = refl; waits = saying_waits view quiet says (waited_rests shape id view operation tells notes state kept at step marked same sized callers acts no_news); marks = lets_go },
+            (saying_follows shape id view operation tells notes state kept step marked quiet says
+            (waited_follows shape id view operation tells notes state kept at step marked same sized callers acts
+            no_entries))
+            (λ slot _ grips. absurd (omega (arith, holds_none slot)))
+            (λ _ slot _ _ _ _. idle_lends next holds_none slot) (seen next (idle_lends next holds_none)),
+        record {
+          role = after;
+          says_it = refl;
+          waits = saying_waits view quiet says
+              (waited_rests shape id view operation tells notes state kept at step marked same sized callers acts
+              no_news);
+          marks = lets_go;
+        },
       )
 
   -- the core sees nothing of it where the reader held nothing
-  says_idle : IsIdle view.role → (next : View) × Kept shape (record { words = set state.words (says_at shape own) says; homes = state.homes; views = set state.views id next }) × Said says view next
+  says_idle : IsIdle view.role
+      → (next : View)
+      × Kept shape
+      (record {
+        words = set state.words (says_at shape own) says;
+        homes = state.homes;
+        views = set state.views id next;
+      })
+      × Said says view next
   says_idle idle = let notes = ReaderLearns reader Nothing view.marks [] in
-      let step = learns shape id view.role 0 kept.counted (map role_of state.views) kept.log kept.core (at_map role_of state.views id view at) in
-      let marked = learns_reader role_of marks_of shape id view [] 0 reader Nothing idle kept.counted state.views kept.log kept.core kept.marked kept.once at (no_places (Since role_of marks_of state.views)) step.after step.entries step.told in
-      says_after (reader_is view.role Nothing idle) (Load 0) (LoadsWord view.role) notes step marked (step.told.0 ∙ idle) step.told.1 marked.told.1 (marked.told.0 ∙ sym (ap (λ r. let_go (grip_of r) view.marks) idle))
-      (acts_so view step.after step.entries marked.now None None [] (ap (λ r. gripped (grip_of r)) idle) (ap (λ r. gripped (grip_of r)) (step.told.0 ∙ idle)) step.told.1 (let same = ap (λ (m : Marks). m.acts) marked.told.0 in omega arith))
-      (λ next lends_none. subst (Counted shape (lent (set state.views id next)) state.words) (sym (set-get_or kept.counted 0 0))
+      let step
+      = learns shape id view.role 0 kept.counted (map role_of state.views) kept.log kept.core
+      (at_map role_of state.views id view at) in
+      let marked
+      = learns_reader role_of marks_of shape id view
+      [] 0 reader Nothing idle kept.counted state.views kept.log kept.core kept.marked kept.once at
+      (no_places (Since role_of marks_of state.views)) step.after step.entries step.told in
+      says_after (reader_is view.role Nothing idle) (Load 0) (LoadsWord view.role) notes step marked
+      (step.told.0 ∙ idle) step.told.1 marked.told.1
+      (marked.told.0 ∙ sym (ap (λ r. let_go (grip_of r) view.marks) idle))
+      (acts_so view step.after step.entries marked.now None None
+      [] (ap (λ r. gripped (grip_of r)) idle) (ap (λ r. gripped (grip_of r)) (step.told.0 ∙ idle)) step.told.1
+      (let same = ap (λ (m : Marks). m.acts) marked.told.0 in omega arith))
+      (λ next lends_none. subst (Counted shape (lent (set state.views id next)) state.words)
+      (sym (set-get_or kept.counted 0 0))
       (counted_same shape (lent state.views) (lent (set state.views id next)) state.words kept.counted
-      (λ slot. let before : lends slot view ≡ 0 = idle_lends view (λ s. ap (holds s) idle) slot in omega (arith, lent_after state.views id view next at slot, lends_none slot)) kept.counts_words))
+      (λ slot.
+      let before : lends slot view ≡ 0 = idle_lends view (λ s. ap (holds s) idle) slot in
+      omega (arith, lent_after state.views id view next at slot, lends_none slot))
+      kept.counts_words))
 
   -- and sees a departure where it held a slot by its word
-  says_held : HoldsByWord shape view → (next : View) × Kept shape (record { words = set state.words (says_at shape own) says; homes = state.homes; views = set state.views id next }) × Said says view next
-  says_held held = let slot : ℕ = slot_held view.role in let rows = rows_held view.role in let sized_so = is_sized (grip_of view.role) in let is = held.0.is in let tells = Departs reader in
+  says_held : HoldsByWord shape view
+      → (next : View)
+      × Kept shape
+      (record {
+        words = set state.words (says_at shape own) says;
+        homes = state.homes;
+        views = set state.views id next;
+      })
+      × Said says view next
+  says_held held =
+      let slot : ℕ = slot_held view.role in
+      let rows = rows_held view.role in
+      let sized_so = is_sized (grip_of view.role) in
+      let is = held.0.is in
+      let tells = Departs reader in
       let place : ℕ = departures shape slot in let operation = Add place 1 in
-      let step = subst (λ r. CanStep shape id r operation tells) (sym is) (departs shape id reader slot rows sized_so) kept.counted (map role_of state.views) kept.log kept.core (at_map role_of state.views id view at) in
-      let marked = departs_marked role_of marks_of shape id view [] reader slot rows sized_so is kept.counted state.views kept.log kept.core kept.marked kept.once at (no_places (Since role_of marks_of state.views)) step.after step.entries step.told in
-      says_after (reader_is view.role (On slot rows sized_so) is) operation tells (DepartsMarks view.marks) step marked step.told.0 step.told.1 marked.told.1 (marked.told.0 ∙ sym (ap (λ r. let_go (grip_of r) view.marks) is))
-      (acts_so view step.after step.entries marked.now (Some slot) None [] (ap (λ r. gripped (grip_of r)) is) (ap (λ r. gripped (grip_of r)) step.told.0) step.told.1 (let same = ap (λ (m : Marks). m.acts) marked.told.0 in omega arith))
-      (λ next lends_none. let near = held.0.inside in let wide = kept.core.wide in let few = lent_small shape state kept slot in
+      let step
+      = subst (λ r. CanStep shape id r operation tells) (sym is) (departs shape id reader slot rows sized_so)
+      kept.counted (map role_of state.views) kept.log kept.core (at_map role_of state.views id view at) in
+      let marked
+      = departs_marked role_of marks_of shape id view
+      [] reader slot rows sized_so is kept.counted state.views kept.log kept.core kept.marked kept.once at
+      (no_places (Since role_of marks_of state.views)) step.after step.entries step.told in
+      says_after (reader_is view.role (On slot rows sized_so) is) operation tells (DepartsMarks view.marks) step marked
+      step.told.0 step.told.1 marked.told.1 (marked.told.0 ∙ sym (ap (λ r. let_go (grip_of r) view.marks) is))
+      (acts_so view step.after step.entries marked.now (Some slot) None
+      [] (ap (λ r. gripped (grip_of r)) is) (ap (λ r. gripped (grip_of r)) step.told.0) step.told.1
+      (let same = ap (λ (m : Marks). m.acts) marked.told.0 in omega arith))
+      (λ next lends_none.
+      let near = held.0.inside in let wide = kept.core.wide in let few = lent_small shape state kept slot in
       let grips : (s : ℕ) → lends s view ≡ only s slot = λ s. loud_lends view s held.1 ∙ ap (holds s) is in
-      let change : (s : ℕ) → lent (set state.views id next) s + only s slot ≡ lent state.views s = λ s. omega (arith, lent_after state.views id view next at s, grips s, lends_none s) in
+      let change : (s : ℕ) → lent (set state.views id next) s + only s slot ≡ lent state.views s
+      = λ s. omega (arith, lent_after state.views id view next at s, grips s, lends_none s) in
       let less = kept.counts_words.less slot near in
-      counted_lent shape (lent state.views) (lent (set state.views id next)) state.words kept.counted slot ((get_or kept.counted place 0 + 1) % 2 ^ 64) near (omega arith)
-      (λ s ne. omega (arith, change s, only-other s slot (λ e. ne (sym e)))) (omega (arith, change slot, only-same slot, less, few)) kept.counts_words)
+      counted_lent shape (lent state.views) (lent (set state.views id next)) state.words kept.counted slot
+      ((get_or kept.counted place 0 + 1) % 2 ^ 64) near (omega arith)
+      (λ s ne. omega (arith, change s, only-other s slot (λ e. ne (sym e))))
+      (omega (arith, change slot, only-same slot, less, few)) kept.counts_words)
 
 -- the same shape under another name
-pub holds_by_word : (shape other : Shape) (view : View) → shape ≡ other → IsIdle view.role ⊎ HoldsByWord shape view → IsIdle view.role ⊎ HoldsByWord other view
+pub holds_by_word : (shape other : Shape) (view : View) → shape ≡ other → IsIdle view.role ⊎ HoldsByWord shape view
+    → IsIdle view.role ⊎ HoldsByWord other view
 holds_by_word shape other view same = subst (λ (s : Shape). IsIdle view.role ⊎ HoldsByWord s view) same
 
-pub says_so : (shape : Shape) (slots id own says : ℕ) (me : Me (Unit {0}) View) → HasWord own me.0 → me.0.shape ≡ shape → IsIdle me.0.role ⊎ HoldsByWord shape me.0
-    → let place = says_at shape own in Allows (Kept shape) slots id me place (λ _. says) (has_said (step slots place says 0 none) me)
+pub says_so : (shape : Shape) (slots id own says : ℕ) (me : Me (Unit {0}) View) → HasWord own me.0 → me.0.shape ≡ shape
+    → IsIdle me.0.role ⊎ HoldsByWord shape me.0
+    → let place = says_at shape own in
+    Allows (Kept shape) slots id me place (λ _. says) (has_said (step slots place says 0 none) me)
 says_so shape slots id own says me has sized holds state kept homes at small =
-    let said = ⊎_elim (says_idle shape slots id own says me has sized state kept at) (says_held shape slots id own says me has sized state kept at) holds in
+    let said
+    = ⊎_elim (says_idle shape slots id own says me has sized state kept at)
+    (says_held shape slots id own says me has sized state kept at) holds in
     (said.0, keeps, tt, said.1, said.2)
 
 -- THE SECOND LOOK
 
 -- of a slot that a key names nothing is heard
-named_unheard : (shape : Shape) (state : State (Unit {0}) View) (kept : Kept shape state) (other : ℕ) (writer : View) → get_elem? state.views other ≡ some writer → is_writer writer.role ≡ 1
-    → (key slot : ℕ) → key < shape.keys → name_number (get_or kept.counted key 0) ≡ suc slot → get_or writer.heard slot 0 ≡ 0
+named_unheard : (shape : Shape) (state : State (Unit {0}) View) (kept : Kept shape state) (other : ℕ) (writer : View)
+    → get_elem? state.views other ≡ some writer → is_writer writer.role ≡ 1
+    → (key slot : ℕ) → key < shape.keys → name_number (get_or kept.counted key 0) ≡ suc slot
+    → get_or writer.heard slot 0 ≡ 0
 named_unheard shape state kept other writer there writes key slot near names = by_role writer.role refl
   where
     by_role : (role : Role) → writer.role ≡ role → get_or writer.heard slot 0 ≡ 0
     by_role (Writer desk) is = (kept.hears other writer there writes).unheard key slot
-        ((subst (λ (r : Role). KnowsMarks role_of marks_of shape kept.counted state.views kept.log r writer.marks) is (kept.marked.each other writer there)).names key near ∙ names)
+        ((subst (λ (r : Role). KnowsMarks role_of marks_of shape kept.counted state.views kept.log r writer.marks) is
+        (kept.marked.each other writer there)).names
+        key near
+        ∙ names)
     by_role (Reader reader grip) is = absurd (let none_writes = ap is_writer is in omega arith)
     by_role Note is = absurd (let none_writes = ap is_writer is in omega arith)
 
 -- where the key names the announced slot, the reader holds it
-confirms_named : (shape : Shape) (slots id own : ℕ) (me : Me (Unit {0}) View) (key : ℕ) → key < shape.keys → HasWord own me.0 → me.0.shape ≡ shape → IsIdle me.0.role → 0 < me.0.says
-    → (state : State (Unit {0}) View) (kept : Kept shape state) → get_elem? state.views id ≡ some me.0 → name_number (get_or state.words key 0) ≡ suc (slot_said me.0)
-    → (next : View) × Kept shape (record { words = state.words; homes = state.homes; views = set state.views id next }) × HoldsSaid key me.0 next
+confirms_named : (shape : Shape) (slots id own : ℕ) (me : Me (Unit {0}) View) (key : ℕ) → key < shape.keys
+    → HasWord own me.0 → me.0.shape ≡ shape → IsIdle me.0.role → 0 < me.0.says
+    → (state : State (Unit {0}) View) (kept : Kept shape state) → get_elem? state.views id ≡ some me.0
+    → name_number (get_or state.words key 0) ≡ suc (slot_said me.0)
+    → (next : View) × Kept shape (record { words = state.words; homes = state.homes; views = set state.views id next })
+    × HoldsSaid key me.0 next
 confirms_named shape slots id own me key near has sized idle loud state kept at names =
-    let view = me.0 in let reader = caller_number view.role in let slot : ℕ = slot_said view in let place : ℕ = departures shape slot in let operation = Add place (2 ^ 64 - 1) in let tells = HoldsNamed shape reader slot key in
+    let view = me.0 in
+    let reader = caller_number view.role in
+    let slot : ℕ = slot_said view in
+    let place : ℕ = departures shape slot in
+    let operation = Add place (2 ^ 64 - 1) in
+    let tells = HoldsNamed shape reader slot key in
     let notes = HoldsNamedMarks view.marks key slot in let mine = reader_is view.role Nothing idle in
-    let names_seen : name_number (get_or kept.counted key 0) ≡ suc slot = ap name_number (kept.counts_words.same key (key_inside shape key near) (key_no_count shape key near)) ∙ names in
-    let step = subst (λ r. CanStepWhere shape id r operation (λ words. name_number (get_or words key 0) ≡ suc slot) tells) (sym idle) (holds_named shape id reader key slot near)
+    let names_seen : name_number (get_or kept.counted key 0) ≡ suc slot
+    = ap name_number (kept.counts_words.same key (key_inside shape key near) (key_no_count shape key near))
+    ∙ names in
+    let step
+    = subst (λ r. CanStepWhere shape id r operation (λ words. name_number (get_or words key 0) ≡ suc slot) tells)
+    (sym idle) (holds_named shape id reader key slot near)
     kept.counted (map role_of state.views) kept.log kept.core names_seen (at_map role_of state.views id view at) in
-    let marked = holds_named_marked role_of marks_of shape id view [] reader key slot near idle kept.counted state.views kept.log kept.core kept.marked names_seen kept.once at (no_places (Since role_of marks_of state.views)) step.after step.entries step.told in
-    let rows = step.told.0 in let inside = step.told.1 in let after = step.told.3 in let same : caller_number step.after ≡ reader = ap caller_number after in
-    let rows_so : rows_held step.after ≡ rows = ap rows_held after in let slot_so : slot_held step.after ≡ slot = ap slot_held after in
-    let callers = reader_entry shape reader (model.Find key) _ step.entries step.told.4 near (reader_within shape id view Nothing state kept at idle) refl in
-    let acts = acts_so view step.after step.entries marked.now None (Some slot) _ (ap (λ r. gripped (grip_of r)) idle) (ap (λ r. gripped (grip_of r)) after) step.told.4 (let count = ap (λ (m : Marks). m.acts) marked.told.0 in omega arith) in
+    let marked
+    = holds_named_marked role_of marks_of shape id view
+    [] reader key slot near idle kept.counted state.views kept.log kept.core kept.marked names_seen kept.once at
+    (no_places (Since role_of marks_of state.views)) step.after step.entries step.told in
+    let rows = step.told.0 in
+    let inside = step.told.1 in
+    let after = step.told.3 in
+    let same : caller_number step.after ≡ reader = ap caller_number after in
+    let rows_so : rows_held step.after ≡ rows = ap rows_held after in
+    let slot_so : slot_held step.after ≡ slot = ap slot_held after in
+    let callers
+    = reader_entry shape reader (model.Find key) _ step.entries step.told.4 near
+    (reader_within shape id view Nothing state kept at idle) refl in
+    let acts
+    = acts_so view step.after step.entries marked.now None (Some slot) _ (ap (λ r. gripped (grip_of r)) idle)
+    (ap (λ r. gripped (grip_of r)) after) step.told.4
+    (let count = ap (λ (m : Marks). m.acts) marked.told.0 in omega arith) in
     let next = learned_next shape id view operation tells notes state kept at step marked same sized callers acts in
     let grips : (s : ℕ) → lends s next ≡ only s slot = λ s. loud_lends next s loud ∙ ap (holds s) after in
     let change : (s : ℕ) → lent (set state.views id next) s ≡ lent state.views s + only s slot
-    = λ s. let before : lends s view ≡ 0 = idle_lends view (λ t. ap (holds t) idle) s in omega (arith, lent_after state.views id view next at s, grips s) in
-    let less = kept.counts_words.less slot inside in let wide = kept.core.wide in let few = lent_small shape state kept slot in (
+    = λ s.
+    let before : lends s view ≡ 0 = idle_lends view (λ t. ap (holds t) idle) s in
+    omega (arith, lent_after state.views id view next at s, grips s) in
+    let less = kept.counts_words.less slot inside in
+    let wide = kept.core.wide in
+    let few = lent_small shape state kept slot in (
       next,
       says_still shape id own view has state kept at mine operation tells notes step marked next
           (learned_follows shape id view operation tells notes state kept at step marked same sized callers acts) refl
-          (λ s _ grip. let held : 0 < only s slot = subst (λ (n : ℕ). 0 < n) (ap (holds s) after) grip in let found = only-is s slot held in omega arith)
-          (λ other s writer there writes low. grips s ∙ only-other s slot (λ e. let unheard = named_unheard shape state kept other writer there writes key s near (names_seen ∙ ap suc e) in absurd (omega arith)))
-          (counted_lent shape (lent state.views) (lent (set state.views id next)) state.words kept.counted slot ((get_or kept.counted place 0 + (2 ^ 64 - 1)) % 2 ^ 64) inside (omega arith)
-          (λ s ne. omega (arith, change s, only-other s slot (λ e. ne (sym e)))) (omega (arith, change slot, only-same slot, less, few)) kept.counts_words),
+          (λ s _ grip.
+          let held : 0 < only s slot = subst (λ (n : ℕ). 0 < n) (ap (holds s) after) grip in
+          let found = only-is s slot held in
+          omega arith)
+          (λ other s writer there writes low. grips s
+          ∙ only-other s slot
+          (λ e.
+          let unheard
+          = named_unheard shape state kept other writer there writes key s near
+          (names_seen ∙ ap suc e) in
+          absurd (omega arith)))
+          (counted_lent shape (lent state.views) (lent (set state.views id next)) state.words kept.counted slot
+          ((get_or kept.counted place 0 + (2 ^ 64 - 1)) % 2 ^ 64) inside (omega arith)
+          (λ s ne. omega (arith, change s, only-other s slot (λ e. ne (sym e))))
+          (omega (arith, change slot, only-same slot, less, few)) kept.counts_words),
       record {
         number = same;
         says = refl;
         holds = record {
-          is = after ∙ (λ j. Reader (sym same j) (On (sym slot_so j) (sym rows_so j) (sym (ap (λ r. is_sized (grip_of r)) after) j)));
+          is =
+              after
+              ∙ (λ j. Reader (sym same j)
+              (On (sym slot_so j) (sym rows_so j) (sym (ap (λ r. is_sized (grip_of r)) after) j)));
           inside = subst (λ (p : ℕ × Shape). p.0 < p.1.slots) (λ j. (sym slot_so j, sym sized j)) inside;
-          row_set = subst (λ (p : Shape × List Row). IsRowSet (bound_of p.0) p.1) (λ j. (sym sized j, sym rows_so j)) step.told.2;
+          row_set =
+              subst (λ (p : Shape × List Row). IsRowSet (bound_of p.0) p.1) (λ j. (sym sized j, sym rows_so j))
+              step.told.2;
         };
         slot = slot_so;
-        gains = learned_gains shape id view operation tells notes state kept at step marked same sized callers acts mine marked.told.1 (entry reader (model.Find key) (reply.Rows (rows_held step.after)) ∷ [])
+        gains =
+            learned_gains shape id view operation tells notes state kept at step marked same sized callers acts mine
+            marked.told.1 (entry reader (model.Find key) (reply.Rows (rows_held step.after)) ∷ [])
             (step.told.4 ∙ ap (λ (r : List Row). entry reader (model.Find key) (reply.Rows r) ∷ []) (sym rows_so));
         marks = marked.told.0;
       },
     )
 
-pub confirms_so : (shape : Shape) (slots id own : ℕ) (me : Me (Unit {0}) View) (key : ℕ) → key < shape.keys → HasWord own me.0 → me.0.shape ≡ shape → IsIdle me.0.role → 0 < me.0.says
+pub confirms_so : (shape : Shape) (slots id own : ℕ) (me : Me (Unit {0}) View) (key : ℕ) → key < shape.keys
+    → HasWord own me.0 → me.0.shape ≡ shape → IsIdle me.0.role → 0 < me.0.says
     → Allows (Kept shape) slots id me key (λ word. word) (has_confirmed (step slots key 0 0 none) me)
-confirms_so shape slots id own me key near has sized idle loud state kept homes at small = let found : ℕ = get_or state.words key 0 in let slot : ℕ = slot_said me.0 in
-    by_cases (λ (_ : Bool). (next : View) × (act : Act (Unit {0})) × Valid state.homes me.1 act × Kept shape (stepped state key found id me.1 next act) × Confirmed key found me.0 next) (names_slot slot found)
-    (λ yes. let held = confirms_named shape slots id own me key near has sized idle loud state kept at (eqb-true (name_number found) (suc slot) yes) in (
+confirms_so shape slots id own me key near has sized idle loud state kept homes at small =
+    let found : ℕ = get_or state.words key 0 in
+    let slot : ℕ = slot_said me.0 in
+    by_cases
+    (λ (_ : Bool). (next : View) × (act : Act (Unit {0})) × Valid state.homes me.1 act
+    × Kept shape (stepped state key found id me.1 next act) × Confirmed key found me.0 next)
+    (names_slot slot found)
+    (λ yes.
+    let held
+    = confirms_named shape slots id own me key near has sized idle loud state kept at
+    (eqb-true (name_number found) (suc slot) yes) in (
       held.0,
       keeps,
       tt,
-      subst (λ (words : List ℕ). Kept shape (record { words = words; homes = state.homes; views = set state.views id held.0 })) (sym (set-get_or state.words key 0)) held.1,
+      subst
+          (λ (words : List ℕ). Kept shape
+          (record { words = words; homes = state.homes; views = set state.views id held.0 }))
+          (sym (set-get_or state.words key 0)) held.1,
       record { same = λ _. held.2; other = λ no. differ (names_slot slot found) _ yes no },
     ))
-    (λ no. let looked = look_up_makes shape id me key near idle sized state kept at in (looked.0, keeps, tt, looked.1, record { same = λ yes. differ (names_slot slot found) _ yes no; other = λ _. looked.2 }))
+    (λ no.
+    let looked = look_up_makes shape id me key near idle sized state kept at in (
+      looked.0,
+      keeps,
+      tt,
+      looked.1,
+      record { same = λ yes. differ (names_slot slot found) _ yes no; other = λ _. looked.2 },
+    ))

@@ -1,5 +1,6 @@
 -- The writer's calls, put together of their steps.
-use Rattle.std.proofs.Common.{Bool, false, List, [], ap, append-nil, append_assoc, arith, get_or, length, refl, slice_index, subst, sym, ℕ, ◌*◌, ◌++◌, ◌+◌, ◌<◌, ◌∙◌, ◌∷◌, ◌≡◌}
+use Rattle.std.proofs.Common.{Bool, false, List, [], ap, append-nil, append_assoc, arith, get_or, length, refl}
+use Rattle.std.proofs.Common.{slice_index, subst, sym, ℕ, ◌*◌, ◌++◌, ◌+◌, ◌<◌, ◌∙◌, ◌∷◌, ◌≡◌}
 use Rattle.std.specs.Prelude.{Result, Ok, Err, slice_set}
 use Rattle.nr_model.specs.declared.calls.Call.{Call}
 use Rattle.nr_model.specs.declared.calls.Call.TheVariants as model
@@ -47,7 +48,8 @@ use Rattle.nr_core.proofs.Settle.{key_same}
 use Rattle.nr_machine.specs.States.{key_of}
 use Rattle.nr_board.specs.Views.{desk_of, caller_number}
 use Rattle.nr_board.specs.Begins.{HasRead, HasSet}
-use Rattle.nr_board.specs.WriterSeats.{GoesOn, LacksSlot, LeadsIn, MapSeat, PublishesSet, RestsAt, Settles, WritesAt, KeyHas}
+use Rattle.nr_board.specs.WriterSeats.{GoesOn, LacksSlot, LeadsIn, MapSeat, PublishesSet, RestsAt, Settles, WritesAt}
+use Rattle.nr_board.specs.WriterSeats.{KeyHas}
 use Rattle.nr_machine.specs.Slots.{bound_of}
 
 module _ (table : Table) (spare : Spare) (before : MapSeat) (rests : RestsAt table spare before) where
@@ -55,41 +57,78 @@ module _ (table : Table) (spare : Spare) (before : MapSeat) (rests : RestsAt tab
   writer_number = ap caller_number rests.writes.role
 
   -- a call that ends with a reply
-  pub ends : (steps : ℕ) (call : Call) (answer : Reply) (after_spare : Spare) (after : MapSeat) → after_spare.slots ≡ spare.slots
+  pub ends : (steps : ℕ) (call : Call) (answer : Reply) (after_spare : Spare) (after : MapSeat)
+      → after_spare.slots ≡ spare.slots
       → after_spare.reaped ≡ spare.reaped → after.me.0.marks.reaped ≡ before.me.0.marks.reaped
-      → LeadsIn steps table call (desk_with after_spare Idle, ended answer) before after → RestsAt table after_spare after
+      → LeadsIn steps table call (desk_with after_spare Idle, ended answer) before after
+      → RestsAt table after_spare after
       × Gains steps call (token before) (token after) answer
   ends steps call answer after_spare after slots same_reaped same_marks leads = (
-    record { writes = leads.writes; slots = slots ∙ rests.slots; reaped = same_reaped ∙ rests.reaped ∙ sym same_marks; own = leads.grows.own },
-    subst (λ (n : ℕ). Grows steps (entry n call answer ∷ []) (token before) (token after)) (sym writer_number) leads.grows,
+    record {
+      writes = leads.writes;
+      slots = slots ∙ rests.slots;
+      reaped = same_reaped ∙ rests.reaped ∙ sym same_marks;
+      own = leads.grows.own;
+    },
+    subst (λ (n : ℕ). Grows steps (entry n call answer ∷ []) (token before) (token after)) (sym writer_number)
+        leads.grows,
   )
 
   pub same_slots : (after : MapSeat) → RestsAt table spare after → spare_of (token after) ≡ spare_of (token before)
   same_slots after rests_after = spare_shown table spare after rests_after ∙ sym (spare_shown table spare before rests)
 
   -- a call that has its set
-  pub settles_so : (steps : ℕ) (call : WriterCall) (rows : List Row) (mid : MapSeat) → LeadsIn steps table (call_of call) (settled table.shape (desk_with spare Idle) call rows) before mid → mid.me.0.marks.polls ≡ []
+  pub settles_so : (steps : ℕ) (call : WriterCall) (rows : List Row) (mid : MapSeat)
+      → LeadsIn steps table (call_of call) (settled table.shape (desk_with spare Idle) call rows) before mid
+      → mid.me.0.marks.polls ≡ []
       → Settles table call rows spare mid × Grows steps [] (token before) (token mid)
   settles_so steps call rows mid leads polls =
-      let grows = subst (λ (es : List Entry). Grows steps es (token before) (token mid)) (settled_quiet table.shape (desk_with spare Idle) call rows (call_of call)) leads.grows in
-      (record { slots = rests.slots; writes = leads.writes; short = leads.short; knows = knows_after steps (token before) [] (token mid) grows; polls = polls }, grows)
+      let grows
+      = subst (λ (es : List Entry). Grows steps es (token before) (token mid))
+      (settled_quiet table.shape (desk_with spare Idle) call rows (call_of call)) leads.grows in (
+        record {
+          slots = rests.slots;
+          writes = leads.writes;
+          short = leads.short;
+          knows = knows_after steps (token before) [] (token mid) grows;
+          polls = polls;
+        },
+        grows,
+      )
 
-  module _ (steps : ℕ) (call : WriterCall) (rows : List Row) (mid after : MapSeat) (grows : Grows steps [] (token before) (token mid)) (only_polls : mid.me.0.marks ≡ with_polls before.me.0.marks []) (same_heard : mid.me.0.heard ≡ before.me.0.heard) (after_spare : Spare) where
+  module _ (steps : ℕ) (call : WriterCall) (rows : List Row) (mid after : MapSeat)
+      (grows : Grows steps [] (token before) (token mid))
+      (only_polls : mid.me.0.marks ≡ with_polls before.me.0.marks []) (same_heard : mid.me.0.heard ≡ before.me.0.heard)
+      (after_spare : Spare) where
     same_names : get_or before.me.0.marks.names (key_of call) 0 ≡ get_or mid.me.0.marks.names (key_of call) 0
     same_names = ap (λ (m : Marks). get_or m.names (key_of call) 0) (sym only_polls)
 
     -- the call put its set
-    pub publishes_so : (published : PublishesSet table call rows mid spare after after_spare) → RestsAt table after_spare after × (put : Publishes steps (call_of call) rows (token before) (token after)) × (put.slot ≡ published.slot)
+    pub publishes_so : (published : PublishesSet table call rows mid spare after after_spare)
+        → RestsAt table after_spare after × (put : Publishes steps (call_of call) rows (token before) (token after))
+        × (put.slot ≡ published.slot)
     publishes_so published =
-        let all = grows_both steps (2 * length rows + 2 + published.steps) (steps + 2 * length rows + 2 + published.steps) (token before) (token mid)
+        let all
+        = grows_both steps (2 * length rows + 2 + published.steps) (steps + 2 * length rows + 2 + published.steps)
+        (token before) (token mid)
         (entry 0 (call_of call) reply.Done ∷ []) (token after) (omega arith) grows published.grows in
         let reaped_after : after_spare.reaped ≡ after.me.0.marks.reaped = ap (λ (s : Spare). s.reaped) published.retires
-        ∙ ap (λ (l : List Bool). slice_set l published.slot false) (rests.reaped ∙ ap (λ (m : Marks). m.reaped) (sym only_polls))
+        ∙ ap (λ (l : List Bool). slice_set l published.slot false)
+        (rests.reaped ∙ ap (λ (m : Marks). m.reaped) (sym only_polls))
         ∙ ap (λ (m : Marks). m.reaped) (sym published.marks) in
-        let rests_after : RestsAt table after_spare after = record { writes = published.writes; slots = published.slots ∙ rests.slots; reaped = reaped_after; own = all.own } in
+        let rests_after : RestsAt table after_spare after
+        = record {
+          writes = published.writes;
+          slots = published.slots ∙ rests.slots;
+          reaped = reaped_after;
+          own = all.own;
+        } in
         let spare_after = spare_shown table after_spare after rests_after ∙ published.retires in
         let map_then = map_after before.me.0.shape published.log in
-        let done_then = (legal_goes_on_lem (map_at_opening (token before).table) published.log (entry 0 (call_of call) reply.Done)).1.1 (subst (IsLegal (map_at_opening (token before).table)) published.seen all.legal) in (
+        let done_then
+        = (legal_goes_on_lem (map_at_opening (token before).table) published.log
+        (entry 0 (call_of call) reply.Done)).1.1
+        (subst (IsLegal (map_at_opening (token before).table)) published.seen all.legal) in (
           rests_after,
           record {
             searched = published.steps;
@@ -98,29 +137,52 @@ module _ (table : Table) (spare : Spare) (before : MapSeat) (rests : RestsAt tab
             mid = published.mid;
             scanned = published.scanned;
             loads = published.loads;
-            took = subst (λ (p : Table × List ℕ × Spare). TookBySearch p.0 p.1 published.scanned published.loads published.slot published.steps p.2 published.mid)
-                (λ j. (sym rests.writes.own j, same_heard j, sym (spare_shown table spare before rests) j)) published.took;
+            took =
+                subst
+                (λ (p : Table × List ℕ × Spare). TookBySearch p.0 p.1 published.scanned published.loads
+                published.slot published.steps p.2 published.mid)
+                (λ j. (sym rests.writes.own j, same_heard j, sym (spare_shown table spare before rests) j))
+                published.took;
             heard = published.heard;
             few = subst (λ (t : Table). AreFewSteps t published.steps) (sym rests.writes.own) published.few;
             fresh = ap (λ (s : Spare). s.fresh) spare_after;
-            numbers = ap (λ (s : Spare). s.numbers) (spare_shown table after_spare after rests_after) ∙ published.numbers ∙ sym (ap (λ (s : Spare). s.numbers) (spare_shown table spare before rests));
-            retires = retires_so published.word (token before) published.mid.retired (token after).retired (ap (λ (s : Spare). s.retired) spare_after) map_then call done_then.1
-                (published.swaps.state ∙ ap (λ (t : Table). kind_of (state_of (map_after t.shape published.log) (key_of call))) (sym rests.writes.own)) (same_names ∙ published.swaps.name);
+            numbers =
+                ap (λ (s : Spare). s.numbers) (spare_shown table after_spare after rests_after) ∙ published.numbers
+                ∙ sym (ap (λ (s : Spare). s.numbers) (spare_shown table spare before rests));
+            retires =
+                retires_so published.word (token before) published.mid.retired (token after).retired
+                (ap (λ (s : Spare). s.retired) spare_after) map_then call done_then.1
+                (published.swaps.state
+                ∙ ap (λ (t : Table). kind_of (state_of (map_after t.shape published.log) (key_of call)))
+                (sym rests.writes.own))
+                (same_names ∙ published.swaps.name);
             number = published.number;
             count = published.count;
             put = published.put;
-            marks = published.marks ∙ (λ j. with_name (with_loads (only_polls j) ((only_polls j).loads ++ published.loads)) (sym (key_same call) j) published.slot published.number rows);
-            gains = subst (λ (n : ℕ). Grows (steps + 2 * length rows + 2 + published.steps) (entry n (call_of call) reply.Done ∷ []) (token before) (token after)) (sym writer_number) all;
+            marks =
+                published.marks
+                ∙ (λ j. with_name (with_loads (only_polls j) ((only_polls j).loads ++ published.loads))
+                (sym (key_same call) j) published.slot published.number rows);
+            gains =
+                subst
+                (λ (n : ℕ). Grows (steps + 2 * length rows + 2 + published.steps)
+                (entry n (call_of call) reply.Done ∷ []) (token before) (token after))
+                (sym writer_number) all;
           },
           refl,
         )
 
     -- the call found no slot
-    pub lacks_so : (counts : NoSlot) → LacksSlot table call mid spare after after_spare counts → RestsAt table after_spare after × HasNoSlot steps (call_of call) (token before) (token after) counts
+    pub lacks_so : (counts : NoSlot) → LacksSlot table call mid spare after after_spare counts
+        → RestsAt table after_spare after × HasNoSlot steps (call_of call) (token before) (token after) counts
     lacks_so counts lacking =
-        let retired_is : (token before).retired ≡ spare.retired = ap (λ (s : Spare). s.retired) (spare_shown table spare before rests) in
-        let counts_so : (token before).table.announcers ≡ 0 → table.announcers ≡ 0 = λ counted. ap (λ (t : Table). t.announcers) (sym rests.writes.own) ∙ counted in
-        let all = grows_both steps lacking.steps (steps + lacking.steps) (token before) (token mid) [] (token after) refl grows lacking.grows in
+        let retired_is : (token before).retired ≡ spare.retired
+        = ap (λ (s : Spare). s.retired) (spare_shown table spare before rests) in
+        let counts_so : (token before).table.announcers ≡ 0 → table.announcers ≡ 0
+        = λ counted. ap (λ (t : Table). t.announcers) (sym rests.writes.own) ∙ counted in
+        let all
+        = grows_both steps lacking.steps (steps + lacking.steps) (token before) (token mid)
+        [] (token after) refl grows lacking.grows in
         let rests_spare : RestsAt table spare after = record {
           writes = lacking.writes;
           slots = rests.slots;
@@ -132,22 +194,34 @@ module _ (table : Table) (spare : Spare) (before : MapSeat) (rests : RestsAt tab
           record {
             searched = lacking.steps;
             loads = lacking.loads;
-            all = subst (λ (p : Table × List ℕ × List Retired). SearchedAll p.0 p.1 after.me.0.heard lacking.loads p.2 lacking.steps)
+            all =
+                subst
+                (λ (p : Table × List ℕ × List Retired). SearchedAll p.0 p.1 after.me.0.heard lacking.loads p.2
+                lacking.steps)
                 (λ j. (sym rests.writes.own j, same_heard j, sym retired_is j)) lacking.searched;
             grows = all;
             readers = none_between (steps + lacking.steps) (token before) [] (token after) rests.own refl all;
             lacks = lacking.lacks;
-            noted = λ counted. subst (λ (p : Table × List Past). Noted p.0.shape p.1 after.me.0.marks.polls) (λ j. (sym rests.writes.own j, grows.pasts j)) (lacking.noted (counts_so counted));
+            noted = λ counted. subst (λ (p : Table × List Past). Noted p.0.shape p.1 after.me.0.marks.polls)
+                (λ j. (sym rests.writes.own j, grows.pasts j)) (lacking.noted (counts_so counted));
             held = λ counted at note there. held_since (lacking.held (counts_so counted) at note there);
             slots = same_slots after rests_spare;
-            marks = lacking.marks ∙ ap (λ (m : Marks). with_scan m after.me.0.marks.polls (m.loads ++ lacking.loads)) only_polls;
+            marks =
+                lacking.marks
+                ∙ ap (λ (m : Marks). with_scan m after.me.0.marks.polls (m.loads ++ lacking.loads)) only_polls;
           },
         )
       where
-        held_since : {note : Past} → HeldThen mid.me.0.seen after.me.0.seen note → HeldThen before.me.0.seen after.me.0.seen note
+        held_since : {note : Past} → HeldThen mid.me.0.seen after.me.0.seen note
+            → HeldThen before.me.0.seen after.me.0.seen note
         held_since held = let begun = grows_from steps (token before) [] (token mid) grows in record {
           log = held.log;
-          since = record { rest = begun.rest ++ held.since.rest; is = held.since.is ∙ ap (λ (l : List Entry). l ++ held.since.rest) begun.is ∙ append_assoc before.me.0.seen begun.rest held.since.rest };
+          since =
+              record {
+                rest = begun.rest ++ held.since.rest;
+                is = held.since.is ∙ ap (λ (l : List Entry). l ++ held.since.rest) begun.is
+                    ∙ append_assoc before.me.0.seen begun.rest held.since.rest;
+              };
           until = held.until;
           count = held.count;
         }
@@ -156,87 +230,148 @@ module _ (table : Table) (spare : Spare) (before : MapSeat) (rests : RestsAt tab
 pub look_ends : {table : Table} {spare : Spare} {call : WriterCall} {found : ℕ} {before after : MapSeat}
     → HasLooked table spare call found before after → (answer : Reply)
     → looked table.shape (desk_with spare Idle) call found ≡ (desk_with spare Idle, ended answer)
-    → RestsAt (token after).table spare after × (Gains 1 (call_of call) (token before) (token after) answer × SlotsStay (token before) (token after))
+    → RestsAt (token after).table spare after
+    × (Gains 1 (call_of call) (token before) (token after) answer × SlotsStay (token before) (token after))
 look_ends {table = table} {spare = spare} {call = call} {before = before} {after = after} looks answer is =
-    let ended_so = ends table spare before looks.rests 1 (call_of call) answer spare after refl refl (ap (λ (m : Marks). m.reaped) looks.marks) (subst (λ (o : Desk × Step). LeadsIn 1 table (call_of call) o before after) is looks.leads) in
-    (rests_own table spare after ended_so.0, (ended_so.1, (same_slots table spare before looks.rests after ended_so.0, looks.marks, looks.heard)))
+    let ended_so
+    = ends table spare before looks.rests 1 (call_of call) answer spare after refl refl
+    (ap (λ (m : Marks). m.reaped) looks.marks)
+    (subst (λ (o : Desk × Step). LeadsIn 1 table (call_of call) o before after) is looks.leads) in (
+      rests_own table spare after ended_so.0,
+      (ended_so.1, (same_slots table spare before looks.rests after ended_so.0, looks.marks, looks.heard)),
+    )
 
-pub has_set : {table : Table} {spare : Spare} {steps : ℕ} {call : WriterCall} {rows : List Row} {before mid : MapSeat} → RestsAt table spare before
+pub has_set : {table : Table} {spare : Spare} {steps : ℕ} {call : WriterCall} {rows : List Row} {before mid : MapSeat}
+    → RestsAt table spare before
     → LeadsIn steps table (call_of call) (settled table.shape (desk_with spare Idle) call rows) before mid
-    → mid.me.0.marks ≡ with_polls before.me.0.marks [] → mid.me.0.heard ≡ before.me.0.heard → HasSet table spare steps call rows before mid
-has_set {table = table} {spare = spare} {steps = steps} {call = call} {rows = rows} {before = before} {mid = mid} rests leads marks heard =
-    let so = settles_so table spare before rests steps call rows mid leads (ap (λ (m : Marks). m.polls) marks) in record { rests = rests; settles = so.0; grows = so.1; marks = marks; heard = heard }
+    → mid.me.0.marks ≡ with_polls before.me.0.marks [] → mid.me.0.heard ≡ before.me.0.heard
+    → HasSet table spare steps call rows before mid
+has_set {table = table} {spare = spare} {steps = steps} {call = call} {rows = rows} {before = before} {mid = mid} rests
+    leads marks heard =
+    let so = settles_so table spare before rests steps call rows mid leads (ap (λ (m : Marks). m.polls) marks) in
+    record { rests = rests; settles = so.0; grows = so.1; marks = marks; heard = heard }
 
 -- a fill and a replacement have it at their look
-pub look_settles : {table : Table} {spare : Spare} {call : WriterCall} {rows : List Row} {found : ℕ} {before after : MapSeat}
-    → HasLooked table spare call found before after → looked table.shape (desk_with spare Idle) call found ≡ settled table.shape
+pub look_settles : {table : Table} {spare : Spare} {call : WriterCall} {rows : List Row} {found : ℕ} {before
+    after : MapSeat}
+    → HasLooked table spare call found before after
+    → looked table.shape (desk_with spare Idle) call found ≡ settled table.shape
     (desk_with spare Idle) call rows → HasSet table spare 1 call rows before after
-look_settles {table = table} {call = call} {before = before} {after = after} looks is = has_set looks.rests (subst (λ (o : Desk × Step). LeadsIn 1 table (call_of call) o before after) is looks.leads) looks.marks looks.heard
+look_settles {table = table} {call = call} {before = before} {after = after} looks is =
+    has_set looks.rests (subst (λ (o : Desk × Step). LeadsIn 1 table (call_of call) o before after) is looks.leads)
+    looks.marks looks.heard
 
 -- and it had the slot, and put the set there, or found none
-module _ {table : Table} {spare after_spare : Spare} {steps : ℕ} {call given : WriterCall} {rows : List Row} {before mid after : MapSeat} (set : HasSet table spare steps call rows before mid) (is : given ≡ call) where
-  pub has_published : (published : PublishesSet table given rows mid spare after after_spare) → RestsAt (token after).table after_spare after
+module
+    _ {table : Table} {spare after_spare : Spare} {steps : ℕ} {call given : WriterCall} {rows : List Row} {before mid
+    after : MapSeat} (set : HasSet table spare steps call rows before mid)
+    (is : given ≡ call) where
+  pub has_published : (published : PublishesSet table given rows mid spare after after_spare)
+      → RestsAt (token after).table after_spare after
       × (put : Publishes steps (call_of call) rows (token before) (token after)) × (put.slot ≡ published.slot)
   has_published published =
-      let put = subst (λ (c : WriterCall). (here : PublishesSet table c rows mid spare after after_spare) × (here.slot ≡ published.slot)) is (published, refl) in
-      let so = publishes_so table spare before set.rests steps call rows mid after set.grows set.marks set.heard after_spare put.0 in (rests_own table after_spare after so.0, so.1, so.2 ∙ put.1)
+      let put
+      = subst
+      (λ (c : WriterCall). (here : PublishesSet table c rows mid spare after after_spare)
+      × (here.slot ≡ published.slot))
+      is (published, refl) in
+      let so
+      = publishes_so table spare before set.rests steps call rows mid after set.grows set.marks set.heard
+      after_spare put.0 in
+      (rests_own table after_spare after so.0, so.1, so.2 ∙ put.1)
 
-  pub has_lacked : {counts : NoSlot} → LacksSlot table given mid spare after after_spare counts → RestsAt (token after).table after_spare after × HasNoSlot steps (call_of call) (token before) (token after) counts
-  has_lacked {counts = counts} lacking = let so = lacks_so table spare before set.rests steps call rows mid after set.grows set.marks set.heard after_spare
+  pub has_lacked : {counts : NoSlot} → LacksSlot table given mid spare after after_spare counts
+      → RestsAt (token after).table after_spare after
+      × HasNoSlot steps (call_of call) (token before) (token after) counts
+  has_lacked {counts = counts} lacking =
+      let so = lacks_so table spare before set.rests steps call rows mid after set.grows set.marks set.heard after_spare
       counts (subst (λ (c : WriterCall). LacksSlot table c mid spare after after_spare counts) is lacking) in
       (rests_own table after_spare after so.0, so.1)
 
 -- the swap that evicts the key
-module _ {table : Table} {spare : Spare} {key word : ℕ} {before mid : MapSeat} (looks : HasLooked table spare (Evict key) word before mid)
+module
+    _ {table : Table} {spare : Spare} {key word : ℕ} {before mid : MapSeat} (looks : HasLooked table spare (Evict key)
+    word before mid)
     (leaves : looked table.shape (desk_with spare Idle) (Evict key) word ≡ (desk_with spare (Leaving key), Going)) where
   pub about_to_leave : LeadsIn 1 table (model.Evict key) (desk_with spare (Leaving key), Going) before mid
   about_to_leave = subst (λ (o : Desk × Step). LeadsIn 1 table (model.Evict key) o before mid) leaves looks.leads
 
-  pub has_evicted : {board : Table} {found : ℕ} {after : MapSeat} {after_spare : Spare} → board ≡ table → GoesOn board found mid after → after_spare ≡ record spare { retired = spare.retired ++ unnamed found }
-      → RestsAt (token after).table after_spare after × (Gains 2 (model.Evict key) (token before) (token after) reply.Evicted
+  pub has_evicted : {board : Table} {found : ℕ} {after : MapSeat} {after_spare : Spare} → board ≡ table
+      → GoesOn board found mid after → after_spare ≡ record spare { retired = spare.retired ++ unnamed found }
+      → RestsAt (token after).table after_spare after
+      × (Gains 2 (model.Evict key) (token before) (token after) reply.Evicted
       × ((token after).fresh ≡ (token before).fresh) × ((token after).numbers ≡ (token before).numbers)
       × RetiresOne key (token before) (token before).retired (token after).retired
-      × (after.me.0.marks ≡ without_name (with_polls before.me.0.marks []) key) × (after.me.0.heard ≡ before.me.0.heard))
+      × (after.me.0.marks ≡ without_name (with_polls before.me.0.marks []) key)
+      × (after.me.0.heard ≡ before.me.0.heard))
   has_evicted {found = found} {after = after} {after_spare = after_spare} board_is goes retires =
-      let gone = subst (λ (t : Table). GoesOn t found mid after) board_is goes (desk_with spare (Leaving key)) about_to_leave.writes.role in let told = gone.leads in
-      let all : LeadsIn 2 table (model.Evict key) (desk_with after_spare Idle, ended reply.Evicted) before after = record {
+      let gone
+      = subst (λ (t : Table). GoesOn t found mid after) board_is goes (desk_with spare (Leaving key))
+      about_to_leave.writes.role in
+      let told = gone.leads in
+      let all : LeadsIn 2 table (model.Evict key) (desk_with after_spare Idle, ended reply.Evicted) before after
+      = record {
         writes = subst (λ (s : Spare). WritesAt table (desk_with s Idle) after) (sym retires) told.writes;
-        grows = grows_both 1 1 2 (token before) (token mid) _ (token after) (omega arith) about_to_leave.grows told.grows;
+        grows =
+            grows_both 1 1 2 (token before) (token mid) _ (token after) (omega arith) about_to_leave.grows told.grows;
         short = λ counts without. absurd (not_reply counts reply.Evicted without);
       } in
-      let ended_so = ends table spare before looks.rests 2 (model.Evict key) reply.Evicted after_spare after (ap (λ (s : Spare). s.slots) retires)
-      (ap (λ (s : Spare). s.reaped) retires) (ap (λ (m : Marks). m.reaped) gone.marks.0 ∙ ap (λ (m : Marks). m.reaped) looks.marks) all in
-      let slots = spare_shown table after_spare after ended_so.0 ∙ retires ∙ ap (λ (s : Spare). record s { retired = s.retired ++ unnamed found }) (sym (spare_shown table spare before looks.rests)) in
-      let legal = (legal_goes_on_lem (map_at_opening (token before).table) gone.log (entry 0 (model.Evict key) reply.Evicted)).1.1 (subst (IsLegal (map_at_opening (token before).table)) gone.seen all.grows.legal) in (
+      let ended_so
+      = ends table spare before looks.rests 2 (model.Evict key) reply.Evicted after_spare after
+      (ap (λ (s : Spare). s.slots) retires)
+      (ap (λ (s : Spare). s.reaped) retires)
+      (ap (λ (m : Marks). m.reaped) gone.marks.0 ∙ ap (λ (m : Marks). m.reaped) looks.marks) all in
+      let slots
+      = spare_shown table after_spare after ended_so.0 ∙ retires
+      ∙ ap (λ (s : Spare). record s { retired = s.retired ++ unnamed found })
+      (sym (spare_shown table spare before looks.rests)) in
+      let legal
+      = (legal_goes_on_lem (map_at_opening (token before).table) gone.log
+      (entry 0 (model.Evict key) reply.Evicted)).1.1
+      (subst (IsLegal (map_at_opening (token before).table)) gone.seen all.grows.legal) in (
         rests_own table after_spare after ended_so.0,
         (
           ended_so.1,
           ap (λ (s : Spare). s.fresh) slots,
           ap (λ (s : Spare). s.numbers) slots,
-          evicted_one found (token before) (token before).retired (token after).retired (ap (λ (s : Spare). s.retired) slots) (map_after before.me.0.shape gone.log) key legal.1
-              (gone.finds.state ∙ ap (λ (t : Table). kind_of (state_of (map_after t.shape gone.log) key)) (sym looks.own)) (ap (λ (m : Marks). get_or m.names key 0) (sym looks.marks) ∙ gone.finds.name),
+          evicted_one found (token before) (token before).retired (token after).retired
+              (ap (λ (s : Spare). s.retired) slots) (map_after before.me.0.shape gone.log) key legal.1
+              (gone.finds.state
+              ∙ ap (λ (t : Table). kind_of (state_of (map_after t.shape gone.log) key)) (sym looks.own))
+              (ap (λ (m : Marks). get_or m.names key 0) (sym looks.marks) ∙ gone.finds.name),
           gone.marks.0 ∙ ap (λ (m : Marks). without_name m key) looks.marks,
           gone.heard ∙ looks.heard,
         ),
       )
 
 -- the swap that takes the key's request back
-module _ {table : Table} {spare : Spare} {key word : ℕ} {before mid : MapSeat} (looks : HasLooked table spare (Cancel key) word before mid)
-    (withdraws : looked table.shape (desk_with spare Idle) (Cancel key) word ≡ (desk_with spare (Withdrawing key), Going)) where
+module
+    _ {table : Table} {spare : Spare} {key word : ℕ} {before mid : MapSeat} (looks : HasLooked table spare (Cancel key)
+    word before mid)
+    (withdraws : looked table.shape (desk_with spare Idle) (Cancel key) word
+    ≡ (desk_with spare (Withdrawing key), Going)) where
   pub about_to_withdraw : LeadsIn 1 table (model.Cancel key) (desk_with spare (Withdrawing key), Going) before mid
   about_to_withdraw = subst (λ (o : Desk × Step). LeadsIn 1 table (model.Cancel key) o before mid) withdraws looks.leads
 
-  pub has_cancelled : {board : Table} {found : ℕ} {after : MapSeat} {after_spare : Spare} → board ≡ table → GoesOn board found mid after
+  pub has_cancelled : {board : Table} {found : ℕ} {after : MapSeat} {after_spare : Spare} → board ≡ table
+      → GoesOn board found mid after
       → after_spare ≡ record spare { numbers = slice_set spare.numbers key (slice_index spare.numbers key + 1) }
-      → RestsAt (token after).table after_spare after × (Gains 2 (model.Cancel key) (token before) (token after) reply.Cancelled
+      → RestsAt (token after).table after_spare after
+      × (Gains 2 (model.Cancel key) (token before) (token after) reply.Cancelled
       × (spare_of (token after) ≡ record (spare_of (token before))
       { numbers = slice_set (token before).numbers key (slice_index (token before).numbers key + 1) })
       × (after.me.0.marks ≡ with_polls before.me.0.marks []) × (after.me.0.heard ≡ before.me.0.heard))
   has_cancelled {found = found} {after = after} {after_spare = after_spare} board_is goes renumbers =
-      let gone = subst (λ (t : Table). GoesOn t found mid after) board_is goes (desk_with spare (Withdrawing key)) about_to_withdraw.writes.role in let told = gone.leads in
-      let all : LeadsIn 2 table (model.Cancel key) (desk_with after_spare Idle, ended reply.Cancelled) before after = record {
+      let gone
+      = subst (λ (t : Table). GoesOn t found mid after) board_is goes (desk_with spare (Withdrawing key))
+      about_to_withdraw.writes.role in
+      let told = gone.leads in
+      let all : LeadsIn 2 table (model.Cancel key) (desk_with after_spare Idle, ended reply.Cancelled) before after
+      = record {
         writes = subst (λ (s : Spare). WritesAt table (desk_with s Idle) after) (sym renumbers) told.writes;
-        grows = grows_both 1 1 2 (token before) (token mid) _ (token after) (omega arith) about_to_withdraw.grows told.grows;
+        grows =
+            grows_both 1 1 2 (token before) (token mid) _ (token after) (omega arith) about_to_withdraw.grows
+            told.grows;
         short = λ counts without. absurd (not_reply counts reply.Cancelled without);
       } in
       let ended_so = ends table spare before looks.rests 2 (model.Cancel key) reply.Cancelled after_spare after
@@ -245,7 +380,9 @@ module _ {table : Table} {spare : Spare} {key word : ℕ} {before mid : MapSeat}
         rests_own table after_spare after ended_so.0,
         (
           ended_so.1,
-          spare_shown table after_spare after ended_so.0 ∙ renumbers ∙ ap (λ (s : Spare). record s { numbers = slice_set s.numbers key (slice_index s.numbers key + 1) }) (sym (spare_shown table spare before looks.rests)),
+          spare_shown table after_spare after ended_so.0 ∙ renumbers
+              ∙ ap (λ (s : Spare). record s { numbers = slice_set s.numbers key (slice_index s.numbers key + 1) })
+              (sym (spare_shown table spare before looks.rests)),
           gone.marks.0 ∙ looks.marks,
           gone.heard ∙ looks.heard,
         ),
@@ -260,88 +397,193 @@ module _ {table : Table} {spare : Spare} {call given : WriterCall} {found : ℕ}
   leads_there = subst (λ (o : Desk × Step). LeadsIn 1 table (call_of call) o before mid) reads looks.leads
 
   -- the writer is about to read the slot that the word named
-  pub about_to_read : {slot : ℕ} → slot ≡ slot_of found → WritesAt table (moved_to (desk_of mid.me.0.role) (Reading given slot [])) mid × (slot < table.shape.slots)
+  pub about_to_read : {slot : ℕ} → slot ≡ slot_of found
+      → WritesAt table (moved_to (desk_of mid.me.0.role) (Reading given slot [])) mid × (slot < table.shape.slots)
   about_to_read {slot = slot} same = (
-    subst (λ (p : Desk × WriterCall × ℕ). WritesAt table (moved_to p.0 (Reading p.1 p.2 [])) mid) (λ j. (ap desk_of (sym leads_there.writes.role) j, sym is j, sym same j)) leads_there.writes,
+    subst (λ (p : Desk × WriterCall × ℕ). WritesAt table (moved_to p.0 (Reading p.1 p.2 [])) mid)
+        (λ j. (ap desk_of (sym leads_there.writes.role) j, sym is j, sym same j)) leads_there.writes,
     omega (arith, leads_there.writes.room.place.0, same),
   )
 
-  pub has_read : {rows : List Row} {after : MapSeat} → ReadsAll table given rows mid after → HasRead table spare call (slot_of found) rows before after
-  has_read {rows = rows} {after = after} read = let outcome = λ (desk : Desk) (c : WriterCall). decided table.shape desk c rows in let same = ap desk_of leads_there.writes.role in
-      let then = subst (λ (p : Desk × WriterCall). LeadsIn (2 * length rows + 1) table (call_of p.1) (outcome p.0 p.1) mid after) (λ j. (same j, is j)) read.leads in record {
+  pub has_read : {rows : List Row} {after : MapSeat} → ReadsAll table given rows mid after
+      → HasRead table spare call (slot_of found) rows before after
+  has_read {rows = rows} {after = after} read =
+      let outcome = λ (desk : Desk) (c : WriterCall). decided table.shape desk c rows in
+      let same = ap desk_of leads_there.writes.role in
+      let then
+      = subst
+      (λ (p : Desk × WriterCall). LeadsIn (2 * length rows + 1) table (call_of p.1) (outcome p.0 p.1) mid after)
+      (λ j. (same j, is j)) read.leads in
+      record {
         own = looks.own;
         rests = looks.rests;
         row_set = read.row_set;
-        leads = record { writes = then.writes; grows = grows_both 1 (2 * length rows + 1) (2 * length rows + 2) (token before) (token mid) _ (token after) (omega arith) leads_there.grows then.grows; short = then.short };
-        had = subst (λ (p : Desk × WriterCall). KeyHas table p.1 rows (outcome p.0 p.1).1 after) (λ j. (same j, is j)) read.had;
+        leads =
+            record {
+              writes = then.writes;
+              grows = grows_both 1 (2 * length rows + 1) (2 * length rows + 2) (token before) (token mid) _
+                  (token after) (omega arith) leads_there.grows then.grows;
+              short = then.short;
+            };
+        had =
+            subst (λ (p : Desk × WriterCall). KeyHas table p.1 rows (outcome p.0 p.1).1 after) (λ j. (same j, is j))
+            read.had;
         marks = read.marks ∙ looks.marks;
         heard = read.heard ∙ looks.heard;
       }
 
 -- a find of the writer's own
-pub has_found : {table : Table} {spare : Spare} {key slot : ℕ} {rows : List Row} {before after : MapSeat} → HasRead table spare (Find key) slot rows before after
-    → RestsAt (token after).table spare after × (Gains (2 * length rows + 2) (model.Find key) (token before) (token after) (reply.Rows rows) × SlotsStay (token before) (token after))
+pub has_found : {table : Table} {spare : Spare} {key slot : ℕ} {rows : List Row} {before after : MapSeat}
+    → HasRead table spare (Find key) slot rows before after
+    → RestsAt (token after).table spare after
+    × (Gains (2 * length rows + 2) (model.Find key) (token before) (token after) (reply.Rows rows)
+    × SlotsStay (token before) (token after))
 has_found {table = table} {spare = spare} {key = key} {rows = rows} {before = before} {after = after} read =
-    let ended_so = ends table spare before read.rests (2 * length rows + 2) (model.Find key) (reply.Rows rows) spare after refl refl (ap (λ (m : Marks). m.reaped) read.marks) read.leads in
-    (rests_own table spare after ended_so.0, (ended_so.1, (same_slots table spare before read.rests after ended_so.0, read.marks, read.heard)))
+    let ended_so
+    = ends table spare before read.rests (2 * length rows + 2) (model.Find key) (reply.Rows rows) spare after refl
+    refl (ap (λ (m : Marks). m.reaped) read.marks) read.leads in (
+      rests_own table spare after ended_so.0,
+      (ended_so.1, (same_slots table spare before read.rests after ended_so.0, read.marks, read.heard)),
+    )
 
 -- an update whose batch is refused, or gives a new set
-module _ {table : Table} {spare : Spare} {key slot : ℕ} {batch : List Delta} {rows : List Row} {before after : MapSeat} (read : HasRead table spare (Update key batch) slot rows before after) where
+module
+    _ {table : Table} {spare : Spare} {key slot : ℕ} {batch : List Delta} {rows : List Row} {before
+    after : MapSeat} (read : HasRead table spare (Update key batch) slot rows before after) where
   abbrev at_read : Desk
   at_read = desk_with spare (Reading (Update key batch) slot [])
 
-  leads_by : (left : Result (List Row) ApplyFault) → applied (bound_of table.shape) rows batch ≡ left → LeadsIn (2 * length rows + 2) table (model.Update key batch) (renewed table.shape at_read (Update key batch) left) before after
-  leads_by left is = subst (λ (r : Result (List Row) ApplyFault). LeadsIn (2 * length rows + 2) table (model.Update key batch) (renewed table.shape at_read (Update key batch) r) before after) is read.leads
+  leads_by : (left : Result (List Row) ApplyFault) → applied (bound_of table.shape) rows batch ≡ left
+      → LeadsIn (2 * length rows + 2) table (model.Update key batch)
+      (renewed table.shape at_read (Update key batch) left) before after
+  leads_by left is =
+      subst
+      (λ (r : Result (List Row) ApplyFault). LeadsIn (2 * length rows + 2) table (model.Update key batch)
+      (renewed table.shape at_read (Update key batch) r) before after)
+      is read.leads
 
-  seen_by : (left : Result (List Row) ApplyFault) → applied (bound_of table.shape) rows batch ≡ left → after.me.0.seen ≡ read.had.log ++ ending (model.Update key batch) (renewed table.shape at_read (Update key batch) left).1
-  seen_by left is = read.had.seen ∙ ap (λ (r : Result (List Row) ApplyFault). read.had.log ++ ending (model.Update key batch) (renewed table.shape at_read (Update key batch) r).1) is
+  seen_by : (left : Result (List Row) ApplyFault) → applied (bound_of table.shape) rows batch ≡ left
+      → after.me.0.seen
+      ≡ read.had.log ++ ending (model.Update key batch) (renewed table.shape at_read (Update key batch) left).1
+  seen_by left is =
+      read.had.seen
+      ∙ ap
+      (λ (r : Result (List Row) ApplyFault). read.had.log
+      ++ ending (model.Update key batch) (renewed table.shape at_read (Update key batch) r).1)
+      is
 
   -- the map before the update is that of the table
-  own_map : (log : List Entry) (number : ℕ) → state_of (map_after table.shape log) key ≡ states.Rows number rows → state_of (map_after before.me.0.shape log) key ≡ states.Rows number rows
+  own_map : (log : List Entry) (number : ℕ) → state_of (map_after table.shape log) key ≡ states.Rows number rows
+      → state_of (map_after before.me.0.shape log) key ≡ states.Rows number rows
   own_map log number had = ap (λ (t : Table). state_of (map_after t.shape log) key) read.own ∙ had
 
   pub has_refused : (why : ApplyFault) → applied (bound_of table.shape) rows batch ≡ Err why
-      → RestsAt (token after).table spare after × ((gains : Gains (2 * length rows + 2) (model.Update key batch) (token before)
-      (token after) (applied_reply (Err why))) × KeyHad key rows (token before) gains.between × SlotsStay (token before) (token after))
+      → RestsAt (token after).table spare after
+      × ((gains : Gains (2 * length rows + 2) (model.Update key batch) (token before)
+      (token after) (applied_reply (Err why))) × KeyHad key rows (token before) gains.between
+      × SlotsStay (token before) (token after))
   has_refused why is =
-      let ended_so = ends table spare before read.rests (2 * length rows + 2) (model.Update key batch) (applied_reply (Err why)) spare after refl refl (ap (λ (m : Marks). m.reaped) read.marks) (leads_by (Err why) is) in
-      let log_is = before_last ((token before).seen ++ ended_so.1.between) read.had.log _ _ (sym ended_so.1.seen ∙ seen_by (Err why) is) in
-      let had = ap (λ (l : List Entry). state_of (map_after before.me.0.shape l) key) log_is ∙ own_map read.had.log read.had.number read.had.state in
-      (rests_own table spare after ended_so.0, (ended_so.1, (read.had.number, had), (same_slots table spare before read.rests after ended_so.0, read.marks, read.heard)))
+      let ended_so
+      = ends table spare before read.rests (2 * length rows + 2) (model.Update key batch) (applied_reply (Err why))
+      spare after refl refl (ap (λ (m : Marks). m.reaped) read.marks) (leads_by (Err why) is) in
+      let log_is
+      = before_last ((token before).seen ++ ended_so.1.between) read.had.log _ _
+      (sym ended_so.1.seen ∙ seen_by (Err why) is) in
+      let had
+      = ap (λ (l : List Entry). state_of (map_after before.me.0.shape l) key) log_is
+      ∙ own_map read.had.log read.had.number read.had.state in (
+        rests_own table spare after ended_so.0,
+        (
+          ended_so.1,
+          (read.had.number, had),
+          (same_slots table spare before read.rests after ended_so.0, read.marks, read.heard),
+        ),
+      )
 
   module _ {left : List Row} (is : applied (bound_of table.shape) rows batch ≡ Ok left) where
     pub has_renewed : HasSet table spare (2 * length rows + 2) (Update key batch) left before after
     has_renewed = has_set read.rests (leads_by (Ok left) is) read.marks read.heard
 
     still_has : state_of (map_after table.shape after.me.0.seen) key ≡ states.Rows read.had.number rows
-    still_has = let quiet = ap (λ (l : List Entry). read.had.log ++ l) (settled_quiet table.shape at_read (Update key batch) left (model.Update key batch)) ∙ append-nil read.had.log in
+    still_has =
+        let quiet
+        = ap (λ (l : List Entry). read.had.log ++ l)
+        (settled_quiet table.shape at_read (Update key batch) left (model.Update key batch))
+        ∙ append-nil read.had.log in
         ap (λ (l : List Entry). state_of (map_after table.shape l) key) (seen_by (Ok left) is ∙ quiet) ∙ read.had.state
 
     -- the key had the set until the update's entry, if it was done, or to the end
     had_still : (near : key < table.shape.keys) (last : MapSeat) (steps sum : ℕ) (entries mine : List Entry)
-        (then : Grows steps entries (token after) (token last)) (all : Grows sum mine (token before) (token last)) → entries_of entries 0 ≡ entries
-        → (token before).seen ++ all.between ≡ (token after).seen ++ then.between → KeyHad key rows (token before) all.between
+        (then : Grows steps entries (token after) (token last)) (all : Grows sum mine (token before) (token last))
+        → entries_of entries 0 ≡ entries
+        → (token before).seen ++ all.between ≡ (token after).seen ++ then.between
+        → KeyHad key rows (token before) all.between
     had_still near last steps sum entries mine then all ours same = let grows = has_renewed.grows in
         had_before table.shape key read.had.number rows (token before) (token after) (token last) sum steps entries mine
-        (ap (λ (t : Table). t.shape) read.own) near (grows.number ∙ ap caller_number read.rests.writes.role) grows.own ours then all same
+        (ap (λ (t : Table). t.shape) read.own) near (grows.number ∙ ap caller_number read.rests.writes.role) grows.own
+        ours then all same
         grows.table still_has
 
     module _ {given : WriterCall} (given_is : given ≡ Update key batch) (near : key < table.shape.keys) where
-      pub has_updated : {last : MapSeat} {after_spare : Spare} → PublishesSet table given left after spare last after_spare
-          → RestsAt (token last).table after_spare last × ((published : Publishes (2 * length rows + 2) (model.Update key batch) left (token before) (token last)) × KeyHad key rows (token before) published.gains.between)
-      has_updated {last = last} {after_spare = after_spare} put = let put_here = subst (λ (c : WriterCall). PublishesSet table c left after spare last after_spare) given_is put in
-          let so = has_published has_renewed refl put_here in let then = put_here.grows in let all = so.1.gains in
-          (so.0, (so.1, had_still near last _ _ _ _ then all refl (before_last ((token before).seen ++ all.between) ((token after).seen ++ then.between) _ _ (sym all.seen ∙ then.seen))))
+      pub has_updated : {last : MapSeat} {after_spare : Spare}
+          → PublishesSet table given left after spare last after_spare
+          → RestsAt (token last).table after_spare last
+          × ((published : Publishes (2 * length rows + 2) (model.Update key batch) left (token before) (token last))
+          × KeyHad key rows (token before) published.gains.between)
+      has_updated {last = last} {after_spare = after_spare} put =
+          let put_here
+          = subst (λ (c : WriterCall). PublishesSet table c left after spare last after_spare) given_is put in
+          let so = has_published has_renewed refl put_here in let then = put_here.grows in let all = so.1.gains in (
+            so.0,
+            (
+              so.1,
+              had_still near last _ _ _ _ then all refl
+                  (before_last ((token before).seen ++ all.between) ((token after).seen ++ then.between) _ _
+                  (sym all.seen ∙ then.seen)),
+            ),
+          )
 
       -- where the writer made that many steps more before it published
-      pub has_updated_later : {last : MapSeat} {after_spare : Spare} (steps : ℕ) → (put : PublishesSet table given left (later steps after) spare last after_spare)
-          → RestsAt (token last).table after_spare last × ((published : Publishes (2 * length rows + 2 + steps) (model.Update key batch)
-          left (token before) (token last)) × KeyHad key rows (token before) published.gains.between × (published.slot ≡ put.slot))
-      has_updated_later {last = last} {after_spare = after_spare} steps put = let here = subst (λ (c : WriterCall). (p : PublishesSet table c left (later steps after) spare last after_spare) × (p.slot ≡ put.slot)) given_is (put, refl) in
-          let so = has_published (set_later steps has_renewed) refl here.0 in let then = grows_with steps _ _ (token after) _ (token last) refl here.0.grows in let all = so.1.gains in
-          (so.0, (so.1, had_still near last _ _ _ _ then all refl (before_last ((token before).seen ++ all.between) ((token after).seen ++ then.between) _ _ (sym all.seen ∙ then.seen)), so.2 ∙ here.1))
+      pub has_updated_later : {last : MapSeat} {after_spare : Spare} (steps : ℕ)
+          → (put : PublishesSet table given left (later steps after) spare last after_spare)
+          → RestsAt (token last).table after_spare last
+          × ((published : Publishes (2 * length rows + 2 + steps) (model.Update key batch)
+          left (token before) (token last)) × KeyHad key rows (token before) published.gains.between
+          × (published.slot ≡ put.slot))
+      has_updated_later {last = last} {after_spare = after_spare} steps put =
+          let here
+          = subst
+          (λ (c : WriterCall). (p : PublishesSet table c left (later steps after) spare last after_spare)
+          × (p.slot ≡ put.slot))
+          given_is (put, refl) in
+          let so = has_published (set_later steps has_renewed) refl here.0 in
+          let then = grows_with steps _ _ (token after) _ (token last) refl here.0.grows in
+          let all = so.1.gains in (
+            so.0,
+            (
+              so.1,
+              had_still near last _ _ _ _ then all refl
+                  (before_last ((token before).seen ++ all.between) ((token after).seen ++ then.between) _ _
+                  (sym all.seen ∙ then.seen)),
+              so.2 ∙ here.1,
+            ),
+          )
 
-      pub has_not_updated : {counts : NoSlot} {last : MapSeat} {after_spare : Spare} → LacksSlot table given after spare last after_spare counts
-          → RestsAt (token last).table after_spare last × ((without : HasNoSlot (2 * length rows + 2) (model.Update key batch) (token before) (token last) counts) × KeyHad key rows (token before) without.grows.between)
-      has_not_updated {last = last} lacking = let so = has_lacked has_renewed given_is lacking in let then = lacking.grows in let all = so.1.grows in
-          (so.0, (so.1, had_still near last _ _ [] [] then all refl (sym (append-nil ((token before).seen ++ all.between)) ∙ sym all.seen ∙ then.seen ∙ append-nil ((token after).seen ++ then.between))))
+      pub has_not_updated : {counts : NoSlot} {last : MapSeat} {after_spare : Spare}
+          → LacksSlot table given after spare last after_spare counts
+          → RestsAt (token last).table after_spare last
+          × ((without : HasNoSlot (2 * length rows + 2) (model.Update key batch) (token before) (token last) counts)
+          × KeyHad key rows (token before) without.grows.between)
+      has_not_updated {last = last} lacking =
+          let so = has_lacked has_renewed given_is lacking in
+          let then = lacking.grows in
+          let all = so.1.grows in (
+            so.0,
+            (
+              so.1,
+              had_still near last _ _ []
+                  [] then all refl
+                  (sym (append-nil ((token before).seen ++ all.between)) ∙ sym all.seen ∙ then.seen
+                  ∙ append-nil ((token after).seen ++ then.between)),
+            ),
+          )

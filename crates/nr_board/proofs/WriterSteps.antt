@@ -1,5 +1,7 @@
 -- The writer's steps on the table: the look of each call, and every later step.
-use Rattle.std.proofs.Common.{◌⊎◌, eq-eqb, inl, inr, ⊎_elim, nat_le, zero, ◌≡◌, ℕ, suc, ◌+◌, ◌-◌, ◌*◌, ◌<◌, ◌≤◌, List, [], ◌∷◌, ◌++◌, Bool, true, false, cond, map, set, get_or, le-leb, length, take, refl, sym, ap, ◌∙◌, subst, arith, append-nil}
+use Rattle.std.proofs.Common.{◌⊎◌, eq-eqb, inl, inr, ⊎_elim, nat_le, zero, ◌≡◌, ℕ, suc, ◌+◌, ◌-◌, ◌*◌, ◌<◌, ◌≤◌, List}
+use Rattle.std.proofs.Common.{[], ◌∷◌, ◌++◌, Bool, true, false, cond, map, set, get_or, le-leb, length, take, refl, sym}
+use Rattle.std.proofs.Common.{ap, ◌∙◌, subst, arith, append-nil}
 use Rattle.std.specs.Prelude.{None, Some}
 use mathlib.Core.Option.{some}
 use lib.ListN.{get_elem?}
@@ -53,7 +55,8 @@ use Rattle.nr_board.proofs.Learning.{shows_kind}
 use Rattle.nr_board.proofs.Polled.{PolledAll, go_polled, look_polled}
 use Rattle.nr_marks.specs.Marks.{Marks, Past, gripped}
 use Rattle.nr_board.proofs.Heard.{zero_at}
-use Rattle.nr_board.proofs.Lift.{Choice, KeepsLent, content_no_count, key_inside, key_no_count, knows_pasts, lends_on, lifts, sees_alone, sees_plain}
+use Rattle.nr_board.proofs.Lift.{Choice, KeepsLent, content_no_count, key_inside, key_no_count, knows_pasts, lends_on}
+use Rattle.nr_board.proofs.Lift.{lifts, sees_alone, sees_plain}
 use Rattle.nr_board.proofs.PollNotes.{at_get}
 use Rattle.nr_board.specs.Announcing.{IsNoCount, PollsHeard, heard_after, heard_at}
 use Rattle.nr_core.proofs.Counting.{named_inside}
@@ -65,7 +68,8 @@ use Rattle.nr_board.specs.Entries.{AreCallers, acts_told, to_depart}
 use Rattle.nr_board.proofs.Room.{room_at}
 use Rattle.nr_board.proofs.Shortage.{Shortage, go_short, lacks_so, look_short}
 use Rattle.nr_board.specs.Callers.{caller_of}
-use Rattle.nr_board.specs.Plays.{Advances, Finds, Lacks, Leads, Looked, NotesTell, Put, SwapsAt, SwapsOrPuts, Room, Went, call_at, next_put, put_place}
+use Rattle.nr_board.specs.Plays.{Advances, Finds, Lacks, Leads, Looked, NotesTell, Put, SwapsAt, SwapsOrPuts, Room}
+use Rattle.nr_board.specs.Plays.{Went, call_at, next_put, put_place}
 use Rattle.nr_board.specs.Rule.{Fits, Kept, counts, marks_of, role_of}
 use Rattle.nr_board.specs.Views.{View, desk_of, grip_of, caller_number}
 
@@ -73,19 +77,25 @@ use Rattle.nr_board.specs.Views.{View, desk_of, grip_of, caller_number}
 writer_is : (role : Role) (desk : Desk) → role ≡ Writer desk → is_by (caller_number role) role ≡ true
 writer_is role desk is = ap (λ r. is_by (caller_number r) r) is
 
-pub writer_shape : (shape : Shape) (log : List Entry) (view : View) (desk : Desk) → view.role ≡ Writer desk → Fits shape log view → view.shape ≡ shape
-writer_shape shape log view desk is fits = fits.sized (let one : is_writer view.role ≡ 1 = ap is_writer is in omega arith)
+pub writer_shape : (shape : Shape) (log : List Entry) (view : View) (desk : Desk) → view.role ≡ Writer desk
+    → Fits shape log view → view.shape ≡ shape
+writer_shape shape log view desk is fits =
+    fits.sized (let one : is_writer view.role ≡ 1 = ap is_writer is in omega arith)
 
 -- one writer has one desk
 pub same_desk : (role : Role) (desk other : Desk) → role ≡ Writer desk → role ≡ Writer other → desk ≡ other
 same_desk role desk other is also = sym (ap desk_of is) ∙ ap desk_of also
 
-module _ (shape : Shape) (id : ℕ) (view : View) (desk : Desk) (is : view.role ≡ Writer desk) (operation : Operation) (tells : Telling)
-    (notes : MarkTelling) (state : State (Unit {0}) View) (kept : Kept shape state) (at : get_elem? state.views id ≡ some view)
+module _ (shape : Shape) (id : ℕ) (view : View) (desk : Desk) (is : view.role ≡ Writer desk) (operation : Operation)
+    (tells : Telling)
+    (notes : MarkTelling) (state : State (Unit {0}) View) (kept : Kept shape state)
+    (at : get_elem? state.views id ≡ some view)
     (step : Stepped shape kept.counted (map role_of state.views) kept.log id view.role operation tells)
-    (marked : Remarked role_of marks_of shape kept.counted state.views kept.log id operation view step.after step.entries notes)
+    (marked : Remarked role_of marks_of shape kept.counted state.views kept.log id operation view step.after
+    step.entries notes)
     (no_news : marked.news ≡ []) (call : Call) (outcome : Desk × Step) (role_told : step.after ≡ Writer outcome.0)
-    (entries_told : step.entries ≡ ending call outcome.1) (callers : AreCallers shape (ending call outcome.1)) (names : NamesGo view marked.now) where
+    (entries_told : step.entries ≡ ending call outcome.1) (callers : AreCallers shape (ending call outcome.1))
+    (names : NamesGo view marked.now) where
   callers_told : AreCallers shape step.entries
   callers_told = subst (AreCallers shape) (sym entries_told) callers
 
@@ -96,80 +106,138 @@ module _ (shape : Shape) (id : ℕ) (view : View) (desk : Desk) (is : view.role 
   sized = writer_shape shape kept.log view desk is (kept.fits id view at)
 
   there_after : get_elem? (set (map role_of state.views) id step.after) id ≡ some (Writer outcome.0)
-  there_after = here_after (map role_of state.views) id view.role step.after (at_map role_of state.views id view at) ∙ ap some role_told
+  there_after =
+      here_after (map role_of state.views) id view.role step.after (at_map role_of state.views id view at)
+      ∙ ap some role_told
 
   room_after : Room view.shape outcome.0
-  room_after = subst (λ (s : Shape). Room s outcome.0) (sym sized) (room_at shape _ (set (map role_of state.views) id step.after) (kept.log ++ step.entries) step.core id outcome.0 there_after)
+  room_after =
+      subst (λ (s : Shape). Room s outcome.0) (sym sized)
+      (room_at shape _ (set (map role_of state.views) id step.after) (kept.log ++ step.entries) step.core id
+      outcome.0 there_after)
 
   numbers_after : AreNumbers view.shape (map_after view.shape (kept.log ++ step.entries)) outcome.0.numbers
-  numbers_after = subst (λ (s : Shape). AreNumbers s (map_after s (kept.log ++ step.entries)) outcome.0.numbers) (sym sized) (step.core.knows id (Writer outcome.0) there_after).numbers
+  numbers_after =
+      subst (λ (s : Shape). AreNumbers s (map_after s (kept.log ++ step.entries)) outcome.0.numbers) (sym sized)
+      (step.core.knows id (Writer outcome.0) there_after).numbers
 
   abbrev pub next_view : View
   next_view = learned view step.after (kept.log ++ step.entries) step.entries marked.now marked.news
 
-  short_after : (counts : NoSlot) → outcome.1 ≡ Ended (writer.NoSlot counts) → Shortage shape kept.log desk call outcome counts
-      → PolledAll shape desk.retired marked.now.polls → (table : TableId) → Lacks call counts (caller_of table next_view)
+  short_after : (counts : NoSlot) → outcome.1 ≡ Ended (writer.NoSlot counts)
+      → Shortage shape kept.log desk call outcome counts
+      → PolledAll shape desk.retired marked.now.polls → (table : TableId)
+      → Lacks call counts (caller_of table next_view)
   short_after counts without shortage polled =
       let none_added : step.entries ≡ [] = entries_told ∙ ap (ending call) without in
-      let same_log : kept.log ≡ kept.log ++ step.entries = sym (append-nil kept.log) ∙ ap (λ (l : List Entry). kept.log ++ l) (sym none_added) in
+      let same_log : kept.log ≡ kept.log ++ step.entries
+      = sym (append-nil kept.log) ∙ ap (λ (l : List Entry). kept.log ++ l) (sym none_added) in
       let desk_is : outcome.0 ≡ moved_to desk Idle = shortage.none.same in
-      lacks_so shape _ (set (map role_of state.views) id step.after) (kept.log ++ step.entries) step.core id outcome.0 there_after
-      (subst (λ (d : Desk). shape.slots ≤ d.fresh) (sym desk_is) shortage.full) (λ slot. ap (λ (d : Desk). taken slot d.place) desk_is)
-      call counts (shortage.none.counted ∙ ap (λ (d : Desk). record { live = shape.slots - length d.retired; held = length d.retired }) (sym desk_is))
+      lacks_so shape _ (set (map role_of state.views) id step.after) (kept.log ++ step.entries) step.core id outcome.0
+      there_after
+      (subst (λ (d : Desk). shape.slots ≤ d.fresh) (sym desk_is) shortage.full)
+      (λ slot. ap (λ (d : Desk). taken slot d.place) desk_is)
+      call counts
+      (shortage.none.counted
+      ∙ ap (λ (d : Desk). record { live = shape.slots - length d.retired; held = length d.retired })
+      (sym desk_is))
       (subst (λ (l : List Entry). reply_to (map_after shape l) call ≡ reply.Done) same_log shortage.done)
-      next_view (subst (λ (d : Desk). PolledAll shape d.retired marked.now.polls) (sym desk_is) polled) sized refl role_told
+      next_view (subst (λ (d : Desk). PolledAll shape d.retired marked.now.polls) (sym desk_is) polled) sized refl
+      role_told
 
-  pub leads_so : ((counts : NoSlot) → outcome.1 ≡ Ended (writer.NoSlot counts) → Shortage shape kept.log desk call outcome counts
-      × PolledAll shape desk.retired marked.now.polls) → Advances (ending call outcome.1) view next_view → Leads call outcome view next_view
-  leads_so short advances = record { role = role_told; advances = advances; room = room_after; numbers = numbers_after; short = λ counts without. short_after counts without (short counts without).0 (short counts without).1 }
+  pub leads_so : ((counts : NoSlot) → outcome.1 ≡ Ended (writer.NoSlot counts)
+      → Shortage shape kept.log desk call outcome counts
+      × PolledAll shape desk.retired marked.now.polls) → Advances (ending call outcome.1) view next_view
+      → Leads call outcome view next_view
+  leads_so short advances =
+      record {
+        role = role_told;
+        advances = advances;
+        room = room_after;
+        numbers = numbers_after;
+        short = λ counts without. short_after counts without (short counts without).0 (short counts without).1;
+      }
 
   -- the writer's view after the step
-  pub writes : (then : View → Type 0) → (Advances (ending call outcome.1) view next_view → then next_view) → Choice shape id view operation tells notes state kept step marked then
-  writes then tell = learning shape id view operation tells notes state kept at step marked (ap caller_number role_told ∙ sym (ap caller_number is))
-      sized callers_told acts_told_so names then (writer_is view.role desk is) no_news (ending call outcome.1) entries_told tell
+  pub writes : (then : View → Type 0) → (Advances (ending call outcome.1) view next_view → then next_view)
+      → Choice shape id view operation tells notes state kept step marked then
+  writes then tell =
+      learning shape id view operation tells notes state kept at step marked
+      (ap caller_number role_told ∙ sym (ap caller_number is))
+      sized callers_told acts_told_so names then (writer_is view.role desk is) no_news (ending call outcome.1)
+      entries_told tell
 
-pub looks_so : (shape : Shape) (slots id : ℕ) (me : Me (Unit {0}) View) (desk : Desk) (call : WriterCall) → me.0.role ≡ Writer desk → desk.place ≡ Idle → IsGivenCall (bound_of shape) call → key_of call < shape.keys
-    → Allows (Kept shape) slots id me (key_of call) (λ word. word) (λ found after. (other : Desk) → me.0.role ≡ Writer other → Looked other call found me.0 after.0)
-looks_so shape slots id me desk call is idle given near = let view = me.0 in let tells = Looks shape desk call in let notes = LooksMarks shape view.marks desk call in let operation = Load (key_of call) in
-    lifts shape id view operation tells notes slots me.1 (λ found next. (other : Desk) → view.role ≡ Writer other → Looked other call found view next)
+pub looks_so : (shape : Shape) (slots id : ℕ) (me : Me (Unit {0}) View) (desk : Desk) (call : WriterCall)
+    → me.0.role ≡ Writer desk → desk.place ≡ Idle → IsGivenCall (bound_of shape) call → key_of call < shape.keys
+    → Allows (Kept shape) slots id me (key_of call) (λ word. word)
+    (λ found after. (other : Desk) → me.0.role ≡ Writer other → Looked other call found me.0 after.0)
+looks_so shape slots id me desk call is idle given near =
+    let view = me.0 in
+    let tells = Looks shape desk call in
+    let notes = LooksMarks shape view.marks desk call in
+    let operation = Load (key_of call) in
+    lifts shape id view operation tells notes slots me.1
+    (λ found next. (other : Desk) → view.role ≡ Writer other → Looked other call found view next)
     view.pasts (subst (λ r. CanStep shape id r operation tells) (sym is) (looks shape id desk call idle given near))
     (looks_marked role_of marks_of shape id view view.pasts desk call idle near is) (knows_pasts shape id view)
-    (sees_plain shape id view operation tells notes (λ found next. (other : Desk) → view.role ≡ Writer other → Looked other call found view next) (key_inside shape (key_of call) near) (key_no_count shape (key_of call) near)
+    (sees_plain shape id view operation tells notes
+    (λ found next. (other : Desk) → view.role ≡ Writer other → Looked other call found view next)
+    (key_inside shape (key_of call) near) (key_no_count shape (key_of call) near)
     (λ state kept at step. lends_on view step.after (λ slot. ap (holds slot) step.told.0 ∙ sym (ap (holds slot) is))))
-    (λ state kept at step marked. let found : ℕ = get_or kept.counted (key_of call) 0 in let outcome = looked shape desk call found in let c = call_of call in
-    let there : get_elem? (map role_of state.views) id ≡ some (Writer desk) = at_map role_of state.views id view at ∙ ap some is in
-    let short : (counts : NoSlot) → outcome.1 ≡ Ended (writer.NoSlot counts) → Shortage shape kept.log desk c outcome counts
+    (λ state kept at step marked.
+    let found : ℕ = get_or kept.counted (key_of call) 0 in
+    let outcome = looked shape desk call found in
+    let c = call_of call in
+    let there : get_elem? (map role_of state.views) id ≡ some (Writer desk)
+    = at_map role_of state.views id view at ∙ ap some is in
+    let short : (counts : NoSlot) → outcome.1 ≡ Ended (writer.NoSlot counts)
+    → Shortage shape kept.log desk c outcome counts
     × PolledAll shape desk.retired marked.now.polls = λ counts without. (
       look_short shape kept.counted (map role_of state.views) kept.log kept.core id desk there counts call near without,
       look_polled shape
-          view.marks desk call found step.after (kept.log ++ step.entries) marked.now marked.news marked.told (counts, without),
+          view.marks desk call found step.after (kept.log ++ step.entries) marked.now marked.news marked.told
+          (counts, without),
     ) in
     let size = writer_shape shape kept.log view desk is (kept.fits id view at) in
-    let callers = writer_entries shape c outcome.1 (subst (λ (k : ℕ). k < shape.keys) (sym (key_same call)) near) (given_brings (bound_of shape) call given) in
+    let callers
+    = writer_entries shape c outcome.1 (subst (λ (k : ℕ). k < shape.keys) (sym (key_same call)) near)
+    (given_brings (bound_of shape) call given) in
     let names = names_go view marked.now (λ _. ap (λ (m : Marks). m.names) marked.told.0) in
-    writes shape id view desk is operation tells notes state kept at step marked marked.told.1 c outcome step.told.0 step.told.1 callers names (λ next. (other : Desk) → view.role ≡ Writer other → Looked other call found view next)
-    (λ advances other also. let next = learned view step.after (kept.log ++ step.entries) step.entries marked.now marked.news in
+    writes shape id view desk is operation tells notes state kept at step marked marked.told.1 c outcome step.told.0
+    step.told.1 callers names
+    (λ next. (other : Desk) → view.role ≡ Writer other → Looked other call found view next)
+    (λ advances other also.
+    let next = learned view step.after (kept.log ++ step.entries) step.entries marked.now marked.news in
     subst (λ (d : Desk). Looked d call found view next) (same_desk view.role desk other is also) (record {
       leads = subst (λ (s : Shape). Leads c (looked s desk call found) view next) (sym size)
-          (leads_so shape id view desk is operation tells notes state kept at step marked marked.told.1 c outcome step.told.0 step.told.1 callers names
+          (leads_so shape id view desk is operation tells notes state kept at step marked marked.told.1 c outcome
+          step.told.0 step.told.1 callers names
           short advances);
-      marks = subst (λ (p : Shape × List Past). LooksMarks p.0 view.marks desk call found step.after (kept.log ++ step.entries) marked.now p.1) (λ j. (sym size j, marked.told.1 j)) marked.told;
+      marks =
+          subst
+          (λ (p : Shape × List Past). LooksMarks p.0 view.marks desk call found step.after
+          (kept.log ++ step.entries) marked.now p.1)
+          (λ j. (sym size j, marked.told.1 j)) marked.told;
       heard = ap (λ r. heard_after r view.heard) is;
     })))
 
 -- no later step of a call learns of readers
-put_quiet : (b : Bool) (marks : Marks) (at slot : ℕ) (rows : List Row) (word : ℕ) (after : Role) (log : List Entry) (now : Marks) (news : List Past) → PutsMarks b marks at slot rows word after log now news → news ≡ []
+put_quiet : (b : Bool) (marks : Marks) (at slot : ℕ) (rows : List Row) (word : ℕ) (after : Role) (log : List Entry)
+    (now : Marks) (news : List Past)
+    → PutsMarks b marks at slot rows word after log now news → news ≡ []
 put_quiet true marks at slot rows word after log now news told = told.1
 put_quiet false marks at slot rows word after log now news told = told.4
 
-went_quiet : (shape : Shape) (marks : Marks) (known : List Past) (desk : Desk) (place : Place) (word : ℕ) (after : Role) (log : List Entry)
+went_quiet : (shape : Shape) (marks : Marks) (known : List Past) (desk : Desk) (place : Place) (word : ℕ) (after : Role)
+    (log : List Entry)
     (now : Marks) (news : List Past) → went_marks shape marks known desk place word after log now news → news ≡ []
 went_quiet shape marks known desk Idle word after log now news told = told.1
 went_quiet shape marks known desk (Reading call slot got) word after log now news told = told.1
 went_quiet shape marks known desk (Leaving key) word after log now news told = told.1
 went_quiet shape marks known desk (Withdrawing key) word after log now news told = told.1
 went_quiet shape marks known desk (Searching call rows poll) word after log now news told = told.0
-went_quiet shape marks known desk (Putting call rows slot departed index) word after log now news told = put_quiet (nat_le index (2 * length rows)) marks (key_of call) slot rows word after log now news told
+went_quiet shape marks known desk (Putting call rows slot departed index) word after log now news told =
+    put_quiet (nat_le index (2 * length rows)) marks (key_of call) slot rows word after log now news told
 
 -- a list that is changed at one place
 changed_at : (l : List ℕ) (place x at n : ℕ) → get_or (set l place x) at 0 ≡ n → (get_or l at 0 ≡ n) ⊎ (x ≡ n)
@@ -180,31 +248,52 @@ changed_at (y ∷ l) (suc place) x zero n is = inl is
 changed_at (y ∷ l) (suc place) x (suc at) n is = changed_at l place x at n is
 
 -- after a later step of a call a key names what it named before, or the slot into which the call put its set
-put_names : (b : Bool) (marks : Marks) (at mine : ℕ) (rows : List Row) (word : ℕ) (after : Role) (log : List Entry) (now : Marks) (news : List Past) → PutsMarks b marks at mine rows word after log now news
+put_names : (b : Bool) (marks : Marks) (at mine : ℕ) (rows : List Row) (word : ℕ) (after : Role) (log : List Entry)
+    (now : Marks) (news : List Past)
+    → PutsMarks b marks at mine rows word after log now news
     → (key slot : ℕ) → get_or now.names key 0 ≡ suc slot → (get_or marks.names key 0 ≡ suc slot) ⊎ (slot ≡ mine)
-put_names true marks at mine rows word after log now news told key slot is = inl (ap (λ (m : Marks). get_or m.names key 0) (sym told.0) ∙ is)
-put_names false marks at mine rows word after log now news told key slot is = ⊎_elim inl (λ (e : suc mine ≡ suc slot). inr (omega arith))
+put_names true marks at mine rows word after log now news told key slot is =
+    inl (ap (λ (m : Marks). get_or m.names key 0) (sym told.0) ∙ is)
+put_names false marks at mine rows word after log now news told key slot is =
+    ⊎_elim inl (λ (e : suc mine ≡ suc slot). inr (omega arith))
     (changed_at marks.names at (suc mine) key (suc slot) (ap (λ (m : Marks). get_or m.names key 0) (sym told.3) ∙ is))
 
-poll_names : (b : Bool) (shape : Shape) (marks : Marks) (known : List Past) (desk : Desk) (call : WriterCall) (poll : ℕ) (log : List Entry) (now : Marks) → PollTells b shape known desk call poll log marks now → now.names ≡ marks.names
+poll_names : (b : Bool) (shape : Shape) (marks : Marks) (known : List Past) (desk : Desk) (call : WriterCall) (poll : ℕ)
+    (log : List Entry) (now : Marks)
+    → PollTells b shape known desk call poll log marks now → now.names ≡ marks.names
 poll_names true shape marks known desk call poll log now told = ap (λ (m : Marks). m.names) told
 poll_names false shape marks known desk call poll log now told = ap (λ (m : Marks). m.names) told.0
 
-went_names : (shape : Shape) (marks : Marks) (known : List Past) (desk : Desk) (place : Place) (word : ℕ) (after : Role) (log : List Entry) (now : Marks) (news : List Past) (heard : List ℕ)
-    → went_marks shape marks known desk place word after log now news → (key slot : ℕ) → get_or now.names key 0 ≡ suc slot → (get_or marks.names key 0 ≡ suc slot) ⊎ (get_or (heard_at place heard) slot 0 ≡ 0)
-went_names shape marks known desk Idle word after log now news heard told key slot is = inl (ap (λ (m : Marks). get_or m.names key 0) (sym told.0) ∙ is)
-went_names shape marks known desk (Reading call named got) word after log now news heard told key slot is = inl (ap (λ (m : Marks). get_or m.names key 0) (sym told.0) ∙ is)
-went_names shape marks known desk (Leaving at) word after log now news heard told key slot is = ⊎_elim inl (λ (e : 0 ≡ suc slot). absurd (omega arith))
+went_names : (shape : Shape) (marks : Marks) (known : List Past) (desk : Desk) (place : Place) (word : ℕ) (after : Role)
+    (log : List Entry) (now : Marks) (news : List Past) (heard : List ℕ)
+    → went_marks shape marks known desk place word after log now news → (key slot : ℕ)
+    → get_or now.names key 0 ≡ suc slot
+    → (get_or marks.names key 0 ≡ suc slot) ⊎ (get_or (heard_at place heard) slot 0 ≡ 0)
+went_names shape marks known desk Idle word after log now news heard told key slot is =
+    inl (ap (λ (m : Marks). get_or m.names key 0) (sym told.0) ∙ is)
+went_names shape marks known desk (Reading call named got) word after log now news heard told key slot is =
+    inl (ap (λ (m : Marks). get_or m.names key 0) (sym told.0) ∙ is)
+went_names shape marks known desk (Leaving at) word after log now news heard told key slot is =
+    ⊎_elim inl (λ (e : 0 ≡ suc slot). absurd (omega arith))
     (changed_at marks.names at 0 key (suc slot) (ap (λ (m : Marks). get_or m.names key 0) (sym told.0) ∙ is))
-went_names shape marks known desk (Withdrawing at) word after log now news heard told key slot is = inl (ap (λ (m : Marks). get_or m.names key 0) (sym told.0) ∙ is)
+went_names shape marks known desk (Withdrawing at) word after log now news heard told key slot is =
+    inl (ap (λ (m : Marks). get_or m.names key 0) (sym told.0) ∙ is)
 went_names shape marks known desk (Searching call rows poll) word after log now news heard told key slot is =
-    inl (ap (λ (l : List ℕ). get_or l key 0) (sym (poll_names (same_count word (retired_at desk poll).arrivals) shape marks known desk call poll log now told.1)) ∙ is)
-went_names shape marks known desk (Putting call rows mine departed index) word after log now news heard told key slot is = ⊎_elim inl
+    inl
+    (ap (λ (l : List ℕ). get_or l key 0)
+    (sym
+    (poll_names (same_count word (retired_at desk poll).arrivals) shape marks known desk call poll log now
+    told.1))
+    ∙ is)
+went_names shape marks known desk (Putting call rows mine departed index) word after log now news heard told key slot
+    is =
+    ⊎_elim inl
     (λ (e : slot ≡ mine). inr (ap (λ (n : ℕ). get_or (set heard mine 0) n 0) e ∙ zero_at heard mine))
     (put_names (nat_le index (2 * length rows)) marks (key_of call) mine rows word after log now news told key slot is)
 
 -- what the call of a place ends with
-ending_there : (place : Place) (step : Step) → if_not_busy place ≡ None → ending_at place step ≡ ending (call_at place) step
+ending_there : (place : Place) (step : Step) → if_not_busy place ≡ None
+    → ending_at place step ≡ ending (call_at place) step
 ending_there Idle step busy = absurd (no_some (Some refuse.NotBusy) refuse.NotBusy refl busy)
 ending_there (Reading call slot got) step busy = refl
 ending_there (Leaving key) step busy = refl
@@ -213,42 +302,67 @@ ending_there (Searching call rows poll) step busy = refl
 ending_there (Putting call rows slot departed index) step busy = refl
 
 -- a call that goes on ends with an entry of the writer's
-entries_there : (shape : Shape) (words : List ℕ) (roles : List Role) (log : List Entry) → Core shape words roles log → (id : ℕ) (desk : Desk)
-    → get_elem? roles id ≡ some (Writer desk) → (place : Place) → desk.place ≡ place → if_not_busy place ≡ None → (found : ℕ)
+entries_there : (shape : Shape) (words : List ℕ) (roles : List Role) (log : List Entry) → Core shape words roles log
+    → (id : ℕ) (desk : Desk)
+    → get_elem? roles id ≡ some (Writer desk) → (place : Place) → desk.place ≡ place → if_not_busy place ≡ None
+    → (found : ℕ)
     → AreCallers shape (ending (call_at place) (went shape desk place found).1)
-entries_there shape words roles log core id desk there place is busy found = go place busy (subst (AtPlace shape words (map_after shape log) (held roles) desk.fresh desk.retired) is (core.knows id (Writer desk) there).place)
+entries_there shape words roles log core id desk there place is busy found =
+    go place busy
+    (subst (AtPlace shape words (map_after shape log) (held roles) desk.fresh desk.retired) is
+    (core.knows id (Writer desk) there).place)
   where
     near_call : (call : WriterCall) → key_of call < shape.keys → call_key (call_of call) < shape.keys
     near_call call near = subst (λ (k : ℕ). k < shape.keys) (sym (key_same call)) near
 
-    of_set : (call : WriterCall) (rows : List Row) (step : Step) → Wants shape words (map_after shape log) (held roles) call rows → AreCallers shape (ending (call_of call) step)
-    of_set call rows step wants = writer_entries shape (call_of call) step (near_call call wants.near) (wants_brings shape words (map_after shape log) (held roles) call rows wants)
+    of_set : (call : WriterCall) (rows : List Row) (step : Step)
+        → Wants shape words (map_after shape log) (held roles) call rows → AreCallers shape (ending (call_of call) step)
+    of_set call rows step wants =
+        writer_entries shape (call_of call) step (near_call call wants.near)
+        (wants_brings shape words (map_after shape log) (held roles) call rows wants)
 
-    go : (at : Place) → if_not_busy at ≡ None → AtPlace shape words (map_after shape log) (held roles) desk.fresh desk.retired at → AreCallers shape (ending (call_at at) (went shape desk at found).1)
+    go : (at : Place) → if_not_busy at ≡ None
+        → AtPlace shape words (map_after shape log) (held roles) desk.fresh desk.retired at
+        → AreCallers shape (ending (call_at at) (went shape desk at found).1)
     go Idle idle stands = absurd (no_some (Some refuse.NotBusy) refuse.NotBusy refl idle)
-    go (Reading call slot got) busy reads = reads_no_fill shape desk call slot (got ++ found ∷ []) (near_call call reads.near)
+    go (Reading call slot got) busy reads =
+        reads_no_fill shape desk call slot (got ++ found ∷ []) (near_call call reads.near)
     go (Leaving key) busy stands = ((stands.1.near, inl (refl, tt)), tt)
     go (Withdrawing key) busy stands = ((stands.near, inl (refl, tt)), tt)
-    go (Searching call rows poll) busy stands = of_set call rows (went shape desk (Searching call rows poll) found).1 stands.0
-    go (Putting call rows slot departed index) busy stands = of_set call rows (went shape desk (Putting call rows slot departed index) found).1 stands.wants
+    go (Searching call rows poll) busy stands =
+        of_set call rows (went shape desk (Searching call rows poll) found).1 stands.0
+    go (Putting call rows slot departed index) busy stands =
+        of_set call rows (went shape desk (Putting call rows slot departed index) found).1 stands.wants
 
 -- the words of the key's set are read on, and a swap finds the key's word
-finds_so : (shape : Shape) (words : List ℕ) (roles : List Role) (log : List Entry) → Core shape words roles log → (id : ℕ) (desk : Desk)
+finds_so : (shape : Shape) (words : List ℕ) (roles : List Role) (log : List Entry) → Core shape words roles log
+    → (id : ℕ) (desk : Desk)
     → get_elem? roles id ≡ some (Writer desk) → (marks : Marks)
     → ((key : ℕ) → key < shape.keys → get_or marks.names key 0 ≡ name_number (get_or words key 0))
-    → (place : Place) → desk.place ≡ place → Finds shape place (get_or words (target_of (going shape desk place)) 0) log marks
-finds_so shape words roles log core id desk there marks names place is = go place (subst (AtPlace shape words (map_after shape log) (held roles) desk.fresh desk.retired) is (core.knows id (Writer desk) there).place)
+    → (place : Place) → desk.place ≡ place
+    → Finds shape place (get_or words (target_of (going shape desk place)) 0) log marks
+finds_so shape words roles log core id desk there marks names place is =
+    go place
+    (subst (AtPlace shape words (map_after shape log) (held roles) desk.fresh desk.retired) is
+    (core.knows id (Writer desk) there).place)
   where
     swaps : (key : ℕ) → key < shape.keys → SwapsAt shape key (get_or words key 0) log marks
-    swaps key near = record { state = shows_kind shape words (get_or words key 0) (state_of (map_after shape log) key) (core.shows key near); name = names key near }
+    swaps key near =
+        record {
+          state = shows_kind shape words (get_or words key 0) (state_of (map_after shape log) key)
+              (core.shows key near);
+          name = names key near;
+        }
 
-    go : (at : Place) → AtPlace shape words (map_after shape log) (held roles) desk.fresh desk.retired at → Finds shape at (get_or words (target_of (going shape desk at)) 0) log marks
+    go : (at : Place) → AtPlace shape words (map_after shape log) (held roles) desk.fresh desk.retired at
+        → Finds shape at (get_or words (target_of (going shape desk at)) 0) log marks
     go Idle stands = tt
     go (Reading call slot got) reads = (
       reads.rows,
       read_set shape words roles log core (key_of call) slot got reads,
       read_next shape words roles log
-          core (key_of call) slot got reads ∙ ap (λ (n : ℕ). take n (encode reads.rows)) (let one : suc (length got) ≡ length got + 1 = omega arith in
+          core (key_of call) slot got reads
+          ∙ ap (λ (n : ℕ). take n (encode reads.rows)) (let one : suc (length got) ≡ length got + 1 = omega arith in
           one),
       reads.more,
       reads.number,
@@ -264,13 +378,16 @@ finds_so shape words roles log core id desk there marks names place is = go plac
         (λ _. tt) (λ _. swaps (key_of call) stands.wants.near)
 
 -- the notes that are new among the polls tell readers as they are
-pub notes_so : (shape : Shape) (state : State (Unit {0}) View) (kept : Kept shape state) (polls now : List Past) → NotesPresent role_of marks_of state.views polls now → NotesTell kept.log polls now
+pub notes_so : (shape : Shape) (state : State (Unit {0}) View) (kept : Kept shape state) (polls now : List Past)
+    → NotesPresent role_of marks_of state.views polls now → NotesTell kept.log polls now
 notes_so shape state kept polls now present at note there = ⊎_elim inl
     (λ (p : IsPresent role_of marks_of state.views note). let fits = kept.fits p.0 p.1 p.3 in
     let acts = fits.acts (let one : is_reader p.1.role ≡ 1 = ap is_reader p.4 in omega arith) in
     let count : note.count ≡ p.1.marks.acts = ap (λ (n : Past). n.count) p.5 in
-    let slot : to_depart note.slot ≡ to_depart (gripped (grip_of p.1.role)) = ap (λ (n : Past). to_depart n.slot) p.5 ∙ sym (ap (λ r. to_depart (gripped (grip_of r))) p.4) in
-    let mine : acts_told (entries_of kept.log note.reader) ≡ acts_told p.1.mine = ap acts_told (fits.own note.reader (ap (is_by note.reader) p.4 ∙ eq-eqb note.reader note.reader refl)) in
+    let slot : to_depart note.slot ≡ to_depart (gripped (grip_of p.1.role))
+    = ap (λ (n : Past). to_depart n.slot) p.5 ∙ sym (ap (λ r. to_depart (gripped (grip_of r))) p.4) in
+    let mine : acts_told (entries_of kept.log note.reader) ≡ acts_told p.1.mine
+    = ap acts_told (fits.own note.reader (ap (is_by note.reader) p.4 ∙ eq-eqb note.reader note.reader refl)) in
     inr (omega arith)) (present at note there)
 
 -- an operation on a word of the layout that is no count of departures; a load of a slot's departures
@@ -278,106 +395,210 @@ abbrev OnPlain : Shape → Operation → Type 0
 OnPlain shape operation = (target_of operation < total_of (layout shape)) × IsNoCount shape (target_of operation)
 
 abbrev Polls : Shape → ℕ → List ℕ → Operation → Type 0
-Polls shape announcers heard operation = (slot : ℕ) × (announcers ≤ get_or heard slot 0) × (target_of operation ≡ departures shape slot) × ((word : ℕ) → becomes operation word ≡ word) × (slot < shape.slots)
+Polls shape announcers heard operation =
+    (slot : ℕ) × (announcers ≤ get_or heard slot 0) × (target_of operation ≡ departures shape slot)
+    × ((word : ℕ) → becomes operation word ≡ word) × (slot < shape.slots)
 
 -- a later step of a call is one of these
-going_on : (shape : Shape) (words : List ℕ) (roles : List Role) (log : List Entry) → Core shape words roles log → (id : ℕ) (desk : Desk)
-    → get_elem? roles id ≡ some (Writer desk) → (announcers : ℕ) (heard : List ℕ) (place : Place) → desk.place ≡ place → if_not_busy place ≡ None → PollsHeard announcers desk heard place
+going_on : (shape : Shape) (words : List ℕ) (roles : List Role) (log : List Entry) → Core shape words roles log
+    → (id : ℕ) (desk : Desk)
+    → get_elem? roles id ≡ some (Writer desk) → (announcers : ℕ) (heard : List ℕ) (place : Place) → desk.place ≡ place
+    → if_not_busy place ≡ None → PollsHeard announcers desk heard place
     → OnPlain shape (going shape desk place) ⊎ Polls shape announcers heard (going shape desk place)
-going_on shape words roles log core id desk there announcers heard place is busy enough = go place busy enough (subst (AtPlace shape words (map_after shape log) (held roles) desk.fresh desk.retired) is (core.knows id (Writer desk) there).place)
+going_on shape words roles log core id desk there announcers heard place is busy enough =
+    go place busy enough
+    (subst (AtPlace shape words (map_after shape log) (held roles) desk.fresh desk.retired) is
+    (core.knows id (Writer desk) there).place)
   where
     on_key : (key : ℕ) → key < shape.keys → (key < total_of (layout shape)) × IsNoCount shape key
     on_key key near = (key_inside shape key near, key_no_count shape key near)
 
-    on_content : (slot index : ℕ) → slot < shape.slots → index < slot_room shape → (content shape slot index < total_of (layout shape)) × IsNoCount shape (content shape slot index)
+    on_content : (slot index : ℕ) → slot < shape.slots → index < slot_room shape
+        → (content shape slot index < total_of (layout shape)) × IsNoCount shape (content shape slot index)
     on_content slot index near low = (content_inside shape slot index near low, content_no_count shape slot index low)
 
-    go : (at : Place) → if_not_busy at ≡ None → PollsHeard announcers desk heard at → AtPlace shape words (map_after shape log) (held roles) desk.fresh desk.retired at → OnPlain shape (going shape desk at) ⊎ Polls shape announcers heard (going shape desk at)
+    go : (at : Place) → if_not_busy at ≡ None → PollsHeard announcers desk heard at
+        → AtPlace shape words (map_after shape log) (held roles) desk.fresh desk.retired at
+        → OnPlain shape (going shape desk at) ⊎ Polls shape announcers heard (going shape desk at)
     go Idle idle _ stands = absurd (no_some (Some refuse.NotBusy) refuse.NotBusy refl idle)
-    go (Reading call slot got) busy _ reads = let set = read_set shape words roles log core (key_of call) slot got reads in let few = reads.more in
-        inl (on_content slot (length got) (named_inside shape words roles log core (key_of call) slot reads.near reads.names) (omega (arith, set.1)))
+    go (Reading call slot got) busy _ reads =
+        let set = read_set shape words roles log core (key_of call) slot got reads in
+        let few = reads.more in
+        inl
+        (on_content slot (length got)
+        (named_inside shape words roles log core (key_of call) slot reads.near reads.names)
+        (omega (arith, set.1)))
     go (Leaving key) busy _ stands = inl (on_key key stands.1.near)
     go (Withdrawing key) busy _ stands = inl (on_key key stands.near)
-    go (Searching call rows poll) busy all stands = inr ((retired_at desk poll).slot, all, refl, λ word. refl, ((core.knows id (Writer desk) there).retired poll (retired_at desk poll) (at_get desk.retired poll stands.1)).0)
-    go (Putting call rows slot departed index) busy _ stands = by_cases (λ b. OnPlain shape (cond {A = Operation} b (Store (content shape slot index) (get_or (encode rows) index 0)) (Swap (key_of call) (naming slot departed)))
-        ⊎ Polls shape announcers heard (cond {A = Operation} b (Store (content shape slot index) (get_or (encode rows) index 0)) (Swap (key_of call) (naming slot departed)))) (nat_le index (2 * length rows))
-        (λ low. let few : index ≤ 2 * length rows = leb-true index (2 * length rows) low in let short = stands.wants.row_set.1 in inl (on_content slot index stands.inside (omega arith)))
+    go (Searching call rows poll) busy all stands =
+        inr (
+          (retired_at desk poll).slot,
+          all,
+          refl,
+          λ word. refl,
+          ((core.knows id (Writer desk) there).retired poll (retired_at desk poll)
+              (at_get desk.retired poll stands.1)).0,
+        )
+    go (Putting call rows slot departed index) busy _ stands =
+        by_cases
+        (λ b. OnPlain shape
+        (cond {A = Operation} b (Store (content shape slot index) (get_or (encode rows) index 0))
+        (Swap (key_of call) (naming slot departed)))
+        ⊎ Polls shape announcers heard
+        (cond {A = Operation} b (Store (content shape slot index) (get_or (encode rows) index 0))
+        (Swap (key_of call) (naming slot departed))))
+        (nat_le index (2 * length rows))
+        (λ low.
+        let few : index ≤ 2 * length rows = leb-true index (2 * length rows) low in
+        let short = stands.wants.row_set.1 in
+        inl (on_content slot index stands.inside (omega arith)))
         (λ _. inl (on_key (key_of call) stands.wants.near))
 
-pub goes_so : (shape : Shape) (slots id : ℕ) (me : Me (Unit {0}) View) (desk : Desk) → me.0.role ≡ Writer desk → if_not_busy desk.place ≡ None → PollsHeard me.0.announcers desk me.0.heard desk.place → PollsNext desk.place me.0.marks
-    → let operation = going shape desk desk.place in Allows (Kept shape) slots id me (target_of operation) (becomes operation) (λ found after. (other : Desk) → me.0.role ≡ Writer other → Went other found me.0 after.0)
-goes_so shape slots id me desk is busy heard in_order = let view = me.0 in let tells = Goes shape desk in let notes = GoesMarks shape view.marks view.pasts desk in let operation = going shape desk desk.place in let c = call_at desk.place in
-    lifts shape id view operation tells notes slots me.1 (λ found next. (other : Desk) → view.role ≡ Writer other → Went other found view next) view.pasts (subst (λ r. CanStep shape id r operation tells) (sym is) (goes shape id desk busy))
+pub goes_so : (shape : Shape) (slots id : ℕ) (me : Me (Unit {0}) View) (desk : Desk) → me.0.role ≡ Writer desk
+    → if_not_busy desk.place ≡ None → PollsHeard me.0.announcers desk me.0.heard desk.place
+    → PollsNext desk.place me.0.marks
+    → let operation = going shape desk desk.place in
+    Allows (Kept shape) slots id me (target_of operation) (becomes operation)
+    (λ found after. (other : Desk) → me.0.role ≡ Writer other → Went other found me.0 after.0)
+goes_so shape slots id me desk is busy heard in_order =
+    let view = me.0 in
+    let tells = Goes shape desk in
+    let notes = GoesMarks shape view.marks view.pasts desk in
+    let operation = going shape desk desk.place in
+    let c = call_at desk.place in
+    lifts shape id view operation tells notes slots me.1
+    (λ found next. (other : Desk) → view.role ≡ Writer other → Went other found view next) view.pasts
+    (subst (λ r. CanStep shape id r operation tells) (sym is) (goes shape id desk busy))
     (goes_marked role_of marks_of shape id view view.pasts desk is busy in_order) (knows_pasts shape id view)
-    (λ state kept at step. let core = kept.core in let there : get_elem? (map role_of state.views) id ≡ some (Writer desk) = at_map role_of state.views id view at ∙ ap some is in
-    let then : ℕ → View → Type 0 = λ found next. (other : Desk) → view.role ≡ Writer other → Went other found view next in
-    let lent_stays : KeepsLent shape id view operation tells = λ _ _ _ made. lends_on view made.after (λ slot. ap (holds slot) made.told.0 ∙ sym (ap (holds slot) is)) in
+    (λ state kept at step.
+    let core = kept.core in
+    let there : get_elem? (map role_of state.views) id ≡ some (Writer desk)
+    = at_map role_of state.views id view at ∙ ap some is in
+    let then : ℕ → View → Type 0
+    = λ found next. (other : Desk) → view.role ≡ Writer other → Went other found view next in
+    let lent_stays : KeepsLent shape id view operation tells
+    = λ _ _ _ made. lends_on view made.after (λ slot. ap (holds slot) made.told.0 ∙ sym (ap (holds slot) is)) in
     ⊎_elim
-    (λ (plain : OnPlain shape operation). sees_plain shape id view operation tells notes then plain.0 plain.1 lent_stays state kept at step)
-    (λ (polls : Polls shape view.announcers view.heard operation). sees_alone shape id view operation tells notes then polls.0 (ap is_writer is) polls.1 polls.2 polls.3 (λ _ _ _. polls.4) lent_stays state kept at step)
-    (going_on shape kept.counted (map role_of state.views) kept.log core id desk there view.announcers view.heard desk.place refl busy heard))
-    (λ state kept at step marked. let found : ℕ = get_or kept.counted (target_of operation) 0 in let outcome = went shape desk desk.place found in
-    let there : get_elem? (map role_of state.views) id ≡ some (Writer desk) = at_map role_of state.views id view at ∙ ap some is in
-    let own = subst (λ r. KnowsMarks role_of marks_of shape kept.counted state.views kept.log r view.marks) is (kept.marked.each id view at) in let sweep = own.sweep in
-    let short : (counts : NoSlot) → outcome.1 ≡ Ended (writer.NoSlot counts) → Shortage shape kept.log desk c outcome counts
+    (λ (plain : OnPlain shape operation). sees_plain shape id view operation tells notes then plain.0 plain.1 lent_stays
+    state kept at step)
+    (λ (polls : Polls shape view.announcers view.heard operation). sees_alone shape id view operation tells notes then
+    polls.0 (ap is_writer is) polls.1 polls.2 polls.3 (λ _ _ _. polls.4) lent_stays state kept at step)
+    (going_on shape kept.counted (map role_of state.views) kept.log core id desk there view.announcers view.heard
+    desk.place refl busy heard))
+    (λ state kept at step marked.
+    let found : ℕ = get_or kept.counted (target_of operation) 0 in let outcome = went shape desk desk.place found in
+    let there : get_elem? (map role_of state.views) id ≡ some (Writer desk)
+    = at_map role_of state.views id view at ∙ ap some is in
+    let own
+    = subst (λ r. KnowsMarks role_of marks_of shape kept.counted state.views kept.log r view.marks) is
+    (kept.marked.each id view at) in
+    let sweep = own.sweep in
+    let short : (counts : NoSlot) → outcome.1 ≡ Ended (writer.NoSlot counts)
+    → Shortage shape kept.log desk c outcome counts
     × PolledAll shape desk.retired marked.now.polls = λ counts without. (
       go_short shape kept.counted (map role_of state.views) kept.log kept.core id desk there counts without,
       go_polled shape view.marks view.pasts
-          desk found step.after (kept.log ++ step.entries) marked.now marked.news state.views desk.place sweep marked.told (counts, without),
+          desk found step.after (kept.log ++ step.entries) marked.now marked.news state.views desk.place sweep
+          marked.told (counts, without),
     ) in
     let size = writer_shape shape kept.log view desk is (kept.fits id view at) in
     let entries : step.entries ≡ ending c outcome.1 = step.told.1 ∙ ending_there desk.place outcome.1 busy in
-    let callers = entries_there shape kept.counted (map role_of state.views) kept.log kept.core id desk there desk.place refl busy found in
-    let no_news = went_quiet shape view.marks view.pasts desk desk.place found step.after (kept.log ++ step.entries) marked.now marked.news marked.told in
-    let names : NamesGo view marked.now = λ _ key slot after. subst (λ (r : Role). (get_or view.marks.names key 0 ≡ suc slot) ⊎ (get_or (heard_after r view.heard) slot 0 ≡ 0)) (sym is)
-    (went_names shape view.marks view.pasts desk desk.place found step.after (kept.log ++ step.entries) marked.now marked.news view.heard marked.told key slot after) in
-    writes shape id view desk is operation tells notes state kept at step marked no_news c outcome step.told.0 entries callers names (λ next. (other : Desk) → view.role ≡ Writer other → Went other found view next)
-    (λ advances other also. let next = learned view step.after (kept.log ++ step.entries) step.entries marked.now marked.news in
+    let callers
+    = entries_there shape kept.counted (map role_of state.views) kept.log kept.core id desk there desk.place refl
+    busy found in
+    let no_news
+    = went_quiet shape view.marks view.pasts desk desk.place found step.after (kept.log ++ step.entries) marked.now
+    marked.news marked.told in
+    let names : NamesGo view marked.now
+    = λ _ key slot after. subst
+    (λ (r : Role). (get_or view.marks.names key 0 ≡ suc slot) ⊎ (get_or (heard_after r view.heard) slot 0 ≡ 0))
+    (sym is)
+    (went_names shape view.marks view.pasts desk desk.place found step.after (kept.log ++ step.entries) marked.now
+    marked.news view.heard marked.told key slot after) in
+    writes shape id view desk is operation tells notes state kept at step marked no_news c outcome step.told.0 entries
+    callers names (λ next. (other : Desk) → view.role ≡ Writer other → Went other found view next)
+    (λ advances other also.
+    let next = learned view step.after (kept.log ++ step.entries) step.entries marked.now marked.news in
     subst (λ (d : Desk). Went d found view next) (same_desk view.role desk other is also) (record {
-      leads = subst (λ (s : Shape). Leads c (went s desk desk.place found) view next) (sym size) (leads_so shape id view desk is operation tells notes state kept at step marked no_news c outcome step.told.0 entries callers names short advances);
+      leads =
+          subst (λ (s : Shape). Leads c (went s desk desk.place found) view next) (sym size)
+          (leads_so shape id view desk is operation tells notes state kept at step marked no_news c outcome
+          step.told.0 entries callers names short advances);
       log = kept.log;
-      seen = ap (λ (l : List Entry). kept.log ++ l) (entries ∙ ap (λ (s : Shape). ending c (went s desk desk.place found).1) (sym size));
-      finds = subst (λ (s : Shape). Finds s desk.place found kept.log view.marks) (sym size) (finds_so shape kept.counted (map role_of state.views) kept.log kept.core id desk there view.marks own.names desk.place refl);
+      seen =
+          ap (λ (l : List Entry). kept.log ++ l)
+          (entries ∙ ap (λ (s : Shape). ending c (went s desk desk.place found).1) (sym size));
+      finds =
+          subst (λ (s : Shape). Finds s desk.place found kept.log view.marks) (sym size)
+          (finds_so shape kept.counted (map role_of state.views) kept.log kept.core id desk there view.marks
+          own.names desk.place refl);
       notes = notes_so shape state kept view.marks.polls marked.now.polls marked.noted;
-      marks = subst (λ (p : Shape × List Past). GoesMarks p.0 view.marks view.pasts desk found step.after (kept.log ++ step.entries) marked.now p.1) (λ j. (sym size j, no_news j)) marked.told;
+      marks =
+          subst
+          (λ (p : Shape × List Past). GoesMarks p.0 view.marks view.pasts desk found step.after
+          (kept.log ++ step.entries) marked.now p.1)
+          (λ j. (sym size j, no_news j)) marked.told;
       heard = ap (λ r. heard_after r view.heard) is;
     })))
 
 -- what a step told, told otherwise
 tells_also : (holds : State (Unit {0}) View → Type 0) (slots id : ℕ) (me : Me (Unit {0}) View) (place : ℕ) (f : ℕ → ℕ)
-    (then also : ℕ → Me (Unit {0}) View → Type 0) → ((found : ℕ) (after : Me (Unit {0}) View) → then found after → also found after)
+    (then also : ℕ → Me (Unit {0}) View → Type 0)
+    → ((found : ℕ) (after : Me (Unit {0}) View) → then found after → also found after)
     → Allows holds slots id me place f then → Allows holds slots id me place f also
-tells_also holds slots id me place f then also so allows state kept wide at small = let step = allows state kept wide at small in (step.0, step.1, step.2, step.3, so (get_or state.words place 0) (step.0, carried_after me.1 step.1) step.4)
+tells_also holds slots id me place f then also so allows state kept wide at small =
+    let step = allows state kept wide at small in
+    (step.0, step.1, step.2, step.3, so (get_or state.words place 0) (step.0, carried_after me.1 step.1) step.4)
 
 -- a put leads to the next one, whatever word it found
-put_leads : (desk : Desk) (call : WriterCall) (rows : List Row) (slot departed index found : ℕ) (old new : View) → desk.place ≡ Putting call rows slot departed index → index ≤ 2 * length rows → Went desk found old new → Put desk old new
+put_leads : (desk : Desk) (call : WriterCall) (rows : List Row) (slot departed index found : ℕ) (old new : View)
+    → desk.place ≡ Putting call rows slot departed index → index ≤ 2 * length rows → Went desk found old new
+    → Put desk old new
 put_leads desk call rows slot departed index found old new is low went_so =
     let after : Desk × Step = (moved_to desk (Putting call rows slot departed (index + 1)), Going) in
     let outcome : went old.shape desk desk.place found ≡ after = ap (λ (p : Place). went old.shape desk p found) is
-    ∙ ap (λ (b : Bool). cond {A = Desk × Step} b after (swapped desk found, ended reply.Done)) (le-leb index (2 * length rows) low) in
+    ∙ ap (λ (b : Bool). cond {A = Desk × Step} b after (swapped desk found, ended reply.Done))
+    (le-leb index (2 * length rows) low) in
     let next : next_put desk ≡ after.0 = ap (λ (p : Place). moved_to desk (put_place p)) is in
     let leads = went_so.leads in record {
       role = leads.role ∙ ap (λ (o : Desk × Step). Writer o.0) outcome ∙ sym (ap Writer next);
-      advances = subst (λ (s : Step). Advances (ending (call_at desk.place) s) old new) (ap (λ (o : Desk × Step). o.1) outcome) leads.advances;
+      advances =
+          subst (λ (s : Step). Advances (ending (call_at desk.place) s) old new) (ap (λ (o : Desk × Step). o.1) outcome)
+          leads.advances;
       room = subst (Room old.shape) (ap (λ (o : Desk × Step). o.0) outcome ∙ sym next) leads.room;
-      numbers = subst (λ (o : Desk × Step). AreNumbers old.shape (map_after old.shape new.seen) o.0.numbers) outcome leads.numbers;
+      numbers =
+          subst (λ (o : Desk × Step). AreNumbers old.shape (map_after old.shape new.seen) o.0.numbers) outcome
+          leads.numbers;
       marks = (subst (λ (b : Bool). PutsMarks b old.marks (key_of call) slot rows found new.role new.seen new.marks [])
-          (le-leb index (2 * length rows) low) (subst (λ (p : Place). went_marks old.shape old.marks old.pasts desk p found new.role new.seen
+          (le-leb index (2 * length rows) low)
+          (subst (λ (p : Place). went_marks old.shape old.marks old.pasts desk p found new.role new.seen
           new.marks []) is went_so.marks)).0;
       heard = went_so.heard;
     }
 
-pub puts_so : (shape : Shape) (slots id : ℕ) (me : Me (Unit {0}) View) (desk : Desk) (call : WriterCall) (rows : List Row) (slot departed index : ℕ)
+pub puts_so : (shape : Shape) (slots id : ℕ) (me : Me (Unit {0}) View) (desk : Desk) (call : WriterCall)
+    (rows : List Row) (slot departed index : ℕ)
     → me.0.role ≡ Writer desk → desk.place ≡ Putting call rows slot departed index → index ≤ 2 * length rows
-    → let word = get_or (encode rows) index 0 in Allows (Kept shape) slots id me (content shape slot index) (λ _. word) (λ _ after. (other : Desk) → me.0.role ≡ Writer other → Put other me.0 after.0)
+    → let word = get_or (encode rows) index 0 in
+    Allows (Kept shape) slots id me (content shape slot index) (λ _. word)
+    (λ _ after. (other : Desk) → me.0.role ≡ Writer other → Put other me.0 after.0)
 puts_so shape slots id me desk call rows slot departed index is place_is low =
     let at = moved_to desk (Putting call rows slot departed index) in
     let word : ℕ = get_or (encode rows) index 0 in
     let operation : going shape at at.place ≡ Store (content shape slot index)
-    word = ap (λ (b : Bool). cond {A = Operation} b (Store (content shape slot index) word) (Swap (key_of call) (naming slot departed)))
+    word =
+    ap
+    (λ (b : Bool). cond {A = Operation} b (Store (content shape slot index) word)
+    (Swap (key_of call) (naming slot departed)))
     (le-leb index (2 * length rows) low) in
     let at_is : me.0.role ≡ Writer at = is ∙ (λ j. Writer (record desk { place = place_is j })) in
-    let told : ℕ → Me (Unit {0}) View → Type 0 = λ found after. (other : Desk) → me.0.role ≡ Writer other → Went other found me.0 after.0 in
-    let allows = subst (λ (o : Operation). Allows (Kept shape) slots id me (target_of o) (becomes o) told) operation (goes_so shape slots id me at at_is refl tt tt) in
-    tells_also (Kept shape) slots id me (content shape slot index) (λ _. word) told (λ _ after. (other : Desk) → me.0.role ≡ Writer other → Put other me.0 after.0)
-    (λ found after so other also. put_leads other call rows slot departed index found me.0 after.0 (ap (λ (d : Desk). d.place) (same_desk me.0.role other at also at_is)) low (so other also)) allows
+    let told : ℕ → Me (Unit {0}) View → Type 0
+    = λ found after. (other : Desk) → me.0.role ≡ Writer other → Went other found me.0 after.0 in
+    let allows
+    = subst (λ (o : Operation). Allows (Kept shape) slots id me (target_of o) (becomes o) told) operation
+    (goes_so shape slots id me at at_is refl tt tt) in
+    tells_also (Kept shape) slots id me (content shape slot index) (λ _. word) told
+    (λ _ after. (other : Desk) → me.0.role ≡ Writer other → Put other me.0 after.0)
+    (λ found after so other also. put_leads other call rows slot departed index found me.0 after.0
+    (ap (λ (d : Desk). d.place) (same_desk me.0.role other at also at_is)) low (so other also))
+    allows

@@ -1,5 +1,7 @@
--- Holds by words. A reader may have a word of its own, which announces a slot; a hold by that word is counted nowhere. For the core it is an arrival like any other: the core sees each slot's departures less by the holds by words.
-use Rattle.std.specs.Prelude.{◌≡◌, ◌≢◌, ℕ, suc, ◌+◌, ◌-◌, ◌*◌, ◌%◌, ◌^◌, ◌<◌, ◌≤◌, if◌then◌else◌, nat_lt, true, false, List, length, slice_index, slice_set}
+-- Holds by words. A reader may have a word of its own, which announces a slot; a hold by that word is counted nowhere.
+-- For the core it is an arrival like any other: the core sees each slot's departures less by the holds by words.
+use Rattle.std.specs.Prelude.{◌≡◌, ◌≢◌, ℕ, suc, ◌+◌, ◌-◌, ◌*◌, ◌%◌, ◌^◌, ◌<◌, ◌≤◌, if◌then◌else◌, nat_lt, true, false}
+use Rattle.std.specs.Prelude.{List, length, slice_index, slice_set}
 use mathlib.Core.Option.{some}
 use lib.ListN.{get_elem?}
 use Rattle.nr_words.specs.Places.{total_of}
@@ -33,8 +35,11 @@ IsNoCount shape at = (slot : ℕ) → slot < shape.slots → at ≢ departures s
 -- the words, and those that the core sees, where that many hold each slot by their words
 pub record Counted (shape : Shape) (by_word : ℕ → ℕ) (words counted : List ℕ) : Type 0 where
   pub room : total_of (layout shape) ≤ length words
-  pub same : (at : ℕ) → at < total_of (layout shape) → IsNoCount shape at → slice_index counted at ≡ slice_index words at
-  pub less : (slot : ℕ) → slot < shape.slots → slice_index counted (departures shape slot) ≡ (slice_index words (departures shape slot) + (2 ^ 64 - by_word slot)) % 2 ^ 64
+  pub same : (at : ℕ) → at < total_of (layout shape) → IsNoCount shape at
+      → slice_index counted at ≡ slice_index words at
+  pub less : (slot : ℕ) → slot < shape.slots
+      → slice_index counted (departures shape slot)
+      ≡ (slice_index words (departures shape slot) + (2 ^ 64 - by_word slot)) % 2 ^ 64
   pub small : (slot : ℕ) → slot < shape.slots → slice_index words (departures shape slot) < 2 ^ 64
 
 -- none of the tokens is that reader
@@ -45,10 +50,13 @@ HasNoReader own views = (id : ℕ) (view : View) → get_elem? views id ≡ some
 pub record Announces (shape : Shape) (announcers : ℕ) (words : List ℕ) (views : List View) : Type 0 where
   pub space : total_of (layout shape) + 8 * announcers ≤ length words
   -- a reader's word is what its token says; who has none says nothing
-  pub says : (id own : ℕ) (view : View) → get_elem? views id ≡ some view → is_by (suc own) view.role ≡ true → own < announcers → slice_index words (says_at shape own) ≡ view.says
-  pub wordless : (id : ℕ) (view : View) → get_elem? views id ≡ some view → ((own : ℕ) → own < announcers → is_by (suc own) view.role ≡ false) → view.says ≡ 0
+  pub says : (id own : ℕ) (view : View) → get_elem? views id ≡ some view → is_by (suc own) view.role ≡ true
+      → own < announcers → slice_index words (says_at shape own) ≡ view.says
+  pub wordless : (id : ℕ) (view : View) → get_elem? views id ≡ some view
+      → ((own : ℕ) → own < announcers → is_by (suc own) view.role ≡ false) → view.says ≡ 0
   -- who announces a slot holds that slot or none
-  pub holds_it : (id slot : ℕ) (view : View) → get_elem? views id ≡ some view → 0 < view.says → 0 < holds slot view.role → view.says ≡ suc slot
+  pub holds_it : (id slot : ℕ) (view : View) → get_elem? views id ≡ some view → 0 < view.says → 0 < holds slot view.role
+      → view.says ≡ suc slot
   -- a reader that is not made yet says nothing
   pub unsaid : (own : ℕ) → HasNoReader own views → own < announcers → slice_index words (says_at shape own) ≡ 0
 
@@ -81,6 +89,7 @@ PollsHeard announcers desk heard (Putting call rows mine departed index) = Unit 
 -- what the writer has heard is so
 pub record Hears (views : List View) (writer : View) : Type 0 where
   -- the readers that were heard don't hold the slot by their words
-  pub quiet : (id slot own : ℕ) (view : View) → get_elem? views id ≡ some view → is_by (suc own) view.role ≡ true → own < slice_index writer.heard slot → lends slot view ≡ 0
+  pub quiet : (id slot own : ℕ) (view : View) → get_elem? views id ≡ some view → is_by (suc own) view.role ≡ true
+      → own < slice_index writer.heard slot → lends slot view ≡ 0
   -- of a slot that a key names nothing is heard
   pub unheard : (key slot : ℕ) → slice_index writer.marks.names key ≡ suc slot → slice_index writer.heard slot ≡ 0

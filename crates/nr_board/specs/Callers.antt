@@ -73,7 +73,8 @@ map_at_opening table = opening_map table.shape
 abbrev pub map_seen : Caller → PartialMap
 map_seen caller = after (map_at_opening caller.table) caller.seen
 
--- in that many steps these entries of the caller's became the last ones of one legal history, which begins with all that the caller had seen
+-- in that many steps these entries of the caller's became the last ones of one legal history, which begins with all
+-- that the caller had seen
 pub record Grows (steps : ℕ) (entries : List Entry) (old new : Caller) : Type 0 where
   pub table : new.table ≡ old.table
   pub number : new.number ≡ old.number
@@ -83,7 +84,8 @@ pub record Grows (steps : ℕ) (entries : List Entry) (old new : Caller) : Type 
   pub legal : IsLegal (map_at_opening old.table) new.seen
   -- of the caller's calls the history has just those that it made, each once
   pub own : entries_of new.seen new.number ≡ new.mine
-  -- and of others' only finds and requests of the map's readers, and calls of its writer, which bring no sets but row sets of the map
+  -- and of others' only finds and requests of the map's readers, and calls of its writer, which bring no sets but row
+  -- sets of the map
   pub callers : AreCallers old.table.shape new.seen
   pub steps_made : new.steps ≡ old.steps + steps
   -- it learnt nothing of readers

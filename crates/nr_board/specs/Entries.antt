@@ -20,9 +20,13 @@ is_reading (Replace key rows) = false
 is_reading (Evict key) = false
 is_reading (Cancel key) = false
 
--- the entry is of a key of the map, and the writer's, which brings no set but a row set of the map, or a find or a request of one of the readers
+-- the entry is of a key of the map, and the writer's, which brings no set but a row set of the map, or a find or a
+-- request of one of the readers
 abbrev pub IsCallers : Shape → Entry → Type 0
-IsCallers shape entry = (call_key entry.call < shape.keys) × (((entry.caller ≡ 0) × BringsRowSet shape.rows entry.call) ⊎ ((entry.caller ≤ shape.readers) × (is_reading entry.call ≡ true)))
+IsCallers shape entry =
+    (call_key entry.call < shape.keys)
+    × (((entry.caller ≡ 0) × BringsRowSet shape.rows entry.call)
+    ⊎ ((entry.caller ≤ shape.readers) × (is_reading entry.call ≡ true)))
 
 -- so is each entry
 abbrev pub AreCallers : Shape → List Entry → Type 0

@@ -15,9 +15,25 @@ pub record Gave (first : HeldRows) (count : ℕ) (last : HeldRows) : Type 0 wher
   pub rests : Rests (2 * count) (token first.seat.now) (token last.seat.now)
 
 pub gives_none : (source : HeldRows) → Gave source 0 source
-gives_none source = record { name = refl; board = refl; begin = refl; marks = refl; says = refl; rests = record { table = refl; number = refl; seen = refl; mine = refl; steps_made = omega arith; pasts = refl } }
+gives_none source =
+    record {
+      name = refl;
+      board = refl;
+      begin = refl;
+      marks = refl;
+      says = refl;
+      rests = record {
+        table = refl;
+        number = refl;
+        seen = refl;
+        mine = refl;
+        steps_made = omega arith;
+        pasts = refl;
+      };
+    }
 
-pub gives_more : (first mid last : HeldRows) (count : ℕ) → Gave first count mid → Gave mid 1 last → Gave first (count + 1) last
+pub gives_more : (first mid last : HeldRows) (count : ℕ) → Gave first count mid → Gave mid 1 last
+    → Gave first (count + 1) last
 gives_more first mid last count a b = record {
   name = b.name ∙ a.name;
   board = b.board ∙ a.board;

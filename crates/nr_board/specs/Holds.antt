@@ -1,5 +1,6 @@
 -- A reader finds a key and holds its set: by its own word where it has one, and else by the counts.
-use Rattle.std.specs.Prelude.{◌≡◌, ◌≢◌, ℕ, suc, ◌+◌, ◌-◌, ◌<◌, ◌≤◌, ◌⊎◌, ◌↔◌, nat_lt, if◌then◌else◌, Bool, true, false, List, [], ◌∷◌, ◌++◌, length, map, Option, Some, None, Result, Ok, Err}
+use Rattle.std.specs.Prelude.{◌≡◌, ◌≢◌, ℕ, suc, ◌+◌, ◌-◌, ◌<◌, ◌≤◌, ◌⊎◌, ◌↔◌, nat_lt, if◌then◌else◌, Bool, true, false}
+use Rattle.std.specs.Prelude.{List, [], ◌∷◌, ◌++◌, length, map, Option, Some, None, Result, Ok, Err}
 use Rattle.nr_model.specs.declared.calls.Call.TheVariants as model
 use Rattle.nr_model.specs.declared.calls.Reply.TheVariants as reply
 use Rattle.nr_model.specs.declared.rows.Row.{Row}
@@ -27,12 +28,16 @@ looks_at key named = map (λ name. OfKey key name) named
 abbrev pub looked : Marks → ℕ → List ℕ → Marks
 looked marks key named = with_loads marks (marks.loads ++ looks_at key named)
 
--- In how many steps a reader that has a word holds a set, whose size it reads last, and what its word says then. It looks, announces the slot that this named, and looks again: where that names the slot still, it holds it. Else it announces the other one and looks once more. Then it clears its word and arrives.
+-- In how many steps a reader that has a word holds a set, whose size it reads last, and what its word says then. It
+-- looks, announces the slot that this named, and looks again: where that names the slot still, it holds it. Else it
+-- announces the other one and looks once more. Then it clears its word and arrives.
 abbrev pub HeldBy : List ℕ → ℕ → ℕ → Type 0
 HeldBy named says steps =
     ((slot : ℕ) × (named ≡ suc slot ∷ suc slot ∷ []) × (says ≡ suc slot) × (steps ≡ 4))
-    ⊎ ((first slot : ℕ) × (named ≡ suc first ∷ suc slot ∷ suc slot ∷ []) × (first ≢ slot) × (says ≡ suc slot) × (steps ≡ 6))
-    ⊎ ((first second third : ℕ) × (named ≡ suc first ∷ suc second ∷ suc third ∷ []) × (first ≢ second) × (second ≢ third) × (says ≡ 0) × (steps ≡ 8))
+    ⊎ ((first slot : ℕ) × (named ≡ suc first ∷ suc slot ∷ suc slot ∷ []) × (first ≢ slot) × (says ≡ suc slot)
+    × (steps ≡ 6))
+    ⊎ ((first second third : ℕ) × (named ≡ suc first ∷ suc second ∷ suc third ∷ []) × (first ≢ second)
+    × (second ≢ third) × (says ≡ 0) × (steps ≡ 8))
 
 -- in how many it finds a hole: at its first look; at a later one, after which it clears its word; or at its arrival
 abbrev pub HoleBy : List ℕ → ℕ → Type 0
@@ -40,7 +45,8 @@ HoleBy named steps =
     ((named ≡ 0 ∷ []) × (steps ≡ 1))
     ⊎ ((slot : ℕ) × (named ≡ suc slot ∷ 0 ∷ []) × (steps ≡ 4))
     ⊎ ((first slot : ℕ) × (named ≡ suc first ∷ suc slot ∷ 0 ∷ []) × (first ≢ slot) × (steps ≡ 6))
-    ⊎ ((first second third : ℕ) × (named ≡ suc first ∷ suc second ∷ suc third ∷ []) × (first ≢ second) × (second ≢ third) × (steps ≡ 7))
+    ⊎ ((first second third : ℕ) × (named ≡ suc first ∷ suc second ∷ suc third ∷ []) × (first ≢ second)
+    × (second ≢ third) × (steps ≡ 7))
 
 -- by the count it arrives, without a look
 abbrev pub HeldIn : Bool → List ℕ → ℕ → ℕ → Type 0
@@ -51,7 +57,8 @@ abbrev pub HoleIn : Bool → List ℕ → ℕ → Type 0
 HoleIn false named steps = (named ≡ []) × (steps ≡ 1)
 HoleIn true named steps = HoleBy named steps
 
--- a find of these rows, in the steps of a hold and so many more: the looks at the key that named those came before, and the hold's named these; what the reader's word said when it held the set
+-- a find of these rows, in the steps of a hold and so many more: the looks at the key that named those came before, and
+-- the hold's named these; what the reader's word said when it held the set
 pub record FindsRowsAfter (before : List ℕ) (more key : ℕ) (rows : List Row) (old new : Caller) : Type 0 where
   pub steps : ℕ
   pub named : List ℕ
@@ -84,7 +91,8 @@ slot_in (Some slot) = slot
 abbrev pub HoldsWhatItSays : Caller → Type 0
 HoldsWhatItSays reader = 0 < reader.says → reader.says ≡ suc (slot_in reader.holds)
 
--- by one look at a key a reader that holds a slot finds the key again, where the look named that slot, and else it finds nothing
+-- by one look at a key a reader that holds a slot finds the key again, where the look named that slot, and else it
+-- finds nothing
 pub record LooksAgain (key : ℕ) (holds : Option ℕ) (found : Bool) (old new : Marks) : Type 0 where
   pub named : ℕ
   pub exact : (found ≡ true) ↔ (named ≡ suc (slot_in holds))
@@ -101,7 +109,8 @@ pub record HeldAs (table : Table) (held : Held) (seat : MapSeat) : Type 0 where
   pub said : 0 < held.says → held.says ≡ suc held.slot
   pub worded : 0 < held.says → caller_number (view_of seat).role ≤ table.announcers
 
--- the find of a reader whose marks were these is an entry after that many steps: the set is held, or the key was a hole and nothing is held
+-- the find of a reader whose marks were these is an entry after that many steps: the set is held, or the key was a hole
+-- and nothing is held
 pub record HeldSo (table : Table) (key steps : ℕ) (marks : Marks) (held : Held) (old new : MapSeat) : Type 0 where
   pub held_as : HeldAs table held new
   pub gains : Gains steps (model.Find key) (token old) (token new) (reply.Rows (rows_held (view_of new).role))
@@ -121,18 +130,21 @@ TakesSteps by_word (Some held) named steps = HeldIn by_word named held.says step
 TakesSteps by_word None named steps = HoleIn by_word named steps
 
 -- a find that holds, so many steps after it began
-pub record HoldsAfter (late : ℕ) (by_word : Bool) (table : Table) (key : ℕ) (marks : Marks) (old new : MapSeat) (answer : Option Held) : Type 0 where
+pub record HoldsAfter (late : ℕ) (by_word : Bool) (table : Table) (key : ℕ) (marks : Marks) (old new : MapSeat)
+    (answer : Option Held) : Type 0 where
   pub steps : ℕ
   pub named : List ℕ
   pub takes : TakesSteps by_word answer named steps
   pub answered : IsAnswered table key (steps + late) (looked marks key named) old new answer
 
 -- a find by a word, that many steps after it began: after its look, or after a try too, which named this
-pub record HoldsOn (made : ℕ) (earlier : List ℕ) (table : Table) (key : ℕ) (old new : MapSeat) (answer : Option Held) : Type 0 where
+pub record HoldsOn (made : ℕ) (earlier : List ℕ) (table : Table) (key : ℕ) (old new : MapSeat)
+    (answer : Option Held) : Type 0 where
   pub steps : ℕ
   pub named : List ℕ
   pub takes : TakesSteps true answer (earlier ++ named) (made + steps)
-  pub answered : IsAnswered table key steps (looked (let_go (grip_of (view_of old).role) (view_of old).marks) key named) old new answer
+  pub answered : IsAnswered table key steps (looked (let_go (grip_of (view_of old).role) (view_of old).marks) key named)
+      old new answer
 
 -- the slot of a word was announced, and not confirmed, since the key's newer word names another
 pub record NamesOther (table : Table) (key word newer : ℕ) (old new : MapSeat) : Type 0 where
@@ -140,7 +152,8 @@ pub record NamesOther (table : Table) (key word newer : ℕ) (old new : MapSeat)
   pub filled : is_filled newer ≡ true
   pub other : names_slot (slot_of word) newer ≡ false
   pub grows : Grows 2 [] (token old) (token new)
-  pub marks_are : (view_of new).marks ≡ with_look (let_go (grip_of (view_of old).role) (view_of old).marks) key (name_number newer)
+  pub marks_are : (view_of new).marks
+      ≡ with_look (let_go (grip_of (view_of old).role) (view_of old).marks) key (name_number newer)
 
 -- what the look named that answered
 abbrev pub last_named : ℕ → Option Held → ℕ
@@ -152,15 +165,22 @@ abbrev pub SaysSlot : ℕ → Option Held → Type 0
 SaysSlot slot (Some held) = held.says ≡ suc slot
 SaysSlot slot None = Unit {0}
 
--- an announcement and its confirmation, and the load or the store that follows: the find is answered, or there is a newer word
+-- an announcement and its confirmation, and the load or the store that follows: the find is answered, or there is a
+-- newer word
 abbrev pub TriesWord : Table → ℕ → ℕ → MapSeat → MapSeat → Result (Option Held) ℕ → Type 0
-TriesWord table key word old new (Ok answer) = SaysSlot (slot_of word) answer × IsAnswered table key 3 (with_look (let_go (grip_of (view_of old).role) (view_of old).marks) key (last_named (slot_of word) answer)) old new answer
+TriesWord table key word old new (Ok answer) =
+    SaysSlot (slot_of word) answer
+    × IsAnswered table key 3
+    (with_look (let_go (grip_of (view_of old).role) (view_of old).marks) key (last_named (slot_of word) answer))
+    old new answer
 TriesWord table key word old new (Err newer) = NamesOther table key word newer old new
 
--- a reader that holds by its word finds a key by the word that a load of it gave: or that was a hole's, and it clears its word and finds anew
+-- a reader that holds by its word finds a key by the word that a load of it gave: or that was a hole's, and it clears
+-- its word and finds anew
 pub record MovesTo (table : Table) (key word : ℕ) (old new : MapSeat) (answer : Option Held) : Type 0 where
   pub steps : ℕ
   pub named : List ℕ
   pub takes : TakesSteps true answer ((if is_filled word then name_number word ∷ [] else []) ++ named) steps
   -- but for that load
-  pub answered : IsAnswered table key (steps + (if is_filled word then 0 else 2) - 1) (looked (acted (view_of old).marks (view_of old).marks.put) key named) old new answer
+  pub answered : IsAnswered table key (steps + (if is_filled word then 0 else 2) - 1)
+      (looked (acted (view_of old).marks (view_of old).marks.put) key named) old new answer

@@ -17,9 +17,12 @@ use Rattle.nr_board.specs.Plays.{Then}
 use Rattle.nr_board.specs.Rule.{StartsWith}
 use Rattle.nr_board.specs.Views.{View}
 
--- what the token learns: the writer how the readers are that it was told of, and that its lists are those of the history so far; a reader whether it is still as it was told
+-- what the token learns: the writer how the readers are that it was told of, and that its lists are those of the
+-- history so far; a reader whether it is still as it was told
 abbrev pub LearnsOf : Role → View → View → List Past → Type 0
-LearnsOf (Writer desk) old new news = Refreshed desk.retired old.marks old.told_pasts news × Lists desk old.marks old.shape new.seen × AreNumbers old.shape (map_after old.shape new.seen) desk.numbers
+LearnsOf (Writer desk) old new news =
+    Refreshed desk.retired old.marks old.told_pasts news × Lists desk old.marks old.shape new.seen
+    × AreNumbers old.shape (map_after old.shape new.seen) desk.numbers
 LearnsOf (Reader reader grip) old new news = (news ≡ []) × Compared reader grip old.marks old.told_pasts
 LearnsOf Note old new news = Unit {0}
 
@@ -40,7 +43,8 @@ has_learned step (before, _) found (after, _) = Learned step.word found before a
 
 -- what a token learnt of readers by a note
 abbrev pub HearsOf : View → View → View → Type 0
-HearsOf note old new = (news : List Past) × (new.pasts ≡ news ++ old.pasts) × LearnsOf old.role (told_by_note old note) new news
+HearsOf note old new =
+    (news : List Past) × (new.pasts ≡ news ++ old.pasts) × LearnsOf old.role (told_by_note old note) new news
 
 -- the step that hears a note learns as a load does that is told what the note tells
 abbrev pub has_heard : View → View → View → Type 0

@@ -17,7 +17,8 @@ use Rattle.nr_marks.specs.Puts.{put_number}
 use Rattle.nr_board.specs.Entries.{AreCallers}
 use Rattle.nr_board.specs.Rule.{StartsWith}
 
--- in that many steps, none of which adds an entry, the token learnt a legal history that begins with all that it had seen
+-- in that many steps, none of which adds an entry, the token learnt a legal history that begins with all that it had
+-- seen
 pub record Learns (steps : ℕ) (old new : Caller) : Type 0 where
   pub table : new.table ≡ old.table
   pub number : new.number ≡ old.number
@@ -26,7 +27,8 @@ pub record Learns (steps : ℕ) (old new : Caller) : Type 0 where
   pub legal : IsLegal (map_at_opening old.table) new.seen
   -- of the caller's calls the history has just those that it made, each once
   pub own : entries_of new.seen new.number ≡ new.mine
-  -- and of others' only finds and requests of the map's readers, and calls of its writer, which bring no sets but row sets of the map
+  -- and of others' only finds and requests of the map's readers, and calls of its writer, which bring no sets but row
+  -- sets of the map
   pub callers : AreCallers old.table.shape new.seen
   pub steps_made : new.steps ≡ old.steps + steps
   -- the writer's slots and its list of numbers, a reader's hold and word, and the marks stay
@@ -43,7 +45,8 @@ pub record Learns (steps : ℕ) (old new : Caller) : Type 0 where
 
 -- how a reader is, and the writer's desk between its calls, as their tokens show it
 abbrev pub how_is : Caller → Past
-how_is reader = record { reader = reader.number; count = reader.marks.acts; slot = reader.holds; put = reader.marks.put }
+how_is reader =
+    record { reader = reader.number; count = reader.marks.acts; slot = reader.holds; put = reader.marks.put }
 
 abbrev pub desk_seen : Caller → Desk
 desk_seen writer = record { place = Idle; fresh = writer.fresh; retired = writer.retired; numbers = writer.numbers }
@@ -75,7 +78,8 @@ pub record Meets (steps : ℕ) (other old new : Caller) : Type 0 where
   pub seen : StartsWith new.seen other.seen
   pub calls : StartsWith (entries_of new.seen other.number) other.mine
 
--- the writer learnt of the reader, and then the reader of the writer, 1 step of each for the note and 1 to hear: of either the writer's history has exactly its calls
+-- the writer learnt of the reader, and then the reader of the writer, 1 step of each for the note and 1 to hear: of
+-- either the writer's history has exactly its calls
 pub record Gathers (writer reader writer' reader' : Caller) : Type 0 where
   pub of_reader : Meets 2 reader writer writer'
   pub of_writer : Meets 2 writer' reader reader'

@@ -39,15 +39,18 @@ pub record ReadTo (table : Table) (call : WriterCall) (begin : ℕ) (before afte
   pub row_set : IsRowSet (bound_of table.shape) (rows_named table call after)
   pub positive : 0 < words
   pub few : words ≤ 2 * length (rows_named table call after) + 1
-  pub leads : LeadsIn words table (call_of call) (reads_on table (desk_of (view_of before).role) call slot (rows_named table call after) words) before after
-  pub had : KeyHas table call (rows_named table call after) (step_in (reads_on table (desk_of (view_of before).role) call slot (rows_named table call after) words)) after
+  pub leads : LeadsIn words table (call_of call)
+      (reads_on table (desk_of (view_of before).role) call slot (rows_named table call after) words) before after
+  pub had : KeyHas table call (rows_named table call after)
+      (step_in (reads_on table (desk_of (view_of before).role) call slot (rows_named table call after) words)) after
   pub marks : (view_of after).marks ≡ (view_of before).marks
   pub heard : (view_of after).heard ≡ (view_of before).heard
 
 -- it has read them all
 pub record ReadsAll (table : Table) (call : WriterCall) (rows : List Row) (before after : MapSeat) : Type 0 where
   pub row_set : IsRowSet (bound_of table.shape) rows
-  pub leads : LeadsIn (2 * length rows + 1) table (call_of call) (decided table.shape (desk_of (view_of before).role) call rows) before after
+  pub leads : LeadsIn (2 * length rows + 1) table (call_of call)
+      (decided table.shape (desk_of (view_of before).role) call rows) before after
   pub had : KeyHas table call rows (step_in (decided table.shape (desk_of (view_of before).role) call rows)) after
   pub marks : (view_of after).marks ≡ (view_of before).marks
   pub heard : (view_of after).heard ≡ (view_of before).heard

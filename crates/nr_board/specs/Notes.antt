@@ -16,11 +16,41 @@ abbrev pub has_noted : View → View
 has_noted view = record view { steps = view.steps + 1 }
 
 abbrev pub note_of : View → View
-note_of view = record { role = Note; shape = view.shape; announcers = view.announcers; made = 0; seen = view.seen; told = []; mine = []; steps = 0; marks = no_marks; pasts = told_by view.role view.marks view.pasts; told_pasts = []; says = 0; heard = [] }
+note_of view =
+    record {
+      role = Note;
+      shape = view.shape;
+      announcers = view.announcers;
+      made = 0;
+      seen = view.seen;
+      told = [];
+      mine = [];
+      steps = 0;
+      marks = no_marks;
+      pasts = told_by view.role view.marks view.pasts;
+      told_pasts = [];
+      says = 0;
+      heard = [];
+    }
 
 -- a note that says again what the note told which the token took in last
 abbrev pub retold : View → View
-retold view = record { role = Note; shape = view.shape; announcers = view.announcers; made = 0; seen = view.told; told = []; mine = []; steps = 0; marks = no_marks; pasts = view.told_pasts; told_pasts = []; says = 0; heard = [] }
+retold view =
+    record {
+      role = Note;
+      shape = view.shape;
+      announcers = view.announcers;
+      made = 0;
+      seen = view.told;
+      told = [];
+      mine = [];
+      steps = 0;
+      marks = no_marks;
+      pasts = view.told_pasts;
+      told_pasts = [];
+      says = 0;
+      heard = [];
+    }
 
 -- the seat of a note that nobody has taken in
 abbrev pub IsNote : Seat (Unit {0}) View → Type 0
@@ -36,4 +66,20 @@ with_note view note = has_noted (told_by_note view note)
 
 -- what is left of a note
 abbrev pub spent : View
-spent = note_of (record { role = Note; shape = no_shape; announcers = 0; made = 0; seen = []; told = []; mine = []; steps = 0; marks = no_marks; pasts = []; told_pasts = []; says = 0; heard = [] })
+spent =
+    note_of
+    (record {
+      role = Note;
+      shape = no_shape;
+      announcers = 0;
+      made = 0;
+      seen = [];
+      told = [];
+      mine = [];
+      steps = 0;
+      marks = no_marks;
+      pasts = [];
+      told_pasts = [];
+      says = 0;
+      heard = [];
+    })

@@ -1,5 +1,6 @@
 -- A pass of a search: it polls the retired slots that have no flag, oldest first, up to the first that nobody holds.
-use Rattle.std.specs.Prelude.{◌≡◌, ℕ, ◌+◌, ◌<◌, ◌≤◌, ◌⊎◌, Bool, true, false, List, [], ◌∷◌, ◌++◌, length, remove, slice_index, take, Option, Some, None}
+use Rattle.std.specs.Prelude.{◌≡◌, ℕ, ◌+◌, ◌<◌, ◌≤◌, ◌⊎◌, Bool, true, false, List, [], ◌∷◌, ◌++◌, length, remove}
+use Rattle.std.specs.Prelude.{slice_index, take, Option, Some, None}
 use mathlib.Core.Option.{some}
 use lib.ListN.{get_elem?}
 use Rattle.nr_model.specs.declared.rows.Row.{Row}
@@ -30,32 +31,43 @@ polls_before retired flags place = length (unflagged retired flags place)
 
 -- all readers that have a word were heard not to say a retired slot without a flag
 abbrev pub AreHeard : List Retired → List Bool → ℕ → List ℕ → Type 0
-AreHeard retired flags announcers counts = (slot : ℕ) → 0 < retirements slot retired → is_unheard flags slot ≡ false → announcers ≤ slice_index counts slot
+AreHeard retired flags announcers counts =
+    (slot : ℕ) → 0 < retirements slot retired → is_unheard flags slot ≡ false → announcers ≤ slice_index counts slot
 
 -- one of so many readers was noted, which held a slot before that place of the list, or one with a flag, or none
 pub record NotesOne (retired : List Retired) (flags : List Bool) (readers place : ℕ) (note : Past) : Type 0 where
   pub made : 0 < note.reader
   pub few : note.reader ≤ readers
-  pub holds : (note.slot ≡ None) ⊎ ((slot : ℕ) × (note.slot ≡ Some slot) × ((is_unheard flags slot ≡ true) ⊎ ((at : ℕ) × (entry : Retired) × (at < place) × (get_elem? retired at ≡ some entry) × (slot ≡ entry.slot))))
+  pub holds : (note.slot ≡ None)
+      ⊎ ((slot : ℕ) × (note.slot ≡ Some slot)
+      × ((is_unheard flags slot ≡ true)
+      ⊎ ((at : ℕ) × (entry : Retired) × (at < place) × (get_elem? retired at ≡ some entry)
+      × (slot ≡ entry.slot))))
 
 -- so many notes that were there, and one for each poll: each of another reader
-pub record NotesTo (retired : List Retired) (flags : List Bool) (readers place first : ℕ) (notes : List Past) : Type 0 where
+pub record NotesTo (retired : List Retired) (flags : List Bool) (readers place first : ℕ) (notes : List Past) : Type
+    0 where
   pub many : length notes ≡ first + polls_before retired flags place
   pub each : (at : ℕ) (note : Past) → get_elem? notes at ≡ some note → NotesOne retired flags readers place note
   pub apart : (reader : ℕ) → total (λ (note : Past). only reader note.reader) notes ≤ 1
 
 -- the pass before that place: each slot that it polled was held
-pub record PassedTo (table : Table) (spare : Spare) (flags : List Bool) (before now : MapSeat) (place : ℕ) : Type 0 where
+pub record PassedTo (table : Table) (spare : Spare) (flags : List Bool) (before now : MapSeat) (place : ℕ) : Type
+    0 where
   pub own : now.table_id ≡ before.table_id
   pub role : (view_of now).role ≡ (view_of before).role
   pub search : SearchesIn table spare now
   pub grows : Grows (polls_before spare.retired flags place) [] (token before) (token now)
-  pub notes : NotesTo spare.retired flags table.shape.readers place (length (view_of before).marks.polls) (view_of now).marks.polls
+  pub notes : NotesTo spare.retired flags table.shape.readers place (length (view_of before).marks.polls)
+      (view_of now).marks.polls
   pub heard : (view_of now).heard ≡ (view_of before).heard
-  pub marks : (view_of now).marks ≡ with_scan (view_of before).marks (view_of now).marks.polls ((view_of before).marks.loads ++ held_polls (unflagged spare.retired flags place))
+  pub marks : (view_of now).marks
+      ≡ with_scan (view_of before).marks (view_of now).marks.polls
+      ((view_of before).marks.loads ++ held_polls (unflagged spare.retired flags place))
 
 -- the pass took the slot at a place, which nobody held
-pub record PassTakes (table : Table) (flags : List Bool) (before : MapSeat) (spare : Spare) (now : MapSeat) (after : Spare) (taken : Taken) : Type 0 where
+pub record PassTakes (table : Table) (flags : List Bool) (before : MapSeat) (spare : Spare) (now : MapSeat)
+    (after : Spare) (taken : Taken) : Type 0 where
   pub place : ℕ
   pub entry : Retired
   pub here : get_elem? spare.retired place ≡ some entry
@@ -63,12 +75,17 @@ pub record PassTakes (table : Table) (flags : List Bool) (before : MapSeat) (spa
   pub no_flag : is_unheard flags entry.slot ≡ false
   pub after_is : after ≡ record spare { retired = remove spare.retired place }
   pub own : now.table_id ≡ before.table_id
-  pub writes : (desk : Desk) (call : WriterCall) (rows : List Row) → (view_of before).role ≡ Writer desk → desk.place ≡ Searching call rows 0 → WritesAt table (taking_retired desk call rows place taken.departures) now
+  pub writes : (desk : Desk) (call : WriterCall) (rows : List Row) → (view_of before).role ≡ Writer desk
+      → desk.place ≡ Searching call rows 0 → WritesAt table (taking_retired desk call rows place taken.departures) now
   pub grows : Grows (polls_before spare.retired flags place + 1) [] (token before) (token now)
   pub few : length (view_of before).marks.polls + polls_before spare.retired flags place ≤ table.shape.readers
   pub heard : (view_of now).heard ≡ (view_of before).heard
-  pub marks : (view_of now).marks ≡ with_scan (view_of before).marks (view_of now).marks.polls ((view_of before).marks.loads ++ (held_polls (unflagged spare.retired flags place) ++ OfSlot entry.slot true ∷ []))
+  pub marks : (view_of now).marks
+      ≡ with_scan (view_of before).marks (view_of now).marks.polls
+      ((view_of before).marks.loads
+      ++ (held_polls (unflagged spare.retired flags place) ++ OfSlot entry.slot true ∷ []))
 
 abbrev pub PassesFor : Table → List Bool → MapSeat → Spare → MapSeat → Spare → Option Taken → Type 0
 PassesFor table flags before spare now after (Some taken) = PassTakes table flags before spare now after taken
-PassesFor table flags before spare now after None = (after ≡ spare) × PassedTo table spare flags before now (length spare.retired)
+PassesFor table flags before spare now after None =
+    (after ≡ spare) × PassedTo table spare flags before now (length spare.retired)

@@ -1,5 +1,6 @@
 -- What each kind of step tells its token.
-use Rattle.std.specs.Prelude.{◌≡◌, ℕ, suc, ◌+◌, ◌-◌, ◌*◌, ◌<◌, ◌≤◌, ◌⊎◌, nat_le, Bool, List, [], ◌∷◌, ◌++◌, length, take, slice_index, true, false}
+use Rattle.std.specs.Prelude.{◌≡◌, ℕ, suc, ◌+◌, ◌-◌, ◌*◌, ◌<◌, ◌≤◌, ◌⊎◌, nat_le, Bool, List, [], ◌∷◌, ◌++◌, length}
+use Rattle.std.specs.Prelude.{take, slice_index, true, false}
 use mathlib.Core.Option.{some}
 use lib.ListN.{get_elem?}
 use Rattle.atomic_table.specs.Seated.{TableId}
@@ -83,8 +84,11 @@ has_asked step (before, _) found (after, _) = Asked step.word found before after
 -- an arrive: the reader holds the slot with the set that the key had, or the key was a hole
 pub record Arrived (key found : ℕ) (old new : View) : Type 0 where
   pub number : caller_number new.role ≡ caller_number old.role
-  pub held : is_filled found ≡ true → Holds old.shape new.role × (slot_held new.role ≡ slot_of found) × Advances (entry (caller_number old.role) (model.Find key) (reply.Rows (rows_held new.role)) ∷ []) old new
-  pub hole : is_filled found ≡ false → (new.role ≡ old.role) × Advances (entry (caller_number old.role) (model.Find key) reply.Hole ∷ []) old new
+  pub held : is_filled found ≡ true
+      → Holds old.shape new.role × (slot_held new.role ≡ slot_of found)
+      × Advances (entry (caller_number old.role) (model.Find key) (reply.Rows (rows_held new.role)) ∷ []) old new
+  pub hole : is_filled found ≡ false
+      → (new.role ≡ old.role) × Advances (entry (caller_number old.role) (model.Find key) reply.Hole ∷ []) old new
   -- one act more; the set has the number of what was put last for the key
   pub marks : new.marks ≡ acted old.marks (put_number new.seen key)
   pub says : new.says ≡ old.says
@@ -103,13 +107,16 @@ pub record Read (place found : ℕ) (old new : View) : Type 0 where
 abbrev pub has_read_word : Then
 has_read_word step (before, _) found (after, _) = Read step.word found before after
 
--- a reader that holds a slot finds a key again: where the key's word names that slot, the find is an entry, and the key has the set that the reader holds; else it learns the history so far
+-- a reader that holds a slot finds a key again: where the key's word names that slot, the find is an entry, and the key
+-- has the set that the reader holds; else it learns the history so far
 pub record FoundAgain (key found : ℕ) (old new : View) : Type 0 where
   pub role : new.role ≡ old.role
-  pub same : names_slot (slot_held old.role) found ≡ true → Advances (entry (caller_number old.role) (model.Find key) (reply.Rows (rows_held old.role)) ∷ []) old new
+  pub same : names_slot (slot_held old.role) found ≡ true
+      → Advances (entry (caller_number old.role) (model.Find key) (reply.Rows (rows_held old.role)) ∷ []) old new
   pub other : names_slot (slot_held old.role) found ≡ false → Advances [] old new
   pub inside : (slot : ℕ) → name_number found ≡ suc slot → slot < old.shape.slots
-  pub marks : new.marks ≡ found_again (names_slot (slot_held old.role) found) (with_look old.marks key (name_number found))
+  pub marks : new.marks
+      ≡ found_again (names_slot (slot_held old.role) found) (with_look old.marks key (name_number found))
   -- whether the key still has the put number of the hold
   pub put : ComparesPuts (names_slot (slot_held old.role) found) found old.marks.put (put_number new.seen key)
   pub kind : kind_shown found ≡ kind_of (state_of (map_after old.shape new.seen) key)
@@ -130,23 +137,28 @@ has_departed step (before, _) found (after, _) = Departed before after
 
 -- THE WRITER'S STEPS
 
--- what the writer's stage asks: its slots are slots of the map, there is room to retire one where the call will, and the number of a hole fits its bits
+-- what the writer's stage asks: its slots are slots of the map, there is room to retire one where the call will, and
+-- the number of a hole fits its bits
 abbrev pub RoomAt : Shape → Desk → Place → Type 0
 RoomAt shape desk Idle = Unit {0}
 RoomAt shape desk (Reading call slot got) = (slot < shape.slots) × (length got ≤ 2 * (bound_of shape))
-RoomAt shape desk (Leaving key) = (key < shape.keys) × (length desk.retired < shape.slots) × (number_at desk key ≤ last_number)
+RoomAt shape desk (Leaving key) =
+    (key < shape.keys) × (length desk.retired < shape.slots) × (number_at desk key ≤ last_number)
 RoomAt shape desk (Withdrawing key) = (key < shape.keys) × (number_at desk key < last_number)
 RoomAt shape desk (Searching call rows poll) = poll < length desk.retired
-RoomAt shape desk (Putting call rows slot departures index) = (slot < shape.slots) × IsRowSet (bound_of shape) rows × (length desk.retired < shape.slots)
+RoomAt shape desk (Putting call rows slot departures index) =
+    (slot < shape.slots) × IsRowSet (bound_of shape) rows × (length desk.retired < shape.slots)
 
 pub record Room (shape : Shape) (desk : Desk) : Type 0 where
   pub place : RoomAt shape desk desk.place
   -- the retired slots are different slots of the map
   pub few : length desk.retired ≤ shape.slots
   pub inside : (at : ℕ) (entry : Retired) → get_elem? desk.retired at ≡ some entry → entry.slot < shape.slots
-  pub apart : (one other : ℕ) (a b : Retired) → get_elem? desk.retired one ≡ some a → get_elem? desk.retired other ≡ some b → a.slot ≡ b.slot → one ≡ other
+  pub apart : (one other : ℕ) (a b : Retired) → get_elem? desk.retired one ≡ some a
+      → get_elem? desk.retired other ≡ some b → a.slot ≡ b.slot → one ≡ other
 
--- the call could not have a slot: it would be done after the history so far, and each slot is a filled key's or one of those that are retired
+-- the call could not have a slot: it would be done after the history so far, and each slot is a filled key's or one of
+-- those that are retired
 pub record Lacks (call : Call) (counts : NoSlot) (caller : Caller) : Type 0 where
   pub would_be_done : reply_to (map_seen caller) call ≡ reply.Done
   pub live : counts.live ≡ filled_count (map_seen caller)
@@ -154,7 +166,8 @@ pub record Lacks (call : Call) (counts : NoSlot) (caller : Caller) : Type 0 wher
   pub all : counts.live + counts.held ≡ caller.table.shape.slots
   -- every slot was taken once
   pub full : caller.table.shape.slots ≤ caller.fresh
-  -- each retired slot is another one, and another reader kept it back; where no reader has a word, it was polled, and held then by that reader
+  -- each retired slot is another one, and another reader kept it back; where no reader has a word, it was polled, and
+  -- held then by that reader
   pub apart : (slot : ℕ) → retirements slot caller.retired ≤ 1
   pub many : length caller.marks.polls ≡ length caller.retired
   pub others : (reader : ℕ) → total (λ (note : Past). only reader note.reader) caller.marks.polls ≤ 1
@@ -167,7 +180,8 @@ pub record Leads (call : Call) (outcome : Desk × CallStep) (old new : View) : T
   pub advances : Advances (ending call (step_in outcome)) old new
   pub room : Room old.shape (desk_in outcome)
   pub numbers : AreNumbers old.shape (map_after old.shape new.seen) (desk_in outcome).numbers
-  pub short : (counts : NoSlot) → step_in outcome ≡ Ended (writer.NoSlot counts) → (id : TableId) → Lacks call counts (caller_of id new)
+  pub short : (counts : NoSlot) → step_in outcome ≡ Ended (writer.NoSlot counts) → (id : TableId)
+      → Lacks call counts (caller_of id new)
 
 -- a look, which begins the call and its polls
 pub record Looked (desk : Desk) (call : WriterCall) (found : ℕ) (old new : View) : Type 0 where
@@ -205,15 +219,21 @@ IsFilled shape log key number rows = state_of (map_after shape log) key ≡ stat
 -- what a later step finds after that history: a read goes on with the words of the key's set
 abbrev pub Finds : Shape → Place → ℕ → List Entry → Marks → Type 0
 Finds shape Idle found log marks = Unit {0}
-Finds shape (Reading call slot got) found log marks = (rows : List Row) × IsRowSet (bound_of shape) rows × ReadsMore got found rows × (length got ≤ 2 * length rows) × (number : ℕ) × IsFilled shape log (key_of call) number rows
+Finds shape (Reading call slot got) found log marks =
+    (rows : List Row) × IsRowSet (bound_of shape) rows × ReadsMore got found rows × (length got ≤ 2 * length rows)
+    × (number : ℕ) × IsFilled shape log (key_of call) number rows
 Finds shape (Leaving key) found log marks = SwapsAt shape key found log marks
 Finds shape (Withdrawing key) found log marks = SwapsAt shape key found log marks
 Finds shape (Searching call rows poll) found log marks = Unit {0}
-Finds shape (Putting call rows slot departures index) found log marks = SwapsOrPuts (nat_le index (2 * length rows)) shape (key_of call) found log marks
+Finds shape (Putting call rows slot departures index) found log marks =
+    SwapsOrPuts (nat_le index (2 * length rows)) shape (key_of call) found log marks
 
--- each new note among the polls tells a reader as the history so far has it: it arrived at its finds, and departed from what it found but for what it holds
+-- each new note among the polls tells a reader as the history so far has it: it arrived at its finds, and departed from
+-- what it found but for what it holds
 abbrev pub NotesTell : List Entry → List Past → List Past → Type 0
-NotesTell log polls now = (at : ℕ) (note : Past) → get_elem? now at ≡ some note → (get_elem? polls at ≡ some note) ⊎ (note.count + to_depart note.slot ≡ acts_told (entries_of log note.reader))
+NotesTell log polls now =
+    (at : ℕ) (note : Past) → get_elem? now at ≡ some note
+    → (get_elem? polls at ≡ some note) ⊎ (note.count + to_depart note.slot ≡ acts_told (entries_of log note.reader))
 
 -- a later step of the call, and the history before the entry that it may add
 pub record Went (desk : Desk) (found : ℕ) (old new : View) : Type 0 where
@@ -226,7 +246,8 @@ pub record Went (desk : Desk) (found : ℕ) (old new : View) : Type 0 where
   pub heard : new.heard ≡ heard_at desk.place old.heard
 
 abbrev pub has_looked : WriterCall → Then
-has_looked call step (before, _) found (after, _) = (desk : Desk) → before.role ≡ Writer desk → Looked desk call found before after
+has_looked call step (before, _) found (after, _) =
+    (desk : Desk) → before.role ≡ Writer desk → Looked desk call found before after
 
 abbrev pub has_gone : Then
 has_gone step (before, _) found (after, _) = (desk : Desk) → before.role ≡ Writer desk → Went desk found before after

@@ -7,7 +7,8 @@ use Rattle.nr_marks.specs.Marks.{Past}
 use Rattle.nr_board.specs.Entries.{acts_told}
 use Rattle.nr_board.specs.Rule.{StartsWith}
 
--- The noted reader held a slot at a poll between the two histories: by the history at the poll it had arrived at each of its finds, and had departed from each set that it found but one. That many acts it had made.
+-- The noted reader held a slot at a poll between the two histories: by the history at the poll it had arrived at each
+-- of its finds, and had departed from each set that it found but one. That many acts it had made.
 pub record HeldThen (before after : List Entry) (note : Past) : Type 0 where
   pub log : List Entry
   pub since : StartsWith log before

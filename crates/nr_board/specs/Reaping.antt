@@ -1,5 +1,7 @@
--- A reap: the writer polls the retired slots whose sets wait, oldest first, and gives out the set of the first that no reader holds. The slot stays retired, and its set is reaped.
-use Rattle.std.specs.Prelude.{◌≡◌, ℕ, ◌+◌, ◌*◌, ◌<◌, ◌≤◌, ◌⊎◌, ◌||◌, Bool, true, false, List, [], ◌∷◌, ◌++◌, drop, length, nat_lt, slice_index, slice_index_or}
+-- A reap: the writer polls the retired slots whose sets wait, oldest first, and gives out the set of the first that no
+-- reader holds. The slot stays retired, and its set is reaped.
+use Rattle.std.specs.Prelude.{◌≡◌, ℕ, ◌+◌, ◌*◌, ◌<◌, ◌≤◌, ◌⊎◌, ◌||◌, Bool, true, false, List, [], ◌∷◌, ◌++◌, drop}
+use Rattle.std.specs.Prelude.{length, nat_lt, slice_index, slice_index_or}
 use mathlib.Core.Option.{some}
 use lib.ListN.{get_elem?}
 use Rattle.nr_model.specs.Rows.{IsRowSet}
@@ -31,12 +33,15 @@ use Rattle.nr_board.specs.WriterSeats.{MapSeat}
 
 -- the token counts the step, and its marks tell what the poll of that retired slot found
 abbrev pub ProbesTo : Shape → Retired → ℕ → View → View → Type 0
-ProbesTo shape entry found old new = (new ≡ record old { steps = old.steps + 1; marks = new.marks }) × ProbeTells (same_count found entry.arrivals) shape entry.slot old.marks new.marks
+ProbesTo shape entry found old new =
+    (new ≡ record old { steps = old.steps + 1; marks = new.marks })
+    × ProbeTells (same_count found entry.arrivals) shape entry.slot old.marks new.marks
 
 -- a load of a retired slot's departures by a writer between two calls
 abbrev pub has_probed : Then
 has_probed step (before, _) found (after, _) =
-    (desk : Desk) (poll : ℕ) (entry : Retired) → before.role ≡ Writer desk → desk.place ≡ Idle → Room before.shape desk → get_elem? desk.retired poll ≡ some entry → step.word ≡ departures before.shape entry.slot
+    (desk : Desk) (poll : ℕ) (entry : Retired) → before.role ≡ Writer desk → desk.place ≡ Idle → Room before.shape desk
+    → get_elem? desk.retired poll ≡ some entry → step.word ≡ departures before.shape entry.slot
     → ProbesTo before.shape entry found before after
 
 -- the writer's seat between two calls, which has that slot retired
@@ -59,7 +64,8 @@ waiting flags retired = not_passed (λ slot. slice_index_or flags slot false) re
 
 -- those of them of which all readers that have a word were heard
 abbrev pub ready : ℕ → List ℕ → List Bool → List Retired → List Retired
-ready announcers heard flags retired = not_passed (λ slot. slice_index_or flags slot false || nat_lt (slice_index heard slot) announcers) retired
+ready announcers heard flags retired =
+    not_passed (λ slot. slice_index_or flags slot false || nat_lt (slice_index heard slot) announcers) retired
 
 -- each of these slots was polled, in their order, and held by one of that many readers, each by another one
 pub record HeldEach (readers : ℕ) (slots : List Retired) (notes : List Past) : Type 0 where
@@ -68,7 +74,11 @@ pub record HeldEach (readers : ℕ) (slots : List Retired) (notes : List Past) :
 
 -- after those polls, with what they noted
 abbrev pub probed : List Past → List LoggedLoad → View → View
-probed notes polls view = record view { steps = view.steps + length polls; marks = with_scan view.marks (view.marks.polls ++ notes) (view.marks.loads ++ polls) }
+probed notes polls view =
+    record view {
+      steps = view.steps + length polls;
+      marks = with_scan view.marks (view.marks.polls ++ notes) (view.marks.loads ++ polls);
+    }
 
 abbrev pub reaping : ℕ → View → View
 reaping slot view = record view { marks = with_reaped view.marks slot }
@@ -77,37 +87,54 @@ abbrev pub ready_in : Spare → View → List Retired
 ready_in spare view = ready view.announcers view.heard spare.reaped spare.retired
 
 abbrev pub SweepsFor : Spare → MapSeat → MapSeat → Sweep → Type 0
-SweepsFor spare old new (sweep.Free slot) = (held later : List Retired) × (entry : Retired) × (notes : List Past) × (ready_in spare (view_of old) ≡ held ++ entry ∷ later) × HeldEach (view_of old).shape.readers held notes
-    × (slot ≡ entry.slot) × (slot < spare.slots) × (view_of new ≡ reaping slot (probed notes (held_polls held ++ OfSlot slot true ∷ []) (view_of old)))
-SweepsFor spare old new sweep.Held = (notes : List Past) × (0 < length (waiting spare.reaped spare.retired)) × HeldEach (view_of old).shape.readers (ready_in spare (view_of old)) notes × (view_of new ≡ probed notes (held_polls (ready_in spare (view_of old))) (view_of old))
+SweepsFor spare old new (sweep.Free slot) =
+    (held later : List Retired) × (entry : Retired) × (notes : List Past)
+    × (ready_in spare (view_of old) ≡ held ++ entry ∷ later) × HeldEach (view_of old).shape.readers held notes
+    × (slot ≡ entry.slot) × (slot < spare.slots)
+    × (view_of new ≡ reaping slot (probed notes (held_polls held ++ OfSlot slot true ∷ []) (view_of old)))
+SweepsFor spare old new sweep.Held =
+    (notes : List Past) × (0 < length (waiting spare.reaped spare.retired))
+    × HeldEach (view_of old).shape.readers (ready_in spare (view_of old)) notes
+    × (view_of new ≡ probed notes (held_polls (ready_in spare (view_of old))) (view_of old))
 SweepsFor spare old new sweep.Nothing = (waiting spare.reaped spare.retired ≡ []) × (view_of new ≡ view_of old)
 
 -- the sweep so far
 pub record SweptTo (spare : Spare) (before now : MapSeat) (place : ℕ) (waits : Bool) : Type 0 where
   pub held : List Retired
   pub notes : List Past
-  pub split : ready_in spare (view_of before) ≡ held ++ ready (view_of before).announcers (view_of before).heard spare.reaped (drop place spare.retired)
+  pub split : ready_in spare (view_of before)
+      ≡ held ++ ready (view_of before).announcers (view_of before).heard spare.reaped (drop place spare.retired)
   pub each : HeldEach (view_of before).shape.readers held notes
   -- each of them stands before the place in the list
-  pub earlier : (at : ℕ) (entry : Retired) → get_elem? held at ≡ some entry → (other : ℕ) × (other < place) × (get_elem? spare.retired other ≡ some entry)
+  pub earlier : (at : ℕ) (entry : Retired) → get_elem? held at ≡ some entry
+      → (other : ℕ) × (other < place) × (get_elem? spare.retired other ≡ some entry)
   pub own : now.table_id ≡ before.table_id
   pub view : view_of now ≡ probed notes (held_polls held) (view_of before)
   -- whether a set waits
   pub some_wait : waits ≡ true → 0 < length (waiting spare.reaped spare.retired)
-  pub none_wait : waits ≡ false → (notes ≡ []) × (held ≡ []) × (waiting spare.reaped spare.retired ≡ waiting spare.reaped (drop place spare.retired))
+  pub none_wait : waits ≡ false
+      → (notes ≡ []) × (held ≡ [])
+      × (waiting spare.reaped spare.retired ≡ waiting spare.reaped (drop place spare.retired))
 
 -- a sweep; or, where readers have words, one that was in vain, a scan, and another sweep
 abbrev pub SweepsHeard : Spare → MapSeat → MapSeat → Sweep → Type 0
 SweepsHeard spare old new found =
     (SweepsFor spare old new found × (found ≡ sweep.Held → (view_of old).announcers ≡ 0))
     ⊎ ((0 < (view_of old).announcers) × (mid last : MapSeat) × SweepsFor spare old mid sweep.Held
-    × (loads : List LoggedLoad) × WordsTell (view_of old).announcers spare.retired (view_of old).shape.slots loads (view_of last).heard × (view_of last ≡ scanned_to loads (view_of last).heard (view_of mid)) × SweepsFor spare last new found)
+    × (loads : List LoggedLoad)
+    × WordsTell (view_of old).announcers spare.retired (view_of old).shape.slots loads (view_of last).heard
+    × (view_of last ≡ scanned_to loads (view_of last).heard (view_of mid)) × SweepsFor spare last new found)
 
 -- THE CALL
 
 -- the caller after those polls and loads of words, with what they noted and heard, and that many steps more
 abbrev pub after_polls : List Past → List LoggedLoad → List ℕ → ℕ → Caller → Caller
-after_polls notes loads heard more caller = record caller { steps = caller.steps + (length loads + more); marks = with_scan caller.marks (caller.marks.polls ++ notes) (caller.marks.loads ++ loads); heard = heard }
+after_polls notes loads heard more caller =
+    record caller {
+      steps = caller.steps + (length loads + more);
+      marks = with_scan caller.marks (caller.marks.polls ++ notes) (caller.marks.loads ++ loads);
+      heard = heard;
+    }
 
 abbrev pub with_reap : ℕ → Caller → Caller
 with_reap slot caller = record caller { marks = with_reaped caller.marks slot }
@@ -115,12 +142,14 @@ with_reap slot caller = record caller { marks = with_reaped caller.marks slot }
 abbrev pub ready_to : Caller → List ℕ → List Retired
 ready_to caller heard = ready caller.table.announcers heard caller.marks.reaped caller.retired
 
--- before its last sweep a reap loads nothing, or, where readers have words, it polls each set that is ready, in vain, and then scans the words
+-- before its last sweep a reap loads nothing, or, where readers have words, it polls each set that is ready, in vain,
+-- and then scans the words
 abbrev pub ScansFirst : Caller → List ℕ → List LoggedLoad → List Past → Type 0
 ScansFirst old scanned loads earlier =
     ((scanned ≡ old.heard) × (loads ≡ []) × (earlier ≡ []))
     ⊎ ((0 < old.table.announcers) × HeldEach old.table.shape.readers (ready_to old old.heard) earlier
-    × (scan : List LoggedLoad) × WordsTell old.table.announcers old.retired old.table.shape.slots scan scanned × (loads ≡ held_polls (ready_to old old.heard) ++ scan))
+    × (scan : List LoggedLoad) × WordsTell old.table.announcers old.retired old.table.shape.slots scan scanned
+    × (loads ≡ held_polls (ready_to old old.heard) ++ scan))
 
 -- a reap that gives out the set of that entry, by a poll of each that is ready up to it
 pub record ReapsSet {Room : Type 0} (shows : Room → List Row → Type 0) (old new : Caller) (after : Room) : Type 0 where
@@ -136,11 +165,22 @@ pub record ReapsSet {Room : Type 0} (shows : Room → List Row → Type 0) (old 
   pub each : HeldEach old.table.shape.readers held notes
   pub shown : shows after (set_in old.marks entry.slot)
   pub row_set : IsRowSet old.table.shape.rows (set_in old.marks entry.slot)
-  pub new_is : new ≡ with_reap entry.slot (after_polls (earlier ++ notes) (loads ++ (held_polls held ++ OfSlot entry.slot true ∷ [])) scanned (2 * length (set_in old.marks entry.slot) + 1) old)
+  pub new_is : new
+      ≡ with_reap entry.slot
+      (after_polls (earlier ++ notes) (loads ++ (held_polls held ++ OfSlot entry.slot true ∷ [])) scanned
+      (2 * length (set_in old.marks entry.slot) + 1) old)
 
--- A reap gives out the oldest set that waits, that no reader's word announced and that nobody holds, by a poll of each up to it and a load of each word. Or each that waits is kept back: it was announced when the words were scanned, or held at its poll, each by another reader. Or none waits. Else the token is as it was.
+-- A reap gives out the oldest set that waits, that no reader's word announced and that nobody holds, by a poll of each
+-- up to it and a load of each word. Or each that waits is kept back: it was announced when the words were scanned, or
+-- held at its poll, each by another reader. Or none waits. Else the token is as it was.
 abbrev pub ReapsIn : {Room : Type 0} → (Room → List Row → Type 0) → Caller → Room → Caller → Room → Reaped → Type 0
 ReapsIn shows old before new after reaped.Set = ReapsSet shows old new after
-ReapsIn shows old before new after reaped.Held = (notes earlier : List Past) × (scanned : List ℕ) × (loads : List LoggedLoad) × ScansFirst old scanned loads earlier × (0 < old.table.announcers → 0 < length loads)
-    × (0 < length (waiting old.marks.reaped old.retired)) × HeldEach old.table.shape.readers (ready_to old scanned) notes × (new ≡ after_polls (earlier ++ notes) (loads ++ held_polls (ready_to old scanned)) scanned 0 old) × (after ≡ before)
-ReapsIn shows old before new after reaped.Nothing = (waiting old.marks.reaped old.retired ≡ []) × (new ≡ old) × (after ≡ before)
+ReapsIn shows old before new after reaped.Held =
+    (notes earlier : List Past) × (scanned : List ℕ) × (loads : List LoggedLoad) × ScansFirst old scanned loads earlier
+    × (0 < old.table.announcers → 0 < length loads)
+    × (0 < length (waiting old.marks.reaped old.retired))
+    × HeldEach old.table.shape.readers (ready_to old scanned) notes
+    × (new ≡ after_polls (earlier ++ notes) (loads ++ held_polls (ready_to old scanned)) scanned 0 old)
+    × (after ≡ before)
+ReapsIn shows old before new after reaped.Nothing =
+    (waiting old.marks.reaped old.retired ≡ []) × (new ≡ old) × (after ≡ before)

@@ -1,4 +1,5 @@
--- The writer reads the set that was put into a slot last, word by word. No step of it is an entry, and it learns nothing of the history.
+-- The writer reads the set that was put into a slot last, word by word. No step of it is an entry, and it learns
+-- nothing of the history.
 use Rattle.std.specs.Prelude.{◌≡◌, ℕ, ◌+◌, ◌<◌, List, length, slice_index}
 use Rattle.nr_model.specs.Rows.{IsRowSet}
 use Rattle.nr_model.specs.declared.rows.Row.{Row}
@@ -16,12 +17,16 @@ use Rattle.nr_board.specs.WriterSeats.{MapSeat}
 
 -- the word at an index of the set that was put into a slot last; the index may lie behind the set
 abbrev pub IsWordOf : ℕ → List Row → ℕ → ℕ → Type 0
-IsWordOf bound rows index found = IsRowSet bound rows × (index < length (encode rows) → found ≡ slice_index (encode rows) index)
+IsWordOf bound rows index found =
+    IsRowSet bound rows × (index < length (encode rows) → found ≡ slice_index (encode rows) index)
 
--- a load of a content word of a slot into which the writer's call has put no word finds the set that was put there last; else the token counts the step alone
+-- a load of a content word of a slot into which the writer's call has put no word finds the set that was put there
+-- last; else the token counts the step alone
 pub record Recalled (place found : ℕ) (old new : View) : Type 0 where
   pub step : new ≡ has_noted old
-  pub finds : (desk : Desk) (slot index : ℕ) → old.role ≡ Writer desk → slot < old.shape.slots → Untouched slot desk.place → place ≡ content old.shape slot index → IsWordOf (bound_of old.shape) (set_in old.marks slot) index found
+  pub finds : (desk : Desk) (slot index : ℕ) → old.role ≡ Writer desk → slot < old.shape.slots
+      → Untouched slot desk.place → place ≡ content old.shape slot index
+      → IsWordOf (bound_of old.shape) (set_in old.marks slot) index found
 
 abbrev pub has_recalled : Then
 has_recalled step (before, _) found (after, _) = Recalled step.word found before after

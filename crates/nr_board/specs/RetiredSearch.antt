@@ -1,4 +1,5 @@
--- A search of the retired slots where readers have words: a pass over those that the last scan heard, and if it takes none a scan and another pass. What a refusal rests on comes after the scan, so each note is of another reader.
+-- A search of the retired slots where readers have words: a pass over those that the last scan heard, and if it takes
+-- none a scan and another pass. What a refusal rests on comes after the scan, so each note is of another reader.
 use Rattle.std.specs.Prelude.{◌≡◌, ℕ, ◌+◌, ◌≤◌, List, [], ◌++◌, length, remove, Result, Ok, Err}
 use mathlib.Core.Option.{some}
 use lib.ListN.{get_elem?}
@@ -23,25 +24,30 @@ use Rattle.nr_board.specs.Views.{view_of}
 use Rattle.nr_board.specs.WordLoads.{WordsTell}
 use Rattle.nr_board.specs.WriterSeats.{MapSeat, WritesAt}
 
-pub record SearchTakes (table : Table) (before : MapSeat) (spare : Spare) (now : MapSeat) (after : Spare) (taken : Taken) : Type 0 where
+pub record SearchTakes (table : Table) (before : MapSeat) (spare : Spare) (now : MapSeat) (after : Spare)
+    (taken : Taken) : Type 0 where
   pub place : ℕ
   pub entry : Retired
   pub here : get_elem? spare.retired place ≡ some entry
   pub slot : taken.slot ≡ entry.slot
   pub after_is : after ≡ record spare { retired = remove spare.retired place }
-  pub writes : (desk : Desk) (call : WriterCall) (rows : List Row) → (view_of before).role ≡ Writer desk → desk.place ≡ Searching call rows 0 → WritesAt table (taking_retired desk call rows place taken.departures) now
+  pub writes : (desk : Desk) (call : WriterCall) (rows : List Row) → (view_of before).role ≡ Writer desk
+      → desk.place ≡ Searching call rows 0 → WritesAt table (taking_retired desk call rows place taken.departures) now
   pub loads : List LoggedLoad
   pub takes : SearchedTo table (view_of before).heard (view_of now).heard loads spare.retired place taken.slot
   pub grows : Grows (length loads) [] (token before) (token now)
   -- no pass polled more slots that were held than there are readers
   pub few : length loads ≤ table.shape.readers + table.announcers + (table.shape.readers + 1)
-  pub marks : (view_of now).marks ≡ with_scan (view_of before).marks (view_of now).marks.polls ((view_of before).marks.loads ++ loads)
+  pub marks : (view_of now).marks
+      ≡ with_scan (view_of before).marks (view_of now).marks.polls ((view_of before).marks.loads ++ loads)
 
 -- there is no slot: each is a filled key's, or is retired and kept back by a reader, each by another one
-pub record SearchLacks (table : Table) (before : MapSeat) (spare : Spare) (now : MapSeat) (after : Spare) (counts : NoSlot) : Type 0 where
+pub record SearchLacks (table : Table) (before : MapSeat) (spare : Spare) (now : MapSeat) (after : Spare)
+    (counts : NoSlot) : Type 0 where
   pub same : after ≡ spare
   pub counts_are : counts ≡ none_spare spare
-  pub writes : (desk : Desk) (call : WriterCall) (rows : List Row) → (view_of before).role ≡ Writer desk → desk.place ≡ Searching call rows 0
+  pub writes : (desk : Desk) (call : WriterCall) (rows : List Row) → (view_of before).role ≡ Writer desk
+      → desk.place ≡ Searching call rows 0
       → WritesAt table (moved_to desk Idle) now × (reply_to (map_seen (token now)) (call_of call) ≡ reply.Done)
       × (filled_count (map_seen (token now)) + length spare.retired ≡ table.shape.slots)
   pub many : length (view_of now).marks.polls ≡ length spare.retired
@@ -50,9 +56,12 @@ pub record SearchLacks (table : Table) (before : MapSeat) (spare : Spare) (now :
   pub scan : List LoggedLoad
   pub words : WordsTell table.announcers spare.retired table.shape.slots scan (view_of now).heard
   pub loads : List LoggedLoad
-  pub loads_are : loads ≡ held_polls (heard_all table.announcers (view_of before).heard spare.retired) ++ (scan ++ held_polls (heard_all table.announcers (view_of now).heard spare.retired))
+  pub loads_are : loads
+      ≡ held_polls (heard_all table.announcers (view_of before).heard spare.retired)
+      ++ (scan ++ held_polls (heard_all table.announcers (view_of now).heard spare.retired))
   pub grows : Grows (length loads + 1) [] (token before) (token now)
-  pub marks : (view_of now).marks ≡ with_scan (view_of before).marks (view_of now).marks.polls ((view_of before).marks.loads ++ loads)
+  pub marks : (view_of now).marks
+      ≡ with_scan (view_of before).marks (view_of now).marks.polls ((view_of before).marks.loads ++ loads)
 
 abbrev pub SearchesFor : Table → MapSeat → Spare → MapSeat → Spare → Result Taken NoSlot → Type 0
 SearchesFor table before spare now after (Ok taken) = SearchTakes table before spare now after taken

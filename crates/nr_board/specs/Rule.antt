@@ -1,4 +1,5 @@
--- The rule of the table: the words and the roles of all tokens are a core state, and what each token has seen begins its history.
+-- The rule of the table: the words and the roles of all tokens are a core state, and what each token has seen begins
+-- its history.
 use Rattle.std.specs.Prelude.{◌≡◌, ℕ, ◌<◌, ◌≤◌, ◌+◌, List, [], ◌++◌, map, cond, true}
 use mathlib.Core.Option.{some}
 use lib.ListN.{get_elem?}
@@ -68,7 +69,9 @@ pub record Kept (shape : Shape) (state : State (Unit {0}) View) : Type 0 where
   pub told_pasts : Knowing role_of marks_of told_pasts_of state.views
   -- that many readers, the first ones, have a word, as all callers know
   pub announcers : ℕ
-  pub told_of : (id : ℕ) (view : View) → get_elem? state.views id ≡ some view → 0 < is_writer view.role + is_reader view.role → view.announcers ≡ announcers
+  pub told_of : (id : ℕ) (view : View) → get_elem? state.views id ≡ some view
+      → 0 < is_writer view.role + is_reader view.role → view.announcers ≡ announcers
   pub announced : Announces shape announcers state.words state.views
-  pub hears : (id : ℕ) (view : View) → get_elem? state.views id ≡ some view → is_writer view.role ≡ 1 → Hears state.views view
+  pub hears : (id : ℕ) (view : View) → get_elem? state.views id ≡ some view → is_writer view.role ≡ 1
+      → Hears state.views view
   pub maker : (id : ℕ) (view : View) → get_elem? state.views id ≡ some view → is_writer view.role ≡ 1 → view.made ≡ made

@@ -1,4 +1,5 @@
--- Where the writer's seat stands when it scans the readers' words and when it searches in any order, and where each step leads it.
+-- Where the writer's seat stands when it scans the readers' words and when it searches in any order, and where each
+-- step leads it.
 use Rattle.std.specs.Prelude.{◌≡◌, ℕ, ◌<◌, ◌≤◌, List, slice_index}
 use mathlib.Core.Option.{some}
 use lib.ListN.{get_elem?}
@@ -43,7 +44,9 @@ pub record SearchesIn (table : Table) (spare : Spare) (seat : MapSeat) : Type 0 
   pub slots : spare.slots ≡ table.shape.slots
 
 abbrev pub SearchesOn : ℕ → ℕ → View → View → Type 0
-SearchesOn own found old new = (desk : Desk) (call : WriterCall) (rows : List Row) → old.role ≡ Writer desk → desk.place ≡ Searching call rows 0 → Scanned desk own found old new
+SearchesOn own found old new =
+    (desk : Desk) (call : WriterCall) (rows : List Row) → old.role ≡ Writer desk → desk.place ≡ Searching call rows 0
+    → Scanned desk own found old new
 
 -- about to poll that retired slot, of which all readers that have a word were heard
 pub record TriesAt (table : Table) (entry : Retired) (seat : MapSeat) : Type 0 where
@@ -54,7 +57,11 @@ pub record TriesAt (table : Table) (entry : Retired) (seat : MapSeat) : Type 0 w
 
 abbrev pub TriesTo : Retired → ℕ → View → View → Type 0
 TriesTo entry found old new =
-    (desk : Desk) (call : WriterCall) (rows : List Row) (poll : ℕ) → old.role ≡ Writer desk → desk.place ≡ Searching call rows 0 → get_elem? desk.retired poll ≡ some entry → Tried desk call rows poll found old new
+    (desk : Desk) (call : WriterCall) (rows : List Row) (poll : ℕ) → old.role ≡ Writer desk
+    → desk.place ≡ Searching call rows 0 → get_elem? desk.retired poll ≡ some entry
+    → Tried desk call rows poll found old new
 
 abbrev pub Ends : View → View → Type 0
-Ends old new = (desk : Desk) (call : WriterCall) (rows : List Row) → old.role ≡ Writer desk → desk.place ≡ Searching call rows 0 → GaveUp desk call old new
+Ends old new =
+    (desk : Desk) (call : WriterCall) (rows : List Row) → old.role ≡ Writer desk → desk.place ≡ Searching call rows 0
+    → GaveUp desk call old new

@@ -9,9 +9,11 @@ use Rattle.nr_machine.specs.Spares.{Spare}
 use Rattle.nr_board.specs.WriterSeats.{LacksSlot, MapSeat, PublishesSet, TakesSlot}
 
 abbrev pub TakesFor : Table → WriterCall → List Row → MapSeat → Spare → MapSeat → Spare → Result Taken NoSlot → Type 0
-TakesFor table call rows old spare new after (Ok taken) = TakesSlot table call rows old spare new after taken.slot taken.departures
+TakesFor table call rows old spare new after (Ok taken) =
+    TakesSlot table call rows old spare new after taken.slot taken.departures
 TakesFor table call rows old spare new after (Err counts) = LacksSlot table call old spare new after counts
 
-abbrev pub PublishesFor : Table → WriterCall → List Row → MapSeat → Spare → MapSeat → Spare → Result (Unit {0}) NoSlot → Type 0
+abbrev pub PublishesFor : Table → WriterCall → List Row → MapSeat → Spare → MapSeat → Spare → Result (Unit {0}) NoSlot
+    → Type 0
 PublishesFor table call rows old spare new after (Ok done) = PublishesSet table call rows old spare new after
 PublishesFor table call rows old spare new after (Err counts) = LacksSlot table call old spare new after counts

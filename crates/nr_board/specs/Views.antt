@@ -1,4 +1,5 @@
--- What a token knows: who its caller is, what it has seen of the history, the caller's own entries, and how many steps it has made.
+-- What a token knows: who its caller is, what it has seen of the history, the caller's own entries, and how many steps
+-- it has made.
 use Rattle.std.specs.Prelude.{ℕ, ◌+◌, Bool, false, List, [], replicate}
 use Rattle.atomic_table.specs.Table.{Me}
 use Rattle.atomic_table.specs.declared.shared.Seat.{Seat}
@@ -99,11 +100,41 @@ no_plan = record { shape = no_shape; announcers = 0 }
 
 -- the first token is the writer's
 abbrev pub opener : Plan → View
-opener plan = record { role = Writer (opening_desk plan.shape); shape = plan.shape; announcers = plan.announcers; made = 0; seen = []; told = []; mine = []; steps = 0; marks = opening_marks plan.shape; pasts = []; told_pasts = []; says = 0; heard = replicate plan.shape.slots 0 }
+opener plan =
+    record {
+      role = Writer (opening_desk plan.shape);
+      shape = plan.shape;
+      announcers = plan.announcers;
+      made = 0;
+      seen = [];
+      told = [];
+      mine = [];
+      steps = 0;
+      marks = opening_marks plan.shape;
+      pasts = [];
+      told_pasts = [];
+      says = 0;
+      heard = replicate plan.shape.slots 0;
+    }
 
 -- the writer makes the next reader
 abbrev pub with_reader : View → View
 with_reader view = record view { made = view.made + 1 }
 
 abbrev pub next_reader : View → View
-next_reader view = record { role = Reader (view.made + 1) Nothing; shape = view.shape; announcers = view.announcers; made = 0; seen = []; told = []; mine = []; steps = 0; marks = no_marks; pasts = []; told_pasts = []; says = 0; heard = [] }
+next_reader view =
+    record {
+      role = Reader (view.made + 1) Nothing;
+      shape = view.shape;
+      announcers = view.announcers;
+      made = 0;
+      seen = [];
+      told = [];
+      mine = [];
+      steps = 0;
+      marks = no_marks;
+      pasts = [];
+      told_pasts = [];
+      says = 0;
+      heard = [];
+    }

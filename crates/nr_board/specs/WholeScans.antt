@@ -1,5 +1,7 @@
--- A whole scan by a search: each reader's word is loaded once, in order, and the writer flags the slots that it doesn't know to be heard.
-use Rattle.std.specs.Prelude.{◌≡◌, ℕ, ◌+◌, ◌-◌, ◌<◌, ◌≤◌, ◌==◌, ◌⊎◌, if◌then◌else◌, Bool, true, false, List, ◌++◌, length, slice_index, slice_index_or, slice_set, Some, None}
+-- A whole scan by a search: each reader's word is loaded once, in order, and the writer flags the slots that it doesn't
+-- know to be heard.
+use Rattle.std.specs.Prelude.{◌≡◌, ℕ, ◌+◌, ◌-◌, ◌<◌, ◌≤◌, ◌==◌, ◌⊎◌, if◌then◌else◌, Bool, true, false, List, ◌++◌}
+use Rattle.std.specs.Prelude.{length, slice_index, slice_index_or, slice_set, Some, None}
 use mathlib.Core.Option.{some}
 use lib.ListN.{get_elem?}
 use Rattle.nr_machine.specs.Sums.{only, total}
@@ -43,12 +45,19 @@ pub record KeepBack (retired : List Retired) (flags : List Bool) (readers : ℕ)
 
 -- of the retired slots those without a flag were heard of so many readers, and the others of fewer
 pub record HeardTo (retired : List Retired) (flags : List Bool) (readers : ℕ) (counts : List ℕ) : Type 0 where
-  pub whole : (slot : ℕ) → 0 < retirements slot retired → is_unheard flags slot ≡ false → slice_index counts slot ≡ readers
-  pub stuck : (slot : ℕ) → 0 < retirements slot retired → is_unheard flags slot ≡ true → slice_index counts slot < readers
+  pub whole : (slot : ℕ) → 0 < retirements slot retired → is_unheard flags slot ≡ false
+      → slice_index counts slot ≡ readers
+  pub stuck : (slot : ℕ) → 0 < retirements slot retired → is_unheard flags slot ≡ true
+      → slice_index counts slot < readers
 
 -- the scan after the words of the first readers
 pub record ScannedTo (retired : List Retired) (before now : View) (flags : List Bool) (own : ℕ) : Type 0 where
-  pub rest : now ≡ record before { steps = before.steps + own; marks = with_scan before.marks now.marks.polls now.marks.loads; heard = now.heard }
+  pub rest : now
+      ≡ record before {
+        steps = before.steps + own;
+        marks = with_scan before.marks now.marks.polls now.marks.loads;
+        heard = now.heard;
+      }
   pub words : WordsSoFar own retired before.shape.slots before.marks.loads now.marks.loads now.heard
   pub first : own ≡ 0 → NoneFlagged retired flags
   pub heard : 0 < own → HeardTo retired flags own now.heard
@@ -56,8 +65,15 @@ pub record ScannedTo (retired : List Retired) (before now : View) (flags : List 
 
 -- the view after those loads between two calls
 abbrev pub scanned_to : List LoggedLoad → List ℕ → View → View
-scanned_to loads heard view = record view { steps = view.steps + length loads; marks = with_loads view.marks (view.marks.loads ++ loads); heard = heard }
+scanned_to loads heard view =
+    record view {
+      steps = view.steps + length loads;
+      marks = with_loads view.marks (view.marks.loads ++ loads);
+      heard = heard;
+    }
 
 -- a scan by a writer between two calls tells it nothing but what it hears
 abbrev pub RestsHearing : ℕ → List Retired → View → View → Type 0
-RestsHearing readers retired old new = (loads : List LoggedLoad) × WordsTell readers retired old.shape.slots loads new.heard × (new ≡ scanned_to loads new.heard old)
+RestsHearing readers retired old new =
+    (loads : List LoggedLoad) × WordsTell readers retired old.shape.slots loads new.heard
+    × (new ≡ scanned_to loads new.heard old)

@@ -1,4 +1,5 @@
--- What a whole scan tells: each reader's word is loaded once, in order, and of a retired slot those readers are heard that come before the first whose word says it.
+-- What a whole scan tells: each reader's word is loaded once, in order, and of a retired slot those readers are heard
+-- that come before the first whose word says it.
 use Rattle.std.specs.Prelude.{◌≡◌, ℕ, zero, suc, ◌<◌, ◌==◌, if◌then◌else◌, nat_lt, List, [], ◌∷◌, ◌++◌, length}
 use Rattle.nr_core.specs.Roles.{retirements}
 use Rattle.nr_machine.specs.declared.places.Retired.{Retired}
@@ -28,14 +29,16 @@ heard_by retired words slot zero = []
 heard_by retired words slot (suc more) = heard_of retired words slot ∷ heard_by retired words (suc slot) more
 
 -- so many words were loaded, which are all loads that were made, and tell what was heard
-pub record WordsTell (readers : ℕ) (retired : List Retired) (slots : ℕ) (loads : List LoggedLoad) (heard : List ℕ) : Type 0 where
+pub record WordsTell (readers : ℕ) (retired : List Retired) (slots : ℕ) (loads : List LoggedLoad)
+    (heard : List ℕ) : Type 0 where
   pub words : List ℕ
   pub each : length words ≡ readers
   pub loads_are : loads ≡ loads_of 0 words
   pub tell : heard ≡ heard_by retired words 0 slots
 
 -- so far: before the first load nothing is told
-pub record WordsSoFar (readers : ℕ) (retired : List Retired) (slots : ℕ) (before now : List LoggedLoad) (heard : List ℕ) : Type 0 where
+pub record WordsSoFar (readers : ℕ) (retired : List Retired) (slots : ℕ) (before now : List LoggedLoad)
+    (heard : List ℕ) : Type 0 where
   pub words : List ℕ
   pub each : length words ≡ readers
   pub loads_are : now ≡ before ++ loads_of 0 words

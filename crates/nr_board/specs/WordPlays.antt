@@ -1,4 +1,5 @@
--- What a reader's steps by its own word tell: a look at a key, an announcement of the slot that it names, a second look that confirms it, and the end of what the word said.
+-- What a reader's steps by its own word tell: a look at a key, an announcement of the slot that it names, a second look
+-- that confirms it, and the end of what the word said.
 use Rattle.std.specs.Prelude.{◌≡◌, ℕ, suc, ◌-◌, ◌<◌, if◌then◌else◌, [], ◌∷◌, true, false}
 use Rattle.nr_model.specs.declared.calls.Call.TheVariants as model
 use Rattle.nr_model.specs.declared.calls.Reply.TheVariants as reply
@@ -38,9 +39,12 @@ saying says view = record view { says = says }
 pub record LookedUp (key found : ℕ) (old new : View) : Type 0 where
   pub role : new.role ≡ old.role
   pub says : new.says ≡ old.says
-  pub hole : is_filled found ≡ false → Advances (entry (caller_number old.role) (model.Find key) reply.Hole ∷ []) old new
+  pub hole : is_filled found ≡ false
+      → Advances (entry (caller_number old.role) (model.Find key) reply.Hole ∷ []) old new
   pub named : is_filled found ≡ true → Advances [] old new
-  pub marks : new.marks ≡ (if is_filled found then with_look old.marks key (name_number found) else acted (with_look old.marks key (name_number found)) (put_number new.seen key))
+  pub marks : new.marks
+      ≡ (if is_filled found then with_look old.marks key (name_number found) else acted
+      (with_look old.marks key (name_number found)) (put_number new.seen key))
 
 abbrev pub has_looked_up : Then
 has_looked_up step (before, _) found (after, _) = LookedUp step.word found before after

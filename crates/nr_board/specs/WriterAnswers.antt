@@ -1,5 +1,6 @@
 -- What a call of the writer says of its token, by its answer.
-use Rattle.std.specs.Prelude.{◌≡◌, ℕ, suc, ◌+◌, ◌*◌, ◌<◌, List, [], ◌∷◌, ◌++◌, length, slice_index, slice_set, Result, Ok, Err}
+use Rattle.std.specs.Prelude.{◌≡◌, ℕ, suc, ◌+◌, ◌*◌, ◌<◌, List, [], ◌∷◌, ◌++◌, length, slice_index, slice_set, Result}
+use Rattle.std.specs.Prelude.{Ok, Err}
 use Rattle.nr_model.specs.declared.rows.Row.{Row}
 use Rattle.nr_model.specs.Rows.{IsRowSet}
 use Rattle.nr_model.specs.declared.batches.ApplyFault.TheVariants as fault
@@ -58,19 +59,26 @@ Retires (model.Cancel key) old before after = after ≡ before
 
 -- the key had that set, after what the caller had seen and learnt before its own entry
 abbrev pub KeyHad : ℕ → List Row → Caller → List Entry → Type 0
-KeyHad key rows old between = (number : ℕ) × (state_of (after (map_at_opening old.table) (old.seen ++ between)) key ≡ states.Rows number rows)
+KeyHad key rows old between =
+    (number : ℕ) × (state_of (after (map_at_opening old.table) (old.seen ++ between)) key ≡ states.Rows number rows)
 
 -- a find of the writer's own
 abbrev pub LooksAt : ℕ → Caller → List Row → Caller → List Row → Found → Type 0
-LooksAt key old before new rows found.Rows = Gains (2 * length rows + 2) (model.Find key) old new (reply.Rows rows) × SlotsStay old new
-LooksAt key old before new rows found.Hole = Gains 1 (model.Find key) old new reply.Hole × SlotsStay old new × (rows ≡ before)
+LooksAt key old before new rows found.Rows =
+    Gains (2 * length rows + 2) (model.Find key) old new (reply.Rows rows) × SlotsStay old new
+LooksAt key old before new rows found.Hole =
+    Gains 1 (model.Find key) old new reply.Hole × SlotsStay old new × (rows ≡ before)
 
 -- into any room, of rows that ascend and are at most the map's rows
 abbrev pub LooksIn : {Room : Type 0} → (Room → List Row → Type 0) → ℕ → Caller → Room → Caller → Room → Found → Type 0
-LooksIn shows key old before new room found.Rows = (rows : List Row) × Gains (2 * length rows + 2) (model.Find key) old new (reply.Rows rows) × SlotsStay old new × shows room rows × IsRowSet old.table.shape.rows rows
-LooksIn shows key old before new room found.Hole = Gains 1 (model.Find key) old new reply.Hole × SlotsStay old new × (room ≡ before)
+LooksIn shows key old before new room found.Rows =
+    (rows : List Row) × Gains (2 * length rows + 2) (model.Find key) old new (reply.Rows rows) × SlotsStay old new
+    × shows room rows × IsRowSet old.table.shape.rows rows
+LooksIn shows key old before new room found.Hole =
+    Gains 1 (model.Find key) old new reply.Hole × SlotsStay old new × (room ≡ before)
 
--- a call that put a set, besides its other steps: by so many steps it took a slot, it put each word and named the slot at its key, with the next put number, and retired what the key named before
+-- a call that put a set, besides its other steps: by so many steps it took a slot, it put each word and named the slot
+-- at its key, with the next put number, and retired what the key named before
 pub record Publishes (steps : ℕ) (call : Call) (rows : List Row) (old new : Caller) : Type 0 where
   pub searched : ℕ
   pub slot : ℕ
@@ -91,7 +99,8 @@ pub record Publishes (steps : ℕ) (call : Call) (rows : List Row) (old new : Ca
   pub marks : new.marks ≡ with_name (with_loads old.marks (old.marks.loads ++ loads)) (call_key call) slot number rows
   pub gains : Gains (steps + 2 * length rows + 2 + searched) call old new reply.Done
 
--- A call that found no slot, after that many other steps and a search of all retired slots. It is no entry: the writer has learnt readers' entries alone.
+-- A call that found no slot, after that many other steps and a search of all retired slots. It is no entry: the writer
+-- has learnt readers' entries alone.
 pub record HasNoSlot (steps : ℕ) (call : Call) (old new : Caller) (counts : NoSlot) : Type 0 where
   pub searched : ℕ
   pub loads : List LoggedLoad
@@ -100,7 +109,8 @@ pub record HasNoSlot (steps : ℕ) (call : Call) (old new : Caller) (counts : No
   pub readers : entries_of grows.between old.number ≡ []
   -- it would be done now, and each slot is a filled key's or was kept back by a reader
   pub lacks : Lacks call counts new
-  -- where no reader has a word, at its poll the noted reader held the slot and had made that many acts, no fewer than the writer knew of
+  -- where no reader has a word, at its poll the noted reader held the slot and had made that many acts, no fewer than
+  -- the writer knew of
   pub held : old.table.announcers ≡ 0 → AllHeldThen old.seen new.seen new.marks.polls
   pub noted : old.table.announcers ≡ 0 → Noted old.table.shape old.pasts new.marks.polls
   pub slots : spare_of new ≡ spare_of old
@@ -109,9 +119,12 @@ pub record HasNoSlot (steps : ℕ) (call : Call) (old new : Caller) (counts : No
 -- a fill names the number of the request that it answers
 abbrev pub FillsKey : ℕ → ℕ → List Row → Caller → Caller → Result (Unit {0}) FillFault → Type 0
 FillsKey key number rows old new (Ok done) = Publishes 1 (model.Fill key number rows) rows old new
-FillsKey key number rows old new (Err fill.NotAsked) = Gains 1 (model.Fill key number rows) old new reply.NotAsked × SlotsStay old new
-FillsKey key number rows old new (Err fill.Already) = Gains 1 (model.Fill key number rows) old new reply.Already × SlotsStay old new
-FillsKey key number rows old new (Err fill.Stale) = Gains 1 (model.Fill key number rows) old new reply.Stale × SlotsStay old new
+FillsKey key number rows old new (Err fill.NotAsked) =
+    Gains 1 (model.Fill key number rows) old new reply.NotAsked × SlotsStay old new
+FillsKey key number rows old new (Err fill.Already) =
+    Gains 1 (model.Fill key number rows) old new reply.Already × SlotsStay old new
+FillsKey key number rows old new (Err fill.Stale) =
+    Gains 1 (model.Fill key number rows) old new reply.Stale × SlotsStay old new
 FillsKey key number rows old new (Err (fill.NoSlot counts)) = HasNoSlot 1 (model.Fill key number rows) old new counts
 
 -- an update that looked, read that set and was answered so
@@ -124,16 +137,28 @@ UpdateHasNoSlot key batch set old new counts = HasNoSlot (2 * length set + 2) (m
 
 -- an update looks, reads the set that the key has before the call's entry, and applies the batch to it
 abbrev pub UpdatesKey : ℕ → ℕ → List Delta → Caller → Caller → Result (Unit {0}) UpdateFault → Type 0
-UpdatesKey bound key batch old new (Ok done) = (set left : List Row) × (applied bound set batch ≡ Ok left) × (published : Publishes (2 * length set + 2) (model.Update key batch) left old new) × KeyHad key set old published.gains.between
-UpdatesKey bound key batch old new (Err update.Dropped) = Gains 1 (model.Update key batch) old new reply.Dropped × SlotsStay old new
-UpdatesKey bound key batch old new (Err update.NoRow) = (set : List Row) × (applied bound set batch ≡ Err fault.NoRow) × (gains : GainsUpdate key batch set old new reply.NoRow) × KeyHad key set old gains.between × SlotsStay old new
-UpdatesKey bound key batch old new (Err update.TooMany) = (set : List Row) × (applied bound set batch ≡ Err fault.TooMany) × (gains : GainsUpdate key batch set old new reply.TooMany) × KeyHad key set old gains.between × SlotsStay old new
-UpdatesKey bound key batch old new (Err (update.NoSlot counts)) = (set left : List Row) × (applied bound set batch ≡ Ok left) × (without : UpdateHasNoSlot key batch set old new counts) × KeyHad key set old without.grows.between
+UpdatesKey bound key batch old new (Ok done) =
+    (set left : List Row) × (applied bound set batch ≡ Ok left)
+    × (published : Publishes (2 * length set + 2) (model.Update key batch) left old new)
+    × KeyHad key set old published.gains.between
+UpdatesKey bound key batch old new (Err update.Dropped) =
+    Gains 1 (model.Update key batch) old new reply.Dropped × SlotsStay old new
+UpdatesKey bound key batch old new (Err update.NoRow) =
+    (set : List Row) × (applied bound set batch ≡ Err fault.NoRow)
+    × (gains : GainsUpdate key batch set old new reply.NoRow) × KeyHad key set old gains.between × SlotsStay old new
+UpdatesKey bound key batch old new (Err update.TooMany) =
+    (set : List Row) × (applied bound set batch ≡ Err fault.TooMany)
+    × (gains : GainsUpdate key batch set old new reply.TooMany) × KeyHad key set old gains.between
+    × SlotsStay old new
+UpdatesKey bound key batch old new (Err (update.NoSlot counts)) =
+    (set left : List Row) × (applied bound set batch ≡ Ok left)
+    × (without : UpdateHasNoSlot key batch set old new counts) × KeyHad key set old without.grows.between
 
 -- a replacement looks, and reads nothing of the set that the key had
 abbrev pub ReplacesKey : ℕ → List Row → Caller → Caller → Result (Unit {0}) ReplaceFault → Type 0
 ReplacesKey key rows old new (Ok done) = Publishes 1 (model.Replace key rows) rows old new
-ReplacesKey key rows old new (Err replace.Dropped) = Gains 1 (model.Replace key rows) old new reply.Dropped × SlotsStay old new
+ReplacesKey key rows old new (Err replace.Dropped) =
+    Gains 1 (model.Replace key rows) old new reply.Dropped × SlotsStay old new
 ReplacesKey key rows old new (Err (replace.NoSlot counts)) = HasNoSlot 1 (model.Replace key rows) old new counts
 
 -- the marks after a swap without polls that leaves the key no slot
@@ -142,15 +167,21 @@ after_unnaming marks key = without_name (with_polls marks []) key
 
 -- an eviction retires the key's slot
 abbrev pub EvictsKey : ℕ → Caller → Caller → Evict → Type 0
-EvictsKey key old new evict.Evicted = Gains 2 (model.Evict key) old new reply.Evicted × (new.fresh ≡ old.fresh) × (new.numbers ≡ old.numbers) × RetiresOne key old old.retired new.retired × (new.marks ≡ after_unnaming old.marks key) × (new.heard ≡ old.heard)
+EvictsKey key old new evict.Evicted =
+    Gains 2 (model.Evict key) old new reply.Evicted × (new.fresh ≡ old.fresh) × (new.numbers ≡ old.numbers)
+    × RetiresOne key old old.retired new.retired × (new.marks ≡ after_unnaming old.marks key)
+    × (new.heard ≡ old.heard)
 EvictsKey key old new evict.Nothing = Gains 1 (model.Evict key) old new reply.Nothing × SlotsStay old new
 
 -- the writer's slots and numbers, where the key has the next number
 abbrev pub with_next_number : Caller → ℕ → Spare
-with_next_number old key = record (spare_of old) { numbers = slice_set old.numbers key (slice_index old.numbers key + 1) }
+with_next_number old key =
+    record (spare_of old) { numbers = slice_set old.numbers key (slice_index old.numbers key + 1) }
 
 -- a cancel gives the key the next number; it retires no slot, and no key names another
 abbrev pub CancelsKey : ℕ → Caller → Caller → Cancel → Type 0
-CancelsKey key old new cancel.Cancelled = Gains 2 (model.Cancel key) old new reply.Cancelled × (spare_of new ≡ with_next_number old key) × (new.marks ≡ with_polls old.marks []) × (new.heard ≡ old.heard)
+CancelsKey key old new cancel.Cancelled =
+    Gains 2 (model.Cancel key) old new reply.Cancelled × (spare_of new ≡ with_next_number old key)
+    × (new.marks ≡ with_polls old.marks []) × (new.heard ≡ old.heard)
 CancelsKey key old new cancel.Nothing = Gains 1 (model.Cancel key) old new reply.Nothing × SlotsStay old new
 CancelsKey key old new cancel.Worn = Gains 1 (model.Cancel key) old new reply.Worn × SlotsStay old new

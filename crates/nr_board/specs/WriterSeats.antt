@@ -1,5 +1,6 @@
 -- Where the writer's seat stands between two steps, and where a step leads it.
-use Rattle.std.specs.Prelude.{◌≡◌, ℕ, suc, ◌+◌, ◌*◌, ◌<◌, ◌≤◌, nat_lt, if◌then◌else◌, false, List, [], ◌∷◌, ◌++◌, length, slice_index, slice_set}
+use Rattle.std.specs.Prelude.{◌≡◌, ℕ, suc, ◌+◌, ◌*◌, ◌<◌, ◌≤◌, nat_lt, if◌then◌else◌, false, List, [], ◌∷◌, ◌++◌}
+use Rattle.std.specs.Prelude.{length, slice_index, slice_set}
 use Rattle.atomic_table.specs.declared.shared.Seat.{Seat}
 use Rattle.nr_model.specs.declared.rows.Row.{Row}
 use Rattle.nr_model.specs.declared.calls.Call.{Call}
@@ -127,7 +128,9 @@ pub record GoesTo (table : Table) (desk : Desk) (found : ℕ) (old new : MapSeat
   pub seen : (view_of new).seen ≡ log ++ ending (call_at desk.place) (step_in (went table.shape desk desk.place found))
   pub finds : Finds table.shape desk.place found log (view_of old).marks
   pub notes : NotesTell log (view_of old).marks.polls (view_of new).marks.polls
-  pub marks : GoesMarks table.shape (view_of old).marks (view_of old).pasts desk found (view_of new).role (view_of new).seen (view_of new).marks []
+  pub marks : GoesMarks table.shape (view_of old).marks (view_of old).pasts desk found (view_of new).role
+      (view_of new).seen (view_of new).marks
+      []
   pub heard : (view_of new).heard ≡ heard_at desk.place (view_of old).heard
 
 abbrev pub GoesOn : Table → ℕ → MapSeat → MapSeat → Type 0
@@ -144,7 +147,9 @@ pub record PutsTo (table : Table) (desk : Desk) (old new : MapSeat) : Type 0 whe
 pub record Settles (table : Table) (call : WriterCall) (rows : List Row) (spare : Spare) (seat : MapSeat) : Type 0 where
   pub slots : spare.slots ≡ table.shape.slots
   pub writes : WritesAt table (desk_in (settled table.shape (desk_with spare Idle) call rows)) seat
-  pub short : (counts : NoSlot) → step_in (settled table.shape (desk_with spare Idle) call rows) ≡ Ended (writer.NoSlot counts) → Lacks (call_of call) counts (token seat)
+  pub short : (counts : NoSlot)
+      → step_in (settled table.shape (desk_with spare Idle) call rows) ≡ Ended (writer.NoSlot counts)
+      → Lacks (call_of call) counts (token seat)
   pub knows : IsSound (token seat)
   pub polls : (view_of seat).marks.polls ≡ []
 
@@ -157,10 +162,13 @@ pub record KeyHas (table : Table) (call : WriterCall) (rows : List Row) (step : 
 
 -- the search has found each of the first retired slots held
 abbrev pub swept : Shape → Desk → WriterCall → List Row → ℕ → Desk × Step
-swept shape desk call rows polls = (if nat_lt polls (length desk.retired) then (moved_to desk (Searching call rows polls), Going) else (moved_to desk Idle, no_slot shape desk))
+swept shape desk call rows polls =
+    (if nat_lt polls (length desk.retired) then (moved_to desk (Searching call rows polls), Going) else
+    (moved_to desk Idle, no_slot shape desk))
 
 -- the slot that a call took, with its departures, or there was none
-pub record TakesSlot (table : Table) (call : WriterCall) (rows : List Row) (old : MapSeat) (spare : Spare) (new : MapSeat) (after : Spare) (slot departed : ℕ) : Type 0 where
+pub record TakesSlot (table : Table) (call : WriterCall) (rows : List Row) (old : MapSeat) (spare : Spare)
+    (new : MapSeat) (after : Spare) (slot departed : ℕ) : Type 0 where
   pub steps : ℕ
   pub loads : List LoggedLoad
   pub took : TookBySearch table (view_of old).heard (view_of new).heard loads slot steps spare after
@@ -170,9 +178,11 @@ pub record TakesSlot (table : Table) (call : WriterCall) (rows : List Row) (old 
   pub reaped : after.reaped ≡ spare.reaped
   pub writes : WritesAt table (desk_with after (Putting call rows slot departed 0)) new
   pub grows : Grows steps [] (token old) (token new)
-  pub marks : (view_of new).marks ≡ with_scan (view_of old).marks (view_of new).marks.polls ((view_of old).marks.loads ++ loads)
+  pub marks : (view_of new).marks
+      ≡ with_scan (view_of old).marks (view_of new).marks.polls ((view_of old).marks.loads ++ loads)
 
-pub record LacksSlot (table : Table) (call : WriterCall) (old : MapSeat) (spare : Spare) (new : MapSeat) (after : Spare) (counts : NoSlot) : Type 0 where
+pub record LacksSlot (table : Table) (call : WriterCall) (old : MapSeat) (spare : Spare) (new : MapSeat) (after : Spare)
+    (counts : NoSlot) : Type 0 where
   pub same : after ≡ spare
   pub writes : WritesAt table (desk_with spare Idle) new
   pub steps : ℕ
@@ -182,10 +192,12 @@ pub record LacksSlot (table : Table) (call : WriterCall) (old : MapSeat) (spare 
   pub lacks : Lacks (call_of call) counts (token new)
   pub noted : table.announcers ≡ 0 → Noted table.shape (view_of old).pasts (view_of new).marks.polls
   pub held : table.announcers ≡ 0 → AllHeldThen (view_of old).seen (view_of new).seen (view_of new).marks.polls
-  pub marks : (view_of new).marks ≡ with_scan (view_of old).marks (view_of new).marks.polls ((view_of old).marks.loads ++ loads)
+  pub marks : (view_of new).marks
+      ≡ with_scan (view_of old).marks (view_of new).marks.polls ((view_of old).marks.loads ++ loads)
 
 -- the set was published: the call's last step is its entry, and the slot that the key named before is retired
-pub record PublishesSet (table : Table) (call : WriterCall) (rows : List Row) (old : MapSeat) (spare : Spare) (new : MapSeat) (after : Spare) : Type 0 where
+pub record PublishesSet (table : Table) (call : WriterCall) (rows : List Row) (old : MapSeat) (spare : Spare)
+    (new : MapSeat) (after : Spare) : Type 0 where
   pub steps : ℕ
   pub slot : ℕ
   pub inside : slot < table.shape.slots
@@ -209,7 +221,8 @@ pub record PublishesSet (table : Table) (call : WriterCall) (rows : List Row) (o
   pub number : ℕ
   pub count : put_count (view_of new).seen ≡ suc number
   pub put : slice_index (view_of new).marks.puts slot ≡ number
-  pub marks : (view_of new).marks ≡ with_name (with_loads (view_of old).marks ((view_of old).marks.loads ++ loads)) (key_of call) slot number rows
+  pub marks : (view_of new).marks
+      ≡ with_name (with_loads (view_of old).marks ((view_of old).marks.loads ++ loads)) (key_of call) slot number rows
   pub writes : WritesAt table (desk_with after Idle) new
   pub grows : Grows (2 * length rows + 2 + steps) (entry 0 (call_of call) reply.Done ∷ []) (token old) (token new)
 

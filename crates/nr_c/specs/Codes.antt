@@ -1,6 +1,10 @@
 -- The number that stands for each answer.
 use Rattle.std.specs.Prelude.{ℕ, ◌==◌, if◌then◌else◌, Result, Ok, Err}
-use Rattle.nr_c.specs.Numbers.{answer_already, answer_asked, answer_cancelled, answer_done, answer_dropped, answer_empty, answer_evicted, answer_filled, answer_full, answer_given, answer_held, answer_hole, answer_in_the_way, answer_no_row, answer_all_filled, answer_no_slot, answer_not_asked, answer_nothing, answer_rows, answer_send, answer_stale, answer_too_many, answer_waiting, answer_worn}
+use Rattle.nr_c.specs.Numbers.{answer_already, answer_asked, answer_cancelled, answer_done, answer_dropped}
+use Rattle.nr_c.specs.Numbers.{answer_empty, answer_evicted, answer_filled, answer_full, answer_given, answer_held}
+use Rattle.nr_c.specs.Numbers.{answer_hole, answer_in_the_way, answer_no_row, answer_all_filled, answer_no_slot}
+use Rattle.nr_c.specs.Numbers.{answer_not_asked, answer_nothing, answer_rows, answer_send, answer_stale}
+use Rattle.nr_c.specs.Numbers.{answer_too_many, answer_waiting, answer_worn}
 use Rattle.nr_machine.specs.declared.calls.NoSlot.{NoSlot}
 use Rattle.nr_map.specs.declared.answers.Asked.{Asked}
 use Rattle.nr_map.specs.declared.answers.Asked.TheVariants as asked

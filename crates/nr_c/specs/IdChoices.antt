@@ -6,7 +6,9 @@ use Rattle.nr_c.specs.Numbers.{answer_done, answer_nothing}
 
 -- whether an id was found since
 abbrev pub UsesIdByCode : ℕ → Keeper → Keeper → ℕ → Type 0
-UsesIdByCode id old new code = (used : Bool) × (code ≡ (if used then answer_done else answer_nothing)) × UsesId id old.clerk new.clerk used × StaysButClerk old new
+UsesIdByCode id old new code =
+    (used : Bool) × (code ≡ (if used then answer_done else answer_nothing)) × UsesId id old.clerk new.clerk used
+    × StaysButClerk old new
 
 abbrev pub chosen_code : Option ℕ → ℕ
 chosen_code None = answer_nothing
@@ -19,4 +21,6 @@ chosen_or told (Some id) = id
 
 -- which id of another's group to evict
 abbrev pub ChoosesIdByCode : ℕ → ℕ → ℕ → Keeper → Keeper → ℕ → Type 0
-ChoosesIdByCode id told tells old new code = (named : Option ℕ) × (code ≡ chosen_code named) × (tells ≡ chosen_or told named) × ChoosesId id old.clerk new.clerk named × StaysButClerk old new
+ChoosesIdByCode id told tells old new code =
+    (named : Option ℕ) × (code ≡ chosen_code named) × (tells ≡ chosen_or told named)
+    × ChoosesId id old.clerk new.clerk named × StaysButClerk old new

@@ -17,7 +17,9 @@ use Rattle.nr_idmap.specs.declared.upqueries.Withdrawn.TheVariants as withdrawn
 use Rattle.nr_idmap.specs.declared.writes.IdFault.{IdFault}
 use Rattle.nr_idmap.specs.declared.writes.IdFault.TheVariants as fault
 use Rattle.nr_c.specs.Codes.{no_slot_code, replace_code, update_code}
-use Rattle.nr_c.specs.Numbers.{answer_asked, answer_cancelled, answer_done, answer_full, answer_hole, answer_named, answer_not_asked, answer_nothing, answer_other, answer_rows, answer_send, answer_stale, answer_waiting, answer_worn}
+use Rattle.nr_c.specs.Numbers.{answer_asked, answer_cancelled, answer_done, answer_full, answer_hole, answer_named}
+use Rattle.nr_c.specs.Numbers.{answer_not_asked, answer_nothing, answer_other, answer_rows, answer_send, answer_stale}
+use Rattle.nr_c.specs.Numbers.{answer_waiting, answer_worn}
 
 abbrev pub found_id_code : FoundId → ℕ
 found_id_code found.Rows = answer_rows

@@ -11,7 +11,9 @@ use Rattle.nr_c.specs.Ledgers.{Entries, IsInEither, Tells}
 
 -- the id's upquery among those that are kept, each at a way of one of its id's two groups
 abbrev pub TellsOpen : ℕ → Keeper → Entries → Option NrUpquery → Type 0
-TellsOpen id keeper = let plan = keeper.table.directory.plan in Tells (IsInEither (group_of plan id) (second_of plan id) id)
+TellsOpen id keeper =
+    let plan = keeper.table.directory.plan in
+    Tells (IsInEither (group_of plan id) (second_of plan id) id)
 
 -- the id's open upquery is withdrawn; where it has none, the id is evicted
 abbrev pub InvalidatesIdByCode : ℕ → IdWriterSide → IdWriterSide → ℕ → Type 0

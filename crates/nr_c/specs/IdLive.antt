@@ -13,22 +13,31 @@ abbrev pub RefusesZero : {Side : Type 0} → ℕ → Type 0 → List Side → Li
 RefusesZero id stays before after code = (code ≡ answer_no_key) × (id ≡ 0) × stays × IsLive before × (after ≡ before)
 
 -- a call with an id: it is refused for 0, and else does what it does
-abbrev pub WithId : {Side : Type 0} → ℕ → Type 0 → (List Side → List Side → ℕ → Type 0) → List Side → List Side → ℕ → Type 0
+abbrev pub WithId : {Side : Type 0} → ℕ → Type 0 → (List Side → List Side → ℕ → Type 0) → List Side → List Side → ℕ
+    → Type 0
 WithId id stays does before after code = RefusesZero id stays before after code ⊎ ((0 < id) × does before after code)
 
 -- a call of a reader that holds nothing, or of one that holds a set: it is refused by the other
-abbrev pub WhenIdleById : Type 0 → (List IdReaderSide → List IdReaderSide → ℕ → Type 0) → List IdReaderSide → List IdReaderSide → ℕ → Type 0
-WhenIdleById stays does before after code = RefusesHand (λ (side : IdReaderSide). HoldsAnId side.hand) answer_holding stays before after code ⊎ does before after code
+abbrev pub WhenIdleById : Type 0 → (List IdReaderSide → List IdReaderSide → ℕ → Type 0) → List IdReaderSide
+    → List IdReaderSide → ℕ → Type 0
+WhenIdleById stays does before after code =
+    RefusesHand (λ (side : IdReaderSide). HoldsAnId side.hand) answer_holding stays before after code
+    ⊎ does before after code
 
-abbrev pub WhenHoldingById : Type 0 → (List IdReaderSide → List IdReaderSide → ℕ → Type 0) → List IdReaderSide → List IdReaderSide → ℕ → Type 0
-WhenHoldingById stays does before after code = RefusesHand (λ (side : IdReaderSide). HoldsNoId side.hand) answer_not_holding stays before after code ⊎ does before after code
+abbrev pub WhenHoldingById : Type 0 → (List IdReaderSide → List IdReaderSide → ℕ → Type 0) → List IdReaderSide
+    → List IdReaderSide → ℕ → Type 0
+WhenHoldingById stays does before after code =
+    RefusesHand (λ (side : IdReaderSide). HoldsNoId side.hand) answer_not_holding stays before after code
+    ⊎ does before after code
 
 -- a call with an id by a live reader that holds nothing; where it is refused, this stays
-abbrev pub ByIdleIdReader : ℕ → Type 0 → (List IdReaderSide → List IdReaderSide → ℕ → Type 0) → List IdReaderSide → List IdReaderSide → ℕ → Type 0
+abbrev pub ByIdleIdReader : ℕ → Type 0 → (List IdReaderSide → List IdReaderSide → ℕ → Type 0) → List IdReaderSide
+    → List IdReaderSide → ℕ → Type 0
 ByIdleIdReader id stays does = WhenLive stays (WithId id stays (WhenIdleById stays does))
 
 -- the handle leads to one side, of the same map before and after, whose reader became another
-pub record IdHandTurns (became : IdHanded → IdHanded → ℕ → Type 0) (before after : List IdReaderSide) (code : ℕ) : Type 0 where
+pub record IdHandTurns (became : IdHanded → IdHanded → ℕ → Type 0) (before after : List IdReaderSide) (code : ℕ) : Type
+    0 where
   pub old : IdReaderSide
   pub new : IdReaderSide
   pub was : before ≡ old ∷ []

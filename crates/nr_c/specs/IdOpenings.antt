@@ -11,7 +11,15 @@ use Rattle.nr_c.specs.Ledgers.{no_entries}
 use Rattle.nr_c.specs.Numbers.{answer_bad_size, answer_done, answer_no_memory, answer_no_reader}
 
 abbrev pub id_shape_of : NrIdShape → IdShape
-id_shape_of shape = record { groups = shape.groups; key = shape.key; slots = shape.slots; readers = shape.readers; rows = shape.rows; first_number = shape.first_number }
+id_shape_of shape =
+    record {
+      groups = shape.groups;
+      key = shape.key;
+      slots = shape.slots;
+      readers = shape.readers;
+      rows = shape.rows;
+      first_number = shape.first_number;
+    }
 
 -- the writer's side of a new map over ids: its writer, its readers, none of which has a handle, and no upquery
 pub record IsNewIdWriter (shape : IdShape) (side : IdWriterSide) : Type 0 where
@@ -20,13 +28,16 @@ pub record IsNewIdWriter (shape : IdShape) (side : IdWriterSide) : Type 0 where
 
 -- the handle leads to the side of a new map, or nowhere
 abbrev pub LeadsToIds : IdShape → List IdWriterSide → ℕ → Type 0
-LeadsToIds shape after code = ((code ≡ answer_done) × (side : IdWriterSide) × (after ≡ side ∷ []) × IsNewIdWriter shape side) ⊎ (((code ≡ answer_bad_size) ⊎ (code ≡ answer_no_memory)) × (after ≡ []))
+LeadsToIds shape after code =
+    ((code ≡ answer_done) × (side : IdWriterSide) × (after ≡ side ∷ []) × IsNewIdWriter shape side)
+    ⊎ (((code ≡ answer_bad_size) ⊎ (code ≡ answer_no_memory)) × (after ≡ []))
 
 -- an opening by its code: sizes out of their limits are refused
 abbrev pub OpensIdMap : IdShape → List IdWriterSide → ℕ → Type 0
 OpensIdMap shape after code = ((code ≡ answer_bad_size) ↔ IsBadIdShape shape) × LeadsToIds shape after code
 
--- the writer's handle leads to one side, of the same map, with the same writer and upqueries, and these readers have no handle
+-- the writer's handle leads to one side, of the same map, with the same writer and upqueries, and these readers have no
+-- handle
 pub record KeepsIdWriter (before after : List IdWriterSide) (had has : List IdCaller) : Type 0 where
   pub old : IdWriterSide
   pub new : IdWriterSide
@@ -51,5 +62,7 @@ pub record LeadsToIdReader (before : List IdWriterSide) (reader : IdCaller) (han
 abbrev pub TakesIdReader : List IdWriterSide → List IdReaderSide → List IdWriterSide → List IdReaderSide → ℕ → Type 0
 TakesIdReader before other after handle code =
     ((code ≡ answer_no_reader) × KeepsIdWriter before after [] [] × (handle ≡ other))
-    ⊎ ((code ≡ answer_done) × (rest : List IdCaller) × (reader : IdCaller) × KeepsIdWriter before after (rest ++ reader ∷ []) rest × LeadsToIdReader before reader handle)
-    ⊎ ((code ≡ answer_no_memory) × (rest : List IdCaller) × (reader : IdCaller) × KeepsIdWriter before after (rest ++ reader ∷ []) (rest ++ reader ∷ []) × (handle ≡ other))
+    ⊎ ((code ≡ answer_done) × (rest : List IdCaller) × (reader : IdCaller)
+    × KeepsIdWriter before after (rest ++ reader ∷ []) rest × LeadsToIdReader before reader handle)
+    ⊎ ((code ≡ answer_no_memory) × (rest : List IdCaller) × (reader : IdCaller)
+    × KeepsIdWriter before after (rest ++ reader ∷ []) (rest ++ reader ∷ []) × (handle ≡ other))

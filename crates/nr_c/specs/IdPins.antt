@@ -19,17 +19,21 @@ count_told told found.Absent rows = told
 
 -- a pin by its code, of a reader that holds nothing
 abbrev pub PinsIdByCode : ℕ → ℕ → ℕ → IdHanded → IdHanded → ℕ → Type 0
-PinsIdByCode id told tells old new code = (found : FoundId) × (code ≡ found_id_code found) × HoldsNoId old × PinsById id old new found × (tells ≡ count_told told found (rows_in_hand new))
+PinsIdByCode id told tells old new code =
+    (found : FoundId) × (code ≡ found_id_code found) × HoldsNoId old × PinsById id old new found
+    × (tells ≡ count_told told found (rows_in_hand new))
 
 -- a find that keeps its hold, by its code
 abbrev pub KeepsIdByCode : ℕ → NrRows → NrRows → IdHanded → IdHanded → ℕ → Type 0
-KeepsIdByCode id before after old new code = (found : FoundId) × (code ≡ found_id_code found) × FindsIdKept ShowsSet id old before new after found
+KeepsIdByCode id before after old new code =
+    (found : FoundId) × (code ≡ found_id_code found) × FindsIdKept ShowsSet id old before new after found
 
 -- a row of the held set by its code; nothing else is told, and the reader stays
 abbrev pub ReadsIdRow : ℕ → Row → Row → IdHanded → IdHanded → ℕ → Type 0
 ReadsIdRow place stood stands old new code =
     (new ≡ old)
-    × (((code ≡ answer_rows) × (slice_get (rows_in_hand old) place ≡ Some stands)) ⊎ ((code ≡ answer_no_row) × (length (rows_in_hand old) ≤ place) × (stands ≡ stood)))
+    × (((code ≡ answer_rows) × (slice_get (rows_in_hand old) place ≡ Some stands))
+    ⊎ ((code ≡ answer_no_row) × (length (rows_in_hand old) ≤ place) × (stands ≡ stood)))
 
 -- all of them
 abbrev pub CopiesIdSet : NrRows → IdHanded → IdHanded → ℕ → Type 0
@@ -37,7 +41,8 @@ CopiesIdSet rows old new code = (new ≡ old) × (code ≡ answer_rows) × Shows
 
 -- a find again by its code; it holds the same set
 abbrev pub FindsIdByHold : ℕ → IdHanded → IdHanded → ℕ → Type 0
-FindsIdByHold id old new code = (found : Bool) × (code ≡ (if found then answer_rows else answer_other)) × HoldsAnId old × AgainById id old new found
+FindsIdByHold id old new code =
+    (found : Bool) × (code ≡ (if found then answer_rows else answer_other)) × HoldsAnId old × AgainById id old new found
 
 -- the hold ends
 abbrev pub ReleasesId : IdHanded → IdHanded → ℕ → Type 0

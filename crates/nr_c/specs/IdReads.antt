@@ -12,8 +12,11 @@ use Rattle.nr_c.specs.RowCells.{ShowsSet}
 
 -- a find: the caller's cells show the id's rows, and stay with each other answer
 abbrev pub FindsIdByCode : ℕ → NrRows → NrRows → IdCaller → IdCaller → ℕ → Type 0
-FindsIdByCode id before after old new code = (found : FoundId) × (code ≡ found_id_code found) × FindsById ShowsSet id old before new after found
+FindsIdByCode id before after old new code =
+    (found : FoundId) × (code ≡ found_id_code found) × FindsById ShowsSet id old before new after found
 
 -- a request, by a reader that holds what it held
 abbrev pub RequestsByCode : ℕ → IdHanded → IdHanded → ℕ → Type 0
-RequestsByCode id old new code = (answer : Requested) × (code ≡ request_code answer) × Requests id old.ids new.ids answer × (new.hand ≡ old.hand) × (new.id ≡ old.id)
+RequestsByCode id old new code =
+    (answer : Requested) × (code ≡ request_code answer) × Requests id old.ids new.ids answer × (new.hand ≡ old.hand)
+    × (new.id ≡ old.id)

@@ -49,7 +49,8 @@ kept_unfilled_reclaiming count (Err unfilled.Closed) kept = kept
 kept_unfilled_reclaiming count (Err (unfilled.NoSlot upquery counts)) kept = keeps count upquery kept
 
 -- the one that was kept is the map's fill, which shows what it gives out
-pub record FillsKeptReclaiming (wanted : NrUpquery) (rows : List Row) (before after : NrRows) (old new : IdWriterSide) (code : ℕ) : Type 0 where
+pub record FillsKeptReclaiming (wanted : NrUpquery) (rows : List Row) (before after : NrRows) (old new : IdWriterSide)
+    (code : ℕ) : Type 0 where
   pub upquery : Sent
   pub rest : Entries
   pub gives_up : GivesUp wanted upquery old.ledger rest
@@ -61,19 +62,24 @@ pub record FillsKeptReclaiming (wanted : NrUpquery) (rows : List Row) (before af
 abbrev pub FillsIdReclaimingByCode : NrUpquery → List Row → NrRows → NrRows → IdWriterSide → IdWriterSide → ℕ → Type 0
 FillsIdReclaimingByCode wanted rows before after old new code =
     (RefusesIdRows rows old new code × (after ≡ before))
-    ⊎ (IsIdSet (id_rows old.writer.table) rows × ((IsStale wanted old new code × (after ≡ before)) ⊎ FillsKeptReclaiming wanted rows before after old new code))
+    ⊎ (IsIdSet (id_rows old.writer.table) rows
+    × ((IsStale wanted old new code × (after ≡ before))
+    ⊎ FillsKeptReclaiming wanted rows before after old new code))
 
 -- an update and a replacement: where the id has no way the caller's cells stay
 abbrev pub UpdatesWayReclaiming : ℕ → List Delta → NrRows → NrRows → Keeper → Keeper → ℕ → Type 0
 UpdatesWayReclaiming id deltas before after old new code =
     (answer : Result Reclaimed (IdFault UpdateFault))
     × (code ≡ id_update_reclaiming_code answer)
-    × CallsWay (λ way o n r. UpdatesReclaiming ShowsSet old.table.map.shape.rows way deltas o before n after r) id old new answer
+    × CallsWay (λ way o n r. UpdatesReclaiming ShowsSet old.table.map.shape.rows way deltas o before n after r) id old
+    new answer
     × (answer ≡ Err fault.Absent → after ≡ before)
 
 abbrev pub UpdatesIdReclaimingByCode : ℕ → List Delta → NrRows → NrRows → IdWriterSide → IdWriterSide → ℕ → Type 0
 UpdatesIdReclaimingByCode id deltas before after =
-    OwesAll (λ old new code. (AreIdDeltasRefused deltas code × (new ≡ old) × (after ≡ before)) ⊎ ((IsBatch deltas × AreIdDeltas deltas) × UpdatesWayReclaiming id deltas before after old new code))
+    OwesAll
+    (λ old new code. (AreIdDeltasRefused deltas code × (new ≡ old) × (after ≡ before))
+    ⊎ ((IsBatch deltas × AreIdDeltas deltas) × UpdatesWayReclaiming id deltas before after old new code))
 
 abbrev pub ReplacesWayReclaiming : ℕ → List Row → NrRows → NrRows → Keeper → Keeper → ℕ → Type 0
 ReplacesWayReclaiming id rows before after old new code =
@@ -84,9 +90,13 @@ ReplacesWayReclaiming id rows before after old new code =
 
 abbrev pub ReplacesIdReclaimingByCode : ℕ → List Row → NrRows → NrRows → IdWriterSide → IdWriterSide → ℕ → Type 0
 ReplacesIdReclaimingByCode id rows before after =
-    OwesAll (λ old new code. (AreIdRowsRefused (id_rows old.table) rows code × (new ≡ old) × (after ≡ before)) ⊎ (IsIdSet (id_rows old.table) rows × ReplacesWayReclaiming id rows before after old new code))
+    OwesAll
+    (λ old new code. (AreIdRowsRefused (id_rows old.table) rows code × (new ≡ old) × (after ≡ before))
+    ⊎ (IsIdSet (id_rows old.table) rows × ReplacesWayReclaiming id rows before after old new code))
 
 -- a set that no find reads comes out, as the map's reap, and the directory isn't asked
 abbrev pub ReapsIdByCode : NrRows → NrRows → IdWriterSide → IdWriterSide → ℕ → Type 0
 ReapsIdByCode before after =
-    OwesAll (λ old new code. (answer : Reaped) × (code ≡ reaped_code answer) × ReapsIn ShowsSet old.writer before new.writer after answer × (new.clerk ≡ old.clerk))
+    OwesAll
+    (λ old new code. (answer : Reaped) × (code ≡ reaped_code answer)
+    × ReapsIn ShowsSet old.writer before new.writer after answer × (new.clerk ≡ old.clerk))

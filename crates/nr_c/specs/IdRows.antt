@@ -11,9 +11,11 @@ use Rattle.nr_c.specs.Rows.{AreRefused}
 
 -- rows that no key takes, and else a row that looks like a tag
 abbrev pub AreIdRowsRefused : ℕ → List Row → ℕ → Type 0
-AreIdRowsRefused bound rows code = AreRefused bound rows code ⊎ ((code ≡ answer_bad_row) × IsRowSet bound rows × (AreIdRows rows → ⊥))
+AreIdRowsRefused bound rows code =
+    AreRefused bound rows code ⊎ ((code ≡ answer_bad_row) × IsRowSet bound rows × (AreIdRows rows → ⊥))
 
 -- signed rows that are none or too many, and else one that looks like a tag
 abbrev pub AreIdDeltasRefused : List Delta → ℕ → Type 0
 AreIdDeltasRefused deltas code =
-    ((code ≡ answer_bad_batch) × ((length deltas ≡ 0) ⊎ (MAX_DELTAS < length deltas))) ⊎ ((code ≡ answer_bad_row) × IsBatch deltas × (AreIdDeltas deltas → ⊥))
+    ((code ≡ answer_bad_batch) × ((length deltas ≡ 0) ⊎ (MAX_DELTAS < length deltas)))
+    ⊎ ((code ≡ answer_bad_row) × IsBatch deltas × (AreIdDeltas deltas → ⊥))

@@ -34,7 +34,8 @@ pub record AdmitsNot (id : ℕ) (before after : NrUpquery) (old new : IdWriterSi
   pub keeps : new.ledger ≡ old.ledger
 
 abbrev pub AdmitsByCode : ℕ → NrUpquery → NrUpquery → IdWriterSide → IdWriterSide → ℕ → Type 0
-AdmitsByCode id before after old new code = AdmitsAndKeeps id after old new code ⊎ AdmitsNot id before after old new code
+AdmitsByCode id before after old new code =
+    AdmitsAndKeeps id after old new code ⊎ AdmitsNot id before after old new code
 
 -- no upquery with these numbers is open
 pub record IsStale (wanted : NrUpquery) (old new : IdWriterSide) (code : ℕ) : Type 0 where

@@ -21,7 +21,8 @@ use Rattle.nr_c.specs.RowCells.{ShowsSet}
 
 -- a find of the writer's own: the caller's cells show the id's rows, and stay with each other answer
 abbrev pub LooksIdByCode : ℕ → NrRows → NrRows → Keeper → Keeper → ℕ → Type 0
-LooksIdByCode id before after old new code = (looked : Looked) × (code ≡ looked_code looked) × LooksById ShowsSet id old before new after looked
+LooksIdByCode id before after old new code =
+    (looked : Looked) × (code ≡ looked_code looked) × LooksById ShowsSet id old before new after looked
 
 -- signed rows that are no id's change nothing, and any others are the map's update of the id's way
 abbrev pub UpdatesIdByCode : ℕ → List Delta → Keeper → Keeper → ℕ → Type 0
@@ -36,7 +37,8 @@ UpdatesIdByCode id deltas old new code =
 abbrev pub ReplacesIdByCode : ℕ → List Row → Keeper → Keeper → ℕ → Type 0
 ReplacesIdByCode id rows old new code =
     (AreIdRowsRefused (id_rows old.table) rows code × (new ≡ old))
-    ⊎ (IsIdSet (id_rows old.table) rows × (answer : Result (Unit {0}) (IdFault ReplaceFault)) × (code ≡ id_replace_code answer) × CallsWay (λ way. ReplacesKey way (tag_of id ∷ rows)) id old new answer)
+    ⊎ (IsIdSet (id_rows old.table) rows × (answer : Result (Unit {0}) (IdFault ReplaceFault))
+    × (code ≡ id_replace_code answer) × CallsWay (λ way. ReplacesKey way (tag_of id ∷ rows)) id old new answer)
 
 abbrev pub EvictsIdByCode : ℕ → Keeper → Keeper → ℕ → Type 0
 EvictsIdByCode id old new code = (answer : Evict) × (code ≡ evict_code answer) × EvictsId id old new answer

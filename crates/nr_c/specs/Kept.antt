@@ -11,4 +11,5 @@ use Rattle.nr_c.specs.RowCells.{ShowsSet}
 -- a find that keeps its hold, by its code, of a reader that takes what it held for a set of the key
 abbrev pub KeepsByCode : ℕ → NrRows → NrRows → List ReaderSide → List ReaderSide → ℕ → Type 0
 KeepsByCode key rows rows' before after code =
-    (found : Found) × (code ≡ found_code found) × (old new : Handed) × TurnsHand before after old new × FindsKept ShowsSet key (held_for key old) rows new rows' found
+    (found : Found) × (code ≡ found_code found) × (old new : Handed) × TurnsHand before after old new
+    × FindsKept ShowsSet key (held_for key old) rows new rows' found

@@ -1,4 +1,5 @@
--- The open upqueries of a map over ids, of which C has the numbers: each is kept at its way's place, with a count that tells it from all others.
+-- The open upqueries of a map over ids, of which C has the numbers: each is kept at its way's place, with a count that
+-- tells it from all others.
 use Rattle.std.specs.Prelude.{ℕ, ◌≡◌, ◌+◌, ◌⊎◌, List, All, Option, Some, None, get_or, min, replicate, set}
 use Rattle.nr_ids.specs.Groups.{group_of_way}
 use Rattle.nr_idmap.specs.Keepers.{IdTable, Owed, Sent}

@@ -26,22 +26,29 @@ pub record RefusesClosed {Side : Type 0} (stays : Type 0) (before after : List S
   pub is : after ≡ []
 
 -- a call by a handle: it is refused where that isn't live, and else does what it does
-abbrev pub WhenLive : {Side : Type 0} → Type 0 → (List Side → List Side → ℕ → Type 0) → List Side → List Side → ℕ → Type 0
+abbrev pub WhenLive : {Side : Type 0} → Type 0 → (List Side → List Side → ℕ → Type 0) → List Side → List Side → ℕ
+    → Type 0
 WhenLive stays does before after code = RefusesClosed stays before after code ⊎ does before after code
 
 -- a call by two handles is refused where one of them isn't live
-abbrev pub WhenBothLive : {One Other : Type 0} → (List One → List Other → List One → List Other → ℕ → Type 0) → List One → List Other → List One → List Other → ℕ → Type 0
+abbrev pub WhenBothLive : {One Other : Type 0} → (List One → List Other → List One → List Other → ℕ → Type 0) → List One
+    → List Other → List One → List Other → ℕ → Type 0
 WhenBothLive does one other one' other' code =
-    ((code ≡ answer_closed) × ((one ≡ []) ⊎ (other ≡ [])) × (one' ≡ one) × (other' ≡ other)) ⊎ (IsLive one × IsLive other × does one other one' other' code)
+    ((code ≡ answer_closed) × ((one ≡ []) ⊎ (other ≡ [])) × (one' ≡ one) × (other' ≡ other))
+    ⊎ (IsLive one × IsLive other × does one other one' other' code)
 
 -- an opening of a handle that isn't live: it is refused else
 abbrev pub WhenEmpty : {Side : Type 0} → (List Side → ℕ → Type 0) → List Side → List Side → ℕ → Type 0
-WhenEmpty does before after code = ((code ≡ answer_live) × IsLive before × (after ≡ before)) ⊎ ((before ≡ []) × does after code)
+WhenEmpty does before after code =
+    ((code ≡ answer_live) × IsLive before × (after ≡ before)) ⊎ ((before ≡ []) × does after code)
 
 -- an opening by a handle that is live, of another that isn't: it is refused else
-abbrev pub WhenOther : {One Other : Type 0} → (List One → List Other → List One → List Other → ℕ → Type 0) → List One → List Other → List One → List Other → ℕ → Type 0
+abbrev pub WhenOther : {One Other : Type 0} → (List One → List Other → List One → List Other → ℕ → Type 0) → List One
+    → List Other → List One → List Other → ℕ → Type 0
 WhenOther does one other one' other' code =
-    ((code ≡ answer_closed) × (one ≡ []) × (one' ≡ one) × (other' ≡ other)) ⊎ ((code ≡ answer_live) × IsLive one × IsLive other × (one' ≡ one) × (other' ≡ other)) ⊎ (IsLive one × (other ≡ []) × does one other one' other' code)
+    ((code ≡ answer_closed) × (one ≡ []) × (one' ≡ one) × (other' ≡ other))
+    ⊎ ((code ≡ answer_live) × IsLive one × IsLive other × (one' ≡ one) × (other' ≡ other))
+    ⊎ (IsLive one × (other ≡ []) × does one other one' other' code)
 
 -- the handles that are live lead to sides of one map
 abbrev pub OneMap : List ReaderSide → List WriterSide → Type 0
@@ -57,7 +64,8 @@ abbrev pub writer_keys : WriterSide → ℕ
 writer_keys side = side.map.value.shape.keys
 
 -- there is no such key, which the code says; the handle leads to what it led to, and what it would tell stays
-pub record RefusesKey {Side : Type 0} (keys : Side → ℕ) (key : ℕ) (stays : Type 0) (before after : List Side) (code : ℕ) : Type 0 where
+pub record RefusesKey {Side : Type 0} (keys : Side → ℕ) (key : ℕ) (stays : Type 0) (before after : List Side)
+    (code : ℕ) : Type 0 where
   pub code_is : code ≡ answer_no_key
   pub stay : stays
   pub held : Side
@@ -71,11 +79,14 @@ pub record HasKey {Side : Type 0} (keys : Side → ℕ) (key : ℕ) (before : Li
   pub below : key < keys held
 
 -- a call with a key: it is refused where there is no such key, and else does what it does
-abbrev pub WithKey : {Side : Type 0} → (Side → ℕ) → ℕ → Type 0 → (List Side → List Side → ℕ → Type 0) → List Side → List Side → ℕ → Type 0
-WithKey keys key stays does before after code = RefusesKey keys key stays before after code ⊎ (HasKey keys key before × does before after code)
+abbrev pub WithKey : {Side : Type 0} → (Side → ℕ) → ℕ → Type 0 → (List Side → List Side → ℕ → Type 0) → List Side
+    → List Side → ℕ → Type 0
+WithKey keys key stays does before after code =
+    RefusesKey keys key stays before after code ⊎ (HasKey keys key before × does before after code)
 
 -- the reader isn't as the call wants it, which the code says; nothing has changed
-pub record RefusesHand {Side : Type 0} (kind : Side → Type 0) (answer : ℕ) (stays : Type 0) (before after : List Side) (code : ℕ) : Type 0 where
+pub record RefusesHand {Side : Type 0} (kind : Side → Type 0) (answer : ℕ) (stays : Type 0) (before after : List Side)
+    (code : ℕ) : Type 0 where
   pub code_is : code ≡ answer
   pub stay : stays
   pub held : Side
@@ -84,15 +95,22 @@ pub record RefusesHand {Side : Type 0} (kind : Side → Type 0) (answer : ℕ) (
   pub hand : kind held
 
 -- a call of a reader that holds nothing: it is refused where the reader holds a set
-abbrev pub WhenIdle : Type 0 → (List ReaderSide → List ReaderSide → ℕ → Type 0) → List ReaderSide → List ReaderSide → ℕ → Type 0
-WhenIdle stays does before after code = RefusesHand (λ (side : ReaderSide). HoldsSome side.hand) answer_holding stays before after code ⊎ does before after code
+abbrev pub WhenIdle : Type 0 → (List ReaderSide → List ReaderSide → ℕ → Type 0) → List ReaderSide → List ReaderSide → ℕ
+    → Type 0
+WhenIdle stays does before after code =
+    RefusesHand (λ (side : ReaderSide). HoldsSome side.hand) answer_holding stays before after code
+    ⊎ does before after code
 
 -- a call of a reader that holds a set: it is refused where the reader holds nothing
-abbrev pub WhenHolding : Type 0 → (List ReaderSide → List ReaderSide → ℕ → Type 0) → List ReaderSide → List ReaderSide → ℕ → Type 0
-WhenHolding stays does before after code = RefusesHand (λ (side : ReaderSide). HoldsNone side.hand) answer_not_holding stays before after code ⊎ does before after code
+abbrev pub WhenHolding : Type 0 → (List ReaderSide → List ReaderSide → ℕ → Type 0) → List ReaderSide → List ReaderSide
+    → ℕ → Type 0
+WhenHolding stays does before after code =
+    RefusesHand (λ (side : ReaderSide). HoldsNone side.hand) answer_not_holding stays before after code
+    ⊎ does before after code
 
 -- a call with a key by a live reader that holds nothing; where it is refused, this stays
-abbrev pub ByIdleReader : ℕ → Type 0 → (List ReaderSide → List ReaderSide → ℕ → Type 0) → List ReaderSide → List ReaderSide → ℕ → Type 0
+abbrev pub ByIdleReader : ℕ → Type 0 → (List ReaderSide → List ReaderSide → ℕ → Type 0) → List ReaderSide
+    → List ReaderSide → ℕ → Type 0
 ByIdleReader key stays does = WhenLive stays (WithKey reader_keys key stays (WhenIdle stays does))
 
 -- the handle leads to one side, of the same map before and after, whose reader was in the one hand and is in the other
@@ -107,10 +125,13 @@ pub record TurnsHand (before after : List ReaderSide) (was is : Handed) : Type 0
 
 -- so a reader that holds nothing became another such one
 abbrev pub ReaderCalls : (Caller → Caller → ℕ → Type 0) → List ReaderSide → List ReaderSide → ℕ → Type 0
-ReaderCalls became before after code = (old new : Handed) × TurnsHand before after old new × HoldsNone old × HoldsNone new × became old.reader new.reader code
+ReaderCalls became before after code =
+    (old new : Handed) × TurnsHand before after old new × HoldsNone old × HoldsNone new
+    × became old.reader new.reader code
 
 -- and the writer's, whose readers without a handle stay
-pub record WriterCalls (became : Caller → Caller → ℕ → Type 0) (before after : List WriterSide) (code : ℕ) : Type 0 where
+pub record WriterCalls (became : Caller → Caller → ℕ → Type 0) (before after : List WriterSide) (code : ℕ) : Type
+    0 where
   pub old : WriterSide
   pub new : WriterSide
   pub was : before ≡ old ∷ []
@@ -119,9 +140,12 @@ pub record WriterCalls (became : Caller → Caller → ℕ → Type 0) (before a
   pub spare : new.spare ≡ old.spare
   pub made : became old.writer new.writer code
 
--- a find by its code: the caller's cells show the rows of the reply, and stay as they are on a hole; the reader holds nothing
+-- a find by its code: the caller's cells show the rows of the reply, and stay as they are on a hole; the reader holds
+-- nothing
 abbrev pub FindsByCode : ℕ → NrRows → NrRows → Caller → Caller → ℕ → Type 0
-FindsByCode key before after old new code = (found : Found) × (code ≡ found_code found) × FindsIn ShowsSet key old before new after found × (new.holds ≡ None) × (new.marks.acts ≡ old.marks.acts + acts_of found)
+FindsByCode key before after old new code =
+    (found : Found) × (code ≡ found_code found) × FindsIn ShowsSet key old before new after found × (new.holds ≡ None)
+    × (new.marks.acts ≡ old.marks.acts + acts_of found)
 
 -- the number that a request tells: that of a ticket, and else what stood there
 abbrev pub number_told : ℕ → Asked → ℕ
@@ -131,4 +155,6 @@ number_told before asked.Filled = before
 
 -- a request by its code; the number of a ticket is told, and the reader holds nothing
 abbrev pub AsksByCode : ℕ → ℕ → ℕ → Caller → Caller → ℕ → Type 0
-AsksByCode key before after old new code = (answer : Asked) × (code ≡ ask_code answer) × AsksKey key old new answer × (after ≡ number_told before answer) × (new.holds ≡ None) × (new.marks ≡ old.marks)
+AsksByCode key before after old new code =
+    (answer : Asked) × (code ≡ ask_code answer) × AsksKey key old new answer × (after ≡ number_told before answer)
+    × (new.holds ≡ None) × (new.marks ≡ old.marks)

@@ -9,18 +9,23 @@ use Rattle.nr_c.specs.Numbers.{answer_done, answer_no_key}
 
 -- a find of one of the keys, by the answer beside it
 abbrev pub FindsOneByCode : NrWanted → NrWanted → Caller → Caller → Type 0
-FindsOneByCode wanted found old new = (found.key ≡ wanted.key) × FindsByCode wanted.key wanted.rows found.rows old new found.answer
+FindsOneByCode wanted found old new =
+    (found.key ≡ wanted.key) × FindsByCode wanted.key wanted.rows found.rows old new found.answer
 
--- calls for those of a list from that index on, one after another: each is told what is left of the list, and makes of its first one another
-abbrev pub InOrder : {State One : Type 0} → (ℕ → List One → One → One → State → State → Type 0) → ℕ → List One → List One → State → State → Type 0
+-- calls for those of a list from that index on, one after another: each is told what is left of the list, and makes of
+-- its first one another
+abbrev pub InOrder : {State One : Type 0} → (ℕ → List One → One → One → State → State → Type 0) → ℕ → List One
+    → List One → State → State → Type 0
 InOrder call place [] [] old new = new ≡ old
-InOrder {State = State} call place (one ∷ others) (done ∷ rest) old new = (next : State) × call place (one ∷ others) one done old next × InOrder call (place + 1) others rest next new
+InOrder {State = State} call place (one ∷ others) (done ∷ rest) old new =
+    (next : State) × call place (one ∷ others) one done old next × InOrder call (place + 1) others rest next new
 InOrder call place [] (done ∷ rest) old new = ⊥
 InOrder call place (one ∷ others) [] old new = ⊥
 
 -- the find of the key at an index, before it the loads for each of sixteen where sixteen begin there
 abbrev pub FindsAtByCode : ℕ → List NrWanted → NrWanted → NrWanted → Caller → Caller → Type 0
-FindsAtByCode place left wanted found old new = FindsOneByCode wanted found (with_loads (loads_at old.table.shape.rows place (length left)) old) new
+FindsAtByCode place left wanted found old new =
+    FindsOneByCode wanted found (with_loads (loads_at old.table.shape.rows place (length left)) old) new
 
 -- from the first key on
 abbrev pub FindsEachByCode : List NrWanted → List NrWanted → Caller → Caller → Type 0
@@ -28,14 +33,16 @@ FindsEachByCode wanted found old new = InOrder FindsAtByCode 0 wanted found old 
 
 -- by a reader's handle
 abbrev pub FindsSome : List NrWanted → List NrWanted → List ReaderSide → List ReaderSide → ℕ → Type 0
-FindsSome wanted found before after code = (code ≡ answer_done) × ReaderCalls (λ old new said. FindsEachByCode wanted found old new) before after code
+FindsSome wanted found before after code =
+    (code ≡ answer_done) × ReaderCalls (λ old new said. FindsEachByCode wanted found old new) before after code
 
 -- the map of the handle's reader has each of the keys
 abbrev pub AreKeysOf : ReaderSide → List NrWanted → Type 0
 AreKeysOf held wanted = All (λ one. one.key < reader_keys held) wanted
 
 -- it lacks one, which the code says; the handle leads to what it led to, and what the call would tell stays
-pub record RefusesKeys (wanted : List NrWanted) (stays : Type 0) (before after : List ReaderSide) (code : ℕ) : Type 0 where
+pub record RefusesKeys (wanted : List NrWanted) (stays : Type 0) (before after : List ReaderSide) (code : ℕ) : Type
+    0 where
   pub code_is : code ≡ answer_no_key
   pub stay : stays
   pub held : ReaderSide
@@ -49,5 +56,7 @@ pub record HasKeys (wanted : List NrWanted) (before : List ReaderSide) : Type 0 
   pub has : AreKeysOf held wanted
 
 -- a call with keys: it is refused where there is no such key as one of them, and else does what it does
-abbrev pub WithKeys : List NrWanted → Type 0 → (List ReaderSide → List ReaderSide → ℕ → Type 0) → List ReaderSide → List ReaderSide → ℕ → Type 0
-WithKeys wanted stays does before after code = RefusesKeys wanted stays before after code ⊎ (HasKeys wanted before × does before after code)
+abbrev pub WithKeys : List NrWanted → Type 0 → (List ReaderSide → List ReaderSide → ℕ → Type 0) → List ReaderSide
+    → List ReaderSide → ℕ → Type 0
+WithKeys wanted stays does before after code =
+    RefusesKeys wanted stays before after code ⊎ (HasKeys wanted before × does before after code)

@@ -16,13 +16,16 @@ IsNewWriter shape side = IsOpened shape (words_of_large shape) side.map.value si
 
 -- the handle leads to the side of a new map, or nowhere
 abbrev pub OpensMap : Shape → List WriterSide → ℕ → Type 0
-OpensMap shape after code = ((code ≡ answer_done) × (side : WriterSide) × (after ≡ side ∷ []) × IsNewWriter shape side) ⊎ (((code ≡ answer_bad_size) ⊎ (code ≡ answer_no_memory)) × (after ≡ []))
+OpensMap shape after code =
+    ((code ≡ answer_done) × (side : WriterSide) × (after ≡ side ∷ []) × IsNewWriter shape side)
+    ⊎ (((code ≡ answer_bad_size) ⊎ (code ≡ answer_no_memory)) × (after ≡ []))
 
 -- the shape is out of a script's limits and of a large map's
 abbrev pub IsRefused : Shape → Type 0
 IsRefused shape = IsBadShape shape × IsBadLargeShape shape
 
--- an opening by its code: sizes out of their limits are refused, and the handle leads to the side of a new map, or nowhere
+-- an opening by its code: sizes out of their limits are refused, and the handle leads to the side of a new map, or
+-- nowhere
 abbrev pub Opens : Shape → List WriterSide → ℕ → Type 0
 Opens shape after code = ((code ≡ answer_bad_size) ↔ IsRefused shape) × OpensMap shape after code
 
@@ -50,11 +53,15 @@ pub record LeadsToReader (before : List WriterSide) (reader : Caller) (handle : 
 abbrev pub TakesReader : List WriterSide → List ReaderSide → List WriterSide → List ReaderSide → ℕ → Type 0
 TakesReader before other after handle code =
     ((code ≡ answer_no_reader) × KeepsWriter before after [] [] × (handle ≡ other))
-    ⊎ ((code ≡ answer_done) × (rest : List Caller) × (reader : Caller) × KeepsWriter before after (rest ++ reader ∷ []) rest × LeadsToReader before reader handle)
-    ⊎ ((code ≡ answer_no_memory) × (rest : List Caller) × (reader : Caller) × KeepsWriter before after (rest ++ reader ∷ []) (rest ++ reader ∷ []) × (handle ≡ other))
+    ⊎ ((code ≡ answer_done) × (rest : List Caller) × (reader : Caller)
+    × KeepsWriter before after (rest ++ reader ∷ []) rest × LeadsToReader before reader handle)
+    ⊎ ((code ≡ answer_no_memory) × (rest : List Caller) × (reader : Caller)
+    × KeepsWriter before after (rest ++ reader ∷ []) (rest ++ reader ∷ []) × (handle ≡ other))
 
--- the reader's handle leads nowhere any more, and its reader, which holds nothing now, is the last one without a handle; or for want of memory all stay
+-- the reader's handle leads nowhere any more, and its reader, which holds nothing now, is the last one without a
+-- handle; or for want of memory all stay
 abbrev pub ReturnsReader : List WriterSide → List ReaderSide → List WriterSide → List ReaderSide → ℕ → Type 0
 ReturnsReader before other after handle code =
-    ((code ≡ answer_done) × (rest : List Caller) × (reader : Caller) × (held : ReaderSide) × (other ≡ held ∷ []) × EndsHand held.hand reader × KeepsWriter before after rest (rest ++ reader ∷ []) × (handle ≡ []))
+    ((code ≡ answer_done) × (rest : List Caller) × (reader : Caller) × (held : ReaderSide) × (other ≡ held ∷ [])
+    × EndsHand held.hand reader × KeepsWriter before after rest (rest ++ reader ∷ []) × (handle ≡ []))
     ⊎ ((code ≡ answer_no_memory) × (rest : List Caller) × KeepsWriter before after rest rest × (handle ≡ other))

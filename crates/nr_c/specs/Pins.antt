@@ -12,23 +12,32 @@ use Rattle.nr_c.specs.RowCells.{ShowsSet}
 -- a pin by its code: the reader holds the set of the key, and how many rows it has is told; or the key was a hole
 abbrev pub PinsCells : ℕ → ℕ → ℕ → List ReaderSide → List ReaderSide → ℕ → Type 0
 PinsCells key told tells before after code =
-    ((code ≡ answer_rows) × (old new : Handed) × TurnsHand before after old new × HoldsNone old × PinsByHand key old new true × (tells ≡ length new.rows))
-    ⊎ ((code ≡ answer_hole) × (old new : Handed) × TurnsHand before after old new × HoldsNone old × PinsByHand key old new false × (tells ≡ told))
+    ((code ≡ answer_rows) × (old new : Handed) × TurnsHand before after old new × HoldsNone old
+    × PinsByHand key old new true × (tells ≡ length new.rows))
+    ⊎ ((code ≡ answer_hole) × (old new : Handed) × TurnsHand before after old new × HoldsNone old
+    × PinsByHand key old new false × (tells ≡ told))
 
 -- a row of the held set by its code; the reader holds the same set
 abbrev pub ReadsRow : ℕ → Row → Row → List ReaderSide → List ReaderSide → ℕ → Type 0
 ReadsRow place stood stands before after code =
-    ((code ≡ answer_rows) × (old new : Handed) × TurnsHand before after old new × (slice_get old.rows place ≡ Some stands) × CopiesHeld 2 old new)
-    ⊎ ((code ≡ answer_no_row) × (hand : Handed) × TurnsHand before after hand hand × (length hand.rows ≤ place) × (stands ≡ stood))
+    ((code ≡ answer_rows) × (old new : Handed) × TurnsHand before after old new
+    × (slice_get old.rows place ≡ Some stands) × CopiesHeld 2 old new)
+    ⊎ ((code ≡ answer_no_row) × (hand : Handed) × TurnsHand before after hand hand × (length hand.rows ≤ place)
+    × (stands ≡ stood))
 
 -- a copy of the held set by its code: the caller's cells show its rows, and the reader holds it still
 abbrev pub CopiesSet : NrRows → List ReaderSide → List ReaderSide → ℕ → Type 0
-CopiesSet rows before after code = (code ≡ answer_rows) × (old new : Handed) × TurnsHand before after old new × ShowsSet rows old.rows × CopiesHeld (2 * length old.rows) old new
+CopiesSet rows before after code =
+    (code ≡ answer_rows) × (old new : Handed) × TurnsHand before after old new × ShowsSet rows old.rows
+    × CopiesHeld (2 * length old.rows) old new
 
 -- a find again by its code, of a reader that takes what it holds for a set of the key; it holds the same set
 abbrev pub FindsByHold : ℕ → List ReaderSide → List ReaderSide → ℕ → Type 0
-FindsByHold key before after code = (found : Bool) × (code ≡ (if found then answer_rows else answer_other)) × (old new : Handed) × TurnsHand before after old new × HoldsSome old × AgainByHand key (held_for key old) new found
+FindsByHold key before after code =
+    (found : Bool) × (code ≡ (if found then answer_rows else answer_other)) × (old new : Handed)
+    × TurnsHand before after old new × HoldsSome old × AgainByHand key (held_for key old) new found
 
 -- the hold ends
 abbrev pub Releases : List ReaderSide → List ReaderSide → ℕ → Type 0
-Releases before after code = (code ≡ answer_done) × (old new : Handed) × TurnsHand before after old new × HoldsSome old × LetsGo old new
+Releases before after code =
+    (code ≡ answer_done) × (old new : Handed) × TurnsHand before after old new × HoldsSome old × LetsGo old new

@@ -6,14 +6,16 @@ use Rattle.nr_trigger.specs.declared.faults.TakeFault.{TakeFault}
 use Rattle.nr_trigger.specs.declared.faults.TakeFault.TheVariants as take
 use Rattle.nr_trigger.specs.declared.post.Post.{Post}
 use Rattle.nr_trigger.specs.declared.post.Upquery.{Upquery}
-use Rattle.nr_trigger.specs.Tokens.{IsSamePoster, IsSameTaker, PosterSeen, TakerSeen, WasEmpty, WasFull, poster_tried, taker_tried}
+use Rattle.nr_trigger.specs.Tokens.{IsSamePoster, IsSameTaker, PosterSeen, TakerSeen, WasEmpty, WasFull, poster_tried}
+use Rattle.nr_trigger.specs.Tokens.{taker_tried}
 use Rattle.nr_c.specs.Codes.{post_code, take_code}
 use Rattle.nr_c.specs.Numbers.{answer_done}
 use Rattle.nr_c.specs.declared.poster_side.PosterSide.{PosterSide}
 use Rattle.nr_c.specs.declared.taker_side.TakerSide.{TakerSide}
 
 -- the handle leads to one side, of the same queue before and after, whose poster became another
-pub record PosterCalls (became : PosterSeen → PosterSeen → ℕ → Type 0) (before after : List PosterSide) (code : ℕ) : Type 0 where
+pub record PosterCalls (became : PosterSeen → PosterSeen → ℕ → Type 0) (before after : List PosterSide)
+    (code : ℕ) : Type 0 where
   pub old : PosterSide
   pub new : PosterSide
   pub was : before ≡ old ∷ []
@@ -22,7 +24,8 @@ pub record PosterCalls (became : PosterSeen → PosterSeen → ℕ → Type 0) (
   pub made : became old.poster new.poster code
 
 -- and the taker's, whose posters without a handle stay
-pub record TakerCalls (became : TakerSeen → TakerSeen → ℕ → Type 0) (before after : List TakerSide) (code : ℕ) : Type 0 where
+pub record TakerCalls (became : TakerSeen → TakerSeen → ℕ → Type 0) (before after : List TakerSide) (code : ℕ) : Type
+    0 where
   pub old : TakerSide
   pub new : TakerSide
   pub was : before ≡ old ∷ []
@@ -38,19 +41,27 @@ poster_keys side = side.poster.keys
 abbrev pub request_of : ℕ → ℕ → Upquery
 request_of key number = record { key = key; number = number }
 
--- a post by its code: the poster has posted the request; or nothing, and where the queue was full it was so at one moment of the call
+-- a post by its code: the poster has posted the request; or nothing, and where the queue was full it was so at one
+-- moment of the call
 abbrev pub PostsByCode : ℕ → ℕ → ℕ → PosterSeen → PosterSeen → ℕ → Type 0
 PostsByCode capacity key number old new code =
-    IsSamePoster old new × (new.tries ≡ old.tries + 1) × (answer : Result (Unit {0}) PostFault) × (code ≡ post_code answer)
-    × MatchResult answer (λ _. new.posted ≡ old.posted ++ request_of key number ∷ []) (λ fault. (new ≡ poster_tried old) × (fault ≡ post.Full → WasFull capacity old))
+    IsSamePoster old new × (new.tries ≡ old.tries + 1) × (answer : Result (Unit {0}) PostFault)
+    × (code ≡ post_code answer)
+    × MatchResult answer (λ _. new.posted ≡ old.posted ++ request_of key number ∷ [])
+    (λ fault. (new ≡ poster_tried old) × (fault ≡ post.Full → WasFull capacity old))
 
 -- by a poster's handle
 abbrev pub PostsOn : ℕ → ℕ → List PosterSide → List PosterSide → ℕ → Type 0
-PostsOn key number before after code = (held : PosterSide) × (before ≡ held ∷ []) × PosterCalls (PostsByCode held.queue.value.capacity key number) before after code
+PostsOn key number before after code =
+    (held : PosterSide) × (before ≡ held ∷ [])
+    × PosterCalls (PostsByCode held.queue.value.capacity key number) before after code
 
--- a take by its code: the taker has taken a request of a key below the number, which is told; or nothing, what stood there stays, and where the queue was empty it was so at one moment of the call
+-- a take by its code: the taker has taken a request of a key below the number, which is told; or nothing, what stood
+-- there stays, and where the queue was empty it was so at one moment of the call
 abbrev pub TakesByCode : ℕ → ℕ → ℕ → ℕ → TakerSeen → TakerSeen → ℕ → Type 0
 TakesByCode key number key' number' old new code =
     IsSameTaker old new × (new.tries ≡ old.tries + 1)
-    × (((code ≡ answer_done) × (post : Post) × (new.taken ≡ old.taken ++ post ∷ []) × (post.upquery ≡ request_of key' number') × (key' < old.keys))
-    ⊎ ((fault : TakeFault) × (code ≡ take_code fault) × (new ≡ taker_tried old) × (fault ≡ take.Empty → WasEmpty old) × (key' ≡ key) × (number' ≡ number)))
+    × (((code ≡ answer_done) × (post : Post) × (new.taken ≡ old.taken ++ post ∷ [])
+    × (post.upquery ≡ request_of key' number') × (key' < old.keys))
+    ⊎ ((fault : TakeFault) × (code ≡ take_code fault) × (new ≡ taker_tried old) × (fault ≡ take.Empty → WasEmpty old)
+    × (key' ≡ key) × (number' ≡ number)))

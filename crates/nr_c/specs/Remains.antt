@@ -1,5 +1,6 @@
 -- A map that is taken apart by its writer's handle, and the sets that come out of what remains.
-use Rattle.std.specs.Prelude.{ℕ, ◌≡◌, ◌≢◌, ◌⊎◌, Bool, true, false, if◌then◌else◌, List, [], ◌∷◌, length, Option, Some, None}
+use Rattle.std.specs.Prelude.{ℕ, ◌≡◌, ◌≢◌, ◌⊎◌, Bool, true, false, if◌then◌else◌, List, [], ◌∷◌, length, Option, Some}
+use Rattle.std.specs.Prelude.{None}
 use Rattle.nr_map.specs.Remains.{NextOf, TakenApart}
 use Rattle.nr_c.specs.Numbers.{answer_done, answer_given, answer_nothing, answer_readers_out}
 use Rattle.nr_c.specs.RowCells.{ShowsSet}
@@ -9,7 +10,8 @@ use Rattle.nr_c.specs.declared.rows.NrRows.{NrRows}
 use Rattle.nr_c.specs.declared.writer_side.WriterSide.{WriterSide}
 
 -- some readers are not back, and nothing changes
-pub record RefusesApart (writer writer' : List WriterSide) (remains remains' : List RemainsSide) (code : ℕ) : Type 0 where
+pub record RefusesApart (writer writer' : List WriterSide) (remains remains' : List RemainsSide) (code : ℕ) : Type
+    0 where
   pub code_is : code ≡ answer_readers_out
   pub held : WriterSide
   pub was : writer ≡ held ∷ []
@@ -17,7 +19,8 @@ pub record RefusesApart (writer writer' : List WriterSide) (remains remains' : L
   pub is : writer' ≡ writer
   pub stay : remains' ≡ remains
 
--- all are back: the writer's handle leads nowhere any more, and the other to what remains of its map, of which no set has come out
+-- all are back: the writer's handle leads nowhere any more, and the other to what remains of its map, of which no set
+-- has come out
 pub record LeavesRemains (writer writer' : List WriterSide) (remains' : List RemainsSide) (code : ℕ) : Type 0 where
   pub code_is : code ≡ answer_done
   pub held : WriterSide
@@ -32,11 +35,13 @@ pub record LeavesRemains (writer writer' : List WriterSide) (remains' : List Rem
   pub apart : TakenApart held.writer left.rest
 
 abbrev pub TakesApart : List WriterSide → List RemainsSide → List WriterSide → List RemainsSide → ℕ → Type 0
-TakesApart writer remains writer' remains' code = RefusesApart writer writer' remains remains' code ⊎ LeavesRemains writer writer' remains' code
+TakesApart writer remains writer' remains' code =
+    RefusesApart writer writer' remains remains' code ⊎ LeavesRemains writer writer' remains' code
 
 -- the next set that is left of a map comes out into the caller's cells, if there is one; of no map none is left
 abbrev pub NextOfLeft : Option LeftMap → NrRows → Option LeftMap → NrRows → Bool → Type 0
-NextOfLeft (Some old) rows (Some new) rows' found = (new.map ≡ old.map) × NextOf ShowsSet old.rest rows new.rest rows' found
+NextOfLeft (Some old) rows (Some new) rows' found =
+    (new.map ≡ old.map) × NextOf ShowsSet old.rest rows new.rest rows' found
 NextOfLeft None rows None rows' false = rows' ≡ rows
 NextOfLeft old rows new rows' found = ⊥
 

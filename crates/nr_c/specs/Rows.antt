@@ -6,4 +6,6 @@ use Rattle.nr_c.specs.Numbers.{answer_not_sorted, answer_too_many}
 
 -- rows that no fill and no replacement takes, by their code: more than a key may have, and else out of order
 abbrev pub AreRefused : ℕ → List Row → ℕ → Type 0
-AreRefused bound rows code = ((code ≡ answer_too_many) × (bound < length rows)) ⊎ ((code ≡ answer_not_sorted) × (length rows ≤ bound) × (is_ascending rows ≡ false))
+AreRefused bound rows code =
+    ((code ≡ answer_too_many) × (bound < length rows))
+    ⊎ ((code ≡ answer_not_sorted) × (length rows ≤ bound) × (is_ascending rows ≡ false))

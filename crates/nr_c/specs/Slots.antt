@@ -11,4 +11,5 @@ slots_of counts = record { filled = counts.filled; retired = counts.retired; fre
 
 -- the map's counts, each told in its own field
 abbrev pub CountsByCode : NrSlots → Caller → Caller → ℕ → Type 0
-CountsByCode told old new code = (code ≡ answer_done) × (counts : SlotCounts) × (told ≡ slots_of counts) × CountsSlots old new counts
+CountsByCode told old new code =
+    (code ≡ answer_done) × (counts : SlotCounts) × (told ≡ slots_of counts) × CountsSlots old new counts

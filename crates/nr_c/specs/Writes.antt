@@ -24,7 +24,8 @@ use Rattle.nr_c.specs.Rows.{AreRefused}
 
 -- a find of the writer's own: the caller's cells show the rows of the reply, and stay as they are on a hole
 abbrev pub LooksByCode : ℕ → NrRows → NrRows → Caller → Caller → ℕ → Type 0
-LooksByCode key before after old new code = (found : Found) × (code ≡ found_code found) × LooksIn ShowsSet key old before new after found
+LooksByCode key before after old new code =
+    (found : Found) × (code ≡ found_code found) × LooksIn ShowsSet key old before new after found
 
 -- rows that are no key's change nothing
 abbrev pub RefusesRows : List Row → Caller → Caller → ℕ → Type 0
@@ -32,24 +33,31 @@ RefusesRows rows old new code = AreRefused old.table.shape.rows rows code × (ne
 
 -- any others are the map's fill
 abbrev pub MapFills : ℕ → ℕ → List Row → Caller → Caller → ℕ → Type 0
-MapFills key number rows old new code = IsRowSet old.table.shape.rows rows × (answer : Result (Unit {0}) FillFault) × (code ≡ fill_code answer) × FillsKey key number rows old new answer
+MapFills key number rows old new code =
+    IsRowSet old.table.shape.rows rows × (answer : Result (Unit {0}) FillFault) × (code ≡ fill_code answer)
+    × FillsKey key number rows old new answer
 
 abbrev pub FillsByCode : ℕ → ℕ → List Row → Caller → Caller → ℕ → Type 0
 FillsByCode key number rows old new code = RefusesRows rows old new code ⊎ MapFills key number rows old new code
 
 -- and for a replacement
 abbrev pub MapReplaces : ℕ → List Row → Caller → Caller → ℕ → Type 0
-MapReplaces key rows old new code = IsRowSet old.table.shape.rows rows × (answer : Result (Unit {0}) ReplaceFault) × (code ≡ replace_code answer) × ReplacesKey key rows old new answer
+MapReplaces key rows old new code =
+    IsRowSet old.table.shape.rows rows × (answer : Result (Unit {0}) ReplaceFault) × (code ≡ replace_code answer)
+    × ReplacesKey key rows old new answer
 
 abbrev pub ReplacesByCode : ℕ → List Row → Caller → Caller → ℕ → Type 0
 ReplacesByCode key rows old new code = RefusesRows rows old new code ⊎ MapReplaces key rows old new code
 
 -- signed rows that are none or too many, and any others
 abbrev pub RefusesBatch : List Delta → Caller → Caller → ℕ → Type 0
-RefusesBatch deltas old new code = (code ≡ answer_bad_batch) × ((length deltas ≡ 0) ⊎ (MAX_DELTAS < length deltas)) × (new ≡ old)
+RefusesBatch deltas old new code =
+    (code ≡ answer_bad_batch) × ((length deltas ≡ 0) ⊎ (MAX_DELTAS < length deltas)) × (new ≡ old)
 
 abbrev pub MapUpdates : ℕ → List Delta → Caller → Caller → ℕ → Type 0
-MapUpdates key deltas old new code = IsBatch deltas × (answer : Result (Unit {0}) UpdateFault) × (code ≡ update_code answer) × UpdatesKey old.table.shape.rows key deltas old new answer
+MapUpdates key deltas old new code =
+    IsBatch deltas × (answer : Result (Unit {0}) UpdateFault) × (code ≡ update_code answer)
+    × UpdatesKey old.table.shape.rows key deltas old new answer
 
 abbrev pub UpdatesByCode : ℕ → List Delta → Caller → Caller → ℕ → Type 0
 UpdatesByCode key deltas old new code = RefusesBatch deltas old new code ⊎ MapUpdates key deltas old new code

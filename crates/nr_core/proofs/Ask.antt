@@ -1,5 +1,6 @@
 -- A reader requests a key: the key is asked, unless it is filled.
-use Rattle.std.proofs.Common.{List, [], ap, arith, cond, eq-eqb, get_or, ne_eqb, refl, subst, sym, ℕ, ◌%◌, ◌++◌, ◌<◌, ◌∙◌, ◌∷◌, ◌≡◌}
+use Rattle.std.proofs.Common.{List, [], ap, arith, cond, eq-eqb, get_or, ne_eqb, refl, subst, sym, ℕ, ◌%◌, ◌++◌, ◌<◌}
+use Rattle.std.proofs.Common.{◌∙◌, ◌∷◌, ◌≡◌}
 use Rattle.std.specs.Prelude.{bit_or}
 use mathlib.Core.Logic.{dite}
 use native.Mathlib.Decide.{ℕ_discrete}
@@ -36,35 +37,57 @@ asked_number (key.Asked number) = refl
 asked_number (key.Rows number rows) = refl
 
 -- an asked word shows the asked state
-shows-asked : (shape : Shape) (words : List ℕ) (w x : ℕ) (state : KeyState) → name_number x ≡ name_number w → x % 2 ≡ 1 → slot_of x ≡ slot_of w → ShowsState shape words w state → ShowsState shape words x (asked state)
+shows-asked : (shape : Shape) (words : List ℕ) (w x : ℕ) (state : KeyState) → name_number x ≡ name_number w → x % 2 ≡ 1
+    → slot_of x ≡ slot_of w → ShowsState shape words w state → ShowsState shape words x (asked state)
 shows-asked shape words w x (key.Hole number) n p m t = (n ∙ t.0, p, m ∙ t.2)
 shows-asked shape words w x (key.Asked number) n p m t = (n ∙ t.0, p, m ∙ t.2)
 shows-asked shape words w x (key.Rows number rows) n p m t = (t.0, n ∙ t.1, t.2, t.3)
 
 -- the reply of a key's state is that of its word
-asked_word : (shape : Shape) (words : List ℕ) (w : ℕ) (state : KeyState) → ShowsState shape words w state → ask_reply state ≡ ask_word w
+asked_word : (shape : Shape) (words : List ℕ) (w : ℕ) (state : KeyState) → ShowsState shape words w state
+    → ask_reply state ≡ ask_word w
 asked_word shape words w (key.Hole number) t = let p = t.1 in
     sym (ap (λ b. cond b reply.Filled (cond (has_ask w) reply.Waiting (reply.Send (slot_of w)))) (names_none w t.0)
     ∙ ap (λ b. cond b reply.Waiting (reply.Send (slot_of w))) (ne_eqb (w % 2) 1 (λ z. omega arith)) ∙ ap reply.Send t.2)
-asked_word shape words w (key.Asked number) t = sym (ap (λ b. cond b reply.Filled (cond (has_ask w) reply.Waiting (reply.Send (slot_of w))))
+asked_word shape words w (key.Asked number) t =
+    sym (ap (λ b. cond b reply.Filled (cond (has_ask w) reply.Waiting (reply.Send (slot_of w))))
     (names_none w t.0) ∙ ap (λ b. cond b reply.Waiting (reply.Send (slot_of w))) (eq-eqb (w % 2) 1 t.1))
-asked_word shape words w (key.Rows number rows) t = sym (ap (λ b. cond b reply.Filled (cond (has_ask w) reply.Waiting (reply.Send (slot_of w)))) (names_one w t.0 t.1).0)
+asked_word shape words w (key.Rows number rows) t =
+    sym
+    (ap (λ b. cond b reply.Filled (cond (has_ask w) reply.Waiting (reply.Send (slot_of w))))
+    (names_one w t.0 t.1).0)
 
-pub asks : (shape : Shape) (id reader k : ℕ) → k < shape.keys → CanStep shape id (Reader reader Nothing) (Or k 1) (Asks reader k)
+pub asks : (shape : Shape) (id reader k : ℕ) → k < shape.keys
+    → CanStep shape id (Reader reader Nothing) (Or k 1) (Asks reader k)
 asks shape id reader k near words roles log core there =
-    let w : ℕ = get_or words k 0 in let x : ℕ = bit_or w 1 in let map = map_after shape log in let state = state_of map k in let one = with_ask_is w in
+    let w : ℕ = get_or words k 0 in
+    let x : ℕ = bit_or w 1 in
+    let map = map_after shape log in
+    let state = state_of map k in
+    let one = with_ask_is w in
     let name = name-asked w x one in let e = entry reader (model.Ask k) (ask_reply state) in
-    let same : state_of (map_after shape (log ++ e ∷ [])) k ≡ asked state = state_same shape log e near in let shown = core.shows k near in
+    let same : state_of (map_after shape (log ++ e ∷ [])) k ≡ asked state = state_same shape log e near in
+    let shown = core.shows k near in
     let other = state_other shape log e in record {
       after = Reader reader Nothing;
       entries = e ∷ [];
-      core = on_key shape words roles log (e ∷ []) core id reader Nothing Nothing k x near there name (legal-more shape log e core.legal (sym (replies_so shape log (model.Ask k))))
+      core =
+          on_key shape words roles log (e ∷ []) core id reader Nothing Nothing k x near there name
+          (legal-more shape log e core.legal (sym (replies_so shape log (model.Ask k))))
           other
-          (λ j. dite (ℕ_discrete j k) (λ z. ap (λ (y : ℕ). number_of (state_of (map_after shape (log ++ e ∷ [])) y)) z ∙ ap number_of same
+          (λ j. dite (ℕ_discrete j k)
+          (λ z. ap (λ (y : ℕ). number_of (state_of (map_after shape (log ++ e ∷ [])) y)) z ∙ ap number_of same
           ∙ asked_number state ∙ ap (λ (y : ℕ). number_of (state_of map y)) (sym z)) (λ ne. ap number_of (other j ne)))
-          (λ j n. dite (ℕ_discrete j k) (λ z. ap (state_of (map_after shape (log ++ e ∷ []))) z ∙ same ∙ asked_stays state (λ number y. n number (ap (state_of map) z ∙ y)) ∙ ap (state_of map) (sym z)) (λ ne. other j ne))
-          (subst (ShowsState shape words x) (sym same) (shows-asked shape words w x state name (omega arith) (omega arith) shown)) tt (λ s _. refl)
-          (λ s e'. let more = total-set (holds s) roles id (Reader reader Nothing) (Reader reader Nothing) there in omega (arith, core.counts k s near e'));
+          (λ j n. dite (ℕ_discrete j k)
+          (λ z. ap (state_of (map_after shape (log ++ e ∷ []))) z ∙ same
+          ∙ asked_stays state (λ number y. n number (ap (state_of map) z ∙ y)) ∙ ap (state_of map) (sym z))
+          (λ ne. other j ne))
+          (subst (ShowsState shape words x) (sym same)
+          (shows-asked shape words w x state name (omega arith) (omega arith) shown))
+          tt (λ s _. refl)
+          (λ s e'.
+          let more = total-set (holds s) roles id (Reader reader Nothing) (Reader reader Nothing) there in
+          omega (arith, core.counts k s near e'));
       same = λ _. refl;
       writer = refl;
       reader = refl;

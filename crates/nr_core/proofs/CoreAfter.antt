@@ -8,8 +8,14 @@ use Rattle.nr_core.specs.Steps.{Stepped, Telling}
 use Rattle.nr_machine.specs.declared.roles.Role.{Role}
 use Rattle.nr_machine.specs.declared.shape.Shape.{Shape}
 
-pub core_after : (shape : Shape) (words : List ℕ) (roles : List Role) (log : List Entry) (id : ℕ) (role : Role) (operation : Operation) (tells : Telling) (step : Stepped shape words roles log id role operation tells)
+pub core_after : (shape : Shape) (words : List ℕ) (roles : List Role) (log : List Entry) (id : ℕ) (role : Role)
+    (operation : Operation) (tells : Telling) (step : Stepped shape words roles log id role operation tells)
     (after : Role) (entries : List Entry) → step.after ≡ after → step.entries ≡ entries
-    → Core shape (set words (target_of operation) (becomes operation (get_or words (target_of operation) 0))) (set roles id after) (log ++ entries)
+    → Core shape (set words (target_of operation) (becomes operation (get_or words (target_of operation) 0)))
+    (set roles id after) (log ++ entries)
 core_after shape words roles log id role operation tells step after entries same_role same_entries =
-    subst (λ (p : Role × List Entry). Core shape (set words (target_of operation) (becomes operation (get_or words (target_of operation) 0))) (set roles id p.0) (log ++ p.1)) (λ j. (same_role j, same_entries j)) step.core
+    subst
+    (λ (p : Role × List Entry). Core shape
+    (set words (target_of operation) (becomes operation (get_or words (target_of operation) 0)))
+    (set roles id p.0) (log ++ p.1))
+    (λ j. (same_role j, same_entries j)) step.core

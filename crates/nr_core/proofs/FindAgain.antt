@@ -1,5 +1,7 @@
--- A reader that holds a slot finds a key again: where the key names that slot, the key has the set that the reader holds.
-use Rattle.std.proofs.Common.{List, [], Bool, cond, ap, arith, get_or, refl, set, subst, suc, sym, append-nil, ℕ, ◌++◌, ◌<◌, ◌∙◌, ◌∷◌, ◌≡◌}
+-- A reader that holds a slot finds a key again: where the key names that slot, the key has the set that the reader
+-- holds.
+use Rattle.std.proofs.Common.{List, [], Bool, cond, ap, arith, get_or, refl, set, subst, suc, sym, append-nil, ℕ, ◌++◌}
+use Rattle.std.proofs.Common.{◌<◌, ◌∙◌, ◌∷◌, ◌≡◌}
 use Rattle.std.proofs.lemmas.Bool.{eqb-true}
 use Rattle.std.specs.Prelude.{Option, None, Some}
 use lib.Seq.{set-get_or}
@@ -32,51 +34,84 @@ set_in None = []
 set_in (Some rows) = rows
 
 -- a slot spells one set
-one_set : (shape : Shape) (words : List ℕ) (roles : List Role) (log : List Entry) → Core shape words roles log → (slot : ℕ) (one other : List Row)
+one_set : (shape : Shape) (words : List ℕ) (roles : List Role) (log : List Entry) → Core shape words roles log
+    → (slot : ℕ) (one other : List Row)
     → slot < shape.slots → SlotSpells shape words slot one → SlotSpells shape words slot other → one ≡ other
-one_set shape words roles log core slot one other near first second = ap set_in (sym (spelt_set shape words slot one core.wide near first) ∙ spelt_set shape words slot other core.wide near second)
+one_set shape words roles log core slot one other near first second =
+    ap set_in
+    (sym (spelt_set shape words slot one core.wide near first)
+    ∙ spelt_set shape words slot other core.wide near second)
 
 -- a find leaves the map
 find_leaves : (map : PartialMap) (k : ℕ) → next map (model.Find k) ≡ map
-find_leaves map k = ap (λ (states : List KeyState). record { bound = map.bound; states = states }) (set-get_or map.states k (key.Hole 0))
+find_leaves map k =
+    ap (λ (states : List KeyState). record { bound = map.bound; states = states })
+    (set-get_or map.states k (key.Hole 0))
 
 -- a find that the map answers so is one entry more, and all else stays
-pub find_more : (shape : Shape) (words : List ℕ) (roles : List Role) (log : List Entry) → Core shape words roles log → (caller k : ℕ) (answer : Reply)
-    → find_reply (state_of (map_after shape log) k) ≡ answer → Core shape words roles (log ++ entry caller (model.Find k) answer ∷ [])
-find_more shape words roles log core caller k answer is = let e = entry caller (model.Find k) answer in let map = map_after shape log in
+pub find_more : (shape : Shape) (words : List ℕ) (roles : List Role) (log : List Entry) → Core shape words roles log
+    → (caller k : ℕ) (answer : Reply)
+    → find_reply (state_of (map_after shape log) k) ≡ answer
+    → Core shape words roles (log ++ entry caller (model.Find k) answer ∷ [])
+find_more shape words roles log core caller k answer is =
+    let e = entry caller (model.Find k) answer in
+    let map = map_after shape log in
     let same : map_after shape (log ++ e ∷ []) ≡ map = now-more shape log e ∙ find_leaves map k in record {
       fits = core.fits;
       wide = core.wide;
       legal = legal-more shape log e core.legal (sym (replies_so shape log (model.Find k) ∙ is));
-      shows = λ at near. subst (λ (m : PartialMap). ShowsState shape words (get_or words at 0) (state_of m at)) (sym same) (core.shows at near);
+      shows = λ at near. subst (λ (m : PartialMap). ShowsState shape words (get_or words at 0) (state_of m at))
+          (sym same) (core.shows at near);
       places = core.places;
       counts = core.counts;
-      knows = λ id role there. subst (λ (m : PartialMap). Knows shape words m (held roles) role) (sym same) (core.knows id role there);
+      knows = λ id role there. subst (λ (m : PartialMap). Knows shape words m (held roles) role) (sym same)
+          (core.knows id role there);
       one = core.one;
       few = core.few;
     }
 
 -- a key that names a slot has the set which the slot spells
-named_state : (shape : Shape) (words : List ℕ) (roles : List Role) (log : List Entry) → Core shape words roles log → (k : ℕ) → k < shape.keys → (slot : ℕ) → name_number (get_or words k 0) ≡ suc slot
-    → (slot < shape.slots) × ((rows : List Row) → SlotSpells shape words slot rows → find_reply (state_of (map_after shape log) k) ≡ reply.Rows rows)
+named_state : (shape : Shape) (words : List ℕ) (roles : List Role) (log : List Entry) → Core shape words roles log
+    → (k : ℕ) → k < shape.keys → (slot : ℕ) → name_number (get_or words k 0) ≡ suc slot
+    → (slot < shape.slots)
+    × ((rows : List Row) → SlotSpells shape words slot rows
+    → find_reply (state_of (map_after shape log) k) ≡ reply.Rows rows)
 named_state shape words roles log core k near slot names =
-    let w : ℕ = get_or words k 0 in let Result : KeyState → Type 0 = λ state. (slot < shape.slots) × ((rows : List Row) → SlotSpells shape words slot rows → find_reply state ≡ reply.Rows rows) in
+    let w : ℕ = get_or words k 0 in
+    let Result : KeyState → Type 0
+    = λ state. (slot < shape.slots)
+    × ((rows : List Row) → SlotSpells shape words slot rows → find_reply state ≡ reply.Rows rows) in
     let Goal : KeyState → Type 0 = λ state. ShowsState shape words w state → Result state in
     let go : (state : KeyState) → Goal state = λ state. elim state as Goal [
       | key.Hole number ↦ λ shown. let none = shown.0 in absurd (omega arith)
       | key.Asked number ↦ λ shown. let none = shown.0 in absurd (omega arith)
-      | key.Rows number found ↦ λ shown. let named = shown.1 in let same : shown.0 ≡ slot = omega arith in let near_slot : slot < shape.slots = subst (λ (s : ℕ). s < shape.slots) same shown.2 in (
-        near_slot,
-        λ rows spells. ap reply.Rows (one_set shape words roles log core slot found rows near_slot (subst (λ (s : ℕ). SlotSpells shape words s found) same shown.3) spells),
-      )
+      | key.Rows number
+          found ↦ λ shown.
+          let named = shown.1 in
+          let same : shown.0 ≡ slot = omega arith in
+          let near_slot : slot < shape.slots = subst (λ (s : ℕ). s < shape.slots) same shown.2 in (
+            near_slot,
+            λ rows spells. ap reply.Rows
+                (one_set shape words roles log core slot found rows near_slot
+                (subst (λ (s : ℕ). SlotSpells shape words s found) same shown.3) spells),
+          )
     ] in go (state_of (map_after shape log) k) (core.shows k near)
 
-pub finds_again : (shape : Shape) (id reader slot : ℕ) (rows : List Row) (sized : Bool) (k : ℕ) → k < shape.keys → CanStep shape id (Reader reader (On slot rows sized)) (Load k) (FindsAgain shape reader slot rows sized k)
+pub finds_again : (shape : Shape) (id reader slot : ℕ) (rows : List Row) (sized : Bool) (k : ℕ) → k < shape.keys
+    → CanStep shape id (Reader reader (On slot rows sized)) (Load k) (FindsAgain shape reader slot rows sized k)
 finds_again shape id reader slot rows sized k near words roles log core there =
-    let w : ℕ = get_or words k 0 in let role = Reader reader (On slot rows sized) in let e = entry reader (model.Find k) (reply.Rows rows) in let mine = core.knows id role there in
-    let again : Core shape (set words k w) (set roles id role) log = subst (λ (l : List Entry). Core shape (set words k w) (set roles id role) l) (append-nil log) (nothing shape words roles log id k role core there) in
-    let inside : (other : ℕ) → name_number w ≡ suc other → other < shape.slots = λ other names. (named_state shape words roles log core k near other names).0 in
-    by_cases (λ (names : Bool). Stepped shape words roles log id role (Load k) (FindsAgain shape reader slot rows sized k)) (names_slot slot w)
+    let w : ℕ = get_or words k 0 in
+    let role = Reader reader (On slot rows sized) in
+    let e = entry reader (model.Find k) (reply.Rows rows) in
+    let mine = core.knows id role there in
+    let again : Core shape (set words k w) (set roles id role) log
+    = subst (λ (l : List Entry). Core shape (set words k w) (set roles id role) l) (append-nil log)
+    (nothing shape words roles log id k role core there) in
+    let inside : (other : ℕ) → name_number w ≡ suc other → other < shape.slots
+    = λ other names. (named_state shape words roles log core k near other names).0 in
+    by_cases
+    (λ (names : Bool). Stepped shape words roles log id role (Load k) (FindsAgain shape reader slot rows sized k))
+    (names_slot slot w)
     (λ yes. let names : name_number w ≡ suc slot = eqb-true (name_number w) (suc slot) yes in
     let found = (named_state shape words roles log core k near slot names).1 rows mine.1 in record {
       after = role;

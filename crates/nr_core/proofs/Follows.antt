@@ -1,5 +1,6 @@
 -- What one event more does: one operation on one word, never a put into a held slot, and entries of its own caller.
-use Rattle.std.proofs.Common.{Bool, true, false, sym, List, [], ap, append-nil, arith, cond, get_or, length, nat_eq, refl, subst, ℕ, ◌*◌, ◌++◌, ◌<◌, ◌∙◌, ◌≡◌, ◌≢◌, ◌≤◌}
+use Rattle.std.proofs.Common.{Bool, true, false, sym, List, [], ap, append-nil, arith, cond, get_or, length, nat_eq}
+use Rattle.std.proofs.Common.{refl, subst, ℕ, ◌*◌, ◌++◌, ◌<◌, ◌∙◌, ◌≡◌, ◌≢◌, ◌≤◌}
 use Rattle.std.proofs.lemmas.Bool.{eqb-true, leb-true, ltb-true}
 use Rattle.std.specs.Prelude.{None, Option, Some, nat_le, ◌&&◌}
 use Rattle.nr_model.specs.Histories.{Entry, entries_of}
@@ -27,11 +28,13 @@ use Rattle.nr_machine.specs.Operations.{going, operation, target_of}
 use Rattle.nr_machine.specs.declared.operation.Operation.{Operation}
 use Rattle.nr_machine.specs.declared.operation.Operation.TheVariants.{Load, Store, Swap}
 use Rattle.nr_machine.specs.Room.{RoomForStep, RoomOf}
-use Rattle.nr_machine.specs.Refusals.{has_key, has_reader, if_busy, if_holding, if_not_busy, if_not_holding, if_unreadable, refusal}
+use Rattle.nr_machine.specs.Refusals.{has_key, has_reader, if_busy, if_holding, if_not_busy, if_not_holding}
+use Rattle.nr_machine.specs.Refusals.{if_unreadable, refusal}
 use Rattle.nr_core.specs.Roles.{held}
 use Rattle.nr_words.specs.KeyWords.{naming}
 use Rattle.nr_machine.specs.Slots.{bound_of, content, slot_room}
-use Rattle.nr_machine.specs.States.{retired_at, Arrive, Ask, Depart, Event, FindAgain, Go, Read, Start, State, hold_of, key_of, slot_in}
+use Rattle.nr_machine.specs.States.{retired_at, Arrive, Ask, Depart, Event, FindAgain, Go, Read, Start, State, hold_of}
+use Rattle.nr_machine.specs.States.{key_of, slot_in}
 use Rattle.nr_machine.specs.Story.{Story, answering, call_of, map_after, polls_after, shown, told}
 use Rattle.nr_machine.specs.Writer.{looked, went}
 use Rattle.nr_machine.specs.declared.calls.NoSlot.{NoSlot}
@@ -46,73 +49,114 @@ use Rattle.nr_machine.specs.declared.places.Hold.TheVariants as hold
 use Rattle.nr_machine.specs.declared.calls.Refusal.TheVariants as refuse
 use Rattle.nr_model.specs.declared.calls.Call.TheVariants as model
 
-own_answering : (caller : ℕ) (call : Call) (reply : KeyState → Reply) (shows : Option KeyState) (c : ℕ) → entries_of (answering caller call reply shows) c ≡ cond (nat_eq caller c) (answering caller call reply shows) []
+own_answering : (caller : ℕ) (call : Call) (reply : KeyState → Reply) (shows : Option KeyState) (c : ℕ)
+    → entries_of (answering caller call reply shows) c ≡ cond (nat_eq caller c) (answering caller call reply shows) []
 own_answering caller call reply None c = none_of (nat_eq caller c)
 own_answering caller call reply (Some state) c = refl
 
 own_if : (caller : ℕ) (call : Call) (reply : KeyState → Reply) (shows : Option KeyState) (made : Bool) (c : ℕ)
-    → entries_of (cond made (answering caller call reply shows) []) c ≡ cond (nat_eq caller c) (cond made (answering caller call reply shows) []) []
+    → entries_of (cond made (answering caller call reply shows) []) c
+    ≡ cond (nat_eq caller c) (cond made (answering caller call reply shows) []) []
 own_if caller call reply shows true c = own_answering caller call reply shows c
 own_if caller call reply shows false c = none_of (nat_eq caller c)
 
-told_by : (state : State) (event : Event) (c : ℕ) → entries_of (told state event) c ≡ cond (nat_eq (caller_of_event event) c) (told state event) []
+told_by : (state : State) (event : Event) (c : ℕ)
+    → entries_of (told state event) c ≡ cond (nat_eq (caller_of_event event) c) (told state event) []
 told_by state (Arrive r k) c = own_answering r (model.Find k) find_reply (shown state k) c
 told_by state (Read r i) c = none_of (nat_eq r c)
 told_by state (Depart r) c = none_of (nat_eq r c)
 told_by state (Ask r k) c = own_answering r (model.Ask k) ask_reply (shown state k) c
-told_by state (FindAgain r k) c = own_if r (model.Find k) find_reply (shown state k) (names_held (hold_of state r) (found_by state (FindAgain r k))) c
-told_by state (Start call) c = own_ending (call_of call) (looked state.shape state.desk call (found_by state (Start call))).1 c
-told_by state Go c = own_ending_at state.desk.place (went state.shape state.desk state.desk.place (found_by state Go)).1 c
+told_by state (FindAgain r k) c =
+    own_if r (model.Find k) find_reply (shown state k) (names_held (hold_of state r) (found_by state (FindAgain r k))) c
+told_by state (Start call) c =
+    own_ending (call_of call) (looked state.shape state.desk call (found_by state (Start call))).1 c
+told_by state Go c =
+    own_ending_at state.desk.place (went state.shape state.desk state.desk.place (found_by state Go)).1 c
 
 -- the set that is put is a row set
-taken_set : (state : State) (log : List Entry) → IsCoreState state log → (call : WriterCall) (rows : List Row) (slot departed index : ℕ) → state.desk.place ≡ Putting call rows slot departed index → IsRowSet (bound_of state.shape) rows
+taken_set : (state : State) (log : List Entry) → IsCoreState state log
+    → (call : WriterCall) (rows : List Row) (slot departed index : ℕ)
+    → state.desk.place ≡ Putting call rows slot departed index → IsRowSet (bound_of state.shape) rows
 taken_set state log is_core call rows slot departed index is =
     let p : Puts state.shape state.words (map_after state.shape log) (held is_core.roles) call rows slot departed index
-    = subst (AtPlace state.shape state.words (map_after state.shape log) (held is_core.roles) state.desk.fresh state.desk.retired) is (is_core.core.knows 0 (Writer state.desk) is_core.fit.writer).place in p.wants.row_set
+    = subst
+    (AtPlace state.shape state.words (map_after state.shape log) (held is_core.roles) state.desk.fresh
+    state.desk.retired)
+    is (is_core.core.knows 0 (Writer state.desk) is_core.fit.writer).place in
+    p.wants.row_set
 
 -- the word of a read that is not refused is a slot's, and so is that of a departure
-readable_room : (shape : Shape) (index : ℕ) (held : Hold) → if_unreadable index held ≡ None → RoomOf shape held → (slot_in held < shape.slots) × (index < slot_room shape)
+readable_room : (shape : Shape) (index : ℕ) (held : Hold) → if_unreadable index held ≡ None → RoomOf shape held
+    → (slot_in held < shape.slots) × (index < slot_room shape)
 readable_room shape index hold.Nothing ok room = absurd (no_some (Some refuse.NotHolding) refuse.NotHolding refl ok)
-readable_room shape index (hold.On slot None) ok room = let g = guard (nat_eq index 0) None refuse.OutOfRange ok in let first : index ≡ 0 = eqb-true index 0 g.0 in (room, omega arith)
-readable_room shape index (hold.On slot (Some size)) ok room = let g = guard (nat_le index (2 * size)) None refuse.OutOfRange ok in let low : index ≤ 2 * size = leb-true index (2 * size) g.0 in let short = room.1 in (room.0, omega arith)
+readable_room shape index (hold.On slot None) ok room =
+    let g = guard (nat_eq index 0) None refuse.OutOfRange ok in
+    let first : index ≡ 0 = eqb-true index 0 g.0 in
+    (room, omega arith)
+readable_room shape index (hold.On slot (Some size)) ok room =
+    let g = guard (nat_le index (2 * size)) None refuse.OutOfRange ok in
+    let low : index ≤ 2 * size = leb-true index (2 * size) g.0 in
+    let short = room.1 in
+    (room.0, omega arith)
 
-departs_room : (shape : Shape) (held : Hold) → if_not_holding held ≡ None → RoomOf shape held → slot_in held < shape.slots
+departs_room : (shape : Shape) (held : Hold) → if_not_holding held ≡ None → RoomOf shape held
+    → slot_in held < shape.slots
 departs_room shape hold.Nothing ok room = absurd (no_some (Some refuse.NotHolding) refuse.NotHolding refl ok)
 departs_room shape (hold.On slot None) ok room = room
 departs_room shape (hold.On slot (Some size)) ok room = room.0
 
 -- an operation on a content word of a held slot is a load
-held_untouched : (state : State) (log : List Entry) (event : Event) (is_core : IsCoreState state log) → refusal state event ≡ None → (s i : ℕ)
-    → (0 < held is_core.roles s) × (s < state.shape.slots) → i < slot_room state.shape → target_of (operation state event) ≡ content state.shape s i
+held_untouched : (state : State) (log : List Entry) (event : Event) (is_core : IsCoreState state log)
+    → refusal state event ≡ None → (s i : ℕ)
+    → (0 < held is_core.roles s) × (s < state.shape.slots) → i < slot_room state.shape
+    → target_of (operation state event) ≡ content state.shape s i
     → operation state event ≡ Load (content state.shape s i)
 held_untouched state log (Arrive r k) is_core ok s i held_so low here = let shape = state.shape in
     let g = guard (has_reader shape r && has_key shape k) (if_holding (hold_of state r)) refuse.OutOfRange ok in
-    let b = both (has_reader shape r) (has_key shape k) g.0 in let near : k < shape.keys = ltb-true k shape.keys b.1 in absurd (omega arith)
+    let b = both (has_reader shape r) (has_key shape k) g.0 in
+    let near : k < shape.keys = ltb-true k shape.keys b.1 in
+    absurd (omega arith)
 held_untouched state log (Ask r k) is_core ok s i held_so low here = let shape = state.shape in
     let g = guard (has_reader shape r && has_key shape k) (if_holding (hold_of state r)) refuse.OutOfRange ok in
-    let b = both (has_reader shape r) (has_key shape k) g.0 in let near : k < shape.keys = ltb-true k shape.keys b.1 in absurd (omega arith)
+    let b = both (has_reader shape r) (has_key shape k) g.0 in
+    let near : k < shape.keys = ltb-true k shape.keys b.1 in
+    absurd (omega arith)
 held_untouched state log (Read r p) is_core ok s i held_so low here = ap Load here
 held_untouched state log (FindAgain r k) is_core ok s i held_so low here = ap Load here
 held_untouched state log (Start call) is_core ok s i held_so low here = ap Load here
-held_untouched state log (Depart r) is_core ok s i held_so low here = absurd (content_apart state.shape s i (slot_in (hold_of state r)) low (sym here))
+held_untouched state log (Depart r) is_core ok s i held_so low here =
+    absurd (content_apart state.shape s i (slot_in (hold_of state r)) low (sym here))
 held_untouched state log Go is_core ok s i held_so low here = go state.desk.place refl here
   where
     mine : AtDesk state.shape state.words (map_after state.shape log) (held is_core.roles) state.desk
     mine = is_core.core.knows 0 (Writer state.desk) is_core.fit.writer
 
-    at_place : (p : Place) → state.desk.place ≡ p → AtPlace state.shape state.words (map_after state.shape log) (held is_core.roles) state.desk.fresh state.desk.retired p
-    at_place p is = subst (AtPlace state.shape state.words (map_after state.shape log) (held is_core.roles) state.desk.fresh state.desk.retired) is mine.place
+    at_place : (p : Place) → state.desk.place ≡ p
+        → AtPlace state.shape state.words (map_after state.shape log) (held is_core.roles) state.desk.fresh
+        state.desk.retired p
+    at_place p is =
+        subst
+        (AtPlace state.shape state.words (map_after state.shape log) (held is_core.roles) state.desk.fresh
+        state.desk.retired)
+        is mine.place
 
-    go : (p : Place) → state.desk.place ≡ p → target_of (going state.shape state.desk p) ≡ content state.shape s i → going state.shape state.desk p ≡ Load (content state.shape s i)
+    go : (p : Place) → state.desk.place ≡ p → target_of (going state.shape state.desk p) ≡ content state.shape s i
+        → going state.shape state.desk p ≡ Load (content state.shape s i)
     go Idle is e = ap Load e
     go (Reading call t got) is e = ap Load e
     go (Leaving k) is e = let near = (at_place (Leaving k) is).1.near in absurd (omega arith)
     go (Withdrawing k) is e = let near = (at_place (Withdrawing k) is).near in absurd (omega arith)
     go (Searching call rows p) is e = ap Load e
-    go (Putting call rows t departed j) is e = let p = at_place (Putting call rows t departed j) is in let near = p.wants.near in
-        let short = p.wants.row_set.1 in let fits = is_core.core.fits.bound in let free = p.nobody in let some_there = held_so.0 in
+    go (Putting call rows t departed j) is e =
+        let p = at_place (Putting call rows t departed j) is in
+        let near = p.wants.near in
+        let short = p.wants.row_set.1 in
+        let fits = is_core.core.fits.bound in
+        let free = p.nobody in
+        let some_there = held_so.0 in
         by_cases (λ v. let o = cond {A = Operation} v (Store (content state.shape t j) (get_or (encode rows) j 0))
-        (Swap (key_of call) (naming t departed)) in target_of o ≡ content state.shape s i → o ≡ Load (content state.shape s i))
+        (Swap (key_of call) (naming t departed)) in
+        target_of o ≡ content state.shape s i → o ≡ Load (content state.shape s i))
         (nat_le j (2 * length rows))
         (λ yes e. let l : j ≤ 2 * length rows = leb-true j (2 * length rows) yes in
         let same_slot : s ≡ t = same_content state.shape s i t j low (omega arith) (sym e) in
@@ -120,40 +164,74 @@ held_untouched state log Go is_core ok s i held_so low here = go state.desk.plac
         (λ no e. absurd (omega arith)) e
 
 -- an operation is on one of the words
-inside_words : (state : State) (log : List Entry) (event : Event) → IsCoreState state log → refusal state event ≡ None → target_of (operation state event) < length state.words
+inside_words : (state : State) (log : List Entry) (event : Event) → IsCoreState state log → refusal state event ≡ None
+    → target_of (operation state event) < length state.words
 inside_words state log (Arrive r k) is_core ok = let wide = is_core.core.wide in
-    let g = guard (has_reader state.shape r && has_key state.shape k) (if_holding (hold_of state r)) refuse.OutOfRange ok in
-    let b = both (has_reader state.shape r) (has_key state.shape k) g.0 in let near : k < state.shape.keys = ltb-true k state.shape.keys b.1 in
+    let g
+    = guard (has_reader state.shape r && has_key state.shape k) (if_holding (hold_of state r)) refuse.OutOfRange
+    ok in
+    let b = both (has_reader state.shape r) (has_key state.shape k) g.0 in
+    let near : k < state.shape.keys = ltb-true k state.shape.keys b.1 in
     omega arith
 inside_words state log (Ask r k) is_core ok = let wide = is_core.core.wide in
-    let g = guard (has_reader state.shape r && has_key state.shape k) (if_holding (hold_of state r)) refuse.OutOfRange ok in
-    let b = both (has_reader state.shape r) (has_key state.shape k) g.0 in let near : k < state.shape.keys = ltb-true k state.shape.keys b.1 in
+    let g
+    = guard (has_reader state.shape r && has_key state.shape k) (if_holding (hold_of state r)) refuse.OutOfRange
+    ok in
+    let b = both (has_reader state.shape r) (has_key state.shape k) g.0 in
+    let near : k < state.shape.keys = ltb-true k state.shape.keys b.1 in
     omega arith
 inside_words state log (FindAgain r k) is_core ok = let wide = is_core.core.wide in
-    let g = guard (has_reader state.shape r && has_key state.shape k) (if_not_holding (hold_of state r)) refuse.OutOfRange ok in
-    let b = both (has_reader state.shape r) (has_key state.shape k) g.0 in let near : k < state.shape.keys = ltb-true k state.shape.keys b.1 in omega arith
+    let g
+    = guard (has_reader state.shape r && has_key state.shape k) (if_not_holding (hold_of state r)) refuse.OutOfRange
+    ok in
+    let b = both (has_reader state.shape r) (has_key state.shape k) g.0 in
+    let near : k < state.shape.keys = ltb-true k state.shape.keys b.1 in
+    omega arith
 inside_words state log (Start call) is_core ok = let wide = is_core.core.wide in
-    let g = guard (has_key state.shape (key_of call)) (if_busy state.desk.place) refuse.OutOfRange ok in let near : key_of call < state.shape.keys = ltb-true (key_of call) state.shape.keys g.0 in omega arith
+    let g = guard (has_key state.shape (key_of call)) (if_busy state.desk.place) refuse.OutOfRange ok in
+    let near : key_of call < state.shape.keys = ltb-true (key_of call) state.shape.keys g.0 in
+    omega arith
 inside_words state log (Read r index) is_core ok = let wide = is_core.core.wide in
-    let g = guard (has_reader state.shape r) (if_unreadable index (hold_of state r)) refuse.OutOfRange ok in let low = (reader_in state.shape r g.0).0 in
-    let t = readable_room state.shape index (hold_of state r) g.1 (hold_room state log is_core r low) in omega (arith, content_inside state.shape (slot_in (hold_of state r)) index t.0 t.1)
+    let g = guard (has_reader state.shape r) (if_unreadable index (hold_of state r)) refuse.OutOfRange ok in
+    let low = (reader_in state.shape r g.0).0 in
+    let t = readable_room state.shape index (hold_of state r) g.1 (hold_room state log is_core r low) in
+    omega (arith, content_inside state.shape (slot_in (hold_of state r)) index t.0 t.1)
 inside_words state log (Depart r) is_core ok = let wide = is_core.core.wide in
-    let g = guard (has_reader state.shape r) (if_not_holding (hold_of state r)) refuse.OutOfRange ok in let low = (reader_in state.shape r g.0).0 in
-    omega (arith, departures_inside state.shape (slot_in (hold_of state r)) (departs_room state.shape (hold_of state r) g.1 (hold_room state log is_core r low)))
+    let g = guard (has_reader state.shape r) (if_not_holding (hold_of state r)) refuse.OutOfRange ok in
+    let low = (reader_in state.shape r g.0).0 in
+    omega (
+      arith,
+      departures_inside state.shape (slot_in (hold_of state r))
+          (departs_room state.shape (hold_of state r) g.1 (hold_room state log is_core r low)),
+    )
 inside_words state log Go is_core ok = go state.desk.place refl (place_room state log is_core state.desk.place refl)
   where
-    go : (place : Place) → state.desk.place ≡ place → RoomForStep state place → target_of (going state.shape state.desk place) < length state.words
+    go : (place : Place) → state.desk.place ≡ place → RoomForStep state place
+        → target_of (going state.shape state.desk place) < length state.words
     go Idle is room = absurd (no_some (if_not_busy state.desk.place) refuse.NotBusy (ap if_not_busy is) ok)
-    go (Reading call slot got) is room = let wide = is_core.core.wide in omega (arith, content_inside state.shape slot (length got) room.0 room.1)
+    go (Reading call slot got) is room =
+        let wide = is_core.core.wide in
+        omega (arith, content_inside state.shape slot (length got) room.0 room.1)
     go (Leaving k) is room = let wide = is_core.core.wide in let near = room.0 in omega arith
     go (Withdrawing k) is room = let wide = is_core.core.wide in let near = room.0 in omega arith
-    go (Searching call rows poll) is room = let wide = is_core.core.wide in omega (arith, departures_inside state.shape (retired_at state.desk poll).slot room.1)
+    go (Searching call rows poll) is room =
+        let wide = is_core.core.wide in
+        omega (arith, departures_inside state.shape (retired_at state.desk poll).slot room.1)
     go (Putting call rows slot departed index) is room = let wide = is_core.core.wide in let near = room.0 in
-        by_cases (λ v. target_of (cond {A = Operation} v (Store (content state.shape slot index) (get_or (encode rows) index 0)) (Swap (key_of call) (naming slot departed))) < length state.words) (nat_le index (2 * length rows))
-        (λ yes. let l : index ≤ 2 * length rows = leb-true index (2 * length rows) yes in let few = room.3 in omega (arith, content_inside state.shape slot index room.2 (omega arith)))
+        by_cases
+        (λ v. target_of
+        (cond {A = Operation} v (Store (content state.shape slot index) (get_or (encode rows) index 0))
+        (Swap (key_of call) (naming slot departed)))
+        < length state.words)
+        (nat_le index (2 * length rows))
+        (λ yes.
+        let l : index ≤ 2 * length rows = leb-true index (2 * length rows) yes in
+        let few = room.3 in
+        omega (arith, content_inside state.shape slot index room.2 (omega arith)))
         (λ _. omega arith)
 
-pub follows : (story : Story) (event : Event) → IsCoreState story.state story.history → ((counts : NoSlot) → EndsWithout story.state event counts → IsJustified story event counts) → Follows story event
+pub follows : (story : Story) (event : Event) → IsCoreState story.state story.history
+    → ((counts : NoSlot) → EndsWithout story.state event counts → IsJustified story event counts) → Follows story event
 follows story event is_core justified = record {
   one_operation = λ ok. (
     inside_words story.state story.history event is_core ok,
@@ -161,8 +239,10 @@ follows story event is_core justified = record {
     ap (λ (o : Option Refusal). (unless o story.state (moved story.state event)).made) ok,
   );
   refused = λ why. stays (refusal story.state event) why;
-  untouched = λ ok r s i n low is low_i here. held_untouched story.state story.history event is_core ok s i (holder story is_core r s n low is) low_i here;
-  own = λ c. of-append c story.history (unless (refusal story.state event) [] (told story.state event)) ∙ ap (λ (l : List Entry). entries_of story.history c ++ l) (mine (refusal story.state event) c);
+  untouched = λ ok r s i n low is low_i here. held_untouched story.state story.history event is_core ok s i
+      (holder story is_core r s n low is) low_i here;
+  own = λ c. of-append c story.history (unless (refusal story.state event) [] (told story.state event))
+      ∙ ap (λ (l : List Entry). entries_of story.history c ++ l) (mine (refusal story.state event) c);
   justified = justified;
 }
   where
@@ -175,6 +255,8 @@ follows story event is_core justified = record {
     stays None ne = absurd (ne refl)
     stays (Some why) ne = ap (λ (l : List Entry). record story { history = l }) (append-nil story.history)
 
-    mine : (o : Option Refusal) (c : ℕ) → entries_of (unless o [] (told story.state event)) c ≡ cond (nat_eq (caller_of_event event) c) (unless o [] (told story.state event)) []
+    mine : (o : Option Refusal) (c : ℕ)
+        → entries_of (unless o [] (told story.state event)) c
+        ≡ cond (nat_eq (caller_of_event event) c) (unless o [] (told story.state event)) []
     mine None c = told_by story.state event c
     mine (Some why) c = none_of (nat_eq (caller_of_event event) c)

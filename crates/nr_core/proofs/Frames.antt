@@ -1,5 +1,6 @@
 -- What a step leaves of what the callers know.
-use Rattle.std.proofs.Common.{List, [], ap, arith, cond, get_or, le-leb, set, suc, sym, ℕ, ◌%◌, ◌*◌, ◌+◌, ◌<◌, ◌^◌, ◌∙◌, ◌≡◌, ◌≤◌}
+use Rattle.std.proofs.Common.{List, [], ap, arith, cond, get_or, le-leb, set, suc, sym, ℕ, ◌%◌, ◌*◌, ◌+◌, ◌<◌, ◌^◌, ◌∙◌}
+use Rattle.std.proofs.Common.{◌≡◌, ◌≤◌}
 use lib.ListN.{get_elem?}
 use mathlib.Core.Option.{some}
 use Rattle.nr_model.specs.Maps.{PartialMap, number_of, reply_at, state_after, state_of}
@@ -32,82 +33,144 @@ rank (key.Hole number) = 0
 rank (key.Asked number) = 1
 rank (key.Rows number rows) = 2
 
-pub not_hole : (z : KeyState) (number : ℕ) (rows : List Row) → z ≡ key.Rows number rows → (other : ℕ) → z ≡ key.Hole other → ⊥
+pub not_hole : (z : KeyState) (number : ℕ) (rows : List Row) → z ≡ key.Rows number rows → (other : ℕ)
+    → z ≡ key.Hole other → ⊥
 not_hole z number rows e other n = let two : rank z ≡ 2 = ap rank e in let none : rank z ≡ 0 = ap rank n in omega arith
 
 pub asked_no_hole : (z : KeyState) (number : ℕ) → z ≡ key.Asked number → (other : ℕ) → z ≡ key.Hole other → ⊥
 asked_no_hole z number e other n = let two : rank z ≡ 1 = ap rank e in let none : rank z ≡ 0 = ap rank n in omega arith
 
 -- the list of numbers, where no state's number changes
-pub numbers_more : (shape : Shape) (m m' : PartialMap) (numbers : List ℕ) → ((k : ℕ) → k < shape.keys → number_of (state_of m' k) ≡ number_of (state_of m k)) → AreNumbers shape m numbers → AreNumbers shape m' numbers
+pub numbers_more : (shape : Shape) (m m' : PartialMap) (numbers : List ℕ)
+    → ((k : ℕ) → k < shape.keys → number_of (state_of m' k) ≡ number_of (state_of m k)) → AreNumbers shape m numbers
+    → AreNumbers shape m' numbers
 numbers_more shape m m' numbers same t = record { each = t.each; agree = λ k near. t.agree k near ∙ sym (same k near) }
 
 module _ (shape : Shape) where
-  pub spells_more : (words words' : List ℕ) (s : ℕ) (m : List Row) → ((i : ℕ) → i ≤ 2 * (bound_of shape) → get_or words' (content shape s i) 0 ≡ get_or words (content shape s i) 0) → SlotSpells shape words s m → SlotSpells shape words' s m
-  spells_more words words' s m f t = let short = t.0.1 in let n = length-row_words m in (t.0, λ i l. f i (omega arith) ∙ t.1 i l)
+  pub spells_more : (words words' : List ℕ) (s : ℕ) (m : List Row)
+      → ((i : ℕ) → i ≤ 2 * (bound_of shape) → get_or words' (content shape s i) 0 ≡ get_or words (content shape s i) 0)
+      → SlotSpells shape words s m → SlotSpells shape words' s m
+  spells_more words words' s m f t =
+      let short = t.0.1 in
+      let n = length-row_words m in
+      (t.0, λ i l. f i (omega arith) ∙ t.1 i l)
 
   pub shows_more : (words words' : List ℕ) (w : ℕ) (state : KeyState)
-      → ((s i : ℕ) → name_number w ≡ suc s → s < shape.slots → i ≤ 2 * (bound_of shape) → get_or words' (content shape s i) 0 ≡ get_or words
+      → ((s i : ℕ) → name_number w ≡ suc s → s < shape.slots → i ≤ 2 * (bound_of shape)
+      → get_or words' (content shape s i) 0 ≡ get_or words
       (content shape s i) 0) → ShowsState shape words w state → ShowsState shape words' w state
   shows_more words words' w (key.Hole number) f t = t
   shows_more words words' w (key.Asked number) f t = t
-  shows_more words words' w (key.Rows number m) f t = (t.0, t.1, t.2, spells_more words words' t.0 m (λ i l. f t.0 i t.1 t.2 l) t.3)
+  shows_more words words' w (key.Rows number m) f t =
+      (t.0, t.1, t.2, spells_more words words' t.0 m (λ i l. f t.0 i t.1 t.2 l) t.3)
 
   module _ (words words' : List ℕ) (m m' : PartialMap) (hold hold' : ℕ → ℕ) where
     pub holding_more : (x : Grip) → ((s i : ℕ) → 0 < grips s x → s < shape.slots → i ≤ 2 * (bound_of shape)
-        → get_or words' (content shape s i) 0 ≡ get_or words (content shape s i) 0) → Grips shape words m hold x → Grips shape words' m' hold' x
+        → get_or words' (content shape s i) 0 ≡ get_or words (content shape s i) 0) → Grips shape words m hold x
+        → Grips shape words' m' hold' x
     holding_more Nothing f t = tt
-    holding_more (On s set b) f t = let in_range = t.0 in let one = only-same s in (in_range, spells_more words words' s set (λ i l. f s i (omega arith) in_range l) t.1)
+    holding_more (On s set b) f t =
+        let in_range = t.0 in
+        let one = only-same s in
+        (in_range, spells_more words words' s set (λ i l. f s i (omega arith) in_range l) t.1)
 
     -- what a step leaves of a slot
     pub record Left (s : ℕ) : Type 0 where
-      pub contents : (i : ℕ) → i ≤ 2 * (bound_of shape) → get_or words' (content shape s i) 0 ≡ get_or words (content shape s i) 0
+      pub contents : (i : ℕ) → i ≤ 2 * (bound_of shape)
+          → get_or words' (content shape s i) 0 ≡ get_or words (content shape s i) 0
       pub nobody : hold s ≡ 0 → hold' s ≡ 0
       pub deps : hold s ≡ 0 → get_or words' (departures shape s) 0 ≡ get_or words (departures shape s) 0
-      pub sum : (get_or words' (departures shape s) 0 + hold' s) % 2 ^ 40 ≡ (get_or words (departures shape s) 0 + hold s) % 2 ^ 40
+      pub sum : (get_or words' (departures shape s) 0 + hold' s) % 2 ^ 40
+          ≡ (get_or words (departures shape s) 0 + hold s) % 2 ^ 40
 
-    pub retired_more : (l : List Retired) → ((s : ℕ) → s < shape.slots → 0 < total (λ (x : Retired). only s x.slot) l → Left s)
-        → ((i : ℕ) (x : Retired) → get_elem? l i ≡ some x → (x.slot < shape.slots) × (x.arrivals % 2 ^ 40 ≡ (get_or words (departures shape x.slot) 0 + hold x.slot) % 2 ^ 40))
-        → (i : ℕ) (x : Retired) → get_elem? l i ≡ some x → (x.slot < shape.slots) × (x.arrivals % 2 ^ 40 ≡ (get_or words' (departures shape x.slot) 0 + hold' x.slot) % 2 ^ 40)
-    retired_more l left t i x at = let r = t i x at in let part = term_le (λ (y : Retired). only x.slot y.slot) l i x at in let one = only-same x.slot in (r.0, r.1 ∙ sym (left x.slot r.0 (omega arith)).sum)
+    pub retired_more : (l : List Retired)
+        → ((s : ℕ) → s < shape.slots → 0 < total (λ (x : Retired). only s x.slot) l → Left s)
+        → ((i : ℕ) (x : Retired) → get_elem? l i ≡ some x
+        → (x.slot < shape.slots)
+        × (x.arrivals % 2 ^ 40 ≡ (get_or words (departures shape x.slot) 0 + hold x.slot) % 2 ^ 40))
+        → (i : ℕ) (x : Retired) → get_elem? l i ≡ some x
+        → (x.slot < shape.slots)
+        × (x.arrivals % 2 ^ 40 ≡ (get_or words' (departures shape x.slot) 0 + hold' x.slot) % 2 ^ 40)
+    retired_more l left t i x at =
+        let r = t i x at in
+        let part = term_le (λ (y : Retired). only x.slot y.slot) l i x at in
+        let one = only-same x.slot in
+        (r.0, r.1 ∙ sym (left x.slot r.0 (omega arith)).sum)
 
-    pub free_more : (fresh : ℕ) → ((s : ℕ) → s < shape.slots → fresh ≤ s → Left s) → ((s : ℕ) → fresh ≤ s → s < shape.slots → (hold s ≡ 0) × (get_or words (departures shape s) 0 ≡ shape.first_count))
-        → (s : ℕ) → fresh ≤ s → s < shape.slots → (hold' s ≡ 0) × (get_or words' (departures shape s) 0 ≡ shape.first_count)
-    free_more fresh left t s from near = let f = t s from near in let l = left s near from in (l.nobody f.0, l.deps f.0 ∙ f.1)
+    pub free_more : (fresh : ℕ) → ((s : ℕ) → s < shape.slots → fresh ≤ s → Left s)
+        → ((s : ℕ) → fresh ≤ s → s < shape.slots
+        → (hold s ≡ 0) × (get_or words (departures shape s) 0 ≡ shape.first_count))
+        → (s : ℕ) → fresh ≤ s → s < shape.slots
+        → (hold' s ≡ 0) × (get_or words' (departures shape s) 0 ≡ shape.first_count)
+    free_more fresh left t s from near =
+        let f = t s from near in
+        let l = left s near from in
+        (l.nobody f.0, l.deps f.0 ∙ f.1)
 
-    module _ (names : (k : ℕ) → k < shape.keys → name_number (get_or words' k 0) ≡ name_number (get_or words k 0)) (stays : (k : ℕ) → ((number : ℕ) → state_of m k ≡ key.Hole number → ⊥) → state_of m' k ≡ state_of m k) where
-      pub wants_more : (call : WriterCall) (rows : List Row) → Wants shape words m hold call rows → Wants shape words' m' hold' call rows
+    module _ (names : (k : ℕ) → k < shape.keys → name_number (get_or words' k 0) ≡ name_number (get_or words k 0))
+        (stays : (k : ℕ) → ((number : ℕ) → state_of m k ≡ key.Hole number → ⊥) → state_of m' k ≡ state_of m k) where
+      pub wants_more : (call : WriterCall) (rows : List Row) → Wants shape words m hold call rows
+          → Wants shape words' m' hold' call rows
       wants_more call rows t = let same = stays (key_of call) t.no_hole in record {
         near = t.near;
         row_set = t.row_set;
         no_hole = λ number e. t.no_hole number (sym same ∙ e);
         done = ap (reply_at (bound_of shape) (call_of call)) same ∙ t.done;
-        leaves = ap (state_after (bound_of shape) (call_of call)) same ∙ t.leaves ∙ ap (λ (z : KeyState). key.Rows (number_of z) rows) (sym same);
+        leaves =
+            ap (state_after (bound_of shape) (call_of call)) same ∙ t.leaves
+            ∙ ap (λ (z : KeyState). key.Rows (number_of z) rows) (sym same);
       }
 
       pub reads_more : (k s : ℕ) (got : List ℕ) → Reads shape words m hold k s got → Reads shape words' m' hold' k s got
-      reads_more k s got t = record { near = t.near; names = names k t.near ∙ t.names; number = t.number; rows = t.rows; full = stays k (not_hole (state_of m k) t.number t.rows t.full) ∙ t.full; part = t.part; more = t.more }
+      reads_more k s got t =
+          record {
+            near = t.near;
+            names = names k t.near ∙ t.names;
+            number = t.number;
+            rows = t.rows;
+            full = stays k (not_hole (state_of m k) t.number t.rows t.full) ∙ t.full;
+            part = t.part;
+            more = t.more;
+          }
 
-      pub place_more : (fresh : ℕ) (l : List Retired) (p : Place) → ((s : ℕ) → s < shape.slots → 0 < taken s p → Left s) → AtPlace shape words m hold fresh l p → AtPlace shape words' m' hold' fresh l p
+      pub place_more : (fresh : ℕ) (l : List Retired) (p : Place) → ((s : ℕ) → s < shape.slots → 0 < taken s p → Left s)
+          → AtPlace shape words m hold fresh l p → AtPlace shape words' m' hold' fresh l p
       place_more fresh l Idle left t = tt
       place_more fresh l (Reading call s got) left t = reads_more (key_of call) s got t
       place_more fresh l (Leaving k) left t = (t.0, reads_more k t.0 [] t.1)
-      place_more fresh l (Withdrawing k) left t = record { near = t.near; number = t.number; asked = stays k (asked_no_hole (state_of m k) t.number t.asked) ∙ t.asked; early = t.early }
+      place_more fresh l (Withdrawing k) left t =
+          record {
+            near = t.near;
+            number = t.number;
+            asked = stays k (asked_no_hole (state_of m k) t.number t.asked) ∙ t.asked;
+            early = t.early;
+          }
       place_more fresh l (Searching call rows p) left t = (wants_more call rows t.0, t.1, t.2)
-      place_more fresh l (Putting call rows s departed i) left t = let one = only-same s in let le = left s t.inside (omega arith) in let n = length-row_words rows in let short = t.wants.row_set.1 in let within = t.within in record {
-        wants = wants_more call rows t.wants;
-        inside = t.inside;
-        nobody = le.nobody t.nobody;
-        counted = le.deps t.nobody ∙ t.counted;
-        within = t.within;
-        put = λ j low. le.contents j (omega arith) ∙ t.put j low;
-      }
+      place_more fresh l (Putting call rows s departed i) left t =
+          let one = only-same s in
+          let le = left s t.inside (omega arith) in
+          let n = length-row_words rows in
+          let short = t.wants.row_set.1 in
+          let within = t.within in
+          record {
+            wants = wants_more call rows t.wants;
+            inside = t.inside;
+            nobody = le.nobody t.nobody;
+            counted = le.deps t.nobody ∙ t.counted;
+            within = t.within;
+            put = λ j low. le.contents j (omega arith) ∙ t.put j low;
+          }
 
-      pub desk_more : (desk : Desk) → ((k : ℕ) → number_of (state_of m' k) ≡ number_of (state_of m k)) → ((s : ℕ) → s < shape.slots → 0 < keeps s (Writer desk) → Left s) → AtDesk shape words m hold desk → AtDesk shape words' m' hold' desk
+      pub desk_more : (desk : Desk) → ((k : ℕ) → number_of (state_of m' k) ≡ number_of (state_of m k))
+          → ((s : ℕ) → s < shape.slots → 0 < keeps s (Writer desk) → Left s) → AtDesk shape words m hold desk
+          → AtDesk shape words' m' hold' desk
       desk_more desk same_number left t = record {
-        place = place_more desk.fresh desk.retired desk.place (λ s in_range mine. left s in_range (omega arith)) t.place;
+        place =
+            place_more desk.fresh desk.retired desk.place (λ s in_range mine. left s in_range (omega arith)) t.place;
         room = t.room;
-        free = free_more desk.fresh (λ s near from. let u = unused-free s desk.fresh from in left s near (omega arith)) t.free;
+        free =
+            free_more desk.fresh (λ s near from. let u = unused-free s desk.fresh from in left s near (omega arith))
+            t.free;
         retired = retired_more desk.retired (λ s near mine. left s near (omega arith)) t.retired;
         numbers = numbers_more shape m m' desk.numbers (λ k _. same_number k) t.numbers;
       }

@@ -19,14 +19,20 @@ unfolding tag
 no_some o why e n = let a : tag o ≡ 1 = ap tag e in let b : tag o ≡ 0 = ap tag n in omega arith
 
 pub guard : (b : Bool) (o : Option Refusal) (why : Refusal) → cond b o (Some why) ≡ None → (b ≡ true) × (o ≡ None)
-guard b o why = by_cases (λ v. cond v o (Some why) ≡ None → (v ≡ true) × (o ≡ None)) b (λ _ e. (refl, e)) (λ _ e. absurd (no_some (Some why) why refl e))
+guard b o why =
+    by_cases (λ v. cond v o (Some why) ≡ None → (v ≡ true) × (o ≡ None)) b (λ _ e. (refl, e))
+    (λ _ e. absurd (no_some (Some why) why refl e))
 
 pub both : (a b : Bool) → (a && b) ≡ true → (a ≡ true) × (b ≡ true)
-both a b = by_cases (λ v. (v && b) ≡ true → (v ≡ true) × (b ≡ true)) a (λ _ e. (refl, e)) (λ _ e. absurd (let n : 0 ≡ 1 = ap (λ v. cond {A = ℕ} v 1 0) e in omega arith))
+both a b =
+    by_cases (λ v. (v && b) ≡ true → (v ≡ true) × (b ≡ true)) a (λ _ e. (refl, e))
+    (λ _ e. absurd (let n : 0 ≡ 1 = ap (λ v. cond {A = ℕ} v 1 0) e in omega arith))
 
 -- a reader that the machine has
 pub reader_in : (shape : Shape) (reader : ℕ) → has_reader shape reader ≡ true → (0 < reader) × (reader ≤ shape.readers)
-reader_in shape reader e = let b = both (nat_lt 0 reader) (nat_le reader shape.readers) e in (ltb-true 0 reader b.0, leb-true reader shape.readers b.1)
+reader_in shape reader e =
+    let b = both (nat_lt 0 reader) (nat_le reader shape.readers) e in
+    (ltb-true 0 reader b.0, leb-true reader shape.readers b.1)
 
 pub is_idle : (place : Place) → if_busy place ≡ None → place ≡ Idle
 is_idle Idle e = refl

@@ -1,5 +1,6 @@
 -- A no-slot is justified.
-use Rattle.std.proofs.Common.{List, [], ap, arith, cond, false, get_or, length, map, nat_eq, refl, subst, sym, true, ℕ, ◌*◌, ◌++◌, ◌+◌, ◌-◌, ◌<◌, ◌∙◌, ◌∷◌, ◌≡◌, ◌≤◌}
+use Rattle.std.proofs.Common.{List, [], ap, arith, cond, false, get_or, length, map, nat_eq, refl, subst, sym, true, ℕ}
+use Rattle.std.proofs.Common.{◌*◌, ◌++◌, ◌+◌, ◌-◌, ◌<◌, ◌∙◌, ◌∷◌, ◌≡◌, ◌≤◌}
 use Rattle.std.proofs.lemmas.Bool.{eqb-true, ltb-true}
 use Rattle.std.proofs.lemmas.List.{take_all}
 use Rattle.std.specs.Prelude.{Err, None, Ok, Option, Result, Some, nat_le}
@@ -52,7 +53,8 @@ step_or (Err why) = Going
 -- an answer that is no refusal
 answered : (o : Option Refusal) (given step : Step) → or_refusal o given ≡ Ok step → (o ≡ None) × (given ≡ step)
 answered None given step e = (refl, ap step_or e)
-answered (Some why) given step e = absurd (let n : result_number (Err why) ≡ result_number (Ok step) = ap result_number e in omega arith)
+answered (Some why) given step e =
+    absurd (let n : result_number (Err why) ≡ result_number (Ok step) = ap result_number e in omega arith)
 
 none_in : {A : Type 0} (l : List A) → length l ≡ 0 → l ≡ []
 none_in [] e = refl
@@ -74,56 +76,103 @@ tell_is story event ok = ap (λ (o : Option Refusal). let after : Story = record
 } in after) ok
 
 -- what is known of a call that ends with no slot by such an outcome of its step from a place
-record Ending (state : State) (log : List Entry) (place : Place) (polls : List Poll) (call : WriterCall) (outcome : Desk × Step) (counts : NoSlot) : Type 0 where
+record Ending (state : State) (log : List Entry) (place : Place) (polls : List Poll) (call : WriterCall)
+    (outcome : Desk × Step) (counts : NoSlot) : Type 0 where
   pub none : NoneLeft state.shape state.desk outcome counts
   pub full : state.shape.slots ≤ state.desk.fresh
   pub free : (s : ℕ) → taken s place ≡ 0
-  pub done : reply_at (bound_of state.shape) (call_of call) (state_of (map_after state.shape log) (key_of call)) ≡ reply.Done
+  pub done : reply_at (bound_of state.shape) (call_of call) (state_of (map_after state.shape log) (key_of call))
+      ≡ reply.Done
   pub polled : map (λ (poll : Poll). poll.slot) polls ≡ map (λ (entry : Retired). entry.slot) state.desk.retired
 
-justify : (story : Story) (event : Event) (is_core : IsCoreState story.state story.history) → refusal story.state event ≡ None
-    → Swept (tell story event).state (tell story event).polls → (counts : NoSlot) (call : WriterCall) → call_of_event story.state event ≡ call ∷ []
-    → (outcome : Desk × Step) → (moved story.state event).desk ≡ outcome.0 → Ending story.state story.history story.state.desk.place (polls_after story.state story.polls event) call outcome counts → IsJustified story event counts
+justify : (story : Story) (event : Event) (is_core : IsCoreState story.state story.history)
+    → refusal story.state event ≡ None
+    → Swept (tell story event).state (tell story event).polls → (counts : NoSlot) (call : WriterCall)
+    → call_of_event story.state event ≡ call ∷ []
+    → (outcome : Desk × Step) → (moved story.state event).desk ≡ outcome.0
+    → Ending story.state story.history story.state.desk.place (polls_after story.state story.polls event) call
+    outcome counts
+    → IsJustified story event counts
 justify story event is_core ok swept counts call is_call outcome desk_is ending =
-    let state = story.state in let shape = state.shape in let desk = state.desk in let core = is_core.core in let writer_there = is_core.fit.writer in let told_so = tell_is story event ok in
-    let all_slots = slots_are shape state.words is_core.roles story.history core 0 desk writer_there ending.full ending.free in
+    let state = story.state in
+    let shape = state.shape in
+    let desk = state.desk in
+    let core = is_core.core in
+    let writer_there = is_core.fit.writer in
+    let told_so = tell_is story event ok in
+    let all_slots
+    = slots_are shape state.words is_core.roles story.history core 0 desk writer_there ending.full ending.free in
     let live_is : counts.live ≡ shape.slots - length desk.retired = ap (λ (n : NoSlot). n.live) ending.none.counted in
     let held_is : counts.held ≡ length desk.retired = ap (λ (n : NoSlot). n.held) ending.none.counted in
-    let retired_is : (tell story event).state.desk.retired ≡ desk.retired = ap (λ (s : Story). s.state.desk.retired) told_so ∙ ap (λ (d : Desk). d.retired) (desk_is ∙ ending.none.same) in record {
+    let retired_is : (tell story event).state.desk.retired ≡ desk.retired
+    = ap (λ (s : Story). s.state.desk.retired) told_so
+    ∙ ap (λ (d : Desk). d.retired) (desk_is ∙ ending.none.same) in
+    record {
       call = call;
       is_call = is_call;
-      would_be_done = replies_so shape story.history (call_of call) ∙ ap (λ (k : ℕ). reply_at (bound_of shape) (call_of call) (state_of (map_after shape story.history) k)) (key_same call) ∙ ending.done;
+      would_be_done =
+          replies_so shape story.history (call_of call)
+          ∙ ap (λ (k : ℕ). reply_at (bound_of shape) (call_of call) (state_of (map_after shape story.history) k))
+          (key_same call)
+          ∙ ending.done;
       live = omega (arith, live_is, all_slots);
       all = omega (arith, live_is, held_is, all_slots);
       held = held_is ∙ ap length (sym retired_is);
-      polled = ap (λ (s : Story). map (λ (poll : Poll). poll.slot) s.polls) told_so ∙ ending.polled ∙ ap (map (λ (entry : Retired). entry.slot)) (sym retired_is);
+      polled =
+          ap (λ (s : Story). map (λ (poll : Poll). poll.slot) s.polls) told_so ∙ ending.polled
+          ∙ ap (map (λ (entry : Retired). entry.slot)) (sym retired_is);
       were_held = swept.held;
     }
 
-no_polls : (l : List Retired) → length l ≡ 0 → map (λ (poll : Poll). poll.slot) [] ≡ map (λ (entry : Retired). entry.slot) l
+no_polls : (l : List Retired) → length l ≡ 0
+    → map (λ (poll : Poll). poll.slot) [] ≡ map (λ (entry : Retired). entry.slot) l
 no_polls l e = ap (map (λ (entry : Retired). entry.slot)) (sym (none_in l e))
 
 -- the step after the look, from each place
-go_ending : (state : State) (log : List Entry) (polls : List Poll) → IsCoreState state log → Swept state polls → (place : Place) → state.desk.place ≡ place → (counts : NoSlot)
-    → let outcome = went state.shape state.desk place (get_or state.words (target_of (going state.shape state.desk place)) 0) in
-    IsWithout counts outcome → (call : WriterCall) × (call_in place ≡ call ∷ []) × Ending state log place (polls_at state polls place) call outcome counts
+go_ending : (state : State) (log : List Entry) (polls : List Poll) → IsCoreState state log → Swept state polls
+    → (place : Place) → state.desk.place ≡ place → (counts : NoSlot)
+    → let outcome
+    = went state.shape state.desk place (get_or state.words (target_of (going state.shape state.desk place)) 0) in
+    IsWithout counts outcome
+    → (call : WriterCall) × (call_in place ≡ call ∷ [])
+    × Ending state log place (polls_at state polls place) call outcome counts
 go_ending state log polls is_core swept Idle is counts e = absurd (not_going counts e)
 go_ending state log polls is_core swept (Leaving k) is counts e = absurd (not_reply counts reply.Evicted e)
 go_ending state log polls is_core swept (Withdrawing k) is counts e = absurd (not_reply counts reply.Cancelled e)
-go_ending state log polls is_core swept (Putting call rows slot departed index) is counts e = let found = get_or state.words (target_of (going state.shape state.desk (Putting call rows slot departed index))) 0 in
-    let Goal : Type 0 = (q : WriterCall) × (call ∷ [] ≡ q ∷ []) × Ending state log (Putting call rows slot departed index) polls q (put_on state.desk call rows slot departed index found) counts in
-    by_cases (λ v. IsWithout counts (cond {A = Desk × Step} v (moved_to state.desk (Putting call rows slot departed (index + 1)), Going) (swapped state.desk found, ended reply.Done)) → Goal) (nat_le index (2 * length rows))
+go_ending state log polls is_core swept (Putting call rows slot departed index) is counts e =
+    let found
+    = get_or state.words (target_of (going state.shape state.desk (Putting call rows slot departed index))) 0 in
+    let Goal : Type 0
+    = (q : WriterCall) × (call ∷ [] ≡ q ∷ [])
+    × Ending state log (Putting call rows slot departed index) polls q
+    (put_on state.desk call rows slot departed index found) counts in
+    by_cases
+    (λ v. IsWithout counts
+    (cond {A = Desk × Step} v (moved_to state.desk (Putting call rows slot departed (index + 1)), Going)
+    (swapped state.desk found, ended reply.Done))
+    → Goal)
+    (nat_le index (2 * length rows))
     (λ _ e'. absurd (not_going counts e')) (λ _ e'. absurd (not_reply counts reply.Done e')) e
 go_ending state log polls is_core swept (Reading call s got) is counts e =
     let shape = state.shape in let words = state.words in let desk = state.desk in let map_now = map_after shape log in
     let known = is_core.core.knows 0 (Writer desk) is_core.fit.writer in
-    let p : Reads shape words map_now (held is_core.roles) (key_of call) s got = subst (AtPlace shape words map_now (held is_core.roles) desk.fresh desk.retired) is known.place in
+    let p : Reads shape words map_now (held is_core.roles) (key_of call) s got
+    = subst (AtPlace shape words map_now (held is_core.roles) desk.fresh desk.retired) is known.place in
     let got' : List ℕ = got ++ get_or words (content shape s (length got)) 0 ∷ [] in
     let none_polled : polls ≡ [] = subst (AtSweep state polls) is swept.sweep in
-    by_cases (λ v. let outcome = cond {A = Desk × Step} v (decoded shape desk call (decode got')) (moved_to desk (Reading call s got'), Going) in
-    (v ≡ true → length got' ≡ 2 * get_or got' 0 0 + 1) → IsWithout counts outcome → (q : WriterCall) × (call ∷ [] ≡ q ∷ []) × Ending state log (Reading call s got) polls q outcome counts) (nat_eq (length got') (2 * get_or got' 0 0 + 1))
-    (λ _ whole e'. let set_is = read_whole shape words is_core.roles log is_core.core (key_of call) s got p (whole refl) in
-    let n = decided_none shape desk counts call p.rows (subst (λ o. IsWithout counts (decoded shape desk call o)) set_is e') in (
+    by_cases
+    (λ v.
+    let outcome
+    = cond {A = Desk × Step} v (decoded shape desk call (decode got'))
+    (moved_to desk (Reading call s got'), Going) in
+    (v ≡ true → length got' ≡ 2 * get_or got' 0 0 + 1) → IsWithout counts outcome
+    → (q : WriterCall) × (call ∷ [] ≡ q ∷ []) × Ending state log (Reading call s got) polls q outcome counts)
+    (nat_eq (length got') (2 * get_or got' 0 0 + 1))
+    (λ _ whole e'.
+    let set_is = read_whole shape words is_core.roles log is_core.core (key_of call) s got p (whole refl) in
+    let n
+    = decided_none shape desk counts call p.rows
+    (subst (λ o. IsWithout counts (decoded shape desk call o)) set_is e') in (
       call,
       refl,
       record {
@@ -139,12 +188,14 @@ go_ending state log polls is_core swept (Reading call s got) is counts e =
 go_ending state log polls is_core swept (Searching call rows q) is counts e =
     let shape = state.shape in let words = state.words in let desk = state.desk in let map_now = map_after shape log in
     let known = is_core.core.knows 0 (Writer desk) is_core.fit.writer in
-    let at_p : AtPlace shape words map_now (held is_core.roles) desk.fresh desk.retired (Searching call rows q) = subst (AtPlace shape words map_now (held is_core.roles) desk.fresh desk.retired) is known.place in
+    let at_p : AtPlace shape words map_now (held is_core.roles) desk.fresh desk.retired (Searching call rows q)
+    = subst (AtPlace shape words map_now (held is_core.roles) desk.fresh desk.retired) is known.place in
     let notes : Notes state polls q = subst (AtSweep state polls) is swept.sweep in
     let found = get_or words (departures shape (retired_at desk q).slot) 0 in let within = at_p.1 in
     let n = polled_none shape desk counts call rows q found e in
     let found_is : found_by state Go ≡ found = ap (λ (p : Place). get_or words (target_of (going shape desk p)) 0) is in
-    let miss : same_count (found_by state Go) (retired_at desk q).arrivals ≡ false = ap (λ (w : ℕ). same_count w (retired_at desk q).arrivals) found_is ∙ n.2 in (
+    let miss : same_count (found_by state Go) (retired_at desk q).arrivals ≡ false
+    = ap (λ (w : ℕ). same_count w (retired_at desk q).arrivals) found_is ∙ n.2 in (
       call,
       refl,
       record {
@@ -152,12 +203,15 @@ go_ending state log polls is_core swept (Searching call rows q) is counts e =
         full = at_p.2;
         free = λ _. refl;
         done = at_p.0.done;
-        polled = ap (λ b. map (λ (poll : Poll). poll.slot) (cond b polls (polls ++ poll_at state q ∷ []))) miss ∙ polled_slots state polls q within notes.slots
+        polled =
+            ap (λ b. map (λ (poll : Poll). poll.slot) (cond b polls (polls ++ poll_at state q ∷ []))) miss
+            ∙ polled_slots state polls q within notes.slots
             ∙ ap (map (λ (entry : Retired). entry.slot)) (take_all (q + 1) desk.retired (omega (arith, n.1)));
       },
     )
 
-pub no_slot_is_justified : (story : Story) (event : Event) → IsCoreState story.state story.history → Swept story.state story.polls
+pub no_slot_is_justified : (story : Story) (event : Event) → IsCoreState story.state story.history
+    → Swept story.state story.polls
     → Swept (tell story event).state (tell story event).polls → (counts : NoSlot) → EndsWithout story.state event counts
     → IsJustified story event counts
 no_slot_is_justified story (Arrive r k) is_core swept after counts e = absurd e
@@ -166,19 +220,29 @@ no_slot_is_justified story (Depart r) is_core swept after counts e = absurd e
 no_slot_is_justified story (Ask r k) is_core swept after counts e = absurd e
 no_slot_is_justified story (FindAgain r k) is_core swept after counts e = absurd e
 no_slot_is_justified story (Start call) is_core swept after counts e =
-    let state = story.state in let shape = state.shape in let desk = state.desk in let w = get_or state.words (key_of call) 0 in let outcome = looked shape desk call w in
+    let state = story.state in
+    let shape = state.shape in
+    let desk = state.desk in
+    let w = get_or state.words (key_of call) 0 in
+    let outcome = looked shape desk call w in
     let a = answered (refusal state (Start call)) outcome.1 (Ended (writer.NoSlot counts)) e in
-    let g = guard (has_key shape (key_of call)) (if_busy desk.place) refuse.OutOfRange a.0 in let near : key_of call < shape.keys = ltb-true (key_of call) shape.keys g.0 in let idle = is_idle desk.place g.1 in
+    let g = guard (has_key shape (key_of call)) (if_busy desk.place) refuse.OutOfRange a.0 in
+    let near : key_of call < shape.keys = ltb-true (key_of call) shape.keys g.0 in
+    let idle = is_idle desk.place g.1 in
     let n = look_none shape desk counts call w a.1 in
     justify story (Start call) is_core a.0 after counts call refl outcome refl (record {
       none = n.0;
       full = n.1;
       free = λ s. ap (taken s) idle;
-      done = n.3 (state_of (map_after shape story.history) (key_of call)) state.words (is_core.core.shows (key_of call) near);
+      done =
+          n.3 (state_of (map_after shape story.history) (key_of call)) state.words
+          (is_core.core.shows (key_of call) near);
       polled = no_polls desk.retired n.2;
     })
 no_slot_is_justified story Go is_core swept after counts e =
-    let state = story.state in let desk = state.desk in let outcome = went state.shape desk desk.place (found_by state Go) in
+    let state = story.state in
+    let desk = state.desk in
+    let outcome = went state.shape desk desk.place (found_by state Go) in
     let a = answered (refusal state Go) outcome.1 (Ended (writer.NoSlot counts)) e in
     let n = go_ending state story.history story.polls is_core swept desk.place refl counts a.1 in
     justify story Go is_core a.0 after counts n.0 n.1 outcome refl n.2

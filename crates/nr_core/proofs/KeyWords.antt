@@ -1,5 +1,6 @@
 -- What a key's word names and asks: after an arrival, after a request, and where it is written anew.
-use Rattle.std.proofs.Common.{ap, arith, cond, eq-eqb, false, ne_eqb, suc, sym, true, ℕ, ◌%◌, ◌*◌, ◌+◌, ◌/◌, ◌<◌, ◌^◌, ◌∙◌, ◌≡◌, ◌≢◌}
+use Rattle.std.proofs.Common.{ap, arith, cond, eq-eqb, false, ne_eqb, suc, sym, true, ℕ, ◌%◌, ◌*◌, ◌+◌, ◌/◌, ◌<◌, ◌^◌}
+use Rattle.std.proofs.Common.{◌∙◌, ◌≡◌, ◌≢◌}
 use mathlib.Core.Logic.{dite}
 use native.Mathlib.Decide.{ℕ_discrete}
 use Rattle.nr_words.specs.KeyWords.{arrivals_of, hole_word, is_filled, naming, slot_of}
@@ -24,10 +25,13 @@ name_high w e = ap (λ b. cond b (slot_of w + 1) 0) (yes_filled w e)
 
 -- a word names no slot exactly where it is not filled
 pub names_none : (w : ℕ) → name_number w ≡ 0 → is_filled w ≡ false
-names_none w e = dite (ℕ_discrete (w / 2 % 2) 1) (λ l. let n = name_high w l in absurd (omega arith)) (λ l. not_filled w l)
+names_none w e =
+    dite (ℕ_discrete (w / 2 % 2) 1) (λ l. let n = name_high w l in absurd (omega arith)) (λ l. not_filled w l)
 
 pub names_one : (w s : ℕ) → name_number w ≡ suc s → (is_filled w ≡ true) × (slot_of w ≡ s)
-names_one w s e = dite (ℕ_discrete (w / 2 % 2) 1) (λ l. let n = name_high w l in (yes_filled w l, omega arith)) (λ l. let n = name_low w l in absurd (omega arith))
+names_one w s e =
+    dite (ℕ_discrete (w / 2 % 2) 1) (λ l. let n = name_high w l in (yes_filled w l, omega arith))
+    (λ l. let n = name_low w l in absurd (omega arith))
 
 -- words with the same slot and the same flag name the same
 pub same_name : (w x : ℕ) → x / 4 % 2 ^ 22 ≡ w / 4 % 2 ^ 22 → x / 2 % 2 ≡ w / 2 % 2 → name_number x ≡ name_number w
@@ -42,7 +46,8 @@ pub name-asked : (w x : ℕ) → x ≡ 2 * (w / 2) + 1 → name_number x ≡ nam
 name-asked w x e = same_name w x (omega arith) (omega arith)
 
 -- the word of a hole: it names nothing, and tells its number
-pub hole_is : (n : ℕ) → n < 2 ^ 22 → (name_number (hole_word n false) ≡ 0) × (hole_word n false % 2 ≡ 0) × (slot_of (hole_word n false) ≡ n)
+pub hole_is : (n : ℕ) → n < 2 ^ 22
+    → (name_number (hole_word n false) ≡ 0) × (hole_word n false % 2 ≡ 0) × (slot_of (hole_word n false) ≡ n)
 hole_is n l = (name_low (hole_word n false) (λ z. omega arith), omega arith, omega arith)
 
 -- the word that a publish writes

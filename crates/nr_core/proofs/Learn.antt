@@ -14,9 +14,12 @@ use Rattle.nr_machine.specs.declared.roles.Role.{Role}
 use Rattle.nr_machine.specs.declared.shape.Shape.{Shape}
 
 -- a load changes no word, and leaves the roles
-pub nothing : (shape : Shape) (words : List ℕ) (roles : List Role) (log : List Entry) (id i : ℕ) (r : Role) → Core shape words roles log → get_elem? roles id ≡ some r
+pub nothing : (shape : Shape) (words : List ℕ) (roles : List Role) (log : List Entry) (id i : ℕ) (r : Role)
+    → Core shape words roles log → get_elem? roles id ≡ some r
     → Core shape (set words i (get_or words i 0)) (set roles id r) (log ++ [])
-nothing shape words roles log id i r core at = subst (λ (p : (List ℕ) × (List Role) × (List Entry)). Core shape p.0 p.1 p.2) (λ j. (sym (set-get_or words i 0) j, sym (set_again roles id r at) j, sym (append-nil log) j)) core
+nothing shape words roles log id i r core at =
+    subst (λ (p : (List ℕ) × (List Role) × (List Entry)). Core shape p.0 p.1 p.2)
+    (λ j. (sym (set-get_or words i 0) j, sym (set_again roles id r at) j, sym (append-nil log) j)) core
 
 pub learns : (shape : Shape) (id : ℕ) (role : Role) (place : ℕ) → CanStep shape id role (Load place) (LoadsWord role)
 learns shape id role place words roles log core there = record {

@@ -1,4 +1,6 @@
--- For the crates above: the laws of the steps (`src/laws.rt` says each of them), and what they share, of sums, histories, key words, sets read through, calls that end with no slot, slots counted, keys numbered, where words lie, and what holds of reached states.
+-- For the crates above: the laws of the steps (`src/laws.rt` says each of them), and what they share, of sums,
+-- histories, key words, sets read through, calls that end with no slot, slots counted, keys numbered, where words lie,
+-- and what holds of reached states.
 pub mod Arrive
 pub mod Ask
 pub mod Read

@@ -1,5 +1,6 @@
 -- The writer's list has each key's ticket number after one entry more, and no number is past the last one.
-use Rattle.std.proofs.Common.{List, [], ap, arith, get_or, get_or-set_other, get_or-set_same, length-set, set, subst, sym, ℕ, ◌++◌, ◌+◌, ◌<◌, ◌∙◌, ◌∷◌, ◌≡◌, ◌≤◌}
+use Rattle.std.proofs.Common.{List, [], ap, arith, get_or, get_or-set_other, get_or-set_same, length-set, set, subst}
+use Rattle.std.proofs.Common.{sym, ℕ, ◌++◌, ◌+◌, ◌<◌, ◌∙◌, ◌∷◌, ◌≡◌, ◌≤◌}
 use mathlib.Core.Logic.{dite}
 use native.Mathlib.Decide.{ℕ_discrete}
 use Rattle.nr_model.proofs.HistoryLemmas.{numbers_count_cancels_lem}
@@ -15,25 +16,42 @@ use Rattle.nr_machine.specs.declared.shape.Shape.{Shape}
 
 -- an entry that keeps its key's ticket number
 pub numbers_kept : (shape : Shape) (log : List Entry) (e : Entry) (numbers : List ℕ) → call_key e.call < shape.keys
-    → number_of (state_after (bound_of shape) e.call (state_of (map_after shape log) (call_key e.call))) ≡ number_of (state_of (map_after shape log) (call_key e.call))
+    → number_of (state_after (bound_of shape) e.call (state_of (map_after shape log) (call_key e.call)))
+    ≡ number_of (state_of (map_after shape log) (call_key e.call))
     → AreNumbers shape (map_after shape log) numbers → AreNumbers shape (map_after shape (log ++ e ∷ [])) numbers
-numbers_kept shape log e numbers near same = let map = map_after shape log in let map' = map_after shape (log ++ e ∷ []) in
+numbers_kept shape log e numbers near same =
+    let map = map_after shape log in
+    let map' = map_after shape (log ++ e ∷ []) in
     numbers_more shape map map' numbers (λ j _. dite (ℕ_discrete j (call_key e.call))
-    (λ is. subst (λ (k : ℕ). number_of (state_of map' k) ≡ number_of (state_of map k)) (sym is) (ap number_of (state_same shape log e near) ∙ same))
+    (λ is. subst (λ (k : ℕ). number_of (state_of map' k) ≡ number_of (state_of map k)) (sym is)
+    (ap number_of (state_same shape log e near) ∙ same))
     (λ ne. ap number_of (state_other shape log e j ne)))
 
 -- an entry that gives its key the next number
 pub numbers_next : (shape : Shape) (log : List Entry) (e : Entry) (numbers : List ℕ) → call_key e.call < shape.keys
-    → number_of (state_after (bound_of shape) e.call (state_of (map_after shape log) (call_key e.call))) ≡ get_or numbers (call_key e.call) 0 + 1
-    → AreNumbers shape (map_after shape log) numbers → AreNumbers shape (map_after shape (log ++ e ∷ [])) (set numbers (call_key e.call) (get_or numbers (call_key e.call) 0 + 1))
-numbers_next shape log e numbers near next t = let map' = map_after shape (log ++ e ∷ []) in let k : ℕ = call_key e.call in let x : ℕ = get_or numbers k 0 + 1 in let each = t.each in record {
-  each = length-set numbers k x ∙ t.each;
-  agree = λ j low. dite (ℕ_discrete j k)
-      (λ is. subst (λ (i : ℕ). get_or (set numbers k x) i 0 ≡ number_of (state_of map' i)) (sym is) (get_or-set_same numbers k x 0 (omega arith) ∙ sym next ∙ sym (ap number_of (state_same shape log e near))))
-      (λ ne. get_or-set_other numbers k j x 0 ne ∙ t.agree j low ∙ ap number_of (sym (state_other shape log e j ne)));
-}
+    → number_of (state_after (bound_of shape) e.call (state_of (map_after shape log) (call_key e.call)))
+    ≡ get_or numbers (call_key e.call) 0 + 1
+    → AreNumbers shape (map_after shape log) numbers
+    → AreNumbers shape (map_after shape (log ++ e ∷ []))
+    (set numbers (call_key e.call) (get_or numbers (call_key e.call) 0 + 1))
+numbers_next shape log e numbers near next t =
+    let map' = map_after shape (log ++ e ∷ []) in
+    let k : ℕ = call_key e.call in
+    let x : ℕ = get_or numbers k 0 + 1 in
+    let each = t.each in
+    record {
+      each = length-set numbers k x ∙ t.each;
+      agree = λ j low. dite (ℕ_discrete j k)
+          (λ is. subst (λ (i : ℕ). get_or (set numbers k x) i 0 ≡ number_of (state_of map' i)) (sym is)
+          (get_or-set_same numbers k x 0 (omega arith) ∙ sym next ∙ sym (ap number_of (state_same shape log e near))))
+          (λ ne. get_or-set_other numbers k j x 0 ne ∙ t.agree j low
+          ∙ ap number_of (sym (state_other shape log e j ne)));
+    }
 
-pub number_within : (shape : Shape) (log : List Entry) (numbers : List ℕ) → IsShape shape → IsLegal (opening_map shape) log
+pub number_within : (shape : Shape) (log : List Entry) (numbers : List ℕ) → IsShape shape
+    → IsLegal (opening_map shape) log
     → AreNumbers shape (map_after shape log) numbers → (at : ℕ) → at < shape.keys → get_or numbers at 0 ≤ last_number
 number_within shape log numbers fits legal t at near =
-    let last = (numbers_count_cancels_lem shape.keys (bound_of shape) shape.first_number at log legal near).1 fits.number in omega (arith, t.agree at near)
+    let last
+    = (numbers_count_cancels_lem shape.keys (bound_of shape) shape.first_number at log legal near).1 fits.number in
+    omega (arith, t.agree at near)

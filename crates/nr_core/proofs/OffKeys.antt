@@ -1,5 +1,7 @@
 -- A step on a word behind the keys' words, which leaves each slot in its place: it keeps all that stands.
-use Rattle.std.proofs.Common.{Bool, List, [], ap, append-nil, arith, cond, false, get_or, get_or-set_other, length-set, refl, set, subst, suc, sym, true, ℕ, ⊎_elim, ◌%◌, ◌*◌, ◌++◌, ◌+◌, ◌<◌, ◌^◌, ◌∙◌, ◌≡◌, ◌≢◌, ◌≤◌}
+use Rattle.std.proofs.Common.{Bool, List, [], ap, append-nil, arith, cond, false, get_or, get_or-set_other, length-set}
+use Rattle.std.proofs.Common.{refl, set, subst, suc, sym, true, ℕ, ⊎_elim, ◌%◌, ◌*◌, ◌++◌, ◌+◌, ◌<◌, ◌^◌, ◌∙◌, ◌≡◌, ◌≢◌}
+use Rattle.std.proofs.Common.{◌≤◌}
 use lib.ListN.{get_elem?}
 use mathlib.Core.Option.{some}
 use Rattle.nr_model.specs.Histories.{Entry}
@@ -19,52 +21,85 @@ use Rattle.nr_machine.specs.declared.roles.Role.TheVariants.{Note, Reader, Write
 use Rattle.nr_machine.specs.declared.shape.Shape.{Shape}
 
 -- a step on a word behind the keys, which keeps each slot's place
-pub off_keys : (shape : Shape) (words : List ℕ) (roles : List Role) (log : List Entry) (core : Core shape words roles log) (id : ℕ) (r r' : Role) (i x : ℕ)
+pub off_keys : (shape : Shape) (words : List ℕ) (roles : List Role) (log : List Entry)
+    (core : Core shape words roles log) (id : ℕ) (r r' : Role) (i x : ℕ)
     → shape.keys ≤ i → get_elem? roles id ≡ some r → is_writer r' ≡ is_writer r → is_reader r' ≡ is_reader r
     → ((s : ℕ) → s < shape.slots → keeps s r' ≡ keeps s r)
-    → ((s j : ℕ) → s < shape.slots → j ≤ 2 * (bound_of shape) → 0 < named shape words s → get_or (set words i x) (content shape s j) 0 ≡ get_or words (content shape s j) 0)
-    → ((s : ℕ) → s < shape.slots → 0 < named shape words s → (get_or (set words i x) (departures shape s) 0 + held (set roles id r') s) % 2 ^ 40 ≡ (get_or words (departures shape s) 0 + held roles s) % 2 ^ 40)
-    → ((j : ℕ) (u : Role) → j ≢ id → get_elem? roles j ≡ some u → Knows shape words (map_after shape log) (held roles) u → Knows shape (set words i x) (map_after shape log) (held (set roles id r')) u)
+    → ((s j : ℕ) → s < shape.slots → j ≤ 2 * (bound_of shape) → 0 < named shape words s
+    → get_or (set words i x) (content shape s j) 0 ≡ get_or words (content shape s j) 0)
+    → ((s : ℕ) → s < shape.slots → 0 < named shape words s
+    → (get_or (set words i x) (departures shape s) 0 + held (set roles id r') s) % 2 ^ 40
+    ≡ (get_or words (departures shape s) 0 + held roles s) % 2 ^ 40)
+    → ((j : ℕ) (u : Role) → j ≢ id → get_elem? roles j ≡ some u → Knows shape words (map_after shape log) (held roles) u
+    → Knows shape (set words i x) (map_after shape log) (held (set roles id r')) u)
     → Knows shape (set words i x) (map_after shape log) (held (set roles id r')) r'
     → Core shape (set words i x) (set roles id r') (log ++ [])
 off_keys shape words roles log core id r r' i x behind at w-same r-same keeping conts sums others own =
-    let words' = set words i x in let roles' = set roles id r' in let map = map_after shape log in let wide = core.wide in let fits = core.fits.bound in
-    let key : (k : ℕ) → k < shape.keys → get_or words' k 0 ≡ get_or words k 0 = λ k l. get_or-set_other words i k x 0 (λ e. omega arith) in
-    let one-named : (k s : ℕ) → k < shape.keys → name_number (get_or words k 0) ≡ suc s → 0 < named shape words s = λ k s l e. omega
-    (arith, below-term (λ j. only (suc s) (name_number (get_or words j 0))) shape.keys k l, ap (only (suc s)) e, only-same (suc s)) in
+    let words' = set words i x in
+    let roles' = set roles id r' in
+    let map = map_after shape log in
+    let wide = core.wide in
+    let fits = core.fits.bound in
+    let key : (k : ℕ) → k < shape.keys → get_or words' k 0 ≡ get_or words k 0
+    = λ k l. get_or-set_other words i k x 0 (λ e. omega arith) in
+    let one-named : (k s : ℕ) → k < shape.keys → name_number (get_or words k 0) ≡ suc s → 0 < named shape words s
+    = λ k s l e. omega (
+      arith,
+      below-term (λ j. only (suc s) (name_number (get_or words j 0))) shape.keys k l,
+      ap (only (suc s)) e,
+      only-same (suc s),
+    ) in
     subst (Core shape words' roles') (sym (append-nil log)) record {
       fits = core.fits;
       wide = length-set words i x ∙ wide;
       legal = core.legal;
       shows = λ k l. subst (λ (w : ℕ). ShowsState shape words' w (state_of map k)) (sym (key k l))
-          (shows_more shape words words' (get_or words k 0) (state_of map k) (λ s j e near low. conts s j near low (one-named k s l e))
+          (shows_more shape words words' (get_or words k 0) (state_of map k)
+          (λ s j e near low. conts s j near low (one-named k s l e))
           (core.shows k l));
       places = λ s l. omega (
         arith,
         core.places s l,
         below-same (λ j. only (suc s) (name_number (get_or words' j 0)))
-            (λ j. only (suc s) (name_number (get_or words j 0))) shape.keys (λ j near. ap (λ (y : ℕ). only (suc s) (name_number y)) (key j near)),
+            (λ j. only (suc s) (name_number (get_or words j 0))) shape.keys
+            (λ j near. ap (λ (y : ℕ). only (suc s) (name_number y)) (key j near)),
         total-set (keeps s) roles id r r' at,
         keeping s l,
       );
       counts = λ k s l e. let e' : name_number (get_or words k 0) ≡ suc s = ap name_number (sym (key k l)) ∙ e in
           ap (λ (y : ℕ). arrivals_of y % 2 ^ 40) (key k l) ∙ core.counts k s l e'
-          ∙ sym (sums s (in_range shape words (get_or words k 0) (state_of map k) s (core.shows k l) e') (one-named k s l e'));
-      knows = λ j u there. ⊎_elim (λ (t : (j ≡ id) × (r' ≡ u)). subst (Knows shape words' map (held roles')) t.1 own) (λ (t : (j ≢ id) × (get_elem? roles j ≡ some u)). others j u t.0 t.1 (core.knows j u t.1)) (at_set roles id j r' u there);
+          ∙ sym
+          (sums s (in_range shape words (get_or words k 0) (state_of map k) s (core.shows k l) e')
+          (one-named k s l e'));
+      knows = λ j u there. ⊎_elim (λ (t : (j ≡ id) × (r' ≡ u)). subst (Knows shape words' map (held roles')) t.1 own)
+          (λ (t : (j ≢ id) × (get_elem? roles j ≡ some u)). others j u t.0 t.1 (core.knows j u t.1))
+          (at_set roles id j r' u there);
       one = omega (arith, total-set is_writer roles id r r' at, core.one);
       few = omega (arith, total-set is_reader roles id r r' at, core.few);
     }
 
 -- the others after a writer's step are no writer
-pub no_writer : (shape : Shape) (words : List ℕ) (roles : List Role) (log : List Entry) (core : Core shape words roles log) (words' : List ℕ)
+pub no_writer : (shape : Shape) (words : List ℕ) (roles : List Role) (log : List Entry)
+    (core : Core shape words roles log) (words' : List ℕ)
     (map' : PartialMap) (hold' : ℕ → ℕ) (id : ℕ) (desk : Desk) → get_elem? roles id ≡ some (Writer desk)
-    → ((s i : ℕ) → 0 < held roles s → s < shape.slots → i ≤ 2 * (bound_of shape) → get_or words' (content shape s i) 0 ≡ get_or words (content shape s i) 0)
-    → (j : ℕ) (u : Role) → j ≢ id → get_elem? roles j ≡ some u → Knows shape words (map_after shape log) (held roles) u → Knows shape words' map' hold' u
-no_writer shape words roles log core words' map' hold' id desk at conts j u = let map = map_after shape log in elim u as (λ v. j ≢ id → get_elem? roles j ≡ some v → Knows shape words map (held roles) v → Knows shape words' map' hold' v) [
-  | Writer desk' ↦ λ ne there t. absurd (omega (arith, terms_le is_writer roles id j (Writer desk) (Writer desk') ne at there, core.one))
-  | Reader other y ↦ λ ne there t. holding_more shape words words' map map' (held roles) hold' y (λ s i mine near low. let part = term_le (holds s) roles j (Reader other y) there in conts s i (omega arith) near low) t
-  | Note ↦ λ ne there t. tt
-]
+    → ((s i : ℕ) → 0 < held roles s → s < shape.slots → i ≤ 2 * (bound_of shape)
+    → get_or words' (content shape s i) 0 ≡ get_or words (content shape s i) 0)
+    → (j : ℕ) (u : Role) → j ≢ id → get_elem? roles j ≡ some u → Knows shape words (map_after shape log) (held roles) u
+    → Knows shape words' map' hold' u
+no_writer shape words roles log core words' map' hold' id desk at conts j u =
+    let map = map_after shape log in
+    elim u as (λ v. j ≢ id → get_elem? roles j ≡ some v → Knows shape words map (held roles) v
+    → Knows shape words' map' hold' v) [
+      | Writer
+          desk' ↦ λ ne there t. absurd
+          (omega (arith, terms_le is_writer roles id j (Writer desk) (Writer desk') ne at there, core.one))
+      | Reader other
+          y ↦ λ ne there t. holding_more shape words words' map map' (held roles) hold' y
+          (λ s i mine near low.
+          let part = term_le (holds s) roles j (Reader other y) there in conts s i (omega arith) near low)
+          t
+      | Note ↦ λ ne there t. tt
+    ]
 
 pub none_of : (y : Bool) → [] ≡ cond {A = List Entry} y [] []
 none_of y = elim y as (λ z. [] ≡ cond {A = List Entry} z [] []) [ true ↦ refl | false ↦ refl ]

@@ -1,5 +1,6 @@
 -- A reader's step on a key's word that leaves what the word names: it keeps all that stands.
-use Rattle.std.proofs.Common.{List, ap, arith, get_or, get_or-set_other, get_or-set_same, length-set, set, subst, suc, sym, ℕ, ⊎_elim, ◌%◌, ◌++◌, ◌+◌, ◌<◌, ◌^◌, ◌∙◌, ◌≡◌, ◌≢◌, ◌≤◌}
+use Rattle.std.proofs.Common.{List, ap, arith, get_or, get_or-set_other, get_or-set_same, length-set, set, subst, suc}
+use Rattle.std.proofs.Common.{sym, ℕ, ⊎_elim, ◌%◌, ◌++◌, ◌+◌, ◌<◌, ◌^◌, ◌∙◌, ◌≡◌, ◌≢◌, ◌≤◌}
 use lib.ListN.{get_elem?}
 use mathlib.Core.Logic.{dite}
 use mathlib.Core.Option.{some}
@@ -22,60 +23,94 @@ use Rattle.nr_machine.specs.declared.shape.Shape.{Shape}
 use Rattle.nr_model.specs.declared.states.KeyState.TheVariants as key
 
 -- a slot that a key names is in range
-pub in_range : (shape : Shape) (words : List ℕ) (w : ℕ) (state : KeyState) (s : ℕ) → ShowsState shape words w state → name_number w ≡ suc s → s < shape.slots
+pub in_range : (shape : Shape) (words : List ℕ) (w : ℕ) (state : KeyState) (s : ℕ) → ShowsState shape words w state
+    → name_number w ≡ suc s → s < shape.slots
 in_range shape words w (key.Hole number) s t e = absurd (omega (arith, t.0))
 in_range shape words w (key.Asked number) s t e = absurd (omega (arith, t.0))
 in_range shape words w (key.Rows number m) s t e = let same = t.1 in let l = t.2 in omega arith
 
 -- two keys name different slots
-pub apart : (shape : Shape) (words : List ℕ) (roles : List Role) (log : List Entry) → Core shape words roles log → (j k s : ℕ) → j < shape.keys
+pub apart : (shape : Shape) (words : List ℕ) (roles : List Role) (log : List Entry) → Core shape words roles log
+    → (j k s : ℕ) → j < shape.keys
     → k < shape.keys → j ≢ k → name_number (get_or words j 0) ≡ suc s → name_number (get_or words k 0) ≢ suc s
-apart shape words roles log core j k s l near ne e z = let r = in_range shape words (get_or words j 0) (state_of (map_after shape log) j) s (core.shows j l) e in
-    let one : only (suc s) (name_number (get_or words j 0)) ≡ 1 = ap (only (suc s)) e ∙ only-same (suc s) in let two : only (suc s) (name_number (get_or words k 0)) ≡ 1 = ap (only (suc s)) z ∙ only-same (suc s) in
-    absurd (omega (arith, below-terms (λ y. only (suc s) (name_number (get_or words y 0))) shape.keys j k l near ne, core.places s r))
+apart shape words roles log core j k s l near ne e z =
+    let r = in_range shape words (get_or words j 0) (state_of (map_after shape log) j) s (core.shows j l) e in
+    let one : only (suc s) (name_number (get_or words j 0)) ≡ 1 = ap (only (suc s)) e ∙ only-same (suc s) in
+    let two : only (suc s) (name_number (get_or words k 0)) ≡ 1 = ap (only (suc s)) z ∙ only-same (suc s) in
+    absurd
+    (omega (
+      arith,
+      below-terms (λ y. only (suc s) (name_number (get_or words y 0))) shape.keys j k l near ne,
+      core.places s r,
+    ))
 
 -- what is kept by a role is kept by all
-pub kept_by : (s : ℕ) (roles : List Role) (j : ℕ) (u : Role) → get_elem? roles j ≡ some u → 0 < keeps s u → 0 < total (keeps s) roles
+pub kept_by : (s : ℕ) (roles : List Role) (j : ℕ) (u : Role) → get_elem? roles j ≡ some u → 0 < keeps s u
+    → 0 < total (keeps s) roles
 kept_by s roles j u at l = let part = term_le (keeps s) roles j u at in omega arith
 
 -- a reader's step on a key's word that leaves what the word names
-pub on_key : (shape : Shape) (words : List ℕ) (roles : List Role) (log es : List Entry) (core : Core shape words roles log) (id c : ℕ) (before after : Grip) (k x : ℕ)
+pub on_key : (shape : Shape) (words : List ℕ) (roles : List Role) (log es : List Entry)
+    (core : Core shape words roles log) (id c : ℕ) (before after : Grip) (k x : ℕ)
     → k < shape.keys → get_elem? roles id ≡ some (Reader c before) → name_number x ≡ name_number (get_or words k 0)
     → IsLegal (opening_map shape) (log ++ es)
     → ((j : ℕ) → j ≢ k → state_of (map_after shape (log ++ es)) j ≡ state_of (map_after shape log) j)
     → ((j : ℕ) → number_of (state_of (map_after shape (log ++ es)) j) ≡ number_of (state_of (map_after shape log) j))
-    → ((j : ℕ) → ((number : ℕ) → state_of (map_after shape log) j ≡ key.Hole number → ⊥) → state_of (map_after shape (log ++ es)) j ≡ state_of (map_after shape log) j)
+    → ((j : ℕ) → ((number : ℕ) → state_of (map_after shape log) j ≡ key.Hole number → ⊥)
+    → state_of (map_after shape (log ++ es)) j ≡ state_of (map_after shape log) j)
     → ShowsState shape words x (state_of (map_after shape (log ++ es)) k)
     → Grips shape words (map_after shape log) (held roles) after
     → ((s : ℕ) → name_number (get_or words k 0) ≢ suc s → grips s after ≡ grips s before)
-    → ((s : ℕ) → name_number (get_or words k 0) ≡ suc s → arrivals_of x % 2 ^ 40 ≡ (get_or words (departures shape s) 0 + held (set roles id (Reader c after)) s) % 2 ^ 40)
+    → ((s : ℕ) → name_number (get_or words k 0) ≡ suc s
+    → arrivals_of x % 2 ^ 40
+    ≡ (get_or words (departures shape s) 0 + held (set roles id (Reader c after)) s) % 2 ^ 40)
     → Core shape (set words k x) (set roles id (Reader c after)) (log ++ es)
-on_key shape words roles log es core id c before after k x near at same-name legal states same-number stays shown own quiet counted =
-    let words' = set words k x in let roles' = set roles id (Reader c after) in let map = map_after shape log in let map' = map_after shape (log ++ es) in
+on_key shape words roles log es core id c before after k x near at same-name legal states same-number stays shown own
+    quiet counted =
+    let words' = set words k x in
+    let roles' = set roles id (Reader c after) in
+    let map = map_after shape log in
+    let map' = map_after shape (log ++ es) in
     let wide = core.wide in let fits = core.fits.bound in
     let other : (j : ℕ) → j ≢ k → get_or words' j 0 ≡ get_or words j 0 = λ j ne. get_or-set_other words k j x 0 ne in
     let here : get_or words' k 0 ≡ x = get_or-set_same words k x 0 (omega arith) in
     let names : (j : ℕ) → name_number (get_or words' j 0) ≡ name_number (get_or words j 0) = λ j. dite (ℕ_discrete j k)
-    (λ e. ap (λ (y : ℕ). name_number (get_or words' y 0)) e ∙ ap name_number here ∙ same-name ∙ ap (λ (y : ℕ). name_number (get_or words y 0))
+    (λ e. ap (λ (y : ℕ). name_number (get_or words' y 0)) e ∙ ap name_number here ∙ same-name
+    ∙ ap (λ (y : ℕ). name_number (get_or words y 0))
     (sym e)) (λ ne. ap name_number (other j ne)) in
-    let cont : (s i : ℕ) → get_or words' (content shape s i) 0 ≡ get_or words (content shape s i) 0 = λ s i. other (content shape s i) (λ e. omega arith) in
-    let dep : (s : ℕ) → get_or words' (departures shape s) 0 ≡ get_or words (departures shape s) 0 = λ s. other (departures shape s) (λ e. omega arith) in
-    let holding : (s : ℕ) → held roles' s + grips s before ≡ held roles s + grips s after = λ s. total-set (holds s) roles id (Reader c before) (Reader c after) at in
-    let still : (s : ℕ) → name_number (get_or words k 0) ≢ suc s → held roles' s ≡ held roles s = λ s ne. omega (arith, holding s, quiet s ne) in
-    let here-named : (s : ℕ) → name_number (get_or words k 0) ≡ suc s → 1 ≤ named shape words s = λ s e. omega
-    (arith, below-term (λ j. only (suc s) (name_number (get_or words j 0))) shape.keys k near, ap (only (suc s)) e, only-same (suc s)) in
-    let unnamed : (s : ℕ) → s < shape.slots → 0 < total (keeps s) roles → name_number (get_or words k 0) ≢ suc s = λ s l kept e. omega (arith, here-named s e, core.places s l) in
-    let left : (s : ℕ) → s < shape.slots → 0 < total (keeps s) roles → Left shape words words' map map' (held roles) (held roles') s = λ s l kept. let state = still s (unnamed s l kept) in record {
+    let cont : (s i : ℕ) → get_or words' (content shape s i) 0 ≡ get_or words (content shape s i) 0
+    = λ s i. other (content shape s i) (λ e. omega arith) in
+    let dep : (s : ℕ) → get_or words' (departures shape s) 0 ≡ get_or words (departures shape s) 0
+    = λ s. other (departures shape s) (λ e. omega arith) in
+    let holding : (s : ℕ) → held roles' s + grips s before ≡ held roles s + grips s after
+    = λ s. total-set (holds s) roles id (Reader c before) (Reader c after) at in
+    let still : (s : ℕ) → name_number (get_or words k 0) ≢ suc s → held roles' s ≡ held roles s
+    = λ s ne. omega (arith, holding s, quiet s ne) in
+    let here-named : (s : ℕ) → name_number (get_or words k 0) ≡ suc s → 1 ≤ named shape words s = λ s e. omega (
+      arith,
+      below-term (λ j. only (suc s) (name_number (get_or words j 0))) shape.keys k near,
+      ap (only (suc s)) e,
+      only-same (suc s),
+    ) in
+    let unnamed : (s : ℕ) → s < shape.slots → 0 < total (keeps s) roles → name_number (get_or words k 0) ≢ suc s
+    = λ s l kept e. omega (arith, here-named s e, core.places s l) in
+    let left : (s : ℕ) → s < shape.slots → 0 < total (keeps s) roles
+    → Left shape words words' map map' (held roles) (held roles') s
+    = λ s l kept. let state = still s (unnamed s l kept) in record {
       contents = λ i _. cont s i;
       nobody = λ z. state ∙ z;
       deps = λ _. dep s;
       sum = ap (λ (p : ℕ × ℕ). (p.0 + p.1) % 2 ^ 40) (λ i. (dep s i, state i));
     } in
     let others : (j : ℕ) (u : Role) → get_elem? roles j ≡ some u → Knows shape words map (held roles) u
-    → Knows shape words' map' (held roles') u = λ j u. elim u as (λ v. get_elem? roles j ≡ some v → Knows shape words map (held roles) v
+    → Knows shape words' map' (held roles')
+    u = λ j u. elim u as (λ v. get_elem? roles j ≡ some v → Knows shape words map (held roles) v
     → Knows shape words' map' (held roles') v) [
-      | Writer desk ↦ λ there t. desk_more shape words words' map map' (held roles) (held roles') (λ y _. names y) stays desk same-number (λ s l kept. left s l (kept_by s roles j (Writer desk) there kept)) t
-      | Reader other y ↦ λ there t. holding_more shape words words' map map' (held roles) (held roles') y (λ s i _ _ _. cont s i) t
+      | Writer
+          desk ↦ λ there t. desk_more shape words words' map map' (held roles) (held roles') (λ y _. names y) stays desk
+          same-number (λ s l kept. left s l (kept_by s roles j (Writer desk) there kept)) t
+      | Reader other
+          y ↦ λ there t. holding_more shape words words' map map' (held roles) (held roles') y (λ s i _ _ _. cont s i) t
       | Note ↦ λ there t. tt
     ] in
     record {
@@ -88,7 +123,8 @@ on_key shape words roles log es core id c before after k x near at same-name leg
           (shows_more shape words words' x (state_of map' k) (λ s i _ _ _. cont s i) shown)))
           (λ ne. subst (λ (w : ℕ). ShowsState shape words' w (state_of map' j)) (sym (other j ne))
           (subst (ShowsState shape words' (get_or words j 0)) (sym (states j ne))
-          (shows_more shape words words' (get_or words j 0) (state_of map j) (λ s i _ _ _. cont s i) (core.shows j l))));
+          (shows_more shape words words' (get_or words j 0) (state_of map j) (λ s i _ _ _. cont s i)
+          (core.shows j l))));
       places = λ s l. omega (
         arith,
         core.places s l,
@@ -98,13 +134,19 @@ on_key shape words roles log es core id c before after k x near at same-name leg
             (Reader c before) (Reader c after) at,
       );
       counts = λ j s l e. dite (ℕ_discrete j k)
-          (λ z. let e' : name_number (get_or words k 0) ≡ suc s = ap (λ (y : ℕ). name_number (get_or words y 0)) (sym z) ∙ (sym (names j) ∙ e) in let w : get_or words' j 0 ≡ x = ap (λ (y : ℕ). get_or words' y 0) z ∙ here in
-          ap (λ (y : ℕ). arrivals_of y % 2 ^ 40) w ∙ counted s e' ∙ ap (λ (y : ℕ). (y + held roles' s) % 2 ^ 40) (sym (dep s)))
+          (λ z.
+          let e' : name_number (get_or words k 0) ≡ suc s
+          = ap (λ (y : ℕ). name_number (get_or words y 0)) (sym z) ∙ (sym (names j) ∙ e) in
+          let w : get_or words' j 0 ≡ x = ap (λ (y : ℕ). get_or words' y 0) z ∙ here in
+          ap (λ (y : ℕ). arrivals_of y % 2 ^ 40) w ∙ counted s e'
+          ∙ ap (λ (y : ℕ). (y + held roles' s) % 2 ^ 40) (sym (dep s)))
           (λ ne. let e' : name_number (get_or words j 0) ≡ suc s = sym (names j) ∙ e in
           let free : name_number (get_or words k 0) ≢ suc s = apart shape words roles log core j k s l near ne e' in
-          ap (λ (y : ℕ). arrivals_of y % 2 ^ 40) (other j ne) ∙ core.counts j s l e' ∙ ap (λ (p : ℕ × ℕ). (p.0 + p.1) % 2 ^ 40) (λ i. (sym (dep s) i, sym (still s free) i)));
+          ap (λ (y : ℕ). arrivals_of y % 2 ^ 40) (other j ne) ∙ core.counts j s l e'
+          ∙ ap (λ (p : ℕ × ℕ). (p.0 + p.1) % 2 ^ 40) (λ i. (sym (dep s) i, sym (still s free) i)));
       knows = λ j u there. ⊎_elim
-          (λ (t : (j ≡ id) × (Reader c after ≡ u)). subst (Knows shape words' map' (held roles')) t.1 (holding_more shape words words' map map' (held roles) (held roles') after (λ s i _ _ _. cont s i) own))
+          (λ (t : (j ≡ id) × (Reader c after ≡ u)). subst (Knows shape words' map' (held roles')) t.1
+          (holding_more shape words words' map map' (held roles) (held roles') after (λ s i _ _ _. cont s i) own))
           (λ (t : (j ≢ id) × (get_elem? roles j ≡ some u)). others j u t.1 (core.knows j u t.1))
           (at_set roles id j (Reader c after) u there);
       one = omega (arith, total-set is_writer roles id (Reader c before) (Reader c after) at, core.one);

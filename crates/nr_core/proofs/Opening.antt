@@ -1,5 +1,6 @@
 -- At the opening all that stands between steps stands: every key is a hole, every slot is free.
-use Rattle.std.proofs.Common.{List, [], ap, arith, false, get_or, length, refl, replicate, subst, suc, sym, zero, ℕ, ◌*◌, ◌++◌, ◌+◌, ◌<◌, ◌∙◌, ◌∷◌, ◌≡◌, ◌≤◌}
+use Rattle.std.proofs.Common.{List, [], ap, arith, false, get_or, length, refl, replicate, subst, suc, sym, zero, ℕ}
+use Rattle.std.proofs.Common.{◌*◌, ◌++◌, ◌+◌, ◌<◌, ◌∙◌, ◌∷◌, ◌≡◌, ◌≤◌}
 use Rattle.std.proofs.lemmas.List.{get_or-replicate, length-append, length-replicate}
 use lib.ListN.{get_elem?}
 use mathlib.Core.Option.{some, some-injective, some-ne-none}
@@ -37,7 +38,8 @@ all_readers (suc n) i = let t = all_readers n (suc i) in (omega (arith, t.0), om
 reader_at : (n i j : ℕ) → j < n → get_elem? (readers_from i n) j ≡ some (Reader (suc (i + j)) Nothing)
 reader_at zero i j low = absurd (omega arith)
 reader_at (suc n) i zero low = ap (λ (c : ℕ). some (Reader c Nothing)) (omega arith)
-reader_at (suc n) i (suc j) low = reader_at n (suc i) j (omega arith) ∙ ap (λ (c : ℕ). some (Reader c Nothing)) (omega arith)
+reader_at (suc n) i (suc j) low =
+    reader_at n (suc i) j (omega arith) ∙ ap (λ (c : ℕ). some (Reader c Nothing)) (omega arith)
 
 only_readers : (n i j : ℕ) (u : Role) → get_elem? (readers_from i n) j ≡ some u → (c : ℕ) × (Reader c Nothing ≡ u)
 only_readers zero i j u e = absurd (some-ne-none u (sym e))
@@ -54,28 +56,40 @@ past [] l i j e = ap (λ (n : ℕ). get_or l n 0) (omega arith)
 past (x ∷ a) l zero j e = absurd (omega arith)
 past (x ∷ a) l (suc i) j e = past a l i j (omega arith)
 
-each_slot : (room n s x : ℕ) (b : List ℕ) (i : ℕ) → length b ≡ room → s < n → i ≡ suc room * s → get_or (repeated n (x ∷ b)) i 0 ≡ x
+each_slot : (room n s x : ℕ) (b : List ℕ) (i : ℕ) → length b ≡ room → s < n → i ≡ suc room * s
+    → get_or (repeated n (x ∷ b)) i 0 ≡ x
 each_slot room zero s x b i size low e = absurd (omega arith)
 each_slot room (suc n) zero x b zero size low e = refl
 each_slot room (suc n) zero x b (suc i) size low e = absurd (omega arith)
-each_slot room (suc n) (suc s) x b i size low e = past (x ∷ b) (repeated n (x ∷ b)) i (suc room * s) (omega arith) ∙ each_slot room n s x b (suc room * s) size (omega arith) refl
+each_slot room (suc n) (suc s) x b i size low e =
+    past (x ∷ b) (repeated n (x ∷ b)) i (suc room * s) (omega arith)
+    ∙ each_slot room n s x b (suc room * s) size (omega arith) refl
 
 -- and its second word
-each_second : (room n s x y : ℕ) (b : List ℕ) (i : ℕ) → suc (length b) ≡ room → s < n → i ≡ suc room * s + 1 → get_or (repeated n (x ∷ y ∷ b)) i 0 ≡ y
+each_second : (room n s x y : ℕ) (b : List ℕ) (i : ℕ) → suc (length b) ≡ room → s < n → i ≡ suc room * s + 1
+    → get_or (repeated n (x ∷ y ∷ b)) i 0 ≡ y
 each_second room zero s x y b i size low e = absurd (omega arith)
 each_second room (suc n) zero x y b zero size low e = absurd (omega arith)
 each_second room (suc n) zero x y b (suc zero) size low e = refl
 each_second room (suc n) zero x y b (suc (suc i)) size low e = absurd (omega arith)
-each_second room (suc n) (suc s) x y b i size low e = past (x ∷ y ∷ b) (repeated n (x ∷ y ∷ b)) i (suc room * s + 1) (omega arith) ∙ each_second room n s x y b (suc room * s + 1) size (omega arith) refl
+each_second room (suc n) (suc s) x y b i size low e =
+    past (x ∷ y ∷ b) (repeated n (x ∷ y ∷ b)) i (suc room * s + 1) (omega arith)
+    ∙ each_second room n s x y b (suc room * s + 1) size (omega arith) refl
 
 -- at the opening the first content word of each slot is 0
-pub blank_at_opening : (shape : Shape) (slot : ℕ) → slot < shape.slots → get_or (words_at_opening shape) (content shape slot 0) 0 ≡ 0
+pub blank_at_opening : (shape : Shape) (slot : ℕ) → slot < shape.slots
+    → get_or (words_at_opening shape) (content shape slot 0) 0 ≡ 0
 blank_at_opening shape slot near =
-    let hole : ℕ = hole_word shape.first_number false in let room : ℕ = slot_room shape in let rest : List ℕ = replicate (2 * bound_of shape) 0 in
-    let block : shape.first_count ∷ replicate room 0 ≡ shape.first_count ∷ 0 ∷ rest = ap (λ (n : ℕ). shape.first_count ∷ replicate n 0) (plus_one (2 * bound_of shape)) in
-    past (replicate shape.keys hole) (repeated shape.slots (shape.first_count ∷ replicate room 0)) (content shape slot 0) (suc room * slot + 1) (omega (arith, length-replicate {A = ℕ} shape.keys hole))
+    let hole : ℕ = hole_word shape.first_number false in
+    let room : ℕ = slot_room shape in
+    let rest : List ℕ = replicate (2 * bound_of shape) 0 in
+    let block : shape.first_count ∷ replicate room 0 ≡ shape.first_count ∷ 0 ∷ rest
+    = ap (λ (n : ℕ). shape.first_count ∷ replicate n 0) (plus_one (2 * bound_of shape)) in
+    past (replicate shape.keys hole) (repeated shape.slots (shape.first_count ∷ replicate room 0))
+    (content shape slot 0) (suc room * slot + 1) (omega (arith, length-replicate {A = ℕ} shape.keys hole))
     ∙ ap (λ (b : List ℕ). get_or (repeated shape.slots b) (suc room * slot + 1) 0) block
-    ∙ each_second room shape.slots slot shape.first_count 0 rest (suc room * slot + 1) (ap suc (length-replicate (2 * bound_of shape) 0) ∙ sym (plus_one (2 * bound_of shape))) near refl
+    ∙ each_second room shape.slots slot shape.first_count 0 rest (suc room * slot + 1)
+    (ap suc (length-replicate (2 * bound_of shape) 0) ∙ sym (plus_one (2 * bound_of shape))) near refl
   where
     plus_one : (n : ℕ) → n + 1 ≡ suc n
     plus_one n = omega arith
@@ -92,14 +106,23 @@ below_none f (suc n) none = omega (arith, below_none f n (λ k l. none k (omega 
 first_numbers : (shape : Shape) → AreNumbers shape (opening_map shape) (replicate shape.keys shape.first_number)
 first_numbers shape = record {
   each = length-replicate shape.keys shape.first_number;
-  agree = λ k near. get_or-replicate shape.keys k shape.first_number 0 near ∙ ap number_of (sym (get_or-replicate shape.keys k (key.Hole shape.first_number) (key.Hole 0) near));
+  agree = λ k near. get_or-replicate shape.keys k shape.first_number 0 near
+      ∙ ap number_of (sym (get_or-replicate shape.keys k (key.Hole shape.first_number) (key.Hole 0) near));
 }
 
 -- the writer, and that many readers
-pub core_opens : (shape : Shape) → IsShape shape → (n : ℕ) → n ≤ shape.readers → Core shape (words_at_opening shape) (Writer (opening_desk shape) ∷ readers_from 0 n) []
-core_opens shape fits n few = let words = words_at_opening shape in let slot = shape.first_count ∷ replicate (slot_room shape) 0 in let roles = Writer (opening_desk shape) ∷ readers_from 0 n in let all = all_readers n 0 in
-    let hole : ℕ = hole_word shape.first_number false in let few_numbers = fits.number in let is_hole = hole_is shape.first_number (omega arith) in
-    let key_hole : (k : ℕ) → k < shape.keys → get_or words k 0 ≡ hole = front shape.keys hole (repeated shape.slots slot) in
+pub core_opens : (shape : Shape) → IsShape shape → (n : ℕ) → n ≤ shape.readers
+    → Core shape (words_at_opening shape) (Writer (opening_desk shape) ∷ readers_from 0 n) []
+core_opens shape fits n few =
+    let words = words_at_opening shape in
+    let slot = shape.first_count ∷ replicate (slot_room shape) 0 in
+    let roles = Writer (opening_desk shape) ∷ readers_from 0 n in
+    let all = all_readers n 0 in
+    let hole : ℕ = hole_word shape.first_number false in
+    let few_numbers = fits.number in
+    let is_hole = hole_is shape.first_number (omega arith) in
+    let key_hole : (k : ℕ) → k < shape.keys → get_or words k 0 ≡ hole
+    = front shape.keys hole (repeated shape.slots slot) in
     let wide : length words ≡ total_of (layout shape) = omega (
       arith,
       length-append (replicate shape.keys hole) (repeated shape.slots slot),
@@ -108,15 +131,24 @@ core_opens shape fits n few = let words = words_at_opening shape in let slot = s
           (slot_room shape) shape.slots slot (ap suc (length-replicate (slot_room shape) 0)),
     ) in
     let dep : (s : ℕ) → s < shape.slots → get_or words (departures shape s) 0 ≡ shape.first_count
-    = λ s near. past (replicate shape.keys hole) (repeated shape.slots slot) (departures shape s) (suc (slot_room shape) * s)
-    (omega (arith, length-replicate {A = ℕ} shape.keys hole)) ∙ each_slot (slot_room shape) shape.slots s shape.first_count
+    = λ s near. past (replicate shape.keys hole) (repeated shape.slots slot) (departures shape s)
+    (suc (slot_room shape) * s)
+    (omega (arith, length-replicate {A = ℕ} shape.keys hole))
+    ∙ each_slot (slot_room shape) shape.slots s shape.first_count
     (replicate (slot_room shape) 0) (suc (slot_room shape) * s) (length-replicate (slot_room shape) 0) near refl in
     let nobody_holds : (s : ℕ) → held roles s ≡ 0 = λ s. omega (arith, no_weight (holds s) (λ c. refl) n 0) in
-    let nameless : (k : ℕ) → k < shape.keys → name_number (get_or words k 0) ≡ 0 = λ k near. ap name_number (key_hole k near) ∙ is_hole.0 in record {
+    let nameless : (k : ℕ) → k < shape.keys → name_number (get_or words k 0) ≡ 0
+    = λ k near. ap name_number (key_hole k near) ∙ is_hole.0 in
+    record {
       fits = fits;
       wide = wide;
       legal = tt;
-      shows = λ k near. subst (λ (p : ℕ × KeyState). ShowsState shape words p.0 p.1) (λ j. (sym (key_hole k near) j, sym (get_or-replicate shape.keys k (key.Hole shape.first_number) (key.Hole 0) near) j)) is_hole;
+      shows = λ k near. subst (λ (p : ℕ × KeyState). ShowsState shape words p.0 p.1)
+          (λ j. (
+            sym (key_hole k near) j,
+            sym (get_or-replicate shape.keys k (key.Hole shape.first_number) (key.Hole 0) near) j,
+          ))
+          is_hole;
       places = λ s near. omega (
         arith,
         below_none (λ k. only (suc s) (name_number (get_or words k 0))) shape.keys
@@ -126,18 +158,22 @@ core_opens shape fits n few = let words = words_at_opening shape in let slot = s
             (omega arith),
       );
       counts = λ k s near e. absurd (omega (arith, nameless k near));
-      knows = λ j u. elim j as (λ v. get_elem? roles v ≡ some u → Knows shape words (map_after shape []) (held roles) u) [
-        | zero ↦ λ e. subst (Knows shape words (map_after shape []) (held roles)) (some-injective (Writer (opening_desk shape)) u e)
-            (record {
-              place = tt;
-              room = omega arith;
-              free = λ s _ near. (nobody_holds s, dep s near);
-              retired = λ i x e. absurd
-                  (some-ne-none x (sym e));
-              numbers = first_numbers shape;
-            })
-        | suc j ↦ λ e. let c = only_readers n 0 j u e in subst (Knows shape words (map_after shape []) (held roles)) c.1 tt
-      ];
+      knows = λ j u.
+          elim j as (λ v. get_elem? roles v ≡ some u → Knows shape words (map_after shape []) (held roles) u) [
+            | zero ↦ λ e. subst (Knows shape words (map_after shape []) (held roles))
+                (some-injective (Writer (opening_desk shape)) u e)
+                (record {
+                  place = tt;
+                  room = omega arith;
+                  free = λ s _ near. (nobody_holds s, dep s near);
+                  retired = λ i x e. absurd
+                      (some-ne-none x (sym e));
+                  numbers = first_numbers shape;
+                })
+            | suc
+                j ↦ λ e.
+                let c = only_readers n 0 j u e in subst (Knows shape words (map_after shape []) (held roles)) c.1 tt
+          ];
       one = omega (arith, no_weight is_writer (λ c. refl) n 0);
       few = omega (arith, all.0);
     }
@@ -150,7 +186,13 @@ opening_core shape fits = record {
     size = length-replicate shape.readers hold.Nothing;
     callers = omega (arith, (all_readers shape.readers 0).1);
     writer = refl;
-    readers = λ i low. (Nothing, reader_at shape.readers 0 i low ∙ ap (λ (c : ℕ). some (Reader (suc c) Nothing)) (omega arith), get_or-replicate shape.readers i hold.Nothing hold.Nothing low);
+    readers = λ i low. (
+      Nothing,
+      reader_at shape.readers 0 i low ∙ ap (λ (c : ℕ). some (Reader (suc c) Nothing)) (omega arith),
+      get_or-replicate shape.readers i hold.Nothing hold.Nothing low,
+    );
   };
-  found = λ j s rows b e. let c = only_readers shape.readers 0 j (Reader (suc j) (On s rows b)) e in absurd (no_grip s rows b (same_grip c.0 (suc j) Nothing (On s rows b) c.1));
+  found = λ j s rows b e.
+      let c = only_readers shape.readers 0 j (Reader (suc j) (On s rows b)) e in
+      absurd (no_grip s rows b (same_grip c.0 (suc j) Nothing (On s rows b) c.1));
 }

@@ -1,5 +1,6 @@
 -- A fill or an update swaps the word that names its slot in for its key's word.
-use Rattle.std.proofs.Common.{List, [], ap, arith, get_or, length, set, subst, suc, sym, ℕ, ◌%◌, ◌*◌, ◌++◌, ◌+◌, ◌<◌, ◌^◌, ◌∙◌, ◌∷◌, ◌≡◌}
+use Rattle.std.proofs.Common.{List, [], ap, arith, get_or, length, set, subst, suc, sym, ℕ, ◌%◌, ◌*◌, ◌++◌, ◌+◌, ◌<◌}
+use Rattle.std.proofs.Common.{◌^◌, ◌∙◌, ◌∷◌, ◌≡◌}
 use lib.ListN.{get_elem?}
 use mathlib.Core.Option.{some}
 use Rattle.nr_model.specs.Histories.{Entry}
@@ -28,19 +29,37 @@ use Rattle.nr_machine.specs.declared.roles.Role.TheVariants.{Writer}
 use Rattle.nr_machine.specs.declared.shape.Shape.{Shape}
 use Rattle.nr_model.specs.declared.calls.Reply.TheVariants as reply
 
-pub publishes : (shape : Shape) (words : List ℕ) (roles : List Role) (log : List Entry) (core : Core shape words roles log) (id : ℕ) (desk : Desk) → get_elem? roles id ≡ some (Writer desk)
-    → (call : WriterCall) (rows : List Row) (slot departed index : ℕ) → desk.place ≡ Putting call rows slot departed index → 2 * length rows < index
-    → Core shape (set words (key_of call) (naming slot departed)) (set roles id (Writer (swapped desk (get_or words (key_of call) 0)))) (log ++ entry 0 (call_of call) reply.Done ∷ [])
-publishes shape words roles log core id desk there call rows slot departed index is_at past = let known = core.knows id (Writer desk) there in let map = map_after shape log in
+pub publishes : (shape : Shape) (words : List ℕ) (roles : List Role) (log : List Entry)
+    (core : Core shape words roles log) (id : ℕ) (desk : Desk)
+    → get_elem? roles id ≡ some (Writer desk)
+    → (call : WriterCall) (rows : List Row) (slot departed index : ℕ)
+    → desk.place ≡ Putting call rows slot departed index → 2 * length rows < index
+    → Core shape (set words (key_of call) (naming slot departed))
+    (set roles id (Writer (swapped desk (get_or words (key_of call) 0))))
+    (log ++ entry 0 (call_of call) reply.Done ∷ [])
+publishes shape words roles log core id desk there call rows slot departed index is_at past =
+    let known = core.knows id (Writer desk) there in
+    let map = map_after shape log in
     let putting : Puts shape words map (held roles) call rows slot departed index = subst
-    (AtPlace shape words map (held roles) desk.fresh desk.retired) is_at known.place in let wants = putting.wants in let fits = core.fits.slots in
+    (AtPlace shape words map (held roles) desk.fresh desk.retired) is_at known.place in
+    let wants = putting.wants in
+    let fits = core.fits.slots in
     let inside = putting.inside in let n = naming_is slot departed (omega arith) in
     let flat-size = length-row_words rows in
-    swap_step shape words roles log core id desk there (key_of call) (naming slot departed) (call_of call) reply.Done desk.numbers wants.near (key_same call) wants.done
-    (subst (ShowsState shape words (naming slot departed)) (sym wants.leaves) (slot, n.0, inside, (wants.row_set, λ j low. putting.put j (omega arith))))
+    swap_step shape words roles log core id desk there (key_of call) (naming slot departed) (call_of call) reply.Done
+    desk.numbers wants.near (key_same call) wants.done
+    (subst (ShowsState shape words (naming slot departed)) (sym wants.leaves)
+    (slot, n.0, inside, (wants.row_set, λ j low. putting.put j (omega arith))))
     (λ u. ap (taken u) is_at ∙ sym (ap (only (suc u)) n.0 ∙ only-suc u slot))
     (λ u z. let same : slot ≡ u = omega (arith, n.0) in subst
-    (λ (v : ℕ). arrivals_of (naming slot departed) % 2 ^ 40 ≡ (get_or words (departures shape v) 0 + held roles v) % 2 ^ 40) same
+    (λ (v : ℕ). arrivals_of (naming slot departed) % 2 ^ 40
+    ≡ (get_or words (departures shape v) 0 + held roles v) % 2 ^ 40)
+    same
     (omega (arith, n.1, putting.counted, putting.nobody)))
-    (numbers_kept shape log (entry 0 (call_of call) reply.Done) desk.numbers (subst (λ (k : ℕ). k < shape.keys) (sym (key_same call)) wants.near)
-    (subst (λ (k : ℕ). number_of (state_after (bound_of shape) (call_of call) (state_of map k)) ≡ number_of (state_of map k)) (sym (key_same call)) (ap number_of wants.leaves)) known.numbers)
+    (numbers_kept shape log (entry 0 (call_of call) reply.Done) desk.numbers
+    (subst (λ (k : ℕ). k < shape.keys) (sym (key_same call)) wants.near)
+    (subst
+    (λ (k : ℕ). number_of (state_after (bound_of shape) (call_of call) (state_of map k))
+    ≡ number_of (state_of map k))
+    (sym (key_same call)) (ap number_of wants.leaves))
+    known.numbers)

@@ -1,5 +1,6 @@
 -- The writer puts one word of its set into the slot that it took.
-use Rattle.std.proofs.Common.{List, [], ap, arith, get_or, get_or-set_other, get_or-set_same, length, refl, set, subst, sym, ℕ, ◌%◌, ◌*◌, ◌++◌, ◌+◌, ◌<◌, ◌^◌, ◌∙◌, ◌≡◌, ◌≢◌, ◌≤◌}
+use Rattle.std.proofs.Common.{List, [], ap, arith, get_or, get_or-set_other, get_or-set_same, length, refl, set, subst}
+use Rattle.std.proofs.Common.{sym, ℕ, ◌%◌, ◌*◌, ◌++◌, ◌+◌, ◌<◌, ◌^◌, ◌∙◌, ◌≡◌, ◌≢◌, ◌≤◌}
 use lib.ListN.{get_elem?}
 use mathlib.Core.Logic.{dite}
 use mathlib.Core.Option.{some}
@@ -27,47 +28,90 @@ use Rattle.nr_machine.specs.declared.roles.Role.{Role}
 use Rattle.nr_machine.specs.declared.roles.Role.TheVariants.{Writer}
 use Rattle.nr_machine.specs.declared.shape.Shape.{Shape}
 
-pub puts : (shape : Shape) (words : List ℕ) (roles : List Role) (log : List Entry) (core : Core shape words roles log) (id : ℕ) (desk : Desk)
+pub puts : (shape : Shape) (words : List ℕ) (roles : List Role) (log : List Entry) (core : Core shape words roles log)
+    (id : ℕ) (desk : Desk)
     → get_elem? roles id ≡ some (Writer desk) → (call : WriterCall) (rows : List Row) (slot departed index : ℕ)
     → desk.place ≡ Putting call rows slot departed index → index ≤ 2 * length rows
-    → Core shape (set words (content shape slot index) (get_or (encode rows) index 0)) (set roles id (Writer (moved_to desk (Putting call rows slot departed (index + 1))))) (log ++ [])
+    → Core shape (set words (content shape slot index) (get_or (encode rows) index 0))
+    (set roles id (Writer (moved_to desk (Putting call rows slot departed (index + 1))))) (log ++ [])
 puts shape words roles log core id desk there call rows slot departed index is_at low_enough =
     let desk' = moved_to desk (Putting call rows slot departed (index + 1)) in let map = map_after shape log in
-    let mine = core.knows id (Writer desk) there in let putting : Puts shape words map (held roles) call rows slot departed index = subst (AtPlace shape words map (held roles) desk.fresh desk.retired) is_at mine.place in
+    let mine = core.knows id (Writer desk) there in
+    let putting : Puts shape words map (held roles) call rows slot departed index
+    = subst (AtPlace shape words map (held roles) desk.fresh desk.retired) is_at mine.place in
     let near : slot < shape.slots = putting.inside in let nobody_there : held roles slot ≡ 0 = putting.nobody in
-    let short = putting.wants.row_set.1 in let wide = core.wide in let fits = core.fits.bound in let flat-size = length-row_words rows in
+    let short = putting.wants.row_set.1 in
+    let wide = core.wide in
+    let fits = core.fits.bound in
+    let flat-size = length-row_words rows in
     let more : index < length (encode rows) = omega arith in
-    let w : ℕ = content shape slot index in let x : ℕ = get_or (encode rows) index 0 in let words' = set words w x in let roles' = set roles id (Writer desk') in
-    let once = core.places slot near in let part = term_le (keeps slot) roles id (Writer desk) there in let one = only-same slot in
-    let keeps_so : (u : ℕ) → keeps u (Writer desk) ≡ unused u desk.fresh + total (λ (x : Retired). only u x.slot) desk.retired + only u slot = λ u.
+    let w : ℕ = content shape slot index in
+    let x : ℕ = get_or (encode rows) index 0 in
+    let words' = set words w x in
+    let roles' = set roles id (Writer desk') in
+    let once = core.places slot near in
+    let part = term_le (keeps slot) roles id (Writer desk) there in
+    let one = only-same slot in
+    let keeps_so : (u : ℕ)
+    → keeps u (Writer desk)
+    ≡ unused u desk.fresh + total (λ (x : Retired). only u x.slot) desk.retired + only u slot
+    = λ u.
     ap (λ (y : Place). unused u desk.fresh + total (λ (x : Retired). only u x.slot) desk.retired + taken u y) is_at in
     let all_of_it = keeps_so slot in
-    let cont : (s j : ℕ) → s ≢ slot → j ≤ 2 * (bound_of shape) → get_or words' (content shape s j) 0 ≡ get_or words (content shape s j)
+    let cont : (s j : ℕ) → s ≢ slot → j ≤ 2 * (bound_of shape)
+    → get_or words' (content shape s j) 0 ≡ get_or words (content shape s j)
     0 = λ s j ne low. get_or-set_other words w (content shape s j) x 0
     (λ z. ne (same_content shape s j slot index (omega arith) (omega arith) z)) in
-    let dep : (s : ℕ) → get_or words' (departures shape s) 0 ≡ get_or words (departures shape s) 0 = λ s. get_or-set_other words w (departures shape s) x 0 (λ z. content_apart shape slot index s (omega arith) (sym z)) in
-    let here : get_or words' w 0 ≡ x = get_or-set_same words w x 0 (omega (arith, content_inside shape slot index near (omega arith))) in
-    let still : (s : ℕ) → held roles' s ≡ held roles s = λ s. let same = total-set (holds s) roles id (Writer desk) (Writer desk') there in omega arith in
-    let sum : (s : ℕ) → (get_or words' (departures shape s) 0 + held roles' s) % 2 ^ 40 ≡ (get_or words (departures shape s) 0 + held roles s) % 2 ^ 40 = λ s. ap (λ (pair : ℕ × ℕ). (pair.0 + pair.1) % 2 ^ 40) (λ j. (dep s j, still s j)) in
-    let left : (s : ℕ) → s ≢ slot → Left shape words words' map map (held roles) (held roles') s = λ s ne. record { contents = λ j low. cont s j ne low; nobody = λ z. still s ∙ z; deps = λ _. dep s; sum = sum s } in
+    let dep : (s : ℕ) → get_or words' (departures shape s) 0 ≡ get_or words (departures shape s) 0
+    = λ s. get_or-set_other words w (departures shape s) x 0
+    (λ z. content_apart shape slot index s (omega arith) (sym z)) in
+    let here : get_or words' w 0 ≡ x
+    = get_or-set_same words w x 0 (omega (arith, content_inside shape slot index near (omega arith))) in
+    let still : (s : ℕ) → held roles' s ≡ held roles s
+    = λ s. let same = total-set (holds s) roles id (Writer desk) (Writer desk') there in omega arith in
+    let sum : (s : ℕ)
+    → (get_or words' (departures shape s) 0 + held roles' s) % 2 ^ 40
+    ≡ (get_or words (departures shape s) 0 + held roles s) % 2 ^ 40
+    = λ s. ap (λ (pair : ℕ × ℕ). (pair.0 + pair.1) % 2 ^ 40) (λ j. (dep s j, still s j)) in
+    let left : (s : ℕ) → s ≢ slot → Left shape words words' map map (held roles) (held roles') s
+    = λ s ne.
+    record { contents = λ j low. cont s j ne low; nobody = λ z. still s ∙ z; deps = λ _. dep s; sum = sum s } in
     let own : AtDesk shape words' map (held roles') desk' = record {
       place = record {
-        wants = record { near = putting.wants.near; row_set = putting.wants.row_set; no_hole = putting.wants.no_hole; done = putting.wants.done; leaves = putting.wants.leaves };
+        wants =
+            record {
+              near = putting.wants.near;
+              row_set = putting.wants.row_set;
+              no_hole = putting.wants.no_hole;
+              done = putting.wants.done;
+              leaves = putting.wants.leaves;
+            };
         inside = near;
         nobody = still slot ∙ nobody_there;
         counted = dep slot ∙ putting.counted;
         within = omega arith;
         put = λ j l. dite (ℕ_discrete j index)
             (λ z. subst (λ (y : ℕ). get_or words' (content shape slot y) 0 ≡ get_or (encode rows) y 0) (sym z) here)
-            (λ ne. get_or-set_other words w (content shape slot j) x 0 (λ z. ne (omega arith)) ∙ putting.put j (omega arith));
+            (λ ne. get_or-set_other words w (content shape slot j) x 0 (λ z. ne (omega arith))
+            ∙ putting.put j (omega arith));
       };
       room = mine.room;
-      free = free_more shape words words' map map (held roles) (held roles') desk.fresh (λ s near' from. left s (λ z. let u = unused-free slot desk.fresh (omega arith) in omega arith)) mine.free;
+      free =
+          free_more shape words words' map map (held roles) (held roles') desk.fresh
+          (λ s near' from. left s (λ z. let u = unused-free slot desk.fresh (omega arith) in omega arith))
+          mine.free;
       retired = retired_more shape words words' map map (held roles) (held roles') desk.retired
           (λ s near' listed. left s (λ z. let l' : 0 < total (λ (x : Retired). only slot x.slot) desk.retired = subst
           (λ (y : ℕ). 0 < total (λ (x : Retired). only y x.slot) desk.retired) z listed in omega arith)) mine.retired;
       numbers = mine.numbers;
     } in
-    off_keys shape words roles log core id (Writer desk) (Writer desk') w x (omega arith) there refl refl (λ s _. sym (keeps_so s))
-    (λ s j l low is-named. cont s j (λ z. let n : 0 < named shape words slot = subst (λ (y : ℕ). 0 < named shape words y) z is-named in omega arith) low) (λ s _ _. sum s)
-    (no_writer shape words roles log core words' map (held roles') id desk there (λ s j taken-by l low. cont s j (λ z. let n : 0 < held roles slot = subst (λ (y : ℕ). 0 < held roles y) z taken-by in omega arith) low)) own
+    off_keys shape words roles log core id (Writer desk) (Writer desk') w x (omega arith) there refl refl
+    (λ s _. sym (keeps_so s))
+    (λ s j l low is-named. cont s j
+    (λ z. let n : 0 < named shape words slot = subst (λ (y : ℕ). 0 < named shape words y) z is-named in omega arith)
+    low)
+    (λ s _ _. sum s)
+    (no_writer shape words roles log core words' map (held roles') id desk there
+    (λ s j taken-by l low. cont s j
+    (λ z. let n : 0 < held roles slot = subst (λ (y : ℕ). 0 < held roles y) z taken-by in omega arith) low))
+    own

@@ -1,5 +1,6 @@
 -- A reader reads a word of the slot that it holds.
-use Rattle.std.proofs.Common.{Bool, List, [], ap, arith, cond, get_or, length, nat_eq, refl, set, true, ℕ, ◌%◌, ◌+◌, ◌<◌, ◌^◌, ◌∙◌, ◌≡◌, ◌≢◌}
+use Rattle.std.proofs.Common.{Bool, List, [], ap, arith, cond, get_or, length, nat_eq, refl, set, true, ℕ, ◌%◌, ◌+◌}
+use Rattle.std.proofs.Common.{◌<◌, ◌^◌, ◌∙◌, ◌≡◌, ◌≢◌}
 use lib.ListN.{get_elem?}
 use lib.Seq.{set-get_or}
 use mathlib.Core.Option.{some}
@@ -19,31 +20,46 @@ use Rattle.nr_machine.specs.declared.roles.Role.{Role}
 use Rattle.nr_machine.specs.declared.roles.Role.TheVariants.{Note, Reader, Writer}
 use Rattle.nr_machine.specs.declared.shape.Shape.{Shape}
 
-pub reads : (shape : Shape) (id reader slot : ℕ) (rows : List Row) (sized : Bool) (index : ℕ) → index < length (encode rows)
-    → CanStep shape id (Reader reader (On slot rows sized)) (Load (content shape slot index)) (ReadsHeld reader slot rows sized index)
-reads shape id reader slot rows sized index low words roles log core there = let sized' : Bool = cond (nat_eq index 0) true sized in
-    let mine = core.knows id (Reader reader (On slot rows sized)) there in let role = Reader reader (On slot rows sized') in
+pub reads : (shape : Shape) (id reader slot : ℕ) (rows : List Row) (sized : Bool) (index : ℕ)
+    → index < length (encode rows)
+    → CanStep shape id (Reader reader (On slot rows sized)) (Load (content shape slot index))
+    (ReadsHeld reader slot rows sized index)
+reads shape id reader slot rows sized index low words roles log core there =
+    let sized' : Bool = cond (nat_eq index 0) true sized in
+    let mine = core.knows id (Reader reader (On slot rows sized)) there in
+    let role = Reader reader (On slot rows sized') in
     let roles' = set roles id role in let map = map_after shape log in let place = content shape slot index in
-    let still : (t : ℕ) → held roles' t ≡ held roles t = λ t. let y = total-set (holds t) roles id (Reader reader (On slot rows sized)) role there in omega arith in
+    let still : (t : ℕ) → held roles' t ≡ held roles t
+    = λ t. let y = total-set (holds t) roles id (Reader reader (On slot rows sized)) role there in omega arith in
     let words' = set words place (get_or words place 0) in let same : words' ≡ words = set-get_or words place 0 in
     let left : (t : ℕ) → Left shape words words' map map (held roles) (held roles') t = λ t. record {
       contents = λ j _. ap (λ (l : List ℕ). get_or l (content shape t j) 0) same;
       nobody = λ z. still t ∙ z;
       deps = λ _. ap (λ (l : List ℕ). get_or l (departures shape t) 0) same;
-      sum = ap (λ (pair : ℕ × ℕ). (pair.0 + pair.1) % 2 ^ 40) (λ j. (get_or (same j) (departures shape t) 0, still t j));
+      sum =
+          ap (λ (pair : ℕ × ℕ). (pair.0 + pair.1) % 2 ^ 40) (λ j. (get_or (same j) (departures shape t) 0, still t j));
     } in
     let others : (j : ℕ) (u : Role) → j ≢ id → get_elem? roles j ≡ some u → Knows shape words map (held roles) u
     → Knows shape words' map (held roles') u = λ j u _ _. elim u as
     (λ v. Knows shape words map (held roles) v → Knows shape words' map (held roles') v) [
-      | Writer desk ↦ λ t. desk_more shape words words' map map (held roles) (held roles') (λ k l. ap (λ (l : List ℕ). name_number (get_or l k 0)) same) (λ _ _. refl) desk (λ _. refl) (λ y _ _. left y) t
-      | Reader other y ↦ λ t. holding_more shape words words' map map (held roles) (held roles') y (λ a j _ _ low. (left a).contents j low) t
+      | Writer
+          desk ↦ λ t. desk_more shape words words' map map (held roles) (held roles')
+          (λ k l. ap (λ (l : List ℕ). name_number (get_or l k 0)) same) (λ _ _. refl) desk (λ _. refl)
+          (λ y _ _. left y) t
+      | Reader other
+          y ↦ λ t. holding_more shape words words' map map (held roles) (held roles') y
+          (λ a j _ _ low. (left a).contents j low) t
       | Note ↦ λ t. tt
     ] in
     record {
       after = role;
       entries = [];
-      core = off_keys shape words roles log core id (Reader reader (On slot rows sized)) role place (get_or words place 0) (omega arith) there refl refl (λ _ _. refl) (λ t j _ low _. (left t).contents j low) (λ t _ _. (left t).sum) others
-          (holding_more shape words words' map map (held roles) (held roles') (On slot rows sized') (λ a j _ _ low. (left a).contents j low) mine);
+      core =
+          off_keys shape words roles log core id (Reader reader (On slot rows sized)) role place (get_or words place 0)
+          (omega arith) there refl refl (λ _ _. refl) (λ t j _ low _. (left t).contents j low)
+          (λ t _ _. (left t).sum) others
+          (holding_more shape words words' map map (held roles) (held roles') (On slot rows sized')
+          (λ a j _ _ low. (left a).contents j low) mine);
       same = λ _. refl;
       writer = refl;
       reader = refl;

@@ -14,5 +14,6 @@ told_state (event ∷ events) story = told_state events (tell story event)
 pub story_state : (shape : Shape) (events : List Event) → (story_of shape events).state ≡ run shape events
 story_state shape events = told_state events (beginning shape)
 
-pub run_more : (shape : Shape) (events : List Event) (event : Event) → run shape (events ++ event ∷ []) ≡ next_state (run shape events) event
+pub run_more : (shape : Shape) (events : List Event) (event : Event)
+    → run shape (events ++ event ∷ []) ≡ next_state (run shape events) event
 run_more shape events event = fold-append next_state (opening_state shape) events (event ∷ [])

@@ -1,5 +1,6 @@
 -- One more caller, who holds no slot: it knows nothing, and nothing changes for the others.
-use Rattle.std.proofs.Common.{List, [], ap, arith, get_or, refl, subst, sym, ℕ, ⊎_elim, ◌%◌, ◌++◌, ◌+◌, ◌<◌, ◌^◌, ◌∙◌, ◌∷◌, ◌≡◌, ◌≤◌}
+use Rattle.std.proofs.Common.{List, [], ap, arith, get_or, refl, subst, sym, ℕ, ⊎_elim, ◌%◌, ◌++◌, ◌+◌, ◌<◌, ◌^◌, ◌∙◌}
+use Rattle.std.proofs.Common.{◌∷◌, ◌≡◌, ◌≤◌}
 use lib.ListN.{get_elem?}
 use mathlib.Core.Option.{some}
 use Rattle.nr_model.specs.Histories.{Entry}
@@ -16,11 +17,17 @@ use Rattle.nr_machine.specs.declared.roles.Role.{Role}
 use Rattle.nr_machine.specs.declared.roles.Role.TheVariants.{Note, Reader, Writer}
 use Rattle.nr_machine.specs.declared.shape.Shape.{Shape}
 
-seated : (shape : Shape) (words : List ℕ) (roles : List Role) (log : List Entry) (role : Role) → Core shape words roles log → is_writer role ≡ 0
-    → is_reader role + total is_reader roles ≤ shape.readers → ((s : ℕ) → holds s role ≡ 0) → ((s : ℕ) → keeps s role ≡ 0)
-    → Knows shape words (map_after shape log) (held (roles ++ role ∷ [])) role → Core shape words (roles ++ role ∷ []) log
-seated shape words roles log role core no_writer few no_hold no_keep own = let roles' = roles ++ role ∷ [] in let map = map_after shape log in
-    let still : (s : ℕ) → held roles' s ≡ held roles s = λ s. omega (arith, total-append (holds s) roles (role ∷ []), no_hold s) in
+seated : (shape : Shape) (words : List ℕ) (roles : List Role) (log : List Entry) (role : Role)
+    → Core shape words roles log → is_writer role ≡ 0
+    → is_reader role + total is_reader roles ≤ shape.readers → ((s : ℕ) → holds s role ≡ 0)
+    → ((s : ℕ) → keeps s role ≡ 0)
+    → Knows shape words (map_after shape log) (held (roles ++ role ∷ [])) role
+    → Core shape words (roles ++ role ∷ []) log
+seated shape words roles log role core no_writer few no_hold no_keep own =
+    let roles' = roles ++ role ∷ [] in
+    let map = map_after shape log in
+    let still : (s : ℕ) → held roles' s ≡ held roles s
+    = λ s. omega (arith, total-append (holds s) roles (role ∷ []), no_hold s) in
     let left : (s : ℕ) → Left shape words words map map (held roles) (held roles') s = λ s. record {
       contents = λ _ _. refl;
       nobody = λ z. still s
@@ -28,9 +35,13 @@ seated shape words roles log role core no_writer few no_hold no_keep own = let r
       deps = λ _. refl;
       sum = ap (λ (y : ℕ). (get_or words (departures shape s) 0 + y) % 2 ^ 40) (still s);
     } in
-    let others : (u : Role) → Knows shape words map (held roles) u → Knows shape words map (held roles') u = λ u. elim u as (λ v. Knows shape words map (held roles) v → Knows shape words map (held roles') v) [
-      | Writer desk ↦ λ t. desk_more shape words words map map (held roles) (held roles') (λ _ _. refl) (λ _ _. refl) desk (λ _. refl) (λ s _ _. left s) t
-      | Reader reader grip ↦ λ t. holding_more shape words words map map (held roles) (held roles') grip (λ _ _ _ _ _. refl) t
+    let others : (u : Role) → Knows shape words map (held roles) u → Knows shape words map (held roles') u
+    = λ u. elim u as (λ v. Knows shape words map (held roles) v → Knows shape words map (held roles') v) [
+      | Writer
+          desk ↦ λ t. desk_more shape words words map map (held roles) (held roles') (λ _ _. refl) (λ _ _. refl) desk
+          (λ _. refl) (λ s _ _. left s) t
+      | Reader reader
+          grip ↦ λ t. holding_more shape words words map map (held roles) (held roles') grip (λ _ _ _ _ _. refl) t
       | Note ↦ λ t. tt
     ] in
     record {
@@ -39,16 +50,24 @@ seated shape words roles log role core no_writer few no_hold no_keep own = let r
       legal = core.legal;
       shows = core.shows;
       places = λ s l. omega (arith, core.places s l, total-append (keeps s) roles (role ∷ []), no_keep s);
-      counts = λ k s l e. core.counts k s l e ∙ ap (λ (y : ℕ). (get_or words (departures shape s) 0 + y) % 2 ^ 40) (sym (still s));
-      knows = λ j u there. ⊎_elim (λ (t : get_elem? roles j ≡ some u). others u (core.knows j u t)) (λ (t : role ≡ u). subst (Knows shape words map (held roles')) t own) (at_snoc roles role u j there);
+      counts = λ k s l e. core.counts k s l e
+          ∙ ap (λ (y : ℕ). (get_or words (departures shape s) 0 + y) % 2 ^ 40) (sym (still s));
+      knows = λ j u there. ⊎_elim (λ (t : get_elem? roles j ≡ some u). others u (core.knows j u t))
+          (λ (t : role ≡ u). subst (Knows shape words map (held roles')) t own) (at_snoc roles role u j there);
       one = omega (arith, core.one, total-append is_writer roles (role ∷ []));
       few = omega (arith, few, total-append is_reader roles (role ∷ []));
     }
 
 -- a reader joins, where there is room for one more
-pub seats : (shape : Shape) (words : List ℕ) (roles : List Role) (log : List Entry) (reader : ℕ) → Core shape words roles log → total is_reader roles < shape.readers → Core shape words (roles ++ Reader reader Nothing ∷ []) log
-seats shape words roles log reader core few = seated shape words roles log (Reader reader Nothing) core refl (omega arith) (λ _. refl) (λ _. refl) tt
+pub seats : (shape : Shape) (words : List ℕ) (roles : List Role) (log : List Entry) (reader : ℕ)
+    → Core shape words roles log → total is_reader roles < shape.readers
+    → Core shape words (roles ++ Reader reader Nothing ∷ []) log
+seats shape words roles log reader core few =
+    seated shape words roles log (Reader reader Nothing) core refl (omega arith) (λ _. refl) (λ _. refl) tt
 
 -- a note is made
-pub notes : (shape : Shape) (words : List ℕ) (roles : List Role) (log : List Entry) → Core shape words roles log → Core shape words (roles ++ Note ∷ []) log
-notes shape words roles log core = let few = core.few in seated shape words roles log Note core refl (omega arith) (λ _. refl) (λ _. refl) tt
+pub notes : (shape : Shape) (words : List ℕ) (roles : List Role) (log : List Entry) → Core shape words roles log
+    → Core shape words (roles ++ Note ∷ []) log
+notes shape words roles log core =
+    let few = core.few in
+    seated shape words roles log Note core refl (omega arith) (λ _. refl) (λ _. refl) tt

@@ -1,5 +1,7 @@
--- The writer's steps that leave all words: the call goes on, takes a slot or has none (settles), or ends with a reply (ends).
-use Rattle.std.proofs.Common.{List, [], ap, append-nil, arith, cond, get_or, length, map, nat_eq, refl, set, subst, sym, ℕ, ◌++◌, ◌+◌, ◌<◌, ◌∙◌, ◌∷◌, ◌≡◌, ◌≢◌, ◌≤◌}
+-- The writer's steps that leave all words: the call goes on, takes a slot or has none (settles), or ends with a reply
+-- (ends).
+use Rattle.std.proofs.Common.{List, [], ap, append-nil, arith, cond, get_or, length, map, nat_eq, refl, set, subst, sym}
+use Rattle.std.proofs.Common.{ℕ, ◌++◌, ◌+◌, ◌<◌, ◌∙◌, ◌∷◌, ◌≡◌, ◌≢◌, ◌≤◌}
 use Rattle.std.proofs.lemmas.Bool.{eqb-false, lt-leb, ltb-false, ltb-true}
 use Rattle.std.specs.Prelude.{nat_lt}
 use lib.ListN.{get_elem?}
@@ -38,10 +40,19 @@ use Rattle.nr_machine.specs.declared.calls.WReply.TheVariants as writer
 -- 1 of a slot that was never taken, and what a taking leaves
 unused-next : (s f : ℕ) → unused s (f + 1) + only s f ≡ unused s f
 unused-next s f = dite (dec_le (f + 1) s)
-    (λ l. let a = unused-free s (f + 1) l in let b = unused-free s f (omega arith) in let c = only-other s f (λ e. omega arith) in omega arith)
-    (λ l. let a : unused s (f + 1) ≡ 0 = ap (λ b. cond {A = ℕ} b 1 0) (lt-leb (f + 1) s (omega arith)) in dite (ℕ_discrete f s)
+    (λ l.
+    let a = unused-free s (f + 1) l in
+    let b = unused-free s f (omega arith) in
+    let c = only-other s f (λ e. omega arith) in
+    omega arith)
+    (λ l.
+    let a : unused s (f + 1) ≡ 0 = ap (λ b. cond {A = ℕ} b 1 0) (lt-leb (f + 1) s (omega arith)) in
+    dite (ℕ_discrete f s)
     (λ e. let b = unused-free s f (omega arith) in let c : only s f ≡ 1 = ap (only s) e ∙ only-same s in omega arith)
-    (λ ne. let b : unused s f ≡ 0 = ap (λ b. cond {A = ℕ} b 1 0) (lt-leb f s (omega arith)) in let c = only-other s f ne in omega arith))
+    (λ ne.
+    let b : unused s f ≡ 0 = ap (λ b. cond {A = ℕ} b 1 0) (lt-leb f s (omega arith)) in
+    let c = only-other s f ne in
+    omega arith))
 
 pub key_same : (call : WriterCall) → call_key (call_of call) ≡ key_of call
 key_same (Find k) = refl
@@ -56,16 +67,33 @@ own_ending call Going b = none_of (nat_eq 0 b)
 own_ending call (Ended (writer.Reply y)) b = refl
 own_ending call (Ended (writer.NoSlot n)) b = none_of (nat_eq 0 b)
 
-pub idle_desk : (shape : Shape) (words : List ℕ) (map : PartialMap) (hold : ℕ → ℕ) (desk : Desk) → AtDesk shape words map hold desk → AtDesk shape words map hold (moved_to desk Idle)
-idle_desk shape words map hold desk t = record { place = tt; room = t.room; free = t.free; retired = t.retired; numbers = t.numbers }
+pub idle_desk : (shape : Shape) (words : List ℕ) (map : PartialMap) (hold : ℕ → ℕ) (desk : Desk)
+    → AtDesk shape words map hold desk → AtDesk shape words map hold (moved_to desk Idle)
+idle_desk shape words map hold desk t =
+    record { place = tt; room = t.room; free = t.free; retired = t.retired; numbers = t.numbers }
 
-module _ (shape : Shape) (words : List ℕ) (map : PartialMap) (hold : ℕ → ℕ) (desk : Desk) (call : WriterCall) (rows : List Row) where
-  settle_desk : AtDesk shape words map hold (moved_to desk Idle) → Wants shape words map hold call rows → AtDesk shape words map hold (settled shape desk call rows).0
+module _ (shape : Shape) (words : List ℕ) (map : PartialMap) (hold : ℕ → ℕ) (desk : Desk) (call : WriterCall)
+    (rows : List Row) where
+  settle_desk : AtDesk shape words map hold (moved_to desk Idle) → Wants shape words map hold call rows
+      → AtDesk shape words map hold (settled shape desk call rows).0
   settle_desk t wants = by_cases (λ v. AtDesk shape words map hold (cond {A = Desk × Step} v
       (taking_fresh shape desk call rows, Going)
-      (cond {A = Desk × Step} (nat_eq (length desk.retired) 0) (moved_to desk Idle, no_slot shape desk) (moved_to desk (Searching call rows 0), Going))).0) (nat_lt desk.fresh shape.slots)
-      (λ yes. let l : desk.fresh < shape.slots = ltb-true desk.fresh shape.slots yes in let f = t.free desk.fresh (omega arith) l in record {
-        place = record { wants = wants; inside = l; nobody = f.0; counted = f.1; within = omega arith; put = λ j low. absurd (omega arith) };
+      (cond {A = Desk × Step} (nat_eq (length desk.retired) 0) (moved_to desk Idle, no_slot shape desk)
+      (moved_to desk (Searching call rows 0), Going))).0)
+      (nat_lt desk.fresh shape.slots)
+      (λ yes.
+      let l : desk.fresh < shape.slots = ltb-true desk.fresh shape.slots yes in
+      let f = t.free desk.fresh (omega arith) l in
+      record {
+        place =
+            record {
+              wants = wants;
+              inside = l;
+              nobody = f.0;
+              counted = f.1;
+              within = omega arith;
+              put = λ j low. absurd (omega arith);
+            };
         room = omega arith;
         free = λ s from near. t.free s (omega arith) near;
         retired = t.retired;
@@ -75,49 +103,81 @@ module _ (shape : Shape) (words : List ℕ) (map : PartialMap) (hold : ℕ → �
       by_cases (λ v. AtDesk shape words map hold (cond {A = Desk × Step} v (moved_to desk Idle, no_slot shape desk)
       (moved_to desk (Searching call rows 0), Going)).0) (nat_eq (length desk.retired) 0)
       (λ _. t)
-      (λ some_there. let n : length desk.retired ≢ 0 = eqb-false (length desk.retired) 0 some_there in record { place = (wants, omega arith, full); room = t.room; free = t.free; retired = t.retired; numbers = t.numbers }))
+      (λ some_there.
+      let n : length desk.retired ≢ 0 = eqb-false (length desk.retired) 0 some_there in
+      record {
+        place = (wants, omega arith, full);
+        room = t.room;
+        free = t.free;
+        retired = t.retired;
+        numbers = t.numbers;
+      }))
 
   settle_keeps : (s : ℕ) → keeps s (Writer (settled shape desk call rows).0) ≡ keeps s (Writer (moved_to desk Idle))
   settle_keeps s = by_cases (λ v. keeps s (Writer (cond {A = Desk × Step} v
       (taking_fresh shape desk call rows, Going)
-      (cond {A = Desk × Step} (nat_eq (length desk.retired) 0) (moved_to desk Idle, no_slot shape desk) (moved_to desk (Searching call rows 0), Going))).0) ≡ keeps s (Writer (moved_to desk Idle))) (nat_lt desk.fresh shape.slots)
+      (cond {A = Desk × Step} (nat_eq (length desk.retired) 0) (moved_to desk Idle, no_slot shape desk)
+      (moved_to desk (Searching call rows 0), Going))).0)
+      ≡ keeps s (Writer (moved_to desk Idle)))
+      (nat_lt desk.fresh shape.slots)
       (λ yes. let u = unused-next s desk.fresh in omega arith)
       (λ no. by_cases (λ v. keeps s (Writer (cond {A = Desk × Step} v (moved_to desk Idle, no_slot shape desk)
-      (moved_to desk (Searching call rows 0), Going)).0) ≡ keeps s (Writer (moved_to desk Idle))) (nat_eq (length desk.retired) 0) (λ _. refl)
+      (moved_to desk (Searching call rows 0), Going)).0) ≡ keeps s (Writer (moved_to desk Idle)))
+      (nat_eq (length desk.retired) 0) (λ _. refl)
       (λ _. refl))
 
   settle_quiet : (c : Call) → ending c (settled shape desk call rows).1 ≡ []
   settle_quiet c = by_cases (λ v. ending c (cond {A = Desk × Step} v
       (taking_fresh shape desk call rows, Going)
-      (cond {A = Desk × Step} (nat_eq (length desk.retired) 0) (moved_to desk Idle, no_slot shape desk) (moved_to desk (Searching call rows 0), Going))).1 ≡ []) (nat_lt desk.fresh shape.slots)
+      (cond {A = Desk × Step} (nat_eq (length desk.retired) 0) (moved_to desk Idle, no_slot shape desk)
+      (moved_to desk (Searching call rows 0), Going))).1
+      ≡ [])
+      (nat_lt desk.fresh shape.slots)
       (λ yes. refl)
-      (λ no. by_cases (λ v. ending c (cond {A = Desk × Step} v (moved_to desk Idle, no_slot shape desk) (moved_to desk (Searching call rows 0), Going)).1 ≡ []) (nat_eq (length desk.retired) 0) (λ _. refl) (λ _. refl))
+      (λ no. by_cases
+      (λ v. ending c
+      (cond {A = Desk × Step} v (moved_to desk Idle, no_slot shape desk)
+      (moved_to desk (Searching call rows 0), Going)).1
+      ≡ [])
+      (nat_eq (length desk.retired) 0) (λ _. refl) (λ _. refl))
 
-module _ (shape : Shape) (words : List ℕ) (roles : List Role) (log : List Entry) (core : Core shape words roles log) (id : ℕ) (desk : Desk) (there : get_elem? roles id ≡ some (Writer desk)) (place : ℕ) where
+module _ (shape : Shape) (words : List ℕ) (roles : List Role) (log : List Entry) (core : Core shape words roles log)
+    (id : ℕ) (desk : Desk) (there : get_elem? roles id ≡ some (Writer desk)) (place : ℕ) where
   -- a step on a word that stays, which ends the call with a reply and changes no state
   pub ends : (desk' : Desk) (c : Call) (y : Reply) → call_key c < shape.keys
       → reply_at (bound_of shape) c (state_of (map_after shape log) (call_key c)) ≡ y
-      → state_after (bound_of shape) c (state_of (map_after shape log) (call_key c)) ≡ state_of (map_after shape log) (call_key c)
-      → ((s : ℕ) → keeps s (Writer desk') ≡ keeps s (Writer desk)) → AtDesk shape words (map_after shape log) (held roles) desk' → Core shape (set words place (get_or words place 0)) (set roles id (Writer desk')) (log ++ entry 0 c y ∷ [])
-  ends desk' c y near replies stays same own = desk_step shape words roles log (entry 0 c y ∷ []) core id desk desk' place there (legal-more shape log (entry 0 c y) core.legal (sym (replies_so shape log c ∙ replies)))
+      → state_after (bound_of shape) c (state_of (map_after shape log) (call_key c))
+      ≡ state_of (map_after shape log) (call_key c)
+      → ((s : ℕ) → keeps s (Writer desk') ≡ keeps s (Writer desk))
+      → AtDesk shape words (map_after shape log) (held roles) desk'
+      → Core shape (set words place (get_or words place 0)) (set roles id (Writer desk')) (log ++ entry 0 c y ∷ [])
+  ends desk' c y near replies stays same own =
+      desk_step shape words roles log (entry 0 c y ∷ []) core id desk desk' place there
+      (legal-more shape log (entry 0 c y) core.legal (sym (replies_so shape log c ∙ replies)))
       (λ j. dite (ℕ_discrete j (call_key c)) (λ e. ap (state_of (map_after shape (log ++ entry 0 c y ∷ []))) e
       ∙ state_same shape log (entry 0 c y) near ∙ stays ∙ ap (state_of (map_after shape log)) (sym e))
       (λ ne. state_other shape log (entry 0 c y) j ne))
       (λ s _. same s) own
 
   -- a step on a word that stays, after which the call goes on or has no slot
-  pub goes_on : (desk' : Desk) → ((s : ℕ) → keeps s (Writer desk') ≡ keeps s (Writer desk)) → AtDesk shape words (map_after shape log)
+  pub goes_on : (desk' : Desk) → ((s : ℕ) → keeps s (Writer desk') ≡ keeps s (Writer desk))
+      → AtDesk shape words (map_after shape log)
       (held roles) desk' → Core shape (set words place (get_or words place 0)) (set roles id (Writer desk')) (log ++ [])
   goes_on desk' same own = desk_step shape words roles log [] core id desk desk' place there
-      (subst (IsLegal (opening_map shape)) (sym (append-nil log)) core.legal) (λ j. ap (λ l. state_of (map_after shape l) j) (append-nil log))
+      (subst (IsLegal (opening_map shape)) (sym (append-nil log)) core.legal)
+      (λ j. ap (λ l. state_of (map_after shape l) j) (append-nil log))
       (λ s _. same s) own
 
   -- a call that finds a slot for its set, or polls, or has none
-  pub settles : (call : WriterCall) (rows : List Row) → ((s : ℕ) → keeps s (Writer (moved_to desk Idle)) ≡ keeps s (Writer desk)) → Wants shape words (map_after shape log) (held roles) call rows
-      → Core shape (set words place (get_or words place 0)) (set roles id (Writer (settled shape desk call rows).0)) (log ++ ending (call_of call) (settled shape desk call rows).1)
+  pub settles : (call : WriterCall) (rows : List Row)
+      → ((s : ℕ) → keeps s (Writer (moved_to desk Idle)) ≡ keeps s (Writer desk))
+      → Wants shape words (map_after shape log) (held roles) call rows
+      → Core shape (set words place (get_or words place 0)) (set roles id (Writer (settled shape desk call rows).0))
+      (log ++ ending (call_of call) (settled shape desk call rows).1)
   settles call rows same wants = subst (λ (es : List Entry). Core shape (set words place (get_or words place 0))
       (set roles id (Writer (settled shape desk call rows).0)) (log ++ es))
       (sym (settle_quiet shape words (map_after shape log) (held roles) desk call rows (call_of call)))
-      (goes_on (settled shape desk call rows).0 (λ s. settle_keeps shape words (map_after shape log) (held roles) desk call rows s ∙ same s)
+      (goes_on (settled shape desk call rows).0
+      (λ s. settle_keeps shape words (map_after shape log) (held roles) desk call rows s ∙ same s)
       (settle_desk shape words (map_after shape log) (held roles) desk call rows
       (idle_desk shape words (map_after shape log) (held roles) desk (core.knows id (Writer desk) there)) wants))

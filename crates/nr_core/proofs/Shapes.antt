@@ -10,7 +10,8 @@ use Rattle.nr_machine.specs.declared.shape.Shape.{Shape}
 good_size : (limit size : ℕ) → (IsBadSize limit size → ⊥) → (0 < size) × (size ≤ limit)
 good_size limit size good = (
   ⊎_elim {A = 0 < size} {B = size ≤ 0} (λ more. more) (λ none. absurd (good (inl (omega arith)))) (cases_lt 0 size),
-  ⊎_elim {A = limit < size} {B = size ≤ limit} (λ over. absurd (good (inr over))) (λ within. within) (cases_lt limit size),
+  ⊎_elim {A = limit < size} {B = size ≤ limit} (λ over. absurd (good (inr over))) (λ within. within)
+      (cases_lt limit size),
 )
 
 pub good_shape : (shape : Shape) → (IsBadShape shape → ⊥) → IsShape shape
@@ -23,7 +24,9 @@ good_shape shape good =
       bound = rows.1;
       slots = omega (arith, slots.1);
       readers = omega (arith, readers.1);
-      number = ⊎_elim (λ over. absurd (good (inr (inr (inr (inl over)))))) (λ within. within) (cases_lt _ shape.first_number);
+      number =
+          ⊎_elim (λ over. absurd (good (inr (inr (inr (inl over)))))) (λ within. within)
+          (cases_lt _ shape.first_number);
     }
 
 pub opening_reached : (shape : Shape) → (IsBadShape shape → ⊥) → ∥ Reached (opening_state shape) ∥₁

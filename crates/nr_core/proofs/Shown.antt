@@ -1,5 +1,6 @@
 -- The words of a core state show the map after its history.
-use Rattle.std.proofs.Common.{List, [], ap, arith, cond, drop, eq-eqb, get_or, length, ne_eqb, refl, suc, take, ℕ, ◌%◌, ◌+◌, ◌-◌, ◌<◌, ◌∙◌, ◌∷◌, ◌≡◌, ◌≤◌}
+use Rattle.std.proofs.Common.{List, [], ap, arith, cond, drop, eq-eqb, get_or, length, ne_eqb, refl, suc, take, ℕ, ◌%◌}
+use Rattle.std.proofs.Common.{◌+◌, ◌-◌, ◌<◌, ◌∙◌, ◌∷◌, ◌≡◌, ◌≤◌}
 use Rattle.std.proofs.lemmas.List.{get_or-drop, get_or-take, length-drop, length-take-le}
 use lib.ListN.{get_elem?}
 use mathlib.Core.Option.{some}
@@ -24,34 +25,56 @@ use Rattle.nr_machine.specs.declared.roles.Role.TheVariants.{Writer}
 use Rattle.nr_machine.specs.declared.shape.Shape.{Shape}
 use Rattle.nr_model.specs.declared.states.KeyState.TheVariants as key
 
-begins_with : (m l : List ℕ) → length m ≤ length l → ((i : ℕ) → i < length m → get_or l i 0 ≡ get_or m i 0) → take (length m) l ≡ m
+begins_with : (m l : List ℕ) → length m ≤ length l → ((i : ℕ) → i < length m → get_or l i 0 ≡ get_or m i 0)
+    → take (length m) l ≡ m
 begins_with [] l fits same = refl
 begins_with (x ∷ m) [] fits same = absurd (omega arith)
-begins_with (x ∷ m) (y ∷ l) fits same = λ k. same 0 (omega arith) k ∷ begins_with m l (omega arith) (λ i low. same (suc i) (omega arith)) k
+begins_with (x ∷ m) (y ∷ l) fits
+    same = λ k. same 0 (omega arith) k ∷ begins_with m l (omega arith) (λ i low. same (suc i) (omega arith)) k
 
-pub spelt_set : (shape : Shape) (words : List ℕ) (s : ℕ) (rows : List Row) → length words ≡ total_of (layout shape) → s < shape.slots → SlotSpells shape words s rows → decode (slot_content shape words s) ≡ Some rows
+pub spelt_set : (shape : Shape) (words : List ℕ) (s : ℕ) (rows : List Row) → length words ≡ total_of (layout shape)
+    → s < shape.slots → SlotSpells shape words s rows → decode (slot_content shape words s) ≡ Some rows
 spelt_set shape words s rows wide near sp = let short = sp.0.1 in let size = length-row_words rows in
     let c : ℕ = content shape s 0 in
     let d1 : length (drop c words) ≡ length words - c = length-drop c words in
-    let d2 : length (take (slot_room shape) (drop c words)) ≡ slot_room shape = length-take-le (slot_room shape) (drop c words) (omega (arith, in_block_below (layout shape) s (slot_room shape) near (omega arith))) in
-    decodes_begins (bound_of shape) (slot_content shape words s) rows sp.0 (begins_with (encode rows) (slot_content shape words s) (omega arith)
-    (λ i low. get_or-take (slot_room shape) (drop c words) i 0 (omega arith) ∙ get_or-drop c words i 0 ∙ ap (λ (n : ℕ). get_or words n 0) (place_is i) ∙ sp.1 i low))
+    let d2 : length (take (slot_room shape) (drop c words)) ≡ slot_room shape
+    = length-take-le (slot_room shape) (drop c words)
+    (omega (arith, in_block_below (layout shape) s (slot_room shape) near (omega arith))) in
+    decodes_begins (bound_of shape) (slot_content shape words s) rows sp.0
+    (begins_with (encode rows) (slot_content shape words s) (omega arith)
+    (λ i low. get_or-take (slot_room shape) (drop c words) i 0 (omega arith) ∙ get_or-drop c words i 0
+    ∙ ap (λ (n : ℕ). get_or words n 0) (place_is i) ∙ sp.1 i low))
   where
     place_is : (i : ℕ) → content shape s 0 + i ≡ content shape s i
     place_is i = omega arith
 
 pub shown_is : (state : State) (roles : List Role) (log : List Entry) → Core state.shape state.words roles log
-    → get_elem? roles 0 ≡ some (Writer state.desk) → (k : ℕ) → k < state.shape.keys → shown state k ≡ Some (state_of (map_after state.shape log) k)
-shown_is state roles log core writer_there k near = let shape = state.shape in let words = state.words in let w = get_or words k 0 in let z = state_of (map_after shape log) k in
-    let listed : number_at state.desk k ≡ number_of z = (core.knows 0 (Writer state.desk) writer_there).numbers.agree k near in
-    let Given : ℕ → Option KeyState = λ s. option_map (λ rows. key.Rows (number_at state.desk k) rows) (decode (slot_content shape words s)) in let B : Option KeyState = Given (slot_of w) in
+    → get_elem? roles 0 ≡ some (Writer state.desk) → (k : ℕ) → k < state.shape.keys
+    → shown state k ≡ Some (state_of (map_after state.shape log) k)
+shown_is state roles log core writer_there k near =
+    let shape = state.shape in
+    let words = state.words in
+    let w = get_or words k 0 in
+    let z = state_of (map_after shape log) k in
+    let listed : number_at state.desk k ≡ number_of z
+    = (core.knows 0 (Writer state.desk) writer_there).numbers.agree k near in
+    let Given : ℕ → Option KeyState
+    = λ s. option_map (λ rows. key.Rows (number_at state.desk k) rows) (decode (slot_content shape words s)) in
+    let B : Option KeyState = Given (slot_of w) in
     let C : Option KeyState = Some (cond (has_ask w) (key.Asked (slot_of w)) (key.Hole (slot_of w))) in
-    let go : (z : KeyState) → ShowsState shape words w z → number_at state.desk k ≡ number_of z → cond (is_filled w) B C ≡ Some z = λ z. elim z as
+    let go : (z : KeyState) → ShowsState shape words w z → number_at state.desk k ≡ number_of z
+    → cond (is_filled w) B C ≡ Some z
+    = λ z. elim z as
     (λ v. ShowsState shape words w v → number_at state.desk k ≡ number_of v → cond (is_filled w) B C ≡ Some v) [
       | key.Hole n ↦ λ t _. let even = t.1 in ap (λ b. cond b B C) (names_none w t.0)
-          ∙ ap (λ b. Some (cond {A = KeyState} b (key.Asked (slot_of w)) (key.Hole (slot_of w)))) (ne_eqb (w % 2) 1 (λ z. omega arith))
+          ∙ ap (λ b. Some (cond {A = KeyState} b (key.Asked (slot_of w)) (key.Hole (slot_of w))))
+          (ne_eqb (w % 2) 1 (λ z. omega arith))
           ∙ ap (λ (m : ℕ). Some (key.Hole m)) t.2
-      | key.Asked n ↦ λ t _. ap (λ b. cond b B C) (names_none w t.0) ∙ ap (λ b. Some (cond {A = KeyState} b (key.Asked (slot_of w)) (key.Hole (slot_of w)))) (eq-eqb (w % 2) 1 t.1) ∙ ap (λ (m : ℕ). Some (key.Asked m)) t.2
+      | key.Asked
+          n ↦ λ t _. ap (λ b. cond b B C) (names_none w t.0)
+          ∙ ap (λ b. Some (cond {A = KeyState} b (key.Asked (slot_of w)) (key.Hole (slot_of w))))
+          (eq-eqb (w % 2) 1 t.1)
+          ∙ ap (λ (m : ℕ). Some (key.Asked m)) t.2
       | key.Rows number rows ↦ λ t same. let n = names_one w t.0 t.1 in
           ap (λ b. cond b B C) n.0 ∙ ap Given n.1 ∙ ap (option_map (λ rows. key.Rows (number_at state.desk k) rows))
           (spelt_set shape words t.0 rows core.wide t.2 t.3) ∙ ap (λ (m : ℕ). Some (key.Rows m rows)) same

@@ -1,5 +1,6 @@
 -- What the core state of a story says in the words of the law: what stands between any two steps.
-use Rattle.std.proofs.Common.{Bool, List, ap, arith, cond, false, get_or, inl, inr, length, map, nat_eq, subst, suc, sym, true, ℕ, ⊎_elim, ◌%◌, ◌*◌, ◌+◌, ◌-◌, ◌<◌, ◌^◌, ◌∙◌, ◌≡◌, ◌≤◌, ◌⊎◌}
+use Rattle.std.proofs.Common.{Bool, List, ap, arith, cond, false, get_or, inl, inr, length, map, nat_eq, subst, suc}
+use Rattle.std.proofs.Common.{sym, true, ℕ, ⊎_elim, ◌%◌, ◌*◌, ◌+◌, ◌-◌, ◌<◌, ◌^◌, ◌∙◌, ◌≡◌, ◌≤◌, ◌⊎◌}
 use Rattle.std.proofs.lemmas.Bool.{eqb-true, leb-true, lt-leb}
 use Rattle.std.specs.Prelude.{None, Ok, Option, Some, nat_le}
 use lib.ListN.{get_elem?}
@@ -37,13 +38,16 @@ use Rattle.nr_machine.specs.declared.shape.Shape.{Shape}
 use Rattle.nr_machine.specs.declared.places.Hold.TheVariants as hold
 use Rattle.nr_machine.specs.declared.calls.Refusal.TheVariants as refuse
 
-taken_nobody : (shape : Shape) (words : List ℕ) (map : PartialMap) (hold : ℕ → ℕ) (fresh : ℕ) (l : List Retired) (s : ℕ) (p : Place) → AtPlace shape words map hold fresh l p → 0 < taken s p → hold s ≡ 0
+taken_nobody : (shape : Shape) (words : List ℕ) (map : PartialMap) (hold : ℕ → ℕ) (fresh : ℕ) (l : List Retired) (s : ℕ)
+    (p : Place)
+    → AtPlace shape words map hold fresh l p → 0 < taken s p → hold s ≡ 0
 taken_nobody shape words map hold fresh l s Idle t mine = absurd (omega arith)
 taken_nobody shape words map hold fresh l s (Reading call u got) t mine = absurd (omega arith)
 taken_nobody shape words map hold fresh l s (Leaving k) t mine = absurd (omega arith)
 taken_nobody shape words map hold fresh l s (Withdrawing k) t mine = absurd (omega arith)
 taken_nobody shape words map hold fresh l s (Searching call rows p) t mine = absurd (omega arith)
-taken_nobody shape words map hold fresh l s (Putting call rows u departed i) t mine = ap hold (sym (only-is s u mine)) ∙ t.nobody
+taken_nobody shape words map hold fresh l s (Putting call rows u departed i) t mine =
+    ap hold (sym (only-is s u mine)) ∙ t.nobody
 
 abbrev hold_number : Hold → ℕ
 hold_number hold.Nothing = 0
@@ -53,7 +57,8 @@ abbrev hold_rows : Hold → Option ℕ
 hold_rows hold.Nothing = None
 hold_rows (hold.On s n) = n
 
-erased_is : (x : Grip) (s : ℕ) (n : Option ℕ) → erased x ≡ hold.On s n → (rows : List Row) × (b : Bool) × (x ≡ On s rows b) × ((n ≡ None) ⊎ (n ≡ Some (length rows)))
+erased_is : (x : Grip) (s : ℕ) (n : Option ℕ) → erased x ≡ hold.On s n
+    → (rows : List Row) × (b : Bool) × (x ≡ On s rows b) × ((n ≡ None) ⊎ (n ≡ Some (length rows)))
 erased_is Nothing s n e = let z : 0 ≡ suc s = ap hold_number e in absurd (omega arith)
 erased_is (On t rows b) s n e = let z : suc t ≡ suc s = ap hold_number e in let same : t ≡ s = omega arith in
     (rows, b, ap (λ (u : ℕ). On u rows b) same, known b (sym (ap hold_rows e)))
@@ -63,16 +68,25 @@ erased_is (On t rows b) s n e = let z : suc t ≡ suc s = ap hold_number e in le
     known false e = inl e
 
 -- an index that is not beyond the set is within its words
-within_words : (index : ℕ) (size : Option ℕ) (rows : List Row) → (size ≡ None) ⊎ (size ≡ Some (length rows)) → if_beyond index size ≡ None → index < length (encode rows)
+within_words : (index : ℕ) (size : Option ℕ) (rows : List Row) → (size ≡ None) ⊎ (size ≡ Some (length rows))
+    → if_beyond index size ≡ None → index < length (encode rows)
 within_words index size rows known ok = ⊎_elim {A = size ≡ None} {B = size ≡ Some (length rows)}
-    (λ unread. let g = guard (nat_eq index 0) None refuse.OutOfRange (ap (if_beyond index) (sym unread) ∙ ok) in let zero_is : index ≡ 0 = eqb-true index 0 g.0 in omega arith)
-    (λ read. let g = guard (nat_le index (2 * length rows)) None refuse.OutOfRange (ap (if_beyond index) (sym read) ∙ ok) in
-    let low : index ≤ 2 * length rows = leb-true index (2 * length rows) g.0 in let size_of = length-row_words rows in omega arith)
+    (λ unread.
+    let g = guard (nat_eq index 0) None refuse.OutOfRange (ap (if_beyond index) (sym unread) ∙ ok) in
+    let zero_is : index ≡ 0 = eqb-true index 0 g.0 in
+    omega arith)
+    (λ read.
+    let g = guard (nat_le index (2 * length rows)) None refuse.OutOfRange (ap (if_beyond index) (sym read) ∙ ok) in
+    let low : index ≤ 2 * length rows = leb-true index (2 * length rows) g.0 in
+    let size_of = length-row_words rows in
+    omega arith)
     known
 
 -- a read that is not refused gives the word of the set at the index
-reads_word : (state : State) (reader slot : ℕ) (size : Option ℕ) (rows : List Row) (index : ℕ) → hold_of state reader ≡ hold.On slot size → (size ≡ None) ⊎ (size ≡ Some (length rows))
-    → ((i : ℕ) → i < length (encode rows) → get_or state.words (content state.shape slot i) 0 ≡ get_or (encode rows) i 0)
+reads_word : (state : State) (reader slot : ℕ) (size : Option ℕ) (rows : List Row) (index : ℕ)
+    → hold_of state reader ≡ hold.On slot size → (size ≡ None) ⊎ (size ≡ Some (length rows))
+    → ((i : ℕ) → i < length (encode rows)
+    → get_or state.words (content state.shape slot i) 0 ≡ get_or (encode rows) i 0)
     → refusal state (Read reader index) ≡ None → read_answer state reader index ≡ Ok (get_or (encode rows) index 0)
 reads_word state reader slot size rows index holds_it known spelt ok =
     let g = guard (has_reader state.shape reader) (if_unreadable index (hold_of state reader)) refuse.OutOfRange ok in
@@ -81,11 +95,27 @@ reads_word state reader slot size rows index holds_it known spelt ok =
     ∙ ap (λ (y : Hold). Ok (get_or state.words (content state.shape (slot_in y) index) 0)) holds_it
     ∙ ap (λ (w : ℕ). Ok w) (spelt index low)
 
-pub holding : (story : Story) → IsCoreState story.state story.history → (r s : ℕ) (n : Option ℕ) → 0 < r → hold_of story.state r ≡ hold.On s n → HoldsFound story r s n
-holding story is_core r s n low e = let state = story.state in let size = is_core.fit.size in let i : ℕ = r - 1 in let number : suc i ≡ r = omega arith in
-    let within : i < state.shape.readers = dite (dec_le state.shape.readers i) (λ l. let z : 0 ≡ suc s = ap hold_number (sym (none_beyond state.holds i (omega arith)) ∙ e) in absurd (omega arith)) (λ l. omega arith) in
-    let o = is_core.fit.readers i within in let x = erased_is o.0 s n (sym o.2 ∙ e) in let there_is : get_elem? is_core.roles (suc i) ≡ some (Reader (suc i) (On s x.0 x.1)) = o.1 ∙ ap (λ (g : Grip). some (Reader (suc i) g)) x.2 in
-    let knows = is_core.core.knows (suc i) (Reader (suc i) (On s x.0 x.1)) there_is in let found_it : Found story.history r x.0 = subst (λ (c : ℕ). Found story.history c x.0) number (is_core.found i s x.0 x.1 there_is) in record {
+pub holding : (story : Story) → IsCoreState story.state story.history → (r s : ℕ) (n : Option ℕ) → 0 < r
+    → hold_of story.state r ≡ hold.On s n → HoldsFound story r s n
+holding story is_core r s n low e =
+    let state = story.state in
+    let size = is_core.fit.size in
+    let i : ℕ = r - 1 in
+    let number : suc i ≡ r = omega arith in
+    let within : i < state.shape.readers
+    = dite (dec_le state.shape.readers i)
+    (λ l.
+    let z : 0 ≡ suc s = ap hold_number (sym (none_beyond state.holds i (omega arith)) ∙ e) in
+    absurd (omega arith))
+    (λ l. omega arith) in
+    let o = is_core.fit.readers i within in
+    let x = erased_is o.0 s n (sym o.2 ∙ e) in
+    let there_is : get_elem? is_core.roles (suc i) ≡ some (Reader (suc i) (On s x.0 x.1))
+    = o.1 ∙ ap (λ (g : Grip). some (Reader (suc i) g)) x.2 in
+    let knows = is_core.core.knows (suc i) (Reader (suc i) (On s x.0 x.1)) there_is in
+    let found_it : Found story.history r x.0
+    = subst (λ (c : ℕ). Found story.history c x.0) number (is_core.found i s x.0 x.1 there_is) in
+    record {
       at = found_it.0;
       rows = x.0;
       before = found_it.1;
@@ -97,31 +127,54 @@ holding story is_core r s n low e = let state = story.state in let size = is_cor
     }
 
 -- a reader that holds a slot is counted, and its slot is in range
-pub holder : (story : Story) (is_core : IsCoreState story.state story.history) → (r s : ℕ) (n : Option ℕ) → 0 < r → hold_of story.state r ≡ hold.On s n → (0 < held is_core.roles s) × (s < story.state.shape.slots)
+pub holder : (story : Story) (is_core : IsCoreState story.state story.history) → (r s : ℕ) (n : Option ℕ) → 0 < r
+    → hold_of story.state r ≡ hold.On s n → (0 < held is_core.roles s) × (s < story.state.shape.slots)
 holder story is_core r s n low e = let state = story.state in let size = is_core.fit.size in let i : ℕ = r - 1 in
-    let within : i < state.shape.readers = dite (dec_le state.shape.readers i) (λ l. let z : 0 ≡ suc s = ap hold_number (sym (none_beyond state.holds i (omega arith)) ∙ e) in absurd (omega arith)) (λ l. omega arith) in
-    let o = is_core.fit.readers i within in let x = erased_is o.0 s n (sym o.2 ∙ e) in let there_is : get_elem? is_core.roles (suc i) ≡ some (Reader (suc i) (On s x.0 x.1)) = o.1 ∙ ap (λ (g : Grip). some (Reader (suc i) g)) x.2 in
-    let part = term_le (holds s) is_core.roles (suc i) (Reader (suc i) (On s x.0 x.1)) there_is in let one = only-same s in (omega arith, (is_core.core.knows (suc i) (Reader (suc i) (On s x.0 x.1)) there_is).0)
+    let within : i < state.shape.readers
+    = dite (dec_le state.shape.readers i)
+    (λ l.
+    let z : 0 ≡ suc s = ap hold_number (sym (none_beyond state.holds i (omega arith)) ∙ e) in
+    absurd (omega arith))
+    (λ l. omega arith) in
+    let o = is_core.fit.readers i within in
+    let x = erased_is o.0 s n (sym o.2 ∙ e) in
+    let there_is : get_elem? is_core.roles (suc i) ≡ some (Reader (suc i) (On s x.0 x.1))
+    = o.1 ∙ ap (λ (g : Grip). some (Reader (suc i) g)) x.2 in
+    let part = term_le (holds s) is_core.roles (suc i) (Reader (suc i) (On s x.0 x.1)) there_is in
+    let one = only-same s in
+    (omega arith, (is_core.core.knows (suc i) (Reader (suc i) (On s x.0 x.1)) there_is).0)
 
 pub stands : (story : Story) → IsCoreState story.state story.history → Stands story
-stands story is_core = let state = story.state in let shape = state.shape in let core = is_core.core in let roles = is_core.roles in
-    let sums = state_sums state roles is_core.fit in let desk = core.knows 0 (Writer state.desk) is_core.fit.writer in record {
+stands story is_core =
+    let state = story.state in
+    let shape = state.shape in
+    let core = is_core.core in
+    let roles = is_core.roles in
+    let sums = state_sums state roles is_core.fit in
+    let desk = core.knows 0 (Writer state.desk) is_core.fit.writer in
+    record {
       legal = core.legal;
       shows = shown_is state roles story.history core is_core.fit.writer;
       numbered = desk.numbers.agree;
       accounted = record {
         placed = λ s near. omega (arith, core.places s near, (sums s).1);
         named_in = named_inside state.shape state.words roles story.history core;
-        retired_in = λ i low. (desk.retired i (get_or state.desk.retired i no_retired) (got_at state.desk.retired i no_retired low)).0;
-        named_count = λ k s near e. core.counts k s near e ∙ ap (λ (n : ℕ). (get_or state.words (departures shape s) 0 + n) % 2 ^ 40) (sums s).0;
+        retired_in = λ i low.
+            (desk.retired i (get_or state.desk.retired i no_retired) (got_at state.desk.retired i no_retired low)).0;
+        named_count = λ k s near e. core.counts k s near e
+            ∙ ap (λ (n : ℕ). (get_or state.words (departures shape s) 0 + n) % 2 ^ 40) (sums s).0;
         retired_count = λ i low. let x = get_or state.desk.retired i no_retired in
             (desk.retired i x (got_at state.desk.retired i no_retired low)).1
             ∙ ap (λ (n : ℕ). (get_or state.words (departures shape x.slot) 0 + n) % 2 ^ 40) (sums x.slot).0;
         unheld = λ s near mine. sym (sums s).0 ∙ dite (dec_le state.desk.fresh s) (λ l. (desk.free s l near).0)
-            (λ l. let u : unused s state.desk.fresh ≡ 0 = ap (λ b. cond {A = ℕ} b 1 0) (lt-leb state.desk.fresh s (omega arith)) in
-            taken_nobody shape state.words (map_of story) (held roles) state.desk.fresh state.desk.retired s state.desk.place desk.place
+            (λ l.
+            let u : unused s state.desk.fresh ≡ 0
+            = ap (λ b. cond {A = ℕ} b 1 0) (lt-leb state.desk.fresh s (omega arith)) in
+            taken_nobody shape state.words (map_of story) (held roles) state.desk.fresh state.desk.retired s
+            state.desk.place desk.place
             (omega arith));
       };
       held = λ r s n low e. holding story is_core r s n low e;
-      sent = λ k near. sends_are_answered_lem shape.keys (bound_of shape) shape.first_number k story.history core.legal near;
+      sent = λ k near. sends_are_answered_lem shape.keys (bound_of shape) shape.first_number k story.history core.legal
+          near;
     }

@@ -1,5 +1,8 @@
--- The roles of a state's callers: the writer first, then the readers, who know the set that they found beside what they hold.
-use Rattle.std.proofs.Common.{Bool, List, [], ap, append-nil, arith, cond, eq-eqb, get_or, get_or-set_other, get_or-set_same, length, length-set, ne_eqb, refl, set, subst, suc, sym, zero, ℕ, ⊎_elim, ◌++◌, ◌+◌, ◌<◌, ◌∙◌, ◌∷◌, ◌≡◌, ◌≢◌}
+-- The roles of a state's callers: the writer first, then the readers, who know the set that they found beside what they
+-- hold.
+use Rattle.std.proofs.Common.{Bool, List, [], ap, append-nil, arith, cond, eq-eqb, get_or, get_or-set_other}
+use Rattle.std.proofs.Common.{get_or-set_same, length, length-set, ne_eqb, refl, set, subst, suc, sym, zero, ℕ, ⊎_elim}
+use Rattle.std.proofs.Common.{◌++◌, ◌+◌, ◌<◌, ◌∙◌, ◌∷◌, ◌≡◌, ◌≢◌}
 use Rattle.std.specs.Prelude.{None, Some}
 use lib.ListN.{get_elem?}
 use mathlib.Core.Logic.{dite}
@@ -40,7 +43,8 @@ pub record Fit (n : ℕ) (roles : List Role) (holds : List Hold) (desk : Desk) :
   pub size : length holds ≡ n
   pub callers : length roles ≡ suc n
   pub writer : get_elem? roles 0 ≡ some (Writer desk)
-  pub readers : (i : ℕ) → i < n → (x : Grip) × (get_elem? roles (suc i) ≡ some (Reader (suc i) x)) × (get_or holds i hold.Nothing ≡ erased x)
+  pub readers : (i : ℕ) → i < n
+      → (x : Grip) × (get_elem? roles (suc i) ≡ some (Reader (suc i) x)) × (get_or holds i hold.Nothing ≡ erased x)
 
 at_other : {A : Type 0} (l : List A) (i j : ℕ) (a : A) → j ≢ i → get_elem? (set l i a) j ≡ get_elem? l j
 at_other [] i j a ne = refl
@@ -54,7 +58,8 @@ at_same [] i a low = absurd (omega arith)
 at_same (x ∷ xs) zero a low = refl
 at_same (x ∷ xs) (suc i) a low = at_same xs i a (omega arith)
 
-pub fit_reader : (n : ℕ) (roles : List Role) (holds : List Hold) (desk : Desk) → Fit n roles holds desk → (i : ℕ) → i < n → (x : Grip) (y : Hold) → y ≡ erased x → Fit n (set roles (suc i) (Reader (suc i) x)) (set holds i y) desk
+pub fit_reader : (n : ℕ) (roles : List Role) (holds : List Hold) (desk : Desk) → Fit n roles holds desk → (i : ℕ)
+    → i < n → (x : Grip) (y : Hold) → y ≡ erased x → Fit n (set roles (suc i) (Reader (suc i) x)) (set holds i y) desk
 fit_reader n roles holds desk f i near x y e = let size = f.size in let callers = f.callers in record {
   size = length-set holds i y ∙ f.size;
   callers = length-set roles (suc i) (Reader (suc i) x) ∙ f.callers;
@@ -62,26 +67,38 @@ fit_reader n roles holds desk f i near x y e = let size = f.size in let callers 
   readers = λ j low. dite (ℕ_discrete j i)
       (λ same. (
         x,
-        subst (λ (m : ℕ). get_elem? (set roles (suc i) (Reader (suc i) x)) (suc m) ≡ some (Reader (suc m) x)) (sym same) (at_same roles (suc i) (Reader (suc i) x) (omega arith)),
-        ap (λ (m : ℕ). get_or (set holds i y) m hold.Nothing) same ∙ get_or-set_same holds i y hold.Nothing (omega arith) ∙ e,
+        subst (λ (m : ℕ). get_elem? (set roles (suc i) (Reader (suc i) x)) (suc m) ≡ some (Reader (suc m) x)) (sym same)
+            (at_same roles (suc i) (Reader (suc i) x) (omega arith)),
+        ap (λ (m : ℕ). get_or (set holds i y) m hold.Nothing) same
+            ∙ get_or-set_same holds i y hold.Nothing (omega arith) ∙ e,
       ))
-      (λ ne. let o = f.readers j low in (o.0, at_other roles (suc i) (suc j) (Reader (suc i) x) (λ z. ne (omega arith)) ∙ o.1, get_or-set_other holds i j y hold.Nothing ne ∙ o.2));
+      (λ ne.
+      let o = f.readers j low in (
+        o.0,
+        at_other roles (suc i) (suc j) (Reader (suc i) x) (λ z. ne (omega arith)) ∙ o.1,
+        get_or-set_other holds i j y hold.Nothing ne ∙ o.2,
+      ));
 }
 
-pub fit_writer : (n : ℕ) (roles : List Role) (holds : List Hold) (desk desk' : Desk) → Fit n roles holds desk → Fit n (set roles 0 (Writer desk')) holds desk'
+pub fit_writer : (n : ℕ) (roles : List Role) (holds : List Hold) (desk desk' : Desk) → Fit n roles holds desk
+    → Fit n (set roles 0 (Writer desk')) holds desk'
 fit_writer n roles holds desk desk' f = let callers = f.callers in record {
   size = f.size;
   callers = length-set roles 0 (Writer desk') ∙ f.callers;
   writer = at_same roles 0 (Writer desk') (omega arith);
-  readers = λ j low. let o = f.readers j low in (o.0, at_other roles 0 (suc j) (Writer desk') (λ z. omega arith) ∙ o.1, o.2);
+  readers = λ j low.
+      let o = f.readers j low in (o.0, at_other roles 0 (suc j) (Writer desk') (λ z. omega arith) ∙ o.1, o.2);
 }
 
 -- the caller's last call is a find of this set
 abbrev pub Found : List Entry → ℕ → List Row → Type 0
-Found log c rows = (k : ℕ) × (before : List Entry) × (entries_of log c ≡ before ++ entry c (model.Find k) (reply.Rows rows) ∷ [])
+Found log c rows =
+    (k : ℕ) × (before : List Entry) × (entries_of log c ≡ before ++ entry c (model.Find k) (reply.Rows rows) ∷ [])
 
 abbrev pub AllFound : List Role → List Entry → Type 0
-AllFound roles log = (j s : ℕ) (rows : List Row) (b : Bool) → get_elem? roles (suc j) ≡ some (Reader (suc j) (On s rows b)) → Found log (suc j) rows
+AllFound roles log =
+    (j s : ℕ) (rows : List Row) (b : Bool) → get_elem? roles (suc j) ≡ some (Reader (suc j) (On s rows b))
+    → Found log (suc j) rows
 
 pub record IsCoreState (state : State) (log : List Entry) : Type 0 where
   pub roles : List Role
@@ -89,8 +106,13 @@ pub record IsCoreState (state : State) (log : List Entry) : Type 0 where
   pub fit : Fit state.shape.readers roles state.holds state.desk
   pub found : AllFound roles log
 
-pub found_quiet : (log es : List Entry) (c : ℕ) (rows : List Row) → entries_of es c ≡ [] → Found log c rows → Found (log ++ es) c rows
-found_quiet log es c rows none f = (f.0, f.1, of-append c log es ∙ ap (λ (l : List Entry). entries_of log c ++ l) none ∙ append-nil (entries_of log c) ∙ f.2)
+pub found_quiet : (log es : List Entry) (c : ℕ) (rows : List Row) → entries_of es c ≡ [] → Found log c rows
+    → Found (log ++ es) c rows
+found_quiet log es c rows none f = (
+  f.0,
+  f.1,
+  of-append c log es ∙ ap (λ (l : List Entry). entries_of log c ++ l) none ∙ append-nil (entries_of log c) ∙ f.2,
+)
 
 abbrev grip_of : Role → Grip
 grip_of (Writer desk) = Nothing
@@ -115,15 +137,25 @@ pub same_rows : (s t : ℕ) (rows m : List Row) (b b' : Bool) → On s rows b �
 same_rows s t rows m b b' e = ap grip_rows e
 
 -- a role that changes at one place
-pub found_set : (roles : List Role) (log es : List Entry) (i : ℕ) (x : Grip) → AllFound roles log → ((j : ℕ) → j ≢ i → entries_of es (suc j) ≡ []) → ((s : ℕ) (rows : List Row) (b : Bool) → x ≡ On s rows b → Found (log ++ es) (suc i) rows)
+pub found_set : (roles : List Role) (log es : List Entry) (i : ℕ) (x : Grip) → AllFound roles log
+    → ((j : ℕ) → j ≢ i → entries_of es (suc j) ≡ [])
+    → ((s : ℕ) (rows : List Row) (b : Bool) → x ≡ On s rows b → Found (log ++ es) (suc i) rows)
     → AllFound (set roles (suc i) (Reader (suc i) x)) (log ++ es)
-found_set roles log es i x all quiet own j s rows b e = ⊎_elim {A = (suc j ≡ suc i) × (Reader (suc i) x ≡ Reader (suc j) (On s rows b))} {B = (suc j ≢ suc i) × (get_elem? roles (suc j) ≡ some (Reader (suc j) (On s rows b)))}
-    (λ t. let is : i ≡ j = omega (arith, t.0) in subst (λ (n : ℕ). Found (log ++ es) (suc n) rows) is (own s rows b (same_grip (suc i) (suc j) x (On s rows b) t.1)))
+found_set roles log es i x all quiet own j s rows b e =
+    ⊎_elim {A = (suc j ≡ suc i) × (Reader (suc i) x ≡ Reader (suc j) (On s rows b))} {B = (suc j ≢ suc i)
+    × (get_elem? roles (suc j) ≡ some (Reader (suc j) (On s rows b)))}
+    (λ t.
+    let is : i ≡ j = omega (arith, t.0) in
+    subst (λ (n : ℕ). Found (log ++ es) (suc n) rows) is
+    (own s rows b (same_grip (suc i) (suc j) x (On s rows b) t.1)))
     (λ t. found_quiet log es (suc j) rows (quiet j (λ z. t.0 (ap suc z))) (all j s rows b t.1))
     (at_set roles (suc i) (suc j) (Reader (suc i) x) (Reader (suc j) (On s rows b)) e)
 
-pub found_writer : (roles : List Role) (log es : List Entry) (desk : Desk) → AllFound roles log → ((j : ℕ) → entries_of es (suc j) ≡ []) → AllFound (set roles 0 (Writer desk)) (log ++ es)
-found_writer roles log es desk all quiet j s rows b e = found_quiet log es (suc j) rows (quiet j) (all j s rows b (sym (at_other roles 0 (suc j) (Writer desk) (λ z. omega arith)) ∙ e))
+pub found_writer : (roles : List Role) (log es : List Entry) (desk : Desk) → AllFound roles log
+    → ((j : ℕ) → entries_of es (suc j) ≡ []) → AllFound (set roles 0 (Writer desk)) (log ++ es)
+found_writer roles log es desk all quiet j s rows b e =
+    found_quiet log es (suc j) rows (quiet j)
+    (all j s rows b (sym (at_other roles 0 (suc j) (Writer desk) (λ z. omega arith)) ∙ e))
 
 pub one_other : (c n : ℕ) (call : Call) (y : Reply) → c ≢ n → entries_of (entry c call y ∷ []) n ≡ []
 one_other c n call y ne = ap (λ b. cond {A = List Entry} b (entry c call y ∷ []) []) (ne_eqb c n ne)
@@ -144,20 +176,29 @@ ending_at_other (Withdrawing k) s j = ending_other (model.Cancel k) s j
 ending_at_other (Searching call rows p) s j = ending_other (call_of call) s j
 ending_at_other (Putting call rows t departed i) s j = ending_other (call_of call) s j
 
-weights : (s : ℕ) (rest : List Role) (l : List Hold) (i : ℕ) → length rest ≡ length l → ((j : ℕ) → j < length l → (x : Grip) × (get_elem? rest j ≡ some (Reader (suc (i + j)) x)) × (get_or l j hold.Nothing ≡ erased x))
+weights : (s : ℕ) (rest : List Role) (l : List Hold) (i : ℕ) → length rest ≡ length l
+    → ((j : ℕ) → j < length l
+    → (x : Grip) × (get_elem? rest j ≡ some (Reader (suc (i + j)) x)) × (get_or l j hold.Nothing ≡ erased x))
     → (total (holds s) rest ≡ total (on s) l) × (total (keeps s) rest ≡ 0)
 weights s [] [] i size at_each = (refl, refl)
 weights s [] (y ∷ l) i size at_each = absurd (omega arith)
 weights s (u ∷ rest) [] i size at_each = absurd (omega arith)
-weights s (u ∷ rest) (y ∷ l) i size at_each = let o = at_each 0 (omega arith) in let role : u ≡ Reader (suc (i + 0)) o.0 = some-injective u (Reader (suc (i + 0)) o.0) o.1 in
-    let more = weights s rest l (suc i) (omega arith) (λ j low. let p = at_each (suc j) (omega arith) in (p.0, p.1 ∙ ap (λ (c : ℕ). some (Reader (suc c) p.0)) (omega arith), p.2)) in
+weights s (u ∷ rest) (y ∷ l) i size at_each =
+    let o = at_each 0 (omega arith) in
+    let role : u ≡ Reader (suc (i + 0)) o.0 = some-injective u (Reader (suc (i + 0)) o.0) o.1 in
+    let more
+    = weights s rest l (suc i) (omega arith)
+    (λ j low.
+    let p = at_each (suc j) (omega arith) in
+    (p.0, p.1 ∙ ap (λ (c : ℕ). some (Reader (suc c) p.0)) (omega arith), p.2)) in
     (omega (arith, more.0, ap (holds s) role, ap (on s) o.2, same_weight o.0), omega (arith, more.1, ap (keeps s) role))
   where
     same_weight : (x : Grip) → grips s x ≡ on s (erased x)
     same_weight Nothing = refl
     same_weight (On t rows b) = refl
 
-pub state_sums : (state : State) (roles : List Role) → Fit state.shape.readers roles state.holds state.desk → (s : ℕ) → (held roles s ≡ total (on s) state.holds) × (total (keeps s) roles ≡ keeps s (Writer state.desk))
+pub state_sums : (state : State) (roles : List Role) → Fit state.shape.readers roles state.holds state.desk → (s : ℕ)
+    → (held roles s ≡ total (on s) state.holds) × (total (keeps s) roles ≡ keeps s (Writer state.desk))
 state_sums state roles f s = go roles f.callers f.writer f.readers
   where
     go : (l : List Role) → length l ≡ suc state.shape.readers → get_elem? l 0 ≡ some (Writer state.desk)
@@ -165,6 +206,12 @@ state_sums state roles f s = go roles f.callers f.writer f.readers
         × (get_or state.holds i hold.Nothing ≡ erased x))
         → (held l s ≡ total (on s) state.holds) × (total (keeps s) l ≡ keeps s (Writer state.desk))
     go [] size w r = absurd (omega arith)
-    go (u ∷ rest) size w r = let size' = f.size in let role : u ≡ Writer state.desk = some-injective u (Writer state.desk) w in
-        let t = weights s rest state.holds 0 (omega arith) (λ j low. let o = r j (omega arith) in (o.0, o.1 ∙ ap (λ (c : ℕ). some (Reader (suc c) o.0)) (omega arith), o.2)) in
+    go (u ∷ rest) size w r =
+        let size' = f.size in
+        let role : u ≡ Writer state.desk = some-injective u (Writer state.desk) w in
+        let t
+        = weights s rest state.holds 0 (omega arith)
+        (λ j low.
+        let o = r j (omega arith) in
+        (o.0, o.1 ∙ ap (λ (c : ℕ). some (Reader (suc c) o.0)) (omega arith), o.2)) in
         (omega (arith, t.0, ap (holds s) role), omega (arith, t.1, ap (keeps s) role))

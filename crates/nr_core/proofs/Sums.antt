@@ -1,5 +1,6 @@
 -- Sums over lists that change at one place, and over the numbers below one.
-use Rattle.std.proofs.Common.{List, [], ap, arith, cond, drop, eq-eqb, get_or, inl, inr, length, ne_eqb, refl, set, suc, sym, take, zero, ℕ, ⊎_elim, ◌++◌, ◌+◌, ◌<◌, ◌∙◌, ◌∷◌, ◌≡◌, ◌≢◌, ◌≤◌, ◌⊎◌}
+use Rattle.std.proofs.Common.{List, [], ap, arith, cond, drop, eq-eqb, get_or, inl, inr, length, ne_eqb, refl, set, suc}
+use Rattle.std.proofs.Common.{sym, take, zero, ℕ, ⊎_elim, ◌++◌, ◌+◌, ◌<◌, ◌∙◌, ◌∷◌, ◌≡◌, ◌≢◌, ◌≤◌, ◌⊎◌}
 use lib.ListN.{get_elem?}
 use mathlib.Core.Logic.{dite}
 use mathlib.Core.Option.{some, some-injective, some-ne-none}
@@ -17,19 +18,22 @@ module _ {A : Type 0} where
   set_again (x ∷ xs) zero a e = λ k. sym (some-injective x a e) k ∷ xs
   set_again (x ∷ xs) (suc i) a e = λ k. x ∷ set_again xs i a e k
 
-  pub at_set : (l : List A) (i j : ℕ) (a b : A) → get_elem? (set l i a) j ≡ some b → ((j ≡ i) × (a ≡ b)) ⊎ ((j ≢ i) × (get_elem? l j ≡ some b))
+  pub at_set : (l : List A) (i j : ℕ) (a b : A) → get_elem? (set l i a) j ≡ some b
+      → ((j ≡ i) × (a ≡ b)) ⊎ ((j ≢ i) × (get_elem? l j ≡ some b))
   at_set [] i j a b e = absurd (some-ne-none b (sym e))
   at_set (x ∷ xs) zero zero a b e = inl (refl, some-injective a b e)
   at_set (x ∷ xs) zero (suc j) a b e = inr ((λ h. omega arith), e)
   at_set (x ∷ xs) (suc i) zero a b e = inr ((λ h. omega arith), e)
-  at_set (x ∷ xs) (suc i) (suc j) a b e = ⊎_elim (λ t. inl (ap suc t.0, t.1)) (λ t. let n = t.0 in inr ((λ h. n (omega arith)), t.1)) (at_set xs i j a b e)
+  at_set (x ∷ xs) (suc i) (suc j) a b e =
+      ⊎_elim (λ t. inl (ap suc t.0, t.1)) (λ t. let n = t.0 in inr ((λ h. n (omega arith)), t.1)) (at_set xs i j a b e)
 
   module _ (g : A → ℕ) where
     pub total-append : (l m : List A) → total g (l ++ m) ≡ total g l + total g m
     total-append [] m = omega arith
     total-append (x ∷ xs) m = omega (arith, total-append xs m)
 
-    pub total-set : (l : List A) (j : ℕ) (v w : A) → get_elem? l j ≡ some v → total g (set l j w) + g v ≡ total g l + g w
+    pub total-set : (l : List A) (j : ℕ) (v w : A) → get_elem? l j ≡ some v
+        → total g (set l j w) + g v ≡ total g l + g w
     total-set [] j v w e = absurd (some-ne-none v (sym e))
     total-set (x ∷ xs) zero v w e = omega (arith, ap g (some-injective x v e))
     total-set (x ∷ xs) (suc j) v w e = omega (arith, total-set xs j v w e)
@@ -39,7 +43,8 @@ module _ {A : Type 0} where
     term_le (x ∷ xs) zero v e = omega (arith, ap g (some-injective x v e))
     term_le (x ∷ xs) (suc j) v e = omega (arith, term_le xs j v e)
 
-    pub terms_le : (l : List A) (j k : ℕ) (v u : A) → k ≢ j → get_elem? l j ≡ some v → get_elem? l k ≡ some u → g v + g u ≤ total g l
+    pub terms_le : (l : List A) (j k : ℕ) (v u : A) → k ≢ j → get_elem? l j ≡ some v → get_elem? l k ≡ some u
+        → g v + g u ≤ total g l
     terms_le [] j k v u n e d = absurd (some-ne-none v (sym e))
     terms_le (x ∷ xs) zero zero v u n e d = absurd (n refl)
     terms_le (x ∷ xs) zero (suc k) v u n e d = omega (arith, ap g (some-injective x v e), term_le xs k u d)
@@ -58,14 +63,18 @@ pub only-other : (k x : ℕ) → x ≢ k → only k x ≡ 0
 only-other k x n = ap (λ b. cond b 1 0) (ne_eqb x k n)
 
 pub only-le : (k x : ℕ) → only k x ≤ 1
-only-le k x = dite (ℕ_discrete x k) (λ e. omega (arith, ap (only k) e, only-same k)) (λ ne. omega (arith, only-other k x ne))
+only-le k x =
+    dite (ℕ_discrete x k) (λ e. omega (arith, ap (only k) e, only-same k)) (λ ne. omega (arith, only-other k x ne))
 
 -- a slot that is counted is that slot
 pub only-is : (k x : ℕ) → 0 < only k x → x ≡ k
 only-is k x h = dite (ℕ_discrete x k) (λ e. e) (λ ne. absurd (omega (arith, only-other k x ne)))
 
 pub only-suc : (s t : ℕ) → only (suc s) (suc t) ≡ only s t
-only-suc s t = dite (ℕ_discrete t s) (λ e. ap (λ b. cond {A = ℕ} b 1 0) (eq-eqb (suc t) (suc s) (ap suc e)) ∙ sym (ap (λ b. cond {A = ℕ} b 1 0) (eq-eqb t s e)))
+only-suc s t =
+    dite (ℕ_discrete t s)
+    (λ e. ap (λ b. cond {A = ℕ} b 1 0) (eq-eqb (suc t) (suc s) (ap suc e))
+    ∙ sym (ap (λ b. cond {A = ℕ} b 1 0) (eq-eqb t s e)))
     (λ ne. only-other (suc s) (suc t) (λ e. ne (omega arith)) ∙ sym (only-other s t ne))
 
 pub only-zero : (s : ℕ) → only (suc s) 0 ≡ 0
@@ -77,12 +86,14 @@ below-same f g (suc n) h = omega (arith, below-same f g n (λ k l. h k (omega ar
 
 pub below-term : (f : ℕ → ℕ) (n k : ℕ) → k < n → f k ≤ below f n
 below-term f zero k h = absurd (omega arith)
-below-term f (suc n) k h = dite (ℕ_discrete k n) (λ e. omega (arith, ap f e)) (λ ne. omega (arith, below-term f n k (omega arith)))
+below-term f (suc n) k h =
+    dite (ℕ_discrete k n) (λ e. omega (arith, ap f e)) (λ ne. omega (arith, below-term f n k (omega arith)))
 
 pub below-terms : (f : ℕ → ℕ) (n j k : ℕ) → j < n → k < n → j ≢ k → f j + f k ≤ below f n
 below-terms f zero j k h l ne = absurd (omega arith)
 below-terms f (suc n) j k h l ne = dite (ℕ_discrete k n) (λ e. omega (arith, ap f e, below-term f n j (omega arith)))
-    (λ nk. dite (ℕ_discrete j n) (λ e. omega (arith, ap f e, below-term f n k (omega arith))) (λ nj. omega (arith, below-terms f n j k (omega arith) (omega arith) ne)))
+    (λ nk. dite (ℕ_discrete j n) (λ e. omega (arith, ap f e, below-term f n k (omega arith)))
+    (λ nj. omega (arith, below-terms f n j k (omega arith) (omega arith) ne)))
 
 pub below-change : (f g : ℕ → ℕ) (n i : ℕ) → i < n → ((k : ℕ) → k ≢ i → f k ≡ g k) → below f n + g i ≡ below g n + f i
 below-change f g zero i h same = absurd (omega arith)
@@ -92,12 +103,14 @@ below-change f g (suc n) i h same = dite (ℕ_discrete i n)
 
 module _ {A : Type 0} where
   -- a list without the element at p
-  pub total-remove : (g : A → ℕ) (l : List A) (p : ℕ) (a : A) → get_elem? l p ≡ some a → total g (take p l ++ drop (suc p) l) + g a ≡ total g l
+  pub total-remove : (g : A → ℕ) (l : List A) (p : ℕ) (a : A) → get_elem? l p ≡ some a
+      → total g (take p l ++ drop (suc p) l) + g a ≡ total g l
   total-remove g [] p a e = absurd (some-ne-none a (sym e))
   total-remove g (x ∷ xs) zero a e = omega (arith, ap g (some-injective x a e))
   total-remove g (x ∷ xs) (suc p) a e = omega (arith, total-remove g xs p a e)
 
-  pub at_remove : (l : List A) (p i : ℕ) (a : A) → get_elem? (take p l ++ drop (suc p) l) i ≡ some a → (j : ℕ) × (get_elem? l j ≡ some a)
+  pub at_remove : (l : List A) (p i : ℕ) (a : A) → get_elem? (take p l ++ drop (suc p) l) i ≡ some a
+      → (j : ℕ) × (get_elem? l j ≡ some a)
   at_remove [] zero i a e = absurd (some-ne-none a (sym e))
   at_remove [] (suc p) i a e = absurd (some-ne-none a (sym e))
   at_remove (x ∷ xs) zero i a e = (suc i, e)
@@ -113,7 +126,9 @@ module _ {A : Type 0} where
   -- a sum that is not 0 has a term that is not
   pub some_term : (g : A → ℕ) (l : List A) → 0 < total g l → (j : ℕ) × (a : A) × (get_elem? l j ≡ some a) × (0 < g a)
   some_term g [] h = absurd (omega arith)
-  some_term g (x ∷ xs) h = dite (ℕ_discrete (g x) 0) (λ z. let t = some_term g xs (omega arith) in (suc t.0, t.1, t.2, t.3)) (λ nz. (zero, x, refl, omega arith))
+  some_term g (x ∷ xs) h =
+      dite (ℕ_discrete (g x) 0) (λ z. let t = some_term g xs (omega arith) in (suc t.0, t.1, t.2, t.3))
+      (λ nz. (zero, x, refl, omega arith))
 
   -- an element within a list is found there
   pub got_at : (l : List A) (i : ℕ) (z : A) → i < length l → get_elem? l i ≡ some (get_or l i z)
@@ -122,7 +137,8 @@ module _ {A : Type 0} where
   got_at (x ∷ xs) (suc i) z low = got_at xs i z (omega arith)
 
 module _ {A : Type 0} where
-  pub exchanged : (f : ℕ → A → ℕ) (l : List A) (n : ℕ) → below (λ c. total (f c) l) n ≡ total (λ x. below (λ c. f c x) n) l
+  pub exchanged : (f : ℕ → A → ℕ) (l : List A) (n : ℕ)
+      → below (λ c. total (f c) l) n ≡ total (λ x. below (λ c. f c x) n) l
   exchanged f l zero = sym (nil l)
     where
       nil : (l : List A) → total (λ (_ : A). 0) l ≡ 0
@@ -130,15 +146,20 @@ module _ {A : Type 0} where
       nil (x ∷ xs) = omega (arith, nil xs)
   exchanged f l (suc n) = omega (arith, exchanged f l n, split l)
     where
-      split : (l : List A) → total (λ x. below (λ c. f c x) n + f n x) l ≡ total (λ x. below (λ c. f c x) n) l + total (f n) l
+      split : (l : List A)
+          → total (λ x. below (λ c. f c x) n + f n x) l ≡ total (λ x. below (λ c. f c x) n) l + total (f n) l
       split [] = refl
       split (x ∷ xs) = omega (arith, split xs)
 
 pub below-only : (x n : ℕ) → (x < n → below (λ c. only c x) n ≡ 1) × (n ≤ x → below (λ c. only c x) n ≡ 0)
 below-only x zero = ((λ h. absurd (omega arith)), λ _. refl)
 below-only x (suc n) = let before = below-only x n in dite (ℕ_discrete x n)
-    (λ e. let one : only n x ≡ 1 = ap (only n) e ∙ only-same n in ((λ h. omega (arith, before.1 (omega arith))), λ h. absurd (omega arith)))
-    (λ ne. let none = only-other n x ne in ((λ h. omega (arith, before.0 (omega arith))), λ h. omega (arith, before.1 (omega arith))))
+    (λ e.
+    let one : only n x ≡ 1 = ap (only n) e ∙ only-same n in
+    ((λ h. omega (arith, before.1 (omega arith))), λ h. absurd (omega arith)))
+    (λ ne.
+    let none = only-other n x ne in
+    ((λ h. omega (arith, before.0 (omega arith))), λ h. omega (arith, before.1 (omega arith))))
 
 pub below-first : (f : ℕ → ℕ) (n : ℕ) → below f (suc n) ≡ f 0 + below (λ k. f (suc k)) n
 below-first f zero = omega arith

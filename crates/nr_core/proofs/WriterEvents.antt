@@ -22,23 +22,42 @@ use Rattle.nr_machine.specs.declared.calls.WriterCall.{WriterCall}
 use Rattle.nr_machine.specs.declared.roles.Role.TheVariants.{Writer}
 use Rattle.nr_machine.specs.declared.calls.Refusal.TheVariants as refuse
 
-pub after_start : (state : State) (log : List Entry) (call : WriterCall) → IsGivenCall (bound_of state.shape) call → IsCoreState state log
+pub after_start : (state : State) (log : List Entry) (call : WriterCall) → IsGivenCall (bound_of state.shape) call
+    → IsCoreState state log
     → refusal state (Start call) ≡ None → IsCoreState (moved state (Start call)) (log ++ told state (Start call))
-after_start state log call given is_core ok = let shape = state.shape in let words = state.words in let roles = is_core.roles in let f = is_core.fit in
-    let g = guard (has_key shape (key_of call)) (if_busy state.desk.place) refuse.OutOfRange ok in let o = looked shape state.desk call (get_or words (key_of call) 0) in
-    let step = looks shape 0 state.desk call (is_idle state.desk.place g.1) given (ltb-true (key_of call) shape.keys g.0) words roles log is_core.core f.writer in record {
+after_start state log call given is_core ok =
+    let shape = state.shape in
+    let words = state.words in
+    let roles = is_core.roles in
+    let f = is_core.fit in
+    let g = guard (has_key shape (key_of call)) (if_busy state.desk.place) refuse.OutOfRange ok in
+    let o = looked shape state.desk call (get_or words (key_of call) 0) in
+    let step
+    = looks shape 0 state.desk call (is_idle state.desk.place g.1) given (ltb-true (key_of call) shape.keys g.0)
+    words roles log is_core.core f.writer in
+    record {
       roles = set roles 0 (Writer o.0);
-      core = core_after shape words roles log 0 (Writer state.desk) (Load (key_of call)) (Looks shape state.desk call) step (Writer o.0) (ending (call_of call) o.1) step.told.0 step.told.1;
+      core =
+          core_after shape words roles log 0 (Writer state.desk) (Load (key_of call)) (Looks shape state.desk call) step
+          (Writer o.0) (ending (call_of call) o.1) step.told.0 step.told.1;
       fit = fit_writer shape.readers roles state.holds state.desk o.0 f;
       found = found_writer roles log (ending (call_of call) o.1) o.0 is_core.found (ending_other (call_of call) o.1);
     }
 
-pub after_go : (state : State) (log : List Entry) → IsCoreState state log → refusal state Go ≡ None → IsCoreState (moved state Go) (log ++ told state Go)
-after_go state log is_core ok = let shape = state.shape in let words = state.words in let roles = is_core.roles in let f = is_core.fit in
-    let desk = state.desk in let o = went shape desk desk.place (get_or words (target_of (going shape desk desk.place)) 0) in
+pub after_go : (state : State) (log : List Entry) → IsCoreState state log → refusal state Go ≡ None
+    → IsCoreState (moved state Go) (log ++ told state Go)
+after_go state log is_core ok =
+    let shape = state.shape in
+    let words = state.words in
+    let roles = is_core.roles in
+    let f = is_core.fit in
+    let desk = state.desk in
+    let o = went shape desk desk.place (get_or words (target_of (going shape desk desk.place)) 0) in
     let step = goes shape 0 desk ok words roles log is_core.core f.writer in record {
       roles = set roles 0 (Writer o.0);
-      core = core_after shape words roles log 0 (Writer desk) (going shape desk desk.place) (Goes shape desk) step (Writer o.0) (ending_at desk.place o.1) step.told.0 step.told.1;
+      core =
+          core_after shape words roles log 0 (Writer desk) (going shape desk desk.place) (Goes shape desk) step
+          (Writer o.0) (ending_at desk.place o.1) step.told.0 step.told.1;
       fit = fit_writer shape.readers roles state.holds desk o.0 f;
       found = found_writer roles log (ending_at desk.place o.1) o.0 is_core.found (ending_at_other desk.place o.1);
     }

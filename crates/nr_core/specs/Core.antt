@@ -1,4 +1,5 @@
--- What stands between any two steps: the words, the callers' roles and the history agree. It is said of any list of callers, so that it serves schedules and running callers alike.
+-- What stands between any two steps: the words, the callers' roles and the history agree. It is said of any list of
+-- callers, so that it serves schedules and running callers alike.
 use Rattle.std.specs.Prelude.{◌≡◌, ℕ, suc, ◌+◌, ◌*◌, ◌%◌, ◌^◌, ◌<◌, ◌≤◌, List, [], length, take, slice_index}
 use mathlib.Core.Option.{some}
 use lib.ListN.{get_elem?}
@@ -31,7 +32,8 @@ use Rattle.nr_machine.specs.Story.{call_of, map_after, opening_map}
 
 -- a count of arrivals is the departures and the callers that hold the slot, as far as counts go
 abbrev pub Counts : Shape → List ℕ → (ℕ → ℕ) → ℕ → ℕ → Type 0
-Counts shape words holders slot arrivals = arrivals % 2 ^ 40 ≡ (slice_index words (departures shape slot) + holders slot) % 2 ^ 40
+Counts shape words holders slot arrivals =
+    arrivals % 2 ^ 40 ≡ (slice_index words (departures shape slot) + holders slot) % 2 ^ 40
 
 -- the list has each key's ticket number
 pub record AreNumbers (shape : Shape) (map : PartialMap) (numbers : List ℕ) : Type 0 where
@@ -52,7 +54,8 @@ module _ (shape : Shape) (words : List ℕ) (map : PartialMap) (holders : ℕ �
     pub row_set : IsRowSet (bound_of shape) rows
     pub no_hole : (number : ℕ) → state_of map (key_of call) ≡ key.Hole number → ⊥
     pub done : reply_at (bound_of shape) (call_of call) (state_of map (key_of call)) ≡ reply.Done
-    pub leaves : state_after (bound_of shape) (call_of call) (state_of map (key_of call)) ≡ key.Rows (number_of (state_of map (key_of call))) rows
+    pub leaves : state_after (bound_of shape) (call_of call) (state_of map (key_of call))
+        ≡ key.Rows (number_of (state_of map (key_of call))) rows
 
   -- the key's slot is being read, and these words are the first of its set
   pub record Reads (at slot : ℕ) (got : List ℕ) : Type 0 where
@@ -71,7 +74,8 @@ module _ (shape : Shape) (words : List ℕ) (map : PartialMap) (holders : ℕ �
     pub nobody : holders slot ≡ 0
     pub counted : slice_index words (departures shape slot) ≡ departed
     pub within : index ≤ length (encode rows)
-    pub put : (before : ℕ) → before < index → slice_index words (content shape slot before) ≡ slice_index (encode rows) before
+    pub put : (before : ℕ) → before < index
+        → slice_index words (content shape slot before) ≡ slice_index (encode rows) before
 
   abbrev pub AtPlace : ℕ → List Retired → Place → Type 0
   AtPlace fresh retired Idle = Unit {0}
@@ -81,12 +85,15 @@ module _ (shape : Shape) (words : List ℕ) (map : PartialMap) (holders : ℕ �
   AtPlace fresh retired (Searching call rows poll) = Wants call rows × (poll < length retired) × (shape.slots ≤ fresh)
   AtPlace fresh retired (Putting call rows slot departed index) = Puts call rows slot departed index
 
-  -- what the writer knows: its stage, that free slots are untouched and retired ones counted, and the keys' ticket numbers
+  -- what the writer knows: its stage, that free slots are untouched and retired ones counted, and the keys' ticket
+  -- numbers
   pub record AtDesk (desk : Desk) : Type 0 where
     pub place : AtPlace desk.fresh desk.retired desk.place
     pub room : desk.fresh ≤ shape.slots
-    pub free : (slot : ℕ) → desk.fresh ≤ slot → slot < shape.slots → (holders slot ≡ 0) × (slice_index words (departures shape slot) ≡ shape.first_count)
-    pub retired : (at : ℕ) (entry : Retired) → get_elem? desk.retired at ≡ some entry → (entry.slot < shape.slots) × Counts shape words holders entry.slot entry.arrivals
+    pub free : (slot : ℕ) → desk.fresh ≤ slot → slot < shape.slots
+        → (holders slot ≡ 0) × (slice_index words (departures shape slot) ≡ shape.first_count)
+    pub retired : (at : ℕ) (entry : Retired) → get_elem? desk.retired at ≡ some entry
+        → (entry.slot < shape.slots) × Counts shape words holders entry.slot entry.arrivals
     pub numbers : AreNumbers shape map desk.numbers
 
   -- what a reader knows: the slot that it holds spells the set that it found
@@ -103,19 +110,23 @@ module _ (shape : Shape) (words : List ℕ) (map : PartialMap) (holders : ℕ �
 abbrev pub ShowsState : Shape → List ℕ → ℕ → KeyState → Type 0
 ShowsState shape words word (key.Hole number) = (name_number word ≡ 0) × (word % 2 ≡ 0) × (slot_of word ≡ number)
 ShowsState shape words word (key.Asked number) = (name_number word ≡ 0) × (word % 2 ≡ 1) × (slot_of word ≡ number)
-ShowsState shape words word (key.Rows number rows) = (slot : ℕ) × (name_number word ≡ suc slot) × (slot < shape.slots) × SlotSpells shape words slot rows
+ShowsState shape words word (key.Rows number rows) =
+    (slot : ℕ) × (name_number word ≡ suc slot) × (slot < shape.slots) × SlotSpells shape words slot rows
 
 pub record Core (shape : Shape) (words : List ℕ) (roles : List Role) (log : List Entry) : Type 0 where
   pub fits : IsShape shape
   pub wide : length words ≡ total_of (layout shape)
   pub legal : IsLegal (opening_map shape) log
   -- the words show the map after the history
-  pub shows : (at : ℕ) → at < shape.keys → ShowsState shape words (slice_index words at) (state_of (map_after shape log) at)
+  pub shows : (at : ℕ) → at < shape.keys
+      → ShowsState shape words (slice_index words at) (state_of (map_after shape log) at)
   -- each slot is in exactly one state: named by a key, free, retired or taken
   pub places : (slot : ℕ) → slot < shape.slots → named shape words slot + total (keeps slot) roles ≡ 1
   -- a named slot's arrivals, in its key's word, are counted
-  pub counts : (at slot : ℕ) → at < shape.keys → name_number (slice_index words at) ≡ suc slot → Counts shape words (held roles) slot (arrivals_of (slice_index words at))
+  pub counts : (at slot : ℕ) → at < shape.keys → name_number (slice_index words at) ≡ suc slot
+      → Counts shape words (held roles) slot (arrivals_of (slice_index words at))
   -- each caller knows what its role says
-  pub knows : (id : ℕ) (role : Role) → get_elem? roles id ≡ some role → Knows shape words (map_after shape log) (held roles) role
+  pub knows : (id : ℕ) (role : Role) → get_elem? roles id ≡ some role
+      → Knows shape words (map_after shape log) (held roles) role
   pub one : total is_writer roles ≤ 1
   pub few : total is_reader roles ≤ shape.readers

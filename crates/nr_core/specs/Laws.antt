@@ -1,5 +1,6 @@
 -- The laws over all lists of events.
-use Rattle.std.specs.Prelude.{◌≡◌, ℕ, ◌+◌, ◌<◌, ◌≤◌, ◌≢◌, ◌⊎◌, ◌==◌, if◌then◌else◌, List, [], ◌∷◌, ◌++◌, length, map, slice_index, slice_index_or, slice_set, Option, Some, None, Ok}
+use Rattle.std.specs.Prelude.{◌≡◌, ℕ, ◌+◌, ◌<◌, ◌≤◌, ◌≢◌, ◌⊎◌, ◌==◌, if◌then◌else◌, List, [], ◌∷◌, ◌++◌, length, map}
+use Rattle.std.specs.Prelude.{slice_index, slice_index_or, slice_set, Option, Some, None, Ok}
 use Rattle.nr_model.specs.declared.rows.Row.{Row}
 use Rattle.nr_model.specs.declared.calls.Reply.TheVariants as reply
 use Rattle.nr_model.specs.declared.calls.Call.TheVariants as model
@@ -19,7 +20,8 @@ use Rattle.nr_machine.specs.declared.places.Place.{Place}
 use Rattle.nr_machine.specs.declared.places.Place.TheVariants.{Idle, Reading, Leaving, Withdrawing, Searching, Putting}
 use Rattle.nr_words.specs.SetWords.{encode}
 use Rattle.nr_machine.specs.Slots.{bound_of, content, slot_room}
-use Rattle.nr_machine.specs.States.{State, Event, Arrive, Read, Depart, Ask, FindAgain, Start, Go, word, hold_of, number_at}
+use Rattle.nr_machine.specs.States.{State, Event, Arrive, Read, Depart, Ask, FindAgain, Start, Go, word, hold_of}
+use Rattle.nr_machine.specs.States.{number_at}
 use Rattle.nr_machine.specs.Refusals.{refusal}
 use Rattle.nr_machine.specs.Operations.{target_of, becomes, operation}
 use Rattle.nr_machine.specs.declared.operation.Operation.{Operation}
@@ -59,20 +61,26 @@ pub record HoldsFound (story : Story) (reader slot : ℕ) (size : Option ℕ) : 
   pub before : List Entry
   pub found : entries_of story.history reader ≡ before ++ entry reader (model.Find at) (reply.Rows rows) ∷ []
   pub row_set : IsRowSet (bound_of story.state.shape) rows
-  pub spelt : (index : ℕ) → index < length (encode rows) → word story.state (content story.state.shape slot index) ≡ slice_index (encode rows) index
+  pub spelt : (index : ℕ) → index < length (encode rows)
+      → word story.state (content story.state.shape slot index) ≡ slice_index (encode rows) index
   pub known : (size ≡ None) ⊎ (size ≡ Some (length rows))
-  pub reads : (index : ℕ) → refusal story.state (Read reader index) ≡ None → read_answer story.state reader index ≡ Ok (slice_index (encode rows) index)
+  pub reads : (index : ℕ) → refusal story.state (Read reader index) ≡ None
+      → read_answer story.state reader index ≡ Ok (slice_index (encode rows) index)
 
 -- what stands between any two steps
 pub record Stands (story : Story) : Type 0 where
   pub legal : IsLegal (opening_map story.state.shape) story.history
   pub shows : Shows story.state (map_of story)
   -- the writer lists each key's ticket number
-  pub numbered : (at : ℕ) → at < story.state.shape.keys → number_at story.state.desk at ≡ number_of (state_of (map_of story) at)
+  pub numbered : (at : ℕ) → at < story.state.shape.keys
+      → number_at story.state.desk at ≡ number_of (state_of (map_of story) at)
   pub accounted : Accounted story.state
-  pub held : (reader slot : ℕ) (size : Option ℕ) → 0 < reader → hold_of story.state reader ≡ On slot size → HoldsFound story reader slot size
+  pub held : (reader slot : ℕ) (size : Option ℕ) → 0 < reader → hold_of story.state reader ≡ On slot size
+      → HoldsFound story reader slot size
   -- each request that was sent was filled or cancelled, once, but the one that is pending
-  pub sent : (at : ℕ) → at < story.state.shape.keys → sends story.history at ≡ fills story.history at + cancels story.history at + pending (state_of (map_of story) at)
+  pub sent : (at : ℕ) → at < story.state.shape.keys
+      → sends story.history at
+      ≡ fills story.history at + cancels story.history at + pending (state_of (map_of story) at)
 
 -- whose attempt an event is
 abbrev pub caller_of_event : Event → ℕ
@@ -107,7 +115,8 @@ EndsWithout state event counts = ⊥
 abbrev pub no_poll : Poll
 no_poll = record { slot = 0; holders = [] }
 
--- a call that ended with no slot could not have one: the call would be done, each slot is named by a filled key or retired, and each retired one was polled in this call while some reader held it
+-- a call that ended with no slot could not have one: the call would be done, each slot is named by a filled key or
+-- retired, and each retired one was polled in this call while some reader held it
 pub record IsJustified (story : Story) (event : Event) (counts : NoSlot) : Type 0 where
   pub call : WriterCall
   pub is_call : call_of_event story.state event ≡ call ∷ []
@@ -115,8 +124,10 @@ pub record IsJustified (story : Story) (event : Event) (counts : NoSlot) : Type 
   pub live : counts.live ≡ filled_count (map_of story)
   pub all : counts.live + counts.held ≡ story.state.shape.slots
   pub held : counts.held ≡ length (tell story event).state.desk.retired
-  pub polled : map (λ (poll : Poll). poll.slot) (tell story event).polls ≡ map (λ (entry : Retired). entry.slot) (tell story event).state.desk.retired
-  pub were_held : (index : ℕ) → index < length (tell story event).polls → 0 < length (slice_index_or (tell story event).polls index no_poll).holders
+  pub polled : map (λ (poll : Poll). poll.slot) (tell story event).polls
+      ≡ map (λ (entry : Retired). entry.slot) (tell story event).state.desk.retired
+  pub were_held : (index : ℕ) → index < length (tell story event).polls
+      → 0 < length (slice_index_or (tell story event).polls index no_poll).holders
 
 -- that operation on one of the words is made, and no other
 abbrev pub Operates : State → Operation → State → Type 0
@@ -128,26 +139,34 @@ Operates state one after =
 -- what one event more does
 pub record Follows (story : Story) (event : Event) : Type 0 where
   -- one operation on one word
-  pub one_operation : refusal story.state event ≡ None → Operates story.state (operation story.state event) (next_state story.state event)
+  pub one_operation : refusal story.state event ≡ None
+      → Operates story.state (operation story.state event) (next_state story.state event)
   pub refused : refusal story.state event ≢ None → tell story event ≡ story
   -- an operation on a content word of a held slot is a load
-  pub untouched : refusal story.state event ≡ None → (reader slot index : ℕ) (size : Option ℕ) → 0 < reader → hold_of story.state reader ≡ On slot size → index < slot_room story.state.shape
-      → target_of (operation story.state event) ≡ content story.state.shape slot index → operation story.state event ≡ Load (content story.state.shape slot index)
+  pub untouched : refusal story.state event ≡ None → (reader slot index : ℕ) (size : Option ℕ) → 0 < reader
+      → hold_of story.state reader ≡ On slot size → index < slot_room story.state.shape
+      → target_of (operation story.state event) ≡ content story.state.shape slot index
+      → operation story.state event ≡ Load (content story.state.shape slot index)
   -- each caller's entries are those of its own events, in their order
   pub own : (caller : ℕ) → entries_of (tell story event).history caller
-      ≡ entries_of story.history caller ++ (if caller_of_event event == caller then unless (refusal story.state event) [] (told story.state event) else [])
+      ≡ entries_of story.history caller
+      ++ (if caller_of_event event == caller then unless (refusal story.state event)
+      [] (told story.state event) else [])
   pub justified : (counts : NoSlot) → EndsWithout story.state event counts → IsJustified story event counts
 
 -- what stands after every list of events from the opening, and what follows of one event more
 abbrev pub EverySchedule : Type 0
 EverySchedule = (shape : Shape) (events : List Event) → IsShape shape → AllGiven (bound_of shape) events
-    → Stands (story_of shape events) × ((event : Event) → IsGiven (bound_of shape) event → Follows (story_of shape events) event)
+    → Stands (story_of shape events)
+    × ((event : Event) → IsGiven (bound_of shape) event → Follows (story_of shape events) event)
 
--- at most as many polls of a call as there are readers find their slots held; so a call that ends with no slot has no more retired slots than readers, and none does in a map with a slot for each key, each reader and one more
+-- at most as many polls of a call as there are readers find their slots held; so a call that ends with no slot has no
+-- more retired slots than readers, and none does in a map with a slot for each key, each reader and one more
 abbrev pub SlotBound : Type 0
 SlotBound = (shape : Shape) (events : List Event) → IsShape shape → AllGiven (bound_of shape) events
     → (length (story_of shape events).polls ≤ shape.readers)
-    × ((event : Event) (counts : NoSlot) → IsGiven (bound_of shape) event → EndsWithout (run shape events) event counts → (counts.held ≤ shape.readers) × (shape.slots < shape.keys + shape.readers + 1))
+    × ((event : Event) (counts : NoSlot) → IsGiven (bound_of shape) event → EndsWithout (run shape events) event counts
+    → (counts.held ≤ shape.readers) × (shape.slots < shape.keys + shape.readers + 1))
 
 -- a run goes on by one event and keeps its shape, and the story's states are the run's
 abbrev pub RunGoesOn : Type 0

@@ -1,5 +1,7 @@
--- A way without a name that the writer's own reader asked for is asked for, as the writer knows it then, and its upquery is the only one that was opened.
-use Rattle.std.proofs.Common.{◌≡◌, ◌≢◌, ℕ, ◌+◌, ◌<◌, ◌⊎◌, ⊎_elim, inl, inr, List, [], ◌∷◌, ◌++◌, drop, refl, sym, ap, ◌∙◌, subst, arith, append_assoc, append-nil, Ok, Err}
+-- A way without a name that the writer's own reader asked for is asked for, as the writer knows it then, and its
+-- upquery is the only one that was opened.
+use Rattle.std.proofs.Common.{◌≡◌, ◌≢◌, ℕ, ◌+◌, ◌<◌, ◌⊎◌, ⊎_elim, inl, inr, List, [], ◌∷◌, ◌++◌, drop, refl, sym, ap}
+use Rattle.std.proofs.Common.{◌∙◌, subst, arith, append_assoc, append-nil, Ok, Err}
 use Rattle.std.proofs.lemmas.Bool.{cases_eq}
 use Rattle.std.proofs.lemmas.List.{length-replicate}
 use Rattle.nr_model.specs.declared.calls.Call.TheVariants.{Ask}
@@ -76,7 +78,8 @@ learnt_tied steps w a w' c tied learns =
     )
 
 -- nobody else's entries are the writer's
-none_learnt : (steps : ℕ) (old new : Caller) → Rested old → (learns : Learns steps old new) → entries_of learns.seen.rest 0 ≡ []
+none_learnt : (steps : ℕ) (old new : Caller) → Rested old → (learns : Learns steps old new)
+    → entries_of learns.seen.rest 0 ≡ []
 none_learnt steps old new rested learns =
     let like : Caller = record new { pasts = old.pasts } in
     let grows : Grows steps [] old like = record {
@@ -90,7 +93,9 @@ none_learnt steps old new rested learns =
       callers = learns.callers;
       steps_made = learns.steps_made;
       pasts = refl;
-    } in ap (entries_of learns.seen.rest) (sym rested.number) ∙ none_between steps old [] like rested.sound.own refl grows
+    } in
+    ap (entries_of learns.seen.rest) (sym rested.number)
+    ∙ none_between steps old [] like rested.sound.own refl grows
 
 hole_or_asked : (state : KeyState) → Agrees 0 state → (n : ℕ) × ((state ≡ Hole n) ⊎ (state ≡ Asked n))
 hole_or_asked (Hole n) agrees = (n, inl refl)
@@ -98,13 +103,18 @@ hole_or_asked (Asked n) agrees = (n, inr refl)
 hole_or_asked (Rows n rows) agrees = let real = agrees.0 in absurd (omega arith)
 
 asked_of : (n : ℕ) (state : KeyState) → (state ≡ Hole n) ⊎ (state ≡ Asked n) → asked_after state ≡ Asked n
-asked_of n state = λ which. ⊎_elim (λ (is : state ≡ Hole n). ap asked_after is) (λ (is : state ≡ Asked n). ap asked_after is) which
+asked_of n
+    state = λ which. ⊎_elim (λ (is : state ≡ Hole n). ap asked_after is) (λ (is : state ≡ Asked n). ap asked_after is)
+    which
 
-still_either : (n : ℕ) (was now : KeyState) → (was ≡ Hole n) ⊎ (was ≡ Asked n) → IsStill was now → (now ≡ Hole n) ⊎ (now ≡ Asked n)
+still_either : (n : ℕ) (was now : KeyState) → (was ≡ Hole n) ⊎ (was ≡ Asked n) → IsStill was now
+    → (now ≡ Hole n) ⊎ (now ≡ Asked n)
 still_either n was now which still = ⊎_elim
-    (λ (same : now ≡ was). ⊎_elim (λ (is : was ≡ Hole n). inl (same ∙ is)) (λ (is : was ≡ Asked n). inr (same ∙ is)) which)
+    (λ (same : now ≡ was). ⊎_elim (λ (is : was ≡ Hole n). inl (same ∙ is)) (λ (is : was ≡ Asked n). inr (same ∙ is))
+    which)
     (λ (t : (number : ℕ) × (was ≡ Hole number) × (now ≡ Asked number)). ⊎_elim
-    (λ (is : was ≡ Hole n). let e : Hole t.0 ≡ Hole n = sym t.1 ∙ is in let same : t.0 ≡ n = cc (e) in inr (t.2 ∙ ap Asked same))
+    (λ (is : was ≡ Hole n).
+    let e : Hole t.0 ≡ Hole n = sym t.1 ∙ is in let same : t.0 ≡ n = cc (e) in inr (t.2 ∙ ap Asked same))
     (λ (is : was ≡ Asked n). let e : Hole t.0 ≡ Asked n = sym t.1 ∙ is in absurd (cc (e)))
     which)
     still
@@ -112,7 +122,8 @@ still_either n was now which still = ⊎_elim
 asked_still : (n : ℕ) (was now : KeyState) → was ≡ Asked n → IsStill was now → now ≡ Asked n
 asked_still n was now is still = ⊎_elim
     (λ (same : now ≡ was). same ∙ is)
-    (λ (t : (number : ℕ) × (was ≡ Hole number) × (now ≡ Asked number)). let e : Hole t.0 ≡ Asked n = sym t.1 ∙ is in absurd (cc (e)))
+    (λ (t : (number : ℕ) × (was ≡ Hole number) × (now ≡ Asked number)).
+    let e : Hole t.0 ≡ Asked n = sym t.1 ∙ is in absurd (cc (e)))
     still
 
 module _ (way : ℕ) (a w a' w' : Caller) (rested : Rested w) (asks : AsksWay way a w a' w') where
@@ -133,23 +144,28 @@ module _ (way : ℕ) (a w a' w' : Caller) (rested : Rested w) (asks : AsksWay wa
   request : Entry
   request = entry asks.met.number (Ask way) asks.answer
 
-  parts : asks.hears.learns.seen.rest ≡ (asks.meets.seen.rest ++ asks.asks.between) ++ (entry asks.met.number (Ask way) asks.answer ∷ []) ++
+  parts : asks.hears.learns.seen.rest
+      ≡ (asks.meets.seen.rest ++ asks.asks.between) ++ (entry asks.met.number (Ask way) asks.answer ∷ []) ++
       asks.hears.seen.rest
   parts =
       let r0 : List Entry = asks.meets.seen.rest in let r1 : List Entry = asks.asks.between in
-      let e : List Entry = entry asks.met.number (Ask way) asks.answer ∷ [] in let r2 : List Entry = asks.hears.seen.rest in
+      let e : List Entry = entry asks.met.number (Ask way) asks.answer ∷ [] in
+      let r2 : List Entry = asks.hears.seen.rest in
       let asked : asks.asked.seen ≡ w.seen ++ ((r0 ++ r1) ++ e) = asks.asks.seen
-      ∙ ap (λ (l : List Entry). (l ++ r1) ++ e) asks.meets.seen.is ∙ ap (λ (l : List Entry). l ++ e) (append_assoc w.seen r0 r1)
+      ∙ ap (λ (l : List Entry). (l ++ r1) ++ e) asks.meets.seen.is
+      ∙ ap (λ (l : List Entry). l ++ e) (append_assoc w.seen r0 r1)
       ∙ append_assoc w.seen (r0 ++ r1) e in
       append_cancel w.seen asks.hears.learns.seen.rest ((r0 ++ r1) ++ e ++ r2)
       (sym asks.hears.learns.seen.is ∙ asks.hears.seen.is ∙ ap (λ (l : List Entry). l ++ r2) asked
       ∙ append_assoc w.seen ((r0 ++ r1) ++ e) r2)
 
-  pub asks_asked : Agrees 0 (state_of (map_seen w) way) → way < w.table.shape.keys → (n : ℕ) × (state_of (map_seen w') way ≡ Asked n)
+  pub asks_asked : Agrees 0 (state_of (map_seen w) way) → way < w.table.shape.keys
+      → (n : ℕ) × (state_of (map_seen w') way ≡ Asked n)
   asks_asked agrees near =
       let shape = w.table.shape in let open_map = map_at_opening w.table in
       let r : List Entry = (asks.meets.seen.rest ++ asks.asks.between) in
-      let e : List Entry = entry asks.met.number (Ask way) asks.answer ∷ [] in let last : List Entry = asks.hears.seen.rest in
+      let e : List Entry = entry asks.met.number (Ask way) asks.answer ∷ [] in
+      let last : List Entry = asks.hears.seen.rest in
       let stepped : Rested (with_step w) = record {
         number = rested.number;
         sound = record { legal = rested.sound.legal; own = rested.sound.own; callers = rested.sound.callers };
@@ -162,18 +178,23 @@ module _ (way : ℕ) (a w a' w' : Caller) (rested : Rested w) (asks : AsksWay wa
       let all : AreCallers shape (w.seen ++ ((r ++ e) ++ last)) = subst (AreCallers shape)
       (asks.hears.learns.seen.is ∙ ap (λ (l : List Entry). w.seen ++ l) parts) asks.hears.learns.callers in
       let learnt_callers = callers_of_more shape w.seen ((r ++ e) ++ last) all in
-      let size : key_count (map_seen w) ≡ shape.keys = count_after w.seen open_map ∙ length-replicate shape.keys (Hole shape.first_number)
+      let size : key_count (map_seen w) ≡ shape.keys
+      = count_after w.seen open_map ∙ length-replicate shape.keys (Hole shape.first_number)
       in
       let there : PartialMap = after (map_seen w) r in
       let count : key_count there ≡ shape.keys = count_after r (map_seen w) ∙ size in
-      let reached = others_still shape r (map_seen w) way (callers_before shape r e (callers_before shape (r ++ e) last learnt_callers))
+      let reached
+      = others_still shape r (map_seen w) way
+      (callers_before shape r e (callers_before shape (r ++ e) last learnt_callers))
       first.0 size in
       let was = hole_or_asked (state_of (map_seen w) way) agrees in
       let either = still_either was.0 (state_of (map_seen w) way) (state_of there way) was.1 reached in
       let inside : way < key_count there = subst (λ (k : ℕ). way < k) (sym count) near in
       let asked : state_of (next there (Ask way)) way ≡ Asked was.0 = state_of-next_same there (Ask way) inside
       ∙ asked_of was.0 (state_of there way) either in
-      let on = others_still shape last (next there (Ask way)) way (callers_of_more shape (r ++ e) last learnt_callers) split.1
+      let on
+      = others_still shape last (next there (Ask way)) way (callers_of_more shape (r ++ e) last learnt_callers)
+      split.1
       (count_after e there ∙ count) in
       let whole : map_seen w' ≡ after (next there (Ask way)) last =
       ap (λ (t : Table). after (map_at_opening t) w'.seen) asks.hears.learns.table
@@ -192,8 +213,10 @@ module _ (w a w' a' : Caller) (c c' : Token) (tied : IsTied (keeper_of w a c)) (
   stays = asks_stays way a w a' w' (rested_of w a c tied) asks
 
   name_else : (k : ℕ) → k ≢ way → name_of c'.seen k ≡ name_of c.seen k
-  name_else k other = clerk_names c (cleared (group_for c id) ∷ named way id ∷ looks (places + 1) c.number) c' k tied.names.1 admits.0
-      ∙ cond_else id (name_of (looks (places + 1) c.number ++ c.seen) k) way k (λ e. other (sym e)) ∙ looks_names (places + 1) c.number c.seen k
+  name_else k other =
+      clerk_names c (cleared (group_for c id) ∷ named way id ∷ looks (places + 1) c.number) c' k tied.names.1 admits.0
+      ∙ cond_else id (name_of (looks (places + 1) c.number ++ c.seen) k) way k (λ e. other (sym e))
+      ∙ looks_names (places + 1) c.number c.seen k
 
   near : way < w.table.shape.keys
   near = omega (arith, admits.2.inside, ap (λ (d : Opened). ways d.plan) admits.0.directory, tied.ways_are)
@@ -208,13 +231,17 @@ module _ (w a w' a' : Caller) (c c' : Token) (tied : IsTied (keeper_of w a c)) (
       (subst (Agrees (name_of c'.seen way)) (sym asked_now.1) tt))
       (λ (off : way ≢ k). let other : k ≢ way = λ e. off (sym e) in
       subst (λ (n : ℕ). Agrees n (state_of (map_seen w') k)) (sym (name_else k other))
-      (agrees_still (name_of c.seen k) (state_of (map_seen w) k) (state_of (map_seen w') k) (tied.agrees k) (stays.still k)))
+      (agrees_still (name_of c.seen k) (state_of (map_seen w) k) (state_of (map_seen w') k) (tied.agrees k)
+      (stays.still k)))
       (cases_eq way k)
 
   pub admitted_tied : IsTied (keeper_of w' a' c')
-  admitted_tied = retied w a w' a' c c' (cleared (group_for c id) ∷ named way id ∷ looks (places + 1) c.number) tied stays.rested
-      asks.hears.learns.table
-      (ap (λ (r : Caller). r.table) asks.told ∙ asks.asks.table ∙ asks.meets.learns.table, subst KnowsOwn (sym asks.told) asks.asks.own)
+  admitted_tied =
+      retied w a w' a' c c' (cleared (group_for c id) ∷ named way id ∷ looks (places + 1) c.number) tied stays.rested
+      asks.hears.learns.table (
+        ap (λ (r : Caller). r.table) asks.told ∙ asks.asks.table ∙ asks.meets.learns.table,
+        subst KnowsOwn (sym asks.told) asks.asks.own,
+      )
       admits.0 agrees_now
 
   pub admitted : (number : ℕ) → number ≡ number_of (state_of (map_seen w') way) →
@@ -226,24 +253,34 @@ module _ (w a w' a' : Caller) (c c' : Token) (tied : IsTied (keeper_of w a c)) (
     opens = record {
       before = ap (λ (n : ℕ). owed_for way n (state_of (map_seen w) way)) admits.1;
       after = let n : ℕ = asked_now.0 in let same : asked_now.0 ≡ number = ap number_of (sym asked_now.1) ∙ sym is in
-          ap (λ (n : ℕ). owed_for way n (state_of (map_seen w') way)) admits.2.has ∙ ap (owed_for way id) (asked_now.1 ∙ ap Asked same)
+          ap (λ (n : ℕ). owed_for way n (state_of (map_seen w') way)) admits.2.has
+          ∙ ap (owed_for way id) (asked_now.1 ∙ ap Asked same)
           ∙ owed_asked way id number real;
       others = λ k other. ap (λ (n : ℕ). owed_for k n (state_of (map_seen w') k)) (name_else k other)
-          ∙ owed_still k (name_of c.seen k) (state_of (map_seen w) k) (state_of (map_seen w') k) (tied.agrees k) (stays.still k);
+          ∙ owed_still k (name_of c.seen k) (state_of (map_seen w) k) (state_of (map_seen w') k) (tied.agrees k)
+          (stays.still k);
     };
   }
 
 -- a refusal is a few looks
-refused_looks : (id : ℕ) (c c' : Token) (why : Refused) → Admits id c c' (Err why) → (count : ℕ) × ids.Grows (looks count c.number) c c'
+refused_looks : (id : ℕ) (c c' : Token) (why : Refused) → Admits id c c' (Err why)
+    → (count : ℕ) × ids.Grows (looks count c.number) c c'
 refused_looks id c c' refused.NoClaim h = (1, h.0)
 refused_looks id c c' (refused.Named way) h = (h.place + 2, h.grows)
 refused_looks id c c' refused.Full h = (places + 1, h.0)
 
-pub unadmitted : (w a : Caller) (c c' : Token) (id : ℕ) (why : Refused) → IsTied (keeper_of w a c) → Admits id c c' (Err why) →
+pub unadmitted : (w a : Caller) (c c' : Token) (id : ℕ) (why : Refused) → IsTied (keeper_of w a c)
+    → Admits id c c' (Err why) →
     IsTied (keeper_of w a c') × RefusesId id (keeper_of w a c) (keeper_of w a c') why
 unadmitted w a c c' id why tied h =
-    let look = refused_looks id c c' why h in let names = λ (k : ℕ). clerk_looks c look.0 c.number c' k tied.names.1 look.1 in (
+    let look = refused_looks id c c' why h in
+    let names = λ (k : ℕ). clerk_looks c look.0 c.number c' k tied.names.1 look.1 in (
       retied w a w a c c' (looks look.0 c.number) tied (rested_of w a c tied) refl (refl, tied.asks.1) look.1
           (λ k. subst (λ (n : ℕ). Agrees n (state_of (map_seen w) k)) (sym (names k)) (tied.agrees k)),
-      record { refused = h; writer = refl; asker = refl; owes = λ k. ap (λ (n : ℕ). owed_for k n (state_of (map_seen w) k)) (names k) },
+      record {
+        refused = h;
+        writer = refl;
+        asker = refl;
+        owes = λ k. ap (λ (n : ℕ). owed_for k n (state_of (map_seen w) k)) (names k);
+      },
     )

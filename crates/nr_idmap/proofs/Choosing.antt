@@ -11,7 +11,8 @@ use Rattle.nr_idmap.specs.IdChoices.{StaysButClerk}
 use Rattle.nr_idmap.specs.Keepers.{Agrees, IsTied, Keeper, OwesSame, keeper_of, owed_for}
 use Rattle.nr_idmap.proofs.Ties.{rested_of, retied}
 
-pub looked_tied : (w a : Caller) (c c' : Token) (count : ℕ) → IsTied (keeper_of w a c) → Grows (looks count c.number) c c' →
+pub looked_tied : (w a : Caller) (c c' : Token) (count : ℕ) → IsTied (keeper_of w a c)
+    → Grows (looks count c.number) c c' →
     IsTied (keeper_of w a c') × OwesSame (keeper_of w a c) (keeper_of w a c')
 looked_tied w a c c' count tied grows =
     let names = λ (way : ℕ). clerk_looks c count c.number c' way tied.names.1 grows in (
@@ -21,16 +22,20 @@ looked_tied w a c c' count tied grows =
     )
 
 -- and so do more of them
-pub then_looked : (w a : Caller) (c mid c' : Token) → IsTied (keeper_of w a mid) × OwesSame (keeper_of w a c) (keeper_of w a mid) →
-    (count : ℕ) × Grows (looks count mid.number) mid c' → IsTied (keeper_of w a c') × OwesSame (keeper_of w a c) (keeper_of w a c')
+pub then_looked : (w a : Caller) (c mid c' : Token)
+    → IsTied (keeper_of w a mid) × OwesSame (keeper_of w a c) (keeper_of w a mid) →
+    (count : ℕ) × Grows (looks count mid.number) mid c'
+    → IsTied (keeper_of w a c') × OwesSame (keeper_of w a c) (keeper_of w a c')
 then_looked w a c mid c' first more =
     let on = looked_tied w a mid c' more.0 first.0 more.1 in (on.0, λ way. on.1 way ∙ first.1 way)
 
-pub marks_looks : (old new : Token) (taken : Bool) → TakesMark old new taken → (count : ℕ) × Grows (looks count old.number) old new
+pub marks_looks : (old new : Token) (taken : Bool) → TakesMark old new taken
+    → (count : ℕ) × Grows (looks count old.number) old new
 marks_looks old new true takes = (2, takes)
 marks_looks old new false takes = (1, takes)
 
-pub names_looks : (way : ℕ) (old new : Token) (named : Option ℕ) → FindsId way old new named → Grows (looks 1 old.number) old new
+pub names_looks : (way : ℕ) (old new : Token) (named : Option ℕ) → FindsId way old new named
+    → Grows (looks 1 old.number) old new
 names_looks way old new (Some id) finds = finds.0
 names_looks way old new None finds = finds.0
 

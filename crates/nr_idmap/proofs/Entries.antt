@@ -1,5 +1,6 @@
 -- What a call of the map's writer leaves: others' entries came before its own, which changes its key alone.
-use Rattle.std.proofs.Common.{◌≡◌, ◌≢◌, ℕ, ◌<◌, Bool, cond, List, [], ◌∷◌, ◌++◌, refl, sym, ap, ◌∙◌, subst, arith, append-nil, eq-eqb}
+use Rattle.std.proofs.Common.{◌≡◌, ◌≢◌, ℕ, ◌<◌, Bool, cond, List, [], ◌∷◌, ◌++◌, refl, sym, ap, ◌∙◌, subst, arith}
+use Rattle.std.proofs.Common.{append-nil, eq-eqb}
 use Rattle.std.proofs.lemmas.List.{length-set, length-replicate}
 use Rattle.nr_model.specs.declared.calls.Call.{Call}
 use Rattle.nr_model.specs.declared.calls.Reply.{Reply}
@@ -28,11 +29,13 @@ count_after [] map = refl
 count_after (e ∷ log) map = count_after log (next map e.call)
     ∙ length-set map.states (call_key e.call) (state_after map.bound e.call (state_of map (call_key e.call)))
 
-tidy_both : (log later : List Entry) (map : PartialMap) → IsTidy map log → IsTidy (after map log) later → IsTidy map (log ++ later)
+tidy_both : (log later : List Entry) (map : PartialMap) → IsTidy map log → IsTidy (after map log) later
+    → IsTidy map (log ++ later)
 tidy_both [] later map a b = b
 tidy_both (e ∷ log) later map a b = (a.0, a.1, tidy_both log later (next map e.call) a.2 b)
 
-pub legal_end : (log : List Entry) (map : PartialMap) (e : Entry) → IsLegal map (log ++ e ∷ []) → e.reply ≡ reply_to (after map log) e.call
+pub legal_end : (log : List Entry) (map : PartialMap) (e : Entry) → IsLegal map (log ++ e ∷ [])
+    → e.reply ≡ reply_to (after map log) e.call
 legal_end [] map e legal = legal.0
 legal_end (x ∷ log) map e legal = legal_end log (next map x.call) e legal.1
 
@@ -49,25 +52,30 @@ pub record Waited (old : Caller) (log : List Entry) : Type 0 where
   pub still : (way : ℕ) → IsStill (state_of (map_seen old) way) (state_of (after (map_at_opening old.table) log) way)
   pub tidy : IsTidy (map_at_opening old.table) log
 
-module _ (steps : ℕ) (old new : Caller) (entries : List Entry) (rested : Rested old) (grows : Grows steps entries old new)
+module _ (steps : ℕ) (old new : Caller) (entries : List Entry) (rested : Rested old)
+    (grows : Grows steps entries old new)
     (ours : entries_of entries 0 ≡ entries) where
   waited : Waited old (old.seen ++ grows.between)
   waited =
       let shape = old.table.shape in let open_map = map_at_opening old.table in
-      let callers : AreCallers shape ((old.seen ++ grows.between) ++ entries) = subst (AreCallers shape) grows.seen grows.callers in
+      let callers : AreCallers shape ((old.seen ++ grows.between) ++ entries)
+      = subst (AreCallers shape) grows.seen grows.callers in
       let between : AreCallers shape grows.between = callers_of_more shape old.seen grows.between
       (callers_before shape (old.seen ++ grows.between) entries callers) in
       let none : entries_of grows.between 0 ≡ [] = ap (entries_of grows.between) (sym rested.number)
       ∙ none_between steps old entries new rested.sound.own (ap (entries_of entries) rested.number ∙ ours) grows in
       let size : key_count (map_seen old) ≡ shape.keys = count_after old.seen open_map ∙ length-replicate shape.keys
       (Hole shape.first_number) in
-      let parts : after open_map (old.seen ++ grows.between) ≡ after (map_seen old) grows.between = after_both old.seen grows.between
+      let parts : after open_map (old.seen ++ grows.between) ≡ after (map_seen old) grows.between
+      = after_both old.seen grows.between
       open_map in record {
         size = ap key_count parts ∙ count_after grows.between (map_seen old) ∙ size;
         bound = bound_after (old.seen ++ grows.between) open_map;
         still = λ way. subst (λ (m : PartialMap). IsStill (state_of (map_seen old) way) (state_of m way)) (sym parts)
             (others_still shape grows.between (map_seen old) way between none size);
-        tidy = tidy_both old.seen grows.between open_map rested.tidy (others_tidy shape grows.between (map_seen old) between none size);
+        tidy =
+            tidy_both old.seen grows.between open_map rested.tidy
+            (others_tidy shape grows.between (map_seen old) between none size);
       }
 
   sound_now : IsSound new
@@ -86,7 +94,9 @@ module _ (steps : ℕ) (old new : Caller) (entries : List Entry) (rested : Reste
   }
 
   map_now : map_seen new ≡ after (map_at_opening old.table) ((old.seen ++ grows.between) ++ entries)
-  map_now = ap (λ (t : Table). after (map_at_opening t) new.seen) grows.table ∙ ap (after (map_at_opening old.table)) grows.seen
+  map_now =
+      ap (λ (t : Table). after (map_at_opening t) new.seen) grows.table
+      ∙ ap (after (map_at_opening old.table)) grows.seen
 
 -- without an entry
 pub record Stayed (old new : Caller) : Type 0 where
@@ -101,7 +111,8 @@ stayed steps old new rested grows =
     ∙ ap (after (map_at_opening old.table)) (append-nil log) in record {
       rested = rested_if steps old new [] rested grows refl
           (subst (IsTidy (map_at_opening old.table)) (sym (grows.seen ∙ append-nil log)) waits.tidy);
-      still = λ way. subst (λ (m : PartialMap). IsStill (state_of (map_seen old) way) (state_of m way)) (sym now) (waits.still way);
+      still = λ way. subst (λ (m : PartialMap). IsStill (state_of (map_seen old) way) (state_of m way)) (sym now)
+          (waits.still way);
     }
 
 -- with one: the map before it, as others left it, and the map after it
@@ -114,22 +125,26 @@ pub record Went (old new : Caller) (call : Call) (answer : Reply) : Type 0 where
   pub others : (way : ℕ) → way ≢ call_key call → state_of (map_seen new) way ≡ state_of mid way
   pub rested : KeepsTags mid call answer → Rested new
 
-pub went : (steps : ℕ) (old new : Caller) (call : Call) (answer : Reply) → Rested old → Gains steps call old new answer →
+pub went : (steps : ℕ) (old new : Caller) (call : Call) (answer : Reply) → Rested old → Gains steps call old new answer
+    →
     call_key call < old.table.shape.keys → Went old new call answer
 went steps old new call answer rested gains near =
     let e : Entry = entry old.number call answer in let log : List Entry = old.seen ++ gains.between in
     let open_map = map_at_opening old.table in
-    let ours : entries_of (e ∷ []) 0 ≡ e ∷ [] = ap (λ (b : Bool). cond b (e ∷ []) []) (eq-eqb old.number 0 rested.number) in
+    let ours : entries_of (e ∷ []) 0 ≡ e ∷ []
+    = ap (λ (b : Bool). cond b (e ∷ []) []) (eq-eqb old.number 0 rested.number) in
     let waits = waited steps old new (e ∷ []) rested gains ours in
     let mid : PartialMap = after open_map log in
-    let now : map_seen new ≡ next mid call = map_now steps old new (e ∷ []) rested gains ours ∙ after_both log (e ∷ []) open_map in
+    let now : map_seen new ≡ next mid call
+    = map_now steps old new (e ∷ []) rested gains ours ∙ after_both log (e ∷ []) open_map in
     let inside : call_key call < key_count mid = omega (arith, near, waits.size) in record {
       mid = mid;
       bound = waits.bound;
       still = waits.still;
       replied = legal_end log open_map e (subst (IsLegal open_map) gains.seen gains.legal);
       at_key = ap (λ (m : PartialMap). state_of m (call_key call)) now ∙ state_of-next_same mid call inside;
-      others = λ way other. ap (λ (m : PartialMap). state_of m way) now ∙ state_of-next_other mid way call (λ e. other (sym e));
+      others = λ way other. ap (λ (m : PartialMap). state_of m way) now
+          ∙ state_of-next_other mid way call (λ e. other (sym e));
       rested = λ keeps. rested_if steps old new (e ∷ []) rested gains ours
           (subst (IsTidy open_map) (sym gains.seen) (tidy_both log (e ∷ []) open_map waits.tidy (inside, keeps, tt)));
     }

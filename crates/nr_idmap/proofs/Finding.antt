@@ -14,36 +14,56 @@ use Rattle.nr_idmap.specs.Keepers.{IdCaller}
 use Rattle.nr_idmap.specs.Tags.{CopiesBehind}
 
 -- with the look-up before it
-pub finds_by_way : {Room : Type 0} (shows : Room → List Row → Type 0) (id way : ℕ) (old new : IdCaller) (looked : Token) (before after : Room)
+pub finds_by_way : {Room : Type 0} (shows : Room → List Row → Type 0) (id way : ℕ) (old new : IdCaller) (looked : Token)
+    (before after : Room)
     (result : FoundId) → LooksUp id old.ids looked (Some way) →
-    FindsInside shows id way (record { caller = old.caller; ids = looked }) before new after result → FindsByName shows id old before new after result
+    FindsInside shows id way (record { caller = old.caller; ids = looked }) before new after result
+    → FindsByName shows id old before new after result
 finds_by_way shows id way old new looked before after found.Rows looks finds =
     (way, finds.0, looked, (looks, finds.1), finds.2, finds.3)
 finds_by_way shows id way old new looked before after found.Pending looks finds =
     (way, subst (λ (t : Token). LooksUp id old.ids t (Some way)) (sym finds.1) looks, finds.0, finds.2)
-finds_by_way shows id way old new looked before after found.Moved looks finds =
-    (way, finds.0, (subst (λ (t : Token). LooksUp id old.ids t (Some way)) (sym finds.2) looks, finds.1), finds.3, finds.4)
+finds_by_way shows id way old new looked before after found.Moved looks finds = (
+  way,
+  finds.0,
+  (subst (λ (t : Token). LooksUp id old.ids t (Some way)) (sym finds.2) looks, finds.1),
+  finds.3,
+  finds.4,
+)
 finds_by_way shows id way old new looked before after found.Absent looks finds = absurd finds
 
-module _ {Room : Type 0} (shows : Room → List Row → Type 0) (id way : ℕ) (old now : IdCaller) (is : old ≡ now) (caller : Caller)
+module _ {Room : Type 0} (shows : Room → List Row → Type 0) (id way : ℕ) (old now : IdCaller) (is : old ≡ now)
+    (caller : Caller)
     (before after : Room) where
   pub finds_pending : FindsHole 0 way old.caller caller → after ≡ before →
       FindsInside shows id way now before (record { caller = caller; ids = old.ids }) after found.Pending
-  finds_pending gains same = subst (λ (o : IdCaller). FindsInside shows id way o before (record { caller = caller; ids = old.ids }) after found.Pending) is
+  finds_pending gains same =
+      subst
+      (λ (o : IdCaller). FindsInside shows id way o before (record { caller = caller; ids = old.ids }) after
+      found.Pending)
+      is
       (gains, refl, same)
 
   module _ (set : List Row) (gains : FindsRows (2 * length set + 1) way set old.caller caller) where
     pub finds_moved : CopiesBehind shows id set before after false →
         FindsInside shows id way now before (record { caller = caller; ids = old.ids }) after found.Moved
-    finds_moved copies = subst (λ (o : IdCaller). FindsInside shows id way o before (record { caller = caller; ids = old.ids }) after found.Moved) is
+    finds_moved copies =
+        subst
+        (λ (o : IdCaller). FindsInside shows id way o before (record { caller = caller; ids = old.ids }) after
+        found.Moved)
+        is
         (set, gains, refl, copies.0, copies.1)
 
     pub finds_rows : (marked : Token) → Marks old.ids marked → CopiesBehind shows id set before after true →
         FindsInside shows id way now before (record { caller = caller; ids = marked }) after found.Rows
-    finds_rows marked marks copies = subst (λ (o : IdCaller). FindsInside shows id way o before (record { caller = caller; ids = marked }) after found.Rows) is (
-      copies.0,
-      subst (λ (s : List Row). FindsRows (2 * length s + 1) way s old.caller caller)
-          copies.1 gains,
-      marks,
-      copies.2,
-    )
+    finds_rows marked marks copies =
+        subst
+        (λ (o : IdCaller). FindsInside shows id way o before (record { caller = caller; ids = marked }) after
+        found.Rows)
+        is (
+          copies.0,
+          subst (λ (s : List Row). FindsRows (2 * length s + 1) way s old.caller caller)
+              copies.1 gains,
+          marks,
+          copies.2,
+        )

@@ -1,5 +1,6 @@
 -- A hand that had seen a way's name, and that the way had the id's rows, finds rows by it.
-use Rattle.std.proofs.Common.{◌≡◌, ◌≢◌, ℕ, ◌+◌, ◌<◌, ◌⊎◌, ⊎_elim, inl, inr, false, ◌*◌, List, [], ◌∷◌, ◌++◌, length, refl, sym, ap, ◌∙◌, subst, arith, append-nil, append_assoc, Option, Some, None}
+use Rattle.std.proofs.Common.{◌≡◌, ◌≢◌, ℕ, ◌+◌, ◌<◌, ◌⊎◌, ⊎_elim, inl, inr, false, ◌*◌, List, [], ◌∷◌, ◌++◌, length}
+use Rattle.std.proofs.Common.{refl, sym, ap, ◌∙◌, subst, arith, append-nil, append_assoc, Option, Some, None}
 use Rattle.std.specs.List.{count_by}
 use Rattle.std.proofs.lemmas.Bool.{cases_eq}
 use Rattle.std.proofs.lemmas.List.{length-replicate}
@@ -21,7 +22,8 @@ use Rattle.nr_ids.specs.Laws.{FindsWhatItKnew}
 use Rattle.nr_ids.specs.Tokens.{HasName, Token}
 use Rattle.nr_idmap.specs.declared.finds.FoundId.{FoundId}
 use Rattle.nr_idmap.specs.declared.finds.FoundId.TheVariants as found
-use Rattle.nr_idmap.specs.IdHands.{AgainById, HoldsAnew, HoldsById, HoldsByName, IdHanded, KeepsWay, PinsById, with_line_loaded}
+use Rattle.nr_idmap.specs.IdHands.{AgainById, HoldsAnew, HoldsById, HoldsByName, IdHanded, KeepsWay, PinsById}
+use Rattle.nr_idmap.specs.IdHands.{with_line_loaded}
 use Rattle.nr_idmap.specs.IdHeard.{IsUnnamedSince, PinsItsRows}
 use Rattle.nr_idmap.specs.Keepers.{IdTable}
 use Rattle.nr_idmap.specs.Tags.{tag_of}
@@ -67,20 +69,25 @@ found_hole way old new keeps = ⊎_elim
     (λ anew. record { steps = _; gains = anew.1.0.2.gains })
     keeps.2
 
-pub found_rows : (way : ℕ) (old new : Handed) → KeepsWay way old new answer.Rows → FoundOnce way old new (reply.Rows new.rows)
+pub found_rows : (way : ℕ) (old new : Handed) → KeepsWay way old new answer.Rows
+    → FoundOnce way old new (reply.Rows new.rows)
 found_rows way old new keeps = ⊎_elim
     (λ again. let held = again.0 in record {
       steps = 2 * length old.rows + 1;
-      gains = subst (λ (l : List Row). Gains (2 * length old.rows + 1) (Find way) old.reader new.reader (reply.Rows l)) (sym held.rows) held.gains;
+      gains =
+          subst (λ (l : List Row). Gains (2 * length old.rows + 1) (Find way) old.reader new.reader (reply.Rows l))
+          (sym held.rows) held.gains;
     })
     (λ anew. record { steps = _; gains = anew.1.0.2.gains })
     keeps.2
 
-module _ (open_map : PartialMap) (id way number : ℕ) (rows : List Row) (before : List Entry) (real : 0 < id) (near : way < key_count open_map)
+module _ (open_map : PartialMap) (id way number : ℕ) (rows : List Row) (before : List Entry) (real : 0 < id)
+    (near : way < key_count open_map)
     (some : 0 < open_map.bound) (put : state_of (after open_map before) way ≡ Rows number (tag_of id ∷ rows)) where
   -- at each later moment of a history without an eviction of the way it has the id's rows
   has_then : (later tail : List Entry) → Kept open_map ((before ++ later) ++ tail) →
-      count_by (evicts_at way) ((before ++ later) ++ tail) ≡ count_by (evicts_at way) before → HasIds id real (state_of (after open_map (before ++ later)) way)
+      count_by (evicts_at way) ((before ++ later) ++ tail) ≡ count_by (evicts_at way) before
+      → HasIds id real (state_of (after open_map (before ++ later)) way)
   has_then later tail kept none =
       let kept_later = kept_ends open_map before later (kept_begins open_map (before ++ later) tail kept) in
       let few : count_by (evicts_at way) later ≡ 0 =
@@ -90,8 +97,11 @@ module _ (open_map : PartialMap) (id way number : ℕ) (rows : List Row) (before
       (stays.0, stays.1, ap (λ (m : PartialMap). state_of m way) (after_both before later open_map) ∙ stays.2)
 
   -- so a find of the way then has them
-  finds_them : (caller : ℕ) (told : Reply) (later : List Entry) → Kept open_map ((before ++ later) ++ entry caller (Find way) told ∷ []) →
-      count_by (evicts_at way) ((before ++ later) ++ entry caller (Find way) told ∷ []) ≡ count_by (evicts_at way) before →
+  finds_them : (caller : ℕ) (told : Reply) (later : List Entry)
+      → Kept open_map ((before ++ later) ++ entry caller (Find way) told ∷ []) →
+      count_by (evicts_at way) ((before ++ later) ++ entry caller (Find way) told ∷ [])
+      ≡ count_by (evicts_at way) before
+      →
       (others : List Row) × (told ≡ reply.Rows (tag_of id ∷ others))
   finds_them caller told later kept none =
       let has = has_then later (entry caller (Find way) told ∷ []) kept none in
@@ -100,15 +110,19 @@ module _ (open_map : PartialMap) (id way number : ℕ) (rows : List Row) (before
 some_way : (a b : ℕ) → Some a ≡ Some b → a ≡ b
 some_way a b e = cc (e)
 
-module _ (law : FindsWhatItKnew) (old new : IdHanded) (id way number : ℕ) (rows : List Row) (before since : List Entry) (real : 0 < id)
-    (named : HasName old.ids way id) (near : way < key_count (map_at_opening old.hand.reader.table)) (some : 0 < (map_at_opening old.hand.reader.table).bound)
-    (kept : Kept (map_at_opening old.hand.reader.table) new.hand.reader.seen) (known : old.hand.reader.seen ≡ before ++ since)
+module _ (law : FindsWhatItKnew) (old new : IdHanded) (id way number : ℕ) (rows : List Row) (before since : List Entry)
+    (real : 0 < id)
+    (named : HasName old.ids way id) (near : way < key_count (map_at_opening old.hand.reader.table))
+    (some : 0 < (map_at_opening old.hand.reader.table).bound)
+    (kept : Kept (map_at_opening old.hand.reader.table) new.hand.reader.seen)
+    (known : old.hand.reader.seen ≡ before ++ since)
     (put : state_of (after (map_at_opening old.hand.reader.table) before) way ≡ Rows number (tag_of id ∷ rows))
     (none : count_by (evicts_at way) new.hand.reader.seen ≡ count_by (evicts_at way) before) where
   abbrev Unnamed : Type 0
   Unnamed = IsUnnamedSince old.ids.seen way new.ids.seen
 
-  looked_there : (asked : IdHanded) (there : Option ℕ) → Asked old asked → LooksUp id asked.ids new.ids there → Unnamed ⊎ (there ≡ Some way)
+  looked_there : (asked : IdHanded) (there : Option ℕ) → Asked old asked → LooksUp id asked.ids new.ids there
+      → Unnamed ⊎ (there ≡ Some way)
   looked_there asked there first looks = ⊎_elim
       (λ (is : there ≡ Some way). inr is)
       (λ gone. inl gone)
@@ -122,28 +136,35 @@ module _ (law : FindsWhatItKnew) (old new : IdHanded) (id way number : ℕ) (row
       let later : List Entry = since ++ (first.more ++ once.gains.between) in
       let front : asked.hand.reader.seen ++ once.gains.between ≡ before ++ later =
       ap (λ (l : List Entry). l ++ once.gains.between) (first.seen ∙ ap (λ (l : List Entry). l ++ first.more) known)
-      ∙ append_assoc (before ++ since) first.more once.gains.between ∙ append_assoc before since (first.more ++ once.gains.between) in
+      ∙ append_assoc (before ++ since) first.more once.gains.between
+      ∙ append_assoc before since (first.more ++ once.gains.between) in
       let seen : new.hand.reader.seen ≡ (before ++ later) ++ entry asked.hand.reader.number (Find way) told ∷ [] =
-      ends ∙ once.gains.seen ∙ ap (λ (l : List Entry). l ++ entry asked.hand.reader.number (Find way) told ∷ []) front in
-      finds_them (map_at_opening old.hand.reader.table) id way number rows before real near some put asked.hand.reader.number told later
+      ends ∙ once.gains.seen
+      ∙ ap (λ (l : List Entry). l ++ entry asked.hand.reader.number (Find way) told ∷ []) front in
+      finds_them (map_at_opening old.hand.reader.table) id way number rows before real near some put
+      asked.hand.reader.number told later
       (subst (Kept (map_at_opening old.hand.reader.table)) seen kept) (ap (count_by (evicts_at way)) (sym seen) ∙ none)
 
   -- the way that was found is that one
-  at_way : (at : ℕ) (from to : Handed) (told : Reply) → Some at ≡ Some way → FoundOnce at from to told → FoundOnce way from to told
+  at_way : (at : ℕ) (from to : Handed) (told : Reply) → Some at ≡ Some way → FoundOnce at from to told
+      → FoundOnce way from to told
   at_way at from to told same once = subst (λ (k : ℕ). FoundOnce k from to told) (some_way at way same) once
 
-  named_rows : (asked : IdHanded) (answer : FoundId) → Asked old asked → HoldsByName id asked new answer → Unnamed ⊎ (answer ≡ found.Rows)
+  named_rows : (asked : IdHanded) (answer : FoundId) → Asked old asked → HoldsByName id asked new answer
+      → Unnamed ⊎ (answer ≡ found.Rows)
   named_rows asked found.Rows first anew = inr refl
   named_rows asked found.Pending first anew = ⊎_elim
       (λ gone. inl gone)
       (λ (same : Some anew.0 ≡ Some way). let has = told_rows asked new.hand reply.Hole first
-      (at_way anew.0 asked.hand new.hand reply.Hole same (found_hole anew.0 asked.hand new.hand anew.2)) refl in let e : reply.Hole ≡ reply.Rows (tag_of id ∷ has.0) = has.1 in
+      (at_way anew.0 asked.hand new.hand reply.Hole same (found_hole anew.0 asked.hand new.hand anew.2)) refl in
+      let e : reply.Hole ≡ reply.Rows (tag_of id ∷ has.0) = has.1 in
       absurd (cc (e)))
       (looked_there asked (Some anew.0) first anew.1)
   named_rows asked found.Moved first anew = let mid : Handed = anew.1 in ⊎_elim
       (λ gone. inl gone)
       (λ (same : Some anew.0 ≡ Some way). let has = told_rows asked anew.1 (reply.Rows anew.1.rows) first
-      (at_way anew.0 asked.hand anew.1 (reply.Rows anew.1.rows) same (found_rows anew.0 asked.hand anew.1 anew.3)) anew.5.rests.seen in
+      (at_way anew.0 asked.hand anew.1 (reply.Rows anew.1.rows) same (found_rows anew.0 asked.hand anew.1 anew.3))
+      anew.5.rests.seen in
       let e : anew.1.rows ≡ tag_of id ∷ has.0 = cc (has.1) in
       absurd (anew.4 has.0 e))
       (looked_there asked (Some anew.0) first anew.2)
@@ -152,8 +173,11 @@ module _ (law : FindsWhatItKnew) (old new : IdHanded) (id way number : ℕ) (row
       (λ (there : None ≡ Some way). absurd (cc (there)))
       (looked_there asked None first anew.0)
 
-  anew_rows : (asked : IdHanded) (answer : FoundId) → Asked old asked → HoldsAnew id asked new answer → Unnamed ⊎ (answer ≡ found.Rows)
-  anew_rows asked answer first anew = named_rows (with_line_loaded asked) answer (record { table = first.table; more = first.more; seen = first.seen; ids = first.ids }) anew
+  anew_rows : (asked : IdHanded) (answer : FoundId) → Asked old asked → HoldsAnew id asked new answer
+      → Unnamed ⊎ (answer ≡ found.Rows)
+  anew_rows asked answer first anew =
+      named_rows (with_line_loaded asked) answer
+      (record { table = first.table; more = first.more; seen = first.seen; ids = first.ids }) anew
 
   held_rows : (answer : FoundId) → HoldsById id old new answer → Unnamed ⊎ (answer ≡ found.Rows)
   held_rows answer holds = ⊎_elim
@@ -163,16 +187,27 @@ module _ (law : FindsWhatItKnew) (old new : IdHanded) (id way number : ℕ) (row
 
   by_answer : (answer : FoundId) → PinsById id old new answer → Unnamed ⊎ (answer ≡ found.Rows)
   by_answer found.Rows pins = inr refl
-  by_answer found.Pending pins = held_rows found.Pending (subst (λ (h : IdHanded). HoldsById id old h found.Pending) (sym pins.2) pins.1)
-  by_answer found.Moved pins = held_rows found.Moved (subst (λ (h : IdHanded). HoldsById id old h found.Moved) (sym pins.2) pins.1)
-  by_answer found.Absent pins = held_rows found.Absent (subst (λ (h : IdHanded). HoldsById id old h found.Absent) (sym pins.2) pins.1)
+  by_answer found.Pending pins =
+      held_rows found.Pending (subst (λ (h : IdHanded). HoldsById id old h found.Pending) (sym pins.2) pins.1)
+  by_answer found.Moved pins =
+      held_rows found.Moved (subst (λ (h : IdHanded). HoldsById id old h found.Moved) (sym pins.2) pins.1)
+  by_answer found.Absent pins =
+      held_rows found.Absent (subst (λ (h : IdHanded). HoldsById id old h found.Absent) (sym pins.2) pins.1)
 
 pub pins_its_rows : FindsWhatItKnew → PinsItsRows
-pins_its_rows law keeper old new id way number rows before since answer tied table heard real named known put none pins =
+pins_its_rows law keeper old new id way number rows before since answer tied table heard real named known put none
+    pins =
     let map_same : old.hand.reader.table ≡ keeper.table.map = ap (λ (t : IdTable). t.map) table in
     let all_ways : ways old.ids.directory.plan ≡ old.hand.reader.table.shape.keys =
-    ap (λ (t : IdTable). ways t.directory.plan) table ∙ tied.ways_are ∙ ap (λ (t : Table). t.shape.keys) (sym map_same) in
+    ap (λ (t : IdTable). ways t.directory.plan) table ∙ tied.ways_are
+    ∙ ap (λ (t : Table). t.shape.keys) (sym map_same) in
     let near : way < key_count (map_at_opening old.hand.reader.table) =
-    omega (arith, named.inside, all_ways, length-replicate old.hand.reader.table.shape.keys (Hole old.hand.reader.table.shape.first_number)) in
-    by_answer law old new id way number rows before since real named near (subst (λ (t : Table). 0 < t.shape.rows) (sym map_same) tied.room)
+    omega (
+      arith,
+      named.inside,
+      all_ways,
+      length-replicate old.hand.reader.table.shape.keys (Hole old.hand.reader.table.shape.first_number),
+    ) in
+    by_answer law old new id way number rows before since real named near
+    (subst (λ (t : Table). 0 < t.shape.rows) (sym map_same) tied.room)
     (kept_heard keeper old.hand.reader.table new.hand.reader.seen tied map_same heard) known put none answer pins

@@ -1,5 +1,6 @@
 -- A find by id of a reader that heard of the id's fill, by the laws of the map and of the directory.
-use Rattle.std.proofs.Common.{◌≡◌, ℕ, ◌+◌, ◌*◌, ◌<◌, ◌⊎◌, ⊎_elim, inl, inr, true, List, [], ◌∷◌, ◌++◌, length, refl, sym, ap, ◌∙◌, subst, append_assoc, Some, None}
+use Rattle.std.proofs.Common.{◌≡◌, ℕ, ◌+◌, ◌*◌, ◌<◌, ◌⊎◌, ⊎_elim, inl, inr, true, List, [], ◌∷◌, ◌++◌, length, refl}
+use Rattle.std.proofs.Common.{sym, ap, ◌∙◌, subst, append_assoc, Some, None}
 use Rattle.nr_model.specs.declared.rows.Row.{Row}
 use Rattle.nr_model.specs.declared.calls.Call.TheVariants as model
 use Rattle.nr_model.specs.declared.calls.Reply.{Reply}
@@ -22,7 +23,8 @@ use Rattle.nr_idmap.specs.Keepers.{IdCaller}
 use Rattle.nr_idmap.specs.Tags.{tag_of}
 
 -- and later events
-unnamed_on : (told : List Event) (way : ℕ) (seen more : List Event) → IsUnnamedSince told way seen → IsUnnamedSince told way (more ++ seen)
+unnamed_on : (told : List Event) (way : ℕ) (seen more : List Event) → IsUnnamedSince told way seen
+    → IsUnnamedSince told way (more ++ seen)
 unnamed_on told way seen more gone = (
   more ++ gone.0,
   ap (λ (l : List Event). more ++ l) gone.1 ∙ sym (append_assoc more gone.0 told),
@@ -33,50 +35,74 @@ unnamed_on told way seen more gone = (
   ),
 )
 
-marks_on : (told : List Event) (way : ℕ) (old new : Token) → Marks old new → IsUnnamedSince told way old.seen → IsUnnamedSince told way new.seen
-marks_on told way old new marks gone = subst (IsUnnamedSince told way) (sym marks.2.seen) (unnamed_on told way old.seen marks.2.rest gone)
+marks_on : (told : List Event) (way : ℕ) (old new : Token) → Marks old new → IsUnnamedSince told way old.seen
+    → IsUnnamedSince told way new.seen
+marks_on told way old new marks gone =
+    subst (IsUnnamedSince told way) (sym marks.2.seen) (unnamed_on told way old.seen marks.2.rest gone)
 
 some_way : (a b : ℕ) → Some a ≡ Some b → a ≡ b
 some_way a b e = cc (e)
 
 -- the load of a line tells nothing
-heard_with_line : (old asking : IdCaller) (note : IdKnown) → HeardIdBefore note old asking → HeardIdBefore note old (with_line asking)
+heard_with_line : (old asking : IdCaller) (note : IdKnown) → HeardIdBefore note old asking
+    → HeardIdBefore note old (with_line asking)
 heard_with_line old asking note heard = record {
-  map = record { steps = heard.map.steps; heard = heard.map.heard; hears = heard.map.hears; table = heard.map.table; seen = heard.map.seen };
+  map =
+      record {
+        steps = heard.map.steps;
+        heard = heard.map.heard;
+        hears = heard.map.hears;
+        table = heard.map.table;
+        seen = heard.map.seen;
+      };
   ids = heard.ids;
 }
 
-module _ {Room : Type 0} (shows : Room → List Row → Type 0) (of_map : FindsWhatItHeard) (of_ids : ids.FindsWhatItHeard) where
+module _ {Room : Type 0} (shows : Room → List Row → Type 0) (of_map : FindsWhatItHeard)
+    (of_ids : ids.FindsWhatItHeard) where
   module _ (old asking : IdCaller) (note : IdKnown) (id way : ℕ) (before since : List Entry) (put : Entry)
       (near : way < old.caller.table.shape.keys) (real : 0 < id) (named : name_of note.ids.seen way ≡ id)
-      (told : note.map.seen ≡ (before ++ put ∷ []) ++ since) (puts : puts_at way put ≡ true) (heard : HeardIdBefore note old asking) where
+      (told : note.map.seen ≡ (before ++ put ∷ []) ++ since) (puts : puts_at way put ≡ true)
+      (heard : HeardIdBefore note old asking) where
     abbrev written : List Entry
     written = before ++ put ∷ []
 
     -- the way that was looked up is that one, and then the map's law tells of it
-    in_way : (at : ℕ) (looked : Token) (new : IdCaller) (room : Room) (answer : FoundId) (steps : ℕ) (told_there : Reply) →
+    in_way : (at : ℕ) (looked : Token) (new : IdCaller) (room : Room) (answer : FoundId) (steps : ℕ)
+        (told_there : Reply)
+        →
         LooksUp id asking.ids looked (Some at) → Gains steps (model.Find at) asking.caller new.caller told_there →
         TellsOfWay shows id room answer told_there →
-        IsUnnamedSince note.ids.seen way looked.seen ⊎ FindsIdPut shows (record { id = id; way = way; old = old; written = written; since = since }) asking new room answer
+        IsUnnamedSince note.ids.seen way looked.seen
+        ⊎ FindsIdPut shows (record { id = id; way = way; old = old; written = written; since = since }) asking new
+        room answer
     in_way at looked new room answer steps told_there looks gains tells = ⊎_elim
         (λ (same : Some at ≡ Some way).
         let gains_here : Gains steps (model.Find way) asking.caller new.caller told_there = subst
         (λ (k : ℕ). Gains steps (model.Find k) asking.caller new.caller told_there) (some_way at way same) gains in
-        let law = of_map old.caller asking.caller new.caller note.map before since put way steps told_there near told puts heard.map gains_here in
+        let law
+        = of_map old.caller asking.caller new.caller note.map before since put way steps told_there near told puts
+        heard.map gains_here in
         inr (record { told = told_there; tells = tells; more = law.0; seen = law.1; finds = law.2 }))
         (λ gone. inl gone)
         (of_ids note.ids id way asking.ids looked (Some at) real named heard.ids looks)
 
-    by_answer : (new : IdCaller) (room after : Room) (answer : FoundId) → FindsByName shows id asking room new after answer →
-        IsUnnamedSince note.ids.seen way new.ids.seen ⊎ FindsIdPut shows (record { id = id; way = way; old = old; written = written; since = since }) asking new after answer
+    by_answer : (new : IdCaller) (room after : Room) (answer : FoundId)
+        → FindsByName shows id asking room new after answer →
+        IsUnnamedSince note.ids.seen way new.ids.seen
+        ⊎ FindsIdPut shows (record { id = id; way = way; old = old; written = written; since = since }) asking new
+        after answer
     by_answer new room after found.Rows finds =
         let looked : Token = finds.2 in ⊎_elim
         (λ gone. inl (marks_on note.ids.seen way looked new.ids finds.4 gone))
         (λ put. inr put)
-        (in_way finds.0 looked new after found.Rows (finds.3.1.steps + (2 * length (tag_of id ∷ finds.1) + 1)) (reply.Rows (tag_of id ∷ finds.1))
+        (in_way finds.0 looked new after found.Rows (finds.3.1.steps + (2 * length (tag_of id ∷ finds.1) + 1))
+        (reply.Rows (tag_of id ∷ finds.1))
         finds.3.0 finds.3.1.gains (finds.1, refl, finds.5))
-    by_answer new room after found.Pending finds = in_way finds.0 new.ids new after found.Pending (finds.2.steps + 0) reply.Hole finds.1 finds.2.gains refl
-    by_answer new room after found.Moved finds = in_way finds.0 new.ids new after found.Moved (finds.2.1.steps + (2 * length finds.1 + 1)) (reply.Rows finds.1)
+    by_answer new room after found.Pending finds =
+        in_way finds.0 new.ids new after found.Pending (finds.2.steps + 0) reply.Hole finds.1 finds.2.gains refl
+    by_answer new room after found.Moved finds =
+        in_way finds.0 new.ids new after found.Moved (finds.2.1.steps + (2 * length finds.1 + 1)) (reply.Rows finds.1)
         finds.2.0 finds.2.1.gains (finds.1, refl, finds.3)
     by_answer new room after found.Absent finds = ⊎_elim
         (λ (there : None ≡ Some way). absurd (cc (there)))
@@ -84,8 +110,19 @@ module _ {Room : Type 0} (shows : Room → List Row → Type 0) (of_map : FindsW
         (of_ids note.ids id way asking.ids new.ids None real named heard.ids finds.0)
 
   pub finds_id_heard : FindsIdHeard shows
-  finds_id_heard old asking new note id way before since put room after answer near real named told puts heard finds = ⊎_elim
+  finds_id_heard old asking new note id way before since put room after answer near real named told puts heard finds =
+      ⊎_elim
       (λ gone. inl gone)
-      (λ (found : FindsIdPut shows (record { id = id; way = way; old = old; written = before ++ put ∷ []; since = since }) (with_line asking) new after answer).
-      inr (record { told = found.told; tells = found.tells; more = found.more; seen = found.seen; finds = found.finds }))
-      (by_answer old (with_line asking) note id way before since put near real named told puts (heard_with_line old asking note heard) new room after answer finds)
+      (λ (found : FindsIdPut shows
+      (record { id = id; way = way; old = old; written = before ++ put ∷ []; since = since }) (with_line asking) new
+      after answer).
+      inr
+      (record {
+        told = found.told;
+        tells = found.tells;
+        more = found.more;
+        seen = found.seen;
+        finds = found.finds;
+      }))
+      (by_answer old (with_line asking) note id way before since put near real named told puts
+      (heard_with_line old asking note heard) new room after answer finds)

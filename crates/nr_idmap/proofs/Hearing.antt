@@ -24,7 +24,8 @@ stepped w a c tied = record {
   agrees = tied.agrees;
 }
 
-pub heard_tied : (steps : ℕ) (w a w' : Caller) (c c' : Token) (note : Known) → IsTied (keeper_of w a c) → Learns steps w w' →
+pub heard_tied : (steps : ℕ) (w a w' : Caller) (c c' : Token) (note : Known) → IsTied (keeper_of w a c)
+    → Learns steps w w' →
     ids.Hears note c c' → IsTied (keeper_of w' a c') × OwesSame (keeper_of w a c) (keeper_of w' a c')
 heard_tied steps w a w' c c' note tied learns hears =
     let stays = learnt steps w w' (rested_of w a c tied) learns in

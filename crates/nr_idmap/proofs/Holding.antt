@@ -12,38 +12,54 @@ use Rattle.nr_idmap.specs.IdHands.{HoldsAnew, IdHanded, with_line_loaded}
 use Rattle.nr_idmap.specs.Tags.{HasTag}
 
 -- a hand by its parts
-pub hand_is : (hand : Handed) (reader : Caller) (key : Option ℕ) (rows : List Row) → hand.reader ≡ reader → hand.key ≡ key → hand.rows ≡ rows → hand ≡ record { reader = reader; key = key; rows = rows }
-hand_is hand reader key rows by at held = ap (λ (r : Caller). record { reader = r; key = hand.key; rows = hand.rows }) by
-    ∙ ap (λ (k : Option ℕ). record { reader = reader; key = k; rows = hand.rows }) at ∙ ap (λ (l : List Row). record { reader = reader; key = key; rows = l }) held
+pub hand_is : (hand : Handed) (reader : Caller) (key : Option ℕ) (rows : List Row) → hand.reader ≡ reader
+    → hand.key ≡ key → hand.rows ≡ rows → hand ≡ record { reader = reader; key = key; rows = rows }
+hand_is hand reader key rows by at held =
+    ap (λ (r : Caller). record { reader = r; key = hand.key; rows = hand.rows }) by
+    ∙ ap (λ (k : Option ℕ). record { reader = reader; key = k; rows = hand.rows }) at
+    ∙ ap (λ (l : List Row). record { reader = reader; key = key; rows = l }) held
 
 -- a find that keeps what it found, into a pile
 abbrev pub KeepsIn : ℕ → Handed → List Row → Handed → List Row → Found → Type 0
-KeepsIn way old before new set told = FindsKept (λ (pile : List Row) (rows : List Row). pile ≡ rows) way old before new set told
+KeepsIn way old before new set told =
+    FindsKept (λ (pile : List Row) (rows : List Row). pile ≡ rows) way old before new set told
 
 -- the pile has what the hand holds
-pub kept_set : (way : ℕ) (old new : Handed) (before set : List Row) → KeepsIn way old before new set answer.Rows → set ≡ new.rows
+pub kept_set : (way : ℕ) (old new : Handed) (before set : List Row) → KeepsIn way old before new set answer.Rows
+    → set ≡ new.rows
 kept_set way old new before set keeps = ⊎_elim (λ again. again.1 ∙ sym again.0.rows) (λ anew. anew.1.1) keeps
 
-module _ (id way : ℕ) (old now : IdHanded) (is : old ≡ now) (ids : Token) (looks : LooksUp id old.ids ids (Some way)) (hand : Handed)
+module _ (id way : ℕ) (old now : IdHanded) (is : old ≡ now) (ids : Token) (looks : LooksUp id old.ids ids (Some way))
+    (hand : Handed)
     (before set : List Row) where
   pub holds_pending : KeepsIn way (with_line_loaded old).hand before hand set answer.Hole →
       HoldsAnew id now (record { hand = hand; ids = ids; id = None }) found.Pending
-  holds_pending keeps = subst (λ (o : IdHanded). HoldsAnew id o (record { hand = hand; ids = ids; id = None }) found.Pending) is
+  holds_pending keeps =
+      subst (λ (o : IdHanded). HoldsAnew id o (record { hand = hand; ids = ids; id = None }) found.Pending) is
       (way, looks, (before, set, keeps), refl)
 
-  module _ (keeps : KeepsIn way (with_line_loaded old).hand before hand set answer.Rows) (slice : List Row) (same : slice ≡ set) where
+  module _ (keeps : KeepsIn way (with_line_loaded old).hand before hand set answer.Rows) (slice : List Row)
+      (same : slice ≡ set) where
     pub holds_rows : HasTag id slice → HoldsAnew id now (record { hand = hand; ids = ids; id = Some id }) found.Rows
-    holds_rows tag = subst (λ (o : IdHanded). HoldsAnew id o (record { hand = hand; ids = ids; id = Some id }) found.Rows) is
-        (way, tag.0, looks, (before, set, keeps), sym (same ∙ kept_set way (with_line_loaded old).hand hand before set keeps) ∙ tag.1, refl)
+    holds_rows tag =
+        subst (λ (o : IdHanded). HoldsAnew id o (record { hand = hand; ids = ids; id = Some id }) found.Rows) is (
+          way,
+          tag.0,
+          looks,
+          (before, set, keeps),
+          sym (same ∙ kept_set way (with_line_loaded old).hand hand before set keeps) ∙ tag.1,
+          refl,
+        )
 
     pub holds_moved : (HasTag id slice → ⊥) → (left : Handed) → LetsGo hand left →
         HoldsAnew id now (record { hand = left; ids = ids; id = None }) found.Moved
-    holds_moved other left lets = subst (λ (o : IdHanded). HoldsAnew id o (record { hand = left; ids = ids; id = None }) found.Moved) is (
-      way,
-      hand,
-      looks,
-      (before, set, keeps),
-      λ rows e. other (rows, same ∙ kept_set way (with_line_loaded old).hand hand before set keeps ∙ e),
-      lets,
-      refl,
-    )
+    holds_moved other left lets =
+        subst (λ (o : IdHanded). HoldsAnew id o (record { hand = left; ids = ids; id = None }) found.Moved) is (
+          way,
+          hand,
+          looks,
+          (before, set, keeps),
+          λ rows e. other (rows, same ∙ kept_set way (with_line_loaded old).hand hand before set keeps ∙ e),
+          lets,
+          refl,
+        )

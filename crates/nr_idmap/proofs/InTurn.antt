@@ -1,20 +1,26 @@
 -- Calls for each of a list, as a loop makes them one by one, each in its place.
-use Rattle.std.proofs.Common.{◌≡◌, ℕ, zero, suc, ◌+◌, ◌<◌, ◌≤◌, List, [], ◌∷◌, ◌++◌, length, take, drop, set, get_or, refl, sym, ap, ◌∙◌, subst, arith}
+use Rattle.std.proofs.Common.{◌≡◌, ℕ, zero, suc, ◌+◌, ◌<◌, ◌≤◌, List, [], ◌∷◌, ◌++◌, length, take, drop, set, get_or}
+use Rattle.std.proofs.Common.{refl, sym, ap, ◌∙◌, subst, arith}
 use Rattle.std.specs.List.{All}
 use Rattle.std.proofs.lemmas.List.Elements.{All-append}
 use Rattle.std.proofs.lemmas.List.{drop_more, drop-set-lt, length-set, take_all, take_more, take_more_set}
 use Rattle.nr_idmap.specs.InTurn.{InTurn}
 
 module _ {State One : Type 0} (call : State → One → State → One → Type 0) where
-  in_turn_more : (first : State) (ones : List One) (mid : State) (others : List One) (one : One) (last : State) (done : One) →
-      InTurn call first ones mid others → call mid one last done → InTurn call first (ones ++ one ∷ []) last (others ++ done ∷ [])
-  in_turn_more first [] mid [] one last done turn calls = (last, subst (λ (s : State). call s one last done) turn calls, refl)
+  in_turn_more : (first : State) (ones : List One) (mid : State) (others : List One) (one : One) (last : State)
+      (done : One)
+      →
+      InTurn call first ones mid others → call mid one last done
+      → InTurn call first (ones ++ one ∷ []) last (others ++ done ∷ [])
+  in_turn_more first [] mid [] one last done turn calls =
+      (last, subst (λ (s : State). call s one last done) turn calls, refl)
   in_turn_more first (x ∷ ones) mid (y ∷ others) one last done turn calls =
       (turn.0, turn.1, in_turn_more turn.0 ones mid others one last done turn.2 calls)
   in_turn_more first [] mid (y ∷ others) one last done turn calls = absurd turn
   in_turn_more first (x ∷ ones) mid [] one last done turn calls = absurd turn
 
-  pub in_turn_long : (old : State) (ones : List One) (new : State) (others : List One) → InTurn call old ones new others → length others ≡ length ones
+  pub in_turn_long : (old : State) (ones : List One) (new : State) (others : List One) → InTurn call old ones new others
+      → length others ≡ length ones
   in_turn_long old [] new [] turn = refl
   in_turn_long old (x ∷ ones) new (y ∷ others) turn = ap suc (in_turn_long turn.0 ones new others turn.2)
   in_turn_long old [] new (y ∷ others) turn = absurd turn
@@ -29,9 +35,11 @@ module _ {State One : Type 0} (call : State → One → State → One → Type 0
   pub none_made : (first : State) (were : List One) → Made first were 0 first were
   none_made first were = record { long = refl; rest = refl; turn = refl }
 
-  module _ (first : State) (were : List One) (made : ℕ) (now : State) (are : List One) (begun : Made first were made now are) where
+  module _ (first : State) (were : List One) (made : ℕ) (now : State) (are : List One)
+      (begun : Made first were made now are) where
     module _ (one : One) (low : made < length are) (is : one ≡ get_or are made one) where
-      tails : (one ∷ drop (made + 1) are ≡ drop made were) × (get_or were made one ∷ drop (made + 1) were ≡ drop made were)
+      tails : (one ∷ drop (made + 1) are ≡ drop made were)
+          × (get_or were made one ∷ drop (made + 1) were ≡ drop made were)
       tails = (
         ap (λ (o : One). o ∷ drop (made + 1) are) is ∙ sym (drop_more are made one low) ∙ begun.rest,
         sym (drop_more were made one (omega (arith, begun.long))),
@@ -41,19 +49,22 @@ module _ {State One : Type 0} (call : State → One → State → One → Type 0
       pub as_was : one ≡ get_or were made one
       as_was = let here = tails.0 in let there = tails.1 in cc
 
-      pub one_more : (next : State) (done : One) → call now one next done → Made first were (made + 1) next (set are made done)
+      pub one_more : (next : State) (done : One) → call now one next done
+          → Made first were (made + 1) next (set are made done)
       one_more next done calls = record {
         long = length-set are made done ∙ begun.long;
         rest = drop-set-lt (made + 1) are made done (omega arith) ∙ (let here = tails.0 in let there = tails.1 in cc);
         turn = subst (λ (l : List One). InTurn call first l next (take (made + 1) (set are made done)))
             (sym (take_more were made one (omega (arith, begun.long))))
-            (subst (λ (l : List One). InTurn call first (take made were ++ get_or were made one ∷ []) next l) (sym (take_more_set are made done low))
+            (subst (λ (l : List One). InTurn call first (take made were ++ get_or were made one ∷ []) next l)
+            (sym (take_more_set are made done low))
             (in_turn_more first (take made were) now (take made are) (get_or were made one) next done begun.turn
             (subst (λ (o : One). call now o next done) as_was calls)));
       }
 
     pub all_made : length are ≤ made → InTurn call first were now are
-    all_made end = subst (λ (l : List One). InTurn call first l now are) (take_all made were (omega (arith, begun.long)))
+    all_made end =
+        subst (λ (l : List One). InTurn call first l now are) (take_all made were (omega (arith, begun.long)))
         (subst (λ (l : List One). InTurn call first (take made were) now l) (take_all made are end) begun.turn)
 
 pub all_of_one : {One : Type 0} (P : One → Type 0) (one : One) → P one → All P (one ∷ [])
@@ -61,7 +72,8 @@ all_of_one P one holds zero other low = holds
 all_of_one P one holds (suc at) other low = absurd (omega arith)
 
 -- what holds of each of the first ones, and of the next one's successor, holds of one more
-pub all_one_more : {One : Type 0} (P : One → Type 0) (ones : List One) (at : ℕ) (done : One) → at < length ones → All P (take at ones) → P done →
+pub all_one_more : {One : Type 0} (P : One → Type 0) (ones : List One) (at : ℕ) (done : One) → at < length ones
+    → All P (take at ones) → P done →
     All P (take (at + 1) (set ones at done))
 all_one_more P ones at done low first holds = subst (All P) (sym (take_more_set ones at done low))
     (All-append P (take at ones) (done ∷ []) first (all_of_one P done holds))

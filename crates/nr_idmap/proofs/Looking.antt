@@ -1,5 +1,6 @@
 -- The writer's own look at the id's way: it leaves the tie and the ledger, and the set that it finds is the id's.
-use Rattle.std.proofs.Common.{◌≡◌, ◌≢◌, ℕ, ◌+◌, ◌*◌, ◌<◌, Bool, true, false, List, ◌∷◌, length, refl, sym, ap, ◌∙◌, subst, Some}
+use Rattle.std.proofs.Common.{◌≡◌, ◌≢◌, ℕ, ◌+◌, ◌*◌, ◌<◌, Bool, true, false, List, ◌∷◌, length, refl, sym, ap, ◌∙◌}
+use Rattle.std.proofs.Common.{subst, Some}
 use Rattle.nr_model.specs.declared.rows.Row.{Row}
 use Rattle.nr_model.specs.declared.calls.Call.{Call}
 use Rattle.nr_model.specs.declared.calls.Call.TheVariants.{Find}
@@ -18,7 +19,8 @@ use Rattle.nr_idmap.specs.IdLooks.{LooksById}
 use Rattle.nr_idmap.specs.Keepers.{Agrees, IsTied, Keeper, OwesSame, keeper_of, owed_for}
 use Rattle.nr_idmap.specs.Tags.{CopiesBehind, tag_of}
 use Rattle.nr_idmap.proofs.Entries.{went}
-use Rattle.nr_idmap.proofs.Ties.{found_looks, found_names, mid_agrees, mid_owes, near_of, rested_of, retied, went_agrees, went_owes}
+use Rattle.nr_idmap.proofs.Ties.{found_looks, found_names, mid_agrees, mid_owes, near_of, rested_of, retied}
+use Rattle.nr_idmap.proofs.Ties.{went_agrees, went_owes}
 
 -- a set that is found begins with the name's tag
 found_tagged : (name : ℕ) (state : KeyState) (set : List Row) → Agrees name state → reply.Rows set ≡ find_reply state →
@@ -27,7 +29,8 @@ found_tagged name (Hole n) set agrees found = absurd (cc (found))
 found_tagged name (Asked n) set agrees found = absurd (cc (found))
 found_tagged name (Rows n rows) set agrees found = let same : set ≡ rows = cc (found) in (agrees.1, same ∙ agrees.2)
 
-module _ (w a w' : Caller) (c c' : Token) (tied : IsTied (keeper_of w a c)) (id way : ℕ) (finds : FindsWay id c c' (Some way)) where
+module _ (w a w' : Caller) (c c' : Token) (tied : IsTied (keeper_of w a c)) (id way : ℕ)
+    (finds : FindsWay id c c' (Some way)) where
   near : way < w.table.shape.keys
   near = near_of w a id way c c' tied finds
 
@@ -40,7 +43,8 @@ module _ (w a w' : Caller) (c c' : Token) (tied : IsTied (keeper_of w a c)) (id 
       let call : Call = Find way in let go = went steps w w' call answer (rested_of w a c tied) gains near in
       let look = found_looks id c c' (Some way) finds in
       let same = λ (k : ℕ) (_ : k ≢ way). names k in let name : ℕ = name_of c.seen way in
-      let here : Agrees (name_of c'.seen way) (state_of (map_seen w') way) = subst (λ (n : ℕ). Agrees n (state_of (map_seen w') way))
+      let here : Agrees (name_of c'.seen way) (state_of (map_seen w') way)
+      = subst (λ (n : ℕ). Agrees n (state_of (map_seen w') way))
       (sym (names way)) (subst (Agrees name) (sym go.at_key) (mid_agrees w a w' c c' call answer tied go same way)) in (
         retied w a w' a c c' (looks look.0 c.number) tied (go.rested tt) gains.table (refl, tied.asks.1) look.1
             (went_agrees w a w' c c' call answer tied go same here),
@@ -55,11 +59,14 @@ module _ (w a w' : Caller) (c c' : Token) (tied : IsTied (keeper_of w a c)) (id 
       let call : Call = Find way in
       let go = went steps w w' call (reply.Rows set) (rested_of w a c tied) gains near in
       let same = λ (k : ℕ) (_ : k ≢ way). names k in let name : ℕ = name_of c.seen way in
-      let tag = found_tagged name (state_of go.mid way) set (mid_agrees w a w' c c' call (reply.Rows set) tied go same way) go.replied in
+      let tag
+      = found_tagged name (state_of go.mid way) set (mid_agrees w a w' c c' call (reply.Rows set) tied go same way)
+      go.replied in
       (tag.0, tag.1 ∙ ap (λ (n : ℕ). tag_of n ∷ tag.0) (sym (names way) ∙ finds.named.has))
 
 -- WHAT IT SAYS
-module _ {Room : Type 0} (shows : Room → List Row → Type 0) (id way : ℕ) (old now new : Keeper) (before after : Room) (result : Looked)
+module _ {Room : Type 0} (shows : Room → List Row → Type 0) (id way : ℕ) (old now new : Keeper) (before after : Room)
+    (result : Looked)
     (is : old ≡ now) (finds : FindsWay id old.clerk new.clerk (Some way)) where
   pub looks_pending : Gains 1 (Find way) old.writer new.writer reply.Hole → after ≡ before → result ≡ looked.Pending →
       LooksById shows id now before new after result
@@ -73,7 +80,11 @@ module _ {Room : Type 0} (shows : Room → List Row → Type 0) (id way : ℕ) (
       (subst (λ (o : Keeper). LooksById shows id o before new after looked.Rows) is (
         way,
         copies.0,
-        (finds, subst (λ (s : List Row). Gains (2 * length s + 2) (Find way) old.writer new.writer (reply.Rows s)) copies.1 gains),
+        (
+          finds,
+          subst (λ (s : List Row). Gains (2 * length s + 2) (Find way) old.writer new.writer (reply.Rows s)) copies.1
+              gains,
+        ),
         copies.2,
       ))
   looks_rows set gains tag false copies answer = absurd (copies.0 tag.0 tag.1)

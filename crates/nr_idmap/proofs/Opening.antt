@@ -1,5 +1,6 @@
 -- The tokens of a new map and a new directory are tied.
-use Rattle.std.proofs.Common.{◌≡◌, ℕ, zero, suc, ◌+◌, ◌<◌, ◌≤◌, ⊎_elim, List, [], ◌∷◌, ◌++◌, length, replicate, refl, sym, ap, ◌∙◌, subst, arith, length-append, Some}
+use Rattle.std.proofs.Common.{◌≡◌, ℕ, zero, suc, ◌+◌, ◌<◌, ◌≤◌, ⊎_elim, List, [], ◌∷◌, ◌++◌, length, replicate, refl}
+use Rattle.std.proofs.Common.{sym, ap, ◌∙◌, subst, arith, length-append, Some}
 use Rattle.std.specs.Prelude.{All, slice_get}
 use Rattle.std.proofs.lemmas.Bool.{cases_lt}
 use Rattle.std.proofs.lemmas.List.{get_or_past, get_or-replicate, length-replicate}
@@ -29,7 +30,8 @@ is_hole keys rows number key = ⊎_elim
     (0, get_or_past (replicate keys (Hole number)) key (Hole 0) (omega (arith, length-replicate keys (Hole number)))))
     (cases_lt key keys)
 
-module _ (shape : Shape) (words : ℕ) (map : Table) (writer asker : Caller) (mapped rest : List Caller) (opened : IsOpened shape words map writer mapped)
+module _ (shape : Shape) (words : ℕ) (map : Table) (writer asker : Caller) (mapped rest : List Caller)
+    (opened : IsOpened shape words map writer mapped)
     (asks : mapped ≡ rest ++ asker ∷ []) where
   pub rest_count : length rest + 1 ≡ shape.readers
   rest_count = omega (arith, opened.count, ap (λ (l : List Caller). length l) asks, length-append rest (asker ∷ []))
@@ -37,10 +39,12 @@ module _ (shape : Shape) (words : ℕ) (map : Table) (writer asker : Caller) (ma
   asker_is : asker ≡ newcomer map (length rest + 1) no_marks
   asker_is =
       let found : Some asker ≡ Some (newcomer map (length rest + 1) no_marks) = sym (last_of rest asker)
-      ∙ ap (λ (l : List Caller). slice_get l (length rest)) (sym asks) ∙ opened.reads (length rest) (omega (arith, rest_count)) in
+      ∙ ap (λ (l : List Caller). slice_get l (length rest)) (sym asks)
+      ∙ opened.reads (length rest) (omega (arith, rest_count)) in
       cc (found)
 
-  module _ (clerk : Token) (fresh : (clerk.number ≡ 0) × (clerk.seen ≡ [])) (sized : ways clerk.directory.plan ≡ shape.keys)
+  module _ (clerk : Token) (fresh : (clerk.number ≡ 0) × (clerk.seen ≡ []))
+      (sized : ways clerk.directory.plan ≡ shape.keys)
       (room : 0 < shape.rows) where
     pub opened_tied : IsTied (keeper_of writer asker clerk)
     opened_tied =
@@ -60,14 +64,16 @@ module _ (shape : Shape) (words : ℕ) (map : Table) (writer asker : Caller) (ma
           };
           tidy = subst (IsTidy (map_at_opening writer.table)) (sym seen) tt;
           legal = subst (IsLegalList clerk.directory.plan) (sym fresh.1) tt;
-          agrees = λ way. let hole = is_hole writer.table.shape.keys writer.table.shape.rows writer.table.shape.first_number way in
+          agrees = λ way.
+              let hole = is_hole writer.table.shape.keys writer.table.shape.rows writer.table.shape.first_number way in
               subst (Agrees (name_of clerk.seen way))
               (sym (ap (λ (l : List Entry). state_of (after (map_at_opening writer.table) l) way) seen ∙ hole.1))
               (ap (λ (l : List Event). name_of l way) fresh.1);
         }
 
 -- the readers are as many as those of the map, but for the one that asks, and of that map over ids
-pub pairs_count : (directory : Opened) (made : ℕ) (readers : List Caller) → length (pairs_from directory made readers) ≡ length readers
+pub pairs_count : (directory : Opened) (made : ℕ) (readers : List Caller)
+    → length (pairs_from directory made readers) ≡ length readers
 pairs_count directory made [] = refl
 pairs_count directory made (reader ∷ readers) = ap suc (pairs_count directory (made + 1) readers)
 
@@ -79,7 +85,8 @@ all_more P x xs first others (suc place) d low = others place d (omega arith)
 all_rest : {A : Type 0} (P : A → Type 0) (x : A) (xs : List A) → All P (x ∷ xs) → All P xs
 all_rest P x xs all = λ place d low. all (suc place) d (omega arith)
 
-pub pairs_own : (map : Table) (directory : Opened) (made : ℕ) (readers : List Caller) → All (λ reader. reader.table ≡ map) readers →
+pub pairs_own : (map : Table) (directory : Opened) (made : ℕ) (readers : List Caller)
+    → All (λ reader. reader.table ≡ map) readers →
     All (λ reader. id_table_of reader ≡ record { map = map; directory = directory }) (pairs_from directory made readers)
 pairs_own map directory made [] own = λ place d low. absurd (omega arith)
 pairs_own map directory made (reader ∷ readers) own =

@@ -1,5 +1,7 @@
--- What readers' entries leave: each key is as it was, but that a hole may be asked for. So names and sets agree still, and the same upqueries are open.
-use Rattle.std.proofs.Common.{◌≡◌, ◌≢◌, ℕ, ◌<◌, ◌⊎◌, ⊎_elim, inl, inr, Bool, true, false, cond, ◌==◌, List, [], ◌∷◌, refl, sym, ap, ◌∙◌, subst, arith, eq-eqb}
+-- What readers' entries leave: each key is as it was, but that a hole may be asked for. So names and sets agree still,
+-- and the same upqueries are open.
+use Rattle.std.proofs.Common.{◌≡◌, ◌≢◌, ℕ, ◌<◌, ◌⊎◌, ⊎_elim, inl, inr, Bool, true, false, cond, ◌==◌, List, [], ◌∷◌}
+use Rattle.std.proofs.Common.{refl, sym, ap, ◌∙◌, subst, arith, eq-eqb}
 use Rattle.std.proofs.lemmas.Bool.{cases_eq}
 use Rattle.std.proofs.lemmas.List.{length-set}
 use Rattle.nr_model.specs.declared.calls.Call.{Call}
@@ -27,12 +29,14 @@ still_on a b c first then = ⊎_elim
     then)
     (λ (asked : (number : ℕ) × (a ≡ Hole number) × (b ≡ Asked number)). ⊎_elim
     (λ (next : c ≡ b). inr (asked.0, asked.1, next ∙ asked.2))
-    (λ (again : (number : ℕ) × (b ≡ Hole number) × (c ≡ Asked number)). let e : Asked asked.0 ≡ Hole again.0 = sym asked.2 ∙ again.1 in
+    (λ (again : (number : ℕ) × (b ≡ Hole number) × (c ≡ Asked number)).
+    let e : Asked asked.0 ≡ Hole again.0 = sym asked.2 ∙ again.1 in
     absurd (cc (e)))
     then)
     first
 
-reading_still : (bound : ℕ) (call : Call) (state : KeyState) → is_reading call ≡ true → IsStill state (state_after bound call state)
+reading_still : (bound : ℕ) (call : Call) (state : KeyState) → is_reading call ≡ true
+    → IsStill state (state_after bound call state)
 reading_still bound (Find key) state reads = inl refl
 reading_still bound (Ask key) (Hole n) reads = inr (n, refl, refl)
 reading_still bound (Ask key) (Asked n) reads = inl refl
@@ -57,14 +61,17 @@ left_of true e log none = absurd (cc (none))
 left_of false e log none = none
 
 -- an entry that isn't the writer's reads
-reads_of : (shape : Shape) (e : Entry) (log : List Entry) → IsCallers shape e → entries_of (e ∷ log) 0 ≡ [] → is_reading e.call ≡ true
+reads_of : (shape : Shape) (e : Entry) (log : List Entry) → IsCallers shape e → entries_of (e ∷ log) 0 ≡ []
+    → is_reading e.call ≡ true
 reads_of shape e log is none = ⊎_elim
     (λ writes. let here : e ∷ entries_of log 0 ≡ [] = sym
-    (ap (λ (b : Bool). cond b (e ∷ entries_of log 0) (entries_of log 0)) (eq-eqb e.caller 0 writes.0)) ∙ none in absurd (cc (here)))
+    (ap (λ (b : Bool). cond b (e ∷ entries_of log 0) (entries_of log 0)) (eq-eqb e.caller 0 writes.0)) ∙ none in
+    absurd (cc (here)))
     (λ reads. reads.1)
     is.1
 
-pub others_still : (shape : Shape) (log : List Entry) (map : PartialMap) (way : ℕ) → AreCallers shape log → entries_of log 0 ≡ [] →
+pub others_still : (shape : Shape) (log : List Entry) (map : PartialMap) (way : ℕ) → AreCallers shape log
+    → entries_of log 0 ≡ [] →
     key_count map ≡ shape.keys → IsStill (state_of map way) (state_of (after map log) way)
 others_still shape [] map way callers none size = inl refl
 others_still shape (e ∷ log) map way callers none size =
@@ -99,9 +106,11 @@ agrees_still name was now agrees still = ⊎_elim
 no_owed : (way name : ℕ) (state : KeyState) → name ≡ 0 → owed_for way name state ≡ owed_for way 0 state
 no_owed way name state none = ap (λ (n : ℕ). owed_for way n state) none
 
-pub owed_still : (way name : ℕ) (was now : KeyState) → Agrees name was → IsStill was now → owed_for way name now ≡ owed_for way name was
+pub owed_still : (way name : ℕ) (was now : KeyState) → Agrees name was → IsStill was now
+    → owed_for way name now ≡ owed_for way name was
 owed_still way name was now agrees still = ⊎_elim
     (λ (same : now ≡ was). ap (owed_for way name) same)
     (λ (asked : (number : ℕ) × (was ≡ Hole number) × (now ≡ Asked number)).
-    let none : name ≡ 0 = subst (Agrees name) asked.1 agrees in no_owed way name now none ∙ sym (no_owed way name was none))
+    let none : name ≡ 0 = subst (Agrees name) asked.1 agrees in
+    no_owed way name now none ∙ sym (no_owed way name was none))
     still

@@ -1,5 +1,6 @@
 -- The tie between the two tables, and the ledger, over a call on one way: the other ways keep theirs.
-use Rattle.std.proofs.Common.{◌≡◌, ◌≢◌, ℕ, zero, suc, ◌+◌, ◌<◌, ⊎_elim, Bool, true, false, ◌==◌, List, ◌∷◌, refl, sym, ap, ◌∙◌, subst, arith, ne_eqb, eq-eqb, Result, Ok, Err, Option, Some, None}
+use Rattle.std.proofs.Common.{◌≡◌, ◌≢◌, ℕ, zero, suc, ◌+◌, ◌<◌, ⊎_elim, Bool, true, false, ◌==◌, List, ◌∷◌, refl, sym}
+use Rattle.std.proofs.Common.{ap, ◌∙◌, subst, arith, ne_eqb, eq-eqb, Result, Ok, Err, Option, Some, None}
 use Rattle.std.specs.Prelude.{if◌then◌else◌}
 use Rattle.std.proofs.lemmas.Bool.{cases_eq}
 use Rattle.nr_model.specs.declared.rows.Row.{Row}
@@ -12,7 +13,8 @@ use Rattle.nr_model.specs.declared.calls.Reply.TheVariants as reply
 use Rattle.nr_model.specs.declared.states.KeyState.{KeyState}
 use Rattle.nr_model.specs.declared.states.KeyState.TheVariants.{Hole, Asked, Rows}
 use Rattle.nr_model.specs.Batches.{applied}
-use Rattle.nr_model.specs.Maps.{PartialMap, call_key, fill_reply, filled, replaced, reply_to, rows_or, state_of, updated}
+use Rattle.nr_model.specs.Maps.{PartialMap, call_key, fill_reply, filled, replaced, reply_to, rows_or, state_of}
+use Rattle.nr_model.specs.Maps.{updated}
 use Rattle.nr_board.specs.Callers.{Caller, KnowsOwn, Table, map_seen}
 use Rattle.nr_ids.specs.declared.plan.Plan.{Plan}
 use Rattle.nr_ids.specs.Answers.{FindsWay}
@@ -34,11 +36,13 @@ some_same : {A : Type 0} (a b : A) → Some a ≡ Some b → a ≡ b
 some_same a b e = cc (e)
 
 -- a key's set has its way's name
-pub set_named : (name : ℕ) (state : KeyState) (set : IdSet) → Agrees name state → id_set_of state ≡ Some set → (0 < name) × (set.id ≡ name)
+pub set_named : (name : ℕ) (state : KeyState) (set : IdSet) → Agrees name state → id_set_of state ≡ Some set
+    → (0 < name) × (set.id ≡ name)
 set_named name (Hole n) set agrees there = absurd (cc (there))
 set_named name (Asked n) set agrees there = absurd (cc (there))
 set_named name (Rows n rows) set agrees there = let same : record { id = name; rows = agrees.1 } ≡ set = some_same
-    (record { id = name; rows = agrees.1 }) set (sym (ap set_told agrees.2) ∙ there) in (agrees.0, ap (λ (s : IdSet). s.id) (sym same))
+    (record { id = name; rows = agrees.1 }) set (sym (ap set_told agrees.2) ∙ there) in
+    (agrees.0, ap (λ (s : IdSet). s.id) (sym same))
 
 pub owed_none : (way name number : ℕ) (rows : List Row) → owed_for way name (Rows number rows) ≡ None
 owed_none way zero number rows = refl
@@ -67,12 +71,14 @@ pub fill_leaves : (number : ℕ) (rows : List Row) (state : KeyState) → fill_r
     filled number rows state ≡ state
 fill_leaves number rows (Hole n) undone = refl
 fill_leaves number rows (Asked n) undone = ⊎_elim
-    (λ (same : n ≡ number). absurd (undone (ap (λ (b : Bool). if b then reply.Done else reply.Stale) (eq-eqb n number same))))
+    (λ (same : n ≡ number). absurd
+    (undone (ap (λ (b : Bool). if b then reply.Done else reply.Stale) (eq-eqb n number same))))
     (λ (other : n ≢ number). ap (λ (b : Bool). if b then Rows n rows else Asked n) (ne_eqb n number other))
     (cases_eq n number)
 fill_leaves number rows (Rows n old) undone = refl
 
-pub fill_puts : (number : ℕ) (rows : List Row) (state : KeyState) → state ≡ Asked number → filled number rows state ≡ Rows number rows
+pub fill_puts : (number : ℕ) (rows : List Row) (state : KeyState) → state ≡ Asked number
+    → filled number rows state ≡ Rows number rows
 fill_puts number rows state is = ap (filled number rows) is
     ∙ ap (λ (b : Bool). if b then Rows number rows else Asked number) (eq-eqb number number refl)
 
@@ -80,7 +86,8 @@ fill_puts number rows state is = ap (filled number rows) is
 abbrev pub Tagged : ℕ → List Row → Type 0
 Tagged name set = (0 < name) × (others : List Row) × (set ≡ tag_of name ∷ others)
 
-if_filled : (b : Bool) (name n : ℕ) (rows : List Row) → Tagged name rows → Agrees name (if b then Rows n rows else Asked n)
+if_filled : (b : Bool) (name n : ℕ) (rows : List Row) → Tagged name rows
+    → Agrees name (if b then Rows n rows else Asked n)
 if_filled true name n rows tagged = tagged
 if_filled false name n rows tagged = tt
 
@@ -96,7 +103,8 @@ replace_agrees name rows (Hole n) tagged agrees = agrees
 replace_agrees name rows (Asked n) tagged agrees = tt
 replace_agrees name rows (Rows n old) tagged agrees = tagged
 
-pub replace_owes : (way name : ℕ) (rows : List Row) (state : KeyState) → owed_for way name (replaced rows state) ≡ owed_for way name state
+pub replace_owes : (way name : ℕ) (rows : List Row) (state : KeyState)
+    → owed_for way name (replaced rows state) ≡ owed_for way name state
 replace_owes way name rows (Hole n) = refl
 replace_owes way name rows (Asked n) = refl
 replace_owes way name rows (Rows n old) = owed_none way name n rows ∙ sym (owed_none way name n old)
@@ -108,11 +116,13 @@ update_owes way name bound batch (Asked n) = refl
 update_owes way name bound batch (Rows n old) = owed_none way name n (rows_or (applied bound old batch) old)
     ∙ sym (owed_none way name n old)
 
-behind : (id : ℕ) (old : List Row) (r : Result (List Row) ApplyFault) → rows_or (put_first (tag_of id) r) (tag_of id ∷ old) ≡ tag_of id ∷ rows_or r old
+behind : (id : ℕ) (old : List Row) (r : Result (List Row) ApplyFault)
+    → rows_or (put_first (tag_of id) r) (tag_of id ∷ old) ≡ tag_of id ∷ rows_or r old
 behind id old (Ok rows) = refl
 behind id old (Err why) = refl
 
-pub update_agrees : (name bound : ℕ) (batch : List Delta) (state : KeyState) → 0 < bound → AreIdDeltas batch → Agrees name state →
+pub update_agrees : (name bound : ℕ) (batch : List Delta) (state : KeyState) → 0 < bound → AreIdDeltas batch
+    → Agrees name state →
     Agrees name (updated bound batch state)
 update_agrees name zero batch state room users agrees = absurd (omega arith)
 update_agrees name (suc bound) batch (Hole n) room users agrees = agrees
@@ -122,15 +132,18 @@ update_agrees name (suc bound) batch (Rows n old) room users agrees =
       agrees.0,
       rows_or r agrees.1,
       ap (λ (o : List Row). rows_or (applied (suc bound) o batch) o) agrees.2
-          ∙ ap (λ (x : Result (List Row) ApplyFault). rows_or x (tag_of name ∷ agrees.1)) (applied_behind bound (tag_of name) agrees.1 batch users)
+          ∙ ap (λ (x : Result (List Row) ApplyFault). rows_or x (tag_of name ∷ agrees.1))
+          (applied_behind bound (tag_of name) agrees.1 batch users)
           ∙ behind name agrees.1 r,
     )
 
 -- WHAT A CALL MUST KEEP TO
 module _ (plan : Plan) (log : List Event) (legal : IsLegal plan log) (mid : PartialMap)
-    (agree : (way : ℕ) → Agrees (name_of log way) (state_of mid way)) (way : ℕ) (rows : List Row) (tagged : Tagged (name_of log way) rows)
+    (agree : (way : ℕ) → Agrees (name_of log way) (state_of mid way)) (way : ℕ) (rows : List Row)
+    (tagged : Tagged (name_of log way) rows)
   where
-    filled_undone : (number : ℕ) (state : KeyState) (set : IdSet) → id_set_of state ≡ Some set → fill_reply number state ≢ reply.Done
+    filled_undone : (number : ℕ) (state : KeyState) (set : IdSet) → id_set_of state ≡ Some set
+        → fill_reply number state ≢ reply.Done
     filled_undone number (Hole n) set there done = absurd (cc (there))
     filled_undone number (Asked n) set there done = absurd (cc (there))
     filled_undone number (Rows n old) set there done = absurd (cc (done))
@@ -159,14 +172,16 @@ module _ (plan : Plan) (log : List Event) (legal : IsLegal plan log) (mid : Part
 pub rested_of : (w a : Caller) (c : Token) → IsTied (keeper_of w a c) → Rested w
 rested_of w a c tied = record { number = tied.writes.1; sound = tied.sound; tidy = tied.tidy }
 
-pub retied : (w a w' a' : Caller) (c c' : Token) (acts : List Event) → IsTied (keeper_of w a c) → Rested w' → w'.table ≡ w.table →
+pub retied : (w a w' a' : Caller) (c c' : Token) (acts : List Event) → IsTied (keeper_of w a c) → Rested w'
+    → w'.table ≡ w.table →
     (a'.table ≡ a.table) × KnowsOwn a' → ids.Grows acts c c'
     → ((way : ℕ) → Agrees (name_of c'.seen way) (state_of (map_seen w') way)) → IsTied (keeper_of w' a' c')
 retied w a w' a' c c' acts tied rested table asker grows agrees = record {
   writes = (refl, rested.number);
   asks = (asker.0 ∙ tied.asks.0 ∙ sym table, asker.1);
   names = (refl, grows.number ∙ tied.names.1);
-  ways_are = ap (λ (d : Opened). ways d.plan) grows.directory ∙ tied.ways_are ∙ ap (λ (t : Table). t.shape.keys) (sym table);
+  ways_are =
+      ap (λ (d : Opened). ways d.plan) grows.directory ∙ tied.ways_are ∙ ap (λ (t : Table). t.shape.keys) (sym table);
   room = subst (λ (t : Table). 0 < t.shape.rows) (sym table) tied.room;
   sound = rested.sound;
   tidy = rested.tidy;
@@ -175,11 +190,13 @@ retied w a w' a' c c' acts tied rested table asker grows agrees = record {
 }
 
 -- a search by the clerk changes no name
-pub found_looks : (id : ℕ) (c c' : Token) (found : Option ℕ) → FindsWay id c c' found → (count : ℕ) × ids.Grows (looks count c.number) c c'
+pub found_looks : (id : ℕ) (c c' : Token) (found : Option ℕ) → FindsWay id c c' found
+    → (count : ℕ) × ids.Grows (looks count c.number) c c'
 found_looks id c c' (Some way) finds = (finds.place + 1, finds.grows)
 found_looks id c c' None finds = (places, finds.0)
 
-pub found_names : (w a : Caller) (id : ℕ) (c c' : Token) (found : Option ℕ) → IsTied (keeper_of w a c) → FindsWay id c c' found →
+pub found_names : (w a : Caller) (id : ℕ) (c c' : Token) (found : Option ℕ) → IsTied (keeper_of w a c)
+    → FindsWay id c c' found →
     (way : ℕ) → name_of c'.seen way ≡ name_of c.seen way
 found_names w a id c c' found tied finds way = let look = found_looks id c c' found finds in
     clerk_looks c look.0 c.number c' way tied.names.1 look.1
@@ -189,14 +206,17 @@ module _ (w a w' : Caller) (c c' : Token) (tied : IsTied (keeper_of w a c)) (sta
     (same : (way : ℕ) → name_of c'.seen way ≡ name_of c.seen way) where
   pub stayed_agrees : (way : ℕ) → Agrees (name_of c'.seen way) (state_of (map_seen w') way)
   stayed_agrees way = subst (λ (n : ℕ). Agrees n (state_of (map_seen w') way)) (sym (same way))
-      (agrees_still (name_of c.seen way) (state_of (map_seen w) way) (state_of (map_seen w') way) (tied.agrees way) (stayed.still way))
+      (agrees_still (name_of c.seen way) (state_of (map_seen w) way) (state_of (map_seen w') way) (tied.agrees way)
+      (stayed.still way))
 
   pub stayed_owes : (a' : Caller) → OwesSame (keeper_of w a c) (keeper_of w' a' c')
   stayed_owes a' way = ap (λ (n : ℕ). owed_for way n (state_of (map_seen w') way)) (same way)
-      ∙ owed_still way (name_of c.seen way) (state_of (map_seen w) way) (state_of (map_seen w') way) (tied.agrees way) (stayed.still way)
+      ∙ owed_still way (name_of c.seen way) (state_of (map_seen w) way) (state_of (map_seen w') way) (tied.agrees way)
+      (stayed.still way)
 
 -- A CALL OF THE MAP'S WRITER
-module _ (w a w' : Caller) (c c' : Token) (call : Call) (answer : Reply) (tied : IsTied (keeper_of w a c)) (went : Went w w' call answer)
+module _ (w a w' : Caller) (c c' : Token) (call : Call) (answer : Reply) (tied : IsTied (keeper_of w a c))
+    (went : Went w w' call answer)
     (same : (way : ℕ) → way ≢ call_key call → name_of c'.seen way ≡ name_of c.seen way) where
   abbrev key : ℕ
   key = call_key call
@@ -209,7 +229,9 @@ module _ (w a w' : Caller) (c c' : Token) (call : Call) (answer : Reply) (tied :
   state = state_of went.mid key
 
   pub mid_agrees : (way : ℕ) → Agrees (name_of c.seen way) (state_of went.mid way)
-  mid_agrees way = agrees_still (name_of c.seen way) (state_of (map_seen w) way) (state_of went.mid way) (tied.agrees way) (went.still way)
+  mid_agrees way =
+      agrees_still (name_of c.seen way) (state_of (map_seen w) way) (state_of went.mid way) (tied.agrees way)
+      (went.still way)
 
   pub mid_owes : owed_for key name state ≡ owed_for key name (state_of (map_seen w) key)
   mid_owes = owed_still key name (state_of (map_seen w) key) state (tied.agrees key) (went.still key)
@@ -226,7 +248,8 @@ module _ (w a w' : Caller) (c c' : Token) (call : Call) (answer : Reply) (tied :
   pub went_else : (a' : Caller) → OwesElse key (keeper_of w a c) (keeper_of w' a' c')
   went_else a' way other = ap (λ (n : ℕ). owed_for way n (state_of (map_seen w') way)) (same way other)
       ∙ ap (owed_for way (name_of c.seen way)) (went.others way other)
-      ∙ owed_still way (name_of c.seen way) (state_of (map_seen w) way) (state_of went.mid way) (tied.agrees way) (went.still way)
+      ∙ owed_still way (name_of c.seen way) (state_of (map_seen w) way) (state_of went.mid way) (tied.agrees way)
+      (went.still way)
 
   pub went_owes : (a' : Caller) → owed_for key (name_of c'.seen key) (state_of (map_seen w') key) ≡ owed_for key name
       (state_of (map_seen w) key) → OwesSame (keeper_of w a c) (keeper_of w' a' c')
@@ -238,5 +261,7 @@ module _ (w a w' : Caller) (c c' : Token) (call : Call) (answer : Reply) (tied :
       (cases_eq key way)
 
 -- the way that the clerk found is a key
-pub near_of : (w a : Caller) (id way : ℕ) (c c' : Token) → IsTied (keeper_of w a c) → FindsWay id c c' (Some way) → way < w.table.shape.keys
-near_of w a id way c c' tied finds = omega (arith, finds.named.inside, ap (λ (d : Opened). ways d.plan) finds.grows.directory, tied.ways_are)
+pub near_of : (w a : Caller) (id way : ℕ) (c c' : Token) → IsTied (keeper_of w a c) → FindsWay id c c' (Some way)
+    → way < w.table.shape.keys
+near_of w a id way c c' tied finds =
+    omega (arith, finds.named.inside, ap (λ (d : Opened). ways d.plan) finds.grows.directory, tied.ways_are)

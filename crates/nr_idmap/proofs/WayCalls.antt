@@ -1,5 +1,6 @@
 -- What each call of the map's writer on the id's way does to the tie and to the ledger.
-use Rattle.std.proofs.Common.{◌≡◌, ◌≢◌, ℕ, ◌+◌, ◌<◌, ⊎_elim, Bool, true, false, List, [], ◌∷◌, refl, sym, ap, ◌∙◌, subst, arith, eq-eqb, Result, Ok, Err, Option, Some, None}
+use Rattle.std.proofs.Common.{◌≡◌, ◌≢◌, ℕ, ◌+◌, ◌<◌, ⊎_elim, Bool, true, false, List, [], ◌∷◌, refl, sym, ap, ◌∙◌}
+use Rattle.std.proofs.Common.{subst, arith, eq-eqb, Result, Ok, Err, Option, Some, None}
 use Rattle.std.specs.Prelude.{if◌then◌else◌, nat_lt}
 use Rattle.nr_model.specs.declared.rows.Row.{Row}
 use Rattle.nr_model.specs.declared.batches.Delta.{Delta}
@@ -32,7 +33,10 @@ use Rattle.nr_idmap.specs.Tags.{AreIdDeltas, tag_of}
 use Rattle.nr_idmap.proofs.Entries.{Went, stayed, went}
 use Rattle.nr_idmap.proofs.LedgerLaws.{owed_tells}
 use Rattle.nr_idmap.proofs.Stills.{IsStill}
-use Rattle.nr_idmap.proofs.Ties.{Tagged, fill_agrees, fill_done, fill_keeps, fill_leaves, fill_puts, found_looks, found_names, mid_agrees, mid_owes, owed_asked, owed_hole, owed_none, replace_agrees, replace_keeps, replace_owes, rested_of, retied, stayed_agrees, stayed_owes, update_agrees, update_owes, went_agrees, went_else, went_owes}
+use Rattle.nr_idmap.proofs.Ties.{Tagged, fill_agrees, fill_done, fill_keeps, fill_leaves, fill_puts, found_looks}
+use Rattle.nr_idmap.proofs.Ties.{found_names, mid_agrees, mid_owes, owed_asked, owed_hole, owed_none, replace_agrees}
+use Rattle.nr_idmap.proofs.Ties.{replace_keeps, replace_owes, rested_of, retied, stayed_agrees, stayed_owes}
+use Rattle.nr_idmap.proofs.Ties.{update_agrees, update_owes, went_agrees, went_else, went_owes}
 
 -- ONE STATE
 still_asked : (n : ℕ) (now : KeyState) → IsStill (Asked n) now → now ≡ Asked n
@@ -42,11 +46,13 @@ still_asked n now still = ⊎_elim (λ same. same)
 still_number : (was now : KeyState) → IsStill was now → number_of now ≡ number_of was
 still_number was now still = ⊎_elim
     (λ (same : now ≡ was). ap number_of same)
-    (λ (asked : (number : ℕ) × (was ≡ Hole number) × (now ≡ Asked number)). ap number_of asked.2 ∙ ap number_of (sym asked.1))
+    (λ (asked : (number : ℕ) × (was ≡ Hole number) × (now ≡ Asked number)). ap number_of asked.2
+    ∙ ap number_of (sym asked.1))
     still
 
 -- a way with a name that is asked for now was so before
-was_asked : (name n : ℕ) (was now : KeyState) → 0 < name → Agrees name was → IsStill was now → now ≡ Asked n → was ≡ Asked n
+was_asked : (name n : ℕ) (was now : KeyState) → 0 < name → Agrees name was → IsStill was now → now ≡ Asked n
+    → was ≡ Asked n
 was_asked name n was now real agrees still asked = ⊎_elim
     (λ (same : now ≡ was). sym same ∙ asked)
     (λ (t : (number : ℕ) × (was ≡ Hole number) × (now ≡ Asked number)). absurd
@@ -109,7 +115,8 @@ none_some owed e = absurd (cc (e))
 -- THE CLERK'S STEPS
 module _ (w a : Caller) (c c' : Token) (tied : IsTied (keeper_of w a c)) (id : ℕ) (real : 0 < id) where
   -- what the search found shows that an upquery isn't open
-  pub closed_by_name : (owed : Owed) (found : Option ℕ) → owed.id ≡ id → FindsWay id c c' found → found ≢ Some owed.way →
+  pub closed_by_name : (owed : Owed) (found : Option ℕ) → owed.id ≡ id → FindsWay id c c' found → found ≢ Some owed.way
+      →
       owed_at (keeper_of w a c) owed.way ≢ Some owed
   closed_by_name owed (Some way) of finds other is =
       let tells = owed_tells owed.way (name_of c.seen owed.way) (state_of (map_seen w) owed.way) owed is in
@@ -119,7 +126,8 @@ module _ (w a : Caller) (c c' : Token) (tied : IsTied (keeper_of w a c)) (id : �
       let tells = owed_tells owed.way (name_of c.seen owed.way) (state_of (map_seen w) owed.way) owed is in
       finds.1 owed.way (found_names w a id c c' None tied finds owed.way ∙ sym tells.1 ∙ of)
 
-  pub searched : (found : Option ℕ) → FindsWay id c c' found → IsTied (keeper_of w a c') × OwesSame (keeper_of w a c) (keeper_of w a c')
+  pub searched : (found : Option ℕ) → FindsWay id c c' found
+      → IsTied (keeper_of w a c') × OwesSame (keeper_of w a c) (keeper_of w a c')
   searched found finds =
       let look = found_looks id c c' found finds in let names = found_names w a id c c' found tied finds in (
         retied w a w a c c' (looks look.0 c.number) tied (rested_of w a c tied) refl (refl, tied.asks.1) look.1
@@ -128,7 +136,8 @@ module _ (w a : Caller) (c c' : Token) (tied : IsTied (keeper_of w a c)) (id : �
       )
 
 -- names after a way's name was taken
-module _ (w a : Caller) (c mid new : Token) (tied : IsTied (keeper_of w a c)) (id way : ℕ) (finds : FindsWay id c mid (Some way))
+module _ (w a : Caller) (c mid new : Token) (tied : IsTied (keeper_of w a c)) (id way : ℕ)
+    (finds : FindsWay id c mid (Some way))
     (unnames : Unnames way mid new) where
   taken_name : (k : ℕ) → name_of new.seen k ≡ name_of (unnamed way ∷ mid.seen) k
   taken_name k = let look = found_looks id c mid (Some way) finds in
@@ -142,7 +151,8 @@ module _ (w a : Caller) (c mid new : Token) (tied : IsTied (keeper_of w a c)) (i
       ∙ found_names w a id c mid (Some way) tied finds k
 
 -- CALLS THAT LEAVE THE NAME
-module _ (w a w' : Caller) (c c' : Token) (tied : IsTied (keeper_of w a c)) (id way : ℕ) (finds : FindsWay id c c' (Some way))
+module _ (w a w' : Caller) (c c' : Token) (tied : IsTied (keeper_of w a c)) (id way : ℕ)
+    (finds : FindsWay id c c' (Some way))
     (near : way < w.table.shape.keys) where
   names : (k : ℕ) → name_of c'.seen k ≡ name_of c.seen k
   names k = found_names w a id c c' (Some way) tied finds k
@@ -155,20 +165,26 @@ module _ (w a w' : Caller) (c c' : Token) (tied : IsTied (keeper_of w a c)) (id 
 
   -- the call found no slot
   unslotted : (steps : ℕ) → Grows steps [] w w' → Left
-  unslotted steps grows = let stays = stayed steps w w' (rested_of w a c tied) grows in let look = found_looks id c c' (Some way) finds in (
-    retied w a w' a c c' (looks look.0 c.number) tied stays.rested grows.table (refl, tied.asks.1) look.1
-        (stayed_agrees w a w' c c' tied stays names),
-    stayed_owes w a w' c c' tied stays names a,
-  )
+  unslotted steps grows =
+      let stays = stayed steps w w' (rested_of w a c tied) grows in
+      let look = found_looks id c c' (Some way) finds in (
+        retied w a w' a c c' (looks look.0 c.number) tied stays.rested grows.table (refl, tied.asks.1) look.1
+            (stayed_agrees w a w' c c' tied stays names),
+        stayed_owes w a w' c c' tied stays names a,
+      )
 
-  pub update_entry : (steps : ℕ) (batch : List Delta) (answer : Reply) → AreIdDeltas batch → Gains steps (Update way batch) w w' answer →
+  pub update_entry : (steps : ℕ) (batch : List Delta) (answer : Reply) → AreIdDeltas batch
+      → Gains steps (Update way batch) w w' answer →
       Left
   update_entry steps batch answer users gains =
       let call : Call = Update way batch in let go = went steps w w' call answer (rested_of w a c tied) gains near in
       let look = found_looks id c c' (Some way) finds in
-      let same = λ (k : ℕ) (_ : k ≢ way). names k in let s : KeyState = state_of go.mid way in let name : ℕ = name_of c.seen way in
+      let same = λ (k : ℕ) (_ : k ≢ way). names k in
+      let s : KeyState = state_of go.mid way in
+      let name : ℕ = name_of c.seen way in
       let room : 0 < go.mid.bound = subst (λ (b : ℕ). 0 < b) (sym go.bound) tied.room in
-      let here : Agrees (name_of c'.seen way) (state_of (map_seen w') way) = subst (λ (n : ℕ). Agrees n (state_of (map_seen w') way))
+      let here : Agrees (name_of c'.seen way) (state_of (map_seen w') way)
+      = subst (λ (n : ℕ). Agrees n (state_of (map_seen w') way))
       (sym (names way))
       (subst (Agrees name) (sym go.at_key)
       (update_agrees name go.mid.bound batch s room users (mid_agrees w a w' c c' call answer tied go same way))) in (
@@ -194,21 +210,29 @@ module _ (w a w' : Caller) (c c' : Token) (tied : IsTied (keeper_of w a c)) (id 
     tagged : 0 < id → Tagged (name_of c.seen way) (tag_of id ∷ rows)
     tagged real = (subst (λ (n : ℕ). 0 < n) (sym has) real, rows, ap (λ (n : ℕ). tag_of n ∷ rows) (sym has))
 
-    pub replace_entry : (steps : ℕ) (answer : Reply) → 0 < id → Gains steps (Replace way (tag_of id ∷ rows)) w w' answer → Left
+    pub replace_entry : (steps : ℕ) (answer : Reply) → 0 < id → Gains steps (Replace way (tag_of id ∷ rows)) w w' answer
+        → Left
     replace_entry steps answer real gains =
-        let call : Call = Replace way (tag_of id ∷ rows) in let go = went steps w w' call answer (rested_of w a c tied) gains near in
+        let call : Call = Replace way (tag_of id ∷ rows) in
+        let go = went steps w w' call answer (rested_of w a c tied) gains near in
         let look = found_looks id c c' (Some way) finds in
-        let same = λ (k : ℕ) (_ : k ≢ way). names k in let s : KeyState = state_of go.mid way in let name : ℕ = name_of c.seen way in
+        let same = λ (k : ℕ) (_ : k ≢ way). names k in
+        let s : KeyState = state_of go.mid way in
+        let name : ℕ = name_of c.seen way in
         let agree = mid_agrees w a w' c c' call answer tied go same in
-        let here : Agrees (name_of c'.seen way) (state_of (map_seen w') way) = subst (λ (n : ℕ). Agrees n (state_of (map_seen w') way))
+        let here : Agrees (name_of c'.seen way) (state_of (map_seen w') way)
+        = subst (λ (n : ℕ). Agrees n (state_of (map_seen w') way))
         (sym (names way))
         (subst (Agrees name) (sym go.at_key) (replace_agrees name (tag_of id ∷ rows) s (tagged real) (agree way))) in (
           retied w a w' a c c' (looks look.0 c.number) tied
-              (go.rested (replace_keeps c.directory.plan c.seen tied.legal go.mid agree way (tag_of id ∷ rows) (tagged real) answer))
+              (go.rested
+              (replace_keeps c.directory.plan c.seen tied.legal go.mid agree way (tag_of id ∷ rows) (tagged real)
+              answer))
               gains.table (refl, tied.asks.1) look.1
               (went_agrees w a w' c c' call answer tied go same here),
           went_owes w a w' c c' call answer tied go same a
-              (ap (λ (n : ℕ). owed_for way n (state_of (map_seen w') way)) (names way) ∙ ap (owed_for way name) go.at_key
+              (ap (λ (n : ℕ). owed_for way n (state_of (map_seen w') way)) (names way)
+              ∙ ap (owed_for way name) go.at_key
               ∙ replace_owes way name (tag_of id ∷ rows) s ∙ mid_owes w a w' c c' call answer tied go same),
         )
 
@@ -225,17 +249,23 @@ module _ (w a w' : Caller) (c c' : Token) (tied : IsTied (keeper_of w a c)) (id 
       abbrev owes : Owed
       owes = record { way = way; number = number; id = id }
 
-      pub fill_entry : (steps : ℕ) (answer : Reply) → 0 < id → Gains steps fills w w' answer → IsTied (keeper_of w' a c')
+      pub fill_entry : (steps : ℕ) (answer : Reply) → 0 < id → Gains steps fills w w' answer
+          → IsTied (keeper_of w' a c')
       fill_entry steps answer real gains =
-          let go = went steps w w' fills answer (rested_of w a c tied) gains near in let look = found_looks id c c' (Some way) finds in
+          let go = went steps w w' fills answer (rested_of w a c tied) gains near in
+          let look = found_looks id c c' (Some way) finds in
           let same = λ (k : ℕ) (_ : k ≢ way). names k in let name : ℕ = name_of c.seen way in
           let agree = mid_agrees w a w' c c' fills answer tied go same in
-          let here : Agrees (name_of c'.seen way) (state_of (map_seen w') way) = subst (λ (n : ℕ). Agrees n (state_of (map_seen w') way))
+          let here : Agrees (name_of c'.seen way) (state_of (map_seen w') way)
+          = subst (λ (n : ℕ). Agrees n (state_of (map_seen w') way))
           (sym (names way))
-          (subst (Agrees name) (sym go.at_key) (fill_agrees name number (tag_of id ∷ rows) (state_of go.mid way) (tagged real) (agree way)))
+          (subst (Agrees name) (sym go.at_key)
+          (fill_agrees name number (tag_of id ∷ rows) (state_of go.mid way) (tagged real) (agree way)))
           in
           retied w a w' a c c' (looks look.0 c.number) tied
-          (go.rested (fill_keeps c.directory.plan c.seen tied.legal go.mid agree way (tag_of id ∷ rows) (tagged real) number answer
+          (go.rested
+          (fill_keeps c.directory.plan c.seen tied.legal go.mid agree way (tag_of id ∷ rows) (tagged real) number
+          answer
           go.replied)) gains.table (refl, tied.asks.1) look.1
           (went_agrees w a w' c c' fills answer tied go same here)
 
@@ -258,7 +288,8 @@ module _ (w a w' : Caller) (c c' : Token) (tied : IsTied (keeper_of w a c)) (id 
           let go = went steps w w' fills reply.Done (rested_of w a c tied) gains near in
           let same = λ (k : ℕ) (_ : k ≢ way). names k in let s : KeyState = state_of go.mid way in
           let asked : s ≡ Asked number = fill_done number s (sym go.replied) in
-          let was : state_of (map_seen w) way ≡ Asked number = was_asked (name_of c.seen way) number (state_of (map_seen w) way) s
+          let was : state_of (map_seen w) way ≡ Asked number
+          = was_asked (name_of c.seen way) number (state_of (map_seen w) way) s
           (subst (λ (n : ℕ). 0 < n) (sym has) real) (tied.agrees way) (go.still way) asked in record {
             before = open_if real was;
             after = ap (owed_for way (name_of c'.seen way)) (go.at_key ∙ fill_puts number (tag_of id ∷ rows) s asked)
@@ -281,10 +312,12 @@ module _ (w a w' : Caller) (c c' : Token) (tied : IsTied (keeper_of w a c)) (id 
           ∙ fill_leaves number (tag_of id ∷ rows) s (λ done. undone (go.replied ∙ done)) in (
             λ is. let tells = owed_tells way (name_of c.seen way) (state_of (map_seen w) way)
                 (record { way = way; number = number; id = id }) is in
-                let now : s ≡ Asked number = still_asked number s (subst (λ (x : KeyState). IsStill x s) tells.3 (go.still way)) in
+                let now : s ≡ Asked number
+                = still_asked number s (subst (λ (x : KeyState). IsStill x s) tells.3 (go.still way)) in
                 undone (go.replied ∙ done_by s now),
             went_owes w a w' c c' fills answer tied go same a
-                (ap (λ (n : ℕ). owed_for way n (state_of (map_seen w') way)) (names way) ∙ ap (owed_for way (name_of c.seen way)) stays
+                (ap (λ (n : ℕ). owed_for way n (state_of (map_seen w') way)) (names way)
+                ∙ ap (owed_for way (name_of c.seen way)) stays
                 ∙ mid_owes w a w' c c' fills answer tied go same),
           )
         where
@@ -300,11 +333,14 @@ module _ (w a w' : Caller) (c c' : Token) (tied : IsTied (keeper_of w a c)) (id 
       fill_refused fill.Stale not h = fill_undone _ reply.Stale (λ e. absurd (cc (e))) h.0
       fill_refused (fill.NoSlot counts) not h = absurd (not counts refl)
 
-      pub fill_lacks : (counts : NoSlot) → 0 < id → FillsKey way number (tag_of id ∷ rows) w w' (Err (fill.NoSlot counts)) →
-          LacksForOwed (record { way = way; number = number; id = id }) rows (keeper_of w a c) (keeper_of w' a c') counts
+      pub fill_lacks : (counts : NoSlot) → 0 < id
+          → FillsKey way number (tag_of id ∷ rows) w w' (Err (fill.NoSlot counts)) →
+          LacksForOwed (record { way = way; number = number; id = id }) rows (keeper_of w a c) (keeper_of w' a c')
+          counts
       fill_lacks counts real h =
           let stays = stayed _ w w' (rested_of w a c tied) h.grows in
-          let asked : state_of (map_seen w') way ≡ Asked number = fill_done number (state_of (map_seen w') way) h.lacks.would_be_done in
+          let asked : state_of (map_seen w') way ≡ Asked number
+          = fill_done number (state_of (map_seen w') way) h.lacks.would_be_done in
           record {
             finds = finds;
             lacks = h;
@@ -317,12 +353,18 @@ module _ (w a w' : Caller) (c c' : Token) (tied : IsTied (keeper_of w a c)) (id 
   -- AN EVICTION AND A CANCEL THAT DO NOTHING
   pub evict_nothing : EvictsKey way w w' evict.Nothing → Left
   evict_nothing h =
-      let gains = h.0 in let call : Call = Evict way in let go = went 1 w w' call reply.Nothing (rested_of w a c tied) gains near in
+      let gains = h.0 in
+      let call : Call = Evict way in
+      let go = went 1 w w' call reply.Nothing (rested_of w a c tied) gains near in
       let look = found_looks id c c' (Some way) finds in
-      let same = λ (k : ℕ) (_ : k ≢ way). names k in let s : KeyState = state_of go.mid way in let name : ℕ = name_of c.seen way in
+      let same = λ (k : ℕ) (_ : k ≢ way). names k in
+      let s : KeyState = state_of go.mid way in
+      let name : ℕ = name_of c.seen way in
       let stays : state_of (map_seen w') way ≡ s = go.at_key ∙ evict_leaves s go.replied in
-      let here : Agrees (name_of c'.seen way) (state_of (map_seen w') way) = subst (λ (n : ℕ). Agrees n (state_of (map_seen w') way))
-      (sym (names way)) (subst (Agrees name) (sym stays) (mid_agrees w a w' c c' call reply.Nothing tied go same way)) in (
+      let here : Agrees (name_of c'.seen way) (state_of (map_seen w') way)
+      = subst (λ (n : ℕ). Agrees n (state_of (map_seen w') way))
+      (sym (names way))
+      (subst (Agrees name) (sym stays) (mid_agrees w a w' c c' call reply.Nothing tied go same way)) in (
         retied w a w' a c c' (looks look.0 c.number) tied (go.rested tt) gains.table (refl, tied.asks.1) look.1
             (went_agrees w a w' c c' call reply.Nothing tied go same here),
         went_owes w a w' c c' call reply.Nothing tied go same a
@@ -334,9 +376,12 @@ module _ (w a w' : Caller) (c c' : Token) (tied : IsTied (keeper_of w a c)) (id 
   cancel_entry answer undone gains =
       let call : Call = Cancel way in let go = went 1 w w' call answer (rested_of w a c tied) gains near in
       let look = found_looks id c c' (Some way) finds in
-      let same = λ (k : ℕ) (_ : k ≢ way). names k in let s : KeyState = state_of go.mid way in let name : ℕ = name_of c.seen way in
+      let same = λ (k : ℕ) (_ : k ≢ way). names k in
+      let s : KeyState = state_of go.mid way in
+      let name : ℕ = name_of c.seen way in
       let stays : state_of (map_seen w') way ≡ s = go.at_key ∙ cancel_leaves s (λ done. undone (go.replied ∙ done)) in
-      let here : Agrees (name_of c'.seen way) (state_of (map_seen w') way) = subst (λ (n : ℕ). Agrees n (state_of (map_seen w') way))
+      let here : Agrees (name_of c'.seen way) (state_of (map_seen w') way)
+      = subst (λ (n : ℕ). Agrees n (state_of (map_seen w') way))
       (sym (names way)) (subst (Agrees name) (sym stays) (mid_agrees w a w' c c' call answer tied go same way)) in (
         retied w a w' a c c' (looks look.0 c.number) tied (go.rested tt) gains.table (refl, tied.asks.1) look.1
             (went_agrees w a w' c c' call answer tied go same here),
@@ -345,7 +390,8 @@ module _ (w a w' : Caller) (c c' : Token) (tied : IsTied (keeper_of w a c)) (id 
             ∙ mid_owes w a w' c c' call answer tied go same),
       )
 
-  pub cancel_nothing : CancelsKey way w w' cancel.Nothing → Left × ((owed : Owed) → owed_at (keeper_of w a c) way ≢ Some owed)
+  pub cancel_nothing : CancelsKey way w w' cancel.Nothing
+      → Left × ((owed : Owed) → owed_at (keeper_of w a c) way ≢ Some owed)
   cancel_nothing h =
       let call : Call = Cancel way in let go = went 1 w w' call reply.Nothing (rested_of w a c tied) h.0 near in
       let same = λ (k : ℕ) (_ : k ≢ way). names k in (
@@ -356,22 +402,36 @@ module _ (w a w' : Caller) (c c' : Token) (tied : IsTied (keeper_of w a c)) (id 
       )
 
   -- the upquery that a cancel met
-  met_owed : (number : ℕ) (answer : Reply) → 0 < id → answer ≢ reply.Nothing → number_of (state_of (map_seen w) way) ≡ number →
-      Went w w' (Cancel way) answer → owed_at (keeper_of w a c) way ≡ Some (record { way = way; number = number; id = id })
+  met_owed : (number : ℕ) (answer : Reply) → 0 < id → answer ≢ reply.Nothing
+      → number_of (state_of (map_seen w) way) ≡ number →
+      Went w w' (Cancel way) answer
+      → owed_at (keeper_of w a c) way ≡ Some (record { way = way; number = number; id = id })
   met_owed number answer real met is go =
       let s : KeyState = state_of go.mid way in
       let asked : s ≡ Asked number = cancel_met s (λ e. met (go.replied ∙ e))
       ∙ ap Asked (still_number (state_of (map_seen w) way) s (go.still way) ∙ is) in
-      let was = was_asked (name_of c.seen way) number (state_of (map_seen w) way) s (subst (λ (n : ℕ). 0 < n) (sym has) real)
+      let was
+      = was_asked (name_of c.seen way) number (state_of (map_seen w) way) s
+      (subst (λ (n : ℕ). 0 < n) (sym has) real)
       (tied.agrees way) (go.still way) asked in
-      ap (owed_for way (name_of c.seen way)) was ∙ ap (λ (n : ℕ). owed_for way n (Asked number)) has ∙ owed_asked way id number real
+      ap (owed_for way (name_of c.seen way)) was ∙ ap (λ (n : ℕ). owed_for way n (Asked number)) has
+      ∙ owed_asked way id number real
 
-  pub cancel_worn : (number : ℕ) → 0 < id → number_of (state_of (map_seen w) way) ≡ number → CancelsKey way w w' cancel.Worn
-      → IsTied (keeper_of w' a c') × WornOwed (record { way = way; number = number; id = id }) (keeper_of w a c) (keeper_of w' a c')
+  pub cancel_worn : (number : ℕ) → 0 < id → number_of (state_of (map_seen w) way) ≡ number
+      → CancelsKey way w w' cancel.Worn
+      → IsTied (keeper_of w' a c')
+      × WornOwed (record { way = way; number = number; id = id }) (keeper_of w a c) (keeper_of w' a c')
   cancel_worn number real is h =
       let kept = cancel_entry reply.Worn (λ e. absurd (cc (e))) h.0 in
-      let go = went 1 w w' (Cancel way) reply.Worn (rested_of w a c tied) h.0 near in
-      (kept.0, record { finds = finds; worn = h; open_yet = met_owed number reply.Worn real (λ e. absurd (cc (e))) is go; owes = kept.1 })
+      let go = went 1 w w' (Cancel way) reply.Worn (rested_of w a c tied) h.0 near in (
+        kept.0,
+        record {
+          finds = finds;
+          worn = h;
+          open_yet = met_owed number reply.Worn real (λ e. absurd (cc (e))) is go;
+          owes = kept.1;
+        },
+      )
 
 -- CALLS AFTER WHICH THE NAME IS TAKEN
 module _ (w a w' : Caller) (c mid new : Token) (tied : IsTied (keeper_of w a c)) (id way : ℕ) (real : 0 < id)
@@ -387,9 +447,12 @@ module _ (w a w' : Caller) (c mid new : Token) (tied : IsTied (keeper_of w a c))
   unowed : owed_for way (name_of new.seen way) (state_of (map_seen w') way) ≡ None
   unowed = ap (λ (n : ℕ). owed_for way n (state_of (map_seen w') way)) (taken w a c mid new tied id way finds unnames)
 
-  pub evicted_way : EvictsKey way w w' evict.Evicted → IsTied (keeper_of w' a new) × OwesSame (keeper_of w a c) (keeper_of w' a new)
+  pub evicted_way : EvictsKey way w w' evict.Evicted
+      → IsTied (keeper_of w' a new) × OwesSame (keeper_of w a c) (keeper_of w' a new)
   evicted_way h =
-      let gains = h.0 in let call : Call = Evict way in let go = went 2 w w' call reply.Evicted (rested_of w a c tied) gains near in
+      let gains = h.0 in
+      let call : Call = Evict way in
+      let go = went 2 w w' call reply.Evicted (rested_of w a c tied) gains near in
       let look = found_looks id c mid (Some way) finds in
       let s : KeyState = state_of go.mid way in (
         retied w a w' a c new (unnamed way ∷ looks look.0 c.number) tied (go.rested tt) gains.table (refl, tied.asks.1)
@@ -397,13 +460,18 @@ module _ (w a w' : Caller) (c mid new : Token) (tied : IsTied (keeper_of w a c))
             (went_agrees w a w' c new call reply.Evicted tied go gone
             (untied call reply.Evicted go (subst (Agrees 0) (sym go.at_key) (evict_agrees s)))),
         went_owes w a w' c new call reply.Evicted tied go gone a
-            (unowed ∙ sym (evict_owed way (name_of c.seen way) s go.replied) ∙ mid_owes w a w' c new call reply.Evicted tied go gone),
+            (unowed ∙ sym (evict_owed way (name_of c.seen way) s go.replied)
+            ∙ mid_owes w a w' c new call reply.Evicted tied go gone),
       )
 
-  pub withdrawn_way : (number : ℕ) → number_of (state_of (map_seen w) way) ≡ number → CancelsKey way w w' cancel.Cancelled
-      → IsTied (keeper_of w' a new) × WithdrawsOwed (record { way = way; number = number; id = id }) (keeper_of w a c) (keeper_of w' a new)
+  pub withdrawn_way : (number : ℕ) → number_of (state_of (map_seen w) way) ≡ number
+      → CancelsKey way w w' cancel.Cancelled
+      → IsTied (keeper_of w' a new)
+      × WithdrawsOwed (record { way = way; number = number; id = id }) (keeper_of w a c) (keeper_of w' a new)
   withdrawn_way number is h =
-      let gains = h.0 in let call : Call = Cancel way in let go = went 2 w w' call reply.Cancelled (rested_of w a c tied) gains near in
+      let gains = h.0 in
+      let call : Call = Cancel way in
+      let go = went 2 w w' call reply.Cancelled (rested_of w a c tied) gains near in
       let look = found_looks id c mid (Some way) finds in
       let s : KeyState = state_of go.mid way in (
         retied w a w' a c new (unnamed way ∷ looks look.0 c.number) tied (go.rested tt) gains.table (refl, tied.asks.1)
@@ -416,7 +484,8 @@ module _ (w a w' : Caller) (c mid new : Token) (tied : IsTied (keeper_of w a c))
           cancels = h;
           unnames = unnames;
           closes = record {
-            before = met_owed w a w' c mid tied id way finds near number reply.Cancelled real (λ e. absurd (cc (e))) is go;
+            before =
+                met_owed w a w' c mid tied id way finds near number reply.Cancelled real (λ e. absurd (cc (e))) is go;
             after = unowed;
             others = went_else w a w' c new call reply.Cancelled tied go gone a;
           };

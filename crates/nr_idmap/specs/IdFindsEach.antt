@@ -1,5 +1,6 @@
 -- Finds by id of many ids.
-use Rattle.std.specs.Prelude.{◌≡◌, ◌≢◌, ℕ, zero, suc, ◌+◌, ◌*◌, ◌/◌, ◌<◌, List, [], ◌∷◌, length, take, drop, Option, Some, None, IfSome}
+use Rattle.std.specs.Prelude.{◌≡◌, ◌≢◌, ℕ, zero, suc, ◌+◌, ◌*◌, ◌/◌, ◌<◌, List, [], ◌∷◌, length, take, drop, Option}
+use Rattle.std.specs.Prelude.{Some, None, IfSome}
 use Rattle.nr_model.specs.declared.rows.Row.{Row}
 use Rattle.nr_board.specs.Holds.{FindsHole, FindsRows}
 use Rattle.nr_map.specs.FindsEach.{loads_of_key, with_loads}
@@ -15,38 +16,54 @@ use Rattle.nr_idmap.specs.Keepers.{IdCaller}
 use Rattle.nr_idmap.specs.Tags.{tag_of}
 
 -- a find by id in the way that was looked up: as `find` says it of that way
-abbrev pub FindsInside : {Room : Type 0} → (Room → List Row → Type 0) → ℕ → ℕ → IdCaller → Room → IdCaller → Room → FoundId → Type 0
-FindsInside shows id way old before new room found.Rows = (rows : List Row) × FindsRows (2 * length (tag_of id ∷ rows) + 1) way (tag_of id ∷ rows) old.caller new.caller × Marks old.ids new.ids × shows room rows
-FindsInside shows id way old before new room found.Pending = FindsHole 0 way old.caller new.caller × (new.ids ≡ old.ids) × (room ≡ before)
-FindsInside shows id way old before new room found.Moved = (set : List Row) × FindsRows (2 * length set + 1) way set old.caller new.caller × (new.ids ≡ old.ids) × ((rows : List Row) → set ≢ tag_of id ∷ rows) × (room ≡ before)
+abbrev pub FindsInside : {Room : Type 0} → (Room → List Row → Type 0) → ℕ → ℕ → IdCaller → Room → IdCaller → Room
+    → FoundId → Type 0
+FindsInside shows id way old before new room found.Rows =
+    (rows : List Row) × FindsRows (2 * length (tag_of id ∷ rows) + 1) way (tag_of id ∷ rows) old.caller new.caller
+    × Marks old.ids new.ids × shows room rows
+FindsInside shows id way old before new room found.Pending =
+    FindsHole 0 way old.caller new.caller × (new.ids ≡ old.ids) × (room ≡ before)
+FindsInside shows id way old before new room found.Moved =
+    (set : List Row) × FindsRows (2 * length set + 1) way set old.caller new.caller × (new.ids ≡ old.ids)
+    × ((rows : List Row) → set ≢ tag_of id ∷ rows) × (room ≡ before)
 FindsInside shows id way old before new room found.Absent = ⊥
 
-abbrev pub FindsAtWay : {Room : Type 0} → (Room → List Row → Type 0) → ℕ → Option ℕ → IdCaller → Room → IdCaller → Room → FoundId → Type 0
+abbrev pub FindsAtWay : {Room : Type 0} → (Room → List Row → Type 0) → ℕ → Option ℕ → IdCaller → Room → IdCaller → Room
+    → FoundId → Type 0
 FindsAtWay shows id None old before new room told = (told ≡ found.Absent) × (new ≡ old) × (room ≡ before)
 FindsAtWay shows id (Some way) old before new room told = FindsInside shows id way old before new room told
 
 -- the way of one of the ids was looked up
-pub record LooksUpWanted {Room : Type 0} (old : Token) (wanted : WantedId Room) (new : Token) (looked : WantedId Room) : Type 0 where
+pub record LooksUpWanted {Room : Type 0} (old : Token) (wanted : WantedId Room) (new : Token)
+    (looked : WantedId Room) : Type 0 where
   pub id_is : looked.id ≡ wanted.id
   pub rows_are : looked.rows ≡ wanted.rows
   pub looks : LooksUp wanted.id old new looked.way
 
 -- and then it was found there
-pub record FindsWantedId {Room : Type 0} (shows : Room → List Row → Type 0) (old : IdCaller) (wanted : WantedId Room) (new : IdCaller) (told : WantedId Room) : Type 0 where
+pub record FindsWantedId {Room : Type 0} (shows : Room → List Row → Type 0) (old : IdCaller) (wanted : WantedId Room)
+    (new : IdCaller) (told : WantedId Room) : Type 0 where
   pub id_is : told.id ≡ wanted.id
   pub finds : FindsAtWay shows wanted.id wanted.way old wanted.rows new told.rows told.found
 
 abbrev pub IsInside : {Room : Type 0} → ℕ → WantedId Room → Type 0
 IsInside keys wanted = IfSome wanted.way (λ way. way < keys)
 
--- of at most sixteen: a name of each group was loaded ahead; all were looked up in turn; the words that finds in their ways need were loaded ahead; and all were found in turn
-pub record FindsBatch {Room : Type 0} (shows : Room → List Row → Type 0) (old : IdCaller) (wanted : List (WantedId Room)) (new : IdCaller) (told : List (WantedId Room)) : Type 0 where
+-- of at most sixteen: a name of each group was loaded ahead; all were looked up in turn; the words that finds in their
+-- ways need were loaded ahead; and all were found in turn
+pub record FindsBatch {Room : Type 0} (shows : Room → List Row → Type 0) (old : IdCaller)
+    (wanted : List (WantedId Room)) (new : IdCaller) (told : List (WantedId Room)) : Type 0 where
   pub ahead : Token
   pub loads : Grows (looks (length wanted) old.ids.number) old.ids ahead
   pub looked : Token
   pub ways : List (WantedId Room)
   pub looks : InTurn LooksUpWanted ahead wanted looked ways
-  pub finds : InTurn (FindsWantedId shows) (record { caller = with_loads (loads_of_key old.caller.table.shape.rows * length wanted) old.caller; ids = looked }) ways new told
+  pub finds : InTurn (FindsWantedId shows)
+      (record {
+        caller = with_loads (loads_of_key old.caller.table.shape.rows * length wanted) old.caller;
+        ids = looked;
+      })
+      ways new told
 
 -- a list in so many batches of sixteen, of which the last has what is left
 abbrev pub batches : {One : Type 0} → ℕ → List One → List (List One)
@@ -57,5 +74,6 @@ abbrev pub in_sixteens : {One : Type 0} → List One → List (List One)
 in_sixteens ones = batches ((length ones + 15) / 16) ones
 
 -- any number, batch by batch
-abbrev pub FindsEachId : {Room : Type 0} → (Room → List Row → Type 0) → IdCaller → List (WantedId Room) → IdCaller → List (WantedId Room) → Type 0
+abbrev pub FindsEachId : {Room : Type 0} → (Room → List Row → Type 0) → IdCaller → List (WantedId Room) → IdCaller
+    → List (WantedId Room) → Type 0
 FindsEachId shows old wanted new told = InTurn (FindsBatch shows) old (in_sixteens wanted) new (in_sixteens told)

@@ -97,13 +97,20 @@ AgainById id old new false = (old.id ≡ Some id → AsksIdInVain old new) × (o
 -- A FIND THAT HOLDS
 -- the map's hand found the way and holds its set, or a hole, as a find that keeps what it found
 abbrev pub KeepsWay : ℕ → Handed → Handed → Found → Type 0
-KeepsWay way old new told = (before set : List Row) × FindsKept (λ (pile : List Row) (rows : List Row). pile ≡ rows) way old before new set told
+KeepsWay way old new told =
+    (before set : List Row) × FindsKept (λ (pile : List Row) (rows : List Row). pile ≡ rows) way old before new set told
 
--- by the id's name: the set is held that has the id's tag; else nothing is, since the way was a hole or had another's set, or there was a moment at which the id had no way
+-- by the id's name: the set is held that has the id's tag; else nothing is, since the way was a hole or had another's
+-- set, or there was a moment at which the id had no way
 abbrev pub HoldsByName : ℕ → IdHanded → IdHanded → FoundId → Type 0
-HoldsByName id old new found.Rows = (way : ℕ) × (rows : List Row) × LooksUp id old.ids new.ids (Some way) × KeepsWay way old.hand new.hand answer.Rows × (new.hand.rows ≡ tag_of id ∷ rows) × (new.id ≡ Some id)
-HoldsByName id old new found.Pending = (way : ℕ) × LooksUp id old.ids new.ids (Some way) × KeepsWay way old.hand new.hand answer.Hole × (new.id ≡ None)
-HoldsByName id old new found.Moved = (way : ℕ) × (kept : Handed) × LooksUp id old.ids new.ids (Some way) × KeepsWay way old.hand kept answer.Rows × ((rows : List Row) → kept.rows ≢ tag_of id ∷ rows) × LetsGo kept new.hand × (new.id ≡ None)
+HoldsByName id old new found.Rows =
+    (way : ℕ) × (rows : List Row) × LooksUp id old.ids new.ids (Some way) × KeepsWay way old.hand new.hand answer.Rows
+    × (new.hand.rows ≡ tag_of id ∷ rows) × (new.id ≡ Some id)
+HoldsByName id old new found.Pending =
+    (way : ℕ) × LooksUp id old.ids new.ids (Some way) × KeepsWay way old.hand new.hand answer.Hole × (new.id ≡ None)
+HoldsByName id old new found.Moved =
+    (way : ℕ) × (kept : Handed) × LooksUp id old.ids new.ids (Some way) × KeepsWay way old.hand kept answer.Rows
+    × ((rows : List Row) → kept.rows ≢ tag_of id ∷ rows) × LetsGo kept new.hand × (new.id ≡ None)
 HoldsByName id old new found.Absent = LooksUp id old.ids new.ids None × LetsGo old.hand new.hand × (new.id ≡ None)
 
 -- a word of the line that has the words of the id's group was loaded, as by a find
@@ -115,7 +122,9 @@ HoldsAnew id old new told = HoldsByName id (with_line_loaded old) new told
 
 -- by the set that is held already, where the way has it still; else by the name
 abbrev pub HoldsById : ℕ → IdHanded → IdHanded → FoundId → Type 0
-HoldsById id old new told = ((told ≡ found.Rows) × FindsIdHeld id old new) ⊎ ((asked : IdHanded) × AgainById id old asked false × HoldsAnew id asked new told)
+HoldsById id old new told =
+    ((told ≡ found.Rows) × FindsIdHeld id old new)
+    ⊎ ((asked : IdHanded) × AgainById id old asked false × HoldsAnew id asked new told)
 
 -- the way whose set is held is marked as found
 pub record MarksHeld (old new : IdHanded) : Type 0 where
@@ -133,5 +142,7 @@ abbrev pub PinsById : ℕ → IdHanded → IdHanded → FoundId → Type 0
 PinsById id old new told = (held : IdHanded) × HoldsById id old held told × MarksFound told held new
 
 -- such a find into a room, which has the id's rows then; else it stays
-abbrev pub FindsIdKept : {Room : Type 0} → (Room → List Row → Type 0) → ℕ → IdHanded → Room → IdHanded → Room → FoundId → Type 0
-FindsIdKept shows id old before new room told = PinsById id old new told × (told ≡ found.Rows → shows room (rows_in_hand new)) × (told ≢ found.Rows → room ≡ before)
+abbrev pub FindsIdKept : {Room : Type 0} → (Room → List Row → Type 0) → ℕ → IdHanded → Room → IdHanded → Room → FoundId
+    → Type 0
+FindsIdKept shows id old before new room told =
+    PinsById id old new told × (told ≡ found.Rows → shows room (rows_in_hand new)) × (told ≢ found.Rows → room ≡ before)

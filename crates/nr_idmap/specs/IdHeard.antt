@@ -38,7 +38,8 @@ IsUnnamedSince told way seen = (rest : List Event) × (seen ≡ rest ++ told) ×
 abbrev pub TellsOfWay : {Room : Type 0} → (Room → List Row → Type 0) → ℕ → Room → FoundId → Reply → Type 0
 TellsOfWay shows id room found.Rows told = (rows : List Row) × (told ≡ reply.Rows (tag_of id ∷ rows)) × shows room rows
 TellsOfWay shows id room found.Pending told = told ≡ reply.Hole
-TellsOfWay shows id room found.Moved told = (set : List Row) × (told ≡ reply.Rows set) × ((rows : List Row) → set ≢ tag_of id ∷ rows)
+TellsOfWay shows id room found.Moved told =
+    (set : List Row) × (told ≡ reply.Rows set) × ((rows : List Row) → set ≢ tag_of id ∷ rows)
 TellsOfWay shows id room found.Absent told = ⊥
 
 -- a put of an id's way that a note tells of: who heard the note, and the history up to the put and since
@@ -50,17 +51,22 @@ pub record HeardPut : Type 0 where
   pub since : List Entry
 
 -- that is the put of which the note told, or what came after it
-pub record FindsIdPut {Room : Type 0} (shows : Room → List Row → Type 0) (put : HeardPut) (asking new : IdCaller) (room : Room) (answer : FoundId) : Type 0 where
+pub record FindsIdPut {Room : Type 0} (shows : Room → List Row → Type 0) (put : HeardPut) (asking new : IdCaller)
+    (room : Room) (answer : FoundId) : Type 0 where
   pub told : Reply
   pub tells : TellsOfWay shows put.id room answer told
   pub more : List Entry
-  pub seen : new.caller.seen ≡ (put.written ++ (put.since ++ more)) ++ entry asking.caller.number (Find put.way) told ∷ []
+  pub seen : new.caller.seen
+      ≡ (put.written ++ (put.since ++ more)) ++ entry asking.caller.number (Find put.way) told ∷ []
   pub finds : FindsPut (map_at_opening put.old.caller.table) put.way put.written (put.since ++ more) told
 
--- the note's maker had seen the way's name, and a put of its rows; who heard the note finds that put or what came after it, unless the name was taken since
+-- the note's maker had seen the way's name, and a put of its rows; who heard the note finds that put or what came after
+-- it, unless the name was taken since
 abbrev pub FindsIdHeard : {Room : Type 0} → (Room → List Row → Type 0) → Type 0
 FindsIdHeard {Room = Room} shows =
-    (old asking new : IdCaller) (note : IdKnown) (id way : ℕ) (before since : List Entry) (put : Entry) (before_it room : Room) (answer : FoundId) →
+    (old asking new : IdCaller) (note : IdKnown) (id way : ℕ) (before since : List Entry) (put : Entry)
+    (before_it room : Room) (answer : FoundId)
+    →
     way < old.caller.table.shape.keys →
     0 < id →
     name_of note.ids.seen way ≡ id →
@@ -68,12 +74,17 @@ FindsIdHeard {Room = Room} shows =
     puts_at way put ≡ true →
     HeardIdBefore note old asking →
     FindsById shows id asking before_it new room answer →
-    IsUnnamedSince note.ids.seen way new.ids.seen ⊎ FindsIdPut shows (record { id = id; way = way; old = old; written = before ++ put ∷ []; since = since }) asking new room answer
+    IsUnnamedSince note.ids.seen way new.ids.seen
+    ⊎ FindsIdPut shows (record { id = id; way = way; old = old; written = before ++ put ∷ []; since = since })
+    asking new room answer
 
--- the put of which the note told left the way the id's rows; the writer has heard of the find since, and the find's history has no later eviction of the way: the find was answered with rows, unless the name was taken since
+-- the put of which the note told left the way the id's rows; the writer has heard of the find since, and the find's
+-- history has no later eviction of the way: the find was answered with rows, unless the name was taken since
 abbrev pub FindsItsRows : {Room : Type 0} → (Room → List Row → Type 0) → Type 0
 FindsItsRows {Room = Room} shows =
-    (keeper : Keeper) (old asking new : IdCaller) (note : IdKnown) (id way number : ℕ) (rows : List Row) (before since : List Entry) (put : Entry) (before_it room : Room) (answer : FoundId) →
+    (keeper : Keeper) (old asking new : IdCaller) (note : IdKnown) (id way number : ℕ) (rows : List Row)
+    (before since : List Entry) (put : Entry) (before_it room : Room) (answer : FoundId)
+    →
     IsTied keeper →
     old.caller.table ≡ keeper.table.map →
     StartsWith keeper.writer.seen new.caller.seen →
@@ -88,10 +99,13 @@ FindsItsRows {Room = Room} shows =
     FindsById shows id asking before_it new room answer →
     IsUnnamedSince note.ids.seen way new.ids.seen ⊎ (answer ≡ found.Rows)
 
--- a hand had seen the way's name, and that the way had the id's rows; the writer has heard of the find since, and the find's history has no later eviction of the way: the find was answered with rows, unless the name was taken since
+-- a hand had seen the way's name, and that the way had the id's rows; the writer has heard of the find since, and the
+-- find's history has no later eviction of the way: the find was answered with rows, unless the name was taken since
 abbrev pub PinsItsRows : Type 0
 PinsItsRows =
-    (keeper : Keeper) (old new : IdHanded) (id way number : ℕ) (rows : List Row) (before since : List Entry) (answer : FoundId) →
+    (keeper : Keeper) (old new : IdHanded) (id way number : ℕ) (rows : List Row) (before since : List Entry)
+    (answer : FoundId)
+    →
     IsTied keeper →
     hand_table_of old ≡ keeper.table →
     StartsWith keeper.writer.seen new.hand.reader.seen →

@@ -15,24 +15,29 @@ use Rattle.nr_idmap.specs.Keepers.{IsTied, Keeper, Owed, name_at, owed_at}
 
 -- each filled key's set begins with a tag
 abbrev pub AllTagged : PartialMap → Type 0
-AllTagged map = (key number : ℕ) (rows : List Row) → state_of map key ≡ Rows number rows → (id : ℕ) × (others : List Row) × (rows ≡ tag_of id ∷ others)
+AllTagged map =
+    (key number : ℕ) (rows : List Row) → state_of map key ≡ Rows number rows
+    → (id : ℕ) × (others : List Row) × (rows ≡ tag_of id ∷ others)
 
 -- the keys' sets are the ids' rows, each once
 pub record TellsIds (map : PartialMap) (ids : PartialIds) : Type 0 where
   pub bound : map.bound ≡ suc ids.bound
   pub tagged : AllTagged map
   pub present : (key : ℕ) (set : IdSet) → set_at map key ≡ Some set → ids.rows_of set.id ≡ Some set.rows
-  pub only : (id : ℕ) (rows : List Row) → ids.rows_of id ≡ Some rows → (key : ℕ) × (set_at map key ≡ Some (record { id = id; rows = rows }))
+  pub only : (id : ℕ) (rows : List Row) → ids.rows_of id ≡ Some rows
+      → (key : ℕ) × (set_at map key ≡ Some (record { id = id; rows = rows }))
   pub one : (j k : ℕ) (s t : IdSet) → set_at map j ≡ Some s → set_at map k ≡ Some t → s.id ≡ t.id → j ≡ k
 
--- a legal history of keys whose writer is tidy, read by its tags, is a legal history of the partial map over ids, and both end with the same rows
+-- a legal history of keys whose writer is tidy, read by its tags, is a legal history of the partial map over ids, and
+-- both end with the same rows
 abbrev pub ReadsAsIds : Type 0
 ReadsAsIds =
     (keys bound number : ℕ) (history : List Entry) →
     IsLegal (opening keys (suc bound) number) history →
     IsTidy (opening keys (suc bound) number) history →
     IsIdLegal (no_ids bound) (read_by_id (opening keys (suc bound) number) history)
-    × TellsIds (after (opening keys (suc bound) number) history) (ids_after (no_ids bound) (read_by_id (opening keys (suc bound) number) history))
+    × TellsIds (after (opening keys (suc bound) number) history)
+    (ids_after (no_ids bound) (read_by_id (opening keys (suc bound) number) history))
 
 -- in it an id is resident with one set, of one key
 abbrev pub OneSet : Type 0
@@ -62,7 +67,8 @@ TiedReadsAsIds =
     IsIdLegal (no_ids bound) (read_by_id (map_at_opening keeper.writer.table) keeper.writer.seen)
     × TellsIds (map_seen keeper.writer) (ids_seen bound keeper.writer)
 
--- a find of a reader whose history the writer has heard, answered with an id's tag, has the rows that the id has then in the map over ids
+-- a find of a reader whose history the writer has heard, answered with an id's tag, has the rows that the id has then
+-- in the map over ids
 abbrev pub HeardFinds : Type 0
 HeardFinds =
     (keeper : Keeper) (old new : Caller) (steps key bound id : ℕ) (rows : List Row) →
@@ -71,12 +77,15 @@ HeardFinds =
     old.table ≡ keeper.table.map →
     StartsWith keeper.writer.seen new.seen →
     (gains : Gains steps (Find key) old new (reply.Rows (tag_of id ∷ rows))) →
-    (ids_after (no_ids bound) (read_by_id (map_at_opening old.table) (old.seen ++ gains.between))).rows_of id ≡ Some rows
+    (ids_after (no_ids bound) (read_by_id (map_at_opening old.table) (old.seen ++ gains.between))).rows_of id
+    ≡ Some rows
 
 -- THE LEDGER
 -- an open upquery is for its way, whose name is its id
 abbrev pub OwedIsNamed : Type 0
-OwedIsNamed = (keeper : Keeper) (way : ℕ) (owed : Owed) → owed_at keeper way ≡ Some owed → (owed.way ≡ way) × (name_at keeper way ≡ owed.id) × (0 < owed.id)
+OwedIsNamed =
+    (keeper : Keeper) (way : ℕ) (owed : Owed) → owed_at keeper way ≡ Some owed
+    → (owed.way ≡ way) × (name_at keeper way ≡ owed.id) × (0 < owed.id)
 
 -- an id has one open upquery at most
 abbrev pub OneUpquery : Type 0
@@ -94,7 +103,8 @@ NamedIsOwedOrResident =
     (keeper : Keeper) (way : ℕ) →
     IsTied keeper →
     0 < name_at keeper way →
-    ((owed : Owed) × (owed_at keeper way ≡ Some owed) × ((rows : List Row) → IsResident (map_seen keeper.writer) (name_at keeper way) rows → ⊥))
+    ((owed : Owed) × (owed_at keeper way ≡ Some owed)
+    × ((rows : List Row) → IsResident (map_seen keeper.writer) (name_at keeper way) rows → ⊥))
     ⊎ ((rows : List Row) × IsResident (map_seen keeper.writer) (name_at keeper way) rows × (owed_at keeper way ≡ None))
 
 -- an id that has no way has neither

@@ -9,7 +9,8 @@ use Rattle.nr_idmap.specs.Keepers.{IdCaller}
 -- each of these ids was looked up, in turn
 abbrev pub LooksUpEach : List ℕ → Token → Token → Type 0
 LooksUpEach [] old new = new ≡ old
-LooksUpEach (id ∷ ids) old new = (found : Option ℕ) × (next : Token) × LooksUp id old next found × LooksUpEach ids next new
+LooksUpEach (id ∷ ids) old new =
+    (found : Option ℕ) × (next : Token) × LooksUp id old next found × LooksUpEach ids next new
 
 -- a name of each one's group was loaded; all were looked up; and words were loaded that finds in their ways need
 pub record LoadsAheadById (ids : List ℕ) (old new : IdCaller) : Type 0 where

@@ -12,10 +12,17 @@ use Rattle.nr_idmap.specs.Tags.{tag_of}
 
 -- the set was found in the id's way: the call's entry in the map's history
 abbrev pub LooksInWay : ℕ → ℕ → List Row → Keeper → Keeper → Type 0
-LooksInWay id way set old new = FindsWay id old.clerk new.clerk (Some way) × Gains (2 * length set + 2) (model.Find way) old.writer new.writer (reply.Rows set)
+LooksInWay id way set old new =
+    FindsWay id old.clerk new.clerk (Some way)
+    × Gains (2 * length set + 2) (model.Find way) old.writer new.writer (reply.Rows set)
 
 -- the id's rows, behind its tag; or its way is a hole; or it has none
-abbrev pub LooksById : {Room : Type 0} → (Room → List Row → Type 0) → ℕ → Keeper → Room → Keeper → Room → Looked → Type 0
-LooksById shows id old before new room looked.Rows = (way : ℕ) × (rows : List Row) × LooksInWay id way (tag_of id ∷ rows) old new × shows room rows
-LooksById shows id old before new room looked.Pending = (way : ℕ) × FindsWay id old.clerk new.clerk (Some way) × Gains 1 (model.Find way) old.writer new.writer reply.Hole × (room ≡ before)
-LooksById shows id old before new room looked.Absent = FindsWay id old.clerk new.clerk None × (new.writer ≡ old.writer) × (room ≡ before)
+abbrev pub LooksById : {Room : Type 0} → (Room → List Row → Type 0) → ℕ → Keeper → Room → Keeper → Room → Looked
+    → Type 0
+LooksById shows id old before new room looked.Rows =
+    (way : ℕ) × (rows : List Row) × LooksInWay id way (tag_of id ∷ rows) old new × shows room rows
+LooksById shows id old before new room looked.Pending =
+    (way : ℕ) × FindsWay id old.clerk new.clerk (Some way) × Gains 1 (model.Find way) old.writer new.writer reply.Hole
+    × (room ≡ before)
+LooksById shows id old before new room looked.Absent =
+    FindsWay id old.clerk new.clerk None × (new.writer ≡ old.writer) × (room ≡ before)

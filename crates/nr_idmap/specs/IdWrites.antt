@@ -67,18 +67,28 @@ pub record WasClosed (refused : Caller → Caller → Type 0) (owed : Owed) (old
 
 abbrev pub FillsId : Owed → List Row → Keeper → Keeper → Result (Unit {0}) Unfilled → Type 0
 FillsId owed rows old new (Ok done) = FillsOwed owed rows old new
-FillsId owed rows old new (Err unfilled.Closed) = WasClosed (λ writer writer'. (why : FillFault) × FillsKey owed.way owed.number (tag_of owed.id ∷ rows) writer writer' (Err why)) owed old new
-FillsId owed rows old new (Err (unfilled.NoSlot upquery counts)) = (upquery ≡ record { table = old.table; owed = owed }) × LacksForOwed owed rows old new counts
+FillsId owed rows old new (Err unfilled.Closed) =
+    WasClosed
+    (λ writer writer'. (why : FillFault)
+    × FillsKey owed.way owed.number (tag_of owed.id ∷ rows) writer writer' (Err why))
+    owed old new
+FillsId owed rows old new (Err (unfilled.NoSlot upquery counts)) =
+    (upquery ≡ record { table = old.table; owed = owed }) × LacksForOwed owed rows old new counts
 
 -- the same by a call that gives out what its slot had; where nothing was put the room stays
-pub record FillsAndGives {Room : Type 0} (shows : Room → List Row → Type 0) (owed : Owed) (rows : List Row) (old : Keeper) (before : Room) (new : Keeper) (after : Room) (given : Reclaimed) : Type 0 where
+pub record FillsAndGives {Room : Type 0} (shows : Room → List Row → Type 0) (owed : Owed) (rows : List Row)
+    (old : Keeper) (before : Room) (new : Keeper) (after : Room) (given : Reclaimed) : Type 0 where
   pub finds : FindsOwed owed old new
-  pub fills : FillsReclaiming shows owed.way owed.number (tag_of owed.id ∷ rows) old.writer before new.writer after (Ok given)
+  pub fills : FillsReclaiming shows owed.way owed.number (tag_of owed.id ∷ rows) old.writer before new.writer after
+      (Ok given)
   pub closes : ClosesOne owed old new
 
-abbrev pub FillsIdReclaiming : {Room : Type 0} → (Room → List Row → Type 0) → Owed → List Row → Keeper → Room → Keeper → Room → Result Reclaimed Unfilled → Type 0
-FillsIdReclaiming shows owed rows old before new after (Ok given) = FillsAndGives shows owed rows old before new after given
-FillsIdReclaiming shows owed rows old before new after (Err why) = FillsId owed rows old new (Err why) × (after ≡ before)
+abbrev pub FillsIdReclaiming : {Room : Type 0} → (Room → List Row → Type 0) → Owed → List Row → Keeper → Room → Keeper
+    → Room → Result Reclaimed Unfilled → Type 0
+FillsIdReclaiming shows owed rows old before new after (Ok given) =
+    FillsAndGives shows owed rows old before new after given
+FillsIdReclaiming shows owed rows old before new after (Err why) =
+    FillsId owed rows old new (Err why) × (after ≡ before)
 
 -- what comes back is of that map
 abbrev pub ReturnsTo : IdTable → Unfilled → Type 0
@@ -107,17 +117,23 @@ pub record WornOwed (owed : Owed) (old new : Keeper) : Type 0 where
 
 abbrev pub WithdrawsId : Owed → Keeper → Keeper → Withdrawn → Type 0
 WithdrawsId owed old new withdrawn.Done = WithdrawsOwed owed old new
-WithdrawsId owed old new withdrawn.Closed = WasClosed (λ writer writer'. CancelsKey owed.way writer writer' cancel.Nothing) owed old new
-WithdrawsId owed old new (withdrawn.Worn upquery) = (upquery ≡ record { table = old.table; owed = owed }) × WornOwed owed old new
+WithdrawsId owed old new withdrawn.Closed =
+    WasClosed (λ writer writer'. CancelsKey owed.way writer writer' cancel.Nothing) owed old new
+WithdrawsId owed old new (withdrawn.Worn upquery) =
+    (upquery ≡ record { table = old.table; owed = owed }) × WornOwed owed old new
 
 -- UPDATES, REPLACEMENTS AND EVICTIONS
 -- the call of the map's writer on the id's way, or the id has none
-abbrev pub CallsWay : {Done Fault : Type 0} → (ℕ → Caller → Caller → Result Done Fault → Type 0) → ℕ → Keeper → Keeper → Result Done (IdFault Fault) → Type 0
-CallsWay calls id old new (Ok done) = (way : ℕ) × FindsWay id old.clerk new.clerk (Some way) × calls way old.writer new.writer (Ok done)
-CallsWay calls id old new (Err (fault.Refused why)) = (way : ℕ) × FindsWay id old.clerk new.clerk (Some way) × calls way old.writer new.writer (Err why)
+abbrev pub CallsWay : {Done Fault : Type 0} → (ℕ → Caller → Caller → Result Done Fault → Type 0) → ℕ → Keeper → Keeper
+    → Result Done (IdFault Fault) → Type 0
+CallsWay calls id old new (Ok done) =
+    (way : ℕ) × FindsWay id old.clerk new.clerk (Some way) × calls way old.writer new.writer (Ok done)
+CallsWay calls id old new (Err (fault.Refused why)) =
+    (way : ℕ) × FindsWay id old.clerk new.clerk (Some way) × calls way old.writer new.writer (Err why)
 CallsWay calls id old new (Err fault.Absent) = FindsWay id old.clerk new.clerk None × (new.writer ≡ old.writer)
 
--- an eviction takes the set of the id's way, and then its name; a way that is asked for keeps both its number and its name
+-- an eviction takes the set of the id's way, and then its name; a way that is asked for keeps both its number and its
+-- name
 pub record EvictsWay (id way : ℕ) (old new : Keeper) : Type 0 where
   pub mid : Token
   pub finds : FindsWay id old.clerk mid (Some way)

@@ -1,4 +1,5 @@
--- The writer of a map over ids: the map's writer, the directory's clerk and a reader that asks, in one hand. What ties the two tables, and the ledger of open upqueries.
+-- The writer of a map over ids: the map's writer, the directory's clerk and a reader that asks, in one hand. What ties
+-- the two tables, and the ledger of open upqueries.
 use Rattle.std.specs.Prelude.{◌≡◌, ◌≢◌, ℕ, zero, suc, ◌-◌, ◌<◌, List, ◌∷◌, Option, Some, None}
 use Rattle.nr_model.specs.declared.rows.Row.{Row}
 use Rattle.nr_model.specs.declared.states.KeyState.{KeyState}
@@ -37,7 +38,13 @@ pub record Keeper : Type 0 where
 
 -- of these three tokens
 abbrev pub keeper_of : Caller → Caller → Token → Keeper
-keeper_of writer asker clerk = record { table = record { map = writer.table; directory = clerk.directory }; writer = writer; asker = asker; clerk = clerk }
+keeper_of writer asker clerk =
+    record {
+      table = record { map = writer.table; directory = clerk.directory };
+      writer = writer;
+      asker = asker;
+      clerk = clerk;
+    }
 
 -- the name of a way, as the clerk knows it: an id, or 0
 abbrev pub name_at : Keeper → ℕ → ℕ

@@ -1,4 +1,5 @@
--- The partial map over ids: an id is absent or has rows. What each call answers, and which map it leaves; and a history of keys, read as one of ids.
+-- The partial map over ids: an id is absent or has rows. What each call answers, and which map it leaves; and a history
+-- of keys, read as one of ids.
 use Rattle.std.specs.Prelude.{◌≡◌, ℕ, ◌==◌, if◌then◌else◌, List, [], ◌∷◌, ◌++◌, Option, Some, None, Result, Ok, Err}
 use Rattle.nr_model.specs.declared.rows.Row.{Row}
 use Rattle.nr_model.specs.declared.batches.Delta.{Delta}
@@ -81,7 +82,11 @@ abbrev pub with_id : (ℕ → Option (List Row)) → ℕ → Option (List Row) �
 with_id rows_of id left = λ other. if other == id then left else rows_of other
 
 abbrev pub id_next : PartialIds → IdCall → PartialIds
-id_next ids call = record { bound = ids.bound; rows_of = with_id ids.rows_of (id_of call) (id_left ids.bound call (ids.rows_of (id_of call))) }
+id_next ids call =
+    record {
+      bound = ids.bound;
+      rows_of = with_id ids.rows_of (id_of call) (id_left ids.bound call (ids.rows_of (id_of call)));
+    }
 
 pub record IdEntry : Type 0 where
   pub caller : ℕ
@@ -95,7 +100,8 @@ ids_after ids (e ∷ history) = ids_after (id_next ids e.call) history
 -- each entry's reply is the map's after the entries before it
 abbrev pub IsIdLegal : PartialIds → List IdEntry → Type 0
 IsIdLegal ids [] = Unit {0}
-IsIdLegal ids (e ∷ history) = (e.reply ≡ id_reply ids.bound e.call (ids.rows_of (id_of e.call))) × IsIdLegal (id_next ids e.call) history
+IsIdLegal ids (e ∷ history) =
+    (e.reply ≡ id_reply ids.bound e.call (ids.rows_of (id_of e.call))) × IsIdLegal (id_next ids e.call) history
 
 -- READING A HISTORY OF KEYS
 -- an answer without the tag
@@ -125,9 +131,11 @@ set_put _ rows = None
 abbrev pub call_by_id : ℕ → Call → Reply → Option IdSet → List IdEntry
 call_by_id caller (Find key) answer had = told_of had caller (λ set. find_id set.id) (reply_told answer)
 call_by_id caller (Ask key) answer had = []
-call_by_id caller (Fill key number rows) answer had = told_of (set_put answer rows) caller (λ set. fill_id set.id set.rows) (reply_told answer)
+call_by_id caller (Fill key number rows) answer had =
+    told_of (set_put answer rows) caller (λ set. fill_id set.id set.rows) (reply_told answer)
 call_by_id caller (Update key batch) answer had = told_of had caller (λ set. update_id set.id batch) (reply_told answer)
-call_by_id caller (Replace key rows) answer had = told_of (set_put answer rows) caller (λ set. replace_id set.id set.rows) (reply_told answer)
+call_by_id caller (Replace key rows) answer had =
+    told_of (set_put answer rows) caller (λ set. replace_id set.id set.rows) (reply_told answer)
 call_by_id caller (Evict key) answer had = told_of had caller (λ set. evict_id set.id) (reply_told answer)
 call_by_id caller (Cancel key) answer had = []
 

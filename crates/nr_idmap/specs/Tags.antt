@@ -1,4 +1,5 @@
--- The tag of a set: a first row that says whose rows the others are. An id's own rows have an `a` above 0, so the tag comes first, and no update touches it.
+-- The tag of a set: a first row that says whose rows the others are. An id's own rows have an `a` above 0, so the tag
+-- comes first, and no update touches it.
 use Rattle.std.specs.Prelude.{◌≡◌, ◌≢◌, ℕ, ◌<◌, Bool, true, false, List, [], ◌∷◌, All, Option, Some, None}
 use Rattle.nr_model.specs.declared.rows.Row.{Row}
 use Rattle.nr_model.specs.declared.batches.Delta.{Delta}

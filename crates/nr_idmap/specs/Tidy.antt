@@ -39,4 +39,5 @@ KeepsTags map (Cancel key) answer = Unit {0}
 -- each call is of a key of the map, and keeps to it
 abbrev pub IsTidy : PartialMap → List Entry → Type 0
 IsTidy map [] = Unit {0}
-IsTidy map (e ∷ history) = (call_key e.call < key_count map) × KeepsTags map e.call e.reply × IsTidy (next map e.call) history
+IsTidy map (e ∷ history) =
+    (call_key e.call < key_count map) × KeepsTags map e.call e.reply × IsTidy (next map e.call) history

@@ -1,5 +1,6 @@
 -- The laws.
-use Rattle.std.proofs.Common.{◌≡◌, ℕ, ◌+◌, ◌%◌, ◌<◌, ◌⊎◌, ⊎_elim, inl, inr, List, [], ◌∷◌, ◌++◌, refl, sym, ap, ◌∙◌, subst, arith, append_assoc, Option, Some, None}
+use Rattle.std.proofs.Common.{◌≡◌, ℕ, ◌+◌, ◌%◌, ◌<◌, ◌⊎◌, ⊎_elim, inl, inr, List, [], ◌∷◌, ◌++◌, refl, sym, ap, ◌∙◌}
+use Rattle.std.proofs.Common.{subst, arith, append_assoc, Option, Some, None}
 use mathlib.Core.Logic.{dite}
 use native.Mathlib.Decide.{ℕ_discrete}
 use Rattle.nr_ids.specs.declared.plan.Plan.{Plan}
@@ -14,16 +15,25 @@ has_on : (event first : Event) (rest : List Event) → Has event rest → Has ev
 has_on event first rest was = (first ∷ was.0, was.1, ap (λ (l : List Event). first ∷ l) was.2)
 
 -- an odd turn stays so until a clearing
-odd_until_cleared : (plan : Plan) (rest log : List Event) (group : ℕ) → IsLegal plan (rest ++ log) → IsOpen plan log group → Has (cleared group) rest ⊎ IsOpen plan (rest ++ log) group
+odd_until_cleared : (plan : Plan) (rest log : List Event) (group : ℕ) → IsLegal plan (rest ++ log)
+    → IsOpen plan log group → Has (cleared group) rest ⊎ IsOpen plan (rest ++ log) group
 odd_until_cleared plan [] log group legal odd = inr odd
-odd_until_cleared plan (event ∷ rest) log group legal odd = ⊎_elim (λ has. inl (has_on (cleared group) event rest has)) (still event legal.0) (odd_until_cleared plan rest log group legal.1 odd)
+odd_until_cleared plan (event ∷ rest) log group legal odd =
+    ⊎_elim (λ has. inl (has_on (cleared group) event rest has)) (still event legal.0)
+    (odd_until_cleared plan rest log group legal.1 odd)
   where
-    still : (e : Event) → May plan (rest ++ log) e → IsOpen plan (rest ++ log) group → Has (cleared group) (e ∷ rest) ⊎ IsOpen plan (e ∷ rest ++ log) group
+    still : (e : Event) → May plan (rest ++ log) e → IsOpen plan (rest ++ log) group
+        → Has (cleared group) (e ∷ rest) ⊎ IsOpen plan (e ∷ rest ++ log) group
     still (named way id) may here = inr here
     still (unnamed way) may here = inr here
-    still (cleared of) may here = ⊎_elim (λ t. inl ([], rest, ap (λ (k : ℕ). cleared k ∷ rest) t.0)) (λ t. inr (ap (λ (k : ℕ). k % 2) t.1 ∙ here)) (turn_on plan (rest ++ log) of group)
+    still (cleared of) may here =
+        ⊎_elim (λ t. inl ([], rest, ap (λ (k : ℕ). cleared k ∷ rest) t.0)) (λ t. inr (ap (λ (k : ℕ). k % 2) t.1 ∙ here))
+        (turn_on plan (rest ++ log) of group)
     still (claimed by id) may here = ⊎_elim
-        (λ t. let even : turn_of plan (rest ++ log) group % 2 ≡ 0 = ap (λ (k : ℕ). turn_of plan (rest ++ log) k % 2) (sym t.0) ∙ may.closed in absurd (omega arith))
+        (λ t.
+        let even : turn_of plan (rest ++ log) group % 2 ≡ 0
+        = ap (λ (k : ℕ). turn_of plan (rest ++ log) k % 2) (sym t.0) ∙ may.closed in
+        absurd (omega arith))
         (λ t. inr (ap (λ (k : ℕ). k % 2) t.1 ∙ here)) (turn_on plan (rest ++ log) (group_of plan id) group)
     still (looked by) may here = inr here
 
@@ -31,17 +41,27 @@ pub one_claim : OneClaim
 one_claim plan rest log by id other twin legal same =
     let first = legal_end plan rest (claimed other twin ∷ log) legal.1 in let group = group_of plan id in
     let even : turn_of plan log group % 2 ≡ 0 = ap (λ (k : ℕ). turn_of plan log k % 2) (sym same) ∙ first.0.closed in
-    let odd : turn_of plan (claimed other twin ∷ log) group % 2 ≡ 1 = ⊎_elim (λ t. let e = t.1 in omega arith) (λ t. absurd (t.0 same)) (turn_on plan log (group_of plan twin) group) in
-    let now = legal.0.closed in ⊎_elim (λ has. has) (λ still. absurd (omega arith)) (odd_until_cleared plan rest (claimed other twin ∷ log) group legal.1 odd)
+    let odd : turn_of plan (claimed other twin ∷ log) group % 2 ≡ 1
+    = ⊎_elim (λ t. let e = t.1 in omega arith) (λ t. absurd (t.0 same))
+    (turn_on plan log (group_of plan twin) group) in
+    let now = legal.0.closed in
+    ⊎_elim (λ has. has) (λ still. absurd (omega arith))
+    (odd_until_cleared plan rest (claimed other twin ∷ log) group legal.1 odd)
 
 -- a name stays until it is taken
-stays : (plan : Plan) (rest log : List Event) (way id : ℕ) → IsLegal plan (rest ++ log) → 0 < id → name_of log way ≡ id → (name_of (rest ++ log) way ≡ id) ⊎ Has (unnamed way) rest
+stays : (plan : Plan) (rest log : List Event) (way id : ℕ) → IsLegal plan (rest ++ log) → 0 < id → name_of log way ≡ id
+    → (name_of (rest ++ log) way ≡ id) ⊎ Has (unnamed way) rest
 stays plan [] log way id legal real at = inl at
-stays plan (event ∷ rest) log way id legal real at = ⊎_elim (still event legal.0) (λ gone. inr (has_on (unnamed way) event rest gone)) (stays plan rest log way id legal.1 real at)
+stays plan (event ∷ rest) log way id legal real at =
+    ⊎_elim (still event legal.0) (λ gone. inr (has_on (unnamed way) event rest gone))
+    (stays plan rest log way id legal.1 real at)
   where
-    still : (e : Event) → May plan (rest ++ log) e → name_of (rest ++ log) way ≡ id → (name_of (e ∷ rest ++ log) way ≡ id) ⊎ Has (unnamed way) (e ∷ rest)
+    still : (e : Event) → May plan (rest ++ log) e → name_of (rest ++ log) way ≡ id
+        → (name_of (e ∷ rest ++ log) way ≡ id) ⊎ Has (unnamed way) (e ∷ rest)
     still (named w i) may here = dite (ℕ_discrete w way)
-        (λ (e : w ≡ way). let free : name_of (rest ++ log) way ≡ 0 = ap (name_of (rest ++ log)) (sym e) ∙ may.free in absurd (omega arith))
+        (λ (e : w ≡ way).
+        let free : name_of (rest ++ log) way ≡ 0 = ap (name_of (rest ++ log)) (sym e) ∙ may.free in
+        absurd (omega arith))
         (λ ne. inl (cond_else i (name_of (rest ++ log) way) w way ne ∙ here))
     still (unnamed w) may here = dite (ℕ_discrete w way)
         (λ (e : w ≡ way). inr ([], rest, ap (λ (k : ℕ). unnamed k ∷ rest) e))
@@ -54,7 +74,8 @@ pub one_naming : OneNaming
 one_naming plan rest log way first id legal = let before = legal_end plan rest (named first id ∷ log) legal.1 in ⊎_elim
     (λ still. absurd (legal.0.absent first still))
     (λ gone. gone)
-    (stays plan rest (named first id ∷ log) first id legal.1 before.0.real (cond_same id (name_of log first) first first refl))
+    (stays plan rest (named first id ∷ log) first id legal.1 before.0.real
+    (cond_same id (name_of log first) first first refl))
 
 pub turn_counts : TurnCounts
 turn_counts plan [] group = refl
@@ -64,12 +85,20 @@ turn_counts plan (cleared of ∷ log) group = let before = turn_counts plan log 
     (λ (e : of ≡ group). cond_same (turn_of plan log group + 1) (turn_of plan log group) of group e
     ∙ omega (arith, before, cond_same (closings group log + 1) (closings group log) of group e))
     (λ ne. cond_else (turn_of plan log group + 1) (turn_of plan log group) of group ne
-    ∙ before ∙ ap (λ (k : ℕ). claims plan group log + k) (sym (cond_else (closings group log + 1) (closings group log) of group ne)))
-turn_counts plan (claimed by id ∷ log) group = let before = turn_counts plan log group in let of = group_of plan id in dite (ℕ_discrete (group_of plan id) group)
-    (λ (e : group_of plan id ≡ group). cond_same (turn_of plan log group + 1) (turn_of plan log group) (group_of plan id) group e
+    ∙ before
+    ∙ ap (λ (k : ℕ). claims plan group log + k)
+    (sym (cond_else (closings group log + 1) (closings group log) of group ne)))
+turn_counts plan (claimed by id ∷ log) group =
+    let before = turn_counts plan log group in
+    let of = group_of plan id in
+    dite (ℕ_discrete (group_of plan id) group)
+    (λ (e : group_of plan id ≡ group). cond_same (turn_of plan log group + 1) (turn_of plan log group)
+    (group_of plan id) group e
     ∙ omega (arith, before, cond_same (claims plan group log + 1) (claims plan group log) (group_of plan id) group e))
     (λ ne. cond_else (turn_of plan log group + 1) (turn_of plan log group) (group_of plan id) group ne
-    ∙ before ∙ ap (λ (k : ℕ). k + closings group log) (sym (cond_else (claims plan group log + 1) (claims plan group log) (group_of plan id) group ne)))
+    ∙ before
+    ∙ ap (λ (k : ℕ). k + closings group log)
+    (sym (cond_else (claims plan group log + 1) (claims plan group log) (group_of plan id) group ne)))
 turn_counts plan (looked by ∷ log) group = turn_counts plan log group
 
 has_before : (event : Event) (later since : List Event) → Has event since → Has event (later ++ since)
@@ -77,32 +106,72 @@ has_before event [] since has = has
 has_before event (first ∷ later) since has = has_on event first (later ++ since) (has_before event later since has)
 
 has_after : (event : Event) (since before : List Event) → Has event since → Has event (since ++ before)
-has_after event since before has = (has.0, has.1 ++ before, ap (λ (l : List Event). l ++ before) has.2 ∙ append_assoc has.0 (event ∷ has.1) before)
+has_after event since before has =
+    (has.0, has.1 ++ before, ap (λ (l : List Event). l ++ before) has.2 ∙ append_assoc has.0 (event ∷ has.1) before)
 
 pub finds_what_it_knew : FindsWhatItKnew
-finds_what_it_knew id way old new (Some found) real knows looks = let grows = looks.grows in let plan = old.directory.plan in ⊎_elim
-    (λ still. inl (ap Some (one_way plan new.seen found way id grows.legal real looks.named.has (ap (λ (l : List Event). name_of l way) grows.seen ∙ still))))
+finds_what_it_knew id way old new (Some found) real knows looks =
+    let grows = looks.grows in
+    let plan = old.directory.plan in
+    ⊎_elim
+    (λ still. inl
+    (ap Some
+    (one_way plan new.seen found way id grows.legal real looks.named.has
+    (ap (λ (l : List Event). name_of l way) grows.seen ∙ still))))
     (λ gone. inr (grows.rest, grows.seen, gone))
     (stays plan grows.rest old.seen way id (subst (IsLegal plan) grows.seen grows.legal) real knows.has)
-finds_what_it_knew id way old new None real knows looks = let grows = looks.0 in let plan = old.directory.plan in let absent = looks.1 in let within = absent.within in
-    let whole : new.seen ≡ (within.later ++ within.since) ++ old.seen = within.until ∙ ap (λ (l : List Event). within.later ++ l) within.from ∙ sym (append_assoc within.later within.since old.seen) in
-    let legal : IsLegal plan (within.since ++ old.seen) = legal_end plan within.later (within.since ++ old.seen) (subst (IsLegal plan) (append_assoc within.later within.since old.seen) (subst (IsLegal plan) whole grows.legal)) in ⊎_elim
+finds_what_it_knew id way old new None real knows looks =
+    let grows = looks.0 in
+    let plan = old.directory.plan in
+    let absent = looks.1 in
+    let within = absent.within in
+    let whole : new.seen ≡ (within.later ++ within.since) ++ old.seen
+    = within.until ∙ ap (λ (l : List Event). within.later ++ l) within.from
+    ∙ sym (append_assoc within.later within.since old.seen) in
+    let legal : IsLegal plan (within.since ++ old.seen)
+    = legal_end plan within.later (within.since ++ old.seen)
+    (subst (IsLegal plan) (append_assoc within.later within.since old.seen)
+    (subst (IsLegal plan) whole grows.legal)) in
+    ⊎_elim
     (λ still. absurd (absent.absent way (ap (λ (l : List Event). name_of l way) within.from ∙ still)))
     (λ gone. inr (within.later ++ within.since, whole, has_before (unnamed way) within.later within.since gone))
     (stays plan within.since old.seen way id legal real knows.has)
 
 -- what a look-up adds
-grown : (id : ℕ) (old new : Token) (found : Option ℕ) → LooksUp id old new found → (rest : List Event) × (new.seen ≡ rest ++ old.seen) × IsLegal old.directory.plan old.seen
-grown id old new (Some way) looks = (looks.grows.rest, looks.grows.seen, legal_end old.directory.plan looks.grows.rest old.seen (subst (IsLegal old.directory.plan) looks.grows.seen looks.grows.legal))
-grown id old new None looks = (looks.0.rest, looks.0.seen, legal_end old.directory.plan looks.0.rest old.seen (subst (IsLegal old.directory.plan) looks.0.seen looks.0.legal))
+grown : (id : ℕ) (old new : Token) (found : Option ℕ) → LooksUp id old new found
+    → (rest : List Event) × (new.seen ≡ rest ++ old.seen) × IsLegal old.directory.plan old.seen
+grown id old new (Some way) looks = (
+  looks.grows.rest,
+  looks.grows.seen,
+  legal_end old.directory.plan looks.grows.rest old.seen
+      (subst (IsLegal old.directory.plan) looks.grows.seen looks.grows.legal),
+)
+grown id old new None looks = (
+  looks.0.rest,
+  looks.0.seen,
+  legal_end old.directory.plan looks.0.rest old.seen
+      (subst (IsLegal old.directory.plan) looks.0.seen looks.0.legal),
+)
 
 pub finds_what_it_heard : FindsWhatItHeard
 finds_what_it_heard note id way old new found real has begins looks =
-    let plan = old.directory.plan in let on = grown id old new found looks in let since : List Event = begins.0 in ⊎_elim
+    let plan = old.directory.plan in
+    let on = grown id old new found looks in
+    let since : List Event = begins.0 in
+    ⊎_elim
     (λ still. let here : name_of old.seen way ≡ id = ap (λ (l : List Event). name_of l way) begins.1 ∙ still in ⊎_elim
     (λ there. inl there)
     (λ (gone : (rest : List Event) × (new.seen ≡ rest ++ old.seen) × Has (unnamed way) rest).
-    inr (gone.0 ++ since, gone.1 ∙ ap (λ (l : List Event). gone.0 ++ l) begins.1 ∙ sym (append_assoc gone.0 since note.seen), has_after (unnamed way) gone.0 since gone.2))
-    (finds_what_it_knew id way old new found real (record { inside = (named_inside plan old.seen way id on.2 real here).0; has = here }) looks))
-    (λ gone. inr (on.0 ++ since, on.1 ∙ ap (λ (l : List Event). on.0 ++ l) begins.1 ∙ sym (append_assoc on.0 since note.seen), has_before (unnamed way) on.0 since gone))
+    inr (
+      gone.0 ++ since,
+      gone.1 ∙ ap (λ (l : List Event). gone.0 ++ l) begins.1 ∙ sym (append_assoc gone.0 since note.seen),
+      has_after (unnamed way) gone.0 since gone.2,
+    ))
+    (finds_what_it_knew id way old new found real
+    (record { inside = (named_inside plan old.seen way id on.2 real here).0; has = here }) looks))
+    (λ gone. inr (
+      on.0 ++ since,
+      on.1 ∙ ap (λ (l : List Event). on.0 ++ l) begins.1 ∙ sym (append_assoc on.0 since note.seen),
+      has_before (unnamed way) on.0 since gone,
+    ))
     (stays plan since note.seen way id (subst (IsLegal plan) begins.1 on.2) real has)

@@ -1,5 +1,6 @@
 -- Each step of a seat on the table may be made, and what it tells is what the seat's token gains.
-use Rattle.std.proofs.Common.{◌≡◌, ℕ, zero, suc, ◌+◌, ◌%◌, ◌<◌, ◌==◌, List, [], ◌∷◌, ◌++◌, length, get_or, set, refl, sym, ap, ◌∙◌, subst, arith}
+use Rattle.std.proofs.Common.{◌≡◌, ℕ, zero, suc, ◌+◌, ◌%◌, ◌<◌, ◌==◌, List, [], ◌∷◌, ◌++◌, length, get_or, set, refl}
+use Rattle.std.proofs.Common.{sym, ap, ◌∙◌, subst, arith}
 use mathlib.Core.Option.{some, none, some-injective, some-ne-none}
 use lib.ListN.{get_elem?}
 use lib.Seq.{set-get_or}
@@ -12,9 +13,11 @@ use Rattle.atomic_table.specs.Table.{State, Act, Allows, Valid, carried_after, k
 use Rattle.atomic_table.proofs.Lists.{exchanged}
 use Rattle.nr_ids.specs.declared.plan.Plan.{Plan}
 use Rattle.nr_ids.specs.Groups.{group_of, places, ways, IsPlan}
-use Rattle.nr_ids.specs.Events.{Event, named, unnamed, cleared, claimed, looked, maker, own, name_of, turn_of, last_turn, May, MayName, MayClaim, IsLegal, IsOpen}
+use Rattle.nr_ids.specs.Events.{Event, named, unnamed, cleared, claimed, looked, maker, own, name_of, turn_of}
+use Rattle.nr_ids.specs.Events.{last_turn, May, MayName, MayClaim, IsLegal, IsOpen}
 use Rattle.nr_ids.specs.Rule.{View, Shows, Fits, Kept, opener, counted, marks_place, turn_place, total}
-use Rattle.nr_ids.specs.Plays.{Goes, has_looked_at_name, has_looked_at_turn, has_claimed, has_marked, has_named, has_unnamed, has_cleared}
+use Rattle.nr_ids.specs.Plays.{Goes, has_looked_at_name, has_looked_at_turn, has_claimed, has_marked, has_named}
+use Rattle.nr_ids.specs.Plays.{has_unnamed, has_cleared}
 use Rattle.nr_ids.specs.Scans.{Scanned}
 use Rattle.nr_ids.specs.Tokens.{Opened, Sits, Grows, WinsClaim, token}
 use Rattle.nr_ids.proofs.Logs.{ClearsNothing, own_this, quiet_names, quiet_turn}
@@ -31,7 +34,8 @@ pub record Stands (table : TableId) (key : Plan) (now : Opened) : Type 0 where
   pub wide : table.words ≡ total now.plan
   pub sizes : IsPlan now.plan
 
-pub stands : (table : TableId) (key plan : Plan) (now : Opened) → record { id = table; plan = plan } ≡ now → (key ≡ plan) × (table.words ≡ total plan) × IsPlan plan → Stands table key now
+pub stands : (table : TableId) (key plan : Plan) (now : Opened) → record { id = table; plan = plan } ≡ now
+    → (key ≡ plan) × (table.words ≡ total plan) × IsPlan plan → Stands table key now
 stands table key plan now is about = let plan_is : plan ≡ now.plan = ap (λ (d : Opened). d.plan) is in record {
   id = ap (λ (d : Opened). d.id) is;
   key_is = about.0 ∙ plan_is;
@@ -39,7 +43,8 @@ stands table key plan now is about = let plan_is : plan ≡ now.plan = ap (λ (d
   sizes = subst IsPlan plan_is about.2;
 }
 
-module _ (table : TableId) (key : Plan) (now : Opened) (about : Stands table key now) (seat : Caller) (sits : Sits now seat) where
+module _ (table : TableId) (key : Plan) (now : Opened) (about : Stands table key now) (seat : Caller)
+    (sits : Sits now seat) where
   view : View
   view = seat.me.0
 
@@ -52,7 +57,8 @@ module _ (table : TableId) (key : Plan) (now : Opened) (about : Stands table key
   abbrev after : List Event → Event → View
   after log event = record (counted seat.me.0) { seen = event ∷ log }
 
-  goes : (event : Event) (state : State ℕ View) (kept : Kept key state) → get_elem? state.views seat.id ≡ some seat.me.0 → May key kept.log event → Goes event seat.me.0 (after kept.log event)
+  goes : (event : Event) (state : State ℕ View) (kept : Kept key state) → get_elem? state.views seat.id ≡ some seat.me.0
+      → May key kept.log event → Goes event seat.me.0 (after kept.log event)
   goes event state kept at may = let fits = kept.fits seat.id seat.me.0 at in record {
     between = fits.later.rest;
     next_is = ap (λ (l : List Event). after l event) fits.later.is;
@@ -61,30 +67,43 @@ module _ (table : TableId) (key : Plan) (now : Opened) (about : Stands table key
     heard = (event ∷ fits.told.0, ap (λ (l : List Event). event ∷ l) fits.told.1);
   }
 
-  does : (event : Event) (state : State ℕ View) (kept : Kept key state) → get_elem? state.views seat.id ≡ some seat.me.0 → maker event ≡ seat.me.0.number → (words : List ℕ) → Shows key words (event ∷ kept.log) → May key kept.log event
+  does : (event : Event) (state : State ℕ View) (kept : Kept key state) → get_elem? state.views seat.id ≡ some seat.me.0
+      → maker event ≡ seat.me.0.number → (words : List ℕ) → Shows key words (event ∷ kept.log) → May key kept.log event
       → Kept key (record { words = words; homes = state.homes; views = set state.views seat.id (after kept.log event) })
-  does event state kept at by words shows may = moves key state kept seat.id seat.me.0 (after kept.log event) at event words sits.calls by shows may refl
+  does event state kept at by words shows may =
+      moves key state kept seat.id seat.me.0 (after kept.log event) at event words sits.calls by shows may refl
 
-  same_words : (state : State ℕ View) (kept : Kept key state) (place by : ℕ) → Shows key (set state.words place (get_or state.words place 0)) (looked by ∷ kept.log)
-  same_words state kept place by = subst (λ (words : List ℕ). Shows key words (looked by ∷ kept.log)) (sym (set-get_or state.words place 0)) (shows_same key state.words kept.log kept.shows (looked by) (λ _. refl) (λ _. refl))
+  same_words : (state : State ℕ View) (kept : Kept key state) (place by : ℕ)
+      → Shows key (set state.words place (get_or state.words place 0)) (looked by ∷ kept.log)
+  same_words state kept place by =
+      subst (λ (words : List ℕ). Shows key words (looked by ∷ kept.log)) (sym (set-get_or state.words place 0))
+      (shows_same key state.words kept.log kept.shows (looked by) (λ _. refl) (λ _. refl))
 
   pub looks_at_name : (way : ℕ) → way < ways now.plan → (seat.table_id ≡ table) × (way < table.words)
-      × Allows (Kept key) table.slots seat.id seat.me way (λ n. n) (has_looked_at_name (step table.slots way 0 0 none) seat.me)
-  looks_at_name way low = let wide = about.wide in let near : way < ways key = subst (λ (plan : Plan). way < ways plan) (sym about.key_is) low in (
-    own_table,
-    omega arith,
-    λ state kept len at small. let event = looked seat.me.0.number in (
-      after kept.log event,
-      keeps,
-      tt,
-      does event state kept at refl (set state.words way (get_or state.words way 0)) (same_words state kept way seat.me.0.number) tt,
-      (goes event state kept at tt, kept.shows.names way near),
-    ),
-  )
+      × Allows (Kept key) table.slots seat.id seat.me way (λ n. n)
+      (has_looked_at_name (step table.slots way 0 0 none) seat.me)
+  looks_at_name way low =
+      let wide = about.wide in
+      let near : way < ways key = subst (λ (plan : Plan). way < ways plan) (sym about.key_is) low in (
+        own_table,
+        omega arith,
+        λ state kept len at small. let event = looked seat.me.0.number in (
+          after kept.log event,
+          keeps,
+          tt,
+          does event state kept at refl (set state.words way (get_or state.words way 0))
+              (same_words state kept way seat.me.0.number) tt,
+          (goes event state kept at tt, kept.shows.names way near),
+        ),
+      )
 
-  pub looks_at_turn : (group place : ℕ) → group < now.plan.groups → place ≡ turn_place now.plan group → (seat.table_id ≡ table) × (place < table.words)
-      × Allows (Kept key) table.slots seat.id seat.me place (λ n. n) (has_looked_at_turn (step table.slots place 0 0 none) seat.me)
-  looks_at_turn group place low is = let wide = about.wide in let groups : seat.me.0.plan.groups ≡ now.plan.groups = ap (λ (d : Opened). d.plan.groups) sits.own in
+  pub looks_at_turn : (group place : ℕ) → group < now.plan.groups → place ≡ turn_place now.plan group
+      → (seat.table_id ≡ table) × (place < table.words)
+      × Allows (Kept key) table.slots seat.id seat.me place (λ n. n)
+      (has_looked_at_turn (step table.slots place 0 0 none) seat.me)
+  looks_at_turn group place low is =
+      let wide = about.wide in
+      let groups : seat.me.0.plan.groups ≡ now.plan.groups = ap (λ (d : Opened). d.plan.groups) sits.own in
       let groups' : key.groups ≡ now.plan.groups = ap (λ (plan : Plan). plan.groups) about.key_is in (
         own_table,
         omega arith,
@@ -92,41 +111,57 @@ module _ (table : TableId) (key : Plan) (now : Opened) (about : Stands table key
           after kept.log event,
           keeps,
           tt,
-          does event state kept at refl (set state.words place (get_or state.words place 0)) (same_words state kept place seat.me.0.number) tt,
+          does event state kept at refl (set state.words place (get_or state.words place 0))
+              (same_words state kept place seat.me.0.number) tt,
           (
             goes event state kept at tt,
             λ other at_place. let there : place ≡ turn_place key other = omega arith in
-                ap (λ (p : ℕ). get_or state.words p 0) there ∙ kept.shows.turns other (omega arith) ∙ ap (λ (plan : Plan). turn_of plan kept.log other) (sym plan_is),
+                ap (λ (p : ℕ). get_or state.words p 0) there ∙ kept.shows.turns other (omega arith)
+                ∙ ap (λ (plan : Plan). turn_of plan kept.log other) (sym plan_is),
           ),
         ),
       )
 
   -- whatever it makes of a group's marks
-  pub steps_on_marks : (f : ℕ → ℕ) (k : ℕ) (group place : ℕ) → group < now.plan.groups → place ≡ marks_place now.plan group → (seat.table_id ≡ table) × (place < table.words)
+  pub steps_on_marks : (f : ℕ → ℕ) (k : ℕ) (group place : ℕ) → group < now.plan.groups
+      → place ≡ marks_place now.plan group → (seat.table_id ≡ table) × (place < table.words)
       × Allows (Kept key) table.slots seat.id seat.me place f (has_marked (step table.slots place k 0 none) seat.me)
   steps_on_marks f k group place low is = let wide = about.wide in
       let groups : key.groups ≡ now.plan.groups = ap (λ (plan : Plan). plan.groups) about.key_is in (
         own_table,
         omega arith,
-        λ state kept len at small. let event = looked seat.me.0.number in let n : ℕ = f (get_or state.words place 0) in (
-          after kept.log event,
-          keeps,
-          tt,
-          does event state kept at refl (set state.words place n) (shows_beyond key state.words kept.log kept.shows event place n (omega arith) (λ _. refl) (λ _. refl)) tt,
-          goes event state kept at tt,
-        ),
+        λ state kept len at small.
+            let event = looked seat.me.0.number in let n : ℕ = f (get_or state.words place 0) in (
+              after kept.log event,
+              keeps,
+              tt,
+              does event state kept at refl (set state.words place n)
+                  (shows_beyond key state.words kept.log kept.shows event place n (omega arith) (λ _. refl) (λ _. refl))
+                  tt,
+              goes event state kept at tt,
+            ),
       )
 
   module _ (clerk : seat.me.0.number ≡ 0) where
-    names_known : (state : State ℕ View) (kept : Kept key state) → get_elem? state.views seat.id ≡ some seat.me.0 → (way : ℕ) → name_of kept.log way ≡ name_of seat.me.0.seen way
-    names_known state kept at way = let later = (kept.fits seat.id seat.me.0 at).later in ap (λ (l : List Event). name_of l way) later.is
-        ∙ quiet_names later.rest seat.me.0.seen way (ap (λ (k : ℕ). own k later.rest) (sym clerk) ∙ later.quiet sits.calls)
+    names_known : (state : State ℕ View) (kept : Kept key state) → get_elem? state.views seat.id ≡ some seat.me.0
+        → (way : ℕ) → name_of kept.log way ≡ name_of seat.me.0.seen way
+    names_known state kept at way =
+        let later = (kept.fits seat.id seat.me.0 at).later in
+        ap (λ (l : List Event). name_of l way) later.is
+        ∙ quiet_names later.rest seat.me.0.seen way
+        (ap (λ (k : ℕ). own k later.rest) (sym clerk) ∙ later.quiet sits.calls)
 
-    turn_known : (state : State ℕ View) (kept : Kept key state) → get_elem? state.views seat.id ≡ some seat.me.0 → (group : ℕ) → IsOpen key seat.me.0.seen group → turn_of key kept.log group ≡ turn_of key seat.me.0.seen group
-    turn_known state kept at group odd = let later = (kept.fits seat.id seat.me.0 at).later in ap (λ (l : List Event). turn_of key l group) later.is
-        ∙ quiet_turn key later.rest seat.me.0.seen group (subst ClearsNothing (sym (later.quiet sits.calls) ∙ ap (λ (k : ℕ). own k later.rest) clerk) tt) (subst (IsLegal key) later.is kept.legal) odd
+    turn_known : (state : State ℕ View) (kept : Kept key state) → get_elem? state.views seat.id ≡ some seat.me.0
+        → (group : ℕ) → IsOpen key seat.me.0.seen group → turn_of key kept.log group ≡ turn_of key seat.me.0.seen group
+    turn_known state kept at group odd =
+        let later = (kept.fits seat.id seat.me.0 at).later in
+        ap (λ (l : List Event). turn_of key l group) later.is
+        ∙ quiet_turn key later.rest seat.me.0.seen group
+        (subst ClearsNothing (sym (later.quiet sits.calls) ∙ ap (λ (k : ℕ). own k later.rest) clerk) tt)
+        (subst (IsLegal key) later.is kept.legal) odd
 
-    may_name : (state : State ℕ View) (kept : Kept key state) → get_elem? state.views seat.id ≡ some seat.me.0 → (way id : ℕ) → MayName key seat.me.0.seen way id → MayName key kept.log way id
+    may_name : (state : State ℕ View) (kept : Kept key state) → get_elem? state.views seat.id ≡ some seat.me.0
+        → (way id : ℕ) → MayName key seat.me.0.seen way id → MayName key kept.log way id
     may_name state kept at way id may = let known = names_known state kept at in record {
       inside = may.inside;
       real = may.real;
@@ -136,80 +171,119 @@ module _ (table : TableId) (key : Plan) (now : Opened) (about : Stands table key
       absent = λ other has. may.absent other (sym (known other) ∙ has);
     }
 
-    pub names_way : (way id : ℕ) → MayName now.plan seat.me.0.seen way id → (seat.table_id ≡ table) × (way < table.words)
-        × Allows (Kept key) table.slots seat.id seat.me way (λ _. id) (λ _. has_named (step table.slots way id 0 none) seat.me id)
-    names_way way id may_now = let may : MayName key seat.me.0.seen way id = subst (λ (plan : Plan). MayName plan seat.me.0.seen way id) (sym about.key_is) may_now in let wide = about.wide in let low = may_now.inside in (
-      own_table,
-      omega arith,
-      λ state kept len at small. let event = named way id in let may' = may_name state kept at way id may in (
-        after kept.log event,
-        keeps,
-        tt,
-        does event state kept at (sym clerk) (set state.words way id) (shows_name key state.words kept.log kept.shows event way id may.inside (λ _. refl) (λ _. refl)) may',
-        goes event state kept at may',
-      ),
-    )
+    pub names_way : (way id : ℕ) → MayName now.plan seat.me.0.seen way id
+        → (seat.table_id ≡ table) × (way < table.words)
+        × Allows (Kept key) table.slots seat.id seat.me way (λ _. id)
+        (λ _. has_named (step table.slots way id 0 none) seat.me id)
+    names_way way id may_now =
+        let may : MayName key seat.me.0.seen way id
+        = subst (λ (plan : Plan). MayName plan seat.me.0.seen way id) (sym about.key_is) may_now in
+        let wide = about.wide in
+        let low = may_now.inside in (
+          own_table,
+          omega arith,
+          λ state kept len at small. let event = named way id in let may' = may_name state kept at way id may in (
+            after kept.log event,
+            keeps,
+            tt,
+            does event state kept at (sym clerk) (set state.words way id)
+                (shows_name key state.words kept.log kept.shows event way id may.inside (λ _. refl) (λ _. refl)) may',
+            goes event state kept at may',
+          ),
+        )
 
     pub unnames_way : (way : ℕ) → way < ways now.plan → (seat.table_id ≡ table) × (way < table.words)
-        × Allows (Kept key) table.slots seat.id seat.me way (λ _. 0) (λ _. has_unnamed (step table.slots way 0 0 none) seat.me 0)
-    unnames_way way low = let near : way < ways key = subst (λ (plan : Plan). way < ways plan) (sym about.key_is) low in let wide = about.wide in (
-      own_table,
-      omega arith,
-      λ state kept len at small. let event = unnamed way in (
-        after kept.log event,
-        keeps,
-        tt,
-        does event state kept at (sym clerk) (set state.words way 0) (shows_name key state.words kept.log kept.shows event way 0 near (λ _. refl) (λ _. refl)) near,
-        goes event state kept at near,
-      ),
-    )
+        × Allows (Kept key) table.slots seat.id seat.me way (λ _. 0)
+        (λ _. has_unnamed (step table.slots way 0 0 none) seat.me 0)
+    unnames_way way low =
+        let near : way < ways key = subst (λ (plan : Plan). way < ways plan) (sym about.key_is) low in
+        let wide = about.wide in (
+          own_table,
+          omega arith,
+          λ state kept len at small. let event = unnamed way in (
+            after kept.log event,
+            keeps,
+            tt,
+            does event state kept at (sym clerk) (set state.words way 0)
+                (shows_name key state.words kept.log kept.shows event way 0 near (λ _. refl) (λ _. refl)) near,
+            goes event state kept at near,
+          ),
+        )
 
-    pub clears_group : (group place was : ℕ) → group < now.plan.groups → place ≡ turn_place now.plan group → turn_of now.plan seat.me.0.seen group ≡ was → was % 2 ≡ 1 → (seat.table_id ≡ table) × (place < table.words)
-        × Allows (Kept key) table.slots seat.id seat.me place (λ _. was + 1) (λ _. has_cleared (step table.slots place (was + 1) 0 none) seat.me (was + 1))
+    pub clears_group : (group place was : ℕ) → group < now.plan.groups → place ≡ turn_place now.plan group
+        → turn_of now.plan seat.me.0.seen group ≡ was → was % 2 ≡ 1 → (seat.table_id ≡ table) × (place < table.words)
+        × Allows (Kept key) table.slots seat.id seat.me place (λ _. was + 1)
+        (λ _. has_cleared (step table.slots place (was + 1) 0 none) seat.me (was + 1))
     clears_group group place was low is turn odd = let wide = about.wide in
-        let groups : seat.me.0.plan.groups ≡ now.plan.groups = ap (λ (d : Opened). d.plan.groups) sits.own in let groups' : key.groups ≡ now.plan.groups = ap (λ (plan : Plan). plan.groups) about.key_is in
-        let turn' : turn_of key seat.me.0.seen group ≡ was = ap (λ (plan : Plan). turn_of plan seat.me.0.seen group) about.key_is ∙ turn in
+        let groups : seat.me.0.plan.groups ≡ now.plan.groups = ap (λ (d : Opened). d.plan.groups) sits.own in
+        let groups' : key.groups ≡ now.plan.groups = ap (λ (plan : Plan). plan.groups) about.key_is in
+        let turn' : turn_of key seat.me.0.seen group ≡ was
+        = ap (λ (plan : Plan). turn_of plan seat.me.0.seen group) about.key_is ∙ turn in
         let place' : turn_place key group ≡ place = omega arith in (
           own_table,
           omega arith,
           λ state kept len at small. let event = cleared group in
-              let here : turn_of key kept.log group ≡ was = turn_known state kept at group (ap (λ (k : ℕ). k % 2) turn' ∙ odd) ∙ turn' in
+              let here : turn_of key kept.log group ≡ was
+              = turn_known state kept at group (ap (λ (k : ℕ). k % 2) turn' ∙ odd) ∙ turn' in
               let may : May key kept.log event = (omega arith, ap (λ (k : ℕ). k % 2) here ∙ odd) in (
                 after kept.log event,
                 keeps,
                 tt,
-                does event state kept at (sym clerk) (set state.words place (was + 1)) (subst (λ (p : ℕ). Shows key (set state.words p (was + 1)) (event ∷ kept.log)) place'
-                    (shows_turn key state.words kept.log kept.shows event group (was + 1) (omega arith) (ap (λ (k : ℕ). k + 1) (sym here)) (λ _. refl) (λ _. refl))) may,
-                λ other at_place. let same : group ≡ other = omega arith in subst (λ (g : ℕ). Goes (cleared g) seat.me.0 (after kept.log event)) same (goes event state kept at may),
+                does event state kept at (sym clerk) (set state.words place (was + 1))
+                    (subst (λ (p : ℕ). Shows key (set state.words p (was + 1)) (event ∷ kept.log)) place'
+                    (shows_turn key state.words kept.log kept.shows event group (was + 1) (omega arith)
+                    (ap (λ (k : ℕ). k + 1) (sym here)) (λ _. refl) (λ _. refl)))
+                    may,
+                λ other at_place.
+                    let same : group ≡ other = omega arith in
+                    subst (λ (g : ℕ). Goes (cleared g) seat.me.0 (after kept.log event)) same
+                    (goes event state kept at may),
               ),
         )
 
-  pub claims_group : (group place id was : ℕ) → group ≡ group_of now.plan id → group < now.plan.groups → place ≡ turn_place now.plan group → 0 < id → was % 2 ≡ 0 → was < last_turn → Scanned now.plan seat.me.0.seen id was places
+  pub claims_group : (group place id was : ℕ) → group ≡ group_of now.plan id → group < now.plan.groups
+      → place ≡ turn_place now.plan group → 0 < id → was % 2 ≡ 0 → was < last_turn
+      → Scanned now.plan seat.me.0.seen id was places
       → (seat.table_id ≡ table) × (place < table.words)
-      × Allows (Kept key) table.slots seat.id seat.me place (λ n. either (n == was) (was + 1) n) (has_claimed (step table.slots place was (was + 1) (some id)) seat.me)
+      × Allows (Kept key) table.slots seat.id seat.me place (λ n. either (n == was) (was + 1) n)
+      (has_claimed (step table.slots place was (was + 1) (some id)) seat.me)
   claims_group group place id was group_is low is real even early scan = let wide = about.wide in
       let groups : key.groups ≡ now.plan.groups = ap (λ (plan : Plan). plan.groups) about.key_is in
-      let scan' : Scanned key seat.me.0.seen id was places = subst (λ (plan : Plan). Scanned plan seat.me.0.seen id was places) (sym about.key_is) scan in
+      let scan' : Scanned key seat.me.0.seen id was places
+      = subst (λ (plan : Plan). Scanned plan seat.me.0.seen id was places) (sym about.key_is) scan in
       let of_id : group_of key id ≡ group = ap (λ (plan : Plan). group_of plan id) about.key_is ∙ sym group_is in
       let place' : turn_place key group ≡ place = omega arith in (
         own_table,
         omega arith,
-        λ state kept len at small. let later = (kept.fits seat.id seat.me.0 at).later in let n : ℕ = get_or state.words place 0 in let by = seat.me.0.number in
-            let n_is : n ≡ turn_of key kept.log (group_of key id) = ap (λ (p : ℕ). get_or state.words p 0) (sym place') ∙ kept.shows.turns group (omega arith) ∙ ap (turn_of key kept.log) (sym of_id) in
-            exchanged n was (was + 1) (λ (m : ℕ). (w : View) × (a : Act ℕ) × Valid state.homes seat.me.1 a × Kept key (stepped state place m seat.id seat.me.1 w a)
+        λ state kept len at small.
+            let later = (kept.fits seat.id seat.me.0 at).later in
+            let n : ℕ = get_or state.words place 0 in
+            let by = seat.me.0.number in
+            let n_is : n ≡ turn_of key kept.log (group_of key id)
+            = ap (λ (p : ℕ). get_or state.words p 0) (sym place') ∙ kept.shows.turns group (omega arith)
+            ∙ ap (turn_of key kept.log) (sym of_id) in
+            exchanged n was (was + 1)
+            (λ (m : ℕ). (w : View) × (a : Act ℕ) × Valid state.homes seat.me.1 a
+            × Kept key (stepped state place m seat.id seat.me.1 w a)
             × has_claimed (step table.slots place was (was + 1) (some id)) seat.me n (w, carried_after seat.me.1 a))
-            (λ hit. let event = claimed by id in let here : turn_of key kept.log (group_of key id) ≡ was = sym n_is ∙ hit in
+            (λ hit.
+            let event = claimed by id in let here : turn_of key kept.log (group_of key id) ≡ was = sym n_is ∙ hit in
             let may : MayClaim key kept.log id = record {
               real = real;
               closed = ap (λ (k : ℕ). k % 2) here ∙ even;
               early = omega arith;
-              absent = scan_shows key kept.log seat.me.0.seen later.rest id was later.is kept.legal real even here scan';
+              absent =
+                  scan_shows key kept.log seat.me.0.seen later.rest id was later.is kept.legal real even here scan';
             } in (
               after kept.log event,
               keeps,
               tt,
-              does event state kept at refl (set state.words place (was + 1)) (subst (λ (p : ℕ). Shows key (set state.words p (was + 1)) (event ∷ kept.log)) (ap (turn_place key) of_id ∙ place')
-                  (shows_turn key state.words kept.log kept.shows event (group_of key id) (was + 1) (omega arith) (ap (λ (k : ℕ). k + 1) (sym here)) (λ _. refl) (λ _. refl))) may,
+              does event state kept at refl (set state.words place (was + 1))
+                  (subst (λ (p : ℕ). Shows key (set state.words p (was + 1)) (event ∷ kept.log))
+                  (ap (turn_place key) of_id ∙ place')
+                  (shows_turn key state.words kept.log kept.shows event (group_of key id) (was + 1) (omega arith)
+                  (ap (λ (k : ℕ). k + 1) (sym here)) (λ _. refl) (λ _. refl)))
+                  may,
               (λ _. goes event state kept at may, λ ne. absurd (ne hit)),
             ))
             (λ miss. let event = looked by in (
@@ -217,12 +291,19 @@ module _ (table : TableId) (key : Plan) (now : Opened) (about : Stands table key
               keeps,
               tt,
               does event state kept at refl (set state.words place n) (same_words state kept place by) tt,
-              (λ hit. absurd (miss hit), λ _. (goes event state kept at tt, n_is ∙ ap (λ (plan : Plan). turn_of plan kept.log (group_of plan id)) (sym plan_is))),
+              (
+                λ hit. absurd (miss hit),
+                λ _. (
+                  goes event state kept at tt,
+                  n_is ∙ ap (λ (plan : Plan). turn_of plan kept.log (group_of plan id)) (sym plan_is),
+                ),
+              ),
             )),
       )
 
 -- what a step tells is what the token gains
-pub grows_by : (old next : Caller) (event : Event) → next.table_id ≡ old.table_id → Goes event old.me.0 next.me.0 → maker event ≡ old.me.0.number → Grows (event ∷ []) (token old) (token next)
+pub grows_by : (old next : Caller) (event : Event) → next.table_id ≡ old.table_id → Goes event old.me.0 next.me.0
+    → maker event ≡ old.me.0.number → Grows (event ∷ []) (token old) (token next)
 grows_by old next event table goes by = let is = goes.next_is in record {
   directory = λ j. record { id = table j; plan = (is j).plan };
   number = ap (λ (v : View). v.number) is;
@@ -235,7 +316,8 @@ grows_by old next event table goes by = let is = goes.next_is in record {
   steps = ap (λ (v : View). v.steps) is;
 }
 
-pub claims_by : (old next : Caller) (id : ℕ) → next.table_id ≡ old.table_id → Goes (claimed old.me.0.number id) old.me.0 next.me.0 → WinsClaim id [] (token old) (token next)
+pub claims_by : (old next : Caller) (id : ℕ) → next.table_id ≡ old.table_id
+    → Goes (claimed old.me.0.number id) old.me.0 next.me.0 → WinsClaim id [] (token old) (token next)
 claims_by old next id table goes = let seen = ap (λ (v : View). v.seen) goes.next_is in record {
   grows = grows_by old next (claimed old.me.0.number id) table goes refl;
   before = goes.between ++ old.me.0.seen;
@@ -244,7 +326,8 @@ claims_by old next id table goes = let seen = ap (λ (v : View). v.seen) goes.ne
 }
 
 -- the seat stays a caller's
-pub sits_on : (now : Opened) (old next : Caller) (acts : List Event) → Sits now old → Grows acts (token old) (token next) → next.me.0.calls ≡ old.me.0.calls → Sits now next
+pub sits_on : (now : Opened) (old next : Caller) (acts : List Event) → Sits now old
+    → Grows acts (token old) (token next) → next.me.0.calls ≡ old.me.0.calls → Sits now next
 sits_on now old next acts sits grows calls = record {
   own = grows.directory ∙ sits.own;
   calls = calls ∙ sits.calls;
@@ -252,13 +335,15 @@ sits_on now old next acts sits grows calls = record {
 }
 
 -- the table at opening keeps the rule
-pub opens_so : (plan : Plan) (words : List ℕ) → IsPlan plan → words ≡ replicate (total plan) 0 → Kept plan (opening words [] (opener plan))
+pub opens_so : (plan : Plan) (words : List ℕ) → IsPlan plan → words ≡ replicate (total plan) 0
+    → Kept plan (opening words [] (opener plan))
 opens_so plan words sizes is = record {
   log = [];
   shows = record {
     size = ap (λ (l : List ℕ). length l) is ∙ length-replicate (total plan) 0;
     names = λ way low. ap (λ (l : List ℕ). get_or l way 0) is ∙ get_or-replicate (total plan) way 0 0 (omega arith);
-    turns = λ group low. ap (λ (l : List ℕ). get_or l (turn_place plan group) 0) is ∙ get_or-replicate (total plan) (turn_place plan group) 0 0 (omega arith);
+    turns = λ group low. ap (λ (l : List ℕ). get_or l (turn_place plan group) 0) is
+        ∙ get_or-replicate (total plan) (turn_place plan group) 0 0 (omega arith);
   };
   legal = tt;
   sizes = sizes;
@@ -270,7 +355,13 @@ opens_so plan words sizes is = record {
   where
     first : (at : ℕ) (view : View) → get_elem? (opener plan ∷ []) at ≡ some view → Fits plan [] 0 view
     first zero view e = subst (Fits plan [] 0) (some-injective (opener plan) view e)
-        (record { plan_is = λ _. refl; later = record { rest = []; is = refl; quiet = λ _. refl }; told = ([], refl); few = λ _. omega arith; maker = λ _ _. refl })
+        (record {
+          plan_is = λ _. refl;
+          later = record { rest = []; is = refl; quiet = λ _. refl };
+          told = ([], refl);
+          few = λ _. omega arith;
+          maker = λ _ _. refl;
+        })
     first (suc at) view e = absurd (some-ne-none view (sym e))
 
     alone : (at : ℕ) (view : View) → get_elem? (opener plan ∷ []) at ≡ some view → at ≡ 0

@@ -1,5 +1,7 @@
 -- A step that adds one event keeps the rule, and so does one that adds none.
-use Rattle.std.proofs.Common.{◌≡◌, ◌≢◌, ℕ, zero, suc, ◌+◌, ◌<◌, ◌≤◌, ◌⊎◌, ⊎_elim, inl, inr, true, ◌==◌, cond, List, [], ◌∷◌, ◌++◌, length, get_or, set, refl, sym, ap, ◌∙◌, subst, arith, get_or-set_other, get_or-set_same}
+use Rattle.std.proofs.Common.{◌≡◌, ◌≢◌, ℕ, zero, suc, ◌+◌, ◌<◌, ◌≤◌, ◌⊎◌, ⊎_elim, inl, inr, true, ◌==◌, cond, List, []}
+use Rattle.std.proofs.Common.{◌∷◌, ◌++◌, length, get_or, set, refl, sym, ap, ◌∙◌, subst, arith, get_or-set_other}
+use Rattle.std.proofs.Common.{get_or-set_same}
 use mathlib.Core.Option.{some, some-injective, some-ne-none}
 use mathlib.Core.Logic.{dite}
 use native.Mathlib.Decide.{ℕ_discrete}
@@ -11,52 +13,73 @@ use Rattle.atomic_table.proofs.Lists.{at_set, at_snoc, set_else}
 use Rattle.nr_ids.specs.declared.plan.Plan.{Plan}
 use Rattle.nr_ids.specs.Groups.{ways}
 use Rattle.nr_ids.specs.Events.{Event, maker, name_of, turn_of, May}
-use Rattle.nr_ids.specs.Rule.{View, Shows, Fits, Kept, BeginsWith, turn_place, counted, with_reader, next_reader, note_of, retold, with_note, spent}
+use Rattle.nr_ids.specs.Rule.{View, Shows, Fits, Kept, BeginsWith, turn_place, counted, with_reader, next_reader}
+use Rattle.nr_ids.specs.Rule.{note_of, retold, with_note, spent}
 use Rattle.nr_ids.proofs.Logs.{cond_same, cond_else, own_other}
 
 -- the words after a name or a turn is written
 module _ (plan : Plan) (words : List ℕ) (log : List Event) (shows : Shows plan words log) (event : Event) where
-  pub shows_same : ((way : ℕ) → name_of (event ∷ log) way ≡ name_of log way) → ((group : ℕ) → turn_of plan (event ∷ log) group ≡ turn_of plan log group) → Shows plan words (event ∷ log)
-  shows_same names turns = record { size = shows.size; names = λ way low. shows.names way low ∙ sym (names way); turns = λ group low. shows.turns group low ∙ sym (turns group) }
+  pub shows_same : ((way : ℕ) → name_of (event ∷ log) way ≡ name_of log way)
+      → ((group : ℕ) → turn_of plan (event ∷ log) group ≡ turn_of plan log group) → Shows plan words (event ∷ log)
+  shows_same names turns =
+      record {
+        size = shows.size;
+        names = λ way low. shows.names way low ∙ sym (names way);
+        turns = λ group low. shows.turns group low ∙ sym (turns group);
+      }
 
-  pub shows_name : (way n : ℕ) → way < ways plan → ((other : ℕ) → name_of (event ∷ log) other ≡ cond (way == other) n (name_of log other))
-      → ((group : ℕ) → turn_of plan (event ∷ log) group ≡ turn_of plan log group) → Shows plan (set words way n) (event ∷ log)
+  pub shows_name : (way n : ℕ) → way < ways plan
+      → ((other : ℕ) → name_of (event ∷ log) other ≡ cond (way == other) n (name_of log other))
+      → ((group : ℕ) → turn_of plan (event ∷ log) group ≡ turn_of plan log group)
+      → Shows plan (set words way n) (event ∷ log)
   shows_name way n low names turns = let size = shows.size in record {
     size = length-set words way n ∙ shows.size;
     names = λ other near. dite (ℕ_discrete way other)
         (λ (e : way ≡ other). let inside : way < length words = omega arith in
-        ap (λ (k : ℕ). get_or (set words way n) k 0) (sym e) ∙ get_or-set_same words way n 0 inside ∙ sym (cond_same n (name_of log other) way other e) ∙ sym (names other))
-        (λ ne. get_or-set_other words way other n 0 (λ e. ne (sym e)) ∙ shows.names other near ∙ sym (cond_else n (name_of log other) way other ne) ∙ sym (names other));
+        ap (λ (k : ℕ). get_or (set words way n) k 0) (sym e) ∙ get_or-set_same words way n 0 inside
+        ∙ sym (cond_same n (name_of log other) way other e) ∙ sym (names other))
+        (λ ne. get_or-set_other words way other n 0 (λ e. ne (sym e)) ∙ shows.names other near
+        ∙ sym (cond_else n (name_of log other) way other ne) ∙ sym (names other));
     turns = λ group near. let apart : turn_place plan group ≢ way = λ e. absurd (omega arith) in
         get_or-set_other words way (turn_place plan group) n 0 apart ∙ shows.turns group near ∙ sym (turns group);
   }
 
   -- what stands behind all turns shows nothing
-  pub shows_beyond : (place n : ℕ) → turn_place plan plan.groups ≤ place → ((way : ℕ) → name_of (event ∷ log) way ≡ name_of log way)
-      → ((group : ℕ) → turn_of plan (event ∷ log) group ≡ turn_of plan log group) → Shows plan (set words place n) (event ∷ log)
+  pub shows_beyond : (place n : ℕ) → turn_place plan plan.groups ≤ place
+      → ((way : ℕ) → name_of (event ∷ log) way ≡ name_of log way)
+      → ((group : ℕ) → turn_of plan (event ∷ log) group ≡ turn_of plan log group)
+      → Shows plan (set words place n) (event ∷ log)
   shows_beyond place n behind names turns = record {
     size = length-set words place n ∙ shows.size;
-    names = λ way low. let apart : way ≢ place = λ e. absurd (omega arith) in get_or-set_other words place way n 0 apart ∙ shows.names way low ∙ sym (names way);
+    names = λ way low.
+        let apart : way ≢ place = λ e. absurd (omega arith) in
+        get_or-set_other words place way n 0 apart ∙ shows.names way low ∙ sym (names way);
     turns = λ group low. let apart : turn_place plan group ≢ place = λ e. absurd (omega arith) in
         get_or-set_other words place (turn_place plan group) n 0 apart ∙ shows.turns group low ∙ sym (turns group);
   }
 
-  pub shows_turn : (group n : ℕ) → group < plan.groups → n ≡ turn_of plan log group + 1 → ((way : ℕ) → name_of (event ∷ log) way ≡ name_of log way)
-      → ((other : ℕ) → turn_of plan (event ∷ log) other ≡ cond (group == other) (turn_of plan log other + 1) (turn_of plan log other)) → Shows plan (set words (turn_place plan group) n) (event ∷ log)
+  pub shows_turn : (group n : ℕ) → group < plan.groups → n ≡ turn_of plan log group + 1
+      → ((way : ℕ) → name_of (event ∷ log) way ≡ name_of log way)
+      → ((other : ℕ)
+      → turn_of plan (event ∷ log) other
+      ≡ cond (group == other) (turn_of plan log other + 1) (turn_of plan log other))
+      → Shows plan (set words (turn_place plan group) n) (event ∷ log)
   shows_turn group n low is names turns = let size = shows.size in record {
     size = length-set words (turn_place plan group) n ∙ shows.size;
     names = λ way near. let apart : way ≢ turn_place plan group = λ e. absurd (omega arith) in
         get_or-set_other words (turn_place plan group) way n 0 apart ∙ shows.names way near ∙ sym (names way);
     turns = λ other near. dite (ℕ_discrete group other)
         (λ (e : group ≡ other). let inside : turn_place plan group < length words = omega arith in
-        ap (λ (k : ℕ). get_or (set words (turn_place plan group) n) (turn_place plan k) 0) (sym e) ∙ get_or-set_same words (turn_place plan group) n 0 inside ∙ is ∙ ap (λ (k : ℕ). turn_of plan log k + 1) e
+        ap (λ (k : ℕ). get_or (set words (turn_place plan group) n) (turn_place plan k) 0) (sym e)
+        ∙ get_or-set_same words (turn_place plan group) n 0 inside ∙ is ∙ ap (λ (k : ℕ). turn_of plan log k + 1) e
         ∙ sym (cond_same (turn_of plan log other + 1) (turn_of plan log other) group other e) ∙ sym (turns other))
         (λ ne. let apart : turn_place plan other ≢ turn_place plan group = λ e. ne (omega arith) in
         get_or-set_other words (turn_place plan group) (turn_place plan other) n 0 apart ∙ shows.turns other near
         ∙ sym (cond_else (turn_of plan log other + 1) (turn_of plan log other) group other ne) ∙ sym (turns other));
   }
 
-module _ (plan : Plan) (state : State ℕ View) (kept : Kept plan state) (id : ℕ) (view next : View) (at : get_elem? state.views id ≡ some view) where
+module _ (plan : Plan) (state : State ℕ View) (kept : Kept plan state) (id : ℕ) (view next : View)
+    (at : get_elem? state.views id ≡ some view) where
   abbrev later : List View
   later = set state.views id next
 
@@ -64,21 +87,29 @@ module _ (plan : Plan) (state : State ℕ View) (kept : Kept plan state) (id : �
   abbrev pub IsSameCaller : Type 0
   IsSameCaller = next.calls ≡ true → (view.calls ≡ true) × (next.number ≡ view.number)
 
-  pub once_so : IsSameCaller → (i j : ℕ) (u v : View) → get_elem? later i ≡ some u → get_elem? later j ≡ some v → u.calls ≡ true → v.calls ≡ true → u.number ≡ v.number → i ≡ j
+  pub once_so : IsSameCaller → (i j : ℕ) (u v : View) → get_elem? later i ≡ some u → get_elem? later j ≡ some v
+      → u.calls ≡ true → v.calls ≡ true → u.number ≡ v.number → i ≡ j
   once_so same i j u v at_u at_v calls_u calls_v twins = ⊎_elim
-      (λ (t : (i ≡ id) × (next ≡ u)). let mine = same (ap (λ (w : View). w.calls) t.1 ∙ calls_u) in let its : view.number ≡ u.number = sym mine.1 ∙ ap (λ (w : View). w.number) t.1 in ⊎_elim
+      (λ (t : (i ≡ id) × (next ≡ u)).
+      let mine = same (ap (λ (w : View). w.calls) t.1 ∙ calls_u) in
+      let its : view.number ≡ u.number = sym mine.1 ∙ ap (λ (w : View). w.number) t.1 in
+      ⊎_elim
       (λ (s : (j ≡ id) × (next ≡ v)). t.0 ∙ sym s.0)
-      (λ (s : (j ≢ id) × (get_elem? state.views j ≡ some v)). t.0 ∙ sym (kept.once j id v view s.1 at calls_v mine.0 (sym twins ∙ sym its)))
+      (λ (s : (j ≢ id) × (get_elem? state.views j ≡ some v)). t.0
+      ∙ sym (kept.once j id v view s.1 at calls_v mine.0 (sym twins ∙ sym its)))
       (at_set state.views id j next v at_v))
       (λ (t : (i ≢ id) × (get_elem? state.views i ≡ some u)). ⊎_elim
-      (λ (s : (j ≡ id) × (next ≡ v)). let mine = same (ap (λ (w : View). w.calls) s.1 ∙ calls_v) in let its : v.number ≡ view.number = sym (ap (λ (w : View). w.number) s.1) ∙ mine.1 in
+      (λ (s : (j ≡ id) × (next ≡ v)).
+      let mine = same (ap (λ (w : View). w.calls) s.1 ∙ calls_v) in
+      let its : v.number ≡ view.number = sym (ap (λ (w : View). w.number) s.1) ∙ mine.1 in
       kept.once i id u view t.1 at calls_u mine.0 (twins ∙ its) ∙ sym s.0)
       (λ (s : (j ≢ id) × (get_elem? state.views j ≡ some v)). kept.once i j u v t.1 s.1 calls_u calls_v twins)
       (at_set state.views id j next v at_v))
       (at_set state.views id i next u at_u)
 
   -- no event
-  pub replaced : Fits plan kept.log kept.made next → IsSameCaller → Kept plan (record { words = state.words; homes = state.homes; views = later })
+  pub replaced : Fits plan kept.log kept.made next → IsSameCaller
+      → Kept plan (record { words = state.words; homes = state.homes; views = later })
   replaced fits same = record {
     log = kept.log;
     shows = kept.shows;
@@ -86,27 +117,32 @@ module _ (plan : Plan) (state : State ℕ View) (kept : Kept plan state) (id : �
     sizes = kept.sizes;
     made = kept.made;
     fits = λ j u there. ⊎_elim (λ (t : (j ≡ id) × (next ≡ u)). subst (Fits plan kept.log kept.made) t.1 fits)
-        (λ (t : (j ≢ id) × (get_elem? state.views j ≡ some u)). kept.fits j u t.1) (at_set state.views id j next u there);
+        (λ (t : (j ≢ id) × (get_elem? state.views j ≡ some u)). kept.fits j u t.1)
+        (at_set state.views id j next u there);
     once = once_so same;
     fresh = kept.fresh;
   }
 
   -- one event of the token's own
   module _ (event : Event) (words : List ℕ) (calls : view.calls ≡ true) (by : maker event ≡ view.number) where
-    others_fit : (j : ℕ) (u : View) → j ≢ id → get_elem? state.views j ≡ some u → Fits plan (event ∷ kept.log) kept.made u
+    others_fit : (j : ℕ) (u : View) → j ≢ id → get_elem? state.views j ≡ some u
+        → Fits plan (event ∷ kept.log) kept.made u
     others_fit j u ne there = let fits = kept.fits j u there in record {
       plan_is = fits.plan_is;
       later = record {
         rest = event ∷ fits.later.rest;
         is = ap (λ (l : List Event). event ∷ l) fits.later.is;
-        quiet = λ its. own_other u.number event fits.later.rest (λ e. ne (kept.once j id u view there at its calls (sym e ∙ by))) ∙ fits.later.quiet its;
+        quiet = λ its. own_other u.number event fits.later.rest
+            (λ e. ne (kept.once j id u view there at its calls (sym e ∙ by)))
+            ∙ fits.later.quiet its;
       };
       told = (event ∷ fits.told.0, ap (λ (l : List Event). event ∷ l) fits.told.1);
       few = fits.few;
       maker = fits.maker;
     }
 
-    pub moves : Shows plan words (event ∷ kept.log) → May plan kept.log event → next ≡ record (counted view) { seen = event ∷ kept.log }
+    pub moves : Shows plan words (event ∷ kept.log) → May plan kept.log event
+        → next ≡ record (counted view) { seen = event ∷ kept.log }
         → Kept plan (record { words = words; homes = state.homes; views = later })
     moves shows may is = record {
       log = event ∷ kept.log;
@@ -114,10 +150,13 @@ module _ (plan : Plan) (state : State ℕ View) (kept : Kept plan state) (id : �
       legal = (may, kept.legal);
       sizes = kept.sizes;
       made = kept.made;
-      fits = λ j u there. ⊎_elim (λ (t : (j ≡ id) × (next ≡ u)). subst (Fits plan (event ∷ kept.log) kept.made) (sym is ∙ t.1) fits_next)
-          (λ (t : (j ≢ id) × (get_elem? state.views j ≡ some u)). others_fit j u t.0 t.1) (at_set state.views id j next u there);
+      fits = λ j u there. ⊎_elim
+          (λ (t : (j ≡ id) × (next ≡ u)). subst (Fits plan (event ∷ kept.log) kept.made) (sym is ∙ t.1) fits_next)
+          (λ (t : (j ≢ id) × (get_elem? state.views j ≡ some u)). others_fit j u t.0 t.1)
+          (at_set state.views id j next u there);
       once = once_so (λ _. (calls, ap (λ (w : View). w.number) is));
-      fresh = λ number above. own_other number event kept.log (λ e. let low = mine.few calls in absurd (omega arith)) ∙ kept.fresh number above;
+      fresh = λ number above. own_other number event kept.log (λ e. let low = mine.few calls in absurd (omega arith))
+          ∙ kept.fresh number above;
     }
       where
         mine : Fits plan kept.log kept.made view
@@ -133,14 +172,16 @@ module _ (plan : Plan) (state : State ℕ View) (kept : Kept plan state) (id : �
         }
 
 -- a token that makes no step yet, or none at all, stands beside those that there are
-snoc_at : {A : Type 0} (l : List A) (a b : A) (j : ℕ) → get_elem? (l ++ a ∷ []) j ≡ some b → (get_elem? l j ≡ some b) ⊎ ((j ≡ length l) × (a ≡ b))
+snoc_at : {A : Type 0} (l : List A) (a b : A) (j : ℕ) → get_elem? (l ++ a ∷ []) j ≡ some b
+    → (get_elem? l j ≡ some b) ⊎ ((j ≡ length l) × (a ≡ b))
 snoc_at [] a b zero e = inr (refl, some-injective a b e)
 snoc_at [] a b (suc j) e = absurd (some-ne-none b (sym e))
 snoc_at (x ∷ xs) a b zero e = inl e
 snoc_at (x ∷ xs) a b (suc j) e = ⊎_elim (λ t. inl t) (λ t. inr (ap suc t.0, t.1)) (snoc_at xs a b j e)
 
 adds : (plan : Plan) (state : State ℕ View) (kept : Kept plan state) (view : View) → Fits plan kept.log kept.made view
-    → ((j : ℕ) (u : View) → get_elem? state.views j ≡ some u → u.calls ≡ true → view.calls ≡ true → u.number ≢ view.number)
+    → ((j : ℕ) (u : View) → get_elem? state.views j ≡ some u → u.calls ≡ true → view.calls ≡ true
+    → u.number ≢ view.number)
     → Kept plan (record { words = state.words; homes = state.homes; views = state.views ++ view ∷ [] })
 adds plan state kept view fits new = record {
   log = kept.log;
@@ -148,14 +189,18 @@ adds plan state kept view fits new = record {
   legal = kept.legal;
   sizes = kept.sizes;
   made = kept.made;
-  fits = λ j u there. ⊎_elim (λ (t : get_elem? state.views j ≡ some u). kept.fits j u t) (λ (t : view ≡ u). subst (Fits plan kept.log kept.made) t fits) (at_snoc state.views view u j there);
+  fits = λ j u there. ⊎_elim (λ (t : get_elem? state.views j ≡ some u). kept.fits j u t)
+      (λ (t : view ≡ u). subst (Fits plan kept.log kept.made) t fits) (at_snoc state.views view u j there);
   once = λ i j u v at_u at_v calls_u calls_v same. ⊎_elim
       (λ (t : get_elem? state.views i ≡ some u). ⊎_elim
       (λ (s : get_elem? state.views j ≡ some v). kept.once i j u v t s calls_u calls_v same)
-      (λ (s : (j ≡ length state.views) × (view ≡ v)). absurd (new i u t calls_u (ap (λ (w : View). w.calls) s.1 ∙ calls_v) (same ∙ sym (ap (λ (w : View). w.number) s.1))))
+      (λ (s : (j ≡ length state.views) × (view ≡ v)). absurd
+      (new i u t calls_u (ap (λ (w : View). w.calls) s.1 ∙ calls_v) (same ∙ sym (ap (λ (w : View). w.number) s.1))))
       (snoc_at state.views view v j at_v))
       (λ (t : (i ≡ length state.views) × (view ≡ u)). ⊎_elim
-      (λ (s : get_elem? state.views j ≡ some v). absurd (new j v s calls_v (ap (λ (w : View). w.calls) t.1 ∙ calls_u) (sym same ∙ sym (ap (λ (w : View). w.number) t.1))))
+      (λ (s : get_elem? state.views j ≡ some v). absurd
+      (new j v s calls_v (ap (λ (w : View). w.calls) t.1 ∙ calls_u)
+      (sym same ∙ sym (ap (λ (w : View). w.number) t.1))))
       (λ (s : (j ≡ length state.views) × (view ≡ v)). t.0 ∙ sym s.0)
       (snoc_at state.views view v j at_v))
       (snoc_at state.views view u i at_u);
@@ -166,10 +211,14 @@ abbrev begins_all : (log : List Event) → BeginsWith log []
 begins_all log = (log, sym (append-nil log))
 
 -- the clerk makes a reader
-pub seats_so : (plan : Plan) (id : ℕ) (view : View) → view.calls ≡ true → view.number ≡ 0 → Splits (Kept plan) id view (with_reader view) (next_reader view)
+pub seats_so : (plan : Plan) (id : ℕ) (view : View) → view.calls ≡ true → view.number ≡ 0
+    → Splits (Kept plan) id view (with_reader view) (next_reader view)
 seats_so plan id view calls clerk state kept at =
-    let mine = kept.fits id view at in let made : view.made ≡ kept.made = mine.maker calls clerk in let next = with_reader view in
-    let raised : Kept plan (record { words = state.words; homes = state.homes; views = set state.views id next }) = record {
+    let mine = kept.fits id view at in
+    let made : view.made ≡ kept.made = mine.maker calls clerk in
+    let next = with_reader view in
+    let raised : Kept plan (record { words = state.words; homes = state.homes; views = set state.views id next })
+    = record {
       log = kept.log;
       shows = kept.shows;
       legal = kept.legal;
@@ -196,45 +245,89 @@ seats_so plan id view calls clerk state kept at =
       once = once_so plan state kept id view next at (λ _. (calls, refl));
       fresh = λ n above. kept.fresh n (omega arith);
     } in
-    adds plan (record { words = state.words; homes = state.homes; views = set state.views id next }) raised (next_reader view)
+    adds plan (record { words = state.words; homes = state.homes; views = set state.views id next }) raised
+    (next_reader view)
     (record {
       plan_is = λ _. mine.plan_is calls;
-      later = record { rest = kept.log; is = (begins_all kept.log).1; quiet = λ _. kept.fresh (view.made + 1) (omega arith) };
+      later =
+          record {
+            rest = kept.log;
+            is = (begins_all kept.log).1;
+            quiet = λ _. kept.fresh (view.made + 1) (omega arith);
+          };
       told = begins_all kept.log;
       few = λ _. omega arith;
       maker = λ _ zero. absurd (omega arith);
     })
     (λ j u there c _ same. ⊎_elim
-    (λ (s : (j ≡ id) × (next ≡ u)). let number : view.number ≡ u.number = ap (λ (w : View). w.number) s.1 in absurd (omega arith))
+    (λ (s : (j ≡ id) × (next ≡ u)).
+    let number : view.number ≡ u.number = ap (λ (w : View). w.number) s.1 in absurd (omega arith))
     (λ (s : (j ≢ id) × (get_elem? state.views j ≡ some u)). let low = (kept.fits j u s.1).few c in absurd (omega arith))
     (at_set state.views id j next u there))
 
 -- a token makes a note of events with which those of the rule begin
-note_made : (plan : Plan) (id : ℕ) (view : View) (seen : List Event) (state : State ℕ View) (kept : Kept plan state) → get_elem? state.views id ≡ some view → BeginsWith kept.log seen
-    → Kept plan (record { words = state.words; homes = state.homes; views = set state.views id (counted view) ++ record (note_of view) { seen = seen } ∷ [] })
+note_made : (plan : Plan) (id : ℕ) (view : View) (seen : List Event) (state : State ℕ View) (kept : Kept plan state)
+    → get_elem? state.views id ≡ some view → BeginsWith kept.log seen
+    → Kept plan
+    (record {
+      words = state.words;
+      homes = state.homes;
+      views = set state.views id (counted view) ++ record (note_of view) { seen = seen } ∷ [];
+    })
 unfolding replaced
 note_made plan id view seen state kept at begins =
     let mine = kept.fits id view at in let next = counted view in
     let stays = replaced plan state kept id view next at
-    (record { plan_is = mine.plan_is; later = record { rest = mine.later.rest; is = mine.later.is; quiet = mine.later.quiet }; told = mine.told; few = mine.few; maker = mine.maker }) (λ c. (c, refl)) in
-    adds plan (record { words = state.words; homes = state.homes; views = set state.views id next }) stays (record (note_of view) { seen = seen })
-    (record { plan_is = λ c. absurd (cc (c)); later = record { rest = begins.0; is = begins.1; quiet = λ c. absurd (cc (c)) }; told = begins_all kept.log; few = λ c. absurd (cc (c)); maker = λ c. absurd (cc (c)) })
+    (record {
+      plan_is = mine.plan_is;
+      later = record { rest = mine.later.rest; is = mine.later.is; quiet = mine.later.quiet };
+      told = mine.told;
+      few = mine.few;
+      maker = mine.maker;
+    })
+    (λ c. (c, refl)) in
+    adds plan (record { words = state.words; homes = state.homes; views = set state.views id next }) stays
+    (record (note_of view) { seen = seen })
+    (record {
+      plan_is = λ c. absurd (cc (c));
+      later = record { rest = begins.0; is = begins.1; quiet = λ c. absurd (cc (c)) };
+      told = begins_all kept.log;
+      few = λ c. absurd (cc (c));
+      maker = λ c. absurd (cc (c));
+    })
     (λ j u there _ c. absurd (cc (c)))
 
 -- of what it has seen, or of what it was told, and takes one in
 pub notes_so : (plan : Plan) (id : ℕ) (view : View) → Splits (Kept plan) id view (counted view) (note_of view)
-notes_so plan id view state kept at = let later = (kept.fits id view at).later in note_made plan id view view.seen state kept at (later.rest, later.is)
+notes_so plan id view state kept at =
+    let later = (kept.fits id view at).later in
+    note_made plan id view view.seen state kept at (later.rest, later.is)
 
 pub retells_so : (plan : Plan) (id : ℕ) (view : View) → Splits (Kept plan) id view (counted view) (retold view)
 retells_so plan id view state kept at = note_made plan id view view.told state kept at (kept.fits id view at).told
 
-pub joins_so : (plan : Plan) (id : ℕ) (view : View) (other : ℕ) (note : View) → Joins (Kept plan) id view other note (with_note view note) spent
+pub joins_so : (plan : Plan) (id : ℕ) (view : View) (other : ℕ) (note : View)
+    → Joins (Kept plan) id view other note (with_note view note) spent
 unfolding replaced
 joins_so plan id view other note state kept at apart beside =
     let mine = kept.fits id view at in let next = with_note view note in
     let told = (kept.fits other note (sym (set_else state.views id other next apart) ∙ beside)).later in
     let took = replaced plan state kept id view next at
-    (record { plan_is = mine.plan_is; later = record { rest = mine.later.rest; is = mine.later.is; quiet = mine.later.quiet }; told = (told.rest, told.is); few = mine.few; maker = mine.maker }) (λ c. (c, refl)) in
-    replaced plan (record { words = state.words; homes = state.homes; views = set state.views id next }) took other note spent beside
-    (record { plan_is = λ c. absurd (cc (c)); later = record { rest = kept.log; is = (begins_all kept.log).1; quiet = λ c. absurd (cc (c)) }; told = begins_all kept.log; few = λ c. absurd (cc (c)); maker = λ c. absurd (cc (c)) })
+    (record {
+      plan_is = mine.plan_is;
+      later = record { rest = mine.later.rest; is = mine.later.is; quiet = mine.later.quiet };
+      told = (told.rest, told.is);
+      few = mine.few;
+      maker = mine.maker;
+    })
+    (λ c. (c, refl)) in
+    replaced plan (record { words = state.words; homes = state.homes; views = set state.views id next }) took other note
+    spent beside
+    (record {
+      plan_is = λ c. absurd (cc (c));
+      later = record { rest = kept.log; is = (begins_all kept.log).1; quiet = λ c. absurd (cc (c)) };
+      told = begins_all kept.log;
+      few = λ c. absurd (cc (c));
+      maker = λ c. absurd (cc (c));
+    })
     (λ c. absurd (cc (c)))

@@ -44,7 +44,8 @@ turn_of plan [] group = 0
 turn_of plan (named way id ∷ log) group = turn_of plan log group
 turn_of plan (unnamed way ∷ log) group = turn_of plan log group
 turn_of plan (cleared other ∷ log) group = cond (other == group) (turn_of plan log group + 1) (turn_of plan log group)
-turn_of plan (claimed by id ∷ log) group = cond (group_of plan id == group) (turn_of plan log group + 1) (turn_of plan log group)
+turn_of plan (claimed by id ∷ log) group =
+    cond (group_of plan id == group) (turn_of plan log group + 1) (turn_of plan log group)
 turn_of plan (looked by ∷ log) group = turn_of plan log group
 
 abbrev pub IsOpen : Plan → List Event → ℕ → Type 0

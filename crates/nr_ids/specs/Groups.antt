@@ -23,7 +23,8 @@ mixed key id = folded id * bit_or key 1 % 2 ^ 64
 unfoldable pub group_of : Plan → ℕ → ℕ
 group_of plan id = mixed plan.key id / 2 ^ 32 * plan.groups / 2 ^ 32
 
--- another group where there is one: so many further on, by the low half scaled to the others, and on from the first behind the last
+-- another group where there is one: so many further on, by the low half scaled to the others, and on from the first
+-- behind the last
 unfoldable pub second_of : Plan → ℕ → ℕ
 second_of plan id = (group_of plan id + 1 + mixed plan.key id % 2 ^ 32 * (plan.groups - 1) / 2 ^ 32) % plan.groups
 

@@ -9,10 +9,14 @@ use Rattle.nr_ids.specs.Tokens.{Known, Token, Grows, HasName}
 
 -- an id has at most one way, which is at one of its places
 abbrev pub OneWay : Type 0
-OneWay = (plan : Plan) (log : List Event) (way other id : ℕ) → IsLegal plan log → 0 < id → name_of log way ≡ id → name_of log other ≡ id → way ≡ other
+OneWay =
+    (plan : Plan) (log : List Event) (way other id : ℕ) → IsLegal plan log → 0 < id → name_of log way ≡ id
+    → name_of log other ≡ id → way ≡ other
 
 abbrev pub AtItsPlaces : Type 0
-AtItsPlaces = (plan : Plan) (log : List Event) (way id : ℕ) → IsLegal plan log → 0 < id → name_of log way ≡ id → (way < ways plan) × IsWayOf plan id way
+AtItsPlaces =
+    (plan : Plan) (log : List Event) (way id : ℕ) → IsLegal plan log → 0 < id → name_of log way ≡ id
+    → (way < ways plan) × IsWayOf plan id way
 
 -- one of these events is this one
 abbrev pub Has : Event → List Event → Type 0
@@ -20,12 +24,16 @@ Has event log = (later : List Event) × (earlier : List Event) × (log ≡ later
 
 -- between two claims of one group lies a clearing of it
 abbrev pub OneClaim : Type 0
-OneClaim = (plan : Plan) (rest log : List Event) (by id other twin : ℕ) → IsLegal plan (claimed by id ∷ rest ++ claimed other twin ∷ log) → group_of plan twin ≡ group_of plan id
+OneClaim =
+    (plan : Plan) (rest log : List Event) (by id other twin : ℕ)
+    → IsLegal plan (claimed by id ∷ rest ++ claimed other twin ∷ log) → group_of plan twin ≡ group_of plan id
     → Has (cleared (group_of plan id)) rest
 
 -- between two namings for one id lies the taking of its first way's name
 abbrev pub OneNaming : Type 0
-OneNaming = (plan : Plan) (rest log : List Event) (way first id : ℕ) → IsLegal plan (named way id ∷ rest ++ named first id ∷ log) → Has (unnamed first) rest
+OneNaming =
+    (plan : Plan) (rest log : List Event) (way first id : ℕ)
+    → IsLegal plan (named way id ∷ rest ++ named first id ∷ log) → Has (unnamed first) rest
 
 -- how often a group was claimed, and how often a claim of it was closed
 abbrev pub claims : Plan → ℕ → List Event → ℕ
@@ -33,7 +41,8 @@ claims plan group [] = 0
 claims plan group (named way id ∷ log) = claims plan group log
 claims plan group (unnamed way ∷ log) = claims plan group log
 claims plan group (cleared other ∷ log) = claims plan group log
-claims plan group (claimed by id ∷ log) = cond (group_of plan id == group) (claims plan group log + 1) (claims plan group log)
+claims plan group (claimed by id ∷ log) =
+    cond (group_of plan id == group) (claims plan group log + 1) (claims plan group log)
 claims plan group (looked by ∷ log) = claims plan group log
 
 abbrev pub closings : ℕ → List Event → ℕ
@@ -46,18 +55,25 @@ closings group (looked by ∷ log) = closings group log
 
 -- a turn counts both
 abbrev pub TurnCounts : Type 0
-TurnCounts = (plan : Plan) (log : List Event) (group : ℕ) → turn_of plan log group ≡ claims plan group log + closings group log
+TurnCounts =
+    (plan : Plan) (log : List Event) (group : ℕ) → turn_of plan log group ≡ claims plan group log + closings group log
 
 -- of names the clerk knows all: they are those that it knew, after its own steps
 abbrev pub ClerkKnows : Type 0
-ClerkKnows = (old : Token) (acts : List Event) (new : Token) (way : ℕ) → old.number ≡ 0 → Grows acts old new → name_of new.seen way ≡ name_of (acts ++ old.seen) way
+ClerkKnows =
+    (old : Token) (acts : List Event) (new : Token) (way : ℕ) → old.number ≡ 0 → Grows acts old new
+    → name_of new.seen way ≡ name_of (acts ++ old.seen) way
 
 -- a token that knows a way's name looks it up there, unless the name was taken since
 abbrev pub FindsWhatItKnew : Type 0
-FindsWhatItKnew = (id way : ℕ) (old new : Token) (found : Option ℕ) → 0 < id → HasName old way id → LooksUp id old new found
+FindsWhatItKnew =
+    (id way : ℕ) (old new : Token) (found : Option ℕ) → 0 < id → HasName old way id → LooksUp id old new found
     → (found ≡ Some way) ⊎ ((rest : List Event) × (new.seen ≡ rest ++ old.seen) × Has (unnamed way) rest)
 
--- a token that heard of a way's name, and knows whatever more, looks it up there, unless the name was taken since the note
+-- a token that heard of a way's name, and knows whatever more, looks it up there, unless the name was taken since the
+-- note
 abbrev pub FindsWhatItHeard : Type 0
-FindsWhatItHeard = (note : Known) (id way : ℕ) (old new : Token) (found : Option ℕ) → 0 < id → name_of note.seen way ≡ id → BeginsWith old.seen note.seen → LooksUp id old new found
+FindsWhatItHeard =
+    (note : Known) (id way : ℕ) (old new : Token) (found : Option ℕ) → 0 < id → name_of note.seen way ≡ id
+    → BeginsWith old.seen note.seen → LooksUp id old new found
     → (found ≡ Some way) ⊎ ((rest : List Event) × (new.seen ≡ rest ++ note.seen) × Has (unnamed way) rest)

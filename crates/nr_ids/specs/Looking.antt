@@ -1,5 +1,6 @@
 -- What a scan of an id's places tells, of a reader and of the clerk.
-use Rattle.std.specs.Prelude.{◌≡◌, ◌≢◌, ℕ, ◌+◌, ◌*◌, ◌%◌, ◌<◌, ◌≤◌, ◌⊎◌, IfNone, IfSome, List, Option, Some, None, Result, Ok, Err}
+use Rattle.std.specs.Prelude.{◌≡◌, ◌≢◌, ℕ, ◌+◌, ◌*◌, ◌%◌, ◌<◌, ◌≤◌, ◌⊎◌, IfNone, IfSome, List, Option, Some, None}
+use Rattle.std.specs.Prelude.{Result, Ok, Err}
 use Rattle.nr_ids.specs.declared.admissions.Refused.{Refused}
 use Rattle.nr_ids.specs.declared.admissions.Refused.TheVariants as refused
 use Rattle.nr_ids.specs.declared.admissions.Room.{Room}
@@ -23,11 +24,13 @@ pub record WasAbsent (id : ℕ) (old new : Token) : Type 0 where
 
 -- so far: there was such a moment, or the id has a way at that place or behind it
 abbrev pub Ahead : ℕ → ℕ → Token → Token → Type 0
-Ahead id place old new = WasAbsent id old new ⊎ ((at : ℕ) × (place ≤ at) × (at < places) × (name_of new.seen (way_for old id at) ≡ id))
+Ahead id place old new =
+    WasAbsent id old new ⊎ ((at : ℕ) × (place ≤ at) × (at < places) × (name_of new.seen (way_for old id at) ≡ id))
 
 -- of so many ways none has the name, where the clerk looked
 abbrev pub PassedByClerk : (ℕ → ℕ) → ℕ → Token → ℕ → Token → Type 0
-PassedByClerk way name old count new = old.number ≡ 0 → (place : ℕ) → place < count → name_of new.seen (way place) ≢ name
+PassedByClerk way name old count new =
+    old.number ≡ 0 → (place : ℕ) → place < count → name_of new.seen (way place) ≢ name
 
 pub record Missed (id : ℕ) (old new : Token) : Type 0 where
   pub grows : Grows (looks places old.number) old new
@@ -79,5 +82,6 @@ pub record SeesRoom (id group : ℕ) (old new : Token) (room : Room) : Type 0 wh
 abbrev pub LooksForRoom : ℕ → ℕ → Token → Token → Result Room Refused → Type 0
 LooksForRoom id group old new (Ok room) = SeesRoom id group old new room
 LooksForRoom id group old new (Err refused.NoClaim) = ⊥
-LooksForRoom id group old new (Err (refused.Named way)) = (group_of_way way ≡ group) × Grows (looks (way % 8 + 1) old.number) old new × HasName new way id
+LooksForRoom id group old new (Err (refused.Named way)) =
+    (group_of_way way ≡ group) × Grows (looks (way % 8 + 1) old.number) old new × HasName new way id
 LooksForRoom id group old new (Err refused.Full) = ⊥

@@ -19,7 +19,8 @@ pub record Goes (event : Event) (view next : View) : Type 0 where
   pub heard : BeginsWith next.seen view.told
 
 abbrev pub has_looked_at_name : Then
-has_looked_at_name step (before, _) found (after, _) = Goes (looked before.number) before after × (found ≡ name_of after.seen step.word)
+has_looked_at_name step (before, _) found (after, _) =
+    Goes (looked before.number) before after × (found ≡ name_of after.seen step.word)
 
 abbrev pub has_looked_at_turn : Then
 has_looked_at_turn step (before, _) found (after, _) = Goes (looked before.number) before after
@@ -31,8 +32,11 @@ id_said (some id) = id
 
 -- a claim, or a look where the turn was another
 abbrev pub has_claimed : Then
-has_claimed step (before, _) found (after, _) = (found ≡ step.first → Goes (claimed before.number (id_said step.said)) before after)
-    × (found ≢ step.first → Goes (looked before.number) before after × (found ≡ turn_of before.plan after.seen (group_of before.plan (id_said step.said))))
+has_claimed step (before, _) found (after, _) =
+    (found ≡ step.first → Goes (claimed before.number (id_said step.said)) before after)
+    × (found ≢ step.first
+    → Goes (looked before.number) before after
+    × (found ≡ turn_of before.plan after.seen (group_of before.plan (id_said step.said))))
 
 abbrev pub has_named : Then
 has_named step (before, _) found (after, _) = Goes (named step.word step.first) before after
@@ -41,7 +45,8 @@ abbrev pub has_unnamed : Then
 has_unnamed step (before, _) found (after, _) = Goes (unnamed step.word) before after
 
 abbrev pub has_cleared : Then
-has_cleared step (before, _) found (after, _) = (group : ℕ) → step.word ≡ turn_place before.plan group → Goes (cleared group) before after
+has_cleared step (before, _) found (after, _) =
+    (group : ℕ) → step.word ≡ turn_place before.plan group → Goes (cleared group) before after
 
 -- a step on a group's marks, which tells nothing
 abbrev pub has_marked : Then

@@ -1,4 +1,5 @@
--- The rule of the table: its words show the names and the turns after one legal list of events, and each token knows an end of that list.
+-- The rule of the table: its words show the names and the turns after one legal list of events, and each token knows an
+-- end of that list.
 use Rattle.std.specs.Prelude.{◌≡◌, ℕ, ◌+◌, ◌*◌, ◌<◌, ◌≤◌, Bool, true, false, List, [], ◌++◌, length, slice_index}
 use mathlib.Core.Option.{some}
 use lib.ListN.{get_elem?}
@@ -48,7 +49,16 @@ abbrev pub with_note : View → View → View
 with_note view note = record (counted view) { told = note.seen }
 
 abbrev pub spent : View
-spent = record { plan = record { groups = 0; key = 0 }; calls = false; number = 0; made = 0; seen = []; told = []; steps = 0 }
+spent =
+    record {
+      plan = record { groups = 0; key = 0 };
+      calls = false;
+      number = 0;
+      made = 0;
+      seen = [];
+      told = [];
+      steps = 0;
+    }
 
 -- the events began with these
 abbrev pub BeginsWith : List Event → List Event → Type 0
@@ -91,7 +101,8 @@ pub record Kept (plan : Plan) (state : State ℕ View) : Type 0 where
   pub made : ℕ
   pub fits : (at : ℕ) (view : View) → get_elem? state.views at ≡ some view → Fits plan log made view
   -- no two callers have one number
-  pub once : (at other : ℕ) (view twin : View) → get_elem? state.views at ≡ some view → get_elem? state.views other ≡ some twin → view.calls ≡ true → twin.calls ≡ true
+  pub once : (at other : ℕ) (view twin : View) → get_elem? state.views at ≡ some view
+      → get_elem? state.views other ≡ some twin → view.calls ≡ true → twin.calls ≡ true
       → view.number ≡ twin.number → at ≡ other
   -- and a number that no caller has yet has no events
   pub fresh : (number : ℕ) → made < number → own number log ≡ []

@@ -38,7 +38,14 @@ abbrev pub carried_by : Seat ℕ View → List (ℕ × ℕ)
 carried_by seat = carried_in seat.me
 
 abbrev pub token_by : TableId → View → Token
-token_by id view = record { directory = record { id = id; plan = view.plan }; number = view.number; made = view.made; seen = view.seen; steps = view.steps }
+token_by id view =
+    record {
+      directory = record { id = id; plan = view.plan };
+      number = view.number;
+      made = view.made;
+      seen = view.seen;
+      steps = view.steps;
+    }
 
 abbrev pub token : Seat ℕ View → Token
 token seat = token_by seat.table_id (view_of seat)
@@ -69,7 +76,8 @@ abbrev pub Newest : List Event → List Event → List Event → Type 0
 Newest [] old new = new ≡ old
 Newest (act ∷ acts) old new = (before : List Event) × (new ≡ act ∷ before)
 
--- the token's own steps were just these, newest first; it knows a legal list of events, which begins with all that it knew
+-- the token's own steps were just these, newest first; it knows a legal list of events, which begins with all that it
+-- knew
 pub record Grows (acts : List Event) (old new : Token) : Type 0 where
   pub directory : new.directory ≡ old.directory
   pub number : new.number ≡ old.number

@@ -1,5 +1,6 @@
 -- Each claim that a client is granted is posted, or kept: try by try.
-use Rattle.std.proofs.Common.{◌≡◌, ◌+◌, ◌%◌, ℕ, zero, suc, List, [], ◌∷◌, ◌++◌, Option, None, Some, Result, Ok, Err, refl, sym, ap, ◌∙◌, subst, arith, append_assoc, append-nil}
+use Rattle.std.proofs.Common.{◌≡◌, ◌+◌, ◌%◌, ℕ, zero, suc, List, [], ◌∷◌, ◌++◌, Option, None, Some, Result, Ok, Err}
+use Rattle.std.proofs.Common.{refl, sym, ap, ◌∙◌, subst, arith, append_assoc, append-nil}
 use Rattle.nr_model.specs.declared.rows.Row.{Row}
 use Rattle.nr_ids.specs.Groups.{places}
 use Rattle.nr_ids.specs.declared.requests.Requested.{Requested}
@@ -29,7 +30,9 @@ claimed_ids-append [] m = sym (append-nil (claimed_ids m))
 claimed_ids-append (named way id ∷ l) m = claimed_ids-append l m
 claimed_ids-append (unnamed way ∷ l) m = claimed_ids-append l m
 claimed_ids-append (cleared group ∷ l) m = claimed_ids-append l m
-claimed_ids-append (claimed by id ∷ l) m = ap (λ (ids : List ℕ). ids ++ id ∷ []) (claimed_ids-append l m) ∙ append_assoc (claimed_ids m) (claimed_ids l) (id ∷ [])
+claimed_ids-append (claimed by id ∷ l) m =
+    ap (λ (ids : List ℕ). ids ++ id ∷ []) (claimed_ids-append l m)
+    ∙ append_assoc (claimed_ids m) (claimed_ids l) (id ∷ [])
 claimed_ids-append (looked by ∷ l) m = claimed_ids-append l m
 
 looks_claim_none : (count by : ℕ) → claimed_ids (looks count by) ≡ []
@@ -47,24 +50,37 @@ record Claims (old : Token) (ids : List ℕ) (new : Token) : Type 0 where
   pub seen : new.seen ≡ events ++ old.seen
   pub claims : claimed_ids (own old.number events) ≡ ids
 
-claims_of : (old new : Token) (acts : List Event) (ids : List ℕ) → Grows acts old new → claimed_ids acts ≡ ids → Claims old ids new
-claims_of old new acts ids grows is = record { number = grows.number; events = grows.rest; seen = grows.seen; claims = ap claimed_ids grows.acts_are ∙ is }
+claims_of : (old new : Token) (acts : List Event) (ids : List ℕ) → Grows acts old new → claimed_ids acts ≡ ids
+    → Claims old ids new
+claims_of old new acts ids grows is =
+    record {
+      number = grows.number;
+      events = grows.rest;
+      seen = grows.seen;
+      claims = ap claimed_ids grows.acts_are ∙ is;
+    }
 
 claims_none : (old new : Token) (count : ℕ) → Grows (looks count old.number) old new → Claims old [] new
-claims_none old new count grows = claims_of old new (looks count old.number) [] grows (looks_claim_none count old.number)
+claims_none old new count grows =
+    claims_of old new (looks count old.number) [] grows (looks_claim_none count old.number)
 
 claims_both : (a b c : Token) (ids more : List ℕ) → Claims a ids b → Claims b more c → Claims a (ids ++ more) c
 claims_both a b c ids more one two = record {
   number = two.number ∙ one.number;
   events = two.events ++ one.events;
-  seen = two.seen ∙ ap (λ (log : List Event). two.events ++ log) one.seen ∙ sym (append_assoc two.events one.events a.seen);
-  claims = ap claimed_ids (own_append a.number two.events one.events) ∙ claimed_ids-append (own a.number two.events) (own a.number one.events)
+  seen =
+      two.seen ∙ ap (λ (log : List Event). two.events ++ log) one.seen
+      ∙ sym (append_assoc two.events one.events a.seen);
+  claims =
+      ap claimed_ids (own_append a.number two.events one.events)
+      ∙ claimed_ids-append (own a.number two.events) (own a.number one.events)
       ∙ ap (λ (l : List ℕ). l ++ claimed_ids (own a.number two.events)) one.claims
       ∙ ap (λ (l : List ℕ). ids ++ l) (ap (λ (by : ℕ). claimed_ids (own by two.events)) (sym one.number) ∙ two.claims);
 }
 
 -- ONE CALL
-posts_each : (old new : IdHands) (ids : List ℕ) (gain : List Upquery) → Claims old.reader.ids ids new.reader.ids → new.poster.posted ≡ old.poster.posted ++ gain
+posts_each : (old new : IdHands) (ids : List ℕ) (gain : List Upquery) → Claims old.reader.ids ids new.reader.ids
+    → new.poster.posted ≡ old.poster.posted ++ gain
     → ids_kept old.kept ++ ids ≡ ids_posted gain ++ ids_kept new.kept → PostsEach old new
 posts_each old new ids gain claims posted all = record {
   number = claims.number;
@@ -76,49 +92,81 @@ posts_each old new ids gain claims posted all = record {
 }
 
 same_token : (old new : Token) → new ≡ old → Claims old [] new
-same_token old new same = record { number = ap (λ (token : Token). token.number) same; events = []; seen = ap (λ (token : Token). token.seen) same; claims = refl }
+same_token old new same =
+    record {
+      number = ap (λ (token : Token). token.number) same;
+      events = [];
+      seen = ap (λ (token : Token). token.seen) same;
+      claims = refl;
+    }
 
 each_both : (a b c : IdHands) → PostsEach a b → PostsEach b c → PostsEach a c
 each_both a b c one two =
     let mine = claimed_ids (own a.reader.ids.number one.events) in
     let more = claimed_ids (own b.reader.ids.number two.events) in
-    let first : Claims a.reader.ids mine b.reader.ids = record { number = one.number; events = one.events; seen = one.seen; claims = refl } in
-    let second : Claims b.reader.ids more c.reader.ids = record { number = two.number; events = two.events; seen = two.seen; claims = refl } in
-    posts_each a c (mine ++ more) (one.gain ++ two.gain) (claims_both a.reader.ids b.reader.ids c.reader.ids mine more first second)
+    let first : Claims a.reader.ids mine b.reader.ids
+    = record { number = one.number; events = one.events; seen = one.seen; claims = refl } in
+    let second : Claims b.reader.ids more c.reader.ids
+    = record { number = two.number; events = two.events; seen = two.seen; claims = refl } in
+    posts_each a c (mine ++ more) (one.gain ++ two.gain)
+    (claims_both a.reader.ids b.reader.ids c.reader.ids mine more first second)
     (two.posted ∙ ap (λ (l : List Upquery). l ++ two.gain) one.posted ∙ append_assoc a.poster.posted one.gain two.gain)
-    (sym (append_assoc (ids_kept a.kept) mine more) ∙ ap (λ (l : List ℕ). l ++ more) one.all ∙ append_assoc (ids_posted one.gain) (ids_kept b.kept) more ∙ ap (λ (l : List ℕ). ids_posted one.gain ++ l) two.all
-    ∙ sym (append_assoc (ids_posted one.gain) (ids_posted two.gain) (ids_kept c.kept)) ∙ ap (λ (l : List ℕ). l ++ ids_kept c.kept) (sym (ids_posted-append one.gain two.gain)))
+    (sym (append_assoc (ids_kept a.kept) mine more) ∙ ap (λ (l : List ℕ). l ++ more) one.all
+    ∙ append_assoc (ids_posted one.gain) (ids_kept b.kept) more
+    ∙ ap (λ (l : List ℕ). ids_posted one.gain ++ l) two.all
+    ∙ sym (append_assoc (ids_posted one.gain) (ids_posted two.gain) (ids_kept c.kept))
+    ∙ ap (λ (l : List ℕ). l ++ ids_kept c.kept) (sym (ids_posted-append one.gain two.gain)))
 
 each_same : (hands : IdHands) → PostsEach hands hands
-each_same hands = posts_each hands hands [] [] (same_token hands.reader.ids hands.reader.ids refl) (sym (append-nil hands.poster.posted)) (append-nil (ids_kept hands.kept))
+each_same hands =
+    posts_each hands hands []
+    [] (same_token hands.reader.ids hands.reader.ids refl) (sym (append-nil hands.poster.posted))
+    (append-nil (ids_kept hands.kept))
 
 -- a claim that the client had, by a reader whose own steps were granted these
-post_each : (capacity : ℕ) (old new : IdHands) (kept : Option Granted) (ids : List ℕ) → Claims old.reader.ids ids new.reader.ids → PostsKept capacity kept old.poster new.kept new.poster
+post_each : (capacity : ℕ) (old new : IdHands) (kept : Option Granted) (ids : List ℕ)
+    → Claims old.reader.ids ids new.reader.ids → PostsKept capacity kept old.poster new.kept new.poster
     → ids_kept old.kept ++ ids ≡ ids_kept kept → PostsEach old new
 post_each capacity old new kept ids claims posts all = by_kept kept new.kept refl posts all
   where
-    by_kept : (before after : Option Granted) → new.kept ≡ after → PostsKept capacity before old.poster after new.poster → ids_kept old.kept ++ ids ≡ ids_kept before → PostsEach old new
-    by_kept None after is posts all = posts_each old new ids [] claims (ap (λ (poster : PosterSeen). poster.posted) posts.1 ∙ sym (append-nil old.poster.posted)) (all ∙ sym (ap ids_kept (is ∙ posts.0)))
-    by_kept (Some claim) None is posts all = posts_each old new ids (record { key = 0; number = claim.id } ∷ []) claims posts.posted (all ∙ sym (ap (λ (l : Option Granted). claim.id ∷ ids_kept l) is))
-    by_kept (Some claim) (Some back) is posts all = posts_each old new ids [] claims (ap (λ (poster : PosterSeen). poster.posted) posts.1 ∙ sym (append-nil old.poster.posted))
+    by_kept : (before after : Option Granted) → new.kept ≡ after → PostsKept capacity before old.poster after new.poster
+        → ids_kept old.kept ++ ids ≡ ids_kept before → PostsEach old new
+    by_kept None after is posts all =
+        posts_each old new ids
+        [] claims (ap (λ (poster : PosterSeen). poster.posted) posts.1 ∙ sym (append-nil old.poster.posted))
+        (all ∙ sym (ap ids_kept (is ∙ posts.0)))
+    by_kept (Some claim) None is posts all =
+        posts_each old new ids (record { key = 0; number = claim.id } ∷ []) claims posts.posted
+        (all ∙ sym (ap (λ (l : Option Granted). claim.id ∷ ids_kept l) is))
+    by_kept (Some claim) (Some back) is posts all =
+        posts_each old new ids
+        [] claims (ap (λ (poster : PosterSeen). poster.posted) posts.1 ∙ sym (append-nil old.poster.posted))
         (all ∙ sym (ap ids_kept is ∙ ap (λ (granted : Granted). granted.id ∷ []) posts.0))
 
 first_each : (capacity : ℕ) (old new : IdHands) → PostsFirst capacity old new → PostsEach old new
 first_each capacity old new posts =
-    post_each capacity old new old.kept [] (same_token old.reader.ids new.reader.ids (ap (λ (reader : IdCaller). reader.ids) posts.0)) posts.1 (append-nil (ids_kept old.kept))
+    post_each capacity old new old.kept
+    [] (same_token old.reader.ids new.reader.ids (ap (λ (reader : IdCaller). reader.ids) posts.0)) posts.1
+    (append-nil (ids_kept old.kept))
 
 -- a call of the reader alone
-reader_each : (old : IdHands) (reader : IdCaller) → Claims old.reader.ids [] reader.ids → PostsEach old (with_id_reader old reader)
-reader_each old reader claims = posts_each old (with_id_reader old reader) [] [] claims (sym (append-nil old.poster.posted)) (append-nil (ids_kept old.kept))
+reader_each : (old : IdHands) (reader : IdCaller) → Claims old.reader.ids [] reader.ids
+    → PostsEach old (with_id_reader old reader)
+reader_each old reader claims =
+    posts_each old (with_id_reader old reader) []
+    [] claims (sym (append-nil old.poster.posted)) (append-nil (ids_kept old.kept))
 
 look_none : (id : ℕ) (old new : Token) (way : Option ℕ) → LooksUp id old new way → Claims old [] new
 look_none id old new (Some way) looks_up = claims_none old new (looks_up.place + 1) looks_up.grows
 look_none id old new None looks_up = claims_none old new places looks_up.0
 
-find_none : {Room : Type 0} (shows : Room → List Row → Type 0) (id : ℕ) (old : IdCaller) (before : Room) (new : IdCaller) (after : Room) (answer : FoundId) → FindsById shows id old before new after answer
+find_none : {Room : Type 0} (shows : Room → List Row → Type 0) (id : ℕ) (old : IdCaller) (before : Room)
+    (new : IdCaller) (after : Room) (answer : FoundId)
+    → FindsById shows id old before new after answer
     → Claims old.ids [] new.ids
 find_none shows id old before new after found.Rows finds =
-    claims_both old.ids finds.2 new.ids [] [] (look_none id old.ids finds.2 (Some finds.0) finds.3.0) (claims_none finds.2 new.ids finds.4.0 finds.4.2)
+    claims_both old.ids finds.2 new.ids []
+    [] (look_none id old.ids finds.2 (Some finds.0) finds.3.0) (claims_none finds.2 new.ids finds.4.0 finds.4.2)
 find_none shows id old before new after found.Pending finds = look_none id old.ids new.ids (Some finds.0) finds.1
 find_none shows id old before new after found.Moved finds = look_none id old.ids new.ids (Some finds.0) finds.2.0
 find_none shows id old before new after found.Absent finds = look_none id old.ids new.ids None finds.0
@@ -130,7 +178,8 @@ requested_ids requested.Busy = []
 requested_ids requested.Outrun = []
 requested_ids requested.Worn = []
 
-refused_none : (id : ℕ) (old new : Token) (answer : Requested) → requested_ids answer ≡ [] → Requests id old new answer → Claims old [] new
+refused_none : (id : ℕ) (old new : Token) (answer : Requested) → requested_ids answer ≡ [] → Requests id old new answer
+    → Claims old [] new
 refused_none id old new (requested.Granted claim) none requests = let no : claim.id ∷ [] ≡ [] = none in absurd (cc (no))
 refused_none id old new (requested.Named way) none requests = claims_none old new (requests.place + 2) requests.grows
 refused_none id old new requested.Busy none requests = claims_none old new 1 requests.0
@@ -138,52 +187,83 @@ refused_none id old new requested.Outrun none requests = claims_none old new (pl
 refused_none id old new requested.Worn none requests = claims_none old new 1 requests.0
 
 -- no claim was kept and none is, and nothing was posted
-quiet_each : (old new : IdHands) → old.kept ≡ None → new.kept ≡ None → new.poster ≡ old.poster → Claims old.reader.ids [] new.reader.ids → PostsEach old new
-quiet_each old new none still poster claims = posts_each old new [] [] claims (ap (λ (seen : PosterSeen). seen.posted) poster ∙ sym (append-nil old.poster.posted))
+quiet_each : (old new : IdHands) → old.kept ≡ None → new.kept ≡ None → new.poster ≡ old.poster
+    → Claims old.reader.ids [] new.reader.ids → PostsEach old new
+quiet_each old new none still poster claims =
+    posts_each old new []
+    [] claims (ap (λ (seen : PosterSeen). seen.posted) poster ∙ sym (append-nil old.poster.posted))
     (ap (λ (kept : Option Granted). ids_kept kept ++ []) none ∙ sym (ap ids_kept still))
 
-request_each : (capacity id : ℕ) (old : IdHands) (missed : Missed) (new : IdHands) → RequestsOnce capacity id old new missed → PostsEach old new
+request_each : (capacity id : ℕ) (old : IdHands) (missed : Missed) (new : IdHands)
+    → RequestsOnce capacity id old new missed → PostsEach old new
 request_each capacity id old missed.Pending new requests = absurd requests
-request_each capacity id old missed.NotRequested new requests = subst (λ (hands : IdHands). PostsEach old hands) (sym requests.2) (each_same old)
+request_each capacity id old missed.NotRequested new requests =
+    subst (λ (hands : IdHands). PostsEach old hands) (sym requests.2) (each_same old)
 request_each capacity id old missed.Claimed new requests =
     let won = requests.requests.requests in
     post_each capacity old new (Some requests.claim) (id ∷ [])
-    (claims_of old.reader.ids new.reader.ids (claimed old.reader.ids.number id ∷ looks (places + 1) old.reader.ids.number) (id ∷ []) won.0.grows (ap (λ (ids : List ℕ). ids ++ id ∷ []) (looks_claim_none (places + 1) old.reader.ids.number)))
-    requests.posts (ap (λ (kept : Option Granted). ids_kept kept ++ id ∷ []) requests.requests.none ∙ ap (λ (at : ℕ). at ∷ []) (sym won.2))
+    (claims_of old.reader.ids new.reader.ids
+    (claimed old.reader.ids.number id ∷ looks (places + 1) old.reader.ids.number) (id ∷ []) won.0.grows
+    (ap (λ (ids : List ℕ). ids ++ id ∷ []) (looks_claim_none (places + 1) old.reader.ids.number)))
+    requests.posts
+    (ap (λ (kept : Option Granted). ids_kept kept ++ id ∷ []) requests.requests.none
+    ∙ ap (λ (at : ℕ). at ∷ []) (sym won.2))
 request_each capacity id old missed.Named new requests =
-    quiet_each old new requests.1.requests.none requests.1.kept requests.1.poster (refused_none id old.reader.ids new.reader.ids (requested.Named requests.0) refl requests.1.requests.requests)
-request_each capacity id old missed.Busy new requests = quiet_each old new requests.requests.none requests.kept requests.poster (refused_none id old.reader.ids new.reader.ids requested.Busy refl requests.requests.requests)
+    quiet_each old new requests.1.requests.none requests.1.kept requests.1.poster
+    (refused_none id old.reader.ids new.reader.ids (requested.Named requests.0) refl requests.1.requests.requests)
+request_each capacity id old missed.Busy new requests =
+    quiet_each old new requests.requests.none requests.kept requests.poster
+    (refused_none id old.reader.ids new.reader.ids requested.Busy refl requests.requests.requests)
 request_each capacity id old missed.Outrun new requests =
-    quiet_each old new requests.requests.none requests.kept requests.poster (refused_none id old.reader.ids new.reader.ids requested.Outrun refl requests.requests.requests)
-request_each capacity id old missed.Worn new requests = quiet_each old new requests.requests.none requests.kept requests.poster (refused_none id old.reader.ids new.reader.ids requested.Worn refl requests.requests.requests)
+    quiet_each old new requests.requests.none requests.kept requests.poster
+    (refused_none id old.reader.ids new.reader.ids requested.Outrun refl requests.requests.requests)
+request_each capacity id old missed.Worn new requests =
+    quiet_each old new requests.requests.none requests.kept requests.poster
+    (refused_none id old.reader.ids new.reader.ids requested.Worn refl requests.requests.requests)
 
-goes_on_each : (capacity id : ℕ) (answer : FoundId) (old : IdHands) (missed : Missed) (new : IdHands) → GoesOn capacity id answer old new missed → PostsEach old new
+goes_on_each : (capacity id : ℕ) (answer : FoundId) (old : IdHands) (missed : Missed) (new : IdHands)
+    → GoesOn capacity id answer old new missed → PostsEach old new
 goes_on_each capacity id found.Rows old missed new goes = absurd goes
-goes_on_each capacity id found.Pending old missed new goes = subst (λ (hands : IdHands). PostsEach old hands) (sym goes.1) (each_same old)
+goes_on_each capacity id found.Pending old missed new goes =
+    subst (λ (hands : IdHands). PostsEach old hands) (sym goes.1) (each_same old)
 goes_on_each capacity id found.Moved old missed new goes = request_each capacity id old missed new goes
 goes_on_each capacity id found.Absent old missed new goes = request_each capacity id old missed new goes
 
 -- TRIES AND GETS
-pub miss_each : (capacity id : ℕ) (old : IdHands) (missed : Missed) (new : IdHands) → MissesOnce capacity id old new missed → PostsEach old new
+pub miss_each : (capacity id : ℕ) (old : IdHands) (missed : Missed) (new : IdHands)
+    → MissesOnce capacity id old new missed → PostsEach old new
 miss_each capacity id old missed new tried =
     let mid = with_id_reader tried.posted tried.reader in
     each_both old tried.posted new (first_each capacity old tried.posted tried.posts)
-    (each_both tried.posted mid new (reader_each tried.posted tried.reader (find_none {Room = Unit {0}} (λ room rows. ⊥) id tried.posted.reader tt tried.reader tt tried.answer tried.finds)) (goes_on_each capacity id tried.answer mid missed new tried.goes_on))
+    (each_both tried.posted mid new
+    (reader_each tried.posted tried.reader
+    (find_none {Room = Unit {0}} (λ room rows. ⊥) id tried.posted.reader tt tried.reader tt tried.answer
+    tried.finds))
+    (goes_on_each capacity id tried.answer mid missed new tried.goes_on))
 
-misses_each : (capacity id : ℕ) (old : IdHands) (all : List Missed) (new : IdHands) → MissesAll capacity id old new all → PostsEach old new
+misses_each : (capacity id : ℕ) (old : IdHands) (all : List Missed) (new : IdHands) → MissesAll capacity id old new all
+    → PostsEach old new
 misses_each capacity id old [] new same = subst (λ (hands : IdHands). PostsEach old hands) (sym same) (each_same old)
 misses_each capacity id old (missed ∷ before) new tries =
-    each_both old tries.0 new (misses_each capacity id old before tries.0 tries.1) (miss_each capacity id tries.0 missed new tries.2)
+    each_both old tries.0 new (misses_each capacity id old before tries.0 tries.1)
+    (miss_each capacity id tries.0 missed new tries.2)
 
 module _ {Room : Type 0} (shows : Room → List Row → Type 0) where
-  find_each : (capacity id : ℕ) (old : IdHands) (before : Room) (new : IdHands) (after : Room) → FindsOnce shows capacity id old before new after → PostsEach old new
-  find_each capacity id old before new after tried = each_both old tried.posted new (first_each capacity old tried.posted tried.posts)
-      (subst (λ (hands : IdHands). PostsEach tried.posted hands) (sym tried.rest) (reader_each tried.posted new.reader (find_none shows id tried.posted.reader before new.reader after found.Rows tried.finds)))
+  find_each : (capacity id : ℕ) (old : IdHands) (before : Room) (new : IdHands) (after : Room)
+      → FindsOnce shows capacity id old before new after → PostsEach old new
+  find_each capacity id old before new after tried =
+      each_both old tried.posted new (first_each capacity old tried.posted tried.posts)
+      (subst (λ (hands : IdHands). PostsEach tried.posted hands) (sym tried.rest)
+      (reader_each tried.posted new.reader
+      (find_none shows id tried.posted.reader before new.reader after found.Rows tried.finds)))
 
   pub each_claim_is_posted_lem : EachClaimIsPosted shows
   each_claim_is_posted_lem capacity id tries old new before after (Ok got.Rows) gets =
-      each_both old gets.between new (misses_each capacity id old gets.misses.each gets.between gets.misses.all) (find_each capacity id gets.between before new after gets.ends.1)
+      each_both old gets.between new (misses_each capacity id old gets.misses.each gets.between gets.misses.all)
+      (find_each capacity id gets.between before new after gets.ends.1)
   each_claim_is_posted_lem capacity id tries old new before after (Ok got.GaveUp) gets =
-      subst (λ (hands : IdHands). PostsEach old hands) (sym gets.ends.1) (misses_each capacity id old gets.misses.each gets.between gets.misses.all)
+      subst (λ (hands : IdHands). PostsEach old hands) (sym gets.ends.1)
+      (misses_each capacity id old gets.misses.each gets.between gets.misses.all)
   each_claim_is_posted_lem capacity id tries old new before after (Err late) gets =
-      each_both old gets.last new (misses_each capacity id old gets.misses.each gets.last gets.misses.all) (miss_each capacity id gets.last gets.missed new gets.slept.tried)
+      each_both old gets.last new (misses_each capacity id old gets.misses.each gets.last gets.misses.all)
+      (miss_each capacity id gets.last gets.missed new gets.slept.tried)

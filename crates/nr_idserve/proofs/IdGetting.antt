@@ -9,6 +9,8 @@ use Rattle.nr_idserve.specs.IdGets.{FindsOnce, GetsId, MissesAll, MissesOnce, Mi
 pub missed_none : (capacity id : ℕ) (hands : IdHands) → MissesTimes capacity id 0 hands hands
 missed_none capacity id hands = record { each = []; counted = refl; all = refl }
 
-pub missed_more : (capacity id count : ℕ) (old mid new : IdHands) (missed : Missed) → MissesTimes capacity id count old mid → MissesOnce capacity id mid new missed
+pub missed_more : (capacity id count : ℕ) (old mid new : IdHands) (missed : Missed)
+    → MissesTimes capacity id count old mid → MissesOnce capacity id mid new missed
     → MissesTimes capacity id (count + 1) old new
-missed_more capacity id count old mid new missed before once = record { each = missed ∷ before.each; counted = omega (arith, before.counted); all = (mid, before.all, once) }
+missed_more capacity id count old mid new missed before once =
+    record { each = missed ∷ before.each; counted = omega (arith, before.counted); all = (mid, before.all, once) }

@@ -1,5 +1,6 @@
 -- A client's rings are as many as its posts, over several steps.
-use Rattle.std.proofs.Common.{◌≡◌, ◌∷◌, [], ◌++◌, ◌+◌, ℕ, List, length, replicate, length-append, refl, ap, subst, arith}
+use Rattle.std.proofs.Common.{◌≡◌, ◌∷◌, [], ◌++◌, ◌+◌, ℕ, List, length, replicate, length-append, refl, ap, subst}
+use Rattle.std.proofs.Common.{arith}
 use Rattle.std.proofs.lemmas.List.{replicate-append-replicate}
 use Rattle.nr_trigger.specs.declared.post.Upquery.{Upquery}
 use Rattle.nr_trigger.specs.Tokens.{PosterSeen}
@@ -9,10 +10,16 @@ use Rattle.nr_idserve.specs.IdRings.{RingsFor}
 
 -- nothing was posted, and the guest only looked
 pub rings_none : (a b : PosterSeen) (g h : GuestSeen) → b.posted ≡ a.posted → OnlyLooks g h → RingsFor a g b h
-rings_none a b g h same looks = record { count = 0; posted = omega (arith, ap (λ (l : List Upquery). length l) same); raises = looks_raise g h looks }
+rings_none a b g h same looks =
+    record {
+      count = 0;
+      posted = omega (arith, ap (λ (l : List Upquery). length l) same);
+      raises = looks_raise g h looks;
+    }
 
 -- one claim was posted, and the bell rung
-pub rings_once : (a b : PosterSeen) (g h : GuestSeen) (upquery : Upquery) → b.posted ≡ a.posted ++ upquery ∷ [] → Raises (rung_at ∷ []) g h → RingsFor a g b h
+pub rings_once : (a b : PosterSeen) (g h : GuestSeen) (upquery : Upquery) → b.posted ≡ a.posted ++ upquery ∷ []
+    → Raises (rung_at ∷ []) g h → RingsFor a g b h
 rings_once a b g h upquery more raises = record {
   count = 1;
   posted = omega (arith, ap (λ (l : List Upquery). length l) more, length-append a.posted (upquery ∷ []));
@@ -29,7 +36,8 @@ rings_both a b c g h i one two = record {
 
 -- the poster posted nothing
 pub rings_same : (a b : PosterSeen) (g : GuestSeen) → b.posted ≡ a.posted → RingsFor a g b g
-rings_same a b g same = record { count = 0; posted = omega (arith, ap (λ (l : List Upquery). length l) same); raises = raises_none g }
+rings_same a b g same =
+    record { count = 0; posted = omega (arith, ap (λ (l : List Upquery). length l) same); raises = raises_none g }
 
 -- the guest looked
 pub rings_looks : (a : PosterSeen) (g h : GuestSeen) → OnlyLooks g h → RingsFor a g a h

@@ -1,5 +1,6 @@
 -- What a get by id finds of what its client heard was applied.
-use Rattle.std.proofs.Common.{◌≡◌, ◌⊎◌, ◌<◌, ℕ, true, List, [], ◌∷◌, ◌++◌, refl, sym, ap, ◌∙◌, subst, append_assoc, append-nil, inl, inr, ⊎_elim}
+use Rattle.std.proofs.Common.{◌≡◌, ◌⊎◌, ◌<◌, ℕ, true, List, [], ◌∷◌, ◌++◌, refl, sym, ap, ◌∙◌, subst, append_assoc}
+use Rattle.std.proofs.Common.{append-nil, inl, inr, ⊎_elim}
 use Rattle.nr_model.specs.declared.rows.Row.{Row}
 use Rattle.nr_model.specs.Histories.{Entry}
 use Rattle.nr_marks.specs.Puts.{puts_at}
@@ -28,109 +29,182 @@ record Goes (old new : Caller) : Type 0 where
   seen : StartsWith new.seen old.seen
 
 stays : (old new : Caller) → new ≡ old → Goes old new
-stays old new same = subst (λ (caller : Caller). Goes old caller) (sym same) (record { table = refl; seen = record { rest = []; is = sym (append-nil old.seen) } })
+stays old new same =
+    subst (λ (caller : Caller). Goes old caller) (sym same)
+    (record { table = refl; seen = record { rest = []; is = sym (append-nil old.seen) } })
 
 grows : (steps : ℕ) (old : Caller) (entries : List Entry) (new : Caller) → Grows steps entries old new → Goes old new
-grows steps old entries new made = record { table = made.table; seen = record { rest = made.between ++ entries; is = made.seen ∙ append_assoc old.seen made.between entries } }
+grows steps old entries new made =
+    record {
+      table = made.table;
+      seen = record { rest = made.between ++ entries; is = made.seen ∙ append_assoc old.seen made.between entries };
+    }
 
-named_goes : {Room : Type 0} (shows : Room → List Row → Type 0) (id : ℕ) (old : IdCaller) (before : Room) (new : IdCaller) (after : Room) (answer : FoundId) → FindsByName shows id old before new after answer
+named_goes : {Room : Type 0} (shows : Room → List Row → Type 0) (id : ℕ) (old : IdCaller) (before : Room)
+    (new : IdCaller) (after : Room) (answer : FoundId)
+    → FindsByName shows id old before new after answer
     → Goes old.caller new.caller
 named_goes shows id old before new after found.Rows finds = grows _ old.caller _ new.caller finds.3.1.gains
 named_goes shows id old before new after found.Pending finds = grows _ old.caller _ new.caller finds.2.gains
 named_goes shows id old before new after found.Moved finds = grows _ old.caller _ new.caller finds.2.1.gains
 named_goes shows id old before new after found.Absent finds = stays old.caller new.caller finds.1
 
-find_goes : {Room : Type 0} (shows : Room → List Row → Type 0) (id : ℕ) (old : IdCaller) (before : Room) (new : IdCaller) (after : Room) (answer : FoundId) → FindsById shows id old before new after answer
+find_goes : {Room : Type 0} (shows : Room → List Row → Type 0) (id : ℕ) (old : IdCaller) (before : Room)
+    (new : IdCaller) (after : Room) (answer : FoundId)
+    → FindsById shows id old before new after answer
     → Goes old.caller new.caller
-find_goes shows id old before new after answer finds = let goes = named_goes shows id (with_line old) before new after answer finds in record { table = goes.table; seen = goes.seen }
+find_goes shows id old before new after answer finds =
+    let goes = named_goes shows id (with_line old) before new after answer finds in
+    record { table = goes.table; seen = goes.seen }
 
-request_stays : (capacity id : ℕ) (old : IdHands) (said : Missed) (new : IdHands) → RequestsOnce capacity id old new said → new.reader.caller ≡ old.reader.caller
+request_stays : (capacity id : ℕ) (old : IdHands) (said : Missed) (new : IdHands)
+    → RequestsOnce capacity id old new said → new.reader.caller ≡ old.reader.caller
 request_stays capacity id old missed.Pending new requests = absurd requests
-request_stays capacity id old missed.NotRequested new requests = ap (λ (hands : IdHands). hands.reader.caller) requests.2
+request_stays capacity id old missed.NotRequested new requests =
+    ap (λ (hands : IdHands). hands.reader.caller) requests.2
 request_stays capacity id old missed.Claimed new requests = requests.requests.map
 request_stays capacity id old missed.Named new requests = requests.1.requests.map
 request_stays capacity id old missed.Busy new requests = requests.requests.map
 request_stays capacity id old missed.Outrun new requests = requests.requests.map
 request_stays capacity id old missed.Worn new requests = requests.requests.map
 
-goes_on_stays : (capacity id : ℕ) (answer : FoundId) (old : IdHands) (said : Missed) (new : IdHands) → GoesOn capacity id answer old new said → new.reader.caller ≡ old.reader.caller
+goes_on_stays : (capacity id : ℕ) (answer : FoundId) (old : IdHands) (said : Missed) (new : IdHands)
+    → GoesOn capacity id answer old new said → new.reader.caller ≡ old.reader.caller
 goes_on_stays capacity id found.Rows old said new goes = absurd goes
 goes_on_stays capacity id found.Pending old said new goes = ap (λ (hands : IdHands). hands.reader.caller) goes.1
 goes_on_stays capacity id found.Moved old said new goes = request_stays capacity id old said new goes
 goes_on_stays capacity id found.Absent old said new goes = request_stays capacity id old said new goes
 
-miss_goes : (capacity id : ℕ) (old : IdHands) (said : Missed) (new : IdHands) → MissesOnce capacity id old new said → Goes old.reader.caller new.reader.caller
+miss_goes : (capacity id : ℕ) (old : IdHands) (said : Missed) (new : IdHands) → MissesOnce capacity id old new said
+    → Goes old.reader.caller new.reader.caller
 miss_goes capacity id old said new tried =
-    let found = find_goes {Room = Unit {0}} (λ room rows. ⊥) id tried.posted.reader tt tried.reader tt tried.answer tried.finds in
+    let found
+    = find_goes {Room = Unit {0}} (λ room rows. ⊥) id tried.posted.reader tt tried.reader tt tried.answer
+    tried.finds in
     let first = subst (λ (reader : IdCaller). Goes reader.caller tried.reader.caller) tried.posts.0 found in
-    subst (λ (caller : Caller). Goes old.reader.caller caller) (sym (goes_on_stays capacity id tried.answer (with_id_reader tried.posted tried.reader) said new tried.goes_on)) first
+    subst (λ (caller : Caller). Goes old.reader.caller caller)
+    (sym (goes_on_stays capacity id tried.answer (with_id_reader tried.posted tried.reader) said new tried.goes_on))
+    first
 
 -- A TRY, AND SEVERAL
 since_both : (a b c : IdCaller) → IsSince a b → IsSince b c → IsSince a c
 since_both a b c one two = record {
   table = two.table ∙ one.table;
-  seen = record { rest = one.seen.rest ++ two.seen.rest; is = two.seen.is ∙ ap (λ (log : List Entry). log ++ two.seen.rest) one.seen.is ∙ append_assoc a.caller.seen one.seen.rest two.seen.rest };
-  ids = (two.ids.0 ++ one.ids.0, two.ids.1 ∙ ap (λ (log : List Event). two.ids.0 ++ log) one.ids.1 ∙ sym (append_assoc two.ids.0 one.ids.0 a.ids.seen));
+  seen =
+      record {
+        rest = one.seen.rest ++ two.seen.rest;
+        is = two.seen.is ∙ ap (λ (log : List Entry). log ++ two.seen.rest) one.seen.is
+            ∙ append_assoc a.caller.seen one.seen.rest two.seen.rest;
+      };
+  ids = (
+    two.ids.0 ++ one.ids.0,
+    two.ids.1 ∙ ap (λ (log : List Event). two.ids.0 ++ log) one.ids.1
+        ∙ sym (append_assoc two.ids.0 one.ids.0 a.ids.seen),
+  );
 }
 
-miss_since : (capacity id : ℕ) (old : IdHands) (said : Missed) (new : IdHands) → MissesOnce capacity id old new said → IsSince old.reader new.reader
+miss_since : (capacity id : ℕ) (old : IdHands) (said : Missed) (new : IdHands) → MissesOnce capacity id old new said
+    → IsSince old.reader new.reader
 miss_since capacity id old said new tried =
     let goes = miss_goes capacity id old said new tried in
-    let each = miss_each capacity id old said new tried in record { table = goes.table; seen = goes.seen; ids = (each.events, each.seen) }
+    let each = miss_each capacity id old said new tried in
+    record { table = goes.table; seen = goes.seen; ids = (each.events, each.seen) }
 
 -- a find that found no rows, of whatever room
-as_find : {Room : Type 0} (shows : Room → List Row → Type 0) (id : ℕ) (old : IdCaller) (room : Room) (new : IdCaller) (answer : FoundId) → FindsNothing id old new answer → FindsById shows id old room new room answer
+as_find : {Room : Type 0} (shows : Room → List Row → Type 0) (id : ℕ) (old : IdCaller) (room : Room) (new : IdCaller)
+    (answer : FoundId)
+    → FindsNothing id old new answer → FindsById shows id old room new room answer
 as_find shows id old room new found.Rows finds = absurd finds.5
 as_find shows id old room new found.Pending finds = (finds.0, finds.1, finds.2, refl)
 as_find shows id old room new found.Moved finds = (finds.0, finds.1, finds.2, finds.3, refl)
 as_find shows id old room new found.Absent finds = (finds.0, finds.1, refl)
 
-module _ {Room : Type 0} (shows : Room → List Row → Type 0) (law : FindsIdHeard shows) (old heard : IdCaller) (note : IdKnown) (hears : HearsIdNote note (with_steps_of_split old) heard)
+module _ {Room : Type 0} (shows : Room → List Row → Type 0) (law : FindsIdHeard shows) (old heard : IdCaller)
+    (note : IdKnown) (hears : HearsIdNote note (with_steps_of_split old) heard)
     (id way : ℕ) (near : way < old.caller.table.shape.keys) (real : 0 < id) (named : name_of note.ids.seen way ≡ id)
-    (before since : List Entry) (put : Entry) (had : note.map.seen ≡ (before ++ put ∷ []) ++ since) (puts : puts_at way put ≡ true) where
-  find_tells : (asked after : IdCaller) (first room : Room) (answer : FoundId) → IsSince heard asked → FindsById shows id asked first after room answer
-      → TellsOfPut shows (record { id = id; way = way; old = old; written = before ++ put ∷ []; since = since }) note room asked after answer
+    (before since : List Entry) (put : Entry) (had : note.map.seen ≡ (before ++ put ∷ []) ++ since)
+    (puts : puts_at way put ≡ true) where
+  find_tells : (asked after : IdCaller) (first room : Room) (answer : FoundId) → IsSince heard asked
+      → FindsById shows id asked first after room answer
+      → TellsOfPut shows (record { id = id; way = way; old = old; written = before ++ put ∷ []; since = since }) note
+      room asked after answer
   find_tells asked after first room answer later finds =
       let heard_before : HeardIdBefore note (with_steps_of_split old) asked = record {
         map = record { steps = 1; heard = heard.caller; hears = hears.map; table = later.table; seen = later.seen };
-        ids = (later.ids.0 ++ hears.ids.knows.0, later.ids.1 ∙ ap (λ (log : List Event). later.ids.0 ++ log) hears.ids.knows.1 ∙ sym (append_assoc later.ids.0 hears.ids.knows.0 note.ids.seen));
+        ids = (
+          later.ids.0 ++ hears.ids.knows.0,
+          later.ids.1 ∙ ap (λ (log : List Event). later.ids.0 ++ log) hears.ids.knows.1
+              ∙ sym (append_assoc later.ids.0 hears.ids.knows.0 note.ids.seen),
+        );
       } in ⊎_elim
       (λ unnamed. inl unnamed)
-      (λ (tells : FindsIdPut shows (record { id = id; way = way; old = with_steps_of_split old; written = before ++ put ∷ []; since = since }) asked after room answer).
-      inr (record { told = tells.told; tells = tells.tells; more = tells.more; seen = tells.seen; finds = tells.finds }))
-      (law (with_steps_of_split old) asked after note id way before since put first room answer near real named had puts heard_before finds)
+      (λ (tells : FindsIdPut shows
+      (record { id = id; way = way; old = with_steps_of_split old; written = before ++ put ∷ []; since = since })
+      asked after room answer).
+      inr
+      (record {
+        told = tells.told;
+        tells = tells.tells;
+        more = tells.more;
+        seen = tells.seen;
+        finds = tells.finds;
+      }))
+      (law (with_steps_of_split old) asked after note id way before since put first room answer near real named had puts
+      heard_before finds)
 
   module _ (capacity : ℕ) (room : Room) where
     -- each find of tries by a client that heard the note, and that client after them
-    misses_tell : (asking : IdHands) (all : List Missed) (new : IdHands) (tries : MissesAll capacity id asking new all) → IsSince heard asking.reader
-        → EachFind (TellsOfPut shows (record { id = id; way = way; old = old; written = before ++ put ∷ []; since = since }) note room) capacity id asking new all tries × IsSince heard new.reader
-    misses_tell asking [] new tries later = (tt, subst (λ (hands : IdHands). IsSince heard hands.reader) (sym tries) later)
+    misses_tell : (asking : IdHands) (all : List Missed) (new : IdHands) (tries : MissesAll capacity id asking new all)
+        → IsSince heard asking.reader
+        → EachFind
+        (TellsOfPut shows (record { id = id; way = way; old = old; written = before ++ put ∷ []; since = since })
+        note room)
+        capacity id asking new all tries
+        × IsSince heard new.reader
+    misses_tell asking [] new tries later =
+        (tt, subst (λ (hands : IdHands). IsSince heard hands.reader) (sym tries) later)
     misses_tell asking (said ∷ others) new tries later =
         let earlier = misses_tell asking others tries.0 tries.1 later in
         let tried = tries.2 in
         let asked = subst (λ (reader : IdCaller). IsSince heard reader) (sym tried.posts.0) earlier.1 in (
-          (earlier.0, find_tells tried.posted.reader tried.reader room room tried.answer asked (as_find shows id tried.posted.reader room tried.reader tried.answer tried.finds)),
+          (
+            earlier.0,
+            find_tells tried.posted.reader tried.reader room room tried.answer asked
+                (as_find shows id tried.posted.reader room tried.reader tried.answer tried.finds),
+          ),
           since_both heard tries.0.reader new.reader earlier.1 (miss_since capacity id tries.0 said new tried),
         )
 
-    last_tells : (tries missed : ℕ) (answer : GotId) (between new : IdHands) (after : Room) (ends : EndsAfter shows (record { capacity = capacity; id = id; tries = tries }) missed between room new after answer) → IsSince heard between.reader
-        → LastFind shows (TellsOfPut shows (record { id = id; way = way; old = old; written = before ++ put ∷ []; since = since }) note after) (record { capacity = capacity; id = id; tries = tries }) missed between room new after answer ends
+    last_tells : (tries missed : ℕ) (answer : GotId) (between new : IdHands) (after : Room)
+        (ends : EndsAfter shows (record { capacity = capacity; id = id; tries = tries }) missed between room new after
+        answer)
+        → IsSince heard between.reader
+        → LastFind shows
+        (TellsOfPut shows (record { id = id; way = way; old = old; written = before ++ put ∷ []; since = since })
+        note after)
+        (record { capacity = capacity; id = id; tries = tries }) missed between room new after answer ends
     last_tells tries missed got.Rows between new after ends later =
         let tried = ends.1 in
-        find_tells tried.posted.reader new.reader room after found.Rows (subst (λ (reader : IdCaller). IsSince heard reader) (sym tried.posts.0) later) tried.finds
+        find_tells tried.posted.reader new.reader room after found.Rows
+        (subst (λ (reader : IdCaller). IsSince heard reader) (sym tried.posts.0) later) tried.finds
     last_tells tries missed got.GaveUp between new after ends later = tt
 
-pub gets_what_was_applied_lem : (reached : ℕ → IdKnown → Type 0) {Room : Type 0} (shows : Room → List Row → Type 0) → FindsIdHeard shows → GetsIdWhatWasApplied reached shows
-gets_what_was_applied_lem reached shows law old heard least amount guest asking new capacity id way tries room_before room answer near real puts hears later gets =
+pub gets_what_was_applied_lem : (reached : ℕ → IdKnown → Type 0) {Room : Type 0} (shows : Room → List Row → Type 0)
+    → FindsIdHeard shows → GetsIdWhatWasApplied reached shows
+gets_what_was_applied_lem reached shows law old heard least amount guest asking new capacity id way tries room_before
+    room answer near real puts hears later gets =
     let note = hears.1 in
     let has = puts note hears.2 in
     let put = has.1 in
-    let misses = misses_tell shows law old heard note hears.3 id way near real has.0 put.0 put.1 put.2 put.3 put.4 capacity room_before asking gets.misses.each gets.between gets.misses.all later in (
+    let misses
+    = misses_tell shows law old heard note hears.3 id way near real has.0 put.0 put.1 put.2 put.3 put.4 capacity
+    room_before asking gets.misses.each gets.between gets.misses.all later in (
       note,
       put.0,
       put.1,
       put.2,
       put.4,
       misses.0,
-      last_tells shows law old heard note hears.3 id way near real has.0 put.0 put.1 put.2 put.3 put.4 capacity room_before tries gets.missed answer gets.between new room gets.ends misses.1,
+      last_tells shows law old heard note hears.3 id way near real has.0 put.0 put.1 put.2 put.3 put.4 capacity
+          room_before tries gets.missed answer gets.between new room gets.ends misses.1,
     )

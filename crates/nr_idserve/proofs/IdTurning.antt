@@ -9,13 +9,23 @@ use Rattle.nr_idserve.specs.IdFlows.{IdFlowSeen}
 use Rattle.nr_idserve.specs.IdTakes.{TakesById}
 use Rattle.nr_idserve.specs.IdTurns.{AnswersTaken, TurnsById}
 
-module _ {S : Type 0} (gives : S → (id bound : ℕ) → List Row → S → Type 0) (fails : S → (id bound : ℕ) → S → Type 0) where
-  idle_take : (old mid new : IdFlowSeen) (before after : S) (found : Taken) → TakesById old mid found → AnswersTaken gives fails found mid before new after turn.Idle → TakesById old new taken.Idle
-  idle_take old mid new before after (taken.Asked sent) takes answers = absurd (⊎_elim (λ given. given.3) (λ failed. failed.1) answers)
-  idle_take old mid new before after (taken.Passed id) takes answers = let is : turn.Idle ≡ turn.Passed id = answers.0 in absurd (cc (is))
-  idle_take old mid new before after (taken.Full id) takes answers = let is : turn.Idle ≡ turn.Full id = answers.0 in absurd (cc (is))
-  idle_take old mid new before after taken.Idle takes answers = subst (λ (new : IdFlowSeen). TakesById old new taken.Idle) (sym answers.1) takes
+module _ {S : Type 0} (gives : S → (id bound : ℕ) → List Row → S → Type 0)
+    (fails : S → (id bound : ℕ) → S → Type 0) where
+  idle_take : (old mid new : IdFlowSeen) (before after : S) (found : Taken) → TakesById old mid found
+      → AnswersTaken gives fails found mid before new after turn.Idle → TakesById old new taken.Idle
+  idle_take old mid new before after (taken.Asked sent) takes answers =
+      absurd (⊎_elim (λ given. given.3) (λ failed. failed.1) answers)
+  idle_take old mid new before after (taken.Passed id) takes answers =
+      let is : turn.Idle ≡ turn.Passed id = answers.0 in
+      absurd (cc (is))
+  idle_take old mid new before after (taken.Full id) takes answers =
+      let is : turn.Idle ≡ turn.Full id = answers.0 in
+      absurd (cc (is))
+  idle_take old mid new before after taken.Idle takes answers =
+      subst (λ (new : IdFlowSeen). TakesById old new taken.Idle) (sym answers.1) takes
 
-  pub idle_awaits : (old new : IdFlowSeen) (before after : S) → TurnsById gives fails old before new after turn.Idle → AwaitsPost old.taker new.taker
+  pub idle_awaits : (old new : IdFlowSeen) (before after : S) → TurnsById gives fails old before new after turn.Idle
+      → AwaitsPost old.taker new.taker
   idle_awaits old new before after turns =
-      let takes = idle_take old turns.1 new before after turns.0 turns.2 turns.3 in (takes.1.1, ap (λ (flow : IdFlowSeen). flow.taker) takes.1.2)
+      let takes = idle_take old turns.1 new before after turns.0 turns.2 turns.3 in
+      (takes.1.1, ap (λ (flow : IdFlowSeen). flow.taker) takes.1.2)

@@ -27,7 +27,8 @@ abbrev pub ids_kept : Option Granted → List ℕ
 ids_kept None = []
 ids_kept (Some claim) = claim.id ∷ []
 
--- the claim that was kept before, and then those that the client's own steps were granted, are what it posted, in order, and then the one that it keeps after
+-- the claim that was kept before, and then those that the client's own steps were granted, are what it posted, in
+-- order, and then the one that it keeps after
 pub record PostsEach (old new : IdHands) : Type 0 where
   pub number : new.reader.ids.number ≡ old.reader.ids.number
   pub events : List Event
@@ -39,4 +40,6 @@ pub record PostsEach (old new : IdHands) : Type 0 where
 -- so it is after each get
 abbrev pub EachClaimIsPosted : {Room : Type 0} → (Room → List Row → Type 0) → Type 0
 EachClaimIsPosted {Room} shows =
-    (capacity id tries : ℕ) (old new : IdHands) (before after : Room) (answer : Result GotId TooLate) → GetsIdInTime shows (record { capacity = capacity; id = id; tries = tries }) old before new after answer → PostsEach old new
+    (capacity id tries : ℕ) (old new : IdHands) (before after : Room) (answer : Result GotId TooLate)
+    → GetsIdInTime shows (record { capacity = capacity; id = id; tries = tries }) old before new after answer
+    → PostsEach old new

@@ -22,19 +22,23 @@ IsOfSame sent withdrawn.Closed = Unit {0}
 IsOfSame sent (withdrawn.Worn back) = back ≡ sent
 
 -- the upquery's id was to be filled with these rows, which was answered so, and the lobby raised, or not
-pub record FillsIdBy (sent : Sent) (rows : List Row) (old new : IdFlowSeen) (answer : Result (Unit {0}) Unfilled) : Type 0 where
+pub record FillsIdBy (sent : Sent) (rows : List Row) (old new : IdFlowSeen) (answer : Result (Unit {0}) Unfilled) : Type
+    0 where
   pub fills : FillsId sent.owed rows old.writer new.writer answer
   pub rest : new ≡ record old { writer = new.writer; guest = new.guest }
 
 abbrev pub RaisesGroup : Sent → IdFlowSeen → IdFlowSeen → Type 0
 RaisesGroup sent old new = Raises (raises_for (group_in old sent.owed.id)) old.guest new.guest
 
--- an upquery is given these rows: it is spent and the lobby raised for its id's group, or there is no slot and it comes back
+-- an upquery is given these rows: it is spent and the lobby raised for its id's group, or there is no slot and it comes
+-- back
 abbrev pub FillsOneId : Sent → List Row → IdFlowSeen → IdFlowSeen → Result Spent (Sent × NoSlot) → Type 0
 FillsOneId sent rows old new (Ok spent.Filled) = FillsIdBy sent rows old new (Ok tt) × RaisesGroup sent old new
-FillsOneId sent rows old new (Ok spent.Passed) = FillsIdBy sent rows old new (Err unfilled.Closed) × RaisesGroup sent old new
+FillsOneId sent rows old new (Ok spent.Passed) =
+    FillsIdBy sent rows old new (Err unfilled.Closed) × RaisesGroup sent old new
 FillsOneId sent rows old new (Ok spent.Failed) = ⊥
-FillsOneId sent rows old new (Err (back, counts)) = FillsIdBy sent rows old new (Err (unfilled.NoSlot back counts)) × (back ≡ sent) × (new.guest ≡ old.guest)
+FillsOneId sent rows old new (Err (back, counts)) =
+    FillsIdBy sent rows old new (Err (unfilled.NoSlot back counts)) × (back ≡ sent) × (new.guest ≡ old.guest)
 
 -- it is withdrawn, which was answered so
 pub record WithdrawsIdBy (sent : Sent) (old new : IdFlowSeen) (answer : Withdrawn) : Type 0 where
@@ -47,7 +51,8 @@ module _ (RaisesIt : Sent → IdFlowSeen → IdFlowSeen → Type 0) where
   WithdrawsOne sent old new (Ok spent.Filled) = ⊥
   WithdrawsOne sent old new (Ok spent.Passed) = WithdrawsIdBy sent old new withdrawn.Closed × (new.guest ≡ old.guest)
   WithdrawsOne sent old new (Ok spent.Failed) = WithdrawsIdBy sent old new withdrawn.Done × RaisesIt sent old new
-  WithdrawsOne sent old new (Err back) = WithdrawsIdBy sent old new (withdrawn.Worn back) × (back ≡ sent) × (new.guest ≡ old.guest)
+  WithdrawsOne sent old new (Err back) =
+      WithdrawsIdBy sent old new (withdrawn.Worn back) × (back ≡ sent) × (new.guest ≡ old.guest)
 
 -- who waits for the id is told that its rows couldn't be had
 abbrev pub FailsGroup : Sent → IdFlowSeen → IdFlowSeen → Type 0

@@ -20,7 +20,8 @@ pub record IdFlowSeen : Type 0 where
   pub guest : GuestSeen
 
 -- the writer is the map's and the taker the queue's, and what is kept is of that map
-pub record IsPlacedById (map : IdTable) (queue : Queue) (writer : Keeper) (taker : TakerSeen) (kept : Option Sent) (refused : Option ℕ) : Type 0 where
+pub record IsPlacedById (map : IdTable) (queue : Queue) (writer : Keeper) (taker : TakerSeen) (kept : Option Sent)
+    (refused : Option ℕ) : Type 0 where
   pub writes : writer.table ≡ map
   pub takes : taker.queue ≡ queue.id
   pub own : IfSome kept (λ upquery. upquery.table ≡ map)

@@ -13,7 +13,8 @@ use Rattle.nr_serve.specs.declared.sleepers.TooLate.{TooLate}
 use Rattle.nr_idserve.specs.declared.answers.GotId.{GotId}
 use Rattle.nr_idserve.specs.declared.answers.GotId.TheVariants as got
 use Rattle.nr_idserve.specs.declared.answers.Missed.{Missed}
-use Rattle.nr_idserve.specs.declared.answers.Missed.TheVariants.{Pending, NotRequested, Claimed, Named, Busy, Outrun, Worn}
+use Rattle.nr_idserve.specs.declared.answers.Missed.TheVariants.{Pending, NotRequested, Claimed, Named, Busy, Outrun}
+use Rattle.nr_idserve.specs.declared.answers.Missed.TheVariants.{Worn}
 use Rattle.nr_idserve.specs.declared.answers.TriedId.{TriedId}
 use Rattle.nr_idserve.specs.declared.answers.TriedId.TheVariants as tried
 use Rattle.nr_idserve.specs.declared.hands.IdHands.{IdHands}
@@ -58,7 +59,8 @@ GoesOn capacity id found.Pending old new missed = (missed ≡ Pending) × (new �
 GoesOn capacity id found.Moved old new missed = RequestsOnce capacity id old new missed
 GoesOn capacity id found.Absent old new missed = RequestsOnce capacity id old new missed
 
--- one try that found no rows: the claim that was kept is posted or kept still, the id is found missing, and requested where it is absent and no claim is kept
+-- one try that found no rows: the claim that was kept is posted or kept still, the id is found missing, and requested
+-- where it is absent and no claim is kept
 pub record MissesOnce (capacity id : ℕ) (old new : IdHands) (missed : Missed) : Type 0 where
   pub posted : IdHands
   pub posts : PostsFirst capacity old posted
@@ -86,7 +88,8 @@ pub record AwaitsRaise (capacity id : ℕ) (old new : IdHands) (missed : Missed)
 -- tries that found no rows, the last one first
 abbrev pub MissesAll : ℕ → ℕ → IdHands → IdHands → List Missed → Type 0
 MissesAll capacity id old new [] = new ≡ old
-MissesAll capacity id old new (missed ∷ before) = (mid : IdHands) × MissesAll capacity id old mid before × MissesOnce capacity id mid new missed
+MissesAll capacity id old new (missed ∷ before) =
+    (mid : IdHands) × MissesAll capacity id old mid before × MissesOnce capacity id mid new missed
 
 -- so many of them
 pub record MissesTimes (capacity id count : ℕ) (old new : IdHands) : Type 0 where
@@ -109,22 +112,27 @@ module _ {Room : Type 0} (shows : Room → List Row → Type 0) where
     pub rest : new ≡ with_id_reader posted new.reader
 
   abbrev pub TriesOnce : ℕ → ℕ → IdHands → Room → IdHands → Room → TriedId → Type 0
-  TriesOnce capacity id old before new after (tried.Missed missed) = MissesOnce capacity id old new missed × (after ≡ before)
+  TriesOnce capacity id old before new after (tried.Missed missed) =
+      MissesOnce capacity id old new missed × (after ≡ before)
   TriesOnce capacity id old before new after tried.Rows = FindsOnce capacity id old before new after
 
-  -- how a get ends after that many tries that found no rows: by one more that finds some, or by none after as many as it may make
+  -- how a get ends after that many tries that found no rows: by one more that finds some, or by none after as many as
+  -- it may make
   abbrev pub EndsAfter : Getting → ℕ → IdHands → Room → IdHands → Room → GotId → Type 0
-  EndsAfter get missed between before new after got.Rows = (missed < get.tries) × FindsOnce get.capacity get.id between before new after
+  EndsAfter get missed between before new after got.Rows =
+      (missed < get.tries) × FindsOnce get.capacity get.id between before new after
   EndsAfter get missed between before new after got.GaveUp = (missed ≡ get.tries) × (new ≡ between) × (after ≡ before)
 
   -- a get of that many tries
-  pub record GetsId (get : Getting) (old : IdHands) (before : Room) (new : IdHands) (after : Room) (answer : GotId) : Type 0 where
+  pub record GetsId (get : Getting) (old : IdHands) (before : Room) (new : IdHands) (after : Room)
+      (answer : GotId) : Type 0 where
     pub missed : ℕ
     pub between : IdHands
     pub misses : MissesTimes get.capacity get.id missed old between
     pub ends : EndsAfter get missed between before new after answer
 
-  -- a get that a sleep ended which timed out: tries were left, those that it made found no rows, and after the last of them the group was to be raised
+  -- a get that a sleep ended which timed out: tries were left, those that it made found no rows, and after the last of
+  -- them the group was to be raised
   pub record EndsIdLate (get : Getting) (old : IdHands) (before : Room) (new : IdHands) (after : Room) : Type 0 where
     -- those before the last
     pub made : ℕ

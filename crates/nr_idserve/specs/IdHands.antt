@@ -1,4 +1,5 @@
--- What a client by id has in its hands, and how a claim goes through the queue: as a request of key 0, whose number is the claim's id.
+-- What a client by id has in its hands, and how a claim goes through the queue: as a request of key 0, whose number is
+-- the claim's id.
 use Rattle.std.specs.Prelude.{◌≡◌, ◌<◌, ◌+◌, ℕ, ◌∷◌, [], ◌++◌, Option, IfSome, Some, None}
 use Rattle.nr_ids.specs.Tokens.{Granted}
 use Rattle.nr_idmap.specs.Keepers.{IdCaller, IdTable, id_table_of}

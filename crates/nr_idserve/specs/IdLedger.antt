@@ -1,4 +1,5 @@
--- What becomes of the claims that a dataflow by id takes, and of the upqueries that they open: each claim is answered, or kept; each upquery was filled or withdrawn, or it is in hand, and open still.
+-- What becomes of the claims that a dataflow by id takes, and of the upqueries that they open: each claim is answered,
+-- or kept; each upquery was filled or withdrawn, or it is in hand, and open still.
 use Rattle.std.specs.Prelude.{◌≡◌, ◌≤◌, ◌+◌, ℕ, List, [], ◌∷◌, ◌++◌, Option, None, Some, Result, Ok, Err}
 use Rattle.nr_model.specs.declared.batches.Delta.{Delta}
 use Rattle.nr_model.specs.declared.rows.Row.{Row}
@@ -120,38 +121,60 @@ answered_by None (taken.Full id) = []
 answered_by None taken.Idle = []
 answered_by (Some kept) answer = []
 
--- A call of the dataflow, by what its contract says (a turn makes such calls in a row): with the upqueries in hand before it, which are those that it keeps and those that are under way, as nobody can drop or copy one; the claims that it answered; the upqueries that ended; and those in hand after it.
+-- A call of the dataflow, by what its contract says (a turn makes such calls in a row): with the upqueries in hand
+-- before it, which are those that it keeps and those that are under way, as nobody can drop or copy one; the claims
+-- that it answered; the upqueries that ended; and those in hand after it.
 pub data DoesById : IdFlowSeen → List Owed → List Answered → List IdEnding → IdFlowSeen → List Owed → Type 0 where
-  Takes : (old new : IdFlowSeen) (answer : Taken) (held : List Owed) → TakesById old new answer → DoesById old held (answered_by old.kept answer) [] new (opened_by (answered_by old.kept answer) ++ held)
-  Fills : (old new : IdFlowSeen) (sent : Sent) (rows : List Row) (spent : Spent) (before after : List Owed) → FillsOneId sent rows old new (Ok spent)
+  Takes : (old new : IdFlowSeen) (answer : Taken) (held : List Owed) → TakesById old new answer
+      → DoesById old held (answered_by old.kept answer) [] new (opened_by (answered_by old.kept answer) ++ held)
+  Fills : (old new : IdFlowSeen) (sent : Sent) (rows : List Row) (spent : Spent) (before after : List Owed)
+      → FillsOneId sent rows old new (Ok spent)
       → DoesById old (before ++ sent.owed ∷ after) [] (ended sent.owed (fate_of spent rows)) new (before ++ after)
-  FillLacks : (old new : IdFlowSeen) (sent : Sent) (rows : List Row) (back : Sent × NoSlot) (held : List Owed) → FillsOneId sent rows old new (Err back) → DoesById old held [] [] new held
-  Fails : (old new : IdFlowSeen) (sent : Sent) (spent : Spent) (before after : List Owed) → FailsOneId sent old new (Ok spent)
+  FillLacks : (old new : IdFlowSeen) (sent : Sent) (rows : List Row) (back : Sent × NoSlot) (held : List Owed)
+      → FillsOneId sent rows old new (Err back) → DoesById old held [] [] new held
+  Fails : (old new : IdFlowSeen) (sent : Sent) (spent : Spent) (before after : List Owed)
+      → FailsOneId sent old new (Ok spent)
       → DoesById old (before ++ sent.owed ∷ after) [] (ended sent.owed (fate_of spent [])) new (before ++ after)
-  FailWorn : (old new : IdFlowSeen) (sent back : Sent) (held : List Owed) → FailsOneId sent old new (Err back) → DoesById old held [] [] new held
-  Invalidates : (old new : IdFlowSeen) (sent : Sent) (spent : Spent) (before after : List Owed) → InvalidatesOneId sent old new (Ok spent)
+  FailWorn : (old new : IdFlowSeen) (sent back : Sent) (held : List Owed) → FailsOneId sent old new (Err back)
+      → DoesById old held [] [] new held
+  Invalidates : (old new : IdFlowSeen) (sent : Sent) (spent : Spent) (before after : List Owed)
+      → InvalidatesOneId sent old new (Ok spent)
       → DoesById old (before ++ sent.owed ∷ after) [] (ended sent.owed (fate_of spent [])) new (before ++ after)
-  InvalidateWorn : (old new : IdFlowSeen) (sent back : Sent) (held : List Owed) → InvalidatesOneId sent old new (Err back) → DoesById old held [] [] new held
-  Keeps : (old new : IdFlowSeen) (sent : Sent) (held : List Owed) → new ≡ record old { kept = Some sent } → DoesById old held [] [] new held
-  Updates : (old new : IdFlowSeen) (id : ℕ) (deltas : List Delta) (answer : Result (Unit {0}) (IdFault UpdateFault)) (held : List Owed)
-      → CallsWay (λ way. UpdatesKey old.map.map.shape.rows way deltas) id old.writer new.writer answer → OwesSame old.writer new.writer → new ≡ record old { writer = new.writer } → DoesById old held [] [] new held
-  Replaces : (old new : IdFlowSeen) (id : ℕ) (rows : List Row) (answer : Result (Unit {0}) (IdFault ReplaceFault)) (held : List Owed)
-      → CallsWay (λ way. ReplacesKey way (tag_of id ∷ rows)) id old.writer new.writer answer → OwesSame old.writer new.writer → new ≡ record old { writer = new.writer } → DoesById old held [] [] new held
-  Evicts : (old new : IdFlowSeen) (id : ℕ) (answer : Evict) (held : List Owed) → EvictsId id old.writer new.writer answer → OwesSame old.writer new.writer
+  InvalidateWorn : (old new : IdFlowSeen) (sent back : Sent) (held : List Owed)
+      → InvalidatesOneId sent old new (Err back) → DoesById old held [] [] new held
+  Keeps : (old new : IdFlowSeen) (sent : Sent) (held : List Owed) → new ≡ record old { kept = Some sent }
+      → DoesById old held [] [] new held
+  Updates : (old new : IdFlowSeen) (id : ℕ) (deltas : List Delta) (answer : Result (Unit {0}) (IdFault UpdateFault))
+      (held : List Owed)
+      → CallsWay (λ way. UpdatesKey old.map.map.shape.rows way deltas) id old.writer new.writer answer
+      → OwesSame old.writer new.writer → new ≡ record old { writer = new.writer } → DoesById old held [] [] new held
+  Replaces : (old new : IdFlowSeen) (id : ℕ) (rows : List Row) (answer : Result (Unit {0}) (IdFault ReplaceFault))
+      (held : List Owed)
+      → CallsWay (λ way. ReplacesKey way (tag_of id ∷ rows)) id old.writer new.writer answer
+      → OwesSame old.writer new.writer → new ≡ record old { writer = new.writer } → DoesById old held [] [] new held
+  Evicts : (old new : IdFlowSeen) (id : ℕ) (answer : Evict) (held : List Owed)
+      → EvictsId id old.writer new.writer answer → OwesSame old.writer new.writer
       → new ≡ record old { writer = new.writer; guest = new.guest } → DoesById old held [] [] new held
-  Tells : (old new : IdFlowSeen) (held : List Owed) → new.writer.writer ≡ with_step old.writer.writer → OwesSame old.writer new.writer → new ≡ record old { writer = new.writer } → DoesById old held [] [] new held
-  Hears : (old new : IdFlowSeen) (note : IdKnown) (held : List Owed) → WriterHears note old.writer new.writer → OwesSame old.writer new.writer → new ≡ record old { writer = new.writer } → DoesById old held [] [] new held
+  Tells : (old new : IdFlowSeen) (held : List Owed) → new.writer.writer ≡ with_step old.writer.writer
+      → OwesSame old.writer new.writer → new ≡ record old { writer = new.writer } → DoesById old held [] [] new held
+  Hears : (old new : IdFlowSeen) (note : IdKnown) (held : List Owed) → WriterHears note old.writer new.writer
+      → OwesSame old.writer new.writer → new ≡ record old { writer = new.writer } → DoesById old held [] [] new held
   -- it reads the bell or sleeps
-  Looks : (old new : IdFlowSeen) (held : List Owed) → new ≡ record old { guest = new.guest } → DoesById old held [] [] new held
+  Looks : (old new : IdFlowSeen) (held : List Owed) → new ≡ record old { guest = new.guest }
+      → DoesById old held [] [] new held
 
--- a dataflow after any such calls since it was opened, when no upquery was open: with the upqueries in hand, the claims that it answered and the upqueries that ended, in order
+-- a dataflow after any such calls since it was opened, when no upquery was open: with the upqueries in hand, the claims
+-- that it answered and the upqueries that ended, in order
 pub data RunById (first : IdFlowSeen) : IdFlowSeen → List Owed → List Answered → List IdEnding → Type 0 where
   Begins : ((way : ℕ) → owed_at first.writer way ≡ None) → first.refused ≡ None → RunById first first [] [] []
   Then : (old new : IdFlowSeen) (held left : List Owed) (answers more : List Answered) (ends others : List IdEnding)
-      → RunById first old held answers ends → DoesById old held more others new left → RunById first new left (answers ++ more) (ends ++ others)
+      → RunById first old held answers ends → DoesById old held more others new left
+      → RunById first new left (answers ++ more) (ends ++ others)
 
-pub record IsEachOnceById (first now : IdFlowSeen) (held : List Owed) (answers : List Answered) (ends : List IdEnding) : Type 0 where
-  -- the claims that came out of the queue since the opening were answered in their order, each once, but for the one that is kept
+pub record IsEachOnceById (first now : IdFlowSeen) (held : List Owed) (answers : List Answered)
+    (ends : List IdEnding) : Type 0 where
+  -- the claims that came out of the queue since the opening were answered in their order, each once, but for the one
+  -- that is kept
   pub gain : List Post
   pub taken : now.taker.taken ≡ first.taker.taken ++ gain
   pub claims : ids_taken gain ≡ ids_of answers ++ ids_refused now.refused
@@ -161,10 +184,13 @@ pub record IsEachOnceById (first now : IdFlowSeen) (held : List Owed) (answers :
   -- those in hand are those that are open, and no id has two
   pub all_open : AreTheOpen now.writer held
   pub one : IsTied now.writer → (id : ℕ) → held_for_id id held ≤ 1
-  -- the fills that the map's history has of the writer are those of upqueries, one each, by its number and with the rows that were given for it
+  -- the fills that the map's history has of the writer are those of upqueries, one each, by its number and with the
+  -- rows that were given for it
   pub calls : List Entry
   pub mine : now.writer.writer.mine ≡ first.writer.writer.mine ++ calls
   pub fills : fills_done calls ≡ fills_by ends
 
 abbrev pub EachUpqueryEndsOnce : Type 0
-EachUpqueryEndsOnce = (first now : IdFlowSeen) (held : List Owed) (answers : List Answered) (ends : List IdEnding) → RunById first now held answers ends → IsEachOnceById first now held answers ends
+EachUpqueryEndsOnce =
+    (first now : IdFlowSeen) (held : List Owed) (answers : List Answered) (ends : List IdEnding)
+    → RunById first now held answers ends → IsEachOnceById first now held answers ends

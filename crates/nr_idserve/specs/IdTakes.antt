@@ -29,19 +29,30 @@ NextsId old new (Some id) = ((old.refused ≡ Some id) × (new ≡ record old { 
 
 -- an admission: the upquery is the map's, and the group is raised, which can be claimed again; or it is refused
 abbrev pub AdmitsOne : ℕ → IdFlowSeen → IdFlowSeen → Result Sent Refused → Type 0
-AdmitsOne id old new (Ok sent) = (sent.table ≡ old.map) × AdmitsId id old.writer new.writer sent.owed × Raises (raises_for (group_in old id)) old.guest new.guest × (new ≡ record old { writer = new.writer; guest = new.guest })
+AdmitsOne id old new (Ok sent) =
+    (sent.table ≡ old.map) × AdmitsId id old.writer new.writer sent.owed
+    × Raises (raises_for (group_in old id)) old.guest new.guest
+    × (new ≡ record old { writer = new.writer; guest = new.guest })
 AdmitsOne id old new (Err why) = RefusesId id old.writer new.writer why × (new ≡ record old { writer = new.writer })
 
--- an id of the same group is evicted, and the group raised; or nothing is, as none was chosen, or the one that was has no rows
+-- an id of the same group is evicted, and the group raised; or nothing is, as none was chosen, or the one that was has
+-- no rows
 abbrev pub MakesRoom : ℕ → IdFlowSeen → IdFlowSeen → Bool → Type 0
-MakesRoom id old new true = (victim : ℕ) × (group_in old victim ≡ group_in old id) × EvictsId victim old.writer new.writer evict.Evicted × OwesSame old.writer new.writer × Raises (raises_for (group_in old id)) old.guest new.guest × (new ≡ record old { writer = new.writer; guest = new.guest })
-MakesRoom id old new false = (new ≡ old) ⊎ ((victim : ℕ) × (group_in old victim ≡ group_in old id) × EvictsId victim old.writer new.writer evict.Nothing × OwesSame old.writer new.writer × (new ≡ record old { writer = new.writer }))
+MakesRoom id old new true =
+    (victim : ℕ) × (group_in old victim ≡ group_in old id) × EvictsId victim old.writer new.writer evict.Evicted
+    × OwesSame old.writer new.writer × Raises (raises_for (group_in old id)) old.guest new.guest
+    × (new ≡ record old { writer = new.writer; guest = new.guest })
+MakesRoom id old new false =
+    (new ≡ old)
+    ⊎ ((victim : ℕ) × (group_in old victim ≡ group_in old id) × EvictsId victim old.writer new.writer evict.Nothing
+    × OwesSame old.writer new.writer × (new ≡ record old { writer = new.writer }))
 
 -- an admission, again after an eviction where the group was full
 abbrev pub AdmitsMakingRoom : ℕ → IdFlowSeen → IdFlowSeen → Result Sent Refused → Type 0
 AdmitsMakingRoom id old new answer = AdmitsOne id old new answer
     ⊎ ((full : IdFlowSeen) × AdmitsOne id old full (Err refused.Full)
-    × (((answer ≡ Err refused.Full) × MakesRoom id full new false) ⊎ ((room : IdFlowSeen) × MakesRoom id full room true × AdmitsOne id room new answer)))
+    × (((answer ≡ Err refused.Full) × MakesRoom id full new false)
+    ⊎ ((room : IdFlowSeen) × MakesRoom id full room true × AdmitsOne id room new answer)))
 
 -- the claim needs no upquery
 abbrev pub IsNeedless : Refused → Type 0
@@ -51,8 +62,11 @@ IsNeedless refused.Full = ⊥
 
 abbrev pub AdmitsNext : ℕ → IdFlowSeen → IdFlowSeen → Taken → Type 0
 AdmitsNext id old new (taken.Asked sent) = AdmitsMakingRoom id old new (Ok sent)
-AdmitsNext id old new (taken.Passed other) = (other ≡ id) × (why : Refused) × IsNeedless why × AdmitsMakingRoom id old new (Err why)
-AdmitsNext id old new (taken.Full other) = (other ≡ id) × (mid : IdFlowSeen) × AdmitsMakingRoom id old mid (Err refused.Full) × (new ≡ record mid { refused = Some id })
+AdmitsNext id old new (taken.Passed other) =
+    (other ≡ id) × (why : Refused) × IsNeedless why × AdmitsMakingRoom id old new (Err why)
+AdmitsNext id old new (taken.Full other) =
+    (other ≡ id) × (mid : IdFlowSeen) × AdmitsMakingRoom id old mid (Err refused.Full)
+    × (new ≡ record mid { refused = Some id })
 AdmitsNext id old new taken.Idle = ⊥
 
 -- an upquery that is asked is of that map
@@ -64,14 +78,17 @@ IsAskedOf map taken.Idle = Unit {0}
 
 -- what comes next is admitted; an id of 0, which no claim has, is passed
 abbrev pub TakesNext : IdFlowSeen → IdFlowSeen → Taken → Type 0
-TakesNext old new answer = (id : ℕ) × (mid : IdFlowSeen) × NextsId old mid (Some id) × (((id ≡ 0) × (answer ≡ taken.Passed 0) × (new ≡ mid)) ⊎ AdmitsNext id mid new answer)
+TakesNext old new answer =
+    (id : ℕ) × (mid : IdFlowSeen) × NextsId old mid (Some id)
+    × (((id ≡ 0) × (answer ≡ taken.Passed 0) × (new ≡ mid)) ⊎ AdmitsNext id mid new answer)
 
 -- the upquery that is kept comes first, and is kept no more
 abbrev pub TakesKept : IdFlowSeen → IdFlowSeen → Sent → Type 0
 TakesKept old new sent = (old.kept ≡ Some sent) × (new ≡ record old { kept = None })
 
 abbrev pub TakesById : IdFlowSeen → IdFlowSeen → Taken → Type 0
-TakesById old new (taken.Asked sent) = TakesKept old new sent ⊎ ((old.kept ≡ None) × TakesNext old new (taken.Asked sent))
+TakesById old new (taken.Asked sent) =
+    TakesKept old new sent ⊎ ((old.kept ≡ None) × TakesNext old new (taken.Asked sent))
 TakesById old new (taken.Passed id) = (old.kept ≡ None) × TakesNext old new (taken.Passed id)
 TakesById old new (taken.Full id) = (old.kept ≡ None) × TakesNext old new (taken.Full id)
 TakesById old new taken.Idle = (old.kept ≡ None) × NextsId old new None

@@ -25,7 +25,8 @@ FillsOrKeeps sent rows old new (turn.Filled id) = (id ≡ sent.owed.id) × Fills
 FillsOrKeeps sent rows old new (turn.Passed id) = (id ≡ sent.owed.id) × FillsOneId sent rows old new (Ok spent.Passed)
 FillsOrKeeps sent rows old new (turn.Failed id) = ⊥
 FillsOrKeeps sent rows old new (turn.Full id) = ⊥
-FillsOrKeeps sent rows old new (turn.Kept counts) = (back : IdFlowSeen) × FillsOneId sent rows old back (Err (sent, counts)) × Keeps sent back new
+FillsOrKeeps sent rows old new (turn.Kept counts) =
+    (back : IdFlowSeen) × FillsOneId sent rows old back (Err (sent, counts)) × Keeps sent back new
 FillsOrKeeps sent rows old new (turn.Worn id) = ⊥
 
 -- its rows can't be had, and it is kept where it can't be withdrawn
@@ -36,31 +37,37 @@ FailsOrKeeps sent old new (turn.Passed id) = ⊥
 FailsOrKeeps sent old new (turn.Failed id) = (id ≡ sent.owed.id) × (said : Spent) × FailsOneId sent old new (Ok said)
 FailsOrKeeps sent old new (turn.Full id) = ⊥
 FailsOrKeeps sent old new (turn.Kept counts) = ⊥
-FailsOrKeeps sent old new (turn.Worn id) = (id ≡ sent.owed.id) × (back : IdFlowSeen) × FailsOneId sent old back (Err sent) × Keeps sent back new
+FailsOrKeeps sent old new (turn.Worn id) =
+    (id ≡ sent.owed.id) × (back : IdFlowSeen) × FailsOneId sent old back (Err sent) × Keeps sent back new
 
 -- the dataflow sleeps where its turn was idle
 abbrev pub SleepsIfIdle : IdTurn → IdFlowSeen → IdFlowSeen → Type 0
 SleepsIfIdle turn.Idle old new = OnlyLooks old.guest new.guest × (new ≡ record old { guest = new.guest })
 SleepsIfIdle _ old new = new ≡ old
 
-module _ {S : Type 0} (gives : S → (id bound : ℕ) → List Row → S → Type 0) (fails : S → (id bound : ℕ) → S → Type 0) where
+module _ {S : Type 0} (gives : S → (id bound : ℕ) → List Row → S → Type 0)
+    (fails : S → (id bound : ℕ) → S → Type 0) where
   -- the source, told how many rows an id may have, gives those that the upquery is filled with; or it fails
   abbrev pub AnswersAsked : Sent → IdFlowSeen → S → IdFlowSeen → S → IdTurn → Type 0
   AnswersAsked sent old before new after turned =
-      ((rows : List Row) × IsIdSet (id_rows old.map) rows × gives before sent.owed.id (id_rows old.map) rows after × FillsOrKeeps sent rows old new turned)
+      ((rows : List Row) × IsIdSet (id_rows old.map) rows × gives before sent.owed.id (id_rows old.map) rows after
+      × FillsOrKeeps sent rows old new turned)
       ⊎ (fails before sent.owed.id (id_rows old.map) after × FailsOrKeeps sent old new turned)
 
   -- an upquery that was taken is answered; without one the source isn't asked
   abbrev pub AnswersTaken : Taken → IdFlowSeen → S → IdFlowSeen → S → IdTurn → Type 0
   AnswersTaken (taken.Asked sent) old before new after turned = AnswersAsked sent old before new after turned
-  AnswersTaken (taken.Passed id) old before new after turned = (turned ≡ turn.Passed id) × (new ≡ old) × (after ≡ before)
+  AnswersTaken (taken.Passed id) old before new after turned =
+      (turned ≡ turn.Passed id) × (new ≡ old) × (after ≡ before)
   AnswersTaken (taken.Full id) old before new after turned = (turned ≡ turn.Full id) × (new ≡ old) × (after ≡ before)
   AnswersTaken taken.Idle old before new after turned = (turned ≡ turn.Idle) × (new ≡ old) × (after ≡ before)
 
   abbrev pub TurnsById : IdFlowSeen → S → IdFlowSeen → S → IdTurn → Type 0
-  TurnsById old before new after turned = (found : Taken) × (mid : IdFlowSeen) × TakesById old mid found × AnswersTaken found mid before new after turned
+  TurnsById old before new after turned =
+      (found : Taken) × (mid : IdFlowSeen) × TakesById old mid found × AnswersTaken found mid before new after turned
 
   -- the bell is read before the turn
   abbrev pub TurnsOrSleeps : IdFlowSeen → S → IdFlowSeen → S → IdTurn → Type 0
-  TurnsOrSleeps old before new after turned = (rung mid : IdFlowSeen) × OnlyLooks old.guest rung.guest × (rung ≡ record old { guest = rung.guest })
+  TurnsOrSleeps old before new after turned =
+      (rung mid : IdFlowSeen) × OnlyLooks old.guest rung.guest × (rung ≡ record old { guest = rung.guest })
       × TurnsById rung before mid after turned × SleepsIfIdle turned mid new

@@ -1,5 +1,6 @@
 -- Input: the bytes that were read and not yet taken, and what taking a line does to them.
-use Rattle.std.specs.Prelude.{ℕ, ◌≡◌, ◌+◌, ◌<◌, ◌≤◌, Bool, true, false, List, [], ◌∷◌, ◌++◌, length, take, drop, Option, Some, None, Result, Ok, Err}
+use Rattle.std.specs.Prelude.{ℕ, ◌≡◌, ◌+◌, ◌<◌, ◌≤◌, Bool, true, false, List, [], ◌∷◌, ◌++◌, length, take, drop, Option}
+use Rattle.std.specs.Prelude.{Some, None, Result, Ok, Err}
 use Rattle.std.specs.Io.KnownBytes.{prepend_known, Consumes, Keeps, IsAtEnd}
 use Rattle.nr_lines.specs.Lines.{HasNoFeed, line_feed}
 use Rattle.nr_lines.specs.declared.fault.RunFault.{RunFault}
@@ -35,7 +36,8 @@ allowance input = length (pending_bytes input) + input.left
 abbrev pub IsSpent : Input → Option (List ℕ) → Type 0
 IsSpent input left = (pending_bytes input ≡ []) × IsAtEnd left
 
--- one more read of an input whose limit is reached: `true` never, `false` only at the end, too much only where a byte came
+-- one more read of an input whose limit is reached: `true` never, `false` only at the end, too much only where a byte
+-- came
 abbrev pub Probes : Option (List ℕ) → Option (List ℕ) → Result Bool RunFault → Type 0
 Probes had left (Ok true) = ⊥
 Probes had left (Ok false) = Keeps had left × IsAtEnd left
@@ -46,10 +48,13 @@ Probes had left (Err faults.Memory) = ⊥
 
 -- one read behind all that is pending, by its answer: whether bytes came
 abbrev pub Refills : Input → Input → Option (List ℕ) → Option (List ℕ) → Result Bool RunFault → Type 0
-Refills old new had left (Ok true) = Keeps had (unread new left) × (allowance old ≡ allowance new) × (new.at ≡ 0) × (0 < new.filled) × (new.filled ≤ CHUNK)
+Refills old new had left (Ok true) =
+    Keeps had (unread new left) × (allowance old ≡ allowance new) × (new.at ≡ 0) × (0 < new.filled)
+    × (new.filled ≤ CHUNK)
 Refills old new had left (Ok false) = Keeps had left × (allowance old ≡ allowance new) × IsSpent new left
 Refills old new had left (Err faults.Read) = Keeps had left × (pending_bytes new ≡ [])
-Refills old new had left (Err faults.TooMuch) = (last : List ℕ) × (length last ≡ 1) × Consumes had left last × (allowance old ≡ 0) × (pending_bytes new ≡ [])
+Refills old new had left (Err faults.TooMuch) =
+    (last : List ℕ) × (length last ≡ 1) × Consumes had left last × (allowance old ≡ 0) × (pending_bytes new ≡ [])
 Refills old new had left (Err faults.Write) = ⊥
 Refills old new had left (Err faults.Memory) = ⊥
 
@@ -70,13 +75,16 @@ TakesByte old new had left result =
 -- the bytes that went by a call for the next line, by its answer
 abbrev pub GivesLine : Input → Input → Option (List ℕ) → Line → Result LineEnd RunFault → List ℕ → Type 0
 GivesLine old new left line (Ok ends.LineFeed) taken =
-    (bytes : List ℕ) × HasNoFeed bytes × (taken ≡ bytes ++ line_feed ∷ []) × StandsFor line bytes × (allowance old ≡ allowance new + length taken)
+    (bytes : List ℕ) × HasNoFeed bytes × (taken ≡ bytes ++ line_feed ∷ []) × StandsFor line bytes
+    × (allowance old ≡ allowance new + length taken)
 GivesLine old new left line (Ok ends.InputEnd) taken =
-    HasNoFeed taken × (0 < length taken) × StandsFor line taken × (allowance old ≡ allowance new + length taken) × IsSpent new left
+    HasNoFeed taken × (0 < length taken) × StandsFor line taken × (allowance old ≡ allowance new + length taken)
+    × IsSpent new left
 GivesLine old new left line (Ok ends.NoLine) taken = (taken ≡ []) × (allowance old ≡ allowance new) × IsSpent new left
 GivesLine old new left line (Err faults.Read) taken = HasNoFeed taken × (pending_bytes new ≡ [])
 GivesLine old new left line (Err faults.TooMuch) taken =
-    (bytes : List ℕ) × HasNoFeed bytes × (length bytes ≡ allowance old) × (last : List ℕ) × (length last ≡ 1) × (taken ≡ bytes ++ last) × (pending_bytes new ≡ [])
+    (bytes : List ℕ) × HasNoFeed bytes × (length bytes ≡ allowance old) × (last : List ℕ) × (length last ≡ 1)
+    × (taken ≡ bytes ++ last) × (pending_bytes new ≡ [])
 GivesLine old new left line (Err faults.Write) taken = ⊥
 GivesLine old new left line (Err faults.Memory) taken = ⊥
 

@@ -15,9 +15,11 @@ AppendsSome held holds bytes = (sent : List ℕ) × IsCutShort bytes sent × App
 
 -- the bytes are added: all of them on `Ok`, else some, by a fault of the writer
 abbrev pub Sends : {X : Type 0} → Option (List ℕ) → Option (List ℕ) → List ℕ → Result X RunFault → Type 0
-Sends held holds bytes result = MatchResult result (λ _. Appends held holds bytes) (λ fault. (fault ≡ faults.Write) × AppendsSome held holds bytes)
+Sends held holds bytes result =
+    MatchResult result (λ _. Appends held holds bytes) (λ fault. (fault ≡ faults.Write) × AppendsSome held holds bytes)
 
--- The reply and a line feed are added: all of it on `Ok`, some by a fault of the writer, nothing where memory is refused.
+-- The reply and a line feed are added: all of it on `Ok`, some by a fault of the writer, nothing where memory is
+-- refused.
 abbrev pub SendsReply : {X : Type 0} → Option (List ℕ) → Option (List ℕ) → List ℕ → Result X RunFault → Type 0
 SendsReply held holds reply (Ok _) = Appends held holds (reply ++ line_feed ∷ [])
 SendsReply held holds reply (Err faults.Write) = AppendsSome held holds (reply ++ line_feed ∷ [])

@@ -5,7 +5,9 @@ use Rattle.nr_lines.specs.Lines.{line_feed}
 -- the replies to these lines, each ended by a line feed
 abbrev pub text : {S : Type 0} → (S → List ℕ → List ℕ × S) → S → List (List ℕ) → List ℕ
 text answer state [] = []
-text answer state (line ∷ more) = let (reply, next) = answer state line in (reply ++ line_feed ∷ []) ++ text answer next more
+text answer state (line ∷ more) =
+    let (reply, next) = answer state line in
+    (reply ++ line_feed ∷ []) ++ text answer next more
 
 -- the state after these lines
 abbrev pub after_lines : {S : Type 0} → (S → List ℕ → List ℕ × S) → S → List (List ℕ) → S

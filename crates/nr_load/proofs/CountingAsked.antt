@@ -1,5 +1,6 @@
 -- The asked keys, counted one by one.
-use Rattle.std.proofs.Common.{◌≡◌, ◌≤◌, ℕ, ◌+◌, List, [], ◌∷◌, length, get_or, refl, sym, ap, ◌∙◌, subst, add-one, arith}
+use Rattle.std.proofs.Common.{◌≡◌, ◌≤◌, ℕ, ◌+◌, List, [], ◌∷◌, length, get_or, refl, sym, ap, ◌∙◌, subst, add-one}
+use Rattle.std.proofs.Common.{arith}
 use Rattle.nr_model.specs.Histories.{Entry, after}
 use Rattle.nr_model.specs.Laws.{pending}
 use Rattle.nr_model.specs.Maps.{PartialMap, state_of}
@@ -33,19 +34,31 @@ asks_pending shown (states.Asked number) is = ap asked_one is
 asks_pending shown (states.Rows number rows) is = ap asked_one is
 
 -- one key more, where nothing was learnt since the first
-pub counts_on : BeginningsMeet → (first old new : Caller) (k asked more : ℕ) (shown : KeyKind) → Stays first old → (old.seen ≡ first.seen → asked ≡ below (pending_at first) k) → StatesKey k old new shown → more ≡ asked_one shown
+pub counts_on : BeginningsMeet → (first old new : Caller) (k asked more : ℕ) (shown : KeyKind) → Stays first old
+    → (old.seen ≡ first.seen → asked ≡ below (pending_at first) k) → StatesKey k old new shown → more ≡ asked_one shown
     → new.seen ≡ first.seen → asked + more ≡ below (pending_at first) (k + 1)
 counts_on meet first old new k asked more shown stays exact states is same =
-    let back : old.seen ≡ first.seen = meet old.seen first.seen stays.seen (subst (λ (l : List Entry). StartsWith l old.seen) same states.learns.seen) in
+    let back : old.seen ≡ first.seen
+    = meet old.seen first.seen stays.seen
+    (subst (λ (l : List Entry). StartsWith l old.seen) same states.learns.seen) in
     let table : new.table ≡ first.table = states.learns.table ∙ stays.table in
-    let maps : map_seen new ≡ map_seen first = ap (λ (t : Table). after (map_at_opening t) new.seen) table ∙ ap (λ (l : List Entry). after (map_at_opening first.table) l) same in
-    let pend : asked_one shown ≡ pending_at first k = asks_pending shown (state_of (map_seen new) k) states.state ∙ ap (λ (m : PartialMap). pending (state_of m k)) maps in
+    let maps : map_seen new ≡ map_seen first
+    = ap (λ (t : Table). after (map_at_opening t) new.seen) table
+    ∙ ap (λ (l : List Entry). after (map_at_opening first.table) l) same in
+    let pend : asked_one shown ≡ pending_at first k
+    = asks_pending shown (state_of (map_seen new) k) states.state
+    ∙ ap (λ (m : PartialMap). pending (state_of m k)) maps in
     rw add-one (omega (arith, exact back, is, pend))
 
-by_states : (f : KeyState → ℕ) (l : List KeyState) → below (λ key. f (get_or l key (states.Hole 0))) (length l) ≡ total f l
+by_states : (f : KeyState → ℕ) (l : List KeyState)
+    → below (λ key. f (get_or l key (states.Hole 0))) (length l) ≡ total f l
 by_states f [] = refl
-by_states f (state ∷ l) = omega (arith, below-first (λ key. f (get_or (state ∷ l) key (states.Hole 0))) (length l), by_states f l)
+by_states f (state ∷ l) =
+    omega (arith, below-first (λ key. f (get_or (state ∷ l) key (states.Hole 0))) (length l), by_states f l)
 
 -- all keys are all states
-pub all_keys : (caller : Caller) → below (pending_at caller) caller.table.shape.keys ≡ total pending (map_seen caller).states
-all_keys caller = ap (below (pending_at caller)) (sym (length-now caller.table.shape caller.seen)) ∙ by_states pending (map_seen caller).states
+pub all_keys : (caller : Caller)
+    → below (pending_at caller) caller.table.shape.keys ≡ total pending (map_seen caller).states
+all_keys caller =
+    ap (below (pending_at caller)) (sym (length-now caller.table.shape caller.seen))
+    ∙ by_states pending (map_seen caller).states

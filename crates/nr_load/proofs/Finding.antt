@@ -1,5 +1,9 @@
--- In the history of a load each find finds the one row that the base has then: the writer's calls obey the base, and so each key that is filled has its row.
-use Rattle.std.proofs.Common.{◌≡◌, ◌≢◌, ℕ, zero, suc, ◌+◌, ◌<◌, ◌≤◌, ◌==◌, ◌%◌, nat_lt, Bool, true, false, if◌then◌else◌, cond, MatchBool, List, [], ◌∷◌, ◌++◌, length, replicate, slice_index, slice_index_or, refl, sym, ap, ◌∙◌, subst, arith, eq-eqb, ⊎_elim, length-set, Option, None, Some, Ok}
+-- In the history of a load each find finds the one row that the base has then: the writer's calls obey the base, and so
+-- each key that is filled has its row.
+use Rattle.std.proofs.Common.{◌≡◌, ◌≢◌, ℕ, zero, suc, ◌+◌, ◌<◌, ◌≤◌, ◌==◌, ◌%◌, nat_lt, Bool, true, false}
+use Rattle.std.proofs.Common.{if◌then◌else◌, cond, MatchBool, List, [], ◌∷◌, ◌++◌, length, replicate, slice_index}
+use Rattle.std.proofs.Common.{slice_index_or, refl, sym, ap, ◌∙◌, subst, arith, eq-eqb, ⊎_elim, length-set, Option}
+use Rattle.std.proofs.Common.{None, Some, Ok}
 use Rattle.std.proofs.lemmas.Bool.{cases_eq}
 use Rattle.std.proofs.lemmas.Bool.Decides.{nat_tests}
 use Rattle.std.proofs.lemmas.List.{get_or-set_same, get_or-set_other, length-replicate}
@@ -16,7 +20,8 @@ use Rattle.nr_model.proofs.HistoryLemmas.{state_of-next_other, state_of-next_sam
 use Rattle.nr_machine.specs.declared.shape.Shape.{Shape}
 use Rattle.nr_board.specs.Callers.{Table, map_at_opening}
 use Rattle.nr_board.specs.Entries.{AreCallers, IsCallers, is_reading}
-use Rattle.nr_load.specs.Base.{FindsRow, FindsRows, FollowsBase, IsRound, Rounds, StepsBase, applies, changed, row_of, base_deltas}
+use Rattle.nr_load.specs.Base.{FindsRow, FindsRows, FollowsBase, IsRound, Rounds, StepsBase, applies, changed, row_of}
+use Rattle.nr_load.specs.Base.{base_deltas}
 
 -- a call of the writer is of the row that the base has
 abbrev Fits : List ℕ → Call → Type 0
@@ -48,33 +53,48 @@ based-append base (e ∷ es) fs = based-append (changed base e.call) es fs
 abbrev Leads : List ℕ → List Entry → List ℕ → Type 0
 Leads base es base' = Obeys base es × (based base es ≡ base')
 
-steps_lead : (by key : ℕ) (base base' : List ℕ) (batch : Option (List Delta)) (later : List Entry) → StepsBase key base base' batch → later ≡ applies by key batch → Leads base later base'
-steps_lead by key base base' None later steps is = subst (λ (l : List Entry). Leads base l base') (sym is) (tt, sym steps.1)
-steps_lead by key base base' (Some batch) later steps is = subst (λ (l : List Entry). Leads base l base') (sym is) ((steps.1, tt), sym steps.2)
+steps_lead : (by key : ℕ) (base base' : List ℕ) (batch : Option (List Delta)) (later : List Entry)
+    → StepsBase key base base' batch → later ≡ applies by key batch → Leads base later base'
+steps_lead by key base base' None later steps is =
+    subst (λ (l : List Entry). Leads base l base') (sym is) (tt, sym steps.1)
+steps_lead by key base base' (Some batch) later steps is =
+    subst (λ (l : List Entry). Leads base l base') (sym is) ((steps.1, tt), sym steps.2)
 
 changes_lead : (fourth : Bool) (by key : ℕ) (base base' : List ℕ) (later : List Entry)
-    → MatchBool fourth (((answer : Reply) × (later ≡ record { caller = by; call = call.Evict key; reply = answer } ∷ [])) × (base' ≡ base)) ((batch : Option (List Delta)) × StepsBase key base base' batch × (later ≡ applies by key batch))
+    → MatchBool fourth
+    (((answer : Reply) × (later ≡ record { caller = by; call = call.Evict key; reply = answer } ∷ []))
+    × (base' ≡ base))
+    ((batch : Option (List Delta)) × StepsBase key base base' batch × (later ≡ applies by key batch))
     → Leads base later base'
-changes_lead true by key base base' later is = subst (λ (l : List Entry). Leads base l base') (sym is.0.1) ((tt, tt), sym is.1)
+changes_lead true by key base base' later is =
+    subst (λ (l : List Entry). Leads base l base') (sym is.0.1) ((tt, tt), sym is.1)
 changes_lead false by key base base' later is = steps_lead by key base base' is.0 later is.1 is.2
 
-follows_lead : (by fills key : ℕ) (base : List ℕ) (done : Bool) (later : List Entry) (fills' : ℕ) (base' : List ℕ) → FollowsBase by key done later fills base fills' base' → Leads base later base'
-follows_lead by fills key base true later fills' base' follows = changes_lead (fills' % 4 == 0) by key base base' later follows.1
-follows_lead by fills key base false later fills' base' follows = subst (λ (l : List Entry). Leads base l base') (sym follows.1) (tt, sym follows.2)
+follows_lead : (by fills key : ℕ) (base : List ℕ) (done : Bool) (later : List Entry) (fills' : ℕ) (base' : List ℕ)
+    → FollowsBase by key done later fills base fills' base' → Leads base later base'
+follows_lead by fills key base true later fills' base' follows =
+    changes_lead (fills' % 4 == 0) by key base base' later follows.1
+follows_lead by fills key base false later fills' base' follows =
+    subst (λ (l : List Entry). Leads base l base') (sym follows.1) (tt, sym follows.2)
 
-round_leads : (by fills : ℕ) (base : List ℕ) (round : List Entry) (fills' : ℕ) (base' : List ℕ) → IsRound by round fills base fills' base' → Leads base round base'
+round_leads : (by fills : ℕ) (base : List ℕ) (round : List Entry) (fills' : ℕ) (base' : List ℕ)
+    → IsRound by round fills base fills' base' → Leads base round base'
 round_leads by fills base round fills' base' is =
     let rest = follows_lead by fills is.key base (is_done is.answer) is.later fills' base' is.follows in
     subst (λ (l : List Entry). Leads base l base') (sym is.is) ((refl, rest.0), rest.1)
 
-pub rounds_lead : (by keys count : ℕ) (entries : List Entry) (fills : ℕ) (base : List ℕ) → Rounds by keys count entries fills base → Leads (replicate keys 0) entries base
-rounds_lead by keys zero entries fills base rounds = subst (λ (l : List Entry). Leads (replicate keys 0) l base) (sym rounds.0) (tt, sym rounds.2)
+pub rounds_lead : (by keys count : ℕ) (entries : List Entry) (fills : ℕ) (base : List ℕ)
+    → Rounds by keys count entries fills base → Leads (replicate keys 0) entries base
+rounds_lead by keys zero entries fills base rounds =
+    subst (λ (l : List Entry). Leads (replicate keys 0) l base) (sym rounds.0) (tt, sym rounds.2)
 rounds_lead by keys (suc count) entries fills base rounds =
     let before = rounds.0 in let round = rounds.3 in
     let first = rounds_lead by keys count before rounds.1 rounds.2 rounds.4 in
     let last = round_leads by rounds.1 rounds.2 round fills base rounds.5 in
-    subst (λ (l : List Entry). Leads (replicate keys 0) l base) (sym rounds.6)
-    (obeys_both (replicate keys 0) before round first.0 (subst (λ (b : List ℕ). Obeys b round) (sym first.1) last.0), based-append (replicate keys 0) before round ∙ ap (λ (b : List ℕ). based b round) first.1 ∙ last.1)
+    subst (λ (l : List Entry). Leads (replicate keys 0) l base) (sym rounds.6) (
+      obeys_both (replicate keys 0) before round first.0 (subst (λ (b : List ℕ). Obeys b round) (sym first.1) last.0),
+      based-append (replicate keys 0) before round ∙ ap (λ (b : List ℕ). based b round) first.1 ∙ last.1,
+    )
 
 -- a key in that state has the row of that number, if it is filled
 abbrev HasRow : ℕ → ℕ → KeyState → Type 0
@@ -86,29 +106,34 @@ HasRow key x (Rows n rows) = rows ≡ row_of key x ∷ []
 abbrev pub HasBase : List ℕ → PartialMap → Type 0
 HasBase base map = (key : ℕ) → HasRow key (slice_index base key) (state_of map key)
 
-step_applies : (bound key x : ℕ) → 1 ≤ bound → applied bound (row_of key x ∷ []) (base_deltas key x) ≡ Ok (row_of key (x + 1) ∷ [])
+step_applies : (bound key x : ℕ) → 1 ≤ bound
+    → applied bound (row_of key x ∷ []) (base_deltas key x) ≡ Ok (row_of key (x + 1) ∷ [])
 unfolding applied
 step_applies bound key x some = grind (arith, nat_tests)
 
-either_row : (b : Bool) (key x : ℕ) (one other : KeyState) → HasRow key x one → HasRow key x other → HasRow key x (if b then one else other)
+either_row : (b : Bool) (key x : ℕ) (one other : KeyState) → HasRow key x one → HasRow key x other
+    → HasRow key x (if b then one else other)
 either_row true key x one other first second = first
 either_row false key x one other first second = second
 
 -- at its own key
-own : (bound : ℕ) (base : List ℕ) (c : Call) (s : KeyState) → 1 ≤ bound → call_key c < length base → Fits base c → HasRow (call_key c) (slice_index base (call_key c)) s
+own : (bound : ℕ) (base : List ℕ) (c : Call) (s : KeyState) → 1 ≤ bound → call_key c < length base → Fits base c
+    → HasRow (call_key c) (slice_index base (call_key c)) s
     → HasRow (call_key c) (slice_index (changed base c) (call_key c)) (state_after bound c s)
 own bound base (call.Find key) s some near fits has = has
 own bound base (call.Ask key) (Hole n) some near fits has = tt
 own bound base (call.Ask key) (Asked n) some near fits has = tt
 own bound base (call.Ask key) (Rows n rows) some near fits has = has
 own bound base (call.Fill key number set) (Hole n) some near fits has = tt
-own bound base (call.Fill key number set) (Asked n) some near fits has = either_row (n == number) key (slice_index base key) (Rows n set) (Asked n) fits tt
+own bound base (call.Fill key number set) (Asked n) some near fits has =
+    either_row (n == number) key (slice_index base key) (Rows n set) (Asked n) fits tt
 own bound base (call.Fill key number set) (Rows n rows) some near fits has = has
 own bound base (call.Update key batch) (Hole n) some near fits has = tt
 own bound base (call.Update key batch) (Asked n) some near fits has = tt
 own bound base (call.Update key batch) (Rows n rows) some near fits has =
     let x = slice_index base key in
-    let left : applied bound rows batch ≡ Ok (row_of key (x + 1) ∷ []) = (λ i. applied bound (has i) (fits i)) ∙ step_applies bound key x some in
+    let left : applied bound rows batch ≡ Ok (row_of key (x + 1) ∷ [])
+    = (λ i. applied bound (has i) (fits i)) ∙ step_applies bound key x some in
     ap (λ r. rows_or r rows) left ∙ ap (λ (n : ℕ). row_of key n ∷ []) (sym (get_or-set_same base key (x + 1) 0 near))
 own bound base (call.Replace key set) (Hole n) some near fits has = tt
 own bound base (call.Replace key set) (Asked n) some near fits has = tt
@@ -117,10 +142,12 @@ own bound base (call.Evict key) (Hole n) some near fits has = tt
 own bound base (call.Evict key) (Asked n) some near fits has = tt
 own bound base (call.Evict key) (Rows n rows) some near fits has = tt
 own bound base (call.Cancel key) (Hole n) some near fits has = tt
-own bound base (call.Cancel key) (Asked n) some near fits has = either_row (nat_lt n 4194303) key (slice_index base key) (Hole (n + 1)) (Asked n) tt tt
+own bound base (call.Cancel key) (Asked n) some near fits has =
+    either_row (nat_lt n 4194303) key (slice_index base key) (Hole (n + 1)) (Asked n) tt tt
 own bound base (call.Cancel key) (Rows n rows) some near fits has = has
 
-changed-other : (base : List ℕ) (c : Call) (key : ℕ) → call_key c ≢ key → slice_index (changed base c) key ≡ slice_index base key
+changed-other : (base : List ℕ) (c : Call) (key : ℕ) → call_key c ≢ key
+    → slice_index (changed base c) key ≡ slice_index base key
 changed-other base (call.Find k) key other = refl
 changed-other base (call.Ask k) key other = refl
 changed-other base (call.Fill k number set) key other = refl
@@ -138,15 +165,20 @@ length-changed base (call.Replace k set) = refl
 length-changed base (call.Evict k) = refl
 length-changed base (call.Cancel k) = refl
 
-keeps_base : (map : PartialMap) (base : List ℕ) (c : Call) → 1 ≤ map.bound → call_key c < length map.states → call_key c < length base → Fits base c → HasBase base map → HasBase (changed base c) (next map c)
+keeps_base : (map : PartialMap) (base : List ℕ) (c : Call) → 1 ≤ map.bound → call_key c < length map.states
+    → call_key c < length base → Fits base c → HasBase base map → HasBase (changed base c) (next map c)
 keeps_base map base c some within near fits has key = ⊎_elim
-    (λ (same : call_key c ≡ key). subst (λ (k : ℕ). HasRow k (slice_index (changed base c) k) (state_of (next map c) k)) same
-    (subst (HasRow (call_key c) (slice_index (changed base c) (call_key c))) (sym (state_of-next_same map c within)) (own map.bound base c (state_of map (call_key c)) some near fits (has (call_key c)))))
-    (λ (other : call_key c ≢ key). subst (λ (x : ℕ). HasRow key x (state_of (next map c) key)) (sym (changed-other base c key other))
+    (λ (same : call_key c ≡ key). subst (λ (k : ℕ). HasRow k (slice_index (changed base c) k) (state_of (next map c) k))
+    same
+    (subst (HasRow (call_key c) (slice_index (changed base c) (call_key c))) (sym (state_of-next_same map c within))
+    (own map.bound base c (state_of map (call_key c)) some near fits (has (call_key c)))))
+    (λ (other : call_key c ≢ key). subst (λ (x : ℕ). HasRow key x (state_of (next map c) key))
+    (sym (changed-other base c key other))
     (subst (HasRow key (slice_index base key)) (sym (state_of-next_other map key c other)) (has key)))
     (cases_eq (call_key c) key)
 
-finds_state : (base : List ℕ) (key : ℕ) (s : KeyState) → HasRow key (slice_index base key) s → FindsRow base (call.Find key) (find_reply s)
+finds_state : (base : List ℕ) (key : ℕ) (s : KeyState) → HasRow key (slice_index base key) s
+    → FindsRow base (call.Find key) (find_reply s)
 finds_state base key (Hole n) has = tt
 finds_state base key (Asked n) has = tt
 finds_state base key (Rows n rows) has = has
@@ -161,7 +193,8 @@ finds_one base map (call.Evict key) has = tt
 finds_one base map (call.Cancel key) has = tt
 
 -- the calls of readers don't concern the base
-passes : (c : Call) (es : List Entry) (base : List ℕ) → is_reading c ≡ true → Obeys base es → Fits base c × Obeys (changed base c) es
+passes : (c : Call) (es : List Entry) (base : List ℕ) → is_reading c ≡ true → Obeys base es
+    → Fits base c × Obeys (changed base c) es
 passes (call.Find key) es base reads obeys = (tt, obeys)
 passes (call.Ask key) es base reads obeys = (tt, obeys)
 passes (call.Fill key number set) es base reads obeys = absurd (cc)
@@ -170,25 +203,31 @@ passes (call.Replace key set) es base reads obeys = absurd (cc)
 passes (call.Evict key) es base reads obeys = absurd (cc)
 passes (call.Cancel key) es base reads obeys = absurd (cc)
 
-reads_on : (his : Bool) (e : Entry) (es : List Entry) (base : List ℕ) → is_reading e.call ≡ true → Obeys base (cond his (e ∷ es) es) → Fits base e.call × Obeys (changed base e.call) es
+reads_on : (his : Bool) (e : Entry) (es : List Entry) (base : List ℕ) → is_reading e.call ≡ true
+    → Obeys base (cond his (e ∷ es) es) → Fits base e.call × Obeys (changed base e.call) es
 reads_on true e es base reads obeys = obeys
 reads_on false e es base reads obeys = passes e.call es base reads obeys
 
-obeys_on : (shape : Shape) (e : Entry) (history : List Entry) (base : List ℕ) → IsCallers shape e → Obeys base (entries_of (e ∷ history) 0) → Fits base e.call × Obeys (changed base e.call) (entries_of history 0)
+obeys_on : (shape : Shape) (e : Entry) (history : List Entry) (base : List ℕ) → IsCallers shape e
+    → Obeys base (entries_of (e ∷ history) 0) → Fits base e.call × Obeys (changed base e.call) (entries_of history 0)
 obeys_on shape e history base caller obeys = ⊎_elim
-    (λ writes. subst (λ (his : Bool). Obeys base (cond his (e ∷ entries_of history 0) (entries_of history 0))) (eq-eqb e.caller 0 writes.0) obeys)
+    (λ writes. subst (λ (his : Bool). Obeys base (cond his (e ∷ entries_of history 0) (entries_of history 0)))
+    (eq-eqb e.caller 0 writes.0) obeys)
     (λ reads. reads_on (e.caller == 0) e (entries_of history 0) base reads.1 obeys)
     caller.1
 
-pub finds_rows : (shape : Shape) (history : List Entry) (map : PartialMap) (base : List ℕ) → 1 ≤ map.bound → length map.states ≡ shape.keys → length base ≡ shape.keys → HasBase base map
+pub finds_rows : (shape : Shape) (history : List Entry) (map : PartialMap) (base : List ℕ) → 1 ≤ map.bound
+    → length map.states ≡ shape.keys → length base ≡ shape.keys → HasBase base map
     → AreCallers shape history → Obeys base (entries_of history 0) → IsLegal map history → FindsRows base history
 finds_rows shape [] map base some size long has callers obeys legal = tt
 finds_rows shape (e ∷ history) map base some size long has callers obeys legal =
     let near = callers.0.0 in
     let on = obeys_on shape e history base callers.0 obeys in (
       subst (FindsRow base e.call) (sym legal.0) (finds_one base map e.call has),
-      finds_rows shape history (next map e.call) (changed base e.call) some (length-set map.states (call_key e.call) _ ∙ size) (length-changed base e.call ∙ long)
-          (keeps_base map base e.call some (omega (arith, near, size)) (omega (arith, near, long)) on.0 has) callers.1 on.1 legal.1,
+      finds_rows shape history (next map e.call) (changed base e.call) some
+          (length-set map.states (call_key e.call) _ ∙ size) (length-changed base e.call ∙ long)
+          (keeps_base map base e.call some (omega (arith, near, size)) (omega (arith, near, long)) on.0 has) callers.1
+          on.1 legal.1,
     )
 
 opens_hole : (keys at number key x : ℕ) → HasRow key x (slice_index_or (replicate keys (Hole number)) at (Hole 0))
@@ -198,12 +237,16 @@ opens_hole (suc keys) (suc at) number key x = opens_hole keys at number key x
 
 -- a new map has only holes
 pub opens_with_base : (table : Table) → HasBase (replicate table.shape.keys 0) (map_at_opening table)
-opens_with_base table key = opens_hole table.shape.keys key table.shape.first_number key (slice_index (replicate table.shape.keys 0) key)
+opens_with_base table key =
+    opens_hole table.shape.keys key table.shape.first_number key (slice_index (replicate table.shape.keys 0) key)
 
 based_long : (base : List ℕ) (es : List Entry) → length (based base es) ≡ length base
 based_long base [] = refl
 based_long base (e ∷ es) = based_long (changed base e.call) es ∙ length-changed base e.call
 
 -- the base has a number for each key
-pub rounds_long : (by keys count : ℕ) (entries : List Entry) (fills : ℕ) (base : List ℕ) → Rounds by keys count entries fills base → length base ≡ keys
-rounds_long by keys count entries fills base rounds = ap (λ (b : List ℕ). length b) (sym (rounds_lead by keys count entries fills base rounds).1) ∙ based_long (replicate keys 0) entries ∙ length-replicate keys 0
+pub rounds_long : (by keys count : ℕ) (entries : List Entry) (fills : ℕ) (base : List ℕ)
+    → Rounds by keys count entries fills base → length base ≡ keys
+rounds_long by keys count entries fills base rounds =
+    ap (λ (b : List ℕ). length b) (sym (rounds_lead by keys count entries fills base rounds).1)
+    ∙ based_long (replicate keys 0) entries ∙ length-replicate keys 0

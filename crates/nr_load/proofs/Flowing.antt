@@ -1,5 +1,6 @@
 -- Each turn of a load's dataflow is one round of its base, or none, and its trigger is the one that was filled.
-use Rattle.std.proofs.Common.{◌≡◌, ◌≢◌, ◌==◌, ◌%◌, ◌<◌, ℕ, ◌+◌, Bool, true, false, MatchBool, List, [], ◌∷◌, ◌++◌, length, refl, sym, ap, ◌∙◌, subst, arith, append-nil, Option, None, Some, Result, Ok, Err}
+use Rattle.std.proofs.Common.{◌≡◌, ◌≢◌, ◌==◌, ◌%◌, ◌<◌, ℕ, ◌+◌, Bool, true, false, MatchBool, List, [], ◌∷◌, ◌++◌}
+use Rattle.std.proofs.Common.{length, refl, sym, ap, ◌∙◌, subst, arith, append-nil, Option, None, Some, Result, Ok, Err}
 use Rattle.nr_model.specs.declared.rows.Row.{Row}
 use Rattle.nr_model.specs.declared.batches.Delta.{Delta}
 use Rattle.nr_model.specs.declared.calls.Call.TheVariants as call
@@ -32,32 +33,64 @@ use Rattle.nr_load.specs.UnderWay.{upqueries_in, upqueries_of}
 use Rattle.nr_load.proofs.Gaining.{evicts_gain, gained_none, gained_of, gained_then, turns_gain, updates_gain}
 
 -- a change whose writer gained just these entries
-abbrev pub GainsChange : ℕ → Caller → Caller → Result (Unit {0}) UpdateFault → (fills key : ℕ) → List ℕ → List ℕ → Type 0
-GainsChange keys a b answer fills key base base' = (gained : Gained keys a b 0 0) × Changed a.number fills key gained.entries base base' answer
+abbrev pub GainsChange : ℕ → Caller → Caller → Result (Unit {0}) UpdateFault → (fills key : ℕ) → List ℕ → List ℕ
+    → Type 0
+GainsChange keys a b answer fills key base base' =
+    (gained : Gained keys a b 0 0) × Changed a.number fills key gained.entries base base' answer
 
 is_changed : (fourth : Bool) (is : Bool) (A B : Type 0) → is ≡ fourth → MatchBool fourth A B → MatchBool is A B
 is_changed fourth is A B same which = subst (λ (b : Bool). MatchBool b A B) (sym same) which
 
-pub change_evicts : (keys fills key : ℕ) (a b : Caller) (base base' : List ℕ) (answer : Evict) (done : Unit {0}) → key < keys
-    → (fills % 4 == 0) ≡ true → base' ≡ base → EvictsKey key a b answer → GainsChange keys a b (Ok done) fills key base base'
-change_evicts keys fills key a b base base' evict.Evicted done low fourth same evicts = (evicts_gain keys key a b evict.Evicted low evicts, is_changed true (fills % 4 == 0) _ _ fourth ((reply.Evicted, refl), same))
-change_evicts keys fills key a b base base' evict.Nothing done low fourth same evicts = (evicts_gain keys key a b evict.Nothing low evicts, is_changed true (fills % 4 == 0) _ _ fourth ((reply.Nothing, refl), same))
+pub change_evicts : (keys fills key : ℕ) (a b : Caller) (base base' : List ℕ) (answer : Evict) (done : Unit {0})
+    → key < keys
+    → (fills % 4 == 0) ≡ true → base' ≡ base → EvictsKey key a b answer
+    → GainsChange keys a b (Ok done) fills key base base'
+change_evicts keys fills key a b base base' evict.Evicted done low fourth same evicts = (
+  evicts_gain keys key a b evict.Evicted low evicts,
+  is_changed true (fills % 4 == 0) _ _ fourth ((reply.Evicted, refl), same),
+)
+change_evicts keys fills key a b base base' evict.Nothing done low fourth same evicts = (
+  evicts_gain keys key a b evict.Nothing low evicts,
+  is_changed true (fills % 4 == 0) _ _ fourth ((reply.Nothing, refl), same),
+)
 
-pub change_stays : (keys fills key : ℕ) (a b : Caller) (base base' : List ℕ) (done : Unit {0}) → (fills % 4 == 0) ≡ false → b ≡ a → StepsBase key base base' None → GainsChange keys a b (Ok done) fills key base base'
-change_stays keys fills key a b base base' done other same steps = (gained_none keys a b same, is_changed false (fills % 4 == 0) _ _ other (None, steps, refl))
+pub change_stays : (keys fills key : ℕ) (a b : Caller) (base base' : List ℕ) (done : Unit {0})
+    → (fills % 4 == 0) ≡ false → b ≡ a → StepsBase key base base' None
+    → GainsChange keys a b (Ok done) fills key base base'
+change_stays keys fills key a b base base' done other same steps =
+    (gained_none keys a b same, is_changed false (fills % 4 == 0) _ _ other (None, steps, refl))
 
-pub change_updates : (keys bound fills key : ℕ) (a b : Caller) (base base' : List ℕ) (batch : List Delta) (answer : Result (Unit {0}) UpdateFault)
-    → key < keys → (fills % 4 == 0) ≡ false → StepsBase key base base' (Some batch) → UpdatesKey bound key batch a b answer
+pub change_updates : (keys bound fills key : ℕ) (a b : Caller) (base base' : List ℕ) (batch : List Delta)
+    (answer : Result (Unit {0}) UpdateFault)
+    → key < keys → (fills % 4 == 0) ≡ false → StepsBase key base base' (Some batch)
+    → UpdatesKey bound key batch a b answer
     → ((counts : NoSlot) → answer ≢ Err (update.NoSlot counts)) → GainsChange keys a b answer fills key base base'
-change_updates keys bound fills key a b base base' batch (Ok done) low other steps updates finds = (updates_gain keys bound key batch a b (Ok done) low updates, is_changed false (fills % 4 == 0) _ _ other (Some batch, steps, refl))
-change_updates keys bound fills key a b base base' batch (Err update.Dropped) low other steps updates finds = (updates_gain keys bound key batch a b (Err update.Dropped) low updates, (key, batch, reply.Dropped, refl, λ same. absurd (cc)))
-change_updates keys bound fills key a b base base' batch (Err update.NoRow) low other steps updates finds = (updates_gain keys bound key batch a b (Err update.NoRow) low updates, (key, batch, reply.NoRow, refl, λ same. absurd (cc)))
-change_updates keys bound fills key a b base base' batch (Err update.TooMany) low other steps updates finds = (updates_gain keys bound key batch a b (Err update.TooMany) low updates, (key, batch, reply.TooMany, refl, λ same. absurd (cc)))
-change_updates keys bound fills key a b base base' batch (Err (update.NoSlot counts)) low other steps updates finds = absurd (finds counts refl)
+change_updates keys bound fills key a b base base' batch (Ok done) low other steps updates finds = (
+  updates_gain keys bound key batch a b (Ok done) low updates,
+  is_changed false (fills % 4 == 0) _ _ other (Some batch, steps, refl),
+)
+change_updates keys bound fills key a b base base' batch (Err update.Dropped) low other steps updates finds = (
+  updates_gain keys bound key batch a b (Err update.Dropped) low updates,
+  (key, batch, reply.Dropped, refl, λ same. absurd (cc)),
+)
+change_updates keys bound fills key a b base base' batch (Err update.NoRow) low other steps updates finds = (
+  updates_gain keys bound key batch a b (Err update.NoRow) low updates,
+  (key, batch, reply.NoRow, refl, λ same. absurd (cc)),
+)
+change_updates keys bound fills key a b base base' batch (Err update.TooMany) low other steps updates finds = (
+  updates_gain keys bound key batch a b (Err update.TooMany) low updates,
+  (key, batch, reply.TooMany, refl, λ same. absurd (cc)),
+)
+change_updates keys bound fills key a b base base' batch (Err (update.NoSlot counts)) low other steps updates finds =
+    absurd (finds counts refl)
 
 -- a turn with a trigger that needed no fill
-passed_by : (old new : FlowSeen (List ℕ)) (key fills : ℕ) (answer : Result (Unit {0}) FillFault) (told : Reply) → length old.source ≡ old.map.shape.keys → is_done told ≡ false → (spends : SpendsOne GivesRow key old new answer)
-    → IsRound old.writer.number (entry old.writer.number (call.Fill spends.post.upquery.key spends.post.upquery.number spends.answers.rows) told ∷ []) fills old.source fills new.source
+passed_by : (old new : FlowSeen (List ℕ)) (key fills : ℕ) (answer : Result (Unit {0}) FillFault) (told : Reply)
+    → length old.source ≡ old.map.shape.keys → is_done told ≡ false → (spends : SpendsOne GivesRow key old new answer)
+    → IsRound old.writer.number
+    (entry old.writer.number (call.Fill spends.post.upquery.key spends.post.upquery.number spends.answers.rows) told
+    ∷ [])
+    fills old.source fills new.source
 passed_by old new key fills answer told long not_done spends =
     let near : spends.post.upquery.key < length old.source = omega (arith, spends.near, spends.key_is, long) in
     record {
@@ -66,25 +99,44 @@ passed_by old new key fills answer told long not_done spends =
       number = spends.post.upquery.number;
       answer = told;
       later = [];
-      is = ap (λ (rows : List Row). entry old.writer.number (call.Fill spends.post.upquery.key spends.post.upquery.number rows) told ∷ []) (spends.answers.gave.1 near);
-      follows = subst (λ (done : Bool). FollowsBase old.writer.number spends.post.upquery.key done [] fills old.source fills new.source) (sym not_done) (refl, refl, spends.answers.gave.0);
+      is =
+          ap
+          (λ (rows : List Row). entry old.writer.number
+          (call.Fill spends.post.upquery.key spends.post.upquery.number rows) told
+          ∷ [])
+          (spends.answers.gave.1 near);
+      follows =
+          subst
+          (λ (done : Bool). FollowsBase old.writer.number spends.post.upquery.key done
+          [] fills old.source fills new.source)
+          (sym not_done) (refl, refl, spends.answers.gave.0);
     }
 
-passed_round : (old new : FlowSeen (List ℕ)) (key fills : ℕ) (fault : FillFault) → length old.source ≡ old.map.shape.keys → (past : IsPast fault) → (spends : SpendsOne GivesRow key old new (Err fault))
-    → IsRound old.writer.number (turns_gain GivesRow old new (turn.Passed key) (fault, past, spends)).entries fills old.source fills new.source
-passed_round old new key fills fill.NotAsked long past spends = passed_by old new key fills (Err fill.NotAsked) reply.NotAsked long refl spends
-passed_round old new key fills fill.Already long past spends = passed_by old new key fills (Err fill.Already) reply.Already long refl spends
-passed_round old new key fills fill.Stale long past spends = passed_by old new key fills (Err fill.Stale) reply.Stale long refl spends
+passed_round : (old new : FlowSeen (List ℕ)) (key fills : ℕ) (fault : FillFault)
+    → length old.source ≡ old.map.shape.keys → (past : IsPast fault)
+    → (spends : SpendsOne GivesRow key old new (Err fault))
+    → IsRound old.writer.number (turns_gain GivesRow old new (turn.Passed key) (fault, past, spends)).entries fills
+    old.source fills new.source
+passed_round old new key fills fill.NotAsked long past spends =
+    passed_by old new key fills (Err fill.NotAsked) reply.NotAsked long refl spends
+passed_round old new key fills fill.Already long past spends =
+    passed_by old new key fills (Err fill.Already) reply.Already long refl spends
+passed_round old new key fills fill.Stale long past spends =
+    passed_by old new key fills (Err fill.Stale) reply.Stale long refl spends
 passed_round old new key fills (fill.NoSlot counts) long past spends = absurd past
 
-passed_fits : (old new : FlowSeen (List ℕ)) (key : ℕ) (fault : FillFault) (past : IsPast fault) (spends : SpendsOne GivesRow key old new (Err fault))
-    → upqueries_of (spends.post ∷ []) ≡ upqueries_in (turns_gain GivesRow old new (turn.Passed key) (fault, past, spends)).entries
+passed_fits : (old new : FlowSeen (List ℕ)) (key : ℕ) (fault : FillFault) (past : IsPast fault)
+    (spends : SpendsOne GivesRow key old new (Err fault))
+    → upqueries_of (spends.post ∷ [])
+    ≡ upqueries_in (turns_gain GivesRow old new (turn.Passed key) (fault, past, spends)).entries
 passed_fits old new key fill.NotAsked past spends = refl
 passed_fits old new key fill.Already past spends = refl
 passed_fits old new key fill.Stale past spends = refl
 passed_fits old new key (fill.NoSlot counts) past spends = absurd past
 
-pub turn_passes : (old new : FlowSeen (List ℕ)) (key fills : ℕ) → length old.source ≡ old.map.shape.keys → fills ≡ capped fills → Turns GivesRow FailsNever old new (turn.Passed key) → TurnsOnce old fills new fills turned.Went
+pub turn_passes : (old new : FlowSeen (List ℕ)) (key fills : ℕ) → length old.source ≡ old.map.shape.keys
+    → fills ≡ capped fills → Turns GivesRow FailsNever old new (turn.Passed key)
+    → TurnsOnce old fills new fills turned.Went
 turn_passes old new key fills long small turns = record {
   count = 0;
   gained = turns_gain GivesRow old new (turn.Passed key) (turns.0, turns.1, turns.2);
@@ -113,7 +165,8 @@ spends_none old new finds =
       all = ap (λ (kept : Option Post). kept_posts kept ++ []) finds.0;
     }
 
-pub turn_idles : (old new : FlowSeen (List ℕ)) (fills : ℕ) → fills ≡ capped fills → Turns GivesRow FailsNever old new turn.Idle → TurnsOnce old fills new fills turned.Idle
+pub turn_idles : (old new : FlowSeen (List ℕ)) (fills : ℕ) → fills ≡ capped fills
+    → Turns GivesRow FailsNever old new turn.Idle → TurnsOnce old fills new fills turned.Idle
 turn_idles old new fills small turns = record {
   count = 0;
   gained = turns_gain GivesRow old new turn.Idle turns;
@@ -128,26 +181,40 @@ turn_idles old new fills small turns = record {
 
 -- what becomes of a key after its fill answers no upquery
 stays_unanswered : (fourth : Bool) (by key : ℕ) (base base' : List ℕ) (later : List Entry)
-    → MatchBool fourth (((answer : Reply) × (later ≡ entry by (call.Evict key) answer ∷ [])) × (base' ≡ base)) ((batch : Option (List Delta)) × StepsBase key base base' batch × (later ≡ applies by key batch)) → upqueries_in later ≡ []
+    → MatchBool fourth (((answer : Reply) × (later ≡ entry by (call.Evict key) answer ∷ [])) × (base' ≡ base))
+    ((batch : Option (List Delta)) × StepsBase key base base' batch × (later ≡ applies by key batch))
+    → upqueries_in later ≡ []
 stays_unanswered true by key base base' later is = ap upqueries_in is.0.1
 stays_unanswered false by key base base' later (None, steps, is) = ap upqueries_in is
 stays_unanswered false by key base base' later (Some batch, steps, is) = ap upqueries_in is
 
-change_unanswered : (answer : Result (Unit {0}) UpdateFault) (by fills key : ℕ) (base base' : List ℕ) (later : List Entry) → Changed by fills key later base base' answer → upqueries_in later ≡ []
-change_unanswered (Ok done) by fills key base base' later changed = stays_unanswered (fills % 4 == 0) by key base base' later changed
+change_unanswered : (answer : Result (Unit {0}) UpdateFault) (by fills key : ℕ) (base base' : List ℕ)
+    (later : List Entry)
+    → Changed by fills key later base base' answer → upqueries_in later ≡ []
+change_unanswered (Ok done) by fills key base base' later changed =
+    stays_unanswered (fills % 4 == 0) by key base base' later changed
 change_unanswered (Err fault) by fills key base base' later changed = ap upqueries_in changed.3
 
 -- a turn that filled a key, and then something became of the key
-module _ (old mid new : FlowSeen (List ℕ)) (key fills fills' : ℕ) (long : length old.source ≡ old.map.shape.keys) (spends : SpendsOne GivesRow key old mid (Ok tt)) (counted : fills' ≡ capped (fills + 1)) (map : mid.map ≡ old.map) (kept : (new.taker ≡ mid.taker) × (new.kept ≡ mid.kept)) where
+module _ (old mid new : FlowSeen (List ℕ)) (key fills fills' : ℕ) (long : length old.source ≡ old.map.shape.keys)
+    (spends : SpendsOne GivesRow key old mid (Ok tt)) (counted : fills' ≡ capped (fills + 1)) (map : mid.map ≡ old.map)
+    (kept : (new.taker ≡ mid.taker) × (new.kept ≡ mid.kept)) where
   abbrev filled : Gained old.map.shape.keys old.writer mid.writer 0 1
   filled = turns_gain GivesRow old mid (turn.Filled key) spends
 
-  abbrev with_change : (answer : Result (Unit {0}) UpdateFault) → GainsChange mid.map.shape.keys mid.writer new.writer answer fills' key mid.source new.source → Gained old.map.shape.keys old.writer new.writer 0 1
+  abbrev with_change : (answer : Result (Unit {0}) UpdateFault)
+      → GainsChange mid.map.shape.keys mid.writer new.writer answer fills' key mid.source new.source
+      → Gained old.map.shape.keys old.writer new.writer 0 1
   with_change answer change = gained_then old.map.shape.keys old.writer mid.writer new.writer 0 1 0 0 filled
-      (gained_of mid.map.shape.keys old.map.shape.keys mid.writer new.writer new.writer 0 0 (ap (λ (t : Table). t.shape.keys) map) refl change.0)
+      (gained_of mid.map.shape.keys old.map.shape.keys mid.writer new.writer new.writer 0 0
+      (ap (λ (t : Table). t.shape.keys) map) refl change.0)
 
   filled_round : (later : List Entry) → Changes mid.writer.number fills' key later mid.source new.source
-      → IsRound old.writer.number (entry old.writer.number (call.Fill spends.post.upquery.key spends.post.upquery.number spends.answers.rows) reply.Done ∷ later) fills old.source fills' new.source
+      → IsRound old.writer.number
+      (entry old.writer.number (call.Fill spends.post.upquery.key spends.post.upquery.number spends.answers.rows)
+      reply.Done
+      ∷ later)
+      fills old.source fills' new.source
   filled_round later changes =
       let near : spends.post.upquery.key < length old.source = omega (arith, spends.near, spends.key_is, long) in
       record {
@@ -156,22 +223,34 @@ module _ (old mid new : FlowSeen (List ℕ)) (key fills fills' : ℕ) (long : le
         number = spends.post.upquery.number;
         answer = reply.Done;
         later = later;
-        is = ap (λ (rows : List Row). entry old.writer.number (call.Fill spends.post.upquery.key spends.post.upquery.number rows) reply.Done ∷ later) (spends.answers.gave.1 near);
+        is =
+            ap
+            (λ (rows : List Row). entry old.writer.number
+            (call.Fill spends.post.upquery.key spends.post.upquery.number rows) reply.Done
+            ∷ later)
+            (spends.answers.gave.1 near);
         follows = (
           counted,
           subst (λ (by : ℕ). Changes by fills' spends.post.upquery.key later old.source new.source) filled.number
               (subst (λ (k : ℕ). Changes mid.writer.number fills' k later old.source new.source) (sym spends.key_is)
-              (subst (λ (base : List ℕ). Changes mid.writer.number fills' key later base new.source) spends.answers.gave.0 changes)),
+              (subst (λ (base : List ℕ). Changes mid.writer.number fills' key later base new.source)
+              spends.answers.gave.0 changes)),
         );
       }
 
   spent_one : Spends (spends.post ∷ []) old.taker old.kept new.taker None
   spent_one = subst (λ (t : TakerSeen). Spends (spends.post ∷ []) old.taker old.kept t None) (sym kept.0) spends.spends
 
-  one_fits : (answer : Result (Unit {0}) UpdateFault) (change : GainsChange mid.map.shape.keys mid.writer new.writer answer fills' key mid.source new.source) → upqueries_of (spends.post ∷ []) ≡ upqueries_in (with_change answer change).entries
-  one_fits answer change = ap (λ (l : List Upquery). spends.post.upquery ∷ l) (sym (change_unanswered answer mid.writer.number fills' key mid.source new.source change.0.entries change.1))
+  one_fits : (answer : Result (Unit {0}) UpdateFault)
+      (change : GainsChange mid.map.shape.keys mid.writer new.writer answer fills' key mid.source new.source)
+      → upqueries_of (spends.post ∷ []) ≡ upqueries_in (with_change answer change).entries
+  one_fits answer change =
+      ap (λ (l : List Upquery). spends.post.upquery ∷ l)
+      (sym (change_unanswered answer mid.writer.number fills' key mid.source new.source change.0.entries change.1))
 
-  pub turn_fills : (done : Unit {0}) → GainsChange mid.map.shape.keys mid.writer new.writer (Ok done) fills' key mid.source new.source → TurnsOnce old fills new fills' turned.Went
+  pub turn_fills : (done : Unit {0})
+      → GainsChange mid.map.shape.keys mid.writer new.writer (Ok done) fills' key mid.source new.source
+      → TurnsOnce old fills new fills' turned.Went
   turn_fills done change = record {
     count = 1;
     gained = with_change (Ok done) change;
@@ -184,7 +263,9 @@ module _ (old mid new : FlowSeen (List ℕ)) (key fills fills' : ℕ) (long : le
     none = kept.1 ∙ spends.none;
   }
 
-  pub turn_is_refused : (fault : UpdateFault) → GainsChange mid.map.shape.keys mid.writer new.writer (Err fault) fills' key mid.source new.source → TurnsOnce old fills new fills' turned.Wrong
+  pub turn_is_refused : (fault : UpdateFault)
+      → GainsChange mid.map.shape.keys mid.writer new.writer (Err fault) fills' key mid.source new.source
+      → TurnsOnce old fills new fills' turned.Wrong
   turn_is_refused fault change = record {
     count = 1;
     gained = with_change (Err fault) change;

@@ -1,5 +1,6 @@
 -- What each call of the dataflow adds to the writer's calls.
-use Rattle.std.proofs.Common.{◌≡◌, ℕ, ◌+◌, ◌<◌, List, [], ◌++◌, sym, ap, ◌∙◌, subst, append_assoc, append-nil, Result, Ok, Err}
+use Rattle.std.proofs.Common.{◌≡◌, ℕ, ◌+◌, ◌<◌, List, [], ◌++◌, sym, ap, ◌∙◌, subst, append_assoc, append-nil, Result}
+use Rattle.std.proofs.Common.{Ok, Err}
 use Rattle.nr_model.specs.declared.rows.Row.{Row}
 use Rattle.nr_model.specs.declared.batches.Delta.{Delta}
 use Rattle.nr_model.specs.Histories.{Entry}
@@ -28,7 +29,8 @@ gained_none keys a b same = record {
   tells = tells_none keys;
 }
 
-abbrev pub gained_then : (keys : ℕ) (a b c : Caller) (s f t g : ℕ) → Gained keys a b s f → Gained keys b c t g → Gained keys a c (s + t) (f + g)
+abbrev pub gained_then : (keys : ℕ) (a b c : Caller) (s f t g : ℕ) → Gained keys a b s f → Gained keys b c t g
+    → Gained keys a c (s + t) (f + g)
 gained_then keys a b c s f t g one two = record {
   table = two.table ∙ one.table;
   number = two.number ∙ one.number;
@@ -38,7 +40,8 @@ gained_then keys a b c s f t g one two = record {
 }
 
 -- the same of an equal number of keys, and to an equal caller
-abbrev pub gained_of : (keys keys' : ℕ) (a b b' : Caller) (s f : ℕ) → keys ≡ keys' → b' ≡ b → Gained keys a b s f → Gained keys' a b' s f
+abbrev pub gained_of : (keys keys' : ℕ) (a b b' : Caller) (s f : ℕ) → keys ≡ keys' → b' ≡ b → Gained keys a b s f
+    → Gained keys' a b' s f
 gained_of keys keys' a b b' s f same is gained = record {
   table = ap (λ (c : Caller). c.table) is ∙ gained.table;
   number = ap (λ (c : Caller). c.number) is ∙ gained.number;
@@ -48,7 +51,8 @@ gained_of keys keys' a b b' s f same is gained = record {
 }
 
 -- and from an equal caller
-abbrev pub gained_from : (keys keys' : ℕ) (a a' b : Caller) (s f : ℕ) → keys ≡ keys' → a ≡ a' → Gained keys a b s f → Gained keys' a' b s f
+abbrev pub gained_from : (keys keys' : ℕ) (a a' b : Caller) (s f : ℕ) → keys ≡ keys' → a ≡ a' → Gained keys a b s f
+    → Gained keys' a' b s f
 gained_from keys keys' a a' b s f same is gained = record {
   table = gained.table ∙ ap (λ (c : Caller). c.table) is;
   number = gained.number ∙ ap (λ (c : Caller). c.number) is;
@@ -57,19 +61,31 @@ gained_from keys keys' a a' b s f same is gained = record {
   tells = subst (λ (n : ℕ). Tells n gained.entries s f) same gained.tells;
 }
 
-abbrev grown : (steps keys : ℕ) (a b : Caller) (entries : List Entry) (s f : ℕ) → Grows steps entries a b → Tells keys entries s f → Gained keys a b s f
-grown steps keys a b entries s f grows tells = record { table = grows.table; number = grows.number; entries = entries; mine = grows.mine; tells = tells }
+abbrev grown : (steps keys : ℕ) (a b : Caller) (entries : List Entry) (s f : ℕ) → Grows steps entries a b
+    → Tells keys entries s f → Gained keys a b s f
+grown steps keys a b entries s f grows tells =
+    record { table = grows.table; number = grows.number; entries = entries; mine = grows.mine; tells = tells }
 
-abbrev pub evicts_gain : (keys key : ℕ) (a b : Caller) (answer : Evict) → key < keys → EvictsKey key a b answer → Gained keys a b 0 0
-evicts_gain keys key a b evict.Evicted low evicts = grown 2 keys a b _ 0 0 evicts.0 (tells_evict keys a.number key _ low)
-evicts_gain keys key a b evict.Nothing low evicts = grown 1 keys a b _ 0 0 evicts.0 (tells_evict keys a.number key _ low)
+abbrev pub evicts_gain : (keys key : ℕ) (a b : Caller) (answer : Evict) → key < keys → EvictsKey key a b answer
+    → Gained keys a b 0 0
+evicts_gain keys key a b evict.Evicted low evicts =
+    grown 2 keys a b _ 0 0 evicts.0 (tells_evict keys a.number key _ low)
+evicts_gain keys key a b evict.Nothing low evicts =
+    grown 1 keys a b _ 0 0 evicts.0 (tells_evict keys a.number key _ low)
 
-abbrev pub updates_gain : (keys bound key : ℕ) (batch : List Delta) (a b : Caller) (answer : Result (Unit {0}) UpdateFault) → key < keys → UpdatesKey bound key batch a b answer → Gained keys a b 0 0
-updates_gain keys bound key batch a b (Ok done) low updates = grown _ keys a b _ 0 0 updates.3.gains (tells_update keys a.number key batch _ low)
-updates_gain keys bound key batch a b (Err update.Dropped) low updates = grown _ keys a b _ 0 0 updates.0 (tells_update keys a.number key batch _ low)
-updates_gain keys bound key batch a b (Err update.NoRow) low updates = grown _ keys a b _ 0 0 updates.2 (tells_update keys a.number key batch _ low)
-updates_gain keys bound key batch a b (Err update.TooMany) low updates = grown _ keys a b _ 0 0 updates.2 (tells_update keys a.number key batch _ low)
-updates_gain keys bound key batch a b (Err (update.NoSlot counts)) low updates = grown _ keys a b [] 0 0 updates.3.grows (tells_none keys)
+abbrev pub updates_gain : (keys bound key : ℕ) (batch : List Delta) (a b : Caller)
+    (answer : Result (Unit {0}) UpdateFault)
+    → key < keys → UpdatesKey bound key batch a b answer → Gained keys a b 0 0
+updates_gain keys bound key batch a b (Ok done) low updates =
+    grown _ keys a b _ 0 0 updates.3.gains (tells_update keys a.number key batch _ low)
+updates_gain keys bound key batch a b (Err update.Dropped) low updates =
+    grown _ keys a b _ 0 0 updates.0 (tells_update keys a.number key batch _ low)
+updates_gain keys bound key batch a b (Err update.NoRow) low updates =
+    grown _ keys a b _ 0 0 updates.2 (tells_update keys a.number key batch _ low)
+updates_gain keys bound key batch a b (Err update.TooMany) low updates =
+    grown _ keys a b _ 0 0 updates.2 (tells_update keys a.number key batch _ low)
+updates_gain keys bound key batch a b (Err (update.NoSlot counts)) low updates =
+    grown _ keys a b [] 0 0 updates.3.grows (tells_none keys)
 
 abbrev pub fills_of : Turn → ℕ
 fills_of turn.Idle = 0
@@ -79,24 +95,35 @@ fills_of (turn.Failed key) = 0
 fills_of (turn.Kept counts) = 0
 fills_of (turn.Worn key) = 0
 
-abbrev passes : (keys key number : ℕ) (rows : List Row) (a b : Caller) (fault : FillFault) → IsPast fault → key < keys → FillsKey key number rows a b (Err fault) → Gained keys a b 0 0
-passes keys key number rows a b fill.NotAsked past low fills = grown 1 keys a b _ 0 0 fills.0 (tells_fill keys a.number key number rows _ low)
-passes keys key number rows a b fill.Already past low fills = grown 1 keys a b _ 0 0 fills.0 (tells_fill keys a.number key number rows _ low)
-passes keys key number rows a b fill.Stale past low fills = grown 1 keys a b _ 0 0 fills.0 (tells_fill keys a.number key number rows _ low)
+abbrev passes : (keys key number : ℕ) (rows : List Row) (a b : Caller) (fault : FillFault) → IsPast fault → key < keys
+    → FillsKey key number rows a b (Err fault) → Gained keys a b 0 0
+passes keys key number rows a b fill.NotAsked past low fills =
+    grown 1 keys a b _ 0 0 fills.0 (tells_fill keys a.number key number rows _ low)
+passes keys key number rows a b fill.Already past low fills =
+    grown 1 keys a b _ 0 0 fills.0 (tells_fill keys a.number key number rows _ low)
+passes keys key number rows a b fill.Stale past low fills =
+    grown 1 keys a b _ 0 0 fills.0 (tells_fill keys a.number key number rows _ low)
 passes keys key number rows a b (fill.NoSlot counts) past low fills = absurd past
 
 module _ {S : Type 0} (gives : S → (key bound : ℕ) → List Row → S → Type 0) where
-  pub near_post : (old new : FlowSeen S) (key : ℕ) (answer : Result (Unit {0}) FillFault) (spends : SpendsOne gives key old new answer) → spends.post.upquery.key < old.map.shape.keys
+  pub near_post : (old new : FlowSeen S) (key : ℕ) (answer : Result (Unit {0}) FillFault)
+      (spends : SpendsOne gives key old new answer)
+      → spends.post.upquery.key < old.map.shape.keys
   near_post old new key answer spends = subst (λ (k : ℕ). k < old.map.shape.keys) (sym spends.key_is) spends.near
 
-  abbrev pub turns_gain : (old new : FlowSeen S) (answer : Turn) → Turns gives (λ _ _ _ _. ⊥) old new answer → Gained old.map.shape.keys old.writer new.writer 0 (fills_of answer)
-  turns_gain old new turn.Idle turns = gained_none old.map.shape.keys old.writer new.writer (ap (λ (flow : FlowSeen S). flow.writer) turns.2)
+  abbrev pub turns_gain : (old new : FlowSeen S) (answer : Turn) → Turns gives (λ _ _ _ _. ⊥) old new answer
+      → Gained old.map.shape.keys old.writer new.writer 0 (fills_of answer)
+  turns_gain old new turn.Idle turns =
+      gained_none old.map.shape.keys old.writer new.writer (ap (λ (flow : FlowSeen S). flow.writer) turns.2)
   turns_gain old new (turn.Filled key) turns =
       grown _ old.map.shape.keys old.writer new.writer _ 0 1 turns.answers.fills.gains
-      (tells_fill old.map.shape.keys old.writer.number turns.post.upquery.key turns.post.upquery.number turns.answers.rows _
+      (tells_fill old.map.shape.keys old.writer.number turns.post.upquery.key turns.post.upquery.number
+      turns.answers.rows _
       (near_post old new key (Ok tt) turns))
   turns_gain old new (turn.Passed key) turns =
-      passes old.map.shape.keys turns.2.post.upquery.key turns.2.post.upquery.number turns.2.answers.rows old.writer new.writer turns.0 turns.1 (near_post old new key (Err turns.0) turns.2) turns.2.answers.fills
+      passes old.map.shape.keys turns.2.post.upquery.key turns.2.post.upquery.number turns.2.answers.rows old.writer
+      new.writer turns.0 turns.1 (near_post old new key (Err turns.0) turns.2) turns.2.answers.fills
   turns_gain old new (turn.Failed key) turns = absurd turns.ends.failed
   turns_gain old new (turn.Worn key) turns = absurd turns.ends.failed
-  turns_gain old new (turn.Kept counts) turns = grown _ old.map.shape.keys old.writer new.writer [] 0 0 turns.answers.fills.grows (tells_none old.map.shape.keys)
+  turns_gain old new (turn.Kept counts) turns =
+      grown _ old.map.shape.keys old.writer new.writer [] 0 0 turns.answers.fills.grows (tells_none old.map.shape.keys)

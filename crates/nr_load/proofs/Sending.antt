@@ -8,7 +8,8 @@ use Rattle.nr_serve.specs.Tickets.{sent}
 use Rattle.nr_load.specs.Gained.{Gained}
 use Rattle.nr_load.proofs.Counting.{sends_counted}
 
-pub since_gained : (keys : ℕ) (a b : Caller) (s f : ℕ) → Gained keys a b s f → length (sent (drop (length a.mine) b.mine)) ≡ s
+pub since_gained : (keys : ℕ) (a b : Caller) (s f : ℕ) → Gained keys a b s f
+    → length (sent (drop (length a.mine) b.mine)) ≡ s
 since_gained keys a b s f gained =
     ap (λ (l : List Entry). length (sent (drop (length a.mine) l))) gained.mine
     ∙ ap (λ (l : List Entry). length (sent l)) (drop-append_seam a.mine gained.entries)

@@ -1,5 +1,7 @@
--- The turns of a load's dataflow, one after the other: its calls are those of a base, and its triggers are answered in order.
-use Rattle.std.proofs.Common.{◌≡◌, ◌≢◌, ℕ, suc, ◌+◌, Bool, true, false, List, [], ◌∷◌, ◌++◌, replicate, refl, sym, ap, ◌∙◌, subst, arith, append_assoc, append-nil, Option, None, Some}
+-- The turns of a load's dataflow, one after the other: its calls are those of a base, and its triggers are answered in
+-- order.
+use Rattle.std.proofs.Common.{◌≡◌, ◌≢◌, ℕ, suc, ◌+◌, Bool, true, false, List, [], ◌∷◌, ◌++◌, replicate, refl, sym, ap}
+use Rattle.std.proofs.Common.{◌∙◌, subst, arith, append_assoc, append-nil, Option, None, Some}
 use Rattle.std.specs.Prelude.{MatchOption}
 use Rattle.nr_model.specs.Histories.{Entry}
 use Rattle.nr_board.specs.Callers.{Caller, Table}
@@ -32,7 +34,8 @@ pub record SoFar (first flow : FlowSeen (List ℕ)) (posts : List Post) (fills :
   pub taken : flow.taker.taken ≡ first.taker.taken ++ gain
   pub answered : upqueries_of gain ≡ upqueries_in gained.entries ++ upqueries_of posts
 
-pub so_far_none : (first : FlowSeen (List ℕ)) (posts : List Post) → first.source ≡ replicate first.map.shape.keys 0 → posts ≡ [] → SoFar first first posts 0
+pub so_far_none : (first : FlowSeen (List ℕ)) (posts : List Post) → first.source ≡ replicate first.map.shape.keys 0
+    → posts ≡ [] → SoFar first first posts 0
 so_far_none first posts base none = record {
   count = 0;
   gained = gained_none first.map.shape.keys first.writer first.writer refl;
@@ -44,50 +47,68 @@ so_far_none first posts base none = record {
   answered = ap upqueries_of (sym none);
 }
 
-more_rounds : (by keys turns : ℕ) (before entries : List Entry) (what : Turned) (fills fills' : ℕ) (base base' : List ℕ) → what ≢ turned.Wrong → Rounds by keys turns before fills base → IsTurn by entries fills base fills' base' what
+more_rounds : (by keys turns : ℕ) (before entries : List Entry) (what : Turned) (fills fills' : ℕ) (base base' : List ℕ)
+    → what ≢ turned.Wrong → Rounds by keys turns before fills base → IsTurn by entries fills base fills' base' what
     → (more : ℕ) × Rounds by keys more (before ++ entries) fills' base'
 more_rounds by keys turns before entries turned.Idle fills fills' base base' right rounds turn = (
   turns,
-  subst (λ (l : List Entry). Rounds by keys turns l fills' base') (sym (append-nil before) ∙ ap (λ (l : List Entry). before ++ l) (sym turn.0))
-      (subst (λ (n : ℕ). Rounds by keys turns before n base') (sym turn.1) (subst (λ (b : List ℕ). Rounds by keys turns before fills b) (sym turn.2) rounds)),
+  subst (λ (l : List Entry). Rounds by keys turns l fills' base')
+      (sym (append-nil before) ∙ ap (λ (l : List Entry). before ++ l) (sym turn.0))
+      (subst (λ (n : ℕ). Rounds by keys turns before n base') (sym turn.1)
+      (subst (λ (b : List ℕ). Rounds by keys turns before fills b) (sym turn.2) rounds)),
 )
-more_rounds by keys turns before entries turned.Went fills fills' base base' right rounds turn = (suc turns, (before, fills, base, entries, rounds, turn, refl))
+more_rounds by keys turns before entries turned.Went fills fills' base base' right rounds turn =
+    (suc turns, (before, fills, base, entries, rounds, turn, refl))
 more_rounds by keys turns before entries turned.Wrong fills fills' base base' right rounds turn = absurd (right refl)
 
 -- a turn that answers no upquery began with no trigger kept
-none_kept : (kept : Option Post) (more spent : List Post) → kept_posts kept ++ more ≡ spent ++ [] → upqueries_of spent ≡ [] → kept ≡ None
+none_kept : (kept : Option Post) (more spent : List Post) → kept_posts kept ++ more ≡ spent ++ []
+    → upqueries_of spent ≡ [] → kept ≡ None
 none_kept None more spent spends none = refl
 none_kept (Some post) more [] spends none = absurd (cc)
 none_kept (Some post) more (first ∷ spent) spends none = absurd (cc)
 
-idle_none : (what : Turned) (by fills : ℕ) (base base' : List ℕ) (entries : List Entry) (fills' : ℕ) → what ≢ turned.Went → what ≢ turned.Wrong → IsTurn by entries fills base fills' base' what → entries ≡ []
+idle_none : (what : Turned) (by fills : ℕ) (base base' : List ℕ) (entries : List Entry) (fills' : ℕ)
+    → what ≢ turned.Went → what ≢ turned.Wrong → IsTurn by entries fills base fills' base' what → entries ≡ []
 idle_none turned.Idle by fills base base' entries fills' idle right turn = turn.0
 idle_none turned.Went by fills base base' entries fills' idle right turn = absurd (idle refl)
 idle_none turned.Wrong by fills base base' entries fills' idle right turn = absurd (right refl)
 
 -- the fault is that which was told of the last turn
-tells_right : (fault : Option LoadFault) (what : Turned) → MatchOption fault (what ≢ turned.Wrong) (λ it. (it ≡ faults.WrongRows) × (what ≡ turned.Wrong)) → fault ≡ None → what ≢ turned.Wrong
+tells_right : (fault : Option LoadFault) (what : Turned)
+    → MatchOption fault (what ≢ turned.Wrong) (λ it. (it ≡ faults.WrongRows) × (what ≡ turned.Wrong)) → fault ≡ None
+    → what ≢ turned.Wrong
 tells_right None what tells none = tells
 tells_right (Some it) what tells none = absurd (cc)
 
-module _ (first old mid new : FlowSeen (List ℕ)) (before after : UnderWaySeen) (what : Turned) (fills fills' : ℕ) (own : old.map ≡ first.map) (far : SoFar first old before.posts fills)
+module _ (first old mid new : FlowSeen (List ℕ)) (before after : UnderWaySeen) (what : Turned) (fills fills' : ℕ)
+    (own : old.map ≡ first.map) (far : SoFar first old before.posts fills)
     (ready : Readies old before mid after) (turn : TurnsOnce mid fills new fills' what) where
   keys : mid.map.shape.keys ≡ first.map.shape.keys
   keys = ap (λ (t : Table). t.shape.keys) (ready.only.map ∙ own)
 
   abbrev with_turn : Gained first.map.shape.keys first.writer new.writer 0 (far.count + turn.count)
   with_turn = gained_then first.map.shape.keys first.writer old.writer new.writer 0 far.count 0 turn.count far.gained
-      (gained_from mid.map.shape.keys first.map.shape.keys mid.writer old.writer new.writer 0 turn.count keys ready.only.writer turn.gained)
+      (gained_from mid.map.shape.keys first.map.shape.keys mid.writer old.writer new.writer 0 turn.count keys
+      ready.only.writer turn.gained)
 
   fills_on : fills' ≡ capped (far.count + turn.count)
   fills_on = omega (arith, far.fills_are, turn.fills_are)
 
   turn_on : IsTurn first.writer.number turn.gained.entries fills old.source fills' new.source what
-  turn_on = subst (λ (base : List ℕ). IsTurn first.writer.number turn.gained.entries fills base fills' new.source what) ready.only.source
-      (subst (λ (by : ℕ). IsTurn by turn.gained.entries fills mid.source fills' new.source what) (ap (λ (c : Caller). c.number) ready.only.writer ∙ far.gained.number) turn.turn)
+  turn_on =
+      subst (λ (base : List ℕ). IsTurn first.writer.number turn.gained.entries fills base fills' new.source what)
+      ready.only.source
+      (subst (λ (by : ℕ). IsTurn by turn.gained.entries fills mid.source fills' new.source what)
+      (ap (λ (c : Caller). c.number) ready.only.writer ∙ far.gained.number) turn.turn)
 
-  rounds_on : what ≢ turned.Wrong → (more : ℕ) × Rounds first.writer.number first.map.shape.keys more (far.gained.entries ++ turn.gained.entries) fills' new.source
-  rounds_on right = more_rounds first.writer.number first.map.shape.keys far.turns far.gained.entries turn.gained.entries what fills fills' old.source new.source right far.rounds turn_on
+  rounds_on : what ≢ turned.Wrong
+      → (more : ℕ)
+      × Rounds first.writer.number first.map.shape.keys more (far.gained.entries ++ turn.gained.entries) fills'
+      new.source
+  rounds_on right =
+      more_rounds first.writer.number first.map.shape.keys far.turns far.gained.entries turn.gained.entries what fills
+      fills' old.source new.source right far.rounds turn_on
 
   gain_on : List Post
   gain_on = far.gain ++ (ready.gain ++ turn.spends.gain)
@@ -100,19 +121,25 @@ module _ (first old mid new : FlowSeen (List ℕ)) (before after : UnderWaySeen)
       ∙ append_assoc (first.taker.taken ++ far.gain) ready.gain turn.spends.gain
       ∙ append_assoc first.taker.taken far.gain (ready.gain ++ turn.spends.gain)
 
-  answered_on : upqueries_of gain_on ≡ upqueries_in (far.gained.entries ++ turn.gained.entries) ++ upqueries_of after.posts
+  answered_on : upqueries_of gain_on
+      ≡ upqueries_in (far.gained.entries ++ turn.gained.entries) ++ upqueries_of after.posts
   unfolding gain_on
   answered_on =
       let more : List Post = ready.gain ++ turn.spends.gain in
       let far_in : List Upquery = upqueries_in far.gained.entries in
       let turn_in : List Upquery = upqueries_in turn.gained.entries in
-      let split : before.posts ++ more ≡ turn.spent ++ after.posts = spent_first mid.kept before.posts ready.gain after.posts turn.spends.gain turn.spent ready.all ready.oldest turn.spends.all turn.one in
+      let split : before.posts ++ more ≡ turn.spent ++ after.posts
+      = spent_first mid.kept before.posts ready.gain after.posts turn.spends.gain turn.spent ready.all ready.oldest
+      turn.spends.all turn.one in
       upqueries-append far.gain more
       ∙ ap (λ (l : List Upquery). l ++ upqueries_of more) far.answered
       ∙ append_assoc far_in (upqueries_of before.posts) (upqueries_of more)
-      ∙ ap (λ (l : List Upquery). far_in ++ l) (sym (upqueries-append before.posts more) ∙ ap upqueries_of split ∙ upqueries-append turn.spent after.posts ∙ ap (λ (l : List Upquery). l ++ upqueries_of after.posts) turn.fits)
+      ∙ ap (λ (l : List Upquery). far_in ++ l)
+      (sym (upqueries-append before.posts more) ∙ ap upqueries_of split ∙ upqueries-append turn.spent after.posts
+      ∙ ap (λ (l : List Upquery). l ++ upqueries_of after.posts) turn.fits)
       ∙ sym (append_assoc far_in turn_in (upqueries_of after.posts))
-      ∙ ap (λ (l : List Upquery). l ++ upqueries_of after.posts) (sym (answers-append far.gained.entries turn.gained.entries))
+      ∙ ap (λ (l : List Upquery). l ++ upqueries_of after.posts)
+      (sym (answers-append far.gained.entries turn.gained.entries))
 
   pub so_far_more : what ≢ turned.Wrong → SoFar first new after.posts fills'
   so_far_more right = record {
@@ -129,19 +156,28 @@ module _ (first old mid new : FlowSeen (List ℕ)) (before after : UnderWaySeen)
   -- none is under way after an idle turn
   all_answered : what ≢ turned.Went → what ≢ turned.Wrong → after.posts ≡ []
   all_answered idle right =
-      let none = idle_none what first.writer.number fills old.source new.source turn.gained.entries fills' idle right turn_on in
+      let none
+      = idle_none what first.writer.number fills old.source new.source turn.gained.entries fills' idle right
+      turn_on in
       ready.oldest (none_kept mid.kept turn.spends.gain turn.spent turn.spends.all (turn.fits ∙ ap upqueries_in none))
 
-  pub turns_end : (fault : Option LoadFault) → MatchOption fault (what ≢ turned.Wrong) (λ it. (it ≡ faults.WrongRows) × (what ≡ turned.Wrong)) → what ≢ turned.Went → TurnsAll first new fills' fault
+  pub turns_end : (fault : Option LoadFault)
+      → MatchOption fault (what ≢ turned.Wrong) (λ it. (it ≡ faults.WrongRows) × (what ≡ turned.Wrong))
+      → what ≢ turned.Went → TurnsAll first new fills' fault
   turns_end fault tells idle = record {
     count = far.count + turn.count;
     gained = with_turn;
     fills_are = fills_on;
-    rounds = λ none. ((rounds_on (tells_right fault what tells none)).0, new.source, (rounds_on (tells_right fault what tells none)).1);
+    rounds = λ none. (
+      (rounds_on (tells_right fault what tells none)).0,
+      new.source,
+      (rounds_on (tells_right fault what tells none)).1,
+    );
     gain = gain_on;
     taken = taken_on;
     answered = λ none. answered_on
-        ∙ ap (λ (l : List Post). upqueries_in (far.gained.entries ++ turn.gained.entries) ++ upqueries_of l) (all_answered idle (tells_right fault what tells none))
+        ∙ ap (λ (l : List Post). upqueries_in (far.gained.entries ++ turn.gained.entries) ++ upqueries_of l)
+        (all_answered idle (tells_right fault what tells none))
         ∙ append-nil (upqueries_in (far.gained.entries ++ turn.gained.entries));
   }
 
@@ -158,20 +194,25 @@ turns_none flow fault = record {
 }
 
 -- the turns of a dataflow that was opened with these tokens
-pub flows_all : (a : Caller) (t : TakerSeen) (first flow : FlowSeen (List ℕ)) (fills : ℕ) (fault : Option LoadFault) (w : Caller) (u : TakerSeen) (guest : GuestSeen)
-    → first.map ≡ a.table → first.writer ≡ a → first.taker ≡ t → w ≡ flow.writer → u ≡ flow.taker → TurnsAll first flow fills fault → Flows a t (record { writer = w; taker = u; fills = fills; fault = fault; guest = guest })
+pub flows_all : (a : Caller) (t : TakerSeen) (first flow : FlowSeen (List ℕ)) (fills : ℕ) (fault : Option LoadFault)
+    (w : Caller) (u : TakerSeen) (guest : GuestSeen)
+    → first.map ≡ a.table → first.writer ≡ a → first.taker ≡ t → w ≡ flow.writer → u ≡ flow.taker
+    → TurnsAll first flow fills fault
+    → Flows a t (record { writer = w; taker = u; fills = fills; fault = fault; guest = guest })
 flows_all a t first flow fills fault w u guest map writes takes w_is u_is turns =
     let keys = ap (λ (x : Table). x.shape.keys) map in
     record {
       count = turns.count;
       gained = gained_from a.table.shape.keys a.table.shape.keys first.writer a w 0 turns.count refl writes
-          (gained_of first.map.shape.keys a.table.shape.keys first.writer flow.writer w 0 turns.count keys w_is turns.gained);
+          (gained_of first.map.shape.keys a.table.shape.keys first.writer flow.writer w 0 turns.count keys w_is
+          turns.gained);
       fills = turns.fills_are;
       rounds = λ none.
           let rounds = turns.rounds none in
           let is : Rounds a.number a.table.shape.keys rounds.0 turns.gained.entries fills rounds.1 =
           subst (λ (n : ℕ). Rounds a.number n rounds.0 turns.gained.entries fills rounds.1) keys
-          (subst (λ (n : ℕ). Rounds n first.map.shape.keys rounds.0 turns.gained.entries fills rounds.1) (ap (λ (c : Caller). c.number) writes) rounds.2) in
+          (subst (λ (n : ℕ). Rounds n first.map.shape.keys rounds.0 turns.gained.entries fills rounds.1)
+          (ap (λ (c : Caller). c.number) writes) rounds.2) in
           (rounds.0, rounds.1, is);
       gain = turns.gain;
       taken = ap (λ (x : TakerSeen). x.taken) u_is ∙ turns.taken ∙ ap (λ (x : TakerSeen). x.taken ++ turns.gain) takes;

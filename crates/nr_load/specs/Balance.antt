@@ -11,9 +11,11 @@ use Rattle.nr_board.specs.Rule.{StartsWith}
 abbrev pub of_all : (Entry → Bool) → Caller → List Caller → ℕ
 of_all test writer readers = count_by test writer.mine + total (λ reader. count_by test reader.mine) readers
 
--- of all callers, the requests that were to be sent are the fills that were done, the requests that were cancelled, and the keys that are asked
+-- of all callers, the requests that were to be sent are the fills that were done, the requests that were cancelled, and
+-- the keys that are asked
 abbrev pub Balances : Caller → List Caller → ℕ → Type 0
-Balances writer readers asked = of_all is_sent writer readers ≡ of_all is_fill writer readers + of_all is_cancel writer readers + asked
+Balances writer readers asked =
+    of_all is_sent writer readers ≡ of_all is_fill writer readers + of_all is_cancel writer readers + asked
 
 -- the token made no call, and forgot nothing
 pub record Stays (old new : Caller) : Type 0 where
@@ -24,4 +26,7 @@ pub record Stays (old new : Caller) : Type 0 where
 
 -- nor did any of these
 abbrev pub StaysEach : List Caller → List Caller → Type 0
-StaysEach old new = (length new ≡ length old) × ((at : ℕ) (other : Caller) → at < length old → Stays (slice_index_or old at other) (slice_index_or new at other))
+StaysEach old new =
+    (length new ≡ length old)
+    × ((at : ℕ) (other : Caller) → at < length old
+    → Stays (slice_index_or old at other) (slice_index_or new at other))

@@ -1,5 +1,6 @@
 -- The base table of a load, and the writer's calls that keep the map up with it.
-use Rattle.std.specs.Prelude.{◌≡◌, ◌==◌, ◌<◌, ◌+◌, ◌%◌, ℕ, zero, suc, Bool, true, false, List, [], ◌∷◌, ◌++◌, MatchBool, length, replicate, slice_index, slice_set, Option, None, Some}
+use Rattle.std.specs.Prelude.{◌≡◌, ◌==◌, ◌<◌, ◌+◌, ◌%◌, ℕ, zero, suc, Bool, true, false, List, [], ◌∷◌, ◌++◌, MatchBool}
+use Rattle.std.specs.Prelude.{length, replicate, slice_index, slice_set, Option, None, Some}
 use Rattle.nr_model.specs.declared.rows.Row.{Row}
 use Rattle.nr_model.specs.declared.batches.Delta.{Delta}
 use Rattle.nr_model.specs.declared.calls.Call.TheVariants as call
@@ -19,7 +20,8 @@ base_deltas key x = record { plus = false; row = row_of key x } ∷ record { plu
 
 -- a base with these numbers gives the one row of a key, whatever the bound, and stays as it is
 abbrev pub GivesRow : List ℕ → (key bound : ℕ) → List Row → List ℕ → Type 0
-GivesRow base key bound rows base' = (base' ≡ base) × (key < length base → rows ≡ row_of key (slice_index base key) ∷ [])
+GivesRow base key bound rows base' =
+    (base' ≡ base) × (key < length base → rows ≡ row_of key (slice_index base key) ∷ [])
 
 -- it gives rows each time
 abbrev pub FailsNever : List ℕ → (key bound : ℕ) → List ℕ → Type 0
@@ -28,13 +30,16 @@ FailsNever base key bound base' = ⊥
 -- a step adds one to the number in the key's row, unless that is the last one
 abbrev pub StepsBase : ℕ → List ℕ → List ℕ → Option (List Delta) → Type 0
 StepsBase key base base' None = (slice_index base key ≡ last_count) × (base' ≡ base)
-StepsBase key base base' (Some batch) = (slice_index base key < last_count) × (batch ≡ base_deltas key (slice_index base key)) × (base' ≡ slice_set base key (slice_index base key + 1))
+StepsBase key base base' (Some batch) =
+    (slice_index base key < last_count) × (batch ≡ base_deltas key (slice_index base key))
+    × (base' ≡ slice_set base key (slice_index base key + 1))
 
 abbrev pub applies : ℕ → ℕ → Option (List Delta) → List Entry
 applies by key None = []
 applies by key (Some batch) = entry by (call.Update key batch) reply.Done ∷ []
 
--- what becomes of a key after the fill of that number: at each fourth it is evicted, else it takes a step, in the base and then in the map
+-- what becomes of a key after the fill of that number: at each fourth it is evicted, else it takes a step, in the base
+-- and then in the map
 abbrev pub Changes : (by fills key : ℕ) → List Entry → List ℕ → List ℕ → Type 0
 Changes by fills key later base base' = MatchBool (fills % 4 == 0)
     (((answer : Reply) × (later ≡ entry by (call.Evict key) answer ∷ [])) × (base' ≡ base))
@@ -42,11 +47,13 @@ Changes by fills key later base base' = MatchBool (fills % 4 == 0)
 
 -- what follows a fill that was done, and one that wasn't
 abbrev pub FollowsBase : (by key : ℕ) → Bool → List Entry → (fills : ℕ) → List ℕ → ℕ → List ℕ → Type 0
-FollowsBase by key true later fills base fills' base' = (fills' ≡ capped (fills + 1)) × Changes by fills' key later base base'
+FollowsBase by key true later fills base fills' base' =
+    (fills' ≡ capped (fills + 1)) × Changes by fills' key later base base'
 FollowsBase by key false later fills base fills' base' = (fills' ≡ fills) × (later ≡ []) × (base' ≡ base)
 
 -- one trigger: the key is filled with the row that the base has, and where that is done, something becomes of the key
-pub record IsRound (by : ℕ) (round : List Entry) (fills : ℕ) (base : List ℕ) (fills' : ℕ) (base' : List ℕ) : Type 0 where
+pub record IsRound (by : ℕ) (round : List Entry) (fills : ℕ) (base : List ℕ) (fills' : ℕ) (base' : List ℕ) : Type
+    0 where
   pub key : ℕ
   pub near : key < length base
   pub number : ℕ

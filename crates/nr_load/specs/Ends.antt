@@ -29,8 +29,12 @@ pub record Ended (map : Table) (seed gets : ℕ) (joined : Joined) : Type 0 wher
 
 -- of these faults, of a refused thread and of gets that were not all made the first named
 abbrev pub first_of : Option LoadFault → Option LoadFault → (is_whole is_all : Bool) → Option LoadFault
-first_of one other is_whole is_all = earlier (earlier (earlier one other) (if is_whole then None else Some faults.Thread)) (if is_all then None else Some faults.WrongRows)
+first_of one other is_whole is_all =
+    earlier (earlier (earlier one other) (if is_whole then None else Some faults.Thread))
+    (if is_all then None else Some faults.WrongRows)
 
 -- the fault that is told of a load that was to make that many gets
 abbrev pub fault_told : ℕ → Joined → Option LoadFault
-fault_told gets joined = first_of (earliest None joined.outcomes.items) joined.flowed.fault joined.is_whole (made_in joined.outcomes.items == gets)
+fault_told gets joined =
+    first_of (earliest None joined.outcomes.items) joined.flowed.fault joined.is_whole
+    (made_in joined.outcomes.items == gets)

@@ -20,11 +20,13 @@ pub record Hears (before : List Entry) (old : Caller) (after : List Entry) (new 
   pub calls : HasCalls after new
   pub heard : HasHeard before new
 
-pub record GathersAll (writer : Caller) (readers : List Caller) (writer' : Caller) (readers' : List Caller) : Type 0 where
+pub record GathersAll (writer : Caller) (readers : List Caller) (writer' : Caller) (readers' : List Caller) : Type
+    0 where
   pub stays : Stays writer writer'
   pub sound : 0 < length readers → IsSound writer'
   pub count : length readers' ≡ length readers
-  pub each : (at : ℕ) (other : Caller) → at < length readers → Hears writer.seen (slice_index_or readers at other) writer'.seen (slice_index_or readers' at other)
+  pub each : (at : ℕ) (other : Caller) → at < length readers
+      → Hears writer.seen (slice_index_or readers at other) writer'.seen (slice_index_or readers' at other)
 
 abbrev pub asked_one : KeyKind → ℕ
 asked_one kind.Hole = 0
@@ -37,7 +39,8 @@ pub record CountsAsked (old new : Caller) (asked : ℕ) : Type 0 where
   pub sound : IsSound old → IsSound new
   pub exact : new.seen ≡ old.seen → asked ≡ total pending (map_seen old).states
 
--- one legal history has exactly the calls of the writer and of the readers, and leaves that many keys asked; it is what the writer knew before its second round
+-- one legal history has exactly the calls of the writer and of the readers, and leaves that many keys asked; it is what
+-- the writer knew before its second round
 pub record IsTally (writer : Caller) (readers : List Caller) (asked : ℕ) : Type 0 where
   pub knower : Caller
   pub table : knower.table ≡ writer.table

@@ -20,7 +20,8 @@ pub record DrawsItsOwn (seed : ℕ) (reader : Caller) (outcome : Outcome) : Type
   pub empty : old.kept ≡ None
   pub ends : new.reader ≡ outcome.reader
   pub generator : Lcg
-  pub works : Works 1000000 reader.table.shape.keys outcome.worked.made (replicate reader.table.shape.keys 0) (stream_of seed reader.number) old generator new outcome.worked.answered (of_gets outcome.worked.fault)
+  pub works : Works 1000000 reader.table.shape.keys outcome.worked.made (replicate reader.table.shape.keys 0)
+      (stream_of seed reader.number) old generator new outcome.worked.answered (of_gets outcome.worked.fault)
 
 -- what a worker says of the reader that it was given
 pub record Serves (seed gets : ℕ) (reader : Caller) (outcome : Outcome) : Type 0 where
@@ -35,24 +36,28 @@ pub record Serves (seed gets : ℕ) (reader : Caller) (outcome : Outcome) : Type
 abbrev pub ServesFirst : ℕ → ℕ → List Caller → List Outcome → Type 0
 ServesFirst seed gets readers [] = Unit {0}
 ServesFirst seed gets [] (outcome ∷ outcomes) = ⊥
-ServesFirst seed gets (reader ∷ readers) (outcome ∷ outcomes) = Serves seed gets reader outcome × ServesFirst seed gets readers outcomes
+ServesFirst seed gets (reader ∷ readers) (outcome ∷ outcomes) =
+    Serves seed gets reader outcome × ServesFirst seed gets readers outcomes
 
 -- the handle carries the promise of that reader's worker
 abbrev pub Carries : ℕ → ℕ → Caller → PromisedHandle Outcome Serving → Type 0
-Carries seed gets reader handle = (handle.promise.seed ≡ seed) × (handle.promise.gets ≡ gets) × (handle.promise.reader.value ≡ reader)
+Carries seed gets reader handle =
+    (handle.promise.seed ≡ seed) × (handle.promise.gets ≡ gets) × (handle.promise.reader.value ≡ reader)
 
 -- the first readers have their handles, in order
 abbrev pub CarriesFirst : ℕ → ℕ → List Caller → List (PromisedHandle Outcome Serving) → Type 0
 CarriesFirst seed gets readers [] = Unit {0}
 CarriesFirst seed gets [] (handle ∷ handles) = ⊥
-CarriesFirst seed gets (reader ∷ readers) (handle ∷ handles) = Carries seed gets reader handle × CarriesFirst seed gets readers handles
+CarriesFirst seed gets (reader ∷ readers) (handle ∷ handles) =
+    Carries seed gets reader handle × CarriesFirst seed gets readers handles
 
 -- each handle was joined, and its promise is kept, in order
 abbrev pub KeptBy : List (PromisedHandle Outcome Serving) → List Outcome → Type 0
 KeptBy [] [] = Unit {0}
 KeptBy [] (outcome ∷ outcomes) = ⊥
 KeptBy (handle ∷ handles) [] = ⊥
-KeptBy (handle ∷ handles) (outcome ∷ outcomes) = Serves handle.promise.seed handle.promise.gets handle.promise.reader.value outcome × KeptBy handles outcomes
+KeptBy (handle ∷ handles) (outcome ∷ outcomes) =
+    Serves handle.promise.seed handle.promise.gets handle.promise.reader.value outcome × KeptBy handles outcomes
 
 abbrev pub reader_of : Outcome → Caller
 reader_of outcome = outcome.reader

@@ -1,4 +1,5 @@
--- The triggers that the dataflow took ahead of its turns, and how they are answered: none is lost, and the oldest comes first.
+-- The triggers that the dataflow took ahead of its turns, and how they are answered: none is lost, and the oldest comes
+-- first.
 use Rattle.std.specs.Prelude.{◌≡◌, ◌<◌, ◌⊎◌, ◌++◌, ℕ, nat_lt, if◌then◌else◌, List, [], ◌∷◌, length, map, None}
 use Rattle.nr_model.specs.declared.calls.Call.{Call}
 use Rattle.nr_model.specs.declared.calls.Call.TheVariants as call
@@ -31,7 +32,8 @@ pub record OnlyTakes (old new : FlowSeen (List ℕ)) : Type 0 where
   pub source : new.source ≡ old.source
 
 -- what was taken is under way behind what was
-pub record TakesMore (old : FlowSeen (List ℕ)) (before : UnderWaySeen) (new : FlowSeen (List ℕ)) (after : UnderWaySeen) : Type 0 where
+pub record TakesMore (old : FlowSeen (List ℕ)) (before : UnderWaySeen) (new : FlowSeen (List ℕ))
+    (after : UnderWaySeen) : Type 0 where
   pub only : OnlyTakes old new
   pub none : new.kept ≡ None
   pub gain : List Post
@@ -41,7 +43,8 @@ pub record TakesMore (old : FlowSeen (List ℕ)) (before : UnderWaySeen) (new : 
   pub near : AreBelow old.map.shape.keys after.posts
 
 -- as many are taken as may be under way, or none is left in the queue; the oldest is kept for the next turn
-pub record Readies (old : FlowSeen (List ℕ)) (before : UnderWaySeen) (new : FlowSeen (List ℕ)) (after : UnderWaySeen) : Type 0 where
+pub record Readies (old : FlowSeen (List ℕ)) (before : UnderWaySeen) (new : FlowSeen (List ℕ))
+    (after : UnderWaySeen) : Type 0 where
   pub only : OnlyTakes old new
   pub gain : List Post
   pub taken : new.taker.taken ≡ old.taker.taken ++ gain

@@ -18,12 +18,14 @@ answers Barred = 0
 
 -- rows that are news: the one row of the key, not below what was known of it; from then on that is known
 abbrev pub AreNews : ℕ → List Row → List ℕ → List ℕ → Type 0
-AreNews key rows known known' = (x : ℕ) × (rows ≡ row_of key x ∷ []) × (slice_index known key ≤ x) × (known' ≡ slice_set known key x)
+AreNews key rows known known' =
+    (x : ℕ) × (rows ≡ row_of key x ∷ []) × (slice_index known key ≤ x) × (known' ≡ slice_set known key x)
 
 -- what is told of a get, by how it ended and its rows
 abbrev pub Judged : ℕ → Got → List Row → List ℕ → List ℕ → Option LoadFault → Type 0
 Judged key Rows rows known known' None = AreNews key rows known known'
-Judged key Rows rows known known' (Some fault) = (fault ≡ faults.WrongRows) × (known' ≡ known) × ((later : List ℕ) → AreNews key rows known later → ⊥)
+Judged key Rows rows known known' (Some fault) =
+    (fault ≡ faults.WrongRows) × (known' ≡ known) × ((later : List ℕ) → AreNews key rows known later → ⊥)
 Judged key GaveUp rows known known' fault = (fault ≡ None) × (known' ≡ known)
 Judged key Barred rows known known' fault = (fault ≡ Some faults.Barred) × (known' ≡ known)
 
@@ -37,11 +39,15 @@ abbrev pub TellsOne : Option LoadFault → Option LoadFault → Option LoadFault
 TellsOne None others all more = all ≡ others
 TellsOne (Some fault) others all more = (all ≡ Some fault) × (others ≡ None) × (more ≡ 0)
 
--- a get of each of the next that many drawn keys, in order, and nothing else; that many were answered with rows, and a fault of one was told, which is the last
-abbrev pub Works : (tries keys made : ℕ) → List ℕ → Lcg → Hands → Lcg → Hands → (answered : ℕ) → Option LoadFault → Type 0
-Works tries keys zero known generator old generator' new answered fault = (answered ≡ 0) × (fault ≡ None) × (new ≡ old) × (generator' ≡ generator)
+-- a get of each of the next that many drawn keys, in order, and nothing else; that many were answered with rows, and a
+-- fault of one was told, which is the last
+abbrev pub Works : (tries keys made : ℕ) → List ℕ → Lcg → Hands → Lcg → Hands → (answered : ℕ) → Option LoadFault
+    → Type 0
+Works tries keys zero known generator old generator' new answered fault =
+    (answered ≡ 0) × (fault ≡ None) × (new ≡ old) × (generator' ≡ generator)
 Works tries keys (suc more) known generator old generator' new answered fault =
-    (got : Got) × (mid : Hands) × (rest : ℕ) × (rows : List Row) × (told : Option LoadFault) × (others : Option LoadFault) × (known' : List ℕ)
+    (got : Got) × (mid : Hands) × (rest : ℕ) × (rows : List Row) × (told : Option LoadFault)
+    × (others : Option LoadFault) × (known' : List ℕ)
     × GetsKey tries (drawn keys generator) old mid got rows
     × Judged (drawn keys generator) got rows known known' told
     × TellsOne told others fault more

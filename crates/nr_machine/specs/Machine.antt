@@ -1,5 +1,6 @@
 -- The machine: the state after an event, the answer to it, and the run of a list of events.
-use Rattle.std.specs.Prelude.{ℕ, Bool, false, ◌-◌, ◌==◌, if◌then◌else◌, List, [], ◌∷◌, ◌++◌, slice_set, fold, Option, Some, None, Result, Ok, Err}
+use Rattle.std.specs.Prelude.{ℕ, Bool, false, ◌-◌, ◌==◌, if◌then◌else◌, List, [], ◌∷◌, ◌++◌, slice_set, fold, Option}
+use Rattle.std.specs.Prelude.{Some, None, Result, Ok, Err}
 use Rattle.nr_machine.specs.declared.shape.Shape.{Shape}
 use Rattle.nr_machine.specs.declared.calls.WriterCall.{WriterCall}
 use Rattle.nr_machine.specs.declared.calls.Refusal.{Refusal}
@@ -12,7 +13,8 @@ use Rattle.nr_machine.specs.declared.places.Hold.{Hold}
 use Rattle.nr_machine.specs.declared.places.Hold.TheVariants.{Nothing, On}
 use Rattle.nr_machine.specs.declared.roles.Desk.{Desk}
 use Rattle.nr_words.specs.KeyWords.{is_filled, has_ask, slot_of}
-use Rattle.nr_machine.specs.States.{State, Event, Arrive, Read, Depart, Ask, FindAgain, Start, Go, opening_state, word, hold_of}
+use Rattle.nr_machine.specs.States.{State, Event, Arrive, Read, Depart, Ask, FindAgain, Start, Go, opening_state, word}
+use Rattle.nr_machine.specs.States.{hold_of}
 use Rattle.nr_machine.specs.Slots.{names_slot}
 use Rattle.nr_machine.specs.Refusals.{refusal}
 use Rattle.nr_machine.specs.Operations.{target_of, becomes, operation}
@@ -56,7 +58,9 @@ found_by state event = word state (target_of (operation state event))
 abbrev pub moved : State → Event → State
 moved state event = record {
   shape = state.shape;
-  words = slice_set state.words (target_of (operation state event)) (becomes (operation state event) (found_by state event));
+  words =
+      slice_set state.words (target_of (operation state event))
+      (becomes (operation state event) (found_by state event));
   holds = holds_after state event (found_by state event);
   desk = desk_after state event (found_by state event);
   made = state.made ++ operation state event ∷ [];
@@ -86,7 +90,8 @@ abbrev pub asked_at : ℕ → AskReply
 asked_at found = (if is_filled found then Filled else (if has_ask found then Waiting else Send (slot_of found)))
 
 abbrev pub arrive_answer : State → ℕ → ℕ → Result Arrived Refusal
-arrive_answer state reader key = or_refusal (refusal state (Arrive reader key)) (arrived_at (found_by state (Arrive reader key)))
+arrive_answer state reader key =
+    or_refusal (refusal state (Arrive reader key)) (arrived_at (found_by state (Arrive reader key)))
 
 abbrev pub read_answer : State → ℕ → ℕ → Result ℕ Refusal
 read_answer state reader index = or_refusal (refusal state (Read reader index)) (found_by state (Read reader index))
@@ -104,12 +109,16 @@ names_held (On slot size) found = names_slot slot found
 
 -- whether the key has the set that the reader holds, or the refusal
 abbrev pub find_again_answer : State → ℕ → ℕ → Result Bool Refusal
-find_again_answer state reader key = or_refusal (refusal state (FindAgain reader key)) (names_held (hold_of state reader) (found_by state (FindAgain reader key)))
+find_again_answer state reader key =
+    or_refusal (refusal state (FindAgain reader key))
+    (names_held (hold_of state reader) (found_by state (FindAgain reader key)))
 
 -- what the first step of a call of the writer comes to, or the refusal
 abbrev pub start_answer : State → WriterCall → Result Step Refusal
-start_answer state call = or_refusal (refusal state (Start call)) (step_in (looked state.shape state.desk call (found_by state (Start call))))
+start_answer state call =
+    or_refusal (refusal state (Start call)) (step_in (looked state.shape state.desk call (found_by state (Start call))))
 
 -- what the next step of the call comes to, or the refusal
 abbrev pub go_answer : State → Result Step Refusal
-go_answer state = or_refusal (refusal state Go) (step_in (went state.shape state.desk state.desk.place (found_by state Go)))
+go_answer state =
+    or_refusal (refusal state Go) (step_in (went state.shape state.desk state.desk.place (found_by state Go)))

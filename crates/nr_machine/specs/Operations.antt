@@ -1,5 +1,6 @@
 -- The one operation on one word that each event is.
-use Rattle.std.specs.Prelude.{List, [], bit_or, false, if◌then◌else◌, length, nat_le, slice_index, slice_set, ℕ, ◌%◌, ◌*◌, ◌++◌, ◌+◌, ◌^◌, ◌∷◌}
+use Rattle.std.specs.Prelude.{List, [], bit_or, false, if◌then◌else◌, length, nat_le, slice_index, slice_set, ℕ, ◌%◌}
+use Rattle.std.specs.Prelude.{◌*◌, ◌++◌, ◌+◌, ◌^◌, ◌∷◌}
 use Rattle.nr_machine.specs.declared.operation.Operation.{Operation}
 use Rattle.nr_machine.specs.declared.operation.Operation.TheVariants.{Add, Load, Or, Store, Swap}
 use Rattle.nr_machine.specs.declared.shape.Shape.{Shape}
@@ -10,7 +11,8 @@ use Rattle.nr_words.specs.declared.key_words.TheConstants.{ARRIVE}
 use Rattle.nr_words.specs.KeyWords.{hole_word}
 use Rattle.nr_words.specs.SetWords.{encode}
 use Rattle.nr_machine.specs.Slots.{content, departures}
-use Rattle.nr_machine.specs.States.{Arrive, Ask, Depart, Event, FindAgain, Go, Read, Start, State, hold_of, key_of, number_at, retired_at, slot_in}
+use Rattle.nr_machine.specs.States.{Arrive, Ask, Depart, Event, FindAgain, Go, Read, Start, State, hold_of, key_of}
+use Rattle.nr_machine.specs.States.{number_at, retired_at, slot_in}
 use Rattle.nr_words.specs.KeyWords.{naming}
 
 -- the word that the operation is on
@@ -49,7 +51,8 @@ going shape desk (Leaving key) = Swap key (hole_word (number_at desk key) false)
 going shape desk (Withdrawing key) = Swap key (hole_word (number_at desk key + 1) false)
 going shape desk (Searching call rows poll) = Load (departures shape (retired_at desk poll).slot)
 going shape desk (Putting call rows slot departed index) =
-    (if nat_le index (2 * length rows) then Store (content shape slot index) (slice_index (encode rows) index) else Swap (key_of call) (naming slot departed))
+    (if nat_le index (2 * length rows) then Store (content shape slot index) (slice_index (encode rows) index) else Swap
+    (key_of call) (naming slot departed))
 
 abbrev pub operation : State → Event → Operation
 operation state (Arrive reader key) = Add key ARRIVE

@@ -7,7 +7,9 @@ use Rattle.nr_machine.specs.declared.calls.Step.{Step}
 use Rattle.nr_machine.specs.declared.calls.Step.TheVariants as step
 use Rattle.nr_machine.specs.declared.calls.WReply.TheVariants as writer
 use Rattle.nr_machine.specs.declared.outcome.Outcome.{Outcome}
-use Rattle.nr_machine.specs.declared.outcome.Outcome.TheVariants.{Going, NoSlot, Rows, Hole, Done, NotAsked, Stale, Already, Dropped, NoRow, TooMany, Evicted, Nothing, Cancelled, Worn}
+use Rattle.nr_machine.specs.declared.outcome.Outcome.TheVariants.{Going, NoSlot, Rows, Hole, Done, NotAsked, Stale}
+use Rattle.nr_machine.specs.declared.outcome.Outcome.TheVariants.{Already, Dropped, NoRow, TooMany, Evicted, Nothing}
+use Rattle.nr_machine.specs.declared.outcome.Outcome.TheVariants.{Cancelled, Worn}
 use Rattle.nr_machine.specs.Writer.{ended}
 
 -- the answer, where a find found these rows

@@ -1,4 +1,5 @@
--- The parts in which the machine keeps its state. The writer's stage in its call is numbers alone, and beside it the call, the set that it puts and the words that it has read.
+-- The parts in which the machine keeps its state. The writer's stage in its call is numbers alone, and beside it the
+-- call, the set that it puts and the words that it has read.
 use Rattle.std.specs.Prelude.{ℕ, List}
 use Rattle.nr_model.specs.declared.rows.Row.{Row}
 use Rattle.nr_machine.specs.declared.calls.WriterCall.{WriterCall}
@@ -21,9 +22,23 @@ placed (stage.Putting slot departed index) call rows got = Putting call rows slo
 -- the state that the machine is in
 abbrev pub machine_state : Machine → State
 machine_state machine = record {
-  shape = record { keys = machine.layout.keys; slots = machine.layout.slots; readers = machine.readers; first_count = machine.first_count; first_number = machine.first_number; rows = machine.layout.rows };
+  shape =
+      record {
+        keys = machine.layout.keys;
+        slots = machine.layout.slots;
+        readers = machine.readers;
+        first_count = machine.first_count;
+        first_number = machine.first_number;
+        rows = machine.layout.rows;
+      };
   words = machine.words.cells;
   holds = machine.holds.items;
-  desk = record { place = placed machine.stage machine.call machine.rows machine.got; fresh = machine.spare.fresh; retired = machine.spare.retired; numbers = machine.spare.numbers };
+  desk =
+      record {
+        place = placed machine.stage machine.call machine.rows machine.got;
+        fresh = machine.spare.fresh;
+        retired = machine.spare.retired;
+        numbers = machine.spare.numbers;
+      };
   made = machine.words.made;
 }

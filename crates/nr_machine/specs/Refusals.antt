@@ -54,10 +54,18 @@ if_not_busy (Putting call rows slot departed index) = None
 
 -- why an event is refused, if it is
 abbrev pub refusal : State → Event → Option Refusal
-refusal state (Arrive reader key) = (if has_reader state.shape reader && has_key state.shape key then if_holding (hold_of state reader) else Some OutOfRange)
-refusal state (Read reader index) = (if has_reader state.shape reader then if_unreadable index (hold_of state reader) else Some OutOfRange)
-refusal state (Depart reader) = (if has_reader state.shape reader then if_not_holding (hold_of state reader) else Some OutOfRange)
-refusal state (Ask reader key) = (if has_reader state.shape reader && has_key state.shape key then if_holding (hold_of state reader) else Some OutOfRange)
-refusal state (FindAgain reader key) = (if has_reader state.shape reader && has_key state.shape key then if_not_holding (hold_of state reader) else Some OutOfRange)
+refusal state (Arrive reader key) =
+    (if has_reader state.shape reader
+    && has_key state.shape key then if_holding (hold_of state reader) else Some OutOfRange)
+refusal state (Read reader index) =
+    (if has_reader state.shape reader then if_unreadable index (hold_of state reader) else Some OutOfRange)
+refusal state (Depart reader) =
+    (if has_reader state.shape reader then if_not_holding (hold_of state reader) else Some OutOfRange)
+refusal state (Ask reader key) =
+    (if has_reader state.shape reader
+    && has_key state.shape key then if_holding (hold_of state reader) else Some OutOfRange)
+refusal state (FindAgain reader key) =
+    (if has_reader state.shape reader
+    && has_key state.shape key then if_not_holding (hold_of state reader) else Some OutOfRange)
 refusal state (Start call) = (if has_key state.shape (key_of call) then if_busy state.desk.place else Some OutOfRange)
 refusal state Go = if_not_busy state.desk.place

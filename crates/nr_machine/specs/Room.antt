@@ -23,8 +23,11 @@ RoomForStep state Idle = Unit {0}
 RoomForStep state (Reading call slot got) = (slot < state.shape.slots) × (length got < slot_room state.shape)
 RoomForStep state (Leaving at) = (at < state.shape.keys) × (length state.desk.retired < state.shape.slots)
 RoomForStep state (Withdrawing at) = (at < state.shape.keys) × (number_at state.desk at < last_number)
-RoomForStep state (Searching call rows poll) = (poll < length state.desk.retired) × ((retired_at state.desk poll).slot < state.shape.slots)
-RoomForStep state (Putting call rows slot departed index) = (key_of call < state.shape.keys) × (length state.desk.retired < state.shape.slots) × (slot < state.shape.slots) × (length rows ≤ bound_of state.shape)
+RoomForStep state (Searching call rows poll) =
+    (poll < length state.desk.retired) × ((retired_at state.desk poll).slot < state.shape.slots)
+RoomForStep state (Putting call rows slot departed index) =
+    (key_of call < state.shape.keys) × (length state.desk.retired < state.shape.slots) × (slot < state.shape.slots)
+    × (length rows ≤ bound_of state.shape)
 
 pub record HasRoom (state : State) : Type 0 where
   pub shape : IsShape state.shape

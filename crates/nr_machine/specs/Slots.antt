@@ -54,4 +54,6 @@ slot_content shape words slot = take (slot_room shape) (drop (content shape slot
 -- the slot's content words are those of the row set
 abbrev pub SlotSpells : Shape → List ℕ → ℕ → List Row → Type 0
 SlotSpells shape words slot rows =
-    IsRowSet (bound_of shape) rows × ((index : ℕ) → index < length (encode rows) → slice_index words (content shape slot index) ≡ slice_index (encode rows) index)
+    IsRowSet (bound_of shape) rows
+    × ((index : ℕ) → index < length (encode rows)
+    → slice_index words (content shape slot index) ≡ slice_index (encode rows) index)

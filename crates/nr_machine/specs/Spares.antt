@@ -1,4 +1,5 @@
--- What the writer keeps beside the words: the slots that no key names, those that were never taken and the retired ones, the number of each key, and which slots were reaped.
+-- What the writer keeps beside the words: the slots that no key names, those that were never taken and the retired
+-- ones, the number of each key, and which slots were reaped.
 use Rattle.std.specs.Prelude.{◌≡◌, ℕ, ◌+◌, ◌-◌, ◌<◌, ◌≤◌, Bool, List, [], ◌∷◌, length, Option, Some, None}
 use Rattle.nr_machine.specs.declared.calls.NoSlot.{NoSlot}
 use Rattle.nr_machine.specs.declared.places.Retired.{Retired}
@@ -19,7 +20,8 @@ none_spare spare = record { live = spare.slots - length spare.retired; held = le
 
 -- the next slot that was never taken, if there is one
 abbrev pub TakesFresh : Spare → Spare → Option ℕ → Type 0
-TakesFresh old new (Some slot) = (old.fresh < old.slots) × (slot ≡ old.fresh) × (new ≡ record old { fresh = old.fresh + 1 })
+TakesFresh old new (Some slot) =
+    (old.fresh < old.slots) × (slot ≡ old.fresh) × (new ≡ record old { fresh = old.fresh + 1 })
 TakesFresh old new None = (old.slots ≤ old.fresh) × (new ≡ old)
 
 -- the oldest retired slot, if there is one

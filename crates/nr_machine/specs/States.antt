@@ -11,7 +11,8 @@ use Rattle.nr_machine.specs.declared.roles.Desk.{Desk}
 use Rattle.nr_machine.specs.declared.operation.Operation.{Operation}
 use Rattle.nr_machine.specs.Slots.{words_at_opening}
 
--- the words in their layout, what the readers 1, 2, .. hold, the writer's desk, and the operations that were made on the words, oldest first
+-- the words in their layout, what the readers 1, 2, .. hold, the writer's desk, and the operations that were made on
+-- the words, oldest first
 pub record State : Type 0 where
   pub shape : Shape
   pub words : List ℕ
@@ -24,7 +25,14 @@ abbrev pub opening_desk : Shape → Desk
 opening_desk shape = record { place = Idle; fresh = 0; retired = []; numbers = replicate shape.keys shape.first_number }
 
 abbrev pub opening_state : Shape → State
-opening_state shape = record { shape = shape; words = words_at_opening shape; holds = replicate shape.readers Nothing; desk = opening_desk shape; made = [] }
+opening_state shape =
+    record {
+      shape = shape;
+      words = words_at_opening shape;
+      holds = replicate shape.readers Nothing;
+      desk = opening_desk shape;
+      made = [];
+    }
 
 -- one attempt of one caller; readers are counted from 1
 pub data Event : Type 0 where

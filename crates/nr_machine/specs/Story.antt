@@ -1,5 +1,6 @@
 -- What a list of events tells: the history of its calls, and the polls of the writer's call in flight.
-use Rattle.std.specs.Prelude.{ℕ, ◌+◌, ◌==◌, Bool, false, if◌then◌else◌, List, [], ◌∷◌, ◌++◌, fold, Option, Some, None, option_map}
+use Rattle.std.specs.Prelude.{ℕ, ◌+◌, ◌==◌, Bool, false, if◌then◌else◌, List, [], ◌∷◌, ◌++◌, fold, Option, Some, None}
+use Rattle.std.specs.Prelude.{option_map}
 use Rattle.nr_model.specs.declared.calls.Call.{Call}
 use Rattle.nr_model.specs.declared.calls.Call.TheVariants as model
 use Rattle.nr_model.specs.declared.calls.Reply.{Reply}
@@ -20,7 +21,8 @@ use Rattle.nr_machine.specs.declared.places.Place.{Place}
 use Rattle.nr_machine.specs.declared.places.Place.TheVariants.{Idle, Reading, Leaving, Withdrawing, Searching, Putting}
 use Rattle.nr_words.specs.KeyWords.{is_filled, has_ask, slot_of, same_count}
 use Rattle.nr_machine.specs.Slots.{bound_of, slot_content}
-use Rattle.nr_machine.specs.States.{Arrive, Ask, Depart, Event, FindAgain, Go, Read, Start, State, hold_of, number_at, opening_state, retired_at, word}
+use Rattle.nr_machine.specs.States.{Arrive, Ask, Depart, Event, FindAgain, Go, Read, Start, State, hold_of, number_at}
+use Rattle.nr_machine.specs.States.{opening_state, retired_at, word}
 use Rattle.nr_words.specs.SetWords.{decode}
 use Rattle.nr_machine.specs.Refusals.{refusal}
 use Rattle.nr_machine.specs.Writer.{looked, step_in, went}
@@ -33,12 +35,15 @@ opening_map shape = opening shape.keys (bound_of shape) shape.first_number
 abbrev pub map_after : Shape → List Entry → PartialMap
 map_after shape history = after (opening_map shape) history
 
--- the key's state that its word shows, with the slot that it names; none where the slot's content words spell no set. A filled key's ticket number stands in the writer's list alone
+-- the key's state that its word shows, with the slot that it names; none where the slot's content words spell no set. A
+-- filled key's ticket number stands in the writer's list alone
 abbrev pub shown : State → ℕ → Option KeyState
 shown state at =
     (if is_filled (word state at)
-    then option_map (λ rows. key.Rows (number_at state.desk at) rows) (decode (slot_content state.shape state.words (slot_of (word state at))))
-    else Some (if has_ask (word state at) then key.Asked (slot_of (word state at)) else key.Hole (slot_of (word state at))))
+    then option_map (λ rows. key.Rows (number_at state.desk at) rows)
+    (decode (slot_content state.shape state.words (slot_of (word state at))))
+    else Some
+    (if has_ask (word state at) then key.Asked (slot_of (word state at)) else key.Hole (slot_of (word state at))))
 
 -- a call of the writer as the model's call
 abbrev pub call_of : WriterCall → Call
@@ -72,14 +77,19 @@ ending_at (Withdrawing at) step = ending (model.Cancel at) step
 ending_at (Searching call rows poll) step = ending (call_of call) step
 ending_at (Putting call rows slot departed index) step = ending (call_of call) step
 
--- the calls that take effect in an event that is not refused: a find at its arrive or where it finds again, a request at its ask
+-- the calls that take effect in an event that is not refused: a find at its arrive or where it finds again, a request
+-- at its ask
 abbrev pub told : State → Event → List Entry
 told state (Arrive reader at) = answering reader (model.Find at) find_reply (shown state at)
 told state (Read reader index) = []
 told state (Depart reader) = []
 told state (Ask reader at) = answering reader (model.Ask at) ask_reply (shown state at)
-told state (FindAgain reader at) = (if names_held (hold_of state reader) (found_by state (FindAgain reader at)) then answering reader (model.Find at) find_reply (shown state at) else [])
-told state (Start call) = ending (call_of call) (step_in (looked state.shape state.desk call (found_by state (Start call))))
+told state (FindAgain reader at) =
+    (if names_held (hold_of state reader) (found_by state (FindAgain reader at)) then answering reader (model.Find at)
+    find_reply (shown state at) else
+    [])
+told state (Start call) =
+    ending (call_of call) (step_in (looked state.shape state.desk call (found_by state (Start call))))
 told state Go = ending_at state.desk.place (step_in (went state.shape state.desk state.desk.place (found_by state Go)))
 
 -- a poll that found its slot held, and the readers that held it then
@@ -94,13 +104,15 @@ is_on slot (On held size) = held == slot
 -- the numbers, from one on, of the readers that hold the slot
 abbrev pub holders_from : ℕ → ℕ → List Hold → List ℕ
 holders_from reader slot [] = []
-holders_from reader slot (hold ∷ holds) = (if is_on slot hold then reader ∷ holders_from (reader + 1) slot holds else holders_from (reader + 1) slot holds)
+holders_from reader slot (hold ∷ holds) =
+    (if is_on slot hold then reader ∷ holders_from (reader + 1) slot holds else holders_from (reader + 1) slot holds)
 
 abbrev pub holders : State → ℕ → List ℕ
 holders state slot = holders_from 1 slot state.holds
 
 abbrev pub poll_at : State → ℕ → Poll
-poll_at state poll = record { slot = (retired_at state.desk poll).slot; holders = holders state (retired_at state.desk poll).slot }
+poll_at state poll =
+    record { slot = (retired_at state.desk poll).slot; holders = holders state (retired_at state.desk poll).slot }
 
 -- the polls of a call that is at a stage, after its next step
 abbrev pub polls_at : State → List Poll → Place → List Poll
@@ -108,7 +120,9 @@ polls_at state polls Idle = polls
 polls_at state polls (Reading call slot got) = polls
 polls_at state polls (Leaving at) = polls
 polls_at state polls (Withdrawing at) = polls
-polls_at state polls (Searching call rows poll) = (if same_count (found_by state Go) (retired_at state.desk poll).arrivals then polls else polls ++ poll_at state poll ∷ [])
+polls_at state polls (Searching call rows poll) =
+    (if same_count (found_by state Go) (retired_at state.desk poll).arrivals then polls else polls ++ poll_at state poll
+    ∷ [])
 polls_at state polls (Putting call rows slot departed index) = polls
 
 -- the polls of the writer's call that found their slots held, after an event; a look begins anew

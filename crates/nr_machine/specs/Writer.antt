@@ -1,5 +1,6 @@
 -- The writer's call: where each of its steps takes it, by the word that the step finds.
-use Rattle.std.specs.Prelude.{Err, List, None, Ok, Option, Result, Some, [], if◌then◌else◌, length, nat_le, nat_lt, remove, slice_index, slice_set, ℕ, ◌*◌, ◌++◌, ◌+◌, ◌-◌, ◌==◌, ◌∷◌}
+use Rattle.std.specs.Prelude.{Err, List, None, Ok, Option, Result, Some, [], if◌then◌else◌, length, nat_le, nat_lt}
+use Rattle.std.specs.Prelude.{remove, slice_index, slice_set, ℕ, ◌*◌, ◌++◌, ◌+◌, ◌-◌, ◌==◌, ◌∷◌}
 use Rattle.nr_model.specs.declared.rows.Row.{Row}
 use Rattle.nr_model.specs.declared.batches.ApplyFault.{ApplyFault}
 use Rattle.nr_model.specs.declared.calls.Reply.{Reply}
@@ -37,37 +38,52 @@ ended answer = Ended (writer.Reply answer)
 
 -- no slot: each is retired, or named by a key
 abbrev pub no_slot : Shape → Desk → Step
-no_slot shape desk = Ended (writer.NoSlot (record { live = shape.slots - length desk.retired; held = length desk.retired }))
+no_slot shape desk =
+    Ended (writer.NoSlot (record { live = shape.slots - length desk.retired; held = length desk.retired }))
 
 -- the desk after the first free slot was taken for the set
 abbrev pub taking_fresh : Shape → Desk → WriterCall → List Row → Desk
-taking_fresh shape desk call rows = record desk { place = Putting call rows desk.fresh shape.first_count 0; fresh = desk.fresh + 1 }
+taking_fresh shape desk call rows =
+    record desk { place = Putting call rows desk.fresh shape.first_count 0; fresh = desk.fresh + 1 }
 
 -- the call takes a free slot for its set, or goes on to poll the retired ones, or there is none
 abbrev pub settled : Shape → Desk → WriterCall → List Row → Desk × Step
 settled shape desk call rows =
     (if nat_lt desk.fresh shape.slots
     then (taking_fresh shape desk call rows, Going)
-    else (if length desk.retired == 0 then (moved_to desk Idle, no_slot shape desk) else (moved_to desk (Searching call rows 0), Going)))
+    else
+    (if length desk.retired == 0 then (moved_to desk Idle, no_slot shape desk) else
+    (moved_to desk (Searching call rows 0), Going)))
 
--- a fill, and a cancel, whose look found the key asked with that number: the request is answered by its own number alone, and the last number cannot be taken back
+-- a fill, and a cancel, whose look found the key asked with that number: the request is answered by its own number
+-- alone, and the last number cannot be taken back
 abbrev pub fill_asked : Shape → Desk → WriterCall → ℕ → List Row → ℕ → Desk × Step
-fill_asked shape desk call number rows asked = (if asked == number then settled shape desk call rows else (moved_to desk Idle, ended reply.Stale))
+fill_asked shape desk call number rows asked =
+    (if asked == number then settled shape desk call rows else (moved_to desk Idle, ended reply.Stale))
 
 abbrev pub cancel_asked : Desk → ℕ → ℕ → Desk × Step
-cancel_asked desk key asked = (if nat_lt asked last_number then (moved_to desk (Withdrawing key), Going) else (moved_to desk Idle, ended reply.Worn))
+cancel_asked desk key asked =
+    (if nat_lt asked last_number then (moved_to desk (Withdrawing key), Going) else
+    (moved_to desk Idle, ended reply.Worn))
 
 -- the look, the first step of each call
 abbrev pub looked : Shape → Desk → WriterCall → ℕ → Desk × Step
-looked shape desk (Find key) word = (if is_filled word then (moved_to desk (Reading (Find key) (slot_of word) []), Going) else (moved_to desk Idle, ended reply.Hole))
+looked shape desk (Find key) word =
+    (if is_filled word then (moved_to desk (Reading (Find key) (slot_of word) []), Going) else
+    (moved_to desk Idle, ended reply.Hole))
 looked shape desk (Fill key number rows) word =
     (if is_filled word
     then (moved_to desk Idle, ended reply.Already)
-    else (if has_ask word then fill_asked shape desk (Fill key number rows) number rows (slot_of word) else (moved_to desk Idle, ended reply.NotAsked)))
+    else
+    (if has_ask word then fill_asked shape desk (Fill key number rows) number rows (slot_of word) else
+    (moved_to desk Idle, ended reply.NotAsked)))
 looked shape desk (Update key batch) word =
-    (if is_filled word then (moved_to desk (Reading (Update key batch) (slot_of word) []), Going) else (moved_to desk Idle, ended reply.Dropped))
-looked shape desk (Replace key rows) word = (if is_filled word then settled shape desk (Replace key rows) rows else (moved_to desk Idle, ended reply.Dropped))
-looked shape desk (Evict key) word = (if is_filled word then (moved_to desk (Leaving key), Going) else (moved_to desk Idle, ended reply.Nothing))
+    (if is_filled word then (moved_to desk (Reading (Update key batch) (slot_of word) []), Going) else
+    (moved_to desk Idle, ended reply.Dropped))
+looked shape desk (Replace key rows) word =
+    (if is_filled word then settled shape desk (Replace key rows) rows else (moved_to desk Idle, ended reply.Dropped))
+looked shape desk (Evict key) word =
+    (if is_filled word then (moved_to desk (Leaving key), Going) else (moved_to desk Idle, ended reply.Nothing))
 looked shape desk (Cancel key) word =
     (if is_filled word
     then (moved_to desk Idle, ended reply.Nothing)
@@ -95,21 +111,25 @@ decoded shape desk call (Some rows) = decided shape desk call rows
 -- a read, after which the call has read these words of the slot
 abbrev pub read_on : Shape → Desk → WriterCall → ℕ → List ℕ → Desk × Step
 read_on shape desk call slot got =
-    (if length got == 2 * slice_index got 0 + 1 then decoded shape desk call (decode got) else (moved_to desk (Reading call slot got), Going))
+    (if length got == 2 * slice_index got 0
+    + 1 then decoded shape desk call (decode got) else (moved_to desk (Reading call slot got), Going))
 
 -- the desk after the retired slot at an index was taken for the set, whose departures were found
 abbrev pub taking_retired : Desk → WriterCall → List Row → ℕ → ℕ → Desk
-taking_retired desk call rows poll found = record desk { place = Putting call rows (retired_at desk poll).slot found 0; retired = remove desk.retired poll }
+taking_retired desk call rows poll found =
+    record desk { place = Putting call rows (retired_at desk poll).slot found 0; retired = remove desk.retired poll }
 
 -- a poll that found its slot held
 abbrev pub polls_on : Shape → Desk → WriterCall → List Row → ℕ → Desk × Step
 polls_on shape desk call rows poll =
-    (if nat_lt (poll + 1) (length desk.retired) then (moved_to desk (Searching call rows (poll + 1)), Going) else (moved_to desk Idle, no_slot shape desk))
+    (if nat_lt (poll + 1) (length desk.retired) then (moved_to desk (Searching call rows (poll + 1)), Going) else
+    (moved_to desk Idle, no_slot shape desk))
 
 -- a poll of the retired slot at an index of the list: where its departures are its arrivals, no reader holds it
 abbrev pub polled : Shape → Desk → WriterCall → List Row → ℕ → ℕ → Desk × Step
 polled shape desk call rows poll found =
-    (if same_count found (retired_at desk poll).arrivals then (taking_retired desk call rows poll found, Going) else polls_on shape desk call rows poll)
+    (if same_count found (retired_at desk poll).arrivals then (taking_retired desk call rows poll found, Going) else
+    polls_on shape desk call rows poll)
 
 -- the slot that a word named, with its arrivals
 abbrev pub unnamed : ℕ → List Retired
@@ -126,7 +146,8 @@ withdrawn desk key = record desk { place = Idle; numbers = slice_set desk.number
 -- a put, or after the last put the publish
 abbrev pub put_on : Desk → WriterCall → List Row → ℕ → ℕ → ℕ → ℕ → Desk × Step
 put_on desk call rows slot departed index found =
-    (if nat_le index (2 * length rows) then (moved_to desk (Putting call rows slot departed (index + 1)), Going) else (swapped desk found, ended reply.Done))
+    (if nat_le index (2 * length rows) then (moved_to desk (Putting call rows slot departed (index + 1)), Going) else
+    (swapped desk found, ended reply.Done))
 
 -- the writer's next step from a stage
 abbrev pub went : Shape → Desk → Place → ℕ → Desk × Step

@@ -1,12 +1,14 @@
 -- What a history has of each key, summed over all keys; and that a beginning which is at least and at most is all.
-use Rattle.std.proofs.Common.{◌≡◌, ◌≢◌, ℕ, ◌+◌, ◌&&◌, Bool, false, cond, List, [], ◌∷◌, ◌++◌, get_or, length, refl, sym, ap, ◌∙◌, arith, append-nil, length-append, ne_eqb}
+use Rattle.std.proofs.Common.{◌≡◌, ◌≢◌, ℕ, ◌+◌, ◌&&◌, Bool, false, cond, List, [], ◌∷◌, ◌++◌, get_or, length, refl, sym}
+use Rattle.std.proofs.Common.{ap, ◌∙◌, arith, append-nil, length-append, ne_eqb}
 use Rattle.std.specs.List.{count_by}
 use Rattle.nr_model.proofs.HistoryLemmas.{count_by-cons, sends_are_answered_lem}
 use Rattle.nr_model.specs.declared.calls.Call.{Call}
 use Rattle.nr_model.specs.declared.calls.Call.TheVariants as model
 use Rattle.nr_model.specs.declared.states.KeyState.{KeyState}
 use Rattle.nr_model.specs.declared.states.KeyState.TheVariants as states
-use Rattle.nr_model.specs.Histories.{Entry, asks, cancels, cancels_key, fills, fills_key, is_cancelled, is_done, is_send, sends}
+use Rattle.nr_model.specs.Histories.{Entry, asks, cancels, cancels_key, fills, fills_key, is_cancelled, is_done}
+use Rattle.nr_model.specs.Histories.{is_send, sends}
 use Rattle.nr_model.specs.Laws.{pending}
 use Rattle.nr_model.specs.Maps.{call_key, state_of}
 use Rattle.nr_core.proofs.Histories.{length-now}
@@ -20,20 +22,33 @@ use Rattle.nr_board.specs.Entries.{AreCallers}
 use Rattle.nr_map.specs.Rounds.{BeginningsMeet, SendsOfAllKeys, is_cancel, is_fill, is_sent}
 
 -- a test of one key's entries, for each key
-by_keys : (tests : ℕ → Entry → Bool) (shape : Shape) (log : List Entry) → ((key : ℕ) (e : Entry) → key ≢ call_key e.call → tests key e ≡ false) → AreCallers shape log
+by_keys : (tests : ℕ → Entry → Bool) (shape : Shape) (log : List Entry)
+    → ((key : ℕ) (e : Entry) → key ≢ call_key e.call → tests key e ≡ false) → AreCallers shape log
     → below (λ key. count_by (tests key) log) shape.keys ≡ count_by (λ e. tests (call_key e.call) e) log
 by_keys tests shape [] other all = below-zero shape.keys
 by_keys tests shape (e ∷ log) other all =
-    let f : ℕ → ℕ = λ key. count_by (tests key) log in let g : ℕ → ℕ = λ key. count_by (tests key) (e ∷ log) in let own : ℕ = call_key e.call in
+    let f : ℕ → ℕ = λ key. count_by (tests key) log in
+    let g : ℕ → ℕ = λ key. count_by (tests key) (e ∷ log) in
+    let own : ℕ = call_key e.call in
     let change = below-change f g shape.keys own all.0.0 (λ key isnt.
-    let none : cond {A = ℕ} (tests key e) 1 0 ≡ 0 = ap (λ (b : Bool). cond {A = ℕ} b 1 0) (other key e isnt) in let more : g key ≡ cond {A = ℕ} (tests key e) 1 0 + f key = count_by-cons (tests key) e log in omega arith) in
+    let none : cond {A = ℕ} (tests key e) 1 0 ≡ 0 = ap (λ (b : Bool). cond {A = ℕ} b 1 0) (other key e isnt) in
+    let more : g key ≡ cond {A = ℕ} (tests key e) 1 0 + f key = count_by-cons (tests key) e log in
+    omega arith) in
     let here : g own ≡ cond (tests own e) 1 0 + f own = count_by-cons (tests own) e log in
-    omega (arith, change, here, by_keys tests shape log other all.1, count_by-cons (λ (x : Entry). tests (call_key x.call) x) e log)
+    omega (
+      arith,
+      change,
+      here,
+      by_keys tests shape log other all.1,
+      count_by-cons (λ (x : Entry). tests (call_key x.call) x) e log,
+    )
 
 -- a sum over the keys' states
-by_states : (f : KeyState → ℕ) (l : List KeyState) → below (λ key. f (get_or l key (states.Hole 0))) (length l) ≡ total f l
+by_states : (f : KeyState → ℕ) (l : List KeyState)
+    → below (λ key. f (get_or l key (states.Hole 0))) (length l) ≡ total f l
 by_states f [] = refl
-by_states f (state ∷ l) = omega (arith, below-first (λ key. f (get_or (state ∷ l) key (states.Hole 0))) (length l), by_states f l)
+by_states f (state ∷ l) =
+    omega (arith, below-first (λ key. f (get_or (state ∷ l) key (states.Hole 0))) (length l), by_states f l)
 
 asks_other : (key : ℕ) (call : Call) (b : Bool) → key ≢ call_key call → (asks key call && b) ≡ false
 asks_other key (model.Find k) b other = refl
@@ -63,14 +78,27 @@ cancels_other key (model.Evict k) b other = refl
 cancels_other key (model.Cancel k) b other = ap (λ (a : Bool). a && b) (ne_eqb k key (λ e. other (sym e)))
 
 pub sends_of_all_keys_lem : SendsOfAllKeys
-sends_of_all_keys_lem writer readers knows = let shape = writer.table.shape in let log = writer.seen in let keys = length-now shape log in
+sends_of_all_keys_lem writer readers knows =
+    let shape = writer.table.shape in
+    let log = writer.seen in
+    let keys = length-now shape log in
     let waiting : ℕ → ℕ = λ key. pending (state_of (map_after shape log) key) in
-    let sent = by_keys (λ key e. asks key e.call && is_send e.reply) shape log (λ key e. asks_other key e.call (is_send e.reply)) knows.callers in
-    let filled = by_keys (λ key e. fills_key key e.call && is_done e.reply) shape log (λ key e. fills_other key e.call (is_done e.reply)) knows.callers in
-    let cancelled = by_keys (λ key e. cancels_key key e.call && is_cancelled e.reply) shape log (λ key e. cancels_other key e.call (is_cancelled e.reply)) knows.callers in
+    let sent
+    = by_keys (λ key e. asks key e.call && is_send e.reply) shape log
+    (λ key e. asks_other key e.call (is_send e.reply)) knows.callers in
+    let filled
+    = by_keys (λ key e. fills_key key e.call && is_done e.reply) shape log
+    (λ key e. fills_other key e.call (is_done e.reply)) knows.callers in
+    let cancelled
+    = by_keys (λ key e. cancels_key key e.call && is_cancelled e.reply) shape log
+    (λ key e. cancels_other key e.call (is_cancelled e.reply)) knows.callers in
     let answered : ℕ → ℕ = λ key. fills log key + cancels log key in
-    let each = below-same (sends log) (λ key. answered key + waiting key) shape.keys (λ key near. sends_are_answered_lem shape.keys (bound_of shape) shape.first_number key log knows.legal near) in
-    let pends : below waiting shape.keys ≡ total pending (map_after shape log).states = ap (below waiting) (sym keys) ∙ by_states pending (map_after shape log).states in
+    let each
+    = below-same (sends log) (λ key. answered key + waiting key) shape.keys
+    (λ key near. sends_are_answered_lem shape.keys (bound_of shape) shape.first_number key log knows.legal
+    near) in
+    let pends : below waiting shape.keys ≡ total pending (map_after shape log).states
+    = ap (below waiting) (sym keys) ∙ by_states pending (map_after shape log).states in
     omega (
       arith,
       sent,
@@ -86,8 +114,16 @@ sends_of_all_keys_lem writer readers knows = let shape = writer.table.shape in l
 
 pub beginnings_meet_lem : BeginningsMeet
 beginnings_meet_lem one other longer shorter =
-    let twice : one ≡ (one ++ shorter.rest) ++ longer.rest = longer.is ∙ ap (λ (l : List Entry). l ++ longer.rest) shorter.is in
-    let none : longer.rest ≡ [] = no_more longer.rest (omega (arith, ap length twice, length-append (one ++ shorter.rest) longer.rest, length-append one shorter.rest)) in
+    let twice : one ≡ (one ++ shorter.rest) ++ longer.rest
+    = longer.is ∙ ap (λ (l : List Entry). l ++ longer.rest) shorter.is in
+    let none : longer.rest ≡ []
+    = no_more longer.rest
+    (omega (
+      arith,
+      ap length twice,
+      length-append (one ++ shorter.rest) longer.rest,
+      length-append one shorter.rest,
+    )) in
     longer.is ∙ ap (λ (l : List Entry). other ++ l) none ∙ append-nil other
   where
     no_more : (l : List Entry) → length l ≡ 0 → l ≡ []

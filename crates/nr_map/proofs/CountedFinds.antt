@@ -12,8 +12,12 @@ has_none reader none = le-ltb (reader.number - 1) reader.table.announcers (omega
 
 pub finds_by_counts_lem : FindsByCounts
 finds_by_counts_lem more key rows old new none = (
-  (λ finds. let two : finds.steps ≡ 2 = (subst (λ (b : Bool). HeldIn b finds.named finds.says finds.steps) (has_none old none) finds.holds_in).2 in
+  (λ finds.
+      let two : finds.steps ≡ 2
+      = (subst (λ (b : Bool). HeldIn b finds.named finds.says finds.steps) (has_none old none) finds.holds_in).2 in
       subst (λ (n : ℕ). Gains (n + more) (model.Find key) old new (reply.Rows rows)) two finds.gains),
-  (λ finds. let one : finds.steps ≡ 1 = (subst (λ (b : Bool). HoleIn b finds.named finds.steps) (has_none old none) finds.finds_in).1 in
+  (λ finds.
+      let one : finds.steps ≡ 1
+      = (subst (λ (b : Bool). HoleIn b finds.named finds.steps) (has_none old none) finds.finds_in).1 in
       subst (λ (n : ℕ). Gains (n + more) (model.Find key) old new reply.Hole) one finds.gains),
 )

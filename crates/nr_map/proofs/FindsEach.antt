@@ -1,5 +1,6 @@
 -- Finds of many keys, as a loop makes them one by one.
-use Rattle.std.proofs.Common.{◌≡◌, ℕ, ◌+◌, ◌<◌, ◌≤◌, List, [], ◌∷◌, ◌++◌, length, take, drop, set, get_or, refl, sym, ap, ◌∙◌, subst, arith, append-nil}
+use Rattle.std.proofs.Common.{◌≡◌, ℕ, ◌+◌, ◌<◌, ◌≤◌, List, [], ◌∷◌, ◌++◌, length, take, drop, set, get_or, refl, sym}
+use Rattle.std.proofs.Common.{ap, ◌∙◌, subst, arith, append-nil}
 use Rattle.std.proofs.lemmas.List.{drop_all, drop_more, drop-set-lt, length-set, take_all, take_more_set}
 use Rattle.std.proofs.Math.Seq.{append_snoc}
 use Rattle.nr_model.specs.declared.rows.Row.{Row}
@@ -9,10 +10,12 @@ use Rattle.nr_map.specs.declared.wanted.Wanted.{Wanted}
 use Rattle.nr_map.specs.FindsEach.{FindsList, FindsWanted, LoadsNear, with_loads}
 
 -- that many finds were made: finds of the other keys, which stand there as before, make finds of all
-pub record Begun {Room : Type 0} (shows : Room → List Row → Type 0) (first : Caller) (wanted : List (Wanted Room)) (made : ℕ) (now : Caller) (keys : List (Wanted Room)) : Type 0 where
+pub record Begun {Room : Type 0} (shows : Room → List Row → Type 0) (first : Caller) (wanted : List (Wanted Room))
+    (made : ℕ) (now : Caller) (keys : List (Wanted Room)) : Type 0 where
   pub long : length keys ≡ length wanted
   pub rest : drop made keys ≡ drop made wanted
-  pub on : (last : Caller) (found : List (Wanted Room)) → FindsList shows now (drop made wanted) last found → FindsList shows first wanted last (take made keys ++ found)
+  pub on : (last : Caller) (found : List (Wanted Room)) → FindsList shows now (drop made wanted) last found
+      → FindsList shows first wanted last (take made keys ++ found)
 
 module _ {Room : Type 0} (shows : Room → List Row → Type 0) (first : Caller) (wanted : List (Wanted Room)) where
   pub none_made : Begun shows first wanted 0 first wanted
@@ -20,8 +23,12 @@ module _ {Room : Type 0} (shows : Room → List Row → Type 0) (first : Caller)
 
   module _ (made : ℕ) (now : Caller) (keys : List (Wanted Room)) (begun : Begun shows first wanted made now keys) where
     module _ (one : Wanted Room) (low : made < length keys) (is : one ≡ get_or keys made one) where
-      tails : (one ∷ drop (made + 1) keys ≡ drop made wanted) × (get_or wanted made one ∷ drop (made + 1) wanted ≡ drop made wanted)
-      tails = (ap (λ (w : Wanted Room). w ∷ drop (made + 1) keys) is ∙ sym (drop_more keys made one low) ∙ begun.rest, sym (drop_more wanted made one (omega (arith, begun.long))))
+      tails : (one ∷ drop (made + 1) keys ≡ drop made wanted)
+          × (get_or wanted made one ∷ drop (made + 1) wanted ≡ drop made wanted)
+      tails = (
+        ap (λ (w : Wanted Room). w ∷ drop (made + 1) keys) is ∙ sym (drop_more keys made one low) ∙ begun.rest,
+        sym (drop_more wanted made one (omega (arith, begun.long))),
+      )
 
       same_rest : drop (made + 1) keys ≡ drop (made + 1) wanted
       same_rest = let here = tails.0 in let there = tails.1 in cc
@@ -30,29 +37,43 @@ module _ {Room : Type 0} (shows : Room → List Row → Type 0) (first : Caller)
       pub as_wanted : one ≡ get_or wanted made one
       as_wanted = let here = tails.0 in let there = tails.1 in cc
 
-      pub one_more : (next : Caller) (found : Wanted Room) → FindsWanted shows now one next found → Begun shows first wanted (made + 1) next (set keys made found)
+      pub one_more : (next : Caller) (found : Wanted Room) → FindsWanted shows now one next found
+          → Begun shows first wanted (made + 1) next (set keys made found)
       one_more next found finds = record {
         long = length-set keys made found ∙ begun.long;
         rest = drop-set-lt (made + 1) keys made found (omega arith) ∙ same_rest;
-        on = λ last others so. let next_too : FindsList shows now (one ∷ drop (made + 1) wanted) last (found ∷ others) = (next, finds, so) in
+        on = λ last others so.
+            let next_too : FindsList shows now (one ∷ drop (made + 1) wanted) last (found ∷ others)
+            = (next, finds, so) in
             subst (λ (l : List (Wanted Room)). FindsList shows first wanted last l)
-            (sym (append_snoc (take made keys) found others) ∙ ap (λ (l : List (Wanted Room)). l ++ others) (sym (take_more_set keys made found low)))
-            (begun.on last (found ∷ others) (subst (λ (l : List (Wanted Room)). FindsList shows now l last (found ∷ others)) (ap (λ (l : List (Wanted Room)). one ∷ l) (sym same_rest) ∙ tails.0) next_too));
+            (sym (append_snoc (take made keys) found others)
+            ∙ ap (λ (l : List (Wanted Room)). l ++ others) (sym (take_more_set keys made found low)))
+            (begun.on last (found ∷ others)
+            (subst (λ (l : List (Wanted Room)). FindsList shows now l last (found ∷ others))
+            (ap (λ (l : List (Wanted Room)). one ∷ l) (sym same_rest) ∙ tails.0) next_too));
       }
 
     pub all_made : length keys ≤ made → FindsList shows first wanted now keys
     all_made end =
-        subst (λ (l : List (Wanted Room)). FindsList shows first wanted now l) (append-nil (take made keys) ∙ take_all made keys end)
-        (begun.on now [] (subst (λ (l : List (Wanted Room)). FindsList shows now l now []) (sym (drop_all made wanted (omega (arith, begun.long)))) refl))
+        subst (λ (l : List (Wanted Room)). FindsList shows first wanted now l)
+        (append-nil (take made keys) ∙ take_all made keys end)
+        (begun.on now
+        [] (subst (λ (l : List (Wanted Room)). FindsList shows now l now [])
+        (sym (drop_all made wanted (omega (arith, begun.long)))) refl))
 
 -- loads add up
 pub no_loads : (caller : Caller) → caller ≡ with_loads 0 caller
 no_loads caller = ap (λ (steps : ℕ). record caller { steps = steps }) (omega arith)
 
-pub loads_both : (first then sum : ℕ) (caller : Caller) → first + then ≡ sum → with_loads then (with_loads first caller) ≡ with_loads sum caller
+pub loads_both : (first then sum : ℕ) (caller : Caller) → first + then ≡ sum
+    → with_loads then (with_loads first caller) ≡ with_loads sum caller
 loads_both first then sum caller is = ap (λ (steps : ℕ). record caller { steps = steps }) (omega (arith, is))
 
 -- loads and then others
-pub loads_then : (first then sum : ℕ) (old between new : MapSeat) → first + then ≡ sum → LoadsNear first old between → LoadsNear then between new → LoadsNear sum old new
-loads_then first then sum old between new is here there =
-    (there.0 ∙ ap (λ (caller : Caller). with_loads then caller) here.0 ∙ loads_both first then sum (token old) is, there.1 ∙ here.1, there.2 ∙ here.2)
+pub loads_then : (first then sum : ℕ) (old between new : MapSeat) → first + then ≡ sum → LoadsNear first old between
+    → LoadsNear then between new → LoadsNear sum old new
+loads_then first then sum old between new is here there = (
+  there.0 ∙ ap (λ (caller : Caller). with_loads then caller) here.0 ∙ loads_both first then sum (token old) is,
+  there.1 ∙ here.1,
+  there.2 ∙ here.2,
+)

@@ -1,5 +1,7 @@
 -- Finds of many keys, as a loop makes them group by group.
-use Rattle.std.proofs.Common.{◌≡◌, ℕ, suc, ◌+◌, ◌*◌, ◌%◌, ◌<◌, ◌≤◌, Bool, cond, min, List, [], ◌∷◌, ◌++◌, length, take, drop, refl, sym, ap, ◌∙◌, subst, arith, append_assoc, append-nil, eq-eqb, ne_eqb, length-append}
+use Rattle.std.proofs.Common.{◌≡◌, ℕ, suc, ◌+◌, ◌*◌, ◌%◌, ◌<◌, ◌≤◌, Bool, cond, min, List, [], ◌∷◌, ◌++◌, length, take}
+use Rattle.std.proofs.Common.{drop, refl, sym, ap, ◌∙◌, subst, arith, append_assoc, append-nil, eq-eqb, ne_eqb}
+use Rattle.std.proofs.Common.{length-append}
 use Rattle.std.proofs.lemmas.List.{drop-drop, drop_all, take_all, take-append-drop, length-take-le}
 use Rattle.std.proofs.Math.Seq.{drop-append_seam, take-append_seam}
 use Rattle.nr_model.specs.declared.rows.Row.{Row}
@@ -9,14 +11,17 @@ use Rattle.nr_map.specs.declared.wanted.Wanted.{Wanted}
 use Rattle.nr_map.specs.FindsEach.{FindsEach, FindsFrom, FindsList, FindsWanted, loads_at, loads_of_key, with_loads}
 
 -- that many keys were found: finds of the other keys, which stand there as before, make finds of all
-pub record Grouped {Room : Type 0} (shows : Room → List Row → Type 0) (first : Caller) (wanted : List (Wanted Room)) (made : ℕ) (now : Caller) (keys : List (Wanted Room)) : Type 0 where
+pub record Grouped {Room : Type 0} (shows : Room → List Row → Type 0) (first : Caller) (wanted : List (Wanted Room))
+    (made : ℕ) (now : Caller) (keys : List (Wanted Room)) : Type 0 where
   pub long : length keys ≡ length wanted
   pub rest : drop made keys ≡ drop made wanted
-  pub on : (last : Caller) (found : List (Wanted Room)) → FindsFrom shows made now (drop made wanted) last found → FindsEach shows first wanted last (take made keys ++ found)
+  pub on : (last : Caller) (found : List (Wanted Room)) → FindsFrom shows made now (drop made wanted) last found
+      → FindsEach shows first wanted last (take made keys ++ found)
 
 module _ {Room : Type 0} (shows : Room → List Row → Type 0) where
   -- a list of finds has as many as there were keys
-  finds_length : (now : Caller) (group : List (Wanted Room)) (next : Caller) (found : List (Wanted Room)) → FindsList shows now group next found → length found ≡ length group
+  finds_length : (now : Caller) (group : List (Wanted Room)) (next : Caller) (found : List (Wanted Room))
+      → FindsList shows now group next found → length found ≡ length group
   finds_length now [] next [] finds = refl
   finds_length now (one ∷ group) next (it ∷ found) finds = ap suc (finds_length finds.0 group next found finds.2)
   finds_length now [] next (it ∷ found) finds = absurd finds
@@ -24,38 +29,52 @@ module _ {Room : Type 0} (shows : Room → List Row → Type 0) where
 
   -- no loads stand before a find within a group
   no_loads_within : (rows groups at left : ℕ) → 0 < at → at < 16 → loads_at rows (groups * 16 + at) left ≡ 0
-  no_loads_within rows groups at left some few = ap (λ (b : Bool). cond {A = ℕ} b (loads_of_key rows * min left 16) 0) (ne_eqb ((groups * 16 + at) % 16) 0 (λ e. absurd (omega (arith, e, some, few))))
+  no_loads_within rows groups at left some few =
+      ap (λ (b : Bool). cond {A = ℕ} b (loads_of_key rows * min left 16) 0)
+      (ne_eqb ((groups * 16 + at) % 16) 0 (λ e. absurd (omega (arith, e, some, few))))
 
   -- the finds of a group but the first ones
-  others_of_group : (groups at : ℕ) (group found rest more : List (Wanted Room)) (now next last : Caller) → 0 < at → at + length group ≤ 16 → FindsList shows now group next found
-      → FindsFrom shows (groups * 16 + (at + length group)) next rest last more → FindsFrom shows (groups * 16 + at) now (group ++ rest) last (found ++ more)
+  others_of_group : (groups at : ℕ) (group found rest more : List (Wanted Room)) (now next last : Caller) → 0 < at
+      → at + length group ≤ 16 → FindsList shows now group next found
+      → FindsFrom shows (groups * 16 + (at + length group)) next rest last more
+      → FindsFrom shows (groups * 16 + at) now (group ++ rest) last (found ++ more)
   others_of_group groups at [] [] rest more now next last some few finds so =
-      subst (λ (now : Caller). FindsFrom shows (groups * 16 + at) now rest last more) finds (subst (λ (place : ℕ). FindsFrom shows place next rest last more) (omega arith) so)
+      subst (λ (now : Caller). FindsFrom shows (groups * 16 + at) now rest last more) finds
+      (subst (λ (place : ℕ). FindsFrom shows place next rest last more) (omega arith) so)
   others_of_group groups at (one ∷ group) (it ∷ found) rest more now next last some few finds so =
       let left : ℕ = length (one ∷ (group ++ rest)) in let long : length (one ∷ group) ≡ suc (length group) = refl in
       let none = no_loads_within now.table.shape.rows groups at left some (omega (arith, few, long)) in (
         finds.0,
-        subst (λ (now : Caller). FindsWanted shows now one finds.0 it) (no_loads now ∙ ap (λ (loads : ℕ). with_loads loads now) (sym none)) finds.1,
+        subst (λ (now : Caller). FindsWanted shows now one finds.0 it)
+            (no_loads now ∙ ap (λ (loads : ℕ). with_loads loads now) (sym none)) finds.1,
         subst (λ (place : ℕ). FindsFrom shows place finds.0 (group ++ rest) last (found ++ more)) (omega arith)
-            (others_of_group groups (at + 1) group found rest more finds.0 next last (omega arith) (omega (arith, few, long)) finds.2
+            (others_of_group groups (at + 1) group found rest more finds.0 next last (omega arith)
+            (omega (arith, few, long)) finds.2
             (subst (λ (place : ℕ). FindsFrom shows place next rest last more) (omega (arith, long)) so)),
       )
   others_of_group groups at [] (it ∷ found) rest more now next last some few finds so = absurd finds
   others_of_group groups at (one ∷ group) [] rest more now next last some few finds so = absurd finds
 
   -- the finds of a group, with its loads before them
-  of_group : (groups : ℕ) (group found rest more : List (Wanted Room)) (now next last : Caller) → 0 < length group → length group ≤ 16 → min (length (group ++ rest)) 16 ≡ length group
+  of_group : (groups : ℕ) (group found rest more : List (Wanted Room)) (now next last : Caller) → 0 < length group
+      → length group ≤ 16 → min (length (group ++ rest)) 16 ≡ length group
       → FindsList shows (with_loads (loads_of_key now.table.shape.rows * length group) now) group next found
-      → FindsFrom shows (groups * 16 + length group) next rest last more → FindsFrom shows (groups * 16) now (group ++ rest) last (found ++ more)
+      → FindsFrom shows (groups * 16 + length group) next rest last more
+      → FindsFrom shows (groups * 16) now (group ++ rest) last (found ++ more)
   of_group groups [] found rest more now next last some few most finds so = absurd (omega (arith, some))
   of_group groups (one ∷ group) [] rest more now next last some few most finds so = absurd finds
   of_group groups (one ∷ group) (it ∷ found) rest more now next last some few most finds so =
-      let left : ℕ = length (one ∷ (group ++ rest)) in let long : length (one ∷ group) ≡ suc (length group) = refl in let each : ℕ = loads_of_key now.table.shape.rows in
+      let left : ℕ = length (one ∷ (group ++ rest)) in
+      let long : length (one ∷ group) ≡ suc (length group) = refl in
+      let each : ℕ = loads_of_key now.table.shape.rows in
       let all : loads_at now.table.shape.rows (groups * 16) left ≡ each * length (one ∷ group) =
-      ap (λ (b : Bool). cond {A = ℕ} b (each * min left 16) 0) (eq-eqb ((groups * 16) % 16) 0 (omega arith)) ∙ ap (λ (n : ℕ). each * n) most in (
+      ap (λ (b : Bool). cond {A = ℕ} b (each * min left 16) 0) (eq-eqb ((groups * 16) % 16) 0 (omega arith))
+      ∙ ap (λ (n : ℕ). each * n) most in (
         finds.0,
-        subst (λ (now : Caller). FindsWanted shows now one finds.0 it) (ap (λ (loads : ℕ). with_loads loads now) (sym all)) finds.1,
-        others_of_group groups 1 group found rest more finds.0 next last (omega arith) (omega (arith, few, long)) finds.2 (subst (λ (place : ℕ). FindsFrom shows place next rest last more) (omega (arith, long)) so),
+        subst (λ (now : Caller). FindsWanted shows now one finds.0 it)
+            (ap (λ (loads : ℕ). with_loads loads now) (sym all)) finds.1,
+        others_of_group groups 1 group found rest more finds.0 next last (omega arith) (omega (arith, few, long))
+            finds.2 (subst (λ (place : ℕ). FindsFrom shows place next rest last more) (omega (arith, long)) so),
       )
 
   module _ (first : Caller) (wanted : List (Wanted Room)) where
@@ -63,16 +82,30 @@ module _ {Room : Type 0} (shows : Room → List Row → Type 0) where
     none_grouped = record { long = refl; rest = refl; on = λ last found so. so }
 
     -- one group more, up to that end
-    pub group_more : (groups end : ℕ) (now : Caller) (keys : List (Wanted Room)) → Grouped shows first wanted (groups * 16) now keys → groups * 16 < length keys → end ≡ min (groups * 16 + 16) (length keys)
-        → (next : Caller) (found : List (Wanted Room)) → (group : List (Wanted Room)) → group ++ drop end keys ≡ drop (groups * 16) keys → length group + groups * 16 ≡ end
-        → FindsList shows (with_loads (loads_of_key now.table.shape.rows * length group) now) group next found → Grouped shows first wanted end next (take (groups * 16) keys ++ (found ++ drop end keys))
+    pub group_more : (groups end : ℕ) (now : Caller) (keys : List (Wanted Room))
+        → Grouped shows first wanted (groups * 16) now keys → groups * 16 < length keys
+        → end ≡ min (groups * 16 + 16) (length keys)
+        → (next : Caller) (found : List (Wanted Room)) → (group : List (Wanted Room))
+        → group ++ drop end keys ≡ drop (groups * 16) keys → length group + groups * 16 ≡ end
+        → FindsList shows (with_loads (loads_of_key now.table.shape.rows * length group) now) group next found
+        → Grouped shows first wanted end next (take (groups * 16) keys ++ (found ++ drop end keys))
     group_more groups end now keys grouped low end_is next found group whole size finds = record {
       long = long_front ∙ grouped.long;
-      rest = ap (λ (l : List (Wanted Room)). drop end l) (sym split) ∙ subst (λ (n : ℕ). drop n (front ++ drop end keys) ≡ drop end keys) front_size (drop-append_seam front (drop end keys)) ∙ same_rest;
-      on = λ last more so. subst (λ (l : List (Wanted Room)). FindsEach shows first wanted last l) (sym (append_assoc (take begin keys) found more) ∙ ap (λ (l : List (Wanted Room)). l ++ more) (sym taken))
-          (grouped.on last (found ++ more) (subst (λ (l : List (Wanted Room)). FindsFrom shows begin now l last (found ++ more)) (ap (λ (l : List (Wanted Room)). group ++ l) (sym same_rest) ∙ whole ∙ grouped.rest)
-          (of_group groups group found (drop end wanted) more now next last (omega (arith, size, end_is, low)) (omega (arith, size, end_is)) most
-          finds (subst (λ (place : ℕ). FindsFrom shows place next (drop end wanted) last more) (omega (arith, size)) so))));
+      rest =
+          ap (λ (l : List (Wanted Room)). drop end l) (sym split)
+          ∙ subst (λ (n : ℕ). drop n (front ++ drop end keys) ≡ drop end keys) front_size
+          (drop-append_seam front (drop end keys))
+          ∙ same_rest;
+      on = λ last more so. subst (λ (l : List (Wanted Room)). FindsEach shows first wanted last l)
+          (sym (append_assoc (take begin keys) found more) ∙ ap (λ (l : List (Wanted Room)). l ++ more) (sym taken))
+          (grouped.on last (found ++ more)
+          (subst (λ (l : List (Wanted Room)). FindsFrom shows begin now l last (found ++ more))
+          (ap (λ (l : List (Wanted Room)). group ++ l) (sym same_rest) ∙ whole ∙ grouped.rest)
+          (of_group groups group found (drop end wanted) more now next last (omega (arith, size, end_is, low))
+          (omega (arith, size, end_is)) most
+          finds
+          (subst (λ (place : ℕ). FindsFrom shows place next (drop end wanted) last more) (omega (arith, size))
+          so))));
     }
       where
         begin : ℕ
@@ -88,29 +121,60 @@ module _ {Room : Type 0} (shows : Room → List Row → Type 0) where
         many = finds_length (with_loads (loads_of_key now.table.shape.rows * length group) now) group next found finds
 
         front_size : length front ≡ end
-        front_size = omega (arith, length-append (take begin keys) found, length-take-le begin keys (omega (arith, low)), many, size)
+        front_size =
+            omega (
+              arith,
+              length-append (take begin keys) found,
+              length-take-le begin keys (omega (arith, low)),
+              many,
+              size,
+            )
 
         taken : take end (take begin keys ++ (found ++ drop end keys)) ≡ front
-        taken = ap (λ (l : List (Wanted Room)). take end l) (sym split) ∙ subst (λ (n : ℕ). take n (front ++ drop end keys) ≡ front) front_size (take-append_seam front (drop end keys))
+        taken =
+            ap (λ (l : List (Wanted Room)). take end l) (sym split)
+            ∙ subst (λ (n : ℕ). take n (front ++ drop end keys) ≡ front) front_size
+            (take-append_seam front (drop end keys))
 
         left : length (drop begin keys) + begin ≡ length keys
-        left = omega (arith, length-append (take begin keys) (drop begin keys), ap length (take-append-drop begin keys), length-take-le begin keys (omega (arith, low)))
+        left =
+            omega (
+              arith,
+              length-append (take begin keys) (drop begin keys),
+              ap length (take-append-drop begin keys),
+              length-take-le begin keys (omega (arith, low)),
+            )
 
         ends : length (group ++ drop end keys) ≡ length (drop begin keys)
         ends = ap length whole
 
         long_front : length (take begin keys ++ (found ++ drop end keys)) ≡ length keys
-        long_front = omega (arith, length-append (take begin keys) (found ++ drop end keys), length-append found (drop end keys), length-append group (drop end keys), ends, left, many, length-take-le begin keys (omega (arith, low)))
+        long_front =
+            omega (
+              arith,
+              length-append (take begin keys) (found ++ drop end keys),
+              length-append found (drop end keys),
+              length-append group (drop end keys),
+              ends,
+              left,
+              many,
+              length-take-le begin keys (omega (arith, low)),
+            )
 
         same_rest : drop end keys ≡ drop end wanted
         same_rest = subst (λ (n : ℕ). drop n keys ≡ drop n wanted) (omega (arith, size))
-            (sym (drop-drop (length group) begin keys) ∙ ap (λ (l : List (Wanted Room)). drop (length group) l) grouped.rest
+            (sym (drop-drop (length group) begin keys)
+            ∙ ap (λ (l : List (Wanted Room)). drop (length group) l) grouped.rest
             ∙ drop-drop (length group) begin wanted)
 
         most : min (length (group ++ drop end wanted)) 16 ≡ length group
         most = omega (arith, ap (λ (l : List (Wanted Room)). length (group ++ l)) same_rest, ends, left, size, end_is)
 
-    pub all_grouped : (made : ℕ) (now : Caller) (keys : List (Wanted Room)) → Grouped shows first wanted made now keys → length keys ≤ made → FindsEach shows first wanted now keys
+    pub all_grouped : (made : ℕ) (now : Caller) (keys : List (Wanted Room)) → Grouped shows first wanted made now keys
+        → length keys ≤ made → FindsEach shows first wanted now keys
     all_grouped made now keys grouped end =
-        subst (λ (l : List (Wanted Room)). FindsEach shows first wanted now l) (append-nil (take made keys) ∙ take_all made keys end)
-        (grouped.on now [] (subst (λ (l : List (Wanted Room)). FindsFrom shows made now l now []) (sym (drop_all made wanted (omega (arith, end, grouped.long)))) refl))
+        subst (λ (l : List (Wanted Room)). FindsEach shows first wanted now l)
+        (append-nil (take made keys) ∙ take_all made keys end)
+        (grouped.on now
+        [] (subst (λ (l : List (Wanted Room)). FindsFrom shows made now l now [])
+        (sym (drop_all made wanted (omega (arith, end, grouped.long)))) refl))

@@ -1,5 +1,6 @@
 -- After rounds of gathers the writer's history is that of all callers.
-use Rattle.std.proofs.Common.{◌≡◌, ◌≢◌, ℕ, suc, ◌+◌, ◌<◌, ◌≤◌, Bool, ◌&&◌, cond, List, [], ◌∷◌, ◌++◌, length, refl, sym, ap, ◌∙◌, arith, append_assoc, eq-eqb, ne_eqb, get_or, ⊎_elim}
+use Rattle.std.proofs.Common.{◌≡◌, ◌≢◌, ℕ, suc, ◌+◌, ◌<◌, ◌≤◌, Bool, ◌&&◌, cond, List, [], ◌∷◌, ◌++◌, length, refl, sym}
+use Rattle.std.proofs.Common.{ap, ◌∙◌, arith, append_assoc, eq-eqb, ne_eqb, get_or, ⊎_elim}
 use Rattle.std.specs.List.{count_by}
 use Rattle.std.proofs.lemmas.Bool.{cases_lt}
 use mathlib.Core.Logic.{dite}
@@ -16,58 +17,101 @@ use Rattle.nr_map.specs.Rounds.{CallsStay, EntriesAreCallers, RoundsTellAll, Sen
 use Rattle.nr_machine.specs.Slots.{bound_of}
 
 pub calls_stay_lem : CallsStay
-calls_stay_lem log later caller goes_on has = let his : List Entry → List Entry = λ l. entries_of l caller.number in record {
-  rest = has.rest ++ his goes_on.rest;
-  is = ap his goes_on.is ∙ of-append caller.number log goes_on.rest ∙ ap (λ (l : List Entry). l ++ his goes_on.rest) has.is ∙ append_assoc caller.mine has.rest (his goes_on.rest);
-}
+calls_stay_lem log later caller goes_on has =
+    let his : List Entry → List Entry = λ l. entries_of l caller.number in
+    record {
+      rest = has.rest ++ his goes_on.rest;
+      is =
+          ap his goes_on.is ∙ of-append caller.number log goes_on.rest
+          ∙ ap (λ (l : List Entry). l ++ his goes_on.rest) has.is
+          ∙ append_assoc caller.mine has.rest (his goes_on.rest);
+    }
 
 pub rounds_tell_all_lem : RoundsTellAll
-rounds_tell_all_lem log readers calls heard = λ at other low. just_calls log (get_or readers at other) (calls at other low) (heard at other low)
+rounds_tell_all_lem log readers calls
+    heard = λ at other low. just_calls log (get_or readers at other) (calls at other low) (heard at other low)
 
 -- the entries of a caller, with one entry more of its own, and of another
-entries_own : (entry : Entry) (log : List Entry) (caller : ℕ) → entry.caller ≡ caller → entries_of (entry ∷ log) caller ≡ entry ∷ entries_of log caller
-entries_own entry log caller is = ap (λ (b : Bool). cond b (entry ∷ entries_of log caller) (entries_of log caller)) (eq-eqb entry.caller caller is)
+entries_own : (entry : Entry) (log : List Entry) (caller : ℕ) → entry.caller ≡ caller
+    → entries_of (entry ∷ log) caller ≡ entry ∷ entries_of log caller
+entries_own entry log caller is =
+    ap (λ (b : Bool). cond b (entry ∷ entries_of log caller) (entries_of log caller)) (eq-eqb entry.caller caller is)
 
-entries_other : (entry : Entry) (log : List Entry) (caller : ℕ) → entry.caller ≢ caller → entries_of (entry ∷ log) caller ≡ entries_of log caller
-entries_other entry log caller isnt = ap (λ (b : Bool). cond b (entry ∷ entries_of log caller) (entries_of log caller)) (ne_eqb entry.caller caller isnt)
+entries_other : (entry : Entry) (log : List Entry) (caller : ℕ) → entry.caller ≢ caller
+    → entries_of (entry ∷ log) caller ≡ entries_of log caller
+entries_other entry log caller isnt =
+    ap (λ (b : Bool). cond b (entry ∷ entries_of log caller) (entries_of log caller)) (ne_eqb entry.caller caller isnt)
 
 -- who has an entry is one of the callers
-within : (entry : Entry) (log : List Entry) (n : ℕ) → ((caller : ℕ) → n ≤ caller → entries_of (entry ∷ log) caller ≡ []) → entry.caller < n
+within : (entry : Entry) (log : List Entry) (n : ℕ) → ((caller : ℕ) → n ≤ caller → entries_of (entry ∷ log) caller ≡ [])
+    → entry.caller < n
 within entry log n none = ⊎_elim (λ (low : entry.caller < n). low)
-    (λ (beyond : n ≤ entry.caller). let some_there : entry ∷ entries_of log entry.caller ≡ [] = sym (entries_own entry log entry.caller refl) ∙ none entry.caller beyond in absurd (cc))
+    (λ (beyond : n ≤ entry.caller).
+    let some_there : entry ∷ entries_of log entry.caller ≡ []
+    = sym (entries_own entry log entry.caller refl) ∙ none entry.caller beyond in
+    absurd (cc))
     (cases_lt entry.caller n)
 
 -- a history whose callers are below n is counted caller by caller
-by_callers : (test : Entry → Bool) (log : List Entry) (n : ℕ) → ((caller : ℕ) → n ≤ caller → entries_of log caller ≡ []) → below (λ caller. count_by test (entries_of log caller)) n ≡ count_by test log
+by_callers : (test : Entry → Bool) (log : List Entry) (n : ℕ) → ((caller : ℕ) → n ≤ caller → entries_of log caller ≡ [])
+    → below (λ caller. count_by test (entries_of log caller)) n ≡ count_by test log
 by_callers test [] n none = below-zero n
 by_callers test (entry ∷ log) n none =
-    let f : ℕ → ℕ = λ caller. count_by test (entries_of log caller) in let g : ℕ → ℕ = λ caller. count_by test (entries_of (entry ∷ log) caller) in
-    let none_more : (caller : ℕ) → n ≤ caller → entries_of log caller ≡ [] = λ caller beyond. dite (ℕ_discrete entry.caller caller)
-    (λ is. let some_there : entry ∷ entries_of log caller ≡ [] = sym (entries_own entry log caller is) ∙ none caller beyond in absurd (cc))
+    let f : ℕ → ℕ = λ caller. count_by test (entries_of log caller) in
+    let g : ℕ → ℕ = λ caller. count_by test (entries_of (entry ∷ log) caller) in
+    let none_more : (caller : ℕ) → n ≤ caller → entries_of log caller ≡ []
+    = λ caller beyond. dite (ℕ_discrete entry.caller caller)
+    (λ is.
+    let some_there : entry ∷ entries_of log caller ≡ []
+    = sym (entries_own entry log caller is) ∙ none caller beyond in
+    absurd (cc))
     (λ isnt. sym (entries_other entry log caller isnt) ∙ none caller beyond) in
     let inside = within entry log n none in
     let before = by_callers test log n none_more in
-    let change = below-change f g n entry.caller inside (λ k isnt. ap (count_by test) (sym (entries_other entry log k (λ e. isnt (sym e))))) in
-    let own : g entry.caller ≡ cond (test entry) 1 0 + f entry.caller = ap (count_by test) (entries_own entry log entry.caller refl) ∙ count_by-cons test entry (entries_of log entry.caller) in
+    let change
+    = below-change f g n entry.caller inside
+    (λ k isnt. ap (count_by test) (sym (entries_other entry log k (λ e. isnt (sym e))))) in
+    let own : g entry.caller ≡ cond (test entry) 1 0 + f entry.caller
+    = ap (count_by test) (entries_own entry log entry.caller refl)
+    ∙ count_by-cons test entry (entries_of log entry.caller) in
     omega (arith, count_by-cons test entry log)
 
 -- a sum over the readers, in the order of their numbers
-in_order : (f : Caller → ℕ) (g : ℕ → ℕ) (readers : List Caller) → ((at : ℕ) (other : Caller) → at < length readers → g at ≡ f (get_or readers at other)) → below g (length readers) ≡ total f readers
+in_order : (f : Caller → ℕ) (g : ℕ → ℕ) (readers : List Caller)
+    → ((at : ℕ) (other : Caller) → at < length readers → g at ≡ f (get_or readers at other))
+    → below g (length readers) ≡ total f readers
 in_order f g [] same = refl
-in_order f g (reader ∷ readers) same = omega (arith, below-first g (length readers), same 0 reader (omega arith), in_order f (λ at. g (suc at)) readers (λ at other low. same (suc at) other (omega arith)))
+in_order f g (reader ∷ readers) same =
+    omega (
+      arith,
+      below-first g (length readers),
+      same 0 reader (omega arith),
+      in_order f (λ at. g (suc at)) readers (λ at other low. same (suc at) other (omega arith)),
+    )
 
 pub entries_are_callers_lem : EntriesAreCallers
 entries_are_callers_lem writer readers test knows =
-    let log = writer.seen in let g : ℕ → ℕ = λ caller. count_by test (entries_of log caller) in let n : ℕ = length readers in
-    let all = by_callers test log (suc n) (λ caller beyond. nobody_else writer.table.shape log caller knows.callers (let many = knows.count in omega arith)) in
-    let of_writer : g 0 ≡ count_by test writer.mine = ap (count_by test) (ap (entries_of log) (sym knows.number) ∙ knows.own) in
+    let log = writer.seen in
+    let g : ℕ → ℕ = λ caller. count_by test (entries_of log caller) in
+    let n : ℕ = length readers in
+    let all
+    = by_callers test log (suc n)
+    (λ caller beyond. nobody_else writer.table.shape log caller knows.callers
+    (let many = knows.count in omega arith)) in
+    let of_writer : g 0 ≡ count_by test writer.mine
+    = ap (count_by test) (ap (entries_of log) (sym knows.number) ∙ knows.own) in
     let of_readers = in_order (λ (reader : Caller). count_by test reader.mine) (λ at. g (suc at)) readers
-    (λ at other low. ap (count_by test) (ap (entries_of log) (let next : suc at ≡ (get_or readers at other).number = omega (arith, knows.numbers at other low) in next) ∙ knows.each at other low)) in
+    (λ at other low. ap (count_by test)
+    (ap (entries_of log)
+    (let next : suc at ≡ (get_or readers at other).number = omega (arith, knows.numbers at other low) in next)
+    ∙ knows.each at other low)) in
     omega (arith, below-first g n)
 
 pub sends_of_all_lem : SendsOfAll
 sends_of_all_lem writer readers key knows near = let shape = writer.table.shape in
     let sent = entries_are_callers_lem writer readers (λ e. asks key e.call && is_send e.reply) knows in
     let filled = entries_are_callers_lem writer readers (λ e. fills_key key e.call && is_done e.reply) knows in
-    let cancelled = entries_are_callers_lem writer readers (λ e. cancels_key key e.call && is_cancelled e.reply) knows in
-    omega (arith, sends_are_answered_lem shape.keys (bound_of shape) shape.first_number key writer.seen knows.legal near)
+    let cancelled
+    = entries_are_callers_lem writer readers (λ e. cancels_key key e.call && is_cancelled e.reply) knows in
+    omega
+    (arith, sends_are_answered_lem shape.keys (bound_of shape) shape.first_number key writer.seen knows.legal near)

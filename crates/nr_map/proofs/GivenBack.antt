@@ -1,5 +1,8 @@
--- A caller that lets no set be overwritten, call by call: each slot's set has the rows of its put number, and so has each that came out.
-use Rattle.std.proofs.Common.{Bool, List, [], ap, append-nil, arith, cond, false, get_or, get_or-set_other, get_or-set_same, inl, inr, length, length-append, length-set, map, refl, set, subst, suc, sym, true, zero, ℕ, ⊎_elim, ◌++◌, ◌+◌, ◌<◌, ◌∙◌, ◌∷◌, ◌≡◌, ◌≢◌, ◌⊎◌, ◌*◌}
+-- A caller that lets no set be overwritten, call by call: each slot's set has the rows of its put number, and so has
+-- each that came out.
+use Rattle.std.proofs.Common.{Bool, List, [], ap, append-nil, arith, cond, false, get_or, get_or-set_other}
+use Rattle.std.proofs.Common.{get_or-set_same, inl, inr, length, length-append, length-set, map, refl, set, subst, suc}
+use Rattle.std.proofs.Common.{sym, true, zero, ℕ, ⊎_elim, ◌++◌, ◌+◌, ◌<◌, ◌∙◌, ◌∷◌, ◌≡◌, ◌≢◌, ◌⊎◌, ◌*◌}
 use Rattle.std.proofs.lemmas.Bool.{le-ltb, lt-ltb}
 use Rattle.std.proofs.lemmas.List.{length-replicate}
 use Rattle.std.specs.Prelude.{Err, nat_lt}
@@ -41,11 +44,16 @@ use Rattle.nr_board.specs.Meetings.{Learns}
 use Rattle.nr_board.specs.Reaping.{ReapsIn}
 use Rattle.nr_board.specs.Reclaiming.{HandsOutAt}
 use Rattle.nr_board.specs.Spares.{spare_of}
-use Rattle.nr_board.specs.WriterAnswers.{CancelsKey, EvictsKey, FillsKey, HasNoSlot, Publishes, ReplacesKey, SlotsStay, UpdatesKey}
-use Rattle.nr_map.specs.GivenBack.{Cancels, Deals, EachSetComesOutOnce, Evicts, FillRefused, Fills, Goes, Lacks, LearnsMore, Opens, Quiet, ReapHeld, ReapNothing, Reaps, ReplaceRefused, Replaces, Rests, Run, UpdateRefused, Updates, given_by, rows_put}
+use Rattle.nr_board.specs.WriterAnswers.{CancelsKey, EvictsKey, FillsKey, HasNoSlot, Publishes, ReplacesKey, SlotsStay}
+use Rattle.nr_board.specs.WriterAnswers.{UpdatesKey}
+use Rattle.nr_map.specs.GivenBack.{Cancels, Deals, EachSetComesOutOnce, Evicts, FillRefused, Fills, Goes, Lacks}
+use Rattle.nr_map.specs.GivenBack.{LearnsMore, Opens, Quiet, ReapHeld, ReapNothing, Reaps, ReplaceRefused, Replaces}
+use Rattle.nr_map.specs.GivenBack.{Rests, Run, UpdateRefused, Updates, given_by, rows_put}
 use Rattle.nr_map.specs.Reclaims.{Ledger, had_number}
 use Rattle.nr_map.specs.Remains.{Given, given_at, numbers}
-use Rattle.nr_map.proofs.Ledgers.{cancel_leaves_lem, count_both, eviction_leaves_lem, flags_are, ledger_goes_on, ledger_stays_lem, no_slot_leaves_lem, number_is, opening_begins_lem, put_now, puts_are, quiet_leaves_lem, quiet_puts, reaped_once_lem, stands_once, ready_there}
+use Rattle.nr_map.proofs.Ledgers.{cancel_leaves_lem, count_both, eviction_leaves_lem, flags_are, ledger_goes_on}
+use Rattle.nr_map.proofs.Ledgers.{ledger_stays_lem, no_slot_leaves_lem, number_is, opening_begins_lem, put_now}
+use Rattle.nr_map.proofs.Ledgers.{puts_are, quiet_leaves_lem, quiet_puts, reaped_once_lem, stands_once, ready_there}
 use Rattle.nr_map.proofs.Remainders.{StandsIn, rest_comes_out_once_lem, rest_stands}
 
 -- LISTS
@@ -61,10 +69,12 @@ got_last [] x d (suc i) last = absurd (omega arith)
 got_last (y ∷ l) x d zero last = absurd (omega arith)
 got_last (y ∷ l) x d (suc i) last = got_last l x d i (omega arith)
 
-in_either : {A : Type 0} (l m : List A) (at : ℕ) (x : A) → get_elem? (l ++ m) at ≡ some x → ((i : ℕ) × (get_elem? l i ≡ some x)) ⊎ ((i : ℕ) × (get_elem? m i ≡ some x))
+in_either : {A : Type 0} (l m : List A) (at : ℕ) (x : A) → get_elem? (l ++ m) at ≡ some x
+    → ((i : ℕ) × (get_elem? l i ≡ some x)) ⊎ ((i : ℕ) × (get_elem? m i ≡ some x))
 in_either [] m at x there = inr (at, there)
 in_either (y ∷ l) m zero x there = inl (0, there)
-in_either (y ∷ l) m (suc at) x there = ⊎_elim (λ (was : (i : ℕ) × (get_elem? l i ≡ some x)). inl (suc was.0, was.1)) inr (in_either l m at x there)
+in_either (y ∷ l) m (suc at) x there =
+    ⊎_elim (λ (was : (i : ℕ) × (get_elem? l i ≡ some x)). inl (suc was.0, was.1)) inr (in_either l m at x there)
 
 numbers_both : (given out : List Given) → numbers (given ++ out) ≡ numbers given ++ numbers out
 numbers_both [] out = refl
@@ -82,20 +92,33 @@ record Books (writer : Caller) (put : List (List Row)) (given : List Given) : Ty
   ledger : Ledger writer (numbers given)
   count : length put ≡ put_count writer.mine
   many : length writer.marks.sets ≡ writer.table.shape.slots
-  stand : (slot : ℕ) → slot < writer.fresh → is_reaped writer.marks slot ≡ false → set_in writer.marks slot ≡ rows_put put (get_or writer.marks.puts slot 0)
+  stand : (slot : ℕ) → slot < writer.fresh → is_reaped writer.marks slot ≡ false
+      → set_in writer.marks slot ≡ rows_put put (get_or writer.marks.puts slot 0)
   gave : (at : ℕ) (one : Given) → get_elem? given at ≡ some one → HasItsRows put one
 
 -- one set more
-more_rows : (put : List (List Row)) (rows : List Row) (one : Given) → HasItsRows put one → HasItsRows (put ++ rows ∷ []) one
-more_rows put rows one has = let low = has.0 in (omega (arith, length-append put (rows ∷ [])), has.1 ∙ sym (got_low put rows [] one.number has.0))
+more_rows : (put : List (List Row)) (rows : List Row) (one : Given) → HasItsRows put one
+    → HasItsRows (put ++ rows ∷ []) one
+more_rows put rows one has =
+    let low = has.0 in
+    (omega (arith, length-append put (rows ∷ [])), has.1 ∙ sym (got_low put rows [] one.number has.0))
 
 -- the set of a slot has its rows
-stands_so : (writer : Caller) (put : List (List Row)) (given : List Given) (slot : ℕ) → Books writer put given → slot < writer.fresh → is_reaped writer.marks slot ≡ false → HasItsRows put (given_at writer slot)
-stands_so writer put given slot books low kept = (omega (arith, (stands_once writer (numbers given) slot (get_or writer.marks.puts slot 0) books.ledger low refl kept).0, books.count), books.stand slot low kept)
+stands_so : (writer : Caller) (put : List (List Row)) (given : List Given) (slot : ℕ) → Books writer put given
+    → slot < writer.fresh → is_reaped writer.marks slot ≡ false → HasItsRows put (given_at writer slot)
+stands_so writer put given slot books low kept = (
+  omega (
+    arith,
+    (stands_once writer (numbers given) slot (get_or writer.marks.puts slot 0) books.ledger low refl kept).0,
+    books.count,
+  ),
+  books.stand slot low kept,
+)
 
 -- A PUT
 
-module _ (steps : ℕ) (call : Call) (rows : List Row) (old new : Caller) (put : List (List Row)) (given : List Given) (published : Publishes steps call rows old new) (books : Books old put given) where
+module _ (steps : ℕ) (call : Call) (rows : List Row) (old new : Caller) (put : List (List Row)) (given : List Given)
+    (published : Publishes steps call rows old new) (books : Books old put given) where
   sets_are : new.marks.sets ≡ set old.marks.sets published.slot rows
   sets_are = ap (λ (m : Marks). m.sets) published.marks
 
@@ -108,200 +131,323 @@ module _ (steps : ℕ) (call : Call) (rows : List Row) (old new : Caller) (put :
   -- any other slot that was taken was taken before
   taken_before : (slot : ℕ) → slot < new.fresh → slot ≢ published.slot → slot < old.fresh
   taken_before slot low other = ⊎_elim
-      (λ fresh. dite (ℕ_discrete slot old.fresh) (λ same. absurd (other (same ∙ sym fresh.1))) (λ apart. omega (arith, published.fresh, fresh.3)))
+      (λ fresh. dite (ℕ_discrete slot old.fresh) (λ same. absurd (other (same ∙ sym fresh.1)))
+      (λ apart. omega (arith, published.fresh, fresh.3)))
       (λ taken. omega (arith, published.fresh, taken.6)) published.took
 
-  stand_now : (slot : ℕ) → slot < new.fresh → is_reaped new.marks slot ≡ false → set_in new.marks slot ≡ rows_put (put ++ rows ∷ []) (get_or new.marks.puts slot 0)
+  stand_now : (slot : ℕ) → slot < new.fresh → is_reaped new.marks slot ≡ false
+      → set_in new.marks slot ≡ rows_put (put ++ rows ∷ []) (get_or new.marks.puts slot 0)
   stand_now slot low kept = dite (ℕ_discrete slot published.slot)
       (λ same.
       let inside : published.slot < length old.marks.sets = omega (arith, published.inside, books.many) in
       let wide : published.slot < length old.marks.puts = omega (arith, published.inside, books.ledger.slots.0) in
-      ap (λ (l : List (List Row)). get_or l slot []) sets_are ∙ ap (λ (i : ℕ). get_or (set old.marks.sets published.slot rows) i []) same ∙ get_or-set_same old.marks.sets published.slot rows [] inside
+      ap (λ (l : List (List Row)). get_or l slot []) sets_are
+      ∙ ap (λ (i : ℕ). get_or (set old.marks.sets published.slot rows) i []) same
+      ∙ get_or-set_same old.marks.sets published.slot rows [] inside
       ∙ sym (got_last put rows [] published.number its_number)
       ∙ ap (rows_put (put ++ rows ∷ [])) (sym (ap (λ (l : List ℕ). get_or l slot 0) numbers_are
-      ∙ ap (λ (i : ℕ). get_or (set old.marks.puts published.slot published.number) i 0) same ∙ get_or-set_same old.marks.puts published.slot published.number 0 wide)))
+      ∙ ap (λ (i : ℕ). get_or (set old.marks.puts published.slot published.number) i 0) same
+      ∙ get_or-set_same old.marks.puts published.slot published.number 0 wide)))
       (λ other.
       let before = taken_before slot low other in
-      let was : is_reaped old.marks slot ≡ false = sym (get_or-set_other old.marks.reaped published.slot slot false false other)
-      ∙ sym (ap (λ (l : List Bool). get_or l slot false) (flags_are steps call rows old new (numbers given) books.writes published books.ledger)) ∙ kept in
+      let was : is_reaped old.marks slot ≡ false
+      = sym (get_or-set_other old.marks.reaped published.slot slot false false other)
+      ∙ sym
+      (ap (λ (l : List Bool). get_or l slot false)
+      (flags_are steps call rows old new (numbers given) books.writes published books.ledger))
+      ∙ kept in
       let has = more_rows put rows (given_at old slot) (stands_so old put given slot books before was) in
-      ap (λ (l : List (List Row)). get_or l slot []) sets_are ∙ get_or-set_other old.marks.sets published.slot slot rows [] other ∙ has.1
-      ∙ ap (rows_put (put ++ rows ∷ [])) (sym (ap (λ (l : List ℕ). get_or l slot 0) numbers_are ∙ get_or-set_other old.marks.puts published.slot slot published.number 0 other)))
+      ap (λ (l : List (List Row)). get_or l slot []) sets_are
+      ∙ get_or-set_other old.marks.sets published.slot slot rows [] other ∙ has.1
+      ∙ ap (rows_put (put ++ rows ∷ []))
+      (sym
+      (ap (λ (l : List ℕ). get_or l slot 0) numbers_are
+      ∙ get_or-set_other old.marks.puts published.slot slot published.number 0 other)))
 
-  put_goes_on : (out : List Given) → numbers out ≡ had_number old published.slot → ((at : ℕ) (one : Given) → get_elem? out at ≡ some one → HasItsRows put one) → Books new (put ++ rows ∷ []) (given ++ out)
+  put_goes_on : (out : List Given) → numbers out ≡ had_number old published.slot
+      → ((at : ℕ) (one : Given) → get_elem? out at ≡ some one → HasItsRows put one)
+      → Books new (put ++ rows ∷ []) (given ++ out)
   put_goes_on out had rows_had = record {
     writes = published.gains.number ∙ books.writes;
-    ledger = subst (Ledger new) (ap (λ (l : List ℕ). numbers given ++ l) (sym had) ∙ sym (numbers_both given out)) (ledger_goes_on steps call rows old new (numbers given) books.writes published books.ledger);
-    count = omega (arith, length-append put (rows ∷ []), books.count, put_now steps call rows old new (numbers given) books.writes published books.ledger);
-    many = ap length sets_are ∙ length-set old.marks.sets published.slot rows ∙ books.many ∙ sym (ap (λ (t : Table). t.shape.slots) published.gains.table);
+    ledger =
+        subst (Ledger new) (ap (λ (l : List ℕ). numbers given ++ l) (sym had) ∙ sym (numbers_both given out))
+        (ledger_goes_on steps call rows old new (numbers given) books.writes published books.ledger);
+    count =
+        omega (
+          arith,
+          length-append put (rows ∷ []),
+          books.count,
+          put_now steps call rows old new (numbers given) books.writes published books.ledger,
+        );
+    many =
+        ap length sets_are ∙ length-set old.marks.sets published.slot rows ∙ books.many
+        ∙ sym (ap (λ (t : Table). t.shape.slots) published.gains.table);
     stand = stand_now;
-    gave = λ at one there. more_rows put rows one (⊎_elim (λ was. books.gave was.0 one was.1) (λ now. rows_had now.0 one now.1) (in_either given out at one there));
+    gave = λ at one there. more_rows put rows one
+        (⊎_elim (λ was. books.gave was.0 one was.1) (λ now. rows_had now.0 one now.1)
+        (in_either given out at one there));
   }
 
 -- what a reclaiming call gives out is what its slot had
-module _ {Room : Type 0} (shows : Room → List Row → Type 0) (others : ℕ) (call : Call) (rows : List Row) (old new : Caller) (before after : Room) (put : List (List Row)) (given : List Given) (books : Books old put given) where
-  gives_what_it_had : (steps : ℕ) (published : Publishes (others + steps) call rows old new) (answer : Reclaimed) → HandsOutAt shows old.table (spare_of old) old.marks published.slot before after steps answer
-      → (numbers (given_by old published.slot answer) ≡ had_number old published.slot) × ((at : ℕ) (one : Given) → get_elem? (given_by old published.slot answer) at ≡ some one → HasItsRows put one)
+module _ {Room : Type 0} (shows : Room → List Row → Type 0) (others : ℕ) (call : Call) (rows : List Row)
+    (old new : Caller) (before after : Room) (put : List (List Row)) (given : List Given)
+    (books : Books old put given) where
+  gives_what_it_had : (steps : ℕ) (published : Publishes (others + steps) call rows old new) (answer : Reclaimed)
+      → HandsOutAt shows old.table (spare_of old) old.marks published.slot before after steps answer
+      → (numbers (given_by old published.slot answer) ≡ had_number old published.slot)
+      × ((at : ℕ) (one : Given) → get_elem? (given_by old published.slot answer) at ≡ some one → HasItsRows put one)
   gives_what_it_had steps published reclaimed.Set hands =
-      let low : published.slot < old.fresh = omega (arith, published.inside, hands.0) in let slot : ℕ = published.slot in (
-        sym (ap (λ (b : Bool). cond {A = List ℕ} b (cond {A = List ℕ} (is_reaped old.marks slot) [] (get_or old.marks.puts slot 0 ∷ [])) []) (lt-ltb slot old.fresh low)
+      let low : published.slot < old.fresh = omega (arith, published.inside, hands.0) in
+      let slot : ℕ = published.slot in (
+        sym
+            (ap
+            (λ (b : Bool). cond {A = List ℕ} b
+            (cond {A = List ℕ} (is_reaped old.marks slot) [] (get_or old.marks.puts slot 0 ∷ []))
+            [])
+            (lt-ltb slot old.fresh low)
             ∙ ap (λ (b : Bool). cond {A = List ℕ} b [] (get_or old.marks.puts slot 0 ∷ [])) hands.1),
         λ at one there. subst (HasItsRows put) (only_one at one there) (stands_so old put given slot books low hands.1),
       )
     where
-      only_one : (at : ℕ) (one : Given) → get_elem? (given_at old published.slot ∷ []) at ≡ some one → given_at old published.slot ≡ one
+      only_one : (at : ℕ) (one : Given) → get_elem? (given_at old published.slot ∷ []) at ≡ some one
+          → given_at old published.slot ≡ one
       only_one zero one there = some-injective (given_at old published.slot) one there
       only_one (suc at) one there = absurd (some-ne-none one (sym there))
   gives_what_it_had steps published reclaimed.Nothing hands = let slot : ℕ = published.slot in
       let rest : List ℕ = cond {A = List ℕ} (is_reaped old.marks slot) [] (get_or old.marks.puts slot 0 ∷ []) in (
         sym (⊎_elim
-            (λ fresh. ap (λ (b : Bool). cond {A = List ℕ} b rest []) (le-ltb slot old.fresh (⊎_elim (λ took. omega (arith, took.1)) (λ took. absurd (omega (arith, took.0))) published.took)))
-            (λ gone. by_cases (λ (b : Bool). cond {A = List ℕ} b rest [] ≡ []) (nat_lt slot old.fresh) (λ _. ap (λ (b : Bool). cond {A = List ℕ} b [] (get_or old.marks.puts slot 0 ∷ [])) gone) (λ _. refl))
+            (λ fresh. ap (λ (b : Bool). cond {A = List ℕ} b rest [])
+            (le-ltb slot old.fresh
+            (⊎_elim (λ took. omega (arith, took.1)) (λ took. absurd (omega (arith, took.0))) published.took)))
+            (λ gone. by_cases (λ (b : Bool). cond {A = List ℕ} b rest [] ≡ []) (nat_lt slot old.fresh)
+            (λ _. ap (λ (b : Bool). cond {A = List ℕ} b [] (get_or old.marks.puts slot 0 ∷ [])) gone) (λ _. refl))
             hands.0),
         λ at one there. absurd (some-ne-none one (sym there)),
       )
 
-  gave_back : (steps : ℕ) (published : Publishes (others + steps) call rows old new) (answer : Reclaimed) → HandsOutAt shows old.table (spare_of old) old.marks published.slot before after steps answer
+  gave_back : (steps : ℕ) (published : Publishes (others + steps) call rows old new) (answer : Reclaimed)
+      → HandsOutAt shows old.table (spare_of old) old.marks published.slot before after steps answer
       → Books new (put ++ rows ∷ []) (given ++ given_by old published.slot answer)
   gave_back steps published answer hands = let gives = gives_what_it_had steps published answer hands in
-      put_goes_on (others + steps) call rows old new put given published books (given_by old published.slot answer) gives.0 gives.1
+      put_goes_on (others + steps) call rows old new put given published books (given_by old published.slot answer)
+      gives.0 gives.1
 
 -- A REAP
 
-module _ {Room : Type 0} (shows : Room → List Row → Type 0) (old new : Caller) (before after : Room) (put : List (List Row)) (given : List Given) (books : Books old put given) where
-  reap_goes_on : (reaps : ReapsIn shows old before new after reaped.Set) → Books new (put ++ []) (given ++ given_at old reaps.entry.slot ∷ [])
+module _ {Room : Type 0} (shows : Room → List Row → Type 0) (old new : Caller) (before after : Room)
+    (put : List (List Row)) (given : List Given) (books : Books old put given) where
+  reap_goes_on : (reaps : ReapsIn shows old before new after reaped.Set)
+      → Books new (put ++ []) (given ++ given_at old reaps.entry.slot ∷ [])
   reap_goes_on reaps =
       let entry = reaps.entry in let is = reaps.new_is in
-      let slot : ℕ = entry.slot in let one = given_at old slot in let there = ready_there old reaps.scanned reaps.held reaps.later entry reaps.split in
-      let low = books.ledger.taken slot (inr (there.0, entry, there.1, refl)) in let has = stands_so old put given slot books low there.2 in
-      let ledger = reaped_once_lem reaps.held reaps.later entry (reaps.earlier ++ reaps.notes) _ reaps.scanned _ old new (numbers given) reaps.split is books.ledger in
-      subst (λ (l : List (List Row)). Books new l (given ++ one ∷ [])) (sym (append-nil put)) (subst (λ (c : Caller). Ledger c (numbers given ++ one.number ∷ []) → Books c put (given ++ one ∷ [])) (sym is)
+      let slot : ℕ = entry.slot in
+      let one = given_at old slot in
+      let there = ready_there old reaps.scanned reaps.held reaps.later entry reaps.split in
+      let low = books.ledger.taken slot (inr (there.0, entry, there.1, refl)) in
+      let has = stands_so old put given slot books low there.2 in
+      let ledger
+      = reaped_once_lem reaps.held reaps.later entry (reaps.earlier ++ reaps.notes) _ reaps.scanned _ old new
+      (numbers given) reaps.split is books.ledger in
+      subst (λ (l : List (List Row)). Books new l (given ++ one ∷ [])) (sym (append-nil put))
+      (subst (λ (c : Caller). Ledger c (numbers given ++ one.number ∷ []) → Books c put (given ++ one ∷ []))
+      (sym is)
       (λ goes. record {
         writes = books.writes;
         ledger = subst (Ledger _) (sym (numbers_both given (one ∷ []))) goes;
         count = books.count;
         many = books.many;
         stand = λ other near kept. dite (ℕ_discrete other slot)
-            (λ same. absurd (no_flag (set old.marks.reaped slot true) other kept (ap (λ (i : ℕ). get_or (set old.marks.reaped slot true) i false) same
-            ∙ get_or-set_same old.marks.reaped slot true false (omega (arith, low, books.ledger.slots.1, books.ledger.slots.2)))))
-            (λ apart. books.stand other near (sym (get_or-set_other old.marks.reaped slot other true false apart) ∙ kept));
-        gave = λ at which there. ⊎_elim (λ was. books.gave was.0 which was.1) (λ now. only_one now.0 which now.1 has) (in_either given (one ∷ []) at which there);
+            (λ same. absurd
+            (no_flag (set old.marks.reaped slot true) other kept
+            (ap (λ (i : ℕ). get_or (set old.marks.reaped slot true) i false) same
+            ∙ get_or-set_same old.marks.reaped slot true false
+            (omega (arith, low, books.ledger.slots.1, books.ledger.slots.2)))))
+            (λ apart. books.stand other near
+            (sym (get_or-set_other old.marks.reaped slot other true false apart) ∙ kept));
+        gave = λ at which there. ⊎_elim (λ was. books.gave was.0 which was.1) (λ now. only_one now.0 which now.1 has)
+            (in_either given (one ∷ []) at which there);
       }) ledger)
     where
       no_flag : (flags : List Bool) (i : ℕ) → get_or flags i false ≡ false → get_or flags i false ≡ true → ⊥
       no_flag flags i kept gone = let clash : false ≡ true = sym kept ∙ gone in absurd (cc)
 
-      only_one : (at : ℕ) (which : Given) → get_elem? (given_at old reaps.entry.slot ∷ []) at ≡ some which → HasItsRows put (given_at old reaps.entry.slot) → HasItsRows put which
-      only_one zero which there has = subst (HasItsRows put) (some-injective (given_at old reaps.entry.slot) which there) has
+      only_one : (at : ℕ) (which : Given) → get_elem? (given_at old reaps.entry.slot ∷ []) at ≡ some which
+          → HasItsRows put (given_at old reaps.entry.slot) → HasItsRows put which
+      only_one zero which there has =
+          subst (HasItsRows put) (some-injective (given_at old reaps.entry.slot) which there) has
       only_one (suc at) which there has = absurd (some-ne-none which (sym there))
 
 -- CALLS THAT LEAVE THE SETS
 
 module _ (old new : Caller) (put : List (List Row)) (given : List Given) (books : Books old put given) where
-  books_stay : Ledger new (numbers given) → new.number ≡ old.number → new.table ≡ old.table → new.fresh ≡ old.fresh → new.marks.puts ≡ old.marks.puts → new.marks.sets ≡ old.marks.sets
-      → new.marks.reaped ≡ old.marks.reaped → put_count new.mine ≡ put_count old.mine → Books new (put ++ []) (given ++ [])
-  books_stay ledger number table fresh puts sets flags many = subst (λ (b : List (List Row) × List Given). Books new b.0 b.1) (λ j. (sym (append-nil put) j, sym (append-nil given) j)) (record {
-    writes = number ∙ books.writes;
-    ledger = ledger;
-    count = books.count ∙ sym many;
-    many = ap length sets ∙ books.many ∙ sym (ap (λ (t : Table). t.shape.slots) table);
-    stand = λ slot low kept. ap (λ (l : List (List Row)). get_or l slot []) sets
-        ∙ books.stand slot (omega (arith, low, fresh)) (sym (ap (λ (l : List Bool). get_or l slot false) flags) ∙ kept)
-        ∙ ap (λ (l : List ℕ). rows_put put (get_or l slot 0)) (sym puts);
-    gave = books.gave;
-  })
+  books_stay : Ledger new (numbers given) → new.number ≡ old.number → new.table ≡ old.table → new.fresh ≡ old.fresh
+      → new.marks.puts ≡ old.marks.puts → new.marks.sets ≡ old.marks.sets
+      → new.marks.reaped ≡ old.marks.reaped → put_count new.mine ≡ put_count old.mine
+      → Books new (put ++ []) (given ++ [])
+  books_stay ledger number table fresh puts sets flags many =
+      subst (λ (b : List (List Row) × List Given). Books new b.0 b.1)
+      (λ j. (sym (append-nil put) j, sym (append-nil given) j)) (record {
+        writes = number ∙ books.writes;
+        ledger = ledger;
+        count = books.count ∙ sym many;
+        many = ap length sets ∙ books.many ∙ sym (ap (λ (t : Table). t.shape.slots) table);
+        stand = λ slot low kept. ap (λ (l : List (List Row)). get_or l slot []) sets
+            ∙ books.stand slot (omega (arith, low, fresh))
+            (sym (ap (λ (l : List Bool). get_or l slot false) flags) ∙ kept)
+            ∙ ap (λ (l : List ℕ). rows_put put (get_or l slot 0)) (sym puts);
+        gave = books.gave;
+      })
 
-  quiet_goes_on : (steps : ℕ) (call : Call) (answer : Reply) → is_done answer ≡ false → Gains steps call old new answer → SlotsStay old new → Books new (put ++ []) (given ++ [])
-  quiet_goes_on steps call answer quiet gains stays = books_stay (quiet_leaves_lem steps call answer old new (numbers given) quiet gains stays books.ledger) gains.number gains.table
-      (ap (λ (s : Spare). s.fresh) stays.0) (ap (λ (m : Marks). m.puts) stays.1) (ap (λ (m : Marks). m.sets) stays.1) (ap (λ (m : Marks). m.reaped) stays.1) (quiet_puts steps call answer old new quiet gains)
+  quiet_goes_on : (steps : ℕ) (call : Call) (answer : Reply) → is_done answer ≡ false → Gains steps call old new answer
+      → SlotsStay old new → Books new (put ++ []) (given ++ [])
+  quiet_goes_on steps call answer quiet gains stays =
+      books_stay (quiet_leaves_lem steps call answer old new (numbers given) quiet gains stays books.ledger)
+      gains.number gains.table
+      (ap (λ (s : Spare). s.fresh) stays.0) (ap (λ (m : Marks). m.puts) stays.1) (ap (λ (m : Marks). m.sets) stays.1)
+      (ap (λ (m : Marks). m.reaped) stays.1) (quiet_puts steps call answer old new quiet gains)
 
-  without_goes_on : (steps : ℕ) (call : Call) (counts : NoSlot) → HasNoSlot steps call old new counts → Books new (put ++ []) (given ++ [])
-  without_goes_on steps call counts without = books_stay (no_slot_leaves_lem steps call counts old new (numbers given) without books.ledger) without.grows.number without.grows.table
-      (ap (λ (s : Spare). s.fresh) without.slots) (ap (λ (m : Marks). m.puts) without.marks) (ap (λ (m : Marks). m.sets) without.marks) (ap (λ (m : Marks). m.reaped) without.marks)
+  without_goes_on : (steps : ℕ) (call : Call) (counts : NoSlot) → HasNoSlot steps call old new counts
+      → Books new (put ++ []) (given ++ [])
+  without_goes_on steps call counts without =
+      books_stay (no_slot_leaves_lem steps call counts old new (numbers given) without books.ledger)
+      without.grows.number without.grows.table
+      (ap (λ (s : Spare). s.fresh) without.slots) (ap (λ (m : Marks). m.puts) without.marks)
+      (ap (λ (m : Marks). m.sets) without.marks) (ap (λ (m : Marks). m.reaped) without.marks)
       (ap put_count (without.grows.mine ∙ append-nil old.mine))
 
   learning_goes_on : (steps : ℕ) → Learns steps old new → Books new (put ++ []) (given ++ [])
   learning_goes_on steps learns = let many = ap put_count learns.mine in
-      books_stay (ledger_stays_lem old new (numbers given) learns.table learns.fresh (ap (λ (m : Marks). m.puts) learns.marks) (ap (λ (m : Marks). m.reaped) learns.marks)
-      (λ slot lives. subst (λ (p : List Retired × Marks). Living p.0 p.1 slot) (λ j. (learns.retired j, learns.marks j)) lives) many books.ledger)
-      learns.number learns.table learns.fresh (ap (λ (m : Marks). m.puts) learns.marks) (ap (λ (m : Marks). m.sets) learns.marks) (ap (λ (m : Marks). m.reaped) learns.marks) many
+      books_stay
+      (ledger_stays_lem old new (numbers given) learns.table learns.fresh (ap (λ (m : Marks). m.puts) learns.marks)
+      (ap (λ (m : Marks). m.reaped) learns.marks)
+      (λ slot lives. subst (λ (p : List Retired × Marks). Living p.0 p.1 slot) (λ j. (learns.retired j, learns.marks j))
+      lives)
+      many books.ledger)
+      learns.number learns.table learns.fresh (ap (λ (m : Marks). m.puts) learns.marks)
+      (ap (λ (m : Marks). m.sets) learns.marks) (ap (λ (m : Marks). m.reaped) learns.marks) many
 
-  fill_refused : (key number : ℕ) (rows : List Row) (fault : FillFault) → FillsKey key number rows old new (Err fault) → Books new (put ++ []) (given ++ [])
-  fill_refused key number rows fill.NotAsked says = quiet_goes_on 1 (model.Fill key number rows) reply.NotAsked refl says.0 says.1
-  fill_refused key number rows fill.Already says = quiet_goes_on 1 (model.Fill key number rows) reply.Already refl says.0 says.1
-  fill_refused key number rows fill.Stale says = quiet_goes_on 1 (model.Fill key number rows) reply.Stale refl says.0 says.1
+  fill_refused : (key number : ℕ) (rows : List Row) (fault : FillFault) → FillsKey key number rows old new (Err fault)
+      → Books new (put ++ []) (given ++ [])
+  fill_refused key number rows fill.NotAsked says =
+      quiet_goes_on 1 (model.Fill key number rows) reply.NotAsked refl says.0 says.1
+  fill_refused key number rows fill.Already says =
+      quiet_goes_on 1 (model.Fill key number rows) reply.Already refl says.0 says.1
+  fill_refused key number rows fill.Stale says =
+      quiet_goes_on 1 (model.Fill key number rows) reply.Stale refl says.0 says.1
   fill_refused key number rows (fill.NoSlot counts) says = without_goes_on 1 (model.Fill key number rows) counts says
 
-  replace_refused : (key : ℕ) (rows : List Row) (fault : ReplaceFault) → ReplacesKey key rows old new (Err fault) → Books new (put ++ []) (given ++ [])
-  replace_refused key rows replace.Dropped says = quiet_goes_on 1 (model.Replace key rows) reply.Dropped refl says.0 says.1
+  replace_refused : (key : ℕ) (rows : List Row) (fault : ReplaceFault) → ReplacesKey key rows old new (Err fault)
+      → Books new (put ++ []) (given ++ [])
+  replace_refused key rows replace.Dropped says =
+      quiet_goes_on 1 (model.Replace key rows) reply.Dropped refl says.0 says.1
   replace_refused key rows (replace.NoSlot counts) says = without_goes_on 1 (model.Replace key rows) counts says
 
-  update_refused : (bound key : ℕ) (batch : List Delta) (fault : UpdateFault) → UpdatesKey bound key batch old new (Err fault) → Books new (put ++ []) (given ++ [])
-  update_refused bound key batch update.Dropped says = quiet_goes_on 1 (model.Update key batch) reply.Dropped refl says.0 says.1
-  update_refused bound key batch update.NoRow says = quiet_goes_on (2 * length says.0 + 2) (model.Update key batch) reply.NoRow refl says.2 says.4
-  update_refused bound key batch update.TooMany says = quiet_goes_on (2 * length says.0 + 2) (model.Update key batch) reply.TooMany refl says.2 says.4
-  update_refused bound key batch (update.NoSlot counts) says = without_goes_on (2 * length says.0 + 2) (model.Update key batch) counts says.3
+  update_refused : (bound key : ℕ) (batch : List Delta) (fault : UpdateFault)
+      → UpdatesKey bound key batch old new (Err fault) → Books new (put ++ []) (given ++ [])
+  update_refused bound key batch update.Dropped says =
+      quiet_goes_on 1 (model.Update key batch) reply.Dropped refl says.0 says.1
+  update_refused bound key batch update.NoRow says =
+      quiet_goes_on (2 * length says.0 + 2) (model.Update key batch) reply.NoRow refl says.2 says.4
+  update_refused bound key batch update.TooMany says =
+      quiet_goes_on (2 * length says.0 + 2) (model.Update key batch) reply.TooMany refl says.2 says.4
+  update_refused bound key batch (update.NoSlot counts) says =
+      without_goes_on (2 * length says.0 + 2) (model.Update key batch) counts says.3
 
   evict_goes_on : (key : ℕ) (answer : Evict) → EvictsKey key old new answer → Books new (put ++ []) (given ++ [])
   evict_goes_on key evict.Nothing says = quiet_goes_on 1 (model.Evict key) reply.Nothing refl says.0 says.1
-  evict_goes_on key evict.Evicted says = books_stay (eviction_leaves_lem key old new evict.Evicted (numbers given) says books.ledger) says.0.number says.0.table says.1
-      (ap (λ (m : Marks). m.puts) says.4) (ap (λ (m : Marks). m.sets) says.4) (ap (λ (m : Marks). m.reaped) says.4) (quiet_puts 2 (model.Evict key) reply.Evicted old new refl says.0)
+  evict_goes_on key evict.Evicted says =
+      books_stay (eviction_leaves_lem key old new evict.Evicted (numbers given) says books.ledger) says.0.number
+      says.0.table says.1
+      (ap (λ (m : Marks). m.puts) says.4) (ap (λ (m : Marks). m.sets) says.4) (ap (λ (m : Marks). m.reaped) says.4)
+      (quiet_puts 2 (model.Evict key) reply.Evicted old new refl says.0)
 
   cancel_goes_on : (key : ℕ) (answer : Cancel) → CancelsKey key old new answer → Books new (put ++ []) (given ++ [])
-  cancel_goes_on key cancel.Cancelled says = books_stay (cancel_leaves_lem key old new cancel.Cancelled (numbers given) says books.ledger) says.0.number says.0.table
-      (ap (λ (s : Spare). s.fresh) says.1) (ap (λ (m : Marks). m.puts) says.2) (ap (λ (m : Marks). m.sets) says.2) (ap (λ (m : Marks). m.reaped) says.2) (quiet_puts 2 (model.Cancel key) reply.Cancelled old new refl says.0)
+  cancel_goes_on key cancel.Cancelled says =
+      books_stay (cancel_leaves_lem key old new cancel.Cancelled (numbers given) says books.ledger) says.0.number
+      says.0.table
+      (ap (λ (s : Spare). s.fresh) says.1) (ap (λ (m : Marks). m.puts) says.2) (ap (λ (m : Marks). m.sets) says.2)
+      (ap (λ (m : Marks). m.reaped) says.2) (quiet_puts 2 (model.Cancel key) reply.Cancelled old new refl says.0)
   cancel_goes_on key cancel.Nothing says = quiet_goes_on 1 (model.Cancel key) reply.Nothing refl says.0 says.1
   cancel_goes_on key cancel.Worn says = quiet_goes_on 1 (model.Cancel key) reply.Worn refl says.0 says.1
 
   -- only its steps, polls and loads and what it heard are others
-  same_goes_on : (steps : ℕ) (polls : List Past) (loads : List LoggedLoad) (heard : List ℕ) → new ≡ record old { steps = steps; marks = with_scan old.marks polls loads; heard = heard } → Books new (put ++ []) (given ++ [])
+  same_goes_on : (steps : ℕ) (polls : List Past) (loads : List LoggedLoad) (heard : List ℕ)
+      → new ≡ record old { steps = steps; marks = with_scan old.marks polls loads; heard = heard }
+      → Books new (put ++ []) (given ++ [])
   same_goes_on steps polls loads heard is =
-      let table = ap (λ (c : Caller). c.table) is in let fresh = ap (λ (c : Caller). c.fresh) is in let many = ap (λ (c : Caller). put_count c.mine) is in
+      let table = ap (λ (c : Caller). c.table) is in
+      let fresh = ap (λ (c : Caller). c.fresh) is in
+      let many = ap (λ (c : Caller). put_count c.mine) is in
       let puts = ap (λ (c : Caller). c.marks.puts) is in let flags = ap (λ (c : Caller). c.marks.reaped) is in
-      books_stay (ledger_stays_lem old new (numbers given) table fresh puts flags (λ slot lives. subst (λ (c : Caller). Living c.retired c.marks slot) is lives) many books.ledger)
+      books_stay
+      (ledger_stays_lem old new (numbers given) table fresh puts flags
+      (λ slot lives. subst (λ (c : Caller). Living c.retired c.marks slot) is lives) many books.ledger)
       (ap (λ (c : Caller). c.number) is) table fresh puts (ap (λ (c : Caller). c.marks.sets) is) flags many
 
 -- EVERY RUN
 
 module _ {Room : Type 0} (shows : Room → List Row → Type 0) where
-  deal_goes_on : {old new : Caller} {more : List (List Row)} {out : List Given} (put : List (List Row)) (given : List Given) → Deals shows old more out new → Books old put given → Books new (put ++ more) (given ++ out)
-  deal_goes_on put given (Fills key number rows old new before after back done) books = gave_back shows 1 (model.Fill key number rows) rows old new before after put given books done.steps done.published back done.gives
-  deal_goes_on put given (FillRefused key number rows old new before after fault says) books = fill_refused old new put given books key number rows fault says.0
-  deal_goes_on put given (Updates bound key batch old new before after back done) books = gave_back shows (2 * length done.set + 2) (model.Update key batch) done.left old new before after put given books done.steps done.published back done.gives
-  deal_goes_on put given (UpdateRefused bound key batch old new before after fault says) books = update_refused old new put given books bound key batch fault says.0
-  deal_goes_on put given (Replaces key rows old new before after back done) books = gave_back shows 1 (model.Replace key rows) rows old new before after put given books done.steps done.published back done.gives
-  deal_goes_on put given (ReplaceRefused key rows old new before after fault says) books = replace_refused old new put given books key rows fault says.0
-  deal_goes_on put given (Reaps old new before after done) books = reap_goes_on shows old new before after put given books done
-  deal_goes_on put given (ReapHeld old new before after says) books = same_goes_on old new put given books _ _ _ _ says.8
-  deal_goes_on put given (ReapNothing old new before after says) books = same_goes_on old new put given books old.steps old.marks.polls old.marks.loads old.heard says.1
+  deal_goes_on : {old new : Caller} {more : List (List Row)} {out : List Given} (put : List (List Row))
+      (given : List Given)
+      → Deals shows old more out new → Books old put given → Books new (put ++ more) (given ++ out)
+  deal_goes_on put given (Fills key number rows old new before after back done) books =
+      gave_back shows 1 (model.Fill key number rows) rows old new before after put given books done.steps done.published
+      back done.gives
+  deal_goes_on put given (FillRefused key number rows old new before after fault says) books =
+      fill_refused old new put given books key number rows fault says.0
+  deal_goes_on put given (Updates bound key batch old new before after back done) books =
+      gave_back shows (2 * length done.set + 2) (model.Update key batch) done.left old new before after put given books
+      done.steps done.published back done.gives
+  deal_goes_on put given (UpdateRefused bound key batch old new before after fault says) books =
+      update_refused old new put given books bound key batch fault says.0
+  deal_goes_on put given (Replaces key rows old new before after back done) books =
+      gave_back shows 1 (model.Replace key rows) rows old new before after put given books done.steps done.published
+      back done.gives
+  deal_goes_on put given (ReplaceRefused key rows old new before after fault says) books =
+      replace_refused old new put given books key rows fault says.0
+  deal_goes_on put given (Reaps old new before after done) books =
+      reap_goes_on shows old new before after put given books done
+  deal_goes_on put given (ReapHeld old new before after says) books =
+      same_goes_on old new put given books _ _ _ _ says.8
+  deal_goes_on put given (ReapNothing old new before after says) books =
+      same_goes_on old new put given books old.steps old.marks.polls old.marks.loads old.heard says.1
   deal_goes_on put given (Evicts key old new answer says) books = evict_goes_on old new put given books key answer says
-  deal_goes_on put given (Cancels key old new answer says) books = cancel_goes_on old new put given books key answer says
-  deal_goes_on put given (Quiet steps call answer old new quiet gains stays) books = quiet_goes_on old new put given books steps call answer quiet gains stays
-  deal_goes_on put given (Lacks steps call counts old new without) books = without_goes_on old new put given books steps call counts without
+  deal_goes_on put given (Cancels key old new answer says) books =
+      cancel_goes_on old new put given books key answer says
+  deal_goes_on put given (Quiet steps call answer old new quiet gains stays) books =
+      quiet_goes_on old new put given books steps call answer quiet gains stays
+  deal_goes_on put given (Lacks steps call counts old new without) books =
+      without_goes_on old new put given books steps call counts without
   deal_goes_on put given (LearnsMore steps old new says) books = learning_goes_on old new put given books steps says
-  deal_goes_on put given (Rests steps old new says) books = same_goes_on old new put given books (old.steps + steps) old.marks.polls old.marks.loads old.heard says
+  deal_goes_on put given (Rests steps old new says) books =
+      same_goes_on old new put given books (old.steps + steps) old.marks.polls old.marks.loads old.heard says
 
-  run_books : {writer : Caller} {put : List (List Row)} {given : List Given} → Run shows writer put given → Books writer put given
-  run_books (Opens shape words map writer readers opened) = subst (λ (c : Caller). Ledger c [] → Books c [] []) (sym opened.writes) (λ ledger. record {
-    writes = refl;
-    ledger = ledger;
-    count = refl;
-    many = length-replicate shape.slots [] ∙ ap (λ (s : Shape). s.slots) (sym opened.sizes);
-    stand = λ slot low kept. absurd (omega arith);
-    gave = λ at one there. absurd (some-ne-none one (sym there));
-  }) (opening_begins_lem shape words map writer readers opened)
+  run_books : {writer : Caller} {put : List (List Row)} {given : List Given} → Run shows writer put given
+      → Books writer put given
+  run_books (Opens shape words map writer readers opened) =
+      subst (λ (c : Caller). Ledger c [] → Books c [] []) (sym opened.writes) (λ ledger. record {
+        writes = refl;
+        ledger = ledger;
+        count = refl;
+        many = length-replicate shape.slots [] ∙ ap (λ (s : Shape). s.slots) (sym opened.sizes);
+        stand = λ slot low kept. absurd (omega arith);
+        gave = λ at one there. absurd (some-ne-none one (sym there));
+      }) (opening_begins_lem shape words map writer readers opened)
   run_books (Goes old new put more given out run deal) = deal_goes_on put given deal (run_books run)
 
   pub each_set_comes_out_once_lem : EachSetComesOutOnce shows
   each_set_comes_out_once_lem writer put given rest left run apart out = let books = run_books run in record {
     once = λ number low. omega (
       arith,
-      rest_comes_out_once_lem shows writer (numbers given) left rest number books.ledger apart out (omega (arith, books.count)),
+      rest_comes_out_once_lem shows writer (numbers given) left rest number books.ledger apart out
+          (omega (arith, books.count)),
       ap (λ (l : List ℕ). count_of_put l number) (numbers_both given rest),
       count_both number (numbers given) (numbers rest),
     );
     rows = λ at one there. ⊎_elim (λ was. books.gave was.0 one was.1)
-        (λ now. let stands = subst (λ (c : Caller). StandsIn c one) apart.writer_is (rest_stands shows out now.0 one now.1) in
+        (λ now.
+        let stands
+        = subst (λ (c : Caller). StandsIn c one) apart.writer_is (rest_stands shows out now.0 one now.1) in
         subst (HasItsRows put) (sym stands.is) (stands_so writer put given stands.slot books stands.taken stands.kept))
         (in_either given rest at one there);
   }

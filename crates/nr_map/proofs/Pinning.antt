@@ -1,5 +1,7 @@
--- What a hold comes to: for a reader that held nothing, for a hand that let go what it held, and for one that reads the rows then.
-use Rattle.std.proofs.Common.{◌≡◌, ℕ, ◌+◌, ◌-◌, ◌*◌, Option, Some, None, ⊎_elim, inl, inr, refl, ap, ◌∙◌, sym, subst, arith, Bool, true, List, [], ◌∷◌, ◌++◌, length}
+-- What a hold comes to: for a reader that held nothing, for a hand that let go what it held, and for one that reads the
+-- rows then.
+use Rattle.std.proofs.Common.{◌≡◌, ℕ, ◌+◌, ◌-◌, ◌*◌, Option, Some, None, ⊎_elim, inl, inr, refl, ap, ◌∙◌, sym, subst}
+use Rattle.std.proofs.Common.{arith, Bool, true, List, [], ◌∷◌, ◌++◌, length}
 use Rattle.std.specs.Prelude.{IsSome, Ok, Err, is_some, nat_lt}
 use Rattle.nr_model.specs.Histories.{Entry, after}
 use Rattle.nr_model.specs.Maps.{state_of}
@@ -22,30 +24,50 @@ use Rattle.nr_board.specs.declared.answers.KeyKind.TheVariants as kind
 use Rattle.nr_board.specs.declared.holds.Held.{Held}
 use Rattle.nr_map.specs.declared.hand.Kept.{Kept}
 use Rattle.nr_map.specs.Pins.{PinsKey}
-use Rattle.nr_map.specs.Hands.{CopiesHeld, FindsKept, Handed, HoldsKey, KeepsByHand, LetsGo, PinsByHand, departed, handed, steps_to_depart}
+use Rattle.nr_map.specs.Hands.{CopiesHeld, FindsKept, Handed, HoldsKey, KeepsByHand, LetsGo, PinsByHand, departed}
+use Rattle.nr_map.specs.Hands.{handed, steps_to_depart}
 
 -- a reader that found a hole comes back
-pub pins_hole : (table : Table) (key : ℕ) (reader back : Caller) (old new : MapSeat) → token old ≡ reader → back ≡ token new → HoldsAfter 0 (finds_by_word (token old)) table key old.me.0.marks old new None → PinsKey key reader (Err back)
-pins_hole table key reader back old new is came holds = subst (λ (p : Caller × Caller). PinsKey key p.0 (Err p.1)) (λ j. (is j, sym came j)) (
-  record { steps = holds.steps; named = holds.named; finds_in = holds.takes; looks = ap (λ (m : Marks). m.loads) holds.answered.marks_are; gains = holds.answered.gains },
-  holds.answered.marks_are,
-  ap (λ (r : Role). gripped (grip_of r)) holds.answered.idles.idle,
-  holds.answered.idles.silent,
-)
+pub pins_hole : (table : Table) (key : ℕ) (reader back : Caller) (old new : MapSeat) → token old ≡ reader
+    → back ≡ token new → HoldsAfter 0 (finds_by_word (token old)) table key old.me.0.marks old new None
+    → PinsKey key reader (Err back)
+pins_hole table key reader back old new is came holds =
+    subst (λ (p : Caller × Caller). PinsKey key p.0 (Err p.1)) (λ j. (is j, sym came j)) (
+      record {
+        steps = holds.steps;
+        named = holds.named;
+        finds_in = holds.takes;
+        looks = ap (λ (m : Marks). m.loads) holds.answered.marks_are;
+        gains = holds.answered.gains;
+      },
+      holds.answered.marks_are,
+      ap (λ (r : Role). gripped (grip_of r)) holds.answered.idles.idle,
+      holds.answered.idles.silent,
+    )
 
 -- a hold of a key's set, by the seats before and after it
-module _ (table : Table) (key : ℕ) (old new : MapSeat) (held : Held) (holds : HoldsAfter 0 (finds_by_word (token old)) table key old.me.0.marks old new (Some held)) where
+module _ (table : Table) (key : ℕ) (old new : MapSeat) (held : Held)
+    (holds : HoldsAfter 0 (finds_by_word (token old)) table key old.me.0.marks old new (Some held)) where
   some_held : IsSome (token new).holds
   some_held = ap (λ (r : Role). is_some (gripped (grip_of r))) holds.answered.held_as.holds.holds.is
 
   -- a reader's pin
-  pub pins_key : (reader : Caller) → token old ≡ reader → PinsKey key reader (Ok (record { reader = token new; rows = rows_held new.me.0.role }))
-  pins_key reader is = subst (λ (r : Caller). PinsKey key r (Ok (record { reader = token new; rows = rows_held new.me.0.role }))) is (
-    record { steps = holds.steps; named = holds.named; says = held.says; holds_in = holds.takes; looks = ap (λ (m : Marks). m.loads) holds.answered.marks_are; gains = holds.answered.gains },
-    holds.answered.marks_are,
-    some_held,
-    holds.answered.held_as.says,
-  )
+  pub pins_key : (reader : Caller) → token old ≡ reader
+      → PinsKey key reader (Ok (record { reader = token new; rows = rows_held new.me.0.role }))
+  pins_key reader is =
+      subst (λ (r : Caller). PinsKey key r (Ok (record { reader = token new; rows = rows_held new.me.0.role }))) is (
+        record {
+          steps = holds.steps;
+          named = holds.named;
+          says = held.says;
+          holds_in = holds.takes;
+          looks = ap (λ (m : Marks). m.loads) holds.answered.marks_are;
+          gains = holds.answered.gains;
+        },
+        holds.answered.marks_are,
+        some_held,
+        holds.answered.held_as.says,
+      )
 
   -- a hand's, which let go what it held
   module _ (first between : Handed) (lets : LetsGo first between) (is : between.reader ≡ token old) where
@@ -64,9 +86,17 @@ module _ (table : Table) (key : ℕ) (old new : MapSeat) (held : Held) (holds : 
       steps = holds.steps;
       named = holds.named;
       says = held.says;
-      holds_in = subst (λ (b : Bool). HeldIn b holds.named held.says holds.steps) (λ j. nat_lt (rests.number j - 1) (rests.table j).announcers) holds.takes;
-      looks = ap (λ (m : Marks). m.loads) holds.answered.marks_are ∙ ap (λ (l : List LoggedLoad). l ++ looks_at key holds.named) (ap (λ (m : Marks). m.loads) marks_between ∙ departed_loads first.key first.reader.marks);
-      gains = rests_gains (steps_to_depart first.key) (holds.steps + 0) (holds.steps + steps_to_depart first.key) first.reader (token old) (token new) (model.Find key) (reply.Rows (rows_held new.me.0.role)) (omega arith) rests holds.answered.gains;
+      holds_in =
+          subst (λ (b : Bool). HeldIn b holds.named held.says holds.steps)
+          (λ j. nat_lt (rests.number j - 1) (rests.table j).announcers) holds.takes;
+      looks =
+          ap (λ (m : Marks). m.loads) holds.answered.marks_are
+          ∙ ap (λ (l : List LoggedLoad). l ++ looks_at key holds.named)
+          (ap (λ (m : Marks). m.loads) marks_between ∙ departed_loads first.key first.reader.marks);
+      gains =
+          rests_gains (steps_to_depart first.key) (holds.steps + 0) (holds.steps + steps_to_depart first.key)
+          first.reader (token old) (token new) (model.Find key) (reply.Rows (rows_held new.me.0.role)) (omega arith)
+          rests holds.answered.gains;
     }
 
     pub pins_by_hand : (kept : Kept) → kept.key ≡ key → PinsByHand key first (handed new (Some kept)) true
@@ -75,21 +105,31 @@ module _ (table : Table) (key : ℕ) (old new : MapSeat) (held : Held) (holds : 
       finds,
       record {
         key_is = ap Some same;
-        row_set = subst (λ (t : Table). IsRowSet t.shape.rows (rows_held new.me.0.role)) (sym holds.answered.held_as.holds.own ∙ finds.gains.table) holds.answered.held_as.holds.holds.row_set;
+        row_set =
+            subst (λ (t : Table). IsRowSet t.shape.rows (rows_held new.me.0.role))
+            (sym holds.answered.held_as.holds.own ∙ finds.gains.table) holds.answered.held_as.holds.holds.row_set;
         holds = some_held;
-        marks = holds.answered.marks_are ∙ (λ j. acted (with_loads (marks_between j) (sym (ap (λ (m : Marks). m.loads) holds.answered.marks_are) j)) (put_number new.me.0.seen key));
+        marks =
+            holds.answered.marks_are
+            ∙ (λ j. acted
+            (with_loads (marks_between j) (sym (ap (λ (m : Marks). m.loads) holds.answered.marks_are) j))
+            (put_number new.me.0.seen key));
       },
       holds.answered.held_as.says,
     )
 
 -- a hand that keeps its hold read the rows that it holds
-module _ {Room : Type 0} (shows : Room → List Row → Type 0) (key : ℕ) (old mid new : Handed) (before room : Room) (copies : CopiesHeld (2 * length mid.rows) mid new) (shown : shows room mid.rows) where
+module _ {Room : Type 0} (shows : Room → List Row → Type 0) (key : ℕ) (old mid new : Handed) (before room : Room)
+    (copies : CopiesHeld (2 * length mid.rows) mid new) (shown : shows room mid.rows) where
   still_holds : HoldsKey key old mid → HoldsKey key old new
   still_holds so = record {
     key_is = copies.key_is ∙ so.key_is;
     row_set = subst (IsRowSet old.reader.table.shape.rows) (sym copies.rows) so.row_set;
     holds = ap (λ (o : Option ℕ). is_some o) copies.holds ∙ so.holds;
-    marks = copies.marks ∙ so.marks ∙ (λ j. acted (with_loads (departed old.key old.reader.marks) (sym copies.marks j).loads) (put_number (sym copies.rests.seen j) key));
+    marks =
+        copies.marks ∙ so.marks
+        ∙ (λ j. acted (with_loads (departed old.key old.reader.marks) (sym copies.marks j).loads)
+        (put_number (sym copies.rests.seen j) key));
   }
 
   pub finds_kept : KeepsByHand key old mid true → FindsKept shows key old before new room found.Rows
@@ -97,8 +137,15 @@ module _ {Room : Type 0} (shows : Room → List Row → Type 0) (key : ℕ) (old
       (λ again. inl (
         record {
           held = again.held;
-          gains = grows_rests 1 (2 * length mid.rows) (2 * length old.rows + 1) old.reader (entry old.reader.number (model.Find key) (reply.Rows old.rows) ∷ []) mid.reader new.reader (omega (arith, ap (λ (l : List Row). length l) again.rows)) again.gains copies.rests;
-          put = subst (λ (p : Table × List Entry). (kind_of (state_of (after (map_at_opening p.0) p.1) key) ≡ kind.Rows) × (put_number p.1 key ≡ old.reader.marks.put)) (λ j. (sym copies.rests.table j, sym copies.rests.seen j)) again.put;
+          gains =
+              grows_rests 1 (2 * length mid.rows) (2 * length old.rows + 1) old.reader
+              (entry old.reader.number (model.Find key) (reply.Rows old.rows) ∷ []) mid.reader new.reader
+              (omega (arith, ap (λ (l : List Row). length l) again.rows)) again.gains copies.rests;
+          put =
+              subst
+              (λ (p : Table × List Entry). (kind_of (state_of (after (map_at_opening p.0) p.1) key) ≡ kind.Rows)
+              × (put_number p.1 key ≡ old.reader.marks.put))
+              (λ j. (sym copies.rests.table j, sym copies.rests.seen j)) again.put;
           key_is = copies.key_is ∙ again.key_is;
           rows = copies.rows ∙ again.rows;
           holds = copies.holds ∙ again.holds;
@@ -109,7 +156,13 @@ module _ {Room : Type 0} (shows : Room → List Row → Type 0) (key : ℕ) (old
         refl,
       ))
       (λ anew. let so = anew.1 in let f = so.2 in inr (
-        (λ own. let asked = anew.0 own in (asked.0, asked.1, record { rest = asked.2.rest; is = copies.rests.seen ∙ asked.2.is }, (asked.3.0, ap (λ (m : Marks). m.loads) copies.marks ∙ asked.3.1))),
+        (λ own.
+            let asked = anew.0 own in (
+              asked.0,
+              asked.1,
+              record { rest = asked.2.rest; is = copies.rests.seen ∙ asked.2.is },
+              (asked.3.0, ap (λ (m : Marks). m.loads) copies.marks ∙ asked.3.1),
+            )),
         (
           (
             so.0,
@@ -120,8 +173,14 @@ module _ {Room : Type 0} (shows : Room → List Row → Type 0) (key : ℕ) (old
               says = f.says;
               holds_in = f.holds_in;
               looks = ap (λ (m : Marks). m.loads) copies.marks ∙ f.looks;
-              gains = subst (λ (rows : List Row). Gains (f.steps + (so.0 + 2 * length new.rows)) (model.Find key) old.reader new.reader (reply.Rows rows)) (sym copies.rows)
-                  (grows_rests (f.steps + (so.0 + 0)) (2 * length mid.rows) (f.steps + (so.0 + 2 * length new.rows)) old.reader (entry old.reader.number (model.Find key) (reply.Rows mid.rows) ∷ []) mid.reader new.reader
+              gains =
+                  subst
+                  (λ (rows : List Row). Gains (f.steps + (so.0 + 2 * length new.rows)) (model.Find key) old.reader
+                  new.reader (reply.Rows rows))
+                  (sym copies.rows)
+                  (grows_rests (f.steps + (so.0 + 0)) (2 * length mid.rows) (f.steps + (so.0 + 2 * length new.rows))
+                  old.reader (entry old.reader.number (model.Find key) (reply.Rows mid.rows) ∷ []) mid.reader
+                  new.reader
                   (omega (arith, ap (λ (l : List Row). length l) copies.rows)) f.gains copies.rests);
             },
             so.3,

@@ -20,7 +20,8 @@ reading_brings bound (model.Replace key rows) reads = absurd (cc)
 reading_brings bound (model.Evict key) reads = tt
 reading_brings bound (model.Cancel key) reads = tt
 
-callers_bring : (shape : Shape) (log : List Entry) → AreCallers shape log → All (λ entry. BringsRowSet shape.rows entry.call) log
+callers_bring : (shape : Shape) (log : List Entry) → AreCallers shape log
+    → All (λ entry. BringsRowSet shape.rows entry.call) log
 callers_bring shape [] callers = All-nil (λ (e : Entry). BringsRowSet shape.rows e.call)
 callers_bring shape (e ∷ log) callers = All-cons (λ (x : Entry). BringsRowSet shape.rows x.call) e log
     (⊎_elim (λ writes. writes.1) (λ reads. reading_brings shape.rows e.call reads.1) callers.0.1)
@@ -28,4 +29,6 @@ callers_bring shape (e ∷ log) callers = All-cons (λ (x : Entry). BringsRowSet
 
 pub rows_fit_lem : RowsStayWithinBound → RowsFitTheMap
 rows_fit_lem within map log key number rows callers near filled =
-    let shape = map.shape in within shape.keys shape.rows shape.first_number key number rows log (callers_bring shape log callers) near filled
+    let shape = map.shape in
+    within shape.keys shape.rows shape.first_number key number rows log (callers_bring shape log callers) near
+    filled

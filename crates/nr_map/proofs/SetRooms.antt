@@ -12,19 +12,28 @@ use Rattle.nr_board.specs.Callers.{Caller, Gains}
 use Rattle.nr_board.specs.Holds.{FindsRows}
 
 module _ (key : ℕ) (old new : Caller) (before after : List Row) where
-  pub finds_set : (answer : Found) → FindsIn (λ (room rows : List Row). room ≡ rows) key old before new after answer → FindsKey key old before new after answer
-  finds_set found.Rows (rows, gains, same, held) = subst (λ (set : List Row). FindsRows (2 * length set + 1) key set old new) (sym same) gains
+  pub finds_set : (answer : Found) → FindsIn (λ (room rows : List Row). room ≡ rows) key old before new after answer
+      → FindsKey key old before new after answer
+  finds_set found.Rows (rows, gains, same, held) =
+      subst (λ (set : List Row). FindsRows (2 * length set + 1) key set old new) (sym same) gains
   finds_set found.Hole told = told
 
-  pub looks_set : (answer : Found) → LooksIn (λ (room rows : List Row). room ≡ rows) key old before new after answer → LooksAt key old before new after answer
-  looks_set found.Rows (rows, gains, stay, same, held) = (subst (λ (set : List Row). Gains (2 * length set + 2) (model.Find key) old new (reply.Rows set)) (sym same) gains, stay)
+  pub looks_set : (answer : Found) → LooksIn (λ (room rows : List Row). room ≡ rows) key old before new after answer
+      → LooksAt key old before new after answer
+  looks_set found.Rows (rows, gains, stay, same, held) = (
+    subst (λ (set : List Row). Gains (2 * length set + 2) (model.Find key) old new (reply.Rows set)) (sym same)
+        gains,
+    stay,
+  )
   looks_set found.Hole told = told
 
   -- of rows that the find found, and no others
-  pub finds_row_set : (answer : Found) → FindsIn (λ (room rows : List Row). room ≡ rows) key old before new after answer → answer ≡ found.Rows → IsRowSet old.table.shape.rows after
+  pub finds_row_set : (answer : Found) → FindsIn (λ (room rows : List Row). room ≡ rows) key old before new after answer
+      → answer ≡ found.Rows → IsRowSet old.table.shape.rows after
   finds_row_set found.Rows (rows, gains, same, held) is = subst (IsRowSet old.table.shape.rows) (sym same) held
   finds_row_set found.Hole told is = absurd (cc)
 
-  pub looks_row_set : (answer : Found) → LooksIn (λ (room rows : List Row). room ≡ rows) key old before new after answer → answer ≡ found.Rows → IsRowSet old.table.shape.rows after
+  pub looks_row_set : (answer : Found) → LooksIn (λ (room rows : List Row). room ≡ rows) key old before new after answer
+      → answer ≡ found.Rows → IsRowSet old.table.shape.rows after
   looks_row_set found.Rows (rows, gains, stay, same, held) is = subst (IsRowSet old.table.shape.rows) (sym same) held
   looks_row_set found.Hole told is = absurd (cc)

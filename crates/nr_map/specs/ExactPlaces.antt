@@ -1,4 +1,5 @@
--- The exact place of a no-slot, for a caller that has all tokens in one hand and gathers every reader after each call of the writer.
+-- The exact place of a no-slot, for a caller that has all tokens in one hand and gathers every reader after each call
+-- of the writer.
 use Rattle.std.specs.Prelude.{◌≡◌, ℕ, ◌<◌, List}
 use Rattle.nr_model.specs.declared.calls.Call.{Call}
 use Rattle.nr_model.specs.declared.rows.Row.{Row}
@@ -28,7 +29,8 @@ pub record HasGathered (writer : Caller) (readers : List Past) : Type 0 where
 abbrev pub in_use : Caller → List Past → ℕ
 in_use writer readers = slots_in_use writer.table.shape writer.seen readers
 
--- No reader has a word. The writer knew how all readers are, its call found no slot, and it gathered them again, unchanged: all slots are in use.
+-- No reader has a word. The writer knew how all readers are, its call found no slot, and it gathered them again,
+-- unchanged: all slots are in use.
 abbrev pub NoSlotMeansAllInUse : Type 0
 NoSlotMeansAllInUse =
     (steps : ℕ) (call : Call) (counts : NoSlot) (old new after : Caller) (readers : List Past) →
@@ -40,7 +42,8 @@ NoSlotMeansAllInUse =
     HasGathered after readers →
     in_use after readers ≡ after.table.shape.slots
 
--- The writer had gathered all readers, put a set, and gathered them again, unchanged: before the call fewer slots were in use.
+-- The writer had gathered all readers, put a set, and gathered them again, unchanged: before the call fewer slots were
+-- in use.
 abbrev pub DoneMeansFewerInUse : Type 0
 DoneMeansFewerInUse =
     (steps : ℕ) (call : Call) (rows : List Row) (old new after : Caller) (readers : List Past) →

@@ -1,5 +1,6 @@
 -- A reader that is idle or holds the set of a key.
-use Rattle.std.specs.Prelude.{◌≡◌, ◌≢◌, ℕ, suc, ◌+◌, ◌-◌, ◌*◌, ◌<◌, ◌==◌, ◌⊎◌, ◌&&◌, ◌||◌, nat_lt, Bool, true, false, if◌then◌else◌, List, [], ◌∷◌, ◌++◌, length, Option, Some, None, IsSome, Result, Ok, Err}
+use Rattle.std.specs.Prelude.{◌≡◌, ◌≢◌, ℕ, suc, ◌+◌, ◌-◌, ◌*◌, ◌<◌, ◌==◌, ◌⊎◌, ◌&&◌, ◌||◌, nat_lt, Bool, true, false}
+use Rattle.std.specs.Prelude.{if◌then◌else◌, List, [], ◌∷◌, ◌++◌, length, Option, Some, None, IsSome, Result, Ok, Err}
 use Rattle.atomic_table.specs.declared.shared.Seat.{Seat}
 use Rattle.nr_model.specs.declared.rows.Row.{Row}
 use Rattle.nr_model.specs.Rows.{IsRowSet}
@@ -10,7 +11,8 @@ use Rattle.nr_marks.specs.Puts.{put_number}
 use Rattle.nr_board.specs.declared.answers.Found.{Found}
 use Rattle.nr_board.specs.declared.answers.Found.TheVariants as found
 use Rattle.nr_board.specs.Callers.{Caller, Gains, Grows, Rests, token}
-use Rattle.nr_board.specs.Holds.{FindsHole, FindsHoleAfter, FindsRows, FindsRowsAfter, HeldIn, HoleIn, LooksAgain, finds_by_word, looks_at}
+use Rattle.nr_board.specs.Holds.{FindsHole, FindsHoleAfter, FindsRows, FindsRowsAfter, HeldIn, HoleIn, LooksAgain}
+use Rattle.nr_board.specs.Holds.{finds_by_word, looks_at}
 use Rattle.nr_board.specs.Meetings.{HasPut}
 use Rattle.nr_board.specs.Rule.{StartsWith}
 use Rattle.nr_board.specs.Seats.{IdlesAt}
@@ -93,21 +95,26 @@ pub record HoldsKey (key : ℕ) (old new : Handed) : Type 0 where
   pub key_is : new.key ≡ Some key
   pub row_set : IsRowSet old.reader.table.shape.rows new.rows
   pub holds : IsSome new.reader.holds
-  pub marks : new.reader.marks ≡ acted (with_loads (departed old.key old.reader.marks) new.reader.marks.loads) (put_number new.reader.seen key)
+  pub marks : new.reader.marks
+      ≡ acted (with_loads (departed old.key old.reader.marks) new.reader.marks.loads) (put_number new.reader.seen key)
 
 pub record HoldsNothing (key : ℕ) (old new : Handed) : Type 0 where
   pub key_is : new.key ≡ None
   pub rows : new.rows ≡ []
   pub holds : new.reader.holds ≡ None
   pub silent : new.reader.says ≡ 0
-  pub marks : new.reader.marks ≡ acted (with_loads (departed old.key old.reader.marks) new.reader.marks.loads) (put_number new.reader.seen key)
+  pub marks : new.reader.marks
+      ≡ acted (with_loads (departed old.key old.reader.marks) new.reader.marks.loads) (put_number new.reader.seen key)
 
 -- a pin by a hand lets go what it held before it finds
 abbrev pub PinsByHand : ℕ → Handed → Handed → Bool → Type 0
-PinsByHand key old new true = (finds : FindsRows (steps_to_depart old.key) key new.rows old.reader new.reader) × HoldsKey key old new × (new.reader.says ≡ finds.says)
+PinsByHand key old new true =
+    (finds : FindsRows (steps_to_depart old.key) key new.rows old.reader new.reader) × HoldsKey key old new
+    × (new.reader.says ≡ finds.says)
 PinsByHand key old new false = FindsHole (steps_to_depart old.key) key old.reader new.reader × HoldsNothing key old new
 
--- the key has the set still that the hand holds, and the find is answered with its rows in that many steps; nothing is let go
+-- the key has the set still that the hand holds, and the find is answered with its rows in that many steps; nothing is
+-- let go
 pub record FindsHeld (steps key : ℕ) (old new : Handed) : Type 0 where
   pub held : old.key ≡ Some key
   pub gains : Gains steps (model.Find key) old.reader new.reader (reply.Rows old.rows)
@@ -134,7 +141,8 @@ AgainByHand key old new true = FindsHeld 1 key old new
 AgainByHand key old new false = (old.key ≡ Some key → AsksInVain key old new) × (old.key ≢ Some key → new ≡ old)
 
 -- what is held is let go, and then a find is made after which nothing is held
-pub record FindsAndLetsGo {Room : Type 0} (shows : Room → List Row → Type 0) (key : ℕ) (old : Handed) (before : Room) (new : Handed) (room : Room) (answer : Found) : Type 0 where
+pub record FindsAndLetsGo {Room : Type 0} (shows : Room → List Row → Type 0) (key : ℕ) (old : Handed) (before : Room)
+    (new : Handed) (room : Room) (answer : Found) : Type 0 where
   pub reader : Caller
   pub lets_go : LetsGo old (idle reader)
   pub was_idle : old.key ≡ None → reader ≡ old.reader
@@ -142,13 +150,17 @@ pub record FindsAndLetsGo {Room : Type 0} (shows : Room → List Row → Type 0)
   pub rests : new ≡ idle new.reader
   pub holds : new.reader.holds ≡ None
   pub silent : new.reader.says ≡ 0
-  pub marks : new.reader.marks ≡ marks_found answer (with_loads reader.marks new.reader.marks.loads) (put_number new.reader.seen key)
+  pub marks : new.reader.marks
+      ≡ marks_found answer (with_loads reader.marks new.reader.marks.loads) (put_number new.reader.seen key)
 
 -- the hand asked in vain before it came to where it is: with its first look since
 abbrev pub AskedBefore : ℕ → Handed → Handed → Type 0
-AskedBefore key old new = (asked : Handed) × AsksInVain key old asked × StartsWith new.reader.seen asked.reader.seen × ((later : List LoggedLoad) × (new.reader.marks.loads ≡ asked.reader.marks.loads ++ later))
+AskedBefore key old new =
+    (asked : Handed) × AsksInVain key old asked × StartsWith new.reader.seen asked.reader.seen
+    × ((later : List LoggedLoad) × (new.reader.marks.loads ≡ asked.reader.marks.loads ++ later))
 
--- a hand goes on from what it holds to the slot that a look at the key named, where it holds by its reader's word: that look is the find's first. Else it lets go, in one step, and finds anew
+-- a hand goes on from what it holds to the slot that a look at the key named, where it holds by its reader's word: that
+-- look is the find's first. Else it lets go, in one step, and finds anew
 abbrev pub goes_on : ℕ → ℕ → Bool
 goes_on says word = nat_lt 0 says && is_filled word
 
@@ -161,31 +173,43 @@ late_by says word = (if goes_on says word then 0 else 2)
 -- so after that look
 abbrev pub MovesByHand : ℕ → ℕ → Handed → Handed → Bool → Type 0
 MovesByHand key word old new true =
-    (steps : ℕ) × (named : List ℕ) × HeldIn (finds_by_word old.reader) (first_by old.reader.says word ++ named) new.reader.says steps × Gains (steps + late_by old.reader.says word - 1) (model.Find key) old.reader new.reader (reply.Rows new.rows)
+    (steps : ℕ) × (named : List ℕ)
+    × HeldIn (finds_by_word old.reader) (first_by old.reader.says word ++ named) new.reader.says steps
+    × Gains (steps + late_by old.reader.says word - 1) (model.Find key) old.reader new.reader (reply.Rows new.rows)
     × HoldsKey key old new × (new.reader.marks.loads ≡ old.reader.marks.loads ++ looks_at key named)
 MovesByHand key word old new false =
-    (steps : ℕ) × (named : List ℕ) × HoleIn (finds_by_word old.reader) (first_by old.reader.says word ++ named) steps × Gains (steps + late_by old.reader.says word - 1) (model.Find key) old.reader new.reader reply.Hole
+    (steps : ℕ) × (named : List ℕ) × HoleIn (finds_by_word old.reader) (first_by old.reader.says word ++ named) steps
+    × Gains (steps + late_by old.reader.says word - 1) (model.Find key) old.reader new.reader reply.Hole
     × HoldsNothing key old new × (new.reader.marks.loads ≡ old.reader.marks.loads ++ looks_at key named)
 
--- whether a hand that keeps its hold, and whose reader's word says that, looks at the key before it lets anything go: it holds a set of the key, or another one by the word
+-- whether a hand that keeps its hold, and whose reader's word says that, looks at the key before it lets anything go:
+-- it holds a set of the key, or another one by the word
 abbrev pub looks_first : ℕ → Option ℕ → ℕ → Bool
 looks_first key None says = false
 looks_first key (Some held) says = (held == key) || nat_lt 0 says
 
--- What such a hand does before a find whose looks named this: so many steps, with looks that named that. It lets go what it holds, without a look. Or it looks, and by the count it departs; by its word it clears that at a hole. Else its look is the find's, and the next announcement lets go what it held.
+-- What such a hand does before a find whose looks named this: so many steps, with looks that named that. It lets go
+-- what it holds, without a look. Or it looks, and by the count it departs; by its word it clears that at a hole. Else
+-- its look is the find's, and the next announcement lets go what it held.
 abbrev pub BegunIn : ℕ → Handed → List ℕ → ℕ → List ℕ → Type 0
 BegunIn key old named begun before =
     ((looks_first key old.key old.reader.says ≡ false) × (begun ≡ steps_to_depart old.key) × (before ≡ []))
-    ⊎ ((looks_first key old.key old.reader.says ≡ true) × (name : ℕ) × (0 < old.reader.says → name ≡ 0) × (begun ≡ 2) × (before ≡ name ∷ []))
-    ⊎ ((looks_first key old.key old.reader.says ≡ true) × (0 < old.reader.says) × (slot : ℕ) × (others : List ℕ) × (named ≡ suc slot ∷ others) × (begun ≡ 0) × (before ≡ []))
+    ⊎ ((looks_first key old.key old.reader.says ≡ true) × (name : ℕ) × (0 < old.reader.says → name ≡ 0) × (begun ≡ 2)
+    × (before ≡ name ∷ []))
+    ⊎ ((looks_first key old.key old.reader.says ≡ true) × (0 < old.reader.says) × (slot : ℕ) × (others : List ℕ)
+    × (named ≡ suc slot ∷ others) × (begun ≡ 0) × (before ≡ []))
 
 -- it holds the key's set then, in the steps of a hold, those, and so many more
 abbrev pub HoldsAnew : ℕ → ℕ → Handed → Handed → Type 0
-HoldsAnew more key old new = (begun : ℕ) × (before : List ℕ) × (finds : FindsRowsAfter before (begun + more) key new.rows old.reader new.reader) × BegunIn key old finds.named begun before × HoldsKey key old new × (new.reader.says ≡ finds.says)
+HoldsAnew more key old new =
+    (begun : ℕ) × (before : List ℕ) × (finds : FindsRowsAfter before (begun + more) key new.rows old.reader new.reader)
+    × BegunIn key old finds.named begun before × HoldsKey key old new × (new.reader.says ≡ finds.says)
 
 -- or nothing, at a hole
 abbrev pub FindsNone : ℕ → Handed → Handed → Type 0
-FindsNone key old new = (begun : ℕ) × (before : List ℕ) × (finds : FindsHoleAfter before begun key old.reader new.reader) × BegunIn key old finds.named begun before × HoldsNothing key old new
+FindsNone key old new =
+    (begun : ℕ) × (before : List ℕ) × (finds : FindsHoleAfter before begun key old.reader new.reader)
+    × BegunIn key old finds.named begun before × HoldsNothing key old new
 
 -- a hand that keeps its hold: it finds the set that it holds again, or it finds anew
 abbrev pub KeepsAnew : ℕ → Handed → Handed → Bool → Type 0
@@ -201,7 +225,8 @@ abbrev pub FindsAnew : {Room : Type 0} → (Room → List Row → Type 0) → �
 FindsAnew shows key old before new room found.Rows = HoldsAnew (2 * length new.rows) key old new × shows room new.rows
 FindsAnew shows key old before new room found.Hole = FindsNone key old new × (room ≡ before)
 
--- a find by a hand that keeps its hold: it reads the rows that it holds where the key has them still, and else finds anew
+-- a find by a hand that keeps its hold: it reads the rows that it holds where the key has them still, and else finds
+-- anew
 abbrev pub FindsKept : {Room : Type 0} → (Room → List Row → Type 0) → ℕ → Handed → Room → Handed → Room → Found → Type 0
 FindsKept shows key old before new room answer =
     (FindsHeld (2 * length old.rows + 1) key old new × shows room old.rows × (answer ≡ found.Rows))

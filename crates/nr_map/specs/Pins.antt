@@ -26,12 +26,20 @@ pub record Pins (seat : Seat (Unit {0}) View) (own : Own) (held : Held) : Type 0
   pub holds : HeldAs (token seat).table held seat
   pub reader : IsReader seat own
 
--- a pin is a find, in the steps of a hold: of a filled key it holds the rows of the reply, whose put number is the key's, and a hole gives the reader back
+-- a pin is a find, in the steps of a hold: of a filled key it holds the rows of the reply, whose put number is the
+-- key's, and a hole gives the reader back
 abbrev pub PinsKey : ℕ → Caller → Result Pinned Caller → Type 0
-PinsKey key old (Ok pin) = (finds : FindsRows 0 key pin.rows old pin.reader) × (pin.reader.marks ≡ acted (looked old.marks key finds.named) (put_number pin.reader.seen key)) × IsSome pin.reader.holds × (pin.reader.says ≡ finds.says)
-PinsKey key old (Err reader) = (finds : FindsHole 0 key old reader) × (reader.marks ≡ acted (looked old.marks key finds.named) (put_number reader.seen key)) × (reader.holds ≡ None) × (reader.says ≡ 0)
+PinsKey key old (Ok pin) =
+    (finds : FindsRows 0 key pin.rows old pin.reader)
+    × (pin.reader.marks ≡ acted (looked old.marks key finds.named) (put_number pin.reader.seen key))
+    × IsSome pin.reader.holds × (pin.reader.says ≡ finds.says)
+PinsKey key old (Err reader) =
+    (finds : FindsHole 0 key old reader)
+    × (reader.marks ≡ acted (looked old.marks key finds.named) (put_number reader.seen key)) × (reader.holds ≡ None)
+    × (reader.says ≡ 0)
 
--- a find by a pin: where the key has the set that the pin holds, it is answered with its rows; else it is no entry, and the pin learns the history so far
+-- a find by a pin: where the key has the set that the pin holds, it is answered with its rows; else it is no entry, and
+-- the pin learns the history so far
 abbrev pub FindsByPin : ℕ → List Row → Caller → Caller → Bool → Type 0
 FindsByPin key rows old new true = Gains 1 (model.Find key) old new (reply.Rows rows)
 FindsByPin key rows old new false = Grows 1 [] old new

@@ -1,5 +1,7 @@
--- Which of the sets that were put stand in slots, and which were let go: given out, by a reap too, or put over by a call that gives none out.
-use Rattle.std.specs.Prelude.{◌≡◌, ◌≢◌, ℕ, ◌+◌, ◌<◌, ◌≤◌, nat_lt, if◌then◌else◌, Bool, false, List, [], ◌∷◌, ◌++◌, length, slice_index, take, Some}
+-- Which of the sets that were put stand in slots, and which were let go: given out, by a reap too, or put over by a
+-- call that gives none out.
+use Rattle.std.specs.Prelude.{◌≡◌, ◌≢◌, ℕ, ◌+◌, ◌<◌, ◌≤◌, nat_lt, if◌then◌else◌, Bool, false, List, [], ◌∷◌, ◌++◌}
+use Rattle.std.specs.Prelude.{length, slice_index, take, Some}
 use Rattle.nr_machine.specs.declared.calls.NoSlot.{NoSlot}
 use Rattle.nr_machine.specs.declared.places.Retired.{Retired}
 use Rattle.nr_machine.specs.declared.shape.Shape.{Shape}
@@ -31,15 +33,21 @@ standing writer = unreaped (take writer.fresh writer.marks.puts) writer.marks.re
 
 -- the put number of the set that stood in a slot, if it was ever taken and not reaped
 abbrev pub had_number : Caller → ℕ → List ℕ
-had_number writer slot = if nat_lt slot writer.fresh then (if is_reaped writer.marks slot then [] else slice_index writer.marks.puts slot ∷ []) else []
+had_number writer slot =
+    if nat_lt slot writer.fresh then
+    (if is_reaped writer.marks slot then [] else slice_index writer.marks.puts slot ∷ []) else
+    []
 
 -- each set that the writer put stands in a slot or was let go, and not both, and not twice
 pub record Ledger (writer : Caller) (gone : List ℕ) : Type 0 where
-  pub slots : (length writer.marks.puts ≡ writer.table.shape.slots) × (writer.fresh ≤ writer.table.shape.slots) × (length writer.marks.reaped ≡ writer.table.shape.slots)
+  pub slots : (length writer.marks.puts ≡ writer.table.shape.slots) × (writer.fresh ≤ writer.table.shape.slots)
+      × (length writer.marks.reaped ≡ writer.table.shape.slots)
   -- only a slot that was taken is named or retired
   pub taken : (slot : ℕ) → Living writer.retired writer.marks slot → slot < writer.fresh
-  pub put : (number : ℕ) → number < put_count writer.mine → count_of_put (standing writer) number + count_of_put gone number ≡ 1
-  pub later : (number : ℕ) → put_count writer.mine ≤ number → count_of_put (standing writer) number + count_of_put gone number ≡ 0
+  pub put : (number : ℕ) → number < put_count writer.mine
+      → count_of_put (standing writer) number + count_of_put gone number ≡ 1
+  pub later : (number : ℕ) → put_count writer.mine ≤ number
+      → count_of_put (standing writer) number + count_of_put gone number ≡ 0
 
 -- a call that puts a set lets go of the one that its slot had; that is the set which a reclaiming call gives out
 abbrev pub HandedOutOnce : Type 0
@@ -53,7 +61,9 @@ HandedOutOnce =
 -- a reap lets go of the set that it gives out
 abbrev pub ReapedOnce : Type 0
 ReapedOnce =
-    (held later : List Retired) (entry : Retired) (notes : List Past) (steps : ℕ) (scanned : List ℕ) (loads : List LoggedLoad) (old new : Caller) (gone : List ℕ) →
+    (held later : List Retired) (entry : Retired) (notes : List Past) (steps : ℕ) (scanned : List ℕ)
+    (loads : List LoggedLoad) (old new : Caller) (gone : List ℕ)
+    →
     ready_to old scanned ≡ held ++ entry ∷ later →
     new ≡ with_reap entry.slot (after_polls notes loads scanned steps old) →
     Ledger old gone →
@@ -113,9 +123,13 @@ LedgerStays =
     Ledger old gone →
     Ledger new gone
 
--- the set that a reader held, as the writer knows it, stands in a slot that a key names or that is retired, and was not reaped
+-- the set that a reader held, as the writer knows it, stands in a slot that a key names or that is retired, and was not
+-- reaped
 abbrev pub StandsYet : Caller → Past → Type 0
-StandsYet writer reader = (slot : ℕ) → reader.slot ≡ Some slot → (slice_index writer.marks.puts slot ≡ reader.put) × Living writer.retired writer.marks slot × (is_reaped writer.marks slot ≡ false)
+StandsYet writer reader =
+    (slot : ℕ) → reader.slot ≡ Some slot
+    → (slice_index writer.marks.puts slot ≡ reader.put) × Living writer.retired writer.marks slot
+    × (is_reaped writer.marks slot ≡ false)
 
 -- so it is of a reader that the writer has just gathered
 abbrev pub GatheredStands : Type 0
@@ -128,7 +142,8 @@ GatheredStands =
 abbrev pub StandsAfterReap : {Room : Type 0} → (Room → List Row → Type 0) → Type 0
 StandsAfterReap {Room = Room} shows =
     (old new : Caller) (before after : Room) (reader : Past) →
-    ((reaps : ReapsIn shows old before new after reaped.Set) → StandsYet old reader → reader.slot ≢ Some reaps.entry.slot → StandsYet new reader)
+    ((reaps : ReapsIn shows old before new after reaped.Set) → StandsYet old reader
+    → reader.slot ≢ Some reaps.entry.slot → StandsYet new reader)
     × (ReapsIn shows old before new after reaped.Held → StandsYet old reader → StandsYet new reader)
     × (ReapsIn shows old before new after reaped.Nothing → StandsYet old reader → StandsYet new reader)
 

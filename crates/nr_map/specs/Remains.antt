@@ -1,5 +1,6 @@
 -- A map that was taken apart: the sets that stand in its slots come out, one after another.
-use Rattle.std.specs.Prelude.{◌≡◌, ℕ, ◌+◌, ◌*◌, ◌<◌, ◌≤◌, Bool, true, false, List, [], ◌∷◌, length, map, slice_index, Option, Some, None}
+use Rattle.std.specs.Prelude.{◌≡◌, ℕ, ◌+◌, ◌*◌, ◌<◌, ◌≤◌, Bool, true, false, List, [], ◌∷◌, length, map, slice_index}
+use Rattle.std.specs.Prelude.{Option, Some, None}
 use Rattle.nr_model.specs.Strays.{count_of_put}
 use Rattle.nr_model.specs.declared.rows.Row.{Row}
 use Rattle.nr_model.specs.Rows.{IsRowSet}
@@ -37,7 +38,8 @@ AllReaped marks first end = (slot : ℕ) → first ≤ slot → slot < end → i
 
 -- from that slot on the first that was ever taken and not reaped, if there is one
 abbrev pub NextSlot : Caller → ℕ → Option ℕ → Type 0
-NextSlot writer from (Some slot) = (from ≤ slot) × (slot < writer.fresh) × AllReaped writer.marks from slot × (is_reaped writer.marks slot ≡ false)
+NextSlot writer from (Some slot) =
+    (from ≤ slot) × (slot < writer.fresh) × AllReaped writer.marks from slot × (is_reaped writer.marks slot ≡ false)
 NextSlot writer from None = AllReaped writer.marks from writer.fresh
 
 -- by a load of each word the room shows the set of the next slot, and those after it are left
@@ -46,7 +48,8 @@ pub record ComesOut {Room : Type 0} (shows : Room → List Row → Type 0) (old 
   pub first : NextSlot old.writer old.next (Some slot)
   pub shown : shows after (set_in old.writer.marks slot)
   pub row_set : IsRowSet old.writer.table.shape.rows (set_in old.writer.marks slot)
-  pub is : new ≡ record { writer = with_steps (2 * length (set_in old.writer.marks slot) + 1) old.writer; next = slot + 1 }
+  pub is : new
+      ≡ record { writer = with_steps (2 * length (set_in old.writer.marks slot) + 1) old.writer; next = slot + 1 }
 
 -- the set of the next slot that was not reaped comes out, if there is one
 abbrev pub NextOf : {Room : Type 0} → (Room → List Row → Type 0) → Left → Room → Left → Room → Bool → Type 0
@@ -56,7 +59,9 @@ NextOf shows old before new after false = NextSlot old.writer old.next None × (
 module _ {Room : Type 0} (shows : Room → List Row → Type 0) where
   -- all that is left comes out, by calls that give a set each, and a last one that gives none
   pub data AllComeOut : Left → List Given → Type 0 where
-    OneMore : (old new : Left) (before after : Room) (rest : List Given) → (next : NextOf shows old before new after true) → AllComeOut new rest → AllComeOut old (given_at old.writer next.slot ∷ rest)
+    OneMore : (old new : Left) (before after : Room) (rest : List Given)
+        → (next : NextOf shows old before new after true) → AllComeOut new rest
+        → AllComeOut old (given_at old.writer next.slot ∷ rest)
     NoMore : (old new : Left) (before after : Room) → NextOf shows old before new after false → AllComeOut old []
 
   -- these are the sets that no call let go or reaped, each once

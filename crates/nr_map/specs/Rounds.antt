@@ -1,7 +1,8 @@
 -- What the writer's history has of all callers after rounds of gathers.
 use Rattle.std.specs.Prelude.{◌≡◌, ℕ, ◌+◌, ◌<◌, ◌&&◌, Bool, List, All, length, slice_index_or}
 use Rattle.std.specs.List.{count_by}
-use Rattle.nr_model.specs.Histories.{Entry, IsLegal, asks, cancels, cancels_key, entries_of, fills, fills_key, is_cancelled, is_done, is_send, sends}
+use Rattle.nr_model.specs.Histories.{Entry, IsLegal, asks, cancels, cancels_key, entries_of, fills, fills_key}
+use Rattle.nr_model.specs.Histories.{is_cancelled, is_done, is_send, sends}
 use Rattle.nr_model.specs.Laws.{pending}
 use Rattle.nr_model.specs.Maps.{call_key, state_of}
 use Rattle.nr_machine.specs.Sums.{total}
@@ -22,11 +23,15 @@ HasHeard log caller = StartsWith caller.seen log × KnowsOwn caller
 
 -- a caller's calls stay in a history that goes on
 abbrev pub CallsStay : Type 0
-CallsStay = (log later : List Entry) (caller : Caller) → StartsWith later log → HasCalls log caller → HasCalls later caller
+CallsStay =
+    (log later : List Entry) (caller : Caller) → StartsWith later log → HasCalls log caller → HasCalls later caller
 
--- one round of gathers made the writer learn all readers' calls, and the next let each reader see what the writer had then: the writer had exactly their calls
+-- one round of gathers made the writer learn all readers' calls, and the next let each reader see what the writer had
+-- then: the writer had exactly their calls
 abbrev pub RoundsTellAll : Type 0
-RoundsTellAll = (log : List Entry) (readers : List Caller) → All (HasCalls log) readers → All (HasHeard log) readers → All (HasJustCalls log) readers
+RoundsTellAll =
+    (log : List Entry) (readers : List Caller) → All (HasCalls log) readers → All (HasHeard log) readers
+    → All (HasJustCalls log) readers
 
 -- the writer's history has exactly all callers' calls; the readers stand in the order of their numbers
 pub record KnowsAll (writer : Caller) (readers : List Caller) : Type 0 where
@@ -45,14 +50,17 @@ EntriesAreCallers =
     KnowsAll writer readers →
     count_by test writer.seen ≡ count_by test writer.mine + total (λ reader. count_by test reader.mine) readers
 
--- so all callers' requests of a key that were answered Send are its fills and its cancels, and one more where it is asked
+-- so all callers' requests of a key that were answered Send are its fills and its cancels, and one more where it is
+-- asked
 abbrev pub SendsOfAll : Type 0
 SendsOfAll =
     (writer : Caller) (readers : List Caller) (key : ℕ) →
     KnowsAll writer readers →
     key < writer.table.shape.keys →
     sends writer.mine key + total (λ reader. sends reader.mine key) readers
-    ≡ fills writer.mine key + total (λ reader. fills reader.mine key) readers + (cancels writer.mine key + total (λ reader. cancels reader.mine key) readers) + pending (state_of (map_seen writer) key)
+    ≡ fills writer.mine key + total (λ reader. fills reader.mine key) readers
+    + (cancels writer.mine key + total (λ reader. cancels reader.mine key) readers)
+    + pending (state_of (map_seen writer) key)
 
 -- a request that was answered Send, a fill that was done, and a cancel that was, of whatever key
 abbrev pub is_sent : Entry → Bool
@@ -70,7 +78,9 @@ SendsOfAllKeys =
     (writer : Caller) (readers : List Caller) →
     KnowsAll writer readers →
     count_by is_sent writer.mine + total (λ reader. count_by is_sent reader.mine) readers
-    ≡ count_by is_fill writer.mine + total (λ reader. count_by is_fill reader.mine) readers + (count_by is_cancel writer.mine + total (λ reader. count_by is_cancel reader.mine) readers) + total pending (map_seen writer).states
+    ≡ count_by is_fill writer.mine + total (λ reader. count_by is_fill reader.mine) readers
+    + (count_by is_cancel writer.mine + total (λ reader. count_by is_cancel reader.mine) readers)
+    + total pending (map_seen writer).states
 
 -- a beginning that is at least and at most is equal
 abbrev pub BeginningsMeet : Type 0

@@ -21,12 +21,14 @@ SearchesAreShort =
     (steps : ℕ) (call : Call) (rows : List Row) (old new : Caller) (published : Publishes steps call rows old new) →
     AreFewSteps old.table published.searched
 
--- a call that found no slot had no more retired slots than there are readers, each of which kept one back; where the map has room for all, it finds one
+-- a call that found no slot had no more retired slots than there are readers, each of which kept one back; where the
+-- map has room for all, it finds one
 abbrev pub NoSlotIsRare : Type 0
 NoSlotIsRare =
     (steps : ℕ) (call : Call) (counts : NoSlot) (old new : Caller) →
     HasNoSlot steps call old new counts →
-    (length old.retired ≤ old.table.shape.readers) × (counts.held ≤ old.table.shape.readers) × (HasRoomForAll old.table → ⊥)
+    (length old.retired ≤ old.table.shape.readers) × (counts.held ≤ old.table.shape.readers)
+    × (HasRoomForAll old.table → ⊥)
 
 abbrev pub RoomForFills : Type 0
 RoomForFills =

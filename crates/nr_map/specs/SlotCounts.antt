@@ -8,7 +8,8 @@ use Rattle.nr_board.specs.Meetings.{Learns}
 use Rattle.nr_board.specs.WriterAnswers.{HasNoSlot}
 use Rattle.nr_map.specs.declared.slot_counts.SlotCounts.{SlotCounts}
 
--- each slot is counted as a filled key's, as retired or as never taken, after the history so far, which the writer learns
+-- each slot is counted as a filled key's, as retired or as never taken, after the history so far, which the writer
+-- learns
 pub record CountsSlots (old new : Caller) (counts : SlotCounts) : Type 0 where
   pub learns : Learns 1 old new
   pub filled : counts.filled ≡ filled_count (map_seen new)

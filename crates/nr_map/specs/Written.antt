@@ -41,10 +41,12 @@ pub record NonePut (map : PartialMap) (key : ℕ) (entries : List Entry) (rows :
   pub number : ℕ
   pub rows_had : state_of map key ≡ state.Rows number rows
 
--- a find after a put and later entries: a hole only where one of these evicted the key, and else the rows of the last put, which is that one or a later one
+-- a find after a put and later entries: a hole only where one of these evicted the key, and else the rows of the last
+-- put, which is that one or a later one
 pub record FindsPut (map : PartialMap) (key : ℕ) (written later : List Entry) (found : Reply) : Type 0 where
   pub hole : found ≡ reply.Hole → 0 < count_by (evicts_at key) later
-  pub rows : (rows : List Row) → found ≡ reply.Rows rows → NonePut (after map written) key later rows ⊎ LastPut (after map written) key later rows
+  pub rows : (rows : List Row) → found ≡ reply.Rows rows
+      → NonePut (after map written) key later rows ⊎ LastPut (after map written) key later rows
 
 -- in every legal history a find that comes after a put of its key is answered with that put or what came after it
 abbrev pub FindsWritten : Type 0
@@ -72,14 +74,17 @@ FindsWhatItHeard =
     puts_at key put ≡ true →
     HeardBefore note old asking →
     Gains steps (model.Find key) asking new found →
-    (more : List Entry) × (new.seen ≡ ((before ++ put ∷ []) ++ (since ++ more)) ++ entry asking.number (model.Find key) found ∷ []) × FindsPut (map_at_opening old.table) key (before ++ put ∷ []) (since ++ more) found
+    (more : List Entry)
+    × (new.seen ≡ ((before ++ put ∷ []) ++ (since ++ more)) ++ entry asking.number (model.Find key) found ∷ [])
+    × FindsPut (map_at_opening old.table) key (before ++ put ∷ []) (since ++ more) found
 
 -- a find's answer: the rows that it found, or a hole
 abbrev pub answered : Found → List Row → Reply
 answered found.Rows rows = reply.Rows rows
 answered found.Hole rows = reply.Hole
 
--- of each put of the key in that history the find was answered with the rows of it or of a later one, or with a hole where the key was evicted since
+-- of each put of the key in that history the find was answered with the rows of it or of a later one, or with a hole
+-- where the key was evicted since
 abbrev pub FindsAfter : Table → ℕ → List Entry → Reply → Type 0
 FindsAfter table key told found =
     (before since : List Entry) (put : Entry) →
@@ -93,8 +98,12 @@ ReadsNoOlder =
     (old asking new : Caller) (note : Known) (key steps : ℕ) (found : Reply) →
     HeardBefore note old asking →
     Gains steps (model.Find key) asking new found →
-    (log : List Entry) × StartsWith log note.seen × (new.seen ≡ log ++ entry asking.number (model.Find key) found ∷ []) × IsLegal (map_at_opening old.table) log × (found ≡ find_reply (state_of (after (map_at_opening old.table) log) key))
+    (log : List Entry) × StartsWith log note.seen × (new.seen ≡ log ++ entry asking.number (model.Find key) found ∷ [])
+    × IsLegal (map_at_opening old.table) log
+    × (found ≡ find_reply (state_of (after (map_at_opening old.table) log) key))
 
 -- who hears a note has all calls that its maker had made
 abbrev pub HearsAllCalls : Type 0
-HearsAllCalls = (steps : ℕ) (old maker new : Caller) → KnowsOwn maker → HearsNote steps (known_to maker) old new → Meets steps maker old new
+HearsAllCalls =
+    (steps : ℕ) (old maker new : Caller) → KnowsOwn maker → HearsNote steps (known_to maker) old new
+    → Meets steps maker old new

@@ -31,21 +31,42 @@ use Rattle.nr_marks.proofs.DeskMarks.{Went}
 use Rattle.nr_marks.proofs.LookMarks.{reads_on_marked}
 use Rattle.std.proofs.lemmas.Bool.{leb-true, leb-false}
 
-module _ {A : Type 0} (role : A → Role) (marks : A → Marks) (shape : Shape) (id : ℕ) (me : A) (known : List Past) (desk : Desk) (was : role me ≡ Writer desk) where
-  goes_at : (place : Place) → desk.place ≡ place → if_not_busy place ≡ None → PollsNext place (marks me) → CanMark role marks shape id me known (going shape desk place) (Went shape desk place) (went_marks shape (marks me) known desk place)
+module _ {A : Type 0} (role : A → Role) (marks : A → Marks) (shape : Shape) (id : ℕ) (me : A) (known : List Past)
+    (desk : Desk) (was : role me ≡ Writer desk) where
+  goes_at : (place : Place) → desk.place ≡ place → if_not_busy place ≡ None → PollsNext place (marks me)
+      → CanMark role marks shape id me known (going shape desk place) (Went shape desk place)
+      (went_marks shape (marks me) known desk place)
   goes_at Idle is_at busy _ = absurd (no_some _ _ refl busy)
-  goes_at (Reading call slot got) is_at busy _ = reads_on_marked role marks shape id me known desk call slot got is_at was
+  goes_at (Reading call slot got) is_at busy _ =
+      reads_on_marked role marks shape id me known desk call slot got is_at was
   goes_at (Leaving k) is_at busy _ = unpublishes_marked role marks shape id me known desk k is_at was
   goes_at (Withdrawing k) is_at busy _ = withdraws_marked role marks shape id me known desk k is_at was
-  goes_at (Searching call rows poll) is_at busy each = polls_marked role marks shape id me known desk call rows poll is_at each was
+  goes_at (Searching call rows poll) is_at busy each =
+      polls_marked role marks shape id me known desk call rows poll is_at each was
   goes_at (Putting call rows slot departed at) is_at busy _ = put_on_marked (nat_le at (2 * length rows)) refl
     where
-      put_on_marked : (b : Bool) → nat_le at (2 * length rows) ≡ b → CanMark role marks shape id me known (cond {A = Operation} b (Store (content shape slot at) (get_or (encode rows) at 0)) (Swap (key_of call) (naming slot departed)))
-          (λ word after entries. (after ≡ Writer (cond {A = Desk × Step} b (moved_to desk (Putting call rows slot departed (at + 1)), Going) (swapped desk word, ended reply.Done)).0)
-          × (entries ≡ ending (call_of call) (cond {A = Desk × Step} b (moved_to desk (Putting call rows slot departed (at + 1)), Going) (swapped desk word, ended reply.Done)).1))
+      put_on_marked : (b : Bool) → nat_le at (2 * length rows) ≡ b
+          → CanMark role marks shape id me known
+          (cond {A = Operation} b (Store (content shape slot at) (get_or (encode rows) at 0))
+          (Swap (key_of call) (naming slot departed)))
+          (λ word after entries.
+          (after
+          ≡ Writer
+          (cond {A = Desk × Step} b (moved_to desk (Putting call rows slot departed (at + 1)), Going)
+          (swapped desk word, ended reply.Done)).0)
+          × (entries
+          ≡ ending (call_of call)
+          (cond {A = Desk × Step} b (moved_to desk (Putting call rows slot departed (at + 1)), Going)
+          (swapped desk word, ended reply.Done)).1))
           (PutsMarks b (marks me) (key_of call) slot rows)
-      put_on_marked true more = puts_marked role marks shape id me known desk call rows slot departed at is_at (leb-true at (2 * length rows) more) was
-      put_on_marked false whole = publishes_marked role marks shape id me known desk call rows slot departed at is_at (leb-false at (2 * length rows) whole) was
+      put_on_marked true more =
+          puts_marked role marks shape id me known desk call rows slot departed at is_at
+          (leb-true at (2 * length rows) more) was
+      put_on_marked false whole =
+          publishes_marked role marks shape id me known desk call rows slot departed at is_at
+          (leb-false at (2 * length rows) whole) was
 
-  pub goes_marked : if_not_busy desk.place ≡ None → PollsNext desk.place (marks me) → CanMark role marks shape id me known (going shape desk desk.place) (Goes shape desk) (GoesMarks shape (marks me) known desk)
+  pub goes_marked : if_not_busy desk.place ≡ None → PollsNext desk.place (marks me)
+      → CanMark role marks shape id me known (going shape desk desk.place) (Goes shape desk)
+      (GoesMarks shape (marks me) known desk)
   goes_marked busy next = goes_at desk.place refl busy next

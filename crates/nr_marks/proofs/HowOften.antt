@@ -9,7 +9,10 @@ how_often number numbers = total (only number) numbers
 
 pub count_is : (numbers : List ℕ) (number : ℕ) → count_of_put numbers number ≡ how_often number numbers
 count_is [] number = refl
-count_is (x ∷ xs) number = let t = count_is xs number in let c = count_by-cons (λ other. nat_eq other number) x xs in omega arith
+count_is (x ∷ xs) number =
+    let t = count_is xs number in
+    let c = count_by-cons (λ other. nat_eq other number) x xs in
+    omega arith
 
 -- the strays, counted so
 abbrev pub stray_count : List ℕ → List ℕ → ℕ
@@ -18,5 +21,12 @@ stray_count keys (q ∷ qs) = cond (nat_eq (how_often q qs + how_often q keys) 0
 
 pub strays_count : (keys qs : List ℕ) → strays keys qs ≡ stray_count keys qs
 strays_count keys [] = refl
-strays_count keys (q ∷ qs) = let t = strays_count keys qs in let a = count_is qs q in let b = count_is keys q in let sum : count_of_put qs q + count_of_put keys q ≡ how_often q qs + how_often q keys = omega arith in
-    let c : cond {A = ℕ} (nat_eq (count_of_put qs q + count_of_put keys q) 0) 1 0 ≡ cond (nat_eq (how_often q qs + how_often q keys) 0) 1 0 = ap (λ (n : ℕ). cond {A = ℕ} (nat_eq n 0) 1 0) sum in omega arith
+strays_count keys (q ∷ qs) =
+    let t = strays_count keys qs in
+    let a = count_is qs q in
+    let b = count_is keys q in
+    let sum : count_of_put qs q + count_of_put keys q ≡ how_often q qs + how_often q keys = omega arith in
+    let c : cond {A = ℕ} (nat_eq (count_of_put qs q + count_of_put keys q) 0) 1 0
+    ≡ cond (nat_eq (how_often q qs + how_often q keys) 0) 1 0
+    = ap (λ (n : ℕ). cond {A = ℕ} (nat_eq n 0) 1 0) sum in
+    omega arith

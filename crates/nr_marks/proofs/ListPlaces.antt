@@ -1,5 +1,6 @@
 -- Places in lists that are mapped, joined or changed at one place.
-use Rattle.std.proofs.Common.{List, [], ap, arith, inl, inr, length, map, refl, set, suc, sym, zero, ℕ, ⊎_elim, ◌++◌, ◌<◌, ◌∷◌, ◌≡◌, ◌≢◌, ◌⊎◌}
+use Rattle.std.proofs.Common.{List, [], ap, arith, inl, inr, length, map, refl, set, suc, sym, zero, ℕ, ⊎_elim, ◌++◌}
+use Rattle.std.proofs.Common.{◌<◌, ◌∷◌, ◌≡◌, ◌≢◌, ◌⊎◌}
 use lib.ListN.{get_elem?}
 use mathlib.Core.Option.{some, some-injective, some-ne-none}
 use Rattle.std.specs.Prelude.{Option, None, Some}
@@ -10,7 +11,8 @@ module _ {A B : Type 0} where
   at_maps f (x ∷ xs) zero a e = ap (λ (y : A). some (f y)) (some-injective x a e)
   at_maps f (x ∷ xs) (suc j) a e = at_maps f xs j a e
 
-  pub at_unmap : (f : A → B) (l : List A) (j : ℕ) (b : B) → get_elem? (map f l) j ≡ some b → (a : A) × (get_elem? l j ≡ some a) × (f a ≡ b)
+  pub at_unmap : (f : A → B) (l : List A) (j : ℕ) (b : B) → get_elem? (map f l) j ≡ some b
+      → (a : A) × (get_elem? l j ≡ some a) × (f a ≡ b)
   at_unmap f [] j b e = absurd (some-ne-none b (sym e))
   at_unmap f (x ∷ xs) zero b e = (x, refl, some-injective (f x) b e)
   at_unmap f (x ∷ xs) (suc j) b e = at_unmap f xs j b e
@@ -38,11 +40,13 @@ module _ {A : Type 0} where
   before (x ∷ xs) zero h = (x, refl)
   before (x ∷ xs) (suc i) h = before xs i (omega arith)
 
-  pub at_last : (l : List A) (a b : A) (j : ℕ) → get_elem? (l ++ a ∷ []) j ≡ some b → (get_elem? l j ≡ some b) ⊎ ((j ≡ length l) × (a ≡ b))
+  pub at_last : (l : List A) (a b : A) (j : ℕ) → get_elem? (l ++ a ∷ []) j ≡ some b
+      → (get_elem? l j ≡ some b) ⊎ ((j ≡ length l) × (a ≡ b))
   at_last [] a b zero e = inr (refl, some-injective a b e)
   at_last [] a b (suc j) e = absurd (some-ne-none b (sym e))
   at_last (x ∷ xs) a b zero e = inl e
-  at_last (x ∷ xs) a b (suc j) e = ⊎_elim inl (λ (t : (j ≡ length xs) × (a ≡ b)). inr (ap suc t.0, t.1)) (at_last xs a b j e)
+  at_last (x ∷ xs) a b (suc j) e =
+      ⊎_elim inl (λ (t : (j ≡ length xs) × (a ≡ b)). inr (ap suc t.0, t.1)) (at_last xs a b j e)
 
   -- what is said of each place of no list
   pub no_places : (P : A → Type 0) (at : ℕ) (a : A) → get_elem? [] at ≡ some a → P a

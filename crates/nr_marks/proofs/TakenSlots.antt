@@ -25,21 +25,46 @@ use Rattle.nr_machine.specs.declared.shape.Shape.{Shape}
 unused_below : (fresh n : ℕ) → fresh ≤ n → below (λ slot. unused slot fresh) n + fresh ≡ n
 unused_below fresh zero l = omega arith
 unused_below fresh (suc n) l = dite (ℕ_discrete fresh (suc n))
-    (λ e. let none = below-same (λ slot. unused slot fresh) (λ _. 0) (suc n) (λ slot near. ap (λ b. cond {A = ℕ} b 1 0) (lt-leb fresh slot (omega arith))) in let z = below-zero (suc n) in omega arith)
+    (λ e.
+    let none
+    = below-same (λ slot. unused slot fresh) (λ _. 0) (suc n)
+    (λ slot near. ap (λ b. cond {A = ℕ} b 1 0) (lt-leb fresh slot (omega arith))) in
+    let z = below-zero (suc n) in
+    omega arith)
     (λ ne. let u = unused-free n fresh (omega arith) in let t = unused_below fresh n (omega arith) in omega arith)
 
-each_once : (l : List Retired) (n : ℕ) → ((i : ℕ) (x : Retired) → get_elem? l i ≡ some x → x.slot < n) → total (λ (x : Retired). below (λ slot. only slot x.slot) n) l ≡ length l
+each_once : (l : List Retired) (n : ℕ) → ((i : ℕ) (x : Retired) → get_elem? l i ≡ some x → x.slot < n)
+    → total (λ (x : Retired). below (λ slot. only slot x.slot) n) l ≡ length l
 each_once [] n inside = refl
-each_once (x ∷ l) n inside = omega (arith, (below-only x.slot n).0 (inside 0 x refl), each_once l n (λ i y e. inside (suc i) y e))
+each_once (x ∷ l) n inside =
+    omega (arith, (below-only x.slot n).0 (inside 0 x refl), each_once l n (λ i y e. inside (suc i) y e))
 
-pub taken_are : (shape : Shape) (words : List ℕ) (roles : List Role) (log : List Entry) (id : ℕ) (desk : Desk) → Core shape words roles log → get_elem? roles id ≡ some (Writer desk) → ((slot : ℕ) → taken slot desk.place ≡ 0)
+pub taken_are : (shape : Shape) (words : List ℕ) (roles : List Role) (log : List Entry) (id : ℕ) (desk : Desk)
+    → Core shape words roles log → get_elem? roles id ≡ some (Writer desk) → ((slot : ℕ) → taken slot desk.place ≡ 0)
     → filled_count (map_after shape log) + length desk.retired ≡ desk.fresh
 taken_are shape words roles log id desk core there free =
     let mine = core.knows id (Writer desk) there in let room = mine.room in
-    let each : (slot : ℕ) → slot < shape.slots → (named shape words slot + unused slot desk.fresh) + retirements slot desk.retired ≡ 1 = λ slot near.
+    let each : (slot : ℕ) → slot < shape.slots
+    → (named shape words slot + unused slot desk.fresh) + retirements slot desk.retired ≡ 1
+    = λ slot near.
     omega (arith, retired_once shape words roles log core id desk there slot near, free slot) in
-    let all = below-same (λ slot. (named shape words slot + unused slot desk.fresh) + retirements slot desk.retired) (λ _. 1) shape.slots each in
-    let a = below-sum (λ slot. named shape words slot + unused slot desk.fresh) (λ slot. retirements slot desk.retired) shape.slots in let b = below-sum (named shape words) (λ slot. unused slot desk.fresh) shape.slots in
-    let r : below (λ slot. retirements slot desk.retired) shape.slots ≡ length desk.retired = exchanged (λ slot (x : Retired). only slot x.slot)
+    let all
+    = below-same (λ slot. (named shape words slot + unused slot desk.fresh) + retirements slot desk.retired)
+    (λ _. 1) shape.slots each in
+    let a
+    = below-sum (λ slot. named shape words slot + unused slot desk.fresh) (λ slot. retirements slot desk.retired)
+    shape.slots in
+    let b = below-sum (named shape words) (λ slot. unused slot desk.fresh) shape.slots in
+    let r : below (λ slot. retirements slot desk.retired) shape.slots ≡ length desk.retired
+    = exchanged (λ slot (x : Retired). only slot x.slot)
     desk.retired shape.slots ∙ each_once desk.retired shape.slots (λ i x e. (mine.retired i x e).0) in
-    omega (arith, all, a, b, r, named_are_filled shape words roles log core, unused_below desk.fresh shape.slots room, below-one shape.slots)
+    omega (
+      arith,
+      all,
+      a,
+      b,
+      r,
+      named_are_filled shape words roles log core,
+      unused_below desk.fresh shape.slots room,
+      below-one shape.slots,
+    )

@@ -1,5 +1,6 @@
 -- The put numbers that are in use, by the history and by the writer's lists.
-use Rattle.std.specs.Prelude.{◌≡◌, ℕ, suc, ◌+◌, ◌<◌, ◌≤◌, ◌⊎◌, List, [], ◌∷◌, length, map, slice_index, Option, true, false, zero, option_map}
+use Rattle.std.specs.Prelude.{◌≡◌, ℕ, suc, ◌+◌, ◌<◌, ◌≤◌, ◌⊎◌, List, [], ◌∷◌, length, map, slice_index, Option, true}
+use Rattle.std.specs.Prelude.{false, zero, option_map}
 use mathlib.Core.Option.{some}
 use lib.ListN.{get_elem?}
 use Rattle.nr_model.specs.Maps.{filled_count, state_of, is_filled_key}
@@ -40,8 +41,11 @@ retired_puts puts retired = map (λ (entry : Retired). slice_index puts entry.sl
 
 -- the put numbers that the writer knows are different, and below the next one
 pub record Tidy (retired : List Retired) (marks : Marks) (next : ℕ) : Type 0 where
-  pub once : (number : ℕ) → count_of_put (named_puts marks.puts marks.names) number + count_of_put (retired_puts marks.puts retired) number ≤ 1
-  pub apart : (slot other : ℕ) → Living retired marks slot → Living retired marks other → slice_index marks.puts slot ≡ slice_index marks.puts other → slot ≡ other
+  pub once : (number : ℕ)
+      → count_of_put (named_puts marks.puts marks.names) number + count_of_put (retired_puts marks.puts retired) number
+      ≤ 1
+  pub apart : (slot other : ℕ) → Living retired marks slot → Living retired marks other
+      → slice_index marks.puts slot ≡ slice_index marks.puts other → slot ≡ other
   pub fresh : (slot : ℕ) → Living retired marks slot → slice_index marks.puts slot < next
 
 -- what the writer's lists say of a map with this history
@@ -50,10 +54,16 @@ pub record Lists (desk : Desk) (marks : Marks) (shape : Shape) (log : List Entry
   pub wide : length marks.names ≡ shape.keys
   pub room : desk.fresh ≤ shape.slots
   -- while no call has taken a slot, each one that was ever taken is named or retired
-  pub slots : ((slot : ℕ) → taken slot desk.place ≡ 0) → filled_count (map_after shape log) + length desk.retired ≡ desk.fresh
-  pub empty : (at : ℕ) → at < shape.keys → slice_index marks.names at ≡ 0 → is_filled_key (state_of (map_after shape log) at) ≡ false
-  pub full : (at slot : ℕ) → at < shape.keys → slice_index marks.names at ≡ suc slot → (is_filled_key (state_of (map_after shape log) at) ≡ true) × (slice_index marks.puts slot ≡ put_number log at)
+  pub slots : ((slot : ℕ) → taken slot desk.place ≡ 0)
+      → filled_count (map_after shape log) + length desk.retired ≡ desk.fresh
+  pub empty : (at : ℕ) → at < shape.keys → slice_index marks.names at ≡ 0
+      → is_filled_key (state_of (map_after shape log) at) ≡ false
+  pub full : (at slot : ℕ) → at < shape.keys → slice_index marks.names at ≡ suc slot
+      → (is_filled_key (state_of (map_after shape log) at) ≡ true) × (slice_index marks.puts slot ≡ put_number log at)
 
 -- a call that put a set took a free slot, or one that was retired; its put number is new
 abbrev pub TookSpare : Shape → Desk → Marks → List Entry → Type 0
-TookSpare shape desk now log = (desk.fresh < shape.slots) ⊎ ((at : ℕ) × (entry : Retired) × (get_elem? desk.retired at ≡ some entry) × (put_count log ≤ slice_index now.puts entry.slot))
+TookSpare shape desk now log =
+    (desk.fresh < shape.slots)
+    ⊎ ((at : ℕ) × (entry : Retired) × (get_elem? desk.retired at ≡ some entry)
+    × (put_count log ≤ slice_index now.puts entry.slot))

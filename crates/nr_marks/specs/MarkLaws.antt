@@ -18,7 +18,8 @@ use Rattle.nr_marks.specs.Exact.{Lists, TookSpare, filled_puts, pins}
 abbrev pub slots_in_use : Shape → List Entry → List Past → ℕ
 slots_in_use shape log readers = filled_count (map_after shape log) + strays (filled_puts shape log) (pins readers)
 
--- Every reader was gathered before a call that ended with no slot, and again after it, and made no act in between: all slots are in use.
+-- Every reader was gathered before a call that ended with no slot, and again after it, and made no act in between: all
+-- slots are in use.
 abbrev pub NoSlotByMarks : Type 0
 NoSlotByMarks =
     (shape : Shape) (desk : Desk) (marks : Marks) (log : List Entry) (known readers : List Past) →

@@ -1,5 +1,6 @@
 -- What each kind of step tells of the marks.
-use Rattle.std.specs.Prelude.{◌≡◌, ◌≢◌, ℕ, suc, ◌+◌, ◌<◌, ◌≤◌, List, [], ◌∷◌, ◌++◌, length, slice_index, ◌*◌, nat_le, Bool, true, false, if◌then◌else◌, Some}
+use Rattle.std.specs.Prelude.{◌≡◌, ◌≢◌, ℕ, suc, ◌+◌, ◌<◌, ◌≤◌, List, [], ◌∷◌, ◌++◌, length, slice_index, ◌*◌, nat_le}
+use Rattle.std.specs.Prelude.{Bool, true, false, if◌then◌else◌, Some}
 use mathlib.Core.Option.{some}
 use lib.ListN.{get_elem?}
 use Rattle.nr_model.specs.Histories.{Entry}
@@ -20,7 +21,8 @@ use Rattle.nr_machine.specs.States.{retired_at, key_of}
 use Rattle.nr_machine.specs.Writer.{looked, read_on, step_in}
 use Rattle.nr_machine.specs.declared.calls.WReply.TheVariants as writer
 use Rattle.nr_marks.specs.Puts.{put_count, put_number}
-use Rattle.nr_marks.specs.Marks.{Past, Marks, acted, with_look, with_poll, with_polls, with_name, with_reaped, without_name}
+use Rattle.nr_marks.specs.Marks.{Past, Marks, acted, with_look, with_poll, with_polls, with_name, with_reaped}
+use Rattle.nr_marks.specs.Marks.{without_name}
 use Rattle.nr_marks.specs.PollNotes.{NoRoom, Missed}
 use Rattle.nr_marks.specs.Pasts.{Refreshed, Compared}
 use Rattle.nr_marks.specs.Marked.{MarkTelling}
@@ -40,24 +42,32 @@ ArrivesMarks marks at word after log now news = (now ≡ acted marks (put_number
 
 -- a look-up that finds a hole is one act; one that finds a slot named is none yet
 abbrev pub LooksUpMarks : Marks → ℕ → MarkTelling
-LooksUpMarks marks at word after log now news = (now ≡ (if is_filled word then with_look marks at (name_number word) else acted (with_look marks at (name_number word)) (put_number log at))) × (news ≡ [])
+LooksUpMarks marks at word after log now news =
+    (now
+    ≡ (if is_filled word then with_look marks at (name_number word) else acted
+    (with_look marks at (name_number word)) (put_number log at)))
+    × (news ≡ [])
 
 -- a hold of the slot that a look at the key named
 abbrev pub HoldsNamedMarks : Marks → ℕ → ℕ → MarkTelling
-HoldsNamedMarks marks at slot word after log now news = (now ≡ acted (with_look marks at (suc slot)) (put_number log at)) × (news ≡ [])
+HoldsNamedMarks marks at slot word after log now news =
+    (now ≡ acted (with_look marks at (suc slot)) (put_number log at)) × (news ≡ [])
 
 -- a find by a reader that holds the set counts as a departure and an arrive at the same slot
 abbrev pub found_again : Bool → Marks → Marks
 found_again true marks = acted (acted marks marks.put) marks.put
 found_again false marks = marks
 
--- where the word names the slot that is held, the key's put number is still the hold's; where it names another, it is another
+-- where the word names the slot that is held, the key's put number is still the hold's; where it names another, it is
+-- another
 abbrev pub ComparesPuts : Bool → ℕ → ℕ → ℕ → Type 0
 ComparesPuts true word put number = number ≡ put
 ComparesPuts false word put number = 0 < name_number word → number ≢ put
 
 abbrev pub FindsAgainMarks : Marks → ℕ → ℕ → MarkTelling
-FindsAgainMarks marks slot at word after log now news = (now ≡ found_again (names_slot slot word) (with_look marks at (name_number word))) × (news ≡ []) × ComparesPuts (names_slot slot word) word marks.put (put_number log at)
+FindsAgainMarks marks slot at word after log now news =
+    (now ≡ found_again (names_slot slot word) (with_look marks at (name_number word))) × (news ≡ [])
+    × ComparesPuts (names_slot slot word) word marks.put (put_number log at)
 
 abbrev pub DepartsMarks : Marks → MarkTelling
 DepartsMarks marks word after log now news = (now ≡ acted marks marks.put) × (news ≡ [])
@@ -65,24 +75,31 @@ DepartsMarks marks word after log now news = (now ≡ acted marks marks.put) × 
 -- a look begins the list of polls anew
 abbrev pub LooksMarks : Shape → Marks → Desk → WriterCall → MarkTelling
 LooksMarks shape marks desk call word after log now news =
-    (now ≡ with_polls marks []) × (news ≡ []) × (IsNoSlot (step_in (looked shape desk call word)) → NoRoom shape call desk.retired [] log)
+    (now ≡ with_polls marks []) × (news ≡ [])
+    × (IsNoSlot (step_in (looked shape desk call word)) → NoRoom shape call desk.retired [] log)
 
 abbrev pub ReadsOnMarks : Shape → Marks → Desk → WriterCall → ℕ → List ℕ → MarkTelling
 ReadsOnMarks shape marks desk call slot got word after log now news =
-    (now ≡ marks) × (news ≡ []) × (IsNoSlot (step_in (read_on shape desk call slot (got ++ word ∷ []))) → NoRoom shape call desk.retired [] log)
+    (now ≡ marks) × (news ≡ [])
+    × (IsNoSlot (step_in (read_on shape desk call slot (got ++ word ∷ []))) → NoRoom shape call desk.retired [] log)
 
 -- a poll that finds its slot held notes a reader that holds it, and the last such one leaves no room
 abbrev pub PollTells : Bool → Shape → List Past → Desk → WriterCall → ℕ → List Entry → Marks → Marks → Type 0
 PollTells true shape known desk call poll log marks now = now ≡ with_poll marks (retired_at desk poll).slot true
 PollTells false shape known desk call poll log marks now =
-    (now ≡ with_polls (with_poll marks (retired_at desk poll).slot false) now.polls) × Missed shape known marks.polls (retired_at desk poll).slot now.polls × (length desk.retired ≤ poll + 1 → NoRoom shape call desk.retired now.polls log)
+    (now ≡ with_polls (with_poll marks (retired_at desk poll).slot false) now.polls)
+    × Missed shape known marks.polls (retired_at desk poll).slot now.polls
+    × (length desk.retired ≤ poll + 1 → NoRoom shape call desk.retired now.polls log)
 
 abbrev pub PollsMarks : Shape → Marks → List Past → Desk → WriterCall → ℕ → MarkTelling
-PollsMarks shape marks known desk call poll word after log now news = (news ≡ []) × PollTells (same_count word (retired_at desk poll).arrivals) shape known desk call poll log marks now
+PollsMarks shape marks known desk call poll word after log now news =
+    (news ≡ []) × PollTells (same_count word (retired_at desk poll).arrivals) shape known desk call poll log marks now
 
 -- a publish gives the slot the next put number, and the set
 abbrev pub PublishesMarks : Marks → ℕ → ℕ → List Row → MarkTelling
-PublishesMarks marks at slot rows word after log now news = (number : ℕ) × (put_count log ≡ suc number) × (slice_index now.puts slot ≡ number) × (now ≡ with_name marks at slot number rows) × (news ≡ [])
+PublishesMarks marks at slot rows word after log now news =
+    (number : ℕ) × (put_count log ≡ suc number) × (slice_index now.puts slot ≡ number)
+    × (now ≡ with_name marks at slot number rows) × (news ≡ [])
 
 -- a put, or after the last put the publish
 abbrev pub PutsMarks : Bool → Marks → ℕ → ℕ → List Row → MarkTelling
@@ -99,7 +116,8 @@ went_marks shape marks known desk (Reading call slot got) = ReadsOnMarks shape m
 went_marks shape marks known desk (Leaving at) = UnpublishesMarks marks at
 went_marks shape marks known desk (Withdrawing at) = KeepsMarks marks
 went_marks shape marks known desk (Searching call rows poll) = PollsMarks shape marks known desk call poll
-went_marks shape marks known desk (Putting call rows slot departed index) = PutsMarks (nat_le index (2 * length rows)) marks (key_of call) slot rows
+went_marks shape marks known desk (Putting call rows slot departed index) =
+    PutsMarks (nat_le index (2 * length rows)) marks (key_of call) slot rows
 
 abbrev pub GoesMarks : Shape → Marks → List Past → Desk → MarkTelling
 GoesMarks shape marks known desk = went_marks shape marks known desk desk.place
@@ -115,15 +133,19 @@ PollsNext (Putting call rows slot departed index) marks = Unit {0}
 
 -- the reader was noted at no other slot
 abbrev pub NotedNowhereElse : List Past → Past → Type 0
-NotedNowhereElse polls note = (at : ℕ) (poll : Past) → get_elem? polls at ≡ some poll → poll.reader ≡ note.reader → poll.slot ≡ note.slot
+NotedNowhereElse polls note =
+    (at : ℕ) (poll : Past) → get_elem? polls at ≡ some poll → poll.reader ≡ note.reader → poll.slot ≡ note.slot
 
 -- a poll by a reap: where no reader holds the slot its set is reaped; else a reader that holds it is noted
 abbrev pub ProbeTells : Bool → Shape → ℕ → Marks → Marks → Type 0
 ProbeTells true shape slot marks now = now ≡ with_reaped (with_poll marks slot true) slot
-ProbeTells false shape slot marks now = (note : Past) × (now ≡ with_polls (with_poll marks slot false) (marks.polls ++ note ∷ [])) × (note.slot ≡ Some slot) × (0 < note.reader) × (note.reader ≤ shape.readers) × NotedNowhereElse marks.polls note
+ProbeTells false shape slot marks now =
+    (note : Past) × (now ≡ with_polls (with_poll marks slot false) (marks.polls ++ note ∷ [])) × (note.slot ≡ Some slot)
+    × (0 < note.reader) × (note.reader ≤ shape.readers) × NotedNowhereElse marks.polls note
 
 abbrev pub ProbesMarks : Shape → Marks → Retired → MarkTelling
-ProbesMarks shape marks entry word after log now news = (news ≡ []) × ProbeTells (same_count word entry.arrivals) shape entry.slot marks now
+ProbesMarks shape marks entry word after log now news =
+    (news ≡ []) × ProbeTells (same_count word entry.arrivals) shape entry.slot marks now
 
 -- a poll of any retired slot by a search: a slot that no reader holds is taken; else a reader that holds it is noted
 abbrev pub TryTells : Bool → Shape → ℕ → Marks → Marks → Type 0
@@ -131,12 +153,15 @@ TryTells true shape slot marks now = now ≡ with_poll marks slot true
 TryTells false shape slot marks now = ProbeTells false shape slot marks now
 
 abbrev pub TriesMarks : Shape → Marks → Desk → ℕ → MarkTelling
-TriesMarks shape marks desk poll word after log now news = (news ≡ []) × TryTells (same_count word (retired_at desk poll).arrivals) shape (retired_at desk poll).slot marks now
+TriesMarks shape marks desk poll word after log now news =
+    (news ≡ []) × TryTells (same_count word (retired_at desk poll).arrivals) shape (retired_at desk poll).slot marks now
 
 -- the writer learns how the readers are that it was told of, and what its lists say of the history so far
 abbrev pub WriterLearns : Shape → Marks → Desk → List Past → MarkTelling
-WriterLearns shape marks desk told word after log now news = (now ≡ marks) × Refreshed desk.retired marks told news × Lists desk marks shape log
+WriterLearns shape marks desk told word after log now news =
+    (now ≡ marks) × Refreshed desk.retired marks told news × Lists desk marks shape log
 
 -- a reader compares itself with what it was told of itself
 abbrev pub ReaderLearns : ℕ → Grip → Marks → List Past → MarkTelling
-ReaderLearns reader grip marks told word after log now news = (now ≡ marks) × (news ≡ []) × Compared reader grip marks told
+ReaderLearns reader grip marks told word after log now news =
+    (now ≡ marks) × (news ≡ []) × Compared reader grip marks told

@@ -1,5 +1,7 @@
--- Marks, which contracts alone see beside a caller's role: a reader's count of acts and the put number of its hold; the writer's names, put numbers, sets, reaped slots, polls and loads of readers' words.
-use Rattle.std.specs.Prelude.{ℕ, suc, Bool, true, false, List, [], ◌∷◌, ◌++◌, slice_index_or, slice_set, Option, Some, None, replicate}
+-- Marks, which contracts alone see beside a caller's role: a reader's count of acts and the put number of its hold; the
+-- writer's names, put numbers, sets, reaped slots, polls and loads of readers' words.
+use Rattle.std.specs.Prelude.{ℕ, suc, Bool, true, false, List, [], ◌∷◌, ◌++◌, slice_index_or, slice_set, Option, Some}
+use Rattle.std.specs.Prelude.{None, replicate}
 use Rattle.nr_model.specs.declared.rows.Row.{Row}
 use Rattle.nr_machine.specs.declared.shape.Shape.{Shape}
 use Rattle.nr_machine.specs.declared.roles.Role.{Role}
@@ -7,14 +9,16 @@ use Rattle.nr_machine.specs.declared.roles.Role.TheVariants.{Writer, Reader, Not
 use Rattle.nr_machine.specs.declared.roles.Grip.{Grip}
 use Rattle.nr_machine.specs.declared.roles.Grip.TheVariants.{Nothing, On}
 
--- a reader as it was once: how many arrives and departs it had made, the slot that it held, and the put number of the set there
+-- a reader as it was once: how many arrives and departs it had made, the slot that it held, and the put number of the
+-- set there
 pub record Past : Type 0 where
   pub reader : ℕ
   pub count : ℕ
   pub slot : Option ℕ
   pub put : ℕ
 
--- a load that is told apart: of that reader's own word, and what it found; a poll of that retired slot, and whether nobody held it; or a reader's look at that key, and what it named: 0, or one more than a slot
+-- a load that is told apart: of that reader's own word, and what it found; a poll of that retired slot, and whether
+-- nobody held it; or a reader's look at that key, and what it named: 0, or one more than a slot
 pub data LoggedLoad : Type 0 where
   OfWord : (reader word : ℕ) → LoggedLoad
   OfSlot : (slot : ℕ) (free : Bool) → LoggedLoad
@@ -49,7 +53,17 @@ past reader grip marks = record { reader = reader; count = marks.acts; slot = gr
 
 -- the writer's marks at the opening: no key names a slot; who has no marks yet
 abbrev pub opening_marks : Shape → Marks
-opening_marks shape = record { acts = 0; put = 0; names = replicate shape.keys 0; puts = replicate shape.slots 0; sets = replicate shape.slots []; reaped = replicate shape.slots false; polls = []; loads = [] }
+opening_marks shape =
+    record {
+      acts = 0;
+      put = 0;
+      names = replicate shape.keys 0;
+      puts = replicate shape.slots 0;
+      sets = replicate shape.slots [];
+      reaped = replicate shape.slots false;
+      polls = [];
+      loads = [];
+    }
 
 abbrev pub no_marks : Marks
 no_marks = record { acts = 0; put = 0; names = []; puts = []; sets = []; reaped = []; polls = []; loads = [] }
@@ -95,7 +109,14 @@ with_reaped marks slot = record marks { reaped = slice_set marks.reaped slot tru
 
 -- the key names the slot, into which that set was put, with that number; what the call's polls noted is of no use then
 abbrev pub with_name : Marks → ℕ → ℕ → ℕ → List Row → Marks
-with_name marks key slot number rows = record marks { names = slice_set marks.names key (suc slot); puts = slice_set marks.puts slot number; sets = slice_set marks.sets slot rows; reaped = slice_set marks.reaped slot false; polls = [] }
+with_name marks key slot number rows =
+    record marks {
+      names = slice_set marks.names key (suc slot);
+      puts = slice_set marks.puts slot number;
+      sets = slice_set marks.sets slot rows;
+      reaped = slice_set marks.reaped slot false;
+      polls = [];
+    }
 
 abbrev pub without_name : Marks → ℕ → Marks
 without_name marks key = record marks { names = slice_set marks.names key 0 }

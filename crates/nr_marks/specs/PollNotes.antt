@@ -16,11 +16,13 @@ use Rattle.nr_marks.specs.Marks.{Past}
 -- the polls found every retired slot held, each by another reader
 pub record AllHeld (retired : List Retired) (polls : List Past) : Type 0 where
   pub many : length polls ≡ length retired
-  pub slots : (at : ℕ) (entry : Retired) → get_elem? retired at ≡ some entry → (poll : Past) × (get_elem? polls at ≡ some poll) × (poll.slot ≡ Some entry.slot)
+  pub slots : (at : ℕ) (entry : Retired) → get_elem? retired at ≡ some entry
+      → (poll : Past) × (get_elem? polls at ≡ some poll) × (poll.slot ≡ Some entry.slot)
   pub different : (reader : ℕ) → total (λ poll. only reader poll.reader) polls ≤ 1
 
 -- there is no slot for a call that would be done: each is named, or is retired and was held at its poll
-pub record NoRoom (shape : Shape) (call : WriterCall) (retired : List Retired) (polls : List Past) (log : List Entry) : Type 0 where
+pub record NoRoom (shape : Shape) (call : WriterCall) (retired : List Retired) (polls : List Past)
+    (log : List Entry) : Type 0 where
   pub done : reply_to (map_after shape log) (call_of call) ≡ reply.Done
   pub slots : filled_count (map_after shape log) + length retired ≡ shape.slots
   pub apart : (slot : ℕ) → retirements slot retired ≤ 1
@@ -39,5 +41,7 @@ pub record Missed (shape : Shape) (known polls : List Past) (slot : ℕ) (now : 
 
 -- the polls noted readers that the map has, and none as it was before what was known of it
 pub record Noted (shape : Shape) (known polls : List Past) : Type 0 where
-  pub newer : (at place : ℕ) (poll old : Past) → get_elem? polls at ≡ some poll → get_elem? known place ≡ some old → old.reader ≡ poll.reader → old.count ≤ poll.count
-  pub range : (at : ℕ) (poll : Past) → get_elem? polls at ≡ some poll → (0 < poll.reader) × (poll.reader ≤ shape.readers)
+  pub newer : (at place : ℕ) (poll old : Past) → get_elem? polls at ≡ some poll → get_elem? known place ≡ some old
+      → old.reader ≡ poll.reader → old.count ≤ poll.count
+  pub range : (at : ℕ) (poll : Past) → get_elem? polls at ≡ some poll
+      → (0 < poll.reader) × (poll.reader ≤ shape.readers)

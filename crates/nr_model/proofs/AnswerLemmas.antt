@@ -25,7 +25,9 @@ done_names number (Hole n) e = absurd (false≢true (ap is_done e))
 done_names number (Asked n) e =
     ⊎_elim
     (λ same. sym (eqb-true n number same))
-    (λ other. let stale : fill_reply number (Asked n) ≡ reply.Stale = rw other refl in absurd (false≢true (ap is_done (sym stale ∙ e))))
+    (λ other.
+    let stale : fill_reply number (Asked n) ≡ reply.Stale = rw other refl in
+    absurd (false≢true (ap is_done (sym stale ∙ e))))
     (cases_Bool (n == number))
 done_names number (Rows n rows) e = absurd (false≢true (ap is_done e))
 
@@ -35,5 +37,6 @@ answers_fit_their_requests_lem keys bound first_number key number history e lega
     let parts = (legal_goes_on_lem map history e).1.1 legal in
     let count = (numbers_count_cancels_lem keys bound first_number key history parts.0 within).0 in (
       λ asks sent. send_tells number _ (sym (ap (reply_to (after map history)) asks) ∙ sym parts.1 ∙ sent) ∙ count,
-      λ rows fills done. done_names number _ (sym (ap (reply_to (after map history)) fills) ∙ sym parts.1 ∙ done) ∙ count,
+      λ rows fills done. done_names number _ (sym (ap (reply_to (after map history)) fills) ∙ sym parts.1 ∙ done)
+          ∙ count,
     )

@@ -1,7 +1,9 @@
 -- The laws.
-use Rattle.std.proofs.Common.{◌≡◌, ◌∙◌, ℕ, ◌<◌, ◌≤◌, Bool, true, false, ltb, List, [], ◌∷◌, ◌++◌, length, ⊎_elim, ap, refl, sym, arith, Ok, Err}
+use Rattle.std.proofs.Common.{◌≡◌, ◌∙◌, ℕ, ◌<◌, ◌≤◌, Bool, true, false, ltb, List, [], ◌∷◌, ◌++◌, length, ⊎_elim, ap}
+use Rattle.std.proofs.Common.{refl, sym, arith, Ok, Err}
 use Rattle.std.specs.List.{list_any}
-use Rattle.std.proofs.lemmas.Bool.{and_parts, cases_Bool, cases_lt, not-true, ltb-true, eq-eqb, and_from, or_cases, false≢true}
+use Rattle.std.proofs.lemmas.Bool.{and_parts, cases_Bool, cases_lt, not-true, ltb-true, eq-eqb, and_from, or_cases}
+use Rattle.std.proofs.lemmas.Bool.{false≢true}
 use Rattle.std.proofs.lemmas.Bool.Decides.{nat_tests}
 use Rattle.std.proofs.lemmas.List.Sums.{fold-append}
 use Rattle.nr_model.specs.declared.rows.Row.{Row}
@@ -11,13 +13,19 @@ use Rattle.nr_model.specs.Rows.{row_eq, row_lt, is_ascending, count_of, is_short
 use Rattle.nr_model.specs.Batches.{applied, positive_rows, negative_rows}
 use Rattle.nr_model.specs.Maps.{PartialMap, reply_to, next}
 use Rattle.nr_model.specs.Histories.{Entry, after, IsLegal}
-use Rattle.nr_model.specs.Laws.{OrderKeepsRows, CountsDecide, OrderedStay, BatchMovesRows, BatchLacksRow, LegalGoesOn, LegalBegins}
-use Rattle.nr_model.proofs.RowLemmas.{one, row_eq-refl, row_eq-true, row_ge-trans, count_of-append, count_of-cons, length-with_all, count_of-with_all, ascending-with_all, ascending-without_all, ascending-cons, count_of-without_all, enough_from, short_from}
+use Rattle.nr_model.specs.Laws.{OrderKeepsRows, CountsDecide, OrderedStay, BatchMovesRows, BatchLacksRow, LegalGoesOn}
+use Rattle.nr_model.specs.Laws.{LegalBegins}
+use Rattle.nr_model.proofs.RowLemmas.{one, row_eq-refl, row_eq-true, row_ge-trans, count_of-append, count_of-cons}
+use Rattle.nr_model.proofs.RowLemmas.{length-with_all, count_of-with_all, ascending-with_all, ascending-without_all}
+use Rattle.nr_model.proofs.RowLemmas.{ascending-cons, count_of-without_all, enough_from, short_from}
 use Rattle.nr_model.proofs.BatchLemmas.{is_short-with_all, applied_no_row, applied_ok, applied_too_many}
 
 pub order_keeps_rows_lem : OrderKeepsRows
-order_keeps_rows_lem rows =
-    (ascending-with_all [] rows refl, omega (arith, length-with_all [] rows), λ r. omega (arith, count_of-with_all [] rows r))
+order_keeps_rows_lem rows = (
+  ascending-with_all [] rows refl,
+  omega (arith, length-with_all [] rows),
+  λ r. omega (arith, count_of-with_all [] rows r),
+)
 
 row_lt-irrefl : (r : Row) → row_lt r r ≡ false
 row_lt-irrefl r = grind (arith, nat_tests)
@@ -35,7 +43,8 @@ rest_least (y ∷ ys) x r h k =
     let parts = and_parts _ _ h in
     ⊎_elim
     (λ e. ap (λ z. row_lt z x) (sym (row_eq-true y r e)) ∙ not-true _ parts.0)
-    (λ e. row_ge-trans x y r (not-true _ parts.0) (rest_least ys y r parts.1 (omega (arith, k, count_of-cons y ys r, ap (λ b. one b) e))))
+    (λ e. row_ge-trans x y r (not-true _ parts.0)
+    (rest_least ys y r parts.1 (omega (arith, k, count_of-cons y ys r, ap (λ b. one b) e))))
     (cases_Bool (row_eq y r))
 
 first_least : (xs : List Row) (x r : Row) → is_ascending (x ∷ xs) ≡ true → 0 < count_of (x ∷ xs) r → row_lt r x ≡ false
@@ -47,13 +56,19 @@ first_least xs x r h k =
 
 pub counts_decide_lem : CountsDecide
 counts_decide_lem [] [] h k same = refl
-counts_decide_lem [] (y ∷ ys) h k same = absurd (omega (arith, same y, count_of-cons y ys y, ap (λ b. one b) (row_eq-refl y)))
-counts_decide_lem (x ∷ xs) [] h k same = absurd (omega (arith, same x, count_of-cons x xs x, ap (λ b. one b) (row_eq-refl x)))
+counts_decide_lem [] (y ∷ ys) h k same =
+    absurd (omega (arith, same y, count_of-cons y ys y, ap (λ b. one b) (row_eq-refl y)))
+counts_decide_lem (x ∷ xs) [] h k same =
+    absurd (omega (arith, same x, count_of-cons x xs x, ap (λ b. one b) (row_eq-refl x)))
 counts_decide_lem (x ∷ xs) (y ∷ ys) h k same =
-    let x_there : 0 < count_of (y ∷ ys) x = omega (arith, same x, count_of-cons x xs x, ap (λ b. one b) (row_eq-refl x)) in
-    let y_there : 0 < count_of (x ∷ xs) y = omega (arith, same y, count_of-cons y ys y, ap (λ b. one b) (row_eq-refl y)) in
+    let x_there : 0 < count_of (y ∷ ys) x
+    = omega (arith, same x, count_of-cons x xs x, ap (λ b. one b) (row_eq-refl x)) in
+    let y_there : 0 < count_of (x ∷ xs) y
+    = omega (arith, same y, count_of-cons y ys y, ap (λ b. one b) (row_eq-refl y)) in
     let heads : x ≡ y = row_antisym x y (first_least ys y x k x_there) (first_least xs x y h y_there) in
-    let tails : xs ≡ ys = counts_decide_lem xs ys (and_parts _ _ (sym (ascending-cons x xs) ∙ h)).1 (and_parts _ _ (sym (ascending-cons y ys) ∙ k)).1
+    let tails : xs ≡ ys
+    = counts_decide_lem xs ys (and_parts _ _ (sym (ascending-cons x xs) ∙ h)).1
+    (and_parts _ _ (sym (ascending-cons y ys) ∙ k)).1
     (λ r. omega (arith, same r, count_of-cons x xs r, count_of-cons y ys r, ap (λ z. one (row_eq z r)) heads)) in
     ap (λ z. z ∷ xs) heads ∙ ap (λ l. y ∷ l) tails
 
@@ -93,7 +108,8 @@ any_row : (p : Row → Bool) (xs : List Row) → list_any p xs ≡ true → (r :
 any_row p [] h = absurd (false≢true h)
 any_row p (x ∷ xs) h = ⊎_elim (λ e. (x, e)) (λ e. any_row p xs e) (or_cases (p x) (list_any p xs) h)
 
-lacks : (bound : ℕ) (rows : List Row) (batch : List Delta) → applied bound rows batch ≡ Err fault.NoRow → is_short (rows ++ positive_rows batch) (negative_rows batch) ≡ true
+lacks : (bound : ℕ) (rows : List Row) (batch : List Delta) → applied bound rows batch ≡ Err fault.NoRow
+    → is_short (rows ++ positive_rows batch) (negative_rows batch) ≡ true
 unfolding applied
 lacks bound rows batch h =
     let more : List Row = positive_rows batch in
@@ -112,17 +128,23 @@ unfolding applied
 batch_lacks_row_lem bound rows batch =
     let more : List Row = positive_rows batch in
     let less : List Row = negative_rows batch in (
-      λ h. let found : (r : Row) × (ltb (count_of (rows ++ more) r) (count_of less r) ≡ true) = any_row _ less (lacks bound rows batch h) in
+      λ h.
+          let found : (r : Row) × (ltb (count_of (rows ++ more) r) (count_of less r) ≡ true)
+          = any_row _ less (lacks bound rows batch h) in
           (found.0, omega (arith, count_of-append rows more found.0, ltb-true _ _ found.1)),
-      λ found. let s : is_short (rows ++ more) less ≡ true = short_from (rows ++ more) less found.0 (omega (arith, found.1, count_of-append rows more found.0)) in
+      λ found.
+          let s : is_short (rows ++ more) less ≡ true
+          = short_from (rows ++ more) less found.0 (omega (arith, found.1, count_of-append rows more found.0)) in
           rw s refl,
     )
 
-legal_push : (history : List Entry) (map : PartialMap) (e : Entry) → IsLegal map history × (e.reply ≡ reply_to (after map history) e.call) → IsLegal map (history ++ e ∷ [])
+legal_push : (history : List Entry) (map : PartialMap) (e : Entry)
+    → IsLegal map history × (e.reply ≡ reply_to (after map history) e.call) → IsLegal map (history ++ e ∷ [])
 legal_push [] map e h = (h.1, tt)
 legal_push (x ∷ history) map e h = (h.0.0, legal_push history (next map x.call) e (h.0.1, h.1))
 
-legal_pop : (history : List Entry) (map : PartialMap) (e : Entry) → IsLegal map (history ++ e ∷ []) → IsLegal map history × (e.reply ≡ reply_to (after map history) e.call)
+legal_pop : (history : List Entry) (map : PartialMap) (e : Entry) → IsLegal map (history ++ e ∷ [])
+    → IsLegal map history × (e.reply ≡ reply_to (after map history) e.call)
 legal_pop [] map e h = (tt, h.0)
 legal_pop (x ∷ history) map e h = let rest = legal_pop history (next map x.call) e h.1 in ((h.0, rest.0), rest.1)
 

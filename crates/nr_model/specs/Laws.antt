@@ -42,7 +42,8 @@ BatchMovesRows =
     IsTrue (is_ascending rows) →
     applied bound rows batch ≡ Ok left →
     IsRowSet bound left
-    × ((r : Row) → count_of left r + count_of (negative_rows batch) r ≡ count_of rows r + count_of (positive_rows batch) r)
+    × ((r : Row)
+    → count_of left r + count_of (negative_rows batch) r ≡ count_of rows r + count_of (positive_rows batch) r)
 
 -- a batch lacks a row exactly where it takes some row away more often than it can
 abbrev pub BatchLacksRow : Type 0
@@ -75,7 +76,9 @@ SendsAreAnswered =
     (keys bound first_number key : ℕ) (history : List Entry) →
     IsLegal (opening keys bound first_number) history →
     key < keys →
-    sends history key ≡ fills history key + cancels history key + pending (state_of (after (opening keys bound first_number) history) key)
+    sends history key
+    ≡ fills history key + cancels history key
+    + pending (state_of (after (opening keys bound first_number) history) key)
 
 -- a key's ticket number is the first number and one more for each cancel; it never passes the last one
 abbrev pub NumbersCountCancels : Type 0
@@ -84,16 +87,19 @@ NumbersCountCancels =
     IsLegal (opening keys bound first_number) history →
     key < keys →
     (number_of (state_of (after (opening keys bound first_number) history) key) ≡ first_number + cancels history key)
-    × (first_number ≤ last_number → number_of (state_of (after (opening keys bound first_number) history) key) ≤ last_number)
+    × (first_number ≤ last_number
+    → number_of (state_of (after (opening keys bound first_number) history) key) ≤ last_number)
 
--- a request that is sent tells the first number and one more for each cancel before it, and a fill is done under that number alone
+-- a request that is sent tells the first number and one more for each cancel before it, and a fill is done under that
+-- number alone
 abbrev pub AnswersFitTheirRequests : Type 0
 AnswersFitTheirRequests =
     (keys bound first_number key number : ℕ) (history : List Entry) (e : Entry) →
     IsLegal (opening keys bound first_number) (history ++ e ∷ []) →
     key < keys →
     ((e.call ≡ Ask key) → (e.reply ≡ reply.Send number) → number ≡ first_number + cancels history key)
-    × ((rows : List Row) → (e.call ≡ Fill key number rows) → (e.reply ≡ reply.Done) → number ≡ first_number + cancels history key)
+    × ((rows : List Row) → (e.call ≡ Fill key number rows) → (e.reply ≡ reply.Done)
+    → number ≡ first_number + cancels history key)
 
 -- the set that a call brings is a row set within the bound
 abbrev pub BringsRowSet : ℕ → Call → Type 0

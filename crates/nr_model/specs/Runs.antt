@@ -1,4 +1,5 @@
--- The rows of all keys in one list: each key has a run of as many cells as it may have rows, and a head that says how many are in use.
+-- The rows of all keys in one list: each key has a run of as many cells as it may have rows, and a head that says how
+-- many are in use.
 use Rattle.std.specs.Prelude.{ℕ, ◌≡◌, ◌≤◌, ◌*◌, List, [], ◌∷◌, length, take, drop, IsTrue}
 use Rattle.nr_model.specs.declared.rows.Row.{Row}
 use Rattle.nr_model.specs.declared.heads.Head.{Head}

@@ -8,7 +8,8 @@ abbrev pub naming_of : {Y : Type 0} → ℕ → List (String Y) → Naming
 naming_of keys names = record { keys = keys; names = map string_bytes names }
 
 -- the map finds each name's number, and there is room for as many names as keys
-pub record IsKept {Y : Type 0} (longest limit room : ℕ) (naming : Naming) (numbers : BTreeMap (String Y) ℕ) : Type 0 where
+pub record IsKept {Y : Type 0} (longest limit room : ℕ) (naming : Naming) (numbers : BTreeMap (String Y) ℕ) : Type
+    0 where
   pub sound : IsSoundNaming longest limit naming
   pub roomy : naming.keys ≤ room
   pub finds : (name : List ℕ) → get_by_text numbers name ≡ number_of_name naming.names name

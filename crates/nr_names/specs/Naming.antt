@@ -1,5 +1,6 @@
 -- Names and their numbers: the names in the order in which they came, each one's index being its key number.
-use Rattle.std.specs.Prelude.{◌≡◌, ◌≤◌, ◌<◌, ◌↔◌, ◌==◌, ℕ, Bool, ◌&&◌, if◌then◌else◌, nat_lt, List, [], ◌∷◌, ◌++◌, length, All, position, slice_get, Option, Some, None, is_none, Result, Ok, Err, is_ok}
+use Rattle.std.specs.Prelude.{◌≡◌, ◌≤◌, ◌<◌, ◌↔◌, ◌==◌, ℕ, Bool, ◌&&◌, if◌then◌else◌, nat_lt, List, [], ◌∷◌, ◌++◌}
+use Rattle.std.specs.Prelude.{length, All, position, slice_get, Option, Some, None, is_none, Result, Ok, Err, is_ok}
 use Rattle.std.specs.Str.{bytes_eq}
 use Rattle.nr_names.specs.declared.faults.NameFault.{NameFault}
 use Rattle.nr_names.specs.declared.faults.NameFault.TheVariants as fault
@@ -42,7 +43,8 @@ next_naming longest naming name = record naming { names = next_names longest nam
 
 -- a name has a number exactly where the number has the name, so no two share one
 abbrev pub IsOneToOne : List (List ℕ) → Type 0
-IsOneToOne names = (name : List ℕ) (number : ℕ) → (number_of_name names name ≡ Some number) ↔ (slice_get names number ≡ Some name)
+IsOneToOne names =
+    (name : List ℕ) (number : ℕ) → (number_of_name names name ≡ Some number) ↔ (slice_get names number ≡ Some name)
 
 -- bytes that may be a name
 pub record IsName (longest : ℕ) (name : List ℕ) : Type 0 where

@@ -20,7 +20,9 @@ balance_word report = if is_balanced report then codes "ok" else codes "off"
 
 -- the three lines of a report
 abbrev pub report_text : LoadReport → List ℕ
-report_text report = codes "gets " ++ decimal report.gets ++ codes "\nanswered " ++ decimal report.answered ++ codes "\nbalance " ++ balance_word report ++ codes "\n"
+report_text report =
+    codes "gets " ++ decimal report.gets ++ codes "\nanswered " ++ decimal report.answered ++ codes "\nbalance "
+    ++ balance_word report ++ codes "\n"
 
 -- 0 where each get was answered and the account balances
 abbrev pub report_status : LoadReport → ℕ
@@ -38,13 +40,16 @@ abbrev pub MayComeTo : Plan → Result LoadReport LoadFault → Type 0
 MayComeTo plan (Ok report) = ComesTo plan report
 MayComeTo plan (Err fault) = Unit {0}
 
--- The report is written, or some of it where a write may fail, and the line of that fault; a load's fault has its line alone.
+-- The report is written, or some of it where a write may fail, and the line of that fault; a load's fault has its line
+-- alone.
 abbrev pub TellsLoad : Type 0 → Result LoadReport LoadFault → ℕ → Option (List ℕ) → Option (List ℕ) → Type 0
 TellsLoad may_fail (Ok report) status held holds =
     ((status ≡ report_status report) × Appends held holds (report_text report))
-    ⊎ (may_fail × (status ≡ 1) × (wrote : Option (List ℕ)) × AppendsSome held wrote (report_text report) × TellsLine may_fail wrote holds (line_of faults.Write))
+    ⊎ (may_fail × (status ≡ 1) × (wrote : Option (List ℕ)) × AppendsSome held wrote (report_text report)
+    × TellsLine may_fail wrote holds (line_of faults.Write))
 TellsLoad may_fail (Err fault) status held holds = (status ≡ 1) × TellsLine may_fail held holds (line_of_load fault)
 
 -- a load of this plan is run, and what it came to is told
 abbrev pub EndsLoad : Type 0 → Plan → ℕ → Option (List ℕ) → Option (List ℕ) → Type 0
-EndsLoad may_fail plan status held holds = (ended : Result LoadReport LoadFault) × MayComeTo plan ended × TellsLoad may_fail ended status held holds
+EndsLoad may_fail plan status held holds =
+    (ended : Result LoadReport LoadFault) × MayComeTo plan ended × TellsLoad may_fail ended status held holds

@@ -1,5 +1,6 @@
 -- What the words after the program's name ask for.
-use Rattle.std.specs.Prelude.{ℕ, ◌<◌, ◌≤◌, ◌&&◌, nat_le, if◌then◌else◌, List, [], ◌∷◌, drop, map, codes, bytes_eq, Option, Some, None, option_and_then, Result, Ok, Err, String, string_bytes}
+use Rattle.std.specs.Prelude.{ℕ, ◌<◌, ◌≤◌, ◌&&◌, nat_le, if◌then◌else◌, List, [], ◌∷◌, drop, map, codes, bytes_eq}
+use Rattle.std.specs.Prelude.{Option, Some, None, option_and_then, Result, Ok, Err, String, string_bytes}
 use Rattle.std.specs.declared.vec.IntoIter.{IntoIter}
 use Rattle.std.specs.Vec.Iter.{into_iter_items}
 use Rattle.nr_text.specs.Grammar.{number}
@@ -21,13 +22,15 @@ load_of (Some seed) None keys gets upqueries = Explain misuse.Readers
 load_of (Some seed) (Some readers) None gets upqueries = Explain misuse.Keys
 load_of (Some seed) (Some readers) (Some keys) None upqueries = Explain misuse.Gets
 load_of (Some seed) (Some readers) (Some keys) (Some gets) None = Explain misuse.Upqueries
-load_of (Some seed) (Some readers) (Some keys) (Some gets) (Some upqueries) = Load (record { seed = seed; readers = readers; keys = keys; gets = gets; upqueries = upqueries })
+load_of (Some seed) (Some readers) (Some keys) (Some gets) (Some upqueries) =
+    Load (record { seed = seed; readers = readers; keys = keys; gets = gets; upqueries = upqueries })
 
 -- a load, where that is the word
 abbrev pub load_asked : (word seed readers keys gets : List ℕ) → Option ℕ → Task
 load_asked word seed readers keys gets upqueries =
     if bytes_eq word (codes "load")
-    then load_of (number seed) (number_within 1 1024 readers) (number_within 1 65536 keys) (number_within 0 1000000 gets) upqueries
+    then load_of (number seed) (number_within 1 1024 readers) (number_within 1 65536 keys)
+    (number_within 0 1000000 gets) upqueries
     else Explain misuse.Words
 
 -- what the words after the program's name ask for; one upquery at a time where no more are
@@ -35,7 +38,8 @@ abbrev pub task : List (List ℕ) → Task
 task [] = Script
 task (word ∷ []) = if bytes_eq word (codes "steps") then Schedule else Explain misuse.Words
 task (word ∷ seed ∷ readers ∷ keys ∷ gets ∷ []) = load_asked word seed readers keys gets (Some 1)
-task (word ∷ seed ∷ readers ∷ keys ∷ gets ∷ upqueries ∷ []) = load_asked word seed readers keys gets (number_within 1 65536 upqueries)
+task (word ∷ seed ∷ readers ∷ keys ∷ gets ∷ upqueries ∷ []) =
+    load_asked word seed readers keys gets (number_within 1 65536 upqueries)
 task others = Explain misuse.Words
 
 -- what a process's arguments ask for, the program's name first; those that could not be read are no command

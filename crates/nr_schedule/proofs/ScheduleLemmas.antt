@@ -1,5 +1,6 @@
 -- An opened schedule is the run of the events that its lines spell.
-use Rattle.std.proofs.Common.{subst, ℕ, ◌≡◌, true, false, Bool, List, [], ◌∷◌, ◌++◌, length, Option, None, Some, Result, Ok, Err, refl, sym, ◌∙◌, ap, arith}
+use Rattle.std.proofs.Common.{subst, ℕ, ◌≡◌, true, false, Bool, List, [], ◌∷◌, ◌++◌, length, Option, None, Some, Result}
+use Rattle.std.proofs.Common.{Ok, Err, refl, sym, ◌∙◌, ap, arith}
 use Rattle.std.specs.Prelude.{fold, nat_le, if◌then◌else◌, option_map, option_and_then, codes}
 use Rattle.std.proofs.lemmas.List.Sums.{fold-append}
 use borrow.Author.Tests.{leb-true}
@@ -20,7 +21,8 @@ use Rattle.nr_machine.specs.Slots.{bound_of}
 use Rattle.nr_schedule.specs.declared.command.Command.{Command}
 use Rattle.nr_schedule.specs.declared.command.Command.TheVariants as commands
 use Rattle.nr_schedule.specs.Commands.{schedule_command, one_number, two_numbers, alone, by_writer}
-use Rattle.nr_text.specs.Grammar.{within, words, number, row, delta, each, set_of, batch_of, filling, filling_as, updating}
+use Rattle.nr_text.specs.Grammar.{within, words, number, row, delta, each, set_of, batch_of, filling, filling_as}
+use Rattle.nr_text.specs.Grammar.{updating}
 use Rattle.nr_text.specs.Opening.{opening_of_words, is_in_limits, shape_of_opening}
 use Rattle.nr_text.specs.declared.opening.Opening.{Opening}
 use Rattle.nr_machine.specs.Sizes.{IsShape}
@@ -46,10 +48,13 @@ command_steps state (Some (commands.Depart reader)) = refl
 command_steps state (Some (commands.Ask reader key)) = refl
 command_steps state (Some (commands.Again reader key)) = refl
 command_steps state (Some (commands.Find key)) = refl
-command_steps state (Some (commands.Fill key set)) = set_steps state (calls.Fill key (number_now state key)) (within state.shape.rows set)
-command_steps state (Some (commands.FillAs key number set)) = set_steps state (calls.Fill key number) (within state.shape.rows set)
+command_steps state (Some (commands.Fill key set)) =
+    set_steps state (calls.Fill key (number_now state key)) (within state.shape.rows set)
+command_steps state (Some (commands.FillAs key number set)) =
+    set_steps state (calls.Fill key number) (within state.shape.rows set)
 command_steps state (Some (commands.Update key batch)) = refl
-command_steps state (Some (commands.Replace key set)) = set_steps state (calls.Replace key) (within state.shape.rows set)
+command_steps state (Some (commands.Replace key set)) =
+    set_steps state (calls.Replace key) (within state.shape.rows set)
 command_steps state (Some (commands.Evict key)) = refl
 command_steps state (Some (commands.Cancel key)) = refl
 command_steps state (Some commands.Go) = refl

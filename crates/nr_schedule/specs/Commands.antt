@@ -2,7 +2,8 @@
 use Rattle.std.specs.Prelude.{ℕ, if◌then◌else◌, List, [], ◌∷◌, Option, Some, None, codes, option_and_then, option_map}
 use Rattle.std.specs.Str.{bytes_eq}
 use Rattle.nr_schedule.specs.declared.command.Command.{Command}
-use Rattle.nr_schedule.specs.declared.command.Command.TheVariants.{Open, Arrive, Read, Depart, Ask, Again, Find, Fill, FillAs, Update, Replace, Evict, Cancel, Go}
+use Rattle.nr_schedule.specs.declared.command.Command.TheVariants.{Open, Arrive, Read, Depart, Ask, Again, Find, Fill}
+use Rattle.nr_schedule.specs.declared.command.Command.TheVariants.{FillAs, Update, Replace, Evict, Cancel, Go}
 use Rattle.nr_text.specs.Grammar.{number, filling, filling_as, updating}
 use Rattle.nr_text.specs.Opening.{opening_of_words}
 
@@ -12,7 +13,8 @@ one_number command (word ∷ []) = option_map command (number word)
 one_number command other = None
 
 abbrev pub two_numbers : (ℕ → ℕ → Command) → List (List ℕ) → Option Command
-two_numbers command (first ∷ second ∷ []) = option_and_then (λ a. option_map (λ b. command a b) (number second)) (number first)
+two_numbers command (first ∷ second ∷ []) =
+    option_and_then (λ a. option_map (λ b. command a b) (number second)) (number first)
 two_numbers command other = None
 
 -- a call of the writer

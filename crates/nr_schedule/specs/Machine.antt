@@ -25,7 +25,8 @@ closed_schedule = None
 
 -- each command of a schedule that is closed
 abbrev pub answer_closed_schedule : Command → Result StepAnswer StepRefusal × ScheduleState
-answer_closed_schedule (Open opening) = if is_in_limits opening then (Ok answers.Ok, Some (opened_schedule opening)) else (Err refusals.Bad, None)
+answer_closed_schedule (Open opening) =
+    if is_in_limits opening then (Ok answers.Ok, Some (opened_schedule opening)) else (Err refusals.Bad, None)
 answer_closed_schedule other = (Err refusals.Closed, None)
 
 -- to a command, or to a line that spells none

@@ -8,13 +8,15 @@ use Rattle.nr_machine.specs.declared.calls.WriterCall.TheVariants as calls
 use Rattle.nr_machine.specs.Refusals.{has_key}
 use Rattle.nr_machine.specs.States as machine
 use Rattle.nr_machine.specs.States.{number_at}
-use Rattle.nr_machine.specs.Machine.{next_state, arrive_answer, read_answer, depart_answer, ask_answer, find_again_answer, start_answer, go_answer}
+use Rattle.nr_machine.specs.Machine.{next_state, arrive_answer, read_answer, depart_answer, ask_answer}
+use Rattle.nr_machine.specs.Machine.{find_again_answer, start_answer, go_answer}
 use Rattle.nr_text.specs.Opening.{shape_of_opening}
 use Rattle.nr_text.specs.Grammar.{within}
 use Rattle.nr_text.specs.declared.limits.TheConstants.{MAX_KEYS, MAX_READERS}
 use Rattle.nr_text.specs.declared.opening.Opening.{Opening}
 use Rattle.nr_schedule.specs.declared.command.Command.{Command}
-use Rattle.nr_schedule.specs.declared.command.Command.TheVariants.{Open, Arrive, Read, Depart, Ask, Again, Find, Fill, FillAs, Update, Replace, Evict, Cancel, Go}
+use Rattle.nr_schedule.specs.declared.command.Command.TheVariants.{Open, Arrive, Read, Depart, Ask, Again, Find, Fill}
+use Rattle.nr_schedule.specs.declared.command.Command.TheVariants.{FillAs, Update, Replace, Evict, Cancel, Go}
 use Rattle.nr_schedule.specs.declared.answer.StepAnswer.{StepAnswer}
 use Rattle.nr_schedule.specs.declared.answer.StepAnswer.TheVariants as answers
 use Rattle.nr_schedule.specs.declared.answer.StepRefusal.{StepRefusal}
@@ -45,14 +47,21 @@ number_now state key = if has_key state.shape key then number_at state.desk key 
 -- each command at an opened machine
 abbrev pub answer_opened_schedule : machine.State → Command → ScheduleOutcome
 answer_opened_schedule state (Open opening) = (Err refusals.Bad, state)
-answer_opened_schedule state (Arrive reader key) = (by_machine answers.Arrived (arrive_answer state reader key), next_state state (machine.Arrive reader key))
-answer_opened_schedule state (Read reader index) = (by_machine answers.Word (read_answer state reader index), next_state state (machine.Read reader index))
-answer_opened_schedule state (Depart reader) = (by_machine (λ _. answers.Ok) (depart_answer state reader), next_state state (machine.Depart reader))
-answer_opened_schedule state (Ask reader key) = (by_machine answers.Asked (ask_answer state reader key), next_state state (machine.Ask reader key))
-answer_opened_schedule state (Again reader key) = (by_machine answers.Again (find_again_answer state reader key), next_state state (machine.FindAgain reader key))
+answer_opened_schedule state (Arrive reader key) =
+    (by_machine answers.Arrived (arrive_answer state reader key), next_state state (machine.Arrive reader key))
+answer_opened_schedule state (Read reader index) =
+    (by_machine answers.Word (read_answer state reader index), next_state state (machine.Read reader index))
+answer_opened_schedule state (Depart reader) =
+    (by_machine (λ _. answers.Ok) (depart_answer state reader), next_state state (machine.Depart reader))
+answer_opened_schedule state (Ask reader key) =
+    (by_machine answers.Asked (ask_answer state reader key), next_state state (machine.Ask reader key))
+answer_opened_schedule state (Again reader key) =
+    (by_machine answers.Again (find_again_answer state reader key), next_state state (machine.FindAgain reader key))
 answer_opened_schedule state (Find key) = start state (calls.Find key)
-answer_opened_schedule state (Fill key rows) = start_with state (calls.Fill key (number_now state key)) (within state.shape.rows rows)
-answer_opened_schedule state (FillAs key number rows) = start_with state (calls.Fill key number) (within state.shape.rows rows)
+answer_opened_schedule state (Fill key rows) =
+    start_with state (calls.Fill key (number_now state key)) (within state.shape.rows rows)
+answer_opened_schedule state (FillAs key number rows) =
+    start_with state (calls.Fill key number) (within state.shape.rows rows)
 answer_opened_schedule state (Update key batch) = start state (calls.Update key batch)
 answer_opened_schedule state (Replace key rows) = start_with state (calls.Replace key) (within state.shape.rows rows)
 answer_opened_schedule state (Evict key) = start state (calls.Evict key)

@@ -19,7 +19,8 @@ use Rattle.nr_schedule.specs.Opened.{number_now, opened_schedule}
 use Rattle.nr_lines.specs.Plain.{is_plain, or_bad}
 use Rattle.nr_lines.specs.Text.{after_lines}
 
--- the event of a command, where it is one of the machine's; a fill that names no number has that of its key as it stands
+-- the event of a command, where it is one of the machine's; a fill that names no number has that of its key as it
+-- stands
 abbrev pub event_with : (List Row → WriterCall) → Option (List Row) → List Event
 event_with call (Some rows) = Start (call rows) ∷ []
 event_with call None = []
@@ -32,7 +33,8 @@ event_of state (commands.Depart reader) = Depart reader ∷ []
 event_of state (commands.Ask reader key) = Ask reader key ∷ []
 event_of state (commands.Again reader key) = FindAgain reader key ∷ []
 event_of state (commands.Find key) = Start (calls.Find key) ∷ []
-event_of state (commands.Fill key rows) = event_with (calls.Fill key (number_now state key)) (within state.shape.rows rows)
+event_of state (commands.Fill key rows) =
+    event_with (calls.Fill key (number_now state key)) (within state.shape.rows rows)
 event_of state (commands.FillAs key number rows) = event_with (calls.Fill key number) (within state.shape.rows rows)
 event_of state (commands.Update key batch) = Start (calls.Update key batch) ∷ []
 event_of state (commands.Replace key rows) = event_with (calls.Replace key) (within state.shape.rows rows)
@@ -53,8 +55,11 @@ abbrev pub events : State → List (List ℕ) → List Event
 events state [] = []
 events state (line ∷ more) = line_event state line ++ events (fold next_state state (line_event state line)) more
 
--- Whatever its lines are, an opened schedule is the run of the events that they spell: the laws over all lists of events speak of it.
+-- Whatever its lines are, an opened schedule is the run of the events that they spell: the laws over all lists of
+-- events speak of it.
 abbrev pub ScheduleRuns : Type 0
 ScheduleRuns = (opening : Opening) (lines : List (List ℕ)) → is_in_limits opening ≡ true
-    → IsShape (shape_of_opening opening) × AllGiven (bound_of (shape_of_opening opening)) (events (opened_schedule opening) lines)
-    × (after_lines (or_bad schedule_reply) (Some (opened_schedule opening)) lines ≡ Some (run (shape_of_opening opening) (events (opened_schedule opening) lines)))
+    → IsShape (shape_of_opening opening)
+    × AllGiven (bound_of (shape_of_opening opening)) (events (opened_schedule opening) lines)
+    × (after_lines (or_bad schedule_reply) (Some (opened_schedule opening)) lines
+    ≡ Some (run (shape_of_opening opening) (events (opened_schedule opening) lines)))

@@ -1,9 +1,11 @@
 -- The commands of scripts: the one that a line's words spell.
-use Rattle.std.specs.Prelude.{ℕ, ◌&&◌, nat_lt, nat_le, if◌then◌else◌, Bool, true, false, List, [], ◌∷◌, length, Option, Some, None, codes, option_and_then, option_map}
+use Rattle.std.specs.Prelude.{ℕ, ◌&&◌, nat_lt, nat_le, if◌then◌else◌, Bool, true, false, List, [], ◌∷◌, length, Option}
+use Rattle.std.specs.Prelude.{Some, None, codes, option_and_then, option_map}
 use Rattle.std.specs.List.{list_all}
 use Rattle.std.specs.Str.{bytes_eq}
 use Rattle.nr_script.specs.declared.command.Command.{Command}
-use Rattle.nr_script.specs.declared.command.Command.TheVariants.{Open, Find, Ask, Fill, FillAs, Update, Replace, Evict, Cancel, Look, Pin, Show, Again, Unpin}
+use Rattle.nr_script.specs.declared.command.Command.TheVariants.{Open, Find, Ask, Fill, FillAs, Update, Replace, Evict}
+use Rattle.nr_script.specs.declared.command.Command.TheVariants.{Cancel, Look, Pin, Show, Again, Unpin}
 use Rattle.nr_text.specs.Grammar.{number, filling, filling_as, updating}
 use Rattle.nr_text.specs.Opening.{opening_of_words}
 
@@ -17,7 +19,8 @@ key word = if nat_lt 0 (length word) && list_all is_name_byte word then Some wor
 
 -- a reader and a key, a key alone, a reader alone
 abbrev pub reader_and_key : (ℕ → List ℕ → Command) → List (List ℕ) → Option Command
-reader_and_key command (reader ∷ word ∷ []) = option_and_then (λ r. option_map (λ k. command r k) (key word)) (number reader)
+reader_and_key command (reader ∷ word ∷ []) =
+    option_and_then (λ r. option_map (λ k. command r k) (key word)) (number reader)
 reader_and_key command other = None
 
 abbrev pub key_alone : (List ℕ → Command) → List (List ℕ) → Option Command

@@ -27,7 +27,8 @@ closed_script = None
 
 -- each command of a script that is closed
 abbrev pub answer_closed_script : Command → Result Answer ScriptRefusal × ScriptState
-answer_closed_script (Open named sizes) = if is_in_limits sizes then (Ok answers.Ok, Some (opened_script named sizes)) else (Err refusals.Bad, None)
+answer_closed_script (Open named sizes) =
+    if is_in_limits sizes then (Ok answers.Ok, Some (opened_script named sizes)) else (Err refusals.Bad, None)
 answer_closed_script other = (Err refusals.Closed, None)
 
 -- to a command, or to a line that spells none

@@ -1,5 +1,6 @@
 -- An opened script: what each command does to its map, and what it is answered.
-use Rattle.std.specs.Prelude.{ℕ, ◌≡◌, ◌-◌, ◌&&◌, nat_lt, nat_le, if◌then◌else◌, Bool, false, List, length, Option, None, Some, Result, Ok, Err, is_none, true}
+use Rattle.std.specs.Prelude.{ℕ, ◌≡◌, ◌-◌, ◌&&◌, nat_lt, nat_le, if◌then◌else◌, Bool, false, List, length, Option, None}
+use Rattle.std.specs.Prelude.{Some, Result, Ok, Err, is_none, true}
 use Rattle.nr_model.specs.declared.rows.Row.{Row}
 use Rattle.nr_model.specs.declared.rows.TooMany.{TooMany}
 use Rattle.nr_model.specs.declared.calls.Call.{Call}
@@ -8,7 +9,8 @@ use Rattle.nr_model.specs.Maps.{key_count, state_of, number_of}
 use Rattle.nr_alone.specs.Answers.{Answer}
 use Rattle.nr_alone.specs.declared.answer.PinRefusal.{PinRefusal as MapRefusal}
 use Rattle.nr_alone.specs.declared.answer.PinRefusal.TheVariants as map_refusals
-use Rattle.nr_alone.specs.MapState.{MapState, MapOutcome, answer_again, answer_call, answer_of_reader, answer_pinning, answer_show, answer_unpin, opened_map}
+use Rattle.nr_alone.specs.MapState.{MapState, MapOutcome, answer_again, answer_call, answer_of_reader, answer_pinning}
+use Rattle.nr_alone.specs.MapState.{answer_show, answer_unpin, opened_map}
 use Rattle.nr_lines.specs.Dialogue.{IsOutcome}
 use Rattle.nr_lines.specs.declared.fault.LineError.{LineError}
 use Rattle.nr_lines.specs.declared.fault.LineError.TheVariants as errors
@@ -19,7 +21,8 @@ use Rattle.nr_names.specs.Naming.{no_names, intern_reply, next_naming, adds}
 use Rattle.nr_script.specs.declared.keys.Keys.{Keys}
 use Rattle.nr_script.specs.declared.keys.Keys.TheVariants as kinds
 use Rattle.nr_script.specs.declared.command.Command.{Command}
-use Rattle.nr_script.specs.declared.command.Command.TheVariants.{Open, Find, Ask, Fill, FillAs, Update, Replace, Evict, Cancel, Look, Pin as PinKey, Show, Again, Unpin}
+use Rattle.nr_script.specs.declared.command.Command.TheVariants.{Open, Find, Ask, Fill, FillAs, Update, Replace, Evict}
+use Rattle.nr_script.specs.declared.command.Command.TheVariants.{Cancel, Look, Pin as PinKey, Show, Again, Unpin}
 use Rattle.nr_script.specs.declared.answer.ScriptRefusal.{ScriptRefusal}
 use Rattle.nr_script.specs.declared.answer.ScriptRefusal.TheVariants as refusals
 use Rattle.nr_text.specs.Opening.{shape_of_opening}
@@ -50,7 +53,8 @@ by_map script (Err refusal, state) = (Err (refused refusal), record script { sta
 abbrev pub script_has_reader : Opened → ℕ → Bool
 script_has_reader script reader = nat_lt 0 reader && nat_le reader (length script.state.pins)
 
--- What a command needs is looked for in the order of the refusals; the command goes on with what was found, or is refused.
+-- What a command needs is looked for in the order of the refusals; the command goes on with what was found, or is
+-- refused.
 abbrev pub with_found : {A : Type 0} → Result A ScriptRefusal × Opened → (A → Opened → ScriptOutcome) → ScriptOutcome
 with_found (Ok found, script) outcome = outcome found script
 with_found (Err refusal, script) outcome = (Err refusal, script)
@@ -87,7 +91,8 @@ NamesFit (kinds.Named naming) count = naming.keys ≡ count
 -- the key that a word stands for, of that many keys, and the names after it: a new name gets the next number
 abbrev pub key_of_word : Keys → ℕ → List ℕ → Result ℕ ScriptRefusal × Keys
 key_of_word kinds.Numbered count word = (numbered_key count (number word), kinds.Numbered)
-key_of_word (kinds.Named naming) count word = (named_key (intern_reply LONGEST_NAME naming word), kinds.Named (next_naming LONGEST_NAME naming word))
+key_of_word (kinds.Named naming) count word =
+    (named_key (intern_reply LONGEST_NAME naming word), kinds.Named (next_naming LONGEST_NAME naming word))
 
 -- the word is a new name that gets a number, which takes memory
 abbrev pub adds_key : Keys → List ℕ → Bool
@@ -112,7 +117,8 @@ key_for_reader (Err why) keys count word = (if is_no_key keys word then Err refu
 
 -- a key, for a reader of the script
 abbrev pub found_by_reader : Opened → ℕ → List ℕ → Result ℕ ScriptRefusal × Opened
-found_by_reader script reader word = with_keys script (key_for_reader (found_reader script reader) script.keys (key_count script.state.map) word)
+found_by_reader script reader word =
+    with_keys script (key_for_reader (found_reader script reader) script.keys (key_count script.state.map) word)
 
 -- a set of no more rows than a key may have
 abbrev pub found_rows : Option (List Row) → Result (List Row) ScriptRefusal
@@ -132,23 +138,40 @@ called_by script reader call = by_map script (answer_of_reader script.state (rea
 -- each command of an opened script; a fill that names no number has that of its key as it stands
 abbrev pub answer_opened_script : Opened → Command → ScriptOutcome
 answer_opened_script script (Open named sizes) = (Err refusals.Bad, script)
-answer_opened_script script (Find reader word) = with_found (found_by_reader script reader word) (λ key after. called_by after reader (calls.Find key))
-answer_opened_script script (Ask reader word) = with_found (found_by_reader script reader word) (λ key after. called_by after reader (calls.Ask key))
+answer_opened_script script (Find reader word) =
+    with_found (found_by_reader script reader word) (λ key after. called_by after reader (calls.Find key))
+answer_opened_script script (Ask reader word) =
+    with_found (found_by_reader script reader word) (λ key after. called_by after reader (calls.Ask key))
 answer_opened_script script (Fill word set) =
-    with_found (found_key script word) (λ key after. with_found (found_set after set, after) (λ rows fits. called fits (calls.Fill key (number_of (state_of fits.state.map key)) rows)))
+    with_found (found_key script word)
+    (λ key after. with_found (found_set after set, after)
+    (λ rows fits. called fits (calls.Fill key (number_of (state_of fits.state.map key)) rows)))
 answer_opened_script script (FillAs word number set) =
-    with_found (found_key script word) (λ key after. with_found (found_set after set, after) (λ rows fits. called fits (calls.Fill key number rows)))
-answer_opened_script script (Update word batch) = with_found (found_key script word) (λ key after. called after (calls.Update key batch))
+    with_found (found_key script word)
+    (λ key after. with_found (found_set after set, after) (λ rows fits. called fits (calls.Fill key number rows)))
+answer_opened_script script (Update word batch) =
+    with_found (found_key script word) (λ key after. called after (calls.Update key batch))
 answer_opened_script script (Replace word set) =
-    with_found (found_key script word) (λ key after. with_found (found_set after set, after) (λ rows fits. called fits (calls.Replace key rows)))
-answer_opened_script script (Evict word) = with_found (found_key script word) (λ key after. called after (calls.Evict key))
-answer_opened_script script (Cancel word) = with_found (found_key script word) (λ key after. called after (calls.Cancel key))
-answer_opened_script script (Look word) = with_found (found_key script word) (λ key after. called after (calls.Find key))
+    with_found (found_key script word)
+    (λ key after. with_found (found_set after set, after) (λ rows fits. called fits (calls.Replace key rows)))
+answer_opened_script script (Evict word) =
+    with_found (found_key script word) (λ key after. called after (calls.Evict key))
+answer_opened_script script (Cancel word) =
+    with_found (found_key script word) (λ key after. called after (calls.Cancel key))
+answer_opened_script script (Look word) =
+    with_found (found_key script word) (λ key after. called after (calls.Find key))
 answer_opened_script script (PinKey reader word) =
-    with_found (found_by_reader script reader word) (λ key after. by_map after (answer_pinning after.state (reader - 1) key (state_of after.state.map key)))
-answer_opened_script script (Show reader) = with_found (found_reader script reader, script) (λ _ of_reader. by_map of_reader (answer_show of_reader.state (reader - 1)))
-answer_opened_script script (Again reader word) = with_found (found_by_reader script reader word) (λ key after. by_map after (answer_again after.state (reader - 1) key))
-answer_opened_script script (Unpin reader) = with_found (found_reader script reader, script) (λ _ of_reader. by_map of_reader (answer_unpin of_reader.state (reader - 1)))
+    with_found (found_by_reader script reader word)
+    (λ key after. by_map after (answer_pinning after.state (reader - 1) key (state_of after.state.map key)))
+answer_opened_script script (Show reader) =
+    with_found (found_reader script reader, script)
+    (λ _ of_reader. by_map of_reader (answer_show of_reader.state (reader - 1)))
+answer_opened_script script (Again reader word) =
+    with_found (found_by_reader script reader word)
+    (λ key after. by_map after (answer_again after.state (reader - 1) key))
+answer_opened_script script (Unpin reader) =
+    with_found (found_reader script reader, script)
+    (λ _ of_reader. by_map of_reader (answer_unpin of_reader.state (reader - 1)))
 
 -- the command has such a word for its key; nothing else that it does takes memory
 abbrev pub adds_by : Opened → Command → Bool
@@ -167,7 +190,8 @@ adds_by script other = false
 
 -- an opened script answers a command, or refuses it
 abbrev pub AnswersCommand : Opened → Command → Result Answer (LineError ScriptRefusal) → Opened → Type 0
-AnswersCommand script command result after = IsOutcome (answer_opened_script script command) (adds_by script command) result after
+AnswersCommand script command result after =
+    IsOutcome (answer_opened_script script command) (adds_by script command) result after
 
 -- what stands for the keys when a script is opened
 abbrev pub keys_opened : Bool → ℕ → Keys

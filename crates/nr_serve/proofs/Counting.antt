@@ -1,5 +1,7 @@
 -- Each step on the counts of a lobby keeps their rule.
-use Rattle.std.proofs.Common.{◌≡◌, ◌≢◌, ℕ, ◌+◌, ◌<◌, ◌≤◌, max, eqb, cond, zero, suc, List, [], ◌∷◌, ◌++◌, MatchBool, set, slice_index, refl, sym, ap, ◌∙◌, subst, arith, ⊎_elim, append-nil, length-set, replicate, eq-eqb, ne_eqb, le_refl, le_trans, zero-le}
+use Rattle.std.proofs.Common.{◌≡◌, ◌≢◌, ℕ, ◌+◌, ◌<◌, ◌≤◌, max, eqb, cond, zero, suc, List, [], ◌∷◌, ◌++◌, MatchBool}
+use Rattle.std.proofs.Common.{set, slice_index, refl, sym, ap, ◌∙◌, subst, arith, ⊎_elim, append-nil, length-set}
+use Rattle.std.proofs.Common.{replicate, eq-eqb, ne_eqb, le_refl, le_trans, zero-le}
 use Rattle.std.proofs.lemmas.List.{length-replicate, get_or-set_same, get_or-set_other}
 use mathlib.Core.Logic.{dite}
 use mathlib.Core.Option.{none, some, some-injective, some-ne-none}
@@ -10,7 +12,8 @@ use Rattle.atomic_table.specs.Table.{Allows, Enters, Me, State, keeps, step, ste
 use Rattle.atomic_table.proofs.Lists.{at_set, at_snoc}
 use Rattle.nr_machine.specs.Sums.{total}
 use Rattle.nr_serve.specs.Hands.{capped, last_count}
-use Rattle.nr_serve.specs.Counts.{AreCounts, IsLater, Visit, closed_at, has_closed, has_read_count, has_raised, how_often, new_guest}
+use Rattle.nr_serve.specs.Counts.{AreCounts, IsLater, Visit, closed_at, has_closed, has_read_count, has_raised}
+use Rattle.nr_serve.specs.Counts.{how_often, new_guest}
 use Rattle.nr_serve.proofs.Totals.{how_often-append, total-set, total-snoc}
 
 abbrev pub S : Type 0
@@ -24,10 +27,12 @@ closes_of visit = visit.closes
 
 -- a guest that saw all numbers now, raised these counts, and closed the lobby that often
 abbrev pub after : List ℕ → Visit → List ℕ → ℕ → Visit
-after words visit more closings = record { seen = words; raised = visit.raised ++ more; closes = visit.closes + closings }
+after words visit more closings =
+    record { seen = words; raised = visit.raised ++ more; closes = visit.closes + closings }
 
 -- the number at a place goes up, and the guest raises these counts and closes the lobby that often
-module _ (state : S) (are : AreCounts state) (i n id : ℕ) (me : Me (Unit {0}) Visit) (more : List ℕ) (closings : ℕ) (there : get_elem? state.views id ≡ some me.0) (inside : i < 536) (up : slice_index state.words i ≤ n) where
+module _ (state : S) (are : AreCounts state) (i n id : ℕ) (me : Me (Unit {0}) Visit) (more : List ℕ) (closings : ℕ)
+    (there : get_elem? state.views id ≡ some me.0) (inside : i < 536) (up : slice_index state.words i ≤ n) where
   abbrev pub words : List ℕ
   words = set state.words i n
 
@@ -41,10 +46,17 @@ module _ (state : S) (are : AreCounts state) (i n id : ℕ) (me : Me (Unit {0}) 
   elsewhere place other = get_or-set_other state.words i place n 0 other
 
   later : IsLater state.words words
-  later place = dite (ℕ_discrete place i) (λ same. subst (λ (at : ℕ). slice_index state.words at ≤ slice_index words at) (sym same) (omega (arith, here, up))) (λ other. omega (arith, elsewhere place other))
+  later place =
+      dite (ℕ_discrete place i)
+      (λ same. subst (λ (at : ℕ). slice_index state.words at ≤ slice_index words at) (sym same)
+      (omega (arith, here, up)))
+      (λ other. omega (arith, elsewhere place other))
 
-  more_raised : (place : ℕ) → total (raised_at place) (set state.views id visit) ≡ total (raised_at place) state.views + how_often place more
-  more_raised place = omega (arith, total-set (raised_at place) state.views id me.0 visit there, how_often-append place me.0.raised more)
+  more_raised : (place : ℕ)
+      → total (raised_at place) (set state.views id visit) ≡ total (raised_at place) state.views + how_often place more
+  more_raised place =
+      omega
+      (arith, total-set (raised_at place) state.views id me.0 visit there, how_often-append place me.0.raised more)
 
   more_closed : total closes_of (set state.views id visit) ≡ total closes_of state.views + closings
   more_closed = omega (arith, total-set closes_of state.views id me.0 visit there)
@@ -57,17 +69,29 @@ module _ (state : S) (are : AreCounts state) (i n id : ℕ) (me : Me (Unit {0}) 
   still_counts counts none_else closes closed_by = record {
     size = length-set state.words i n ∙ are.size;
     counted = λ place count. dite (ℕ_discrete place i)
-        (λ same. subst (λ (at : ℕ). slice_index words at ≡ capped (total (raised_at at) (set state.views id visit))) (sym same)
+        (λ same. subst (λ (at : ℕ). slice_index words at ≡ capped (total (raised_at at) (set state.views id visit)))
+        (sym same)
         (here ∙ counts (λ closed. count (same ∙ closed)) ∙ ap capped (sym (more_raised i))))
-        (λ other. let none = none_else place other count in let sum = more_raised place in let same : total (raised_at place) (set state.views id visit) ≡ total (raised_at place) state.views = omega (arith, none, sum) in
+        (λ other.
+        let none = none_else place other count in
+        let sum = more_raised place in
+        let same : total (raised_at place) (set state.views id visit) ≡ total (raised_at place) state.views
+        = omega (arith, none, sum) in
         elsewhere place other ∙ are.counted place count ∙ ap capped (sym same));
     last = λ place count at_last. let closed : 0 < slice_index state.words closed_at = dite (ℕ_discrete place i)
-        (λ same. closes (λ closed. count (same ∙ closed)) (sym here ∙ ap (λ (at : ℕ). slice_index words at) (sym same) ∙ at_last))
+        (λ same. closes (λ closed. count (same ∙ closed))
+        (sym here ∙ ap (λ (at : ℕ). slice_index words at) (sym same) ∙ at_last))
         (λ other. are.last place count (sym (elsewhere place other) ∙ at_last)) in
         let kept = later closed_at in omega (arith, closed, kept);
     closed = λ now. dite (ℕ_discrete closed_at i)
-        (λ same. let by = closed_by (sym same) (subst (λ (m : ℕ). 0 < m) (ap (λ (at : ℕ). slice_index words at) same ∙ here) now) in omega (arith, by, more_closed))
-        (λ other. let by = are.closed (subst (λ (m : ℕ). 0 < m) (elsewhere closed_at other) now) in omega (arith, by, more_closed));
+        (λ same.
+        let by
+        = closed_by (sym same)
+        (subst (λ (m : ℕ). 0 < m) (ap (λ (at : ℕ). slice_index words at) same ∙ here) now) in
+        omega (arith, by, more_closed))
+        (λ other.
+        let by = are.closed (subst (λ (m : ℕ). 0 < m) (elsewhere closed_at other) now) in
+        omega (arith, by, more_closed));
     seen = λ other known at. ⊎_elim
         (λ mine. subst (λ (v : Visit). IsLater v.seen words) mine.1 (λ place. le_refl (slice_index words place)))
         (λ was. λ place. le_trans (are.seen other known was.1 place) (later place))
@@ -78,22 +102,34 @@ module _ (state : S) (are : AreCounts state) (i n id : ℕ) (me : Me (Unit {0}) 
   sees_more place = le_trans (are.seen id me.0 there place) (later place)
 
 -- a number that stays closes nothing
-still_closed : (state : S) → AreCounts state → (place : ℕ) → place ≡ closed_at → 0 < slice_index state.words place → 0 < total closes_of state.views + 0
-still_closed state are place same above = let by = are.closed (subst (λ (at : ℕ). 0 < slice_index state.words at) same above) in omega (arith, by)
+still_closed : (state : S) → AreCounts state → (place : ℕ) → place ≡ closed_at → 0 < slice_index state.words place
+    → 0 < total closes_of state.views + 0
+still_closed state are place same above =
+    let by = are.closed (subst (λ (at : ℕ). 0 < slice_index state.words at) same above) in
+    omega (arith, by)
 
 module _ (id : ℕ) (me : Me (Unit {0}) Visit) where
   -- a load
-  pub looks : (slots place : ℕ) → place < 536 → Allows AreCounts slots id me place (λ n. n) (has_read_count (step slots place 0 0 none) me)
+  pub looks : (slots place : ℕ) → place < 536
+      → Allows AreCounts slots id me place (λ n. n) (has_read_count (step slots place 0 0 none) me)
   looks slots place inside state are _ there _ = let n : ℕ = slice_index state.words place in (
     after (set state.words place n) me.0 [] 0,
     keeps,
     tt,
-    still_counts state are place n id me [] 0 there inside (le_refl n) (λ count. let is = are.counted place count in omega (arith, is)) (λ other _ _. refl) (λ count. are.last place count) (still_closed state are place),
-    (sees_more state are place n id me [] 0 there inside (le_refl n), append-nil me.0.raised, omega arith, here state are place n id me [] 0 there inside (le_refl n)),
+    still_counts state are place n id me
+        [] 0 there inside (le_refl n) (λ count. let is = are.counted place count in omega (arith, is))
+        (λ other _ _. refl) (λ count. are.last place count) (still_closed state are place),
+    (
+      sees_more state are place n id me [] 0 there inside (le_refl n),
+      append-nil me.0.raised,
+      omega arith,
+      here state are place n id me [] 0 there inside (le_refl n),
+    ),
   )
 
   -- the lobby is closed
-  pub closes : (slots : ℕ) → Allows AreCounts slots id me closed_at (λ n. max n 1) (has_closed (step slots closed_at 1 0 none) me)
+  pub closes : (slots : ℕ)
+      → Allows AreCounts slots id me closed_at (λ n. max n 1) (has_closed (step slots closed_at 1 0 none) me)
   closes slots state are _ there _ =
       let n : ℕ = max (slice_index state.words closed_at) 1 in
       let up : slice_index state.words closed_at ≤ n = omega arith in
@@ -101,13 +137,24 @@ module _ (id : ℕ) (me : Me (Unit {0}) Visit) where
         after (set state.words closed_at n) me.0 [] 1,
         keeps,
         tt,
-        still_counts state are closed_at n id me [] 1 there inside up (λ count. absurd (count refl)) (λ other _ _. refl) (λ count. absurd (count refl)) (λ _ _. omega arith),
-        (sees_more state are closed_at n id me [] 1 there inside up, append-nil me.0.raised, refl, let is = here state are closed_at n id me [] 1 there inside up in omega (arith, is)),
+        still_counts state are closed_at n id me
+            [] 1 there inside up (λ count. absurd (count refl)) (λ other _ _. refl) (λ count. absurd (count refl))
+            (λ _ _. omega arith),
+        (
+          sees_more state are closed_at n id me [] 1 there inside up,
+          append-nil me.0.raised,
+          refl,
+          let is
+              = here state are closed_at n id me [] 1 there inside up in
+              omega (arith, is),
+        ),
       )
 
   -- a compare-exchange, which raises a count if it finds the number that was expected
-  pub raises : (slots place count next : ℕ) → place < 536 → place ≢ closed_at → next ≡ capped (count + 1) → (next ≡ last_count → 0 < slice_index me.0.seen closed_at)
-      → Allows AreCounts slots id me place (λ n. either (eqb n count) next n) (has_raised (step slots place count next none) me)
+  pub raises : (slots place count next : ℕ) → place < 536 → place ≢ closed_at → next ≡ capped (count + 1)
+      → (next ≡ last_count → 0 < slice_index me.0.seen closed_at)
+      → Allows AreCounts slots id me place (λ n. either (eqb n count) next n)
+      (has_raised (step slots place count next none) me)
   raises slots place count next inside is_count next_is closed state are _ there small =
       let n : ℕ = slice_index state.words place in
       dite (ℕ_discrete n count)
@@ -118,15 +165,21 @@ module _ (id : ℕ) (me : Me (Unit {0}) Visit) where
         after (set state.words place next) me.0 (place ∷ []) 0,
         keeps,
         tt,
-        subst (λ (b : _). AreCounts (stepped state place (either b next n) id me.1 (after (set state.words place next) me.0 (place ∷ []) 0) keeps)) (sym (eq-eqb n count hit))
-            (still_counts state are place next id me (place ∷ []) 0 there inside up (λ _. omega (arith, hit, next_is, one, sum))
+        subst
+            (λ (b : _). AreCounts
+            (stepped state place (either b next n) id me.1 (after (set state.words place next) me.0 (place ∷ []) 0)
+            keeps))
+            (sym (eq-eqb n count hit))
+            (still_counts state are place next id me (place ∷ []) 0 there inside up
+            (λ _. omega (arith, hit, next_is, one, sum))
             (λ other not _. ap (λ (b : _). cond b 1 0 + 0) (ne_eqb place other (λ same. not (sym same))))
             (λ _ at_last. let seen = closed at_last in omega (arith, seen, known)) (λ same. absurd (is_count same))),
         (
           sees_more state are place next id me (place ∷ []) 0 there inside up,
           omega arith,
           subst
-              (λ (b : _). MatchBool b (me.0.raised ++ place ∷ [] ≡ me.0.raised ++ place ∷ []) (me.0.raised ++ place ∷ [] ≡ me.0.raised))
+              (λ (b : _). MatchBool b (me.0.raised ++ place ∷ [] ≡ me.0.raised ++ place ∷ [])
+              (me.0.raised ++ place ∷ [] ≡ me.0.raised))
               (sym (eq-eqb n count hit)) refl,
         ),
       ))
@@ -134,28 +187,42 @@ module _ (id : ℕ) (me : Me (Unit {0}) Visit) where
         after (set state.words place n) me.0 [] 0,
         keeps,
         tt,
-        subst (λ (b : _). AreCounts (stepped state place (either b next n) id me.1 (after (set state.words place n) me.0 [] 0) keeps)) (sym (ne_eqb n count miss))
-            (still_counts state are place n id me [] 0 there inside (le_refl n) (λ is. let sum = are.counted place is in omega (arith, sum)) (λ other _ _. refl) (λ is. are.last place is) (still_closed state are place)),
+        subst
+            (λ (b : _). AreCounts
+            (stepped state place (either b next n) id me.1 (after (set state.words place n) me.0 [] 0) keeps))
+            (sym (ne_eqb n count miss))
+            (still_counts state are place n id me
+            [] 0 there inside (le_refl n) (λ is. let sum = are.counted place is in omega (arith, sum))
+            (λ other _ _. refl) (λ is. are.last place is) (still_closed state are place)),
         (
           sees_more state are place n id me [] 0 there inside (le_refl n),
           omega arith,
           subst
-              (λ (b : _). MatchBool b (me.0.raised ++ [] ≡ me.0.raised ++ place ∷ []) (me.0.raised ++ [] ≡ me.0.raised)) (sym (ne_eqb n count miss))
+              (λ (b : _). MatchBool b (me.0.raised ++ [] ≡ me.0.raised ++ place ∷ []) (me.0.raised ++ [] ≡ me.0.raised))
+              (sym (ne_eqb n count miss))
               (append-nil me.0.raised),
         ),
       ))
 
 -- a new guest
-pub enters : (slots place : ℕ) → Enters AreCounts slots place (λ n visit. has_read_count (step slots place 0 0 none) (new_guest, []) n (visit, []))
+pub enters : (slots place : ℕ)
+    → Enters AreCounts slots place (λ n visit. has_read_count (step slots place 0 0 none) (new_guest, []) n (visit, []))
 enters slots place state are _ _ =
     let visit : Visit = record { seen = state.words; raised = []; closes = 0 } in (
       visit,
       record {
         size = are.size;
-        counted = λ at count. let is = are.counted at count in let sum = total-snoc (raised_at at) state.views visit in omega (arith, is, sum);
+        counted = λ at count.
+            let is = are.counted at count in
+            let sum = total-snoc (raised_at at) state.views visit in
+            omega (arith, is, sum);
         last = are.last;
-        closed = λ now. let by = are.closed now in let sum = total-snoc closes_of state.views visit in omega (arith, by, sum);
-        seen = λ id known at. ⊎_elim (λ was. are.seen id known was) (λ mine. subst (λ (v : Visit). IsLater v.seen state.words) mine (λ other. le_refl (slice_index state.words other))) (at_snoc state.views visit known id at);
+        closed = λ now.
+            let by = are.closed now in let sum = total-snoc closes_of state.views visit in omega (arith, by, sum);
+        seen = λ id known at. ⊎_elim (λ was. are.seen id known was)
+            (λ mine. subst (λ (v : Visit). IsLater v.seen state.words) mine
+            (λ other. le_refl (slice_index state.words other)))
+            (at_snoc state.views visit known id at);
       },
       ((λ other. zero-le), refl, refl, refl),
     )
@@ -172,7 +239,8 @@ opens = record {
   counted = λ place _. zeros 536 place;
   last = λ place _ at_last. let is = zeros 536 place in absurd (omega (arith, is, at_last));
   closed = λ now. let is = zeros 536 closed_at in absurd (omega (arith, is, now));
-  seen = λ id known at. subst (λ (v : Visit). IsLater v.seen (replicate 536 0)) (only_first id known at) (λ place. zero-le);
+  seen = λ id known at. subst (λ (v : Visit). IsLater v.seen (replicate 536 0)) (only_first id known at)
+      (λ place. zero-le);
 }
   where
     only_first : (id : ℕ) (known : Visit) → get_elem? (new_guest ∷ []) id ≡ some known → new_guest ≡ known

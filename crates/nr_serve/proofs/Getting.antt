@@ -1,6 +1,7 @@
 -- The tries of a get, put together: the tries that found a hole so far, one more of them, and the end.
 use Rattle.std.specs.Prelude.{nat_lt}
-use Rattle.std.proofs.Common.{◌≡◌, ℕ, Bool, false, ◌+◌, ◌-◌, ◌*◌, ◌<◌, ◌≤◌, Result, Ok, Err, List, [], ◌∷◌, ◌++◌, length, refl, sym, ap, ◌∙◌, subst, arith, append_assoc, append-nil, length-append}
+use Rattle.std.proofs.Common.{◌≡◌, ℕ, Bool, false, ◌+◌, ◌-◌, ◌*◌, ◌<◌, ◌≤◌, Result, Ok, Err, List, [], ◌∷◌, ◌++◌}
+use Rattle.std.proofs.Common.{length, refl, sym, ap, ◌∙◌, subst, arith, append_assoc, append-nil, length-append}
 use Rattle.nr_model.specs.declared.rows.Row.{Row}
 use Rattle.nr_model.specs.declared.calls.Reply.TheVariants as reply
 use Rattle.nr_model.specs.Histories.{Entry}
@@ -11,21 +12,28 @@ use Rattle.nr_serve.specs.declared.answers.Got.TheVariants as got
 use Rattle.nr_serve.specs.declared.answers.Requested.{Requested}
 use Rattle.nr_serve.specs.declared.answers.Tried.TheVariants as tried
 use Rattle.nr_serve.specs.declared.sleepers.TooLate.{TooLate}
-use Rattle.nr_serve.specs.Gets.{AwaitsFill, EndsLate, FindsOnce, Gets, GetsInTime, MissesAll, MissesOnce, TriesOnce, found, miss, misses, requested}
+use Rattle.nr_serve.specs.Gets.{AwaitsFill, EndsLate, FindsOnce, Gets, GetsInTime, MissesAll, MissesOnce, TriesOnce}
+use Rattle.nr_serve.specs.Gets.{found, miss, misses, requested}
 use Rattle.nr_serve.specs.Hands.{Moves, last_count}
 use Rattle.nr_serve.proofs.Moving.{moves_both, moves_none}
 
-misses-snoc : (by key : ℕ) (requests : List Requested) (request : Requested) → misses by key (requests ++ request ∷ []) ≡ misses by key requests ++ miss by key request
+misses-snoc : (by key : ℕ) (requests : List Requested) (request : Requested)
+    → misses by key (requests ++ request ∷ []) ≡ misses by key requests ++ miss by key request
 misses-snoc by key [] request = append-nil (miss by key request)
 misses-snoc by key (first ∷ requests) request =
-    ap (λ (l : List Entry). miss by key first ++ l) (misses-snoc by key requests request) ∙ sym (append_assoc (miss by key first) (misses by key requests) (miss by key request))
+    ap (λ (l : List Entry). miss by key first ++ l) (misses-snoc by key requests request)
+    ∙ sym (append_assoc (miss by key first) (misses by key requests) (miss by key request))
 
-misses_then : (key : ℕ) (a b c : Hands) (requests : List Requested) (request : Requested) → MissesAll key a b requests → MissesOnce key b c request → MissesAll key a c (requests ++ request ∷ [])
-misses_then key a b c [] request all once = (c, subst (λ (hands : Hands). MissesOnce key hands c request) all once, refl)
-misses_then key a b c (first ∷ requests) request all once = (all.0, all.1, misses_then key all.0 b c requests request all.2 once)
+misses_then : (key : ℕ) (a b c : Hands) (requests : List Requested) (request : Requested) → MissesAll key a b requests
+    → MissesOnce key b c request → MissesAll key a c (requests ++ request ∷ [])
+misses_then key a b c [] request all once =
+    (c, subst (λ (hands : Hands). MissesOnce key hands c request) all once, refl)
+misses_then key a b c (first ∷ requests) request all once =
+    (all.0, all.1, misses_then key all.0 b c requests request all.2 once)
 
 -- a reader that moved has a word still, or none
-pub same_words : (steps : ℕ) (old : Hands) (entries : List Entry) (new : Hands) → Moves steps entries old new → finds_by_word new.reader ≡ finds_by_word old.reader
+pub same_words : (steps : ℕ) (old : Hands) (entries : List Entry) (new : Hands) → Moves steps entries old new
+    → finds_by_word new.reader ≡ finds_by_word old.reader
 same_words steps old entries new moves = (λ j. nat_lt (moves.makes.number j - 1) (moves.makes.table j).announcers)
 
 -- that many tries found a hole
@@ -38,37 +46,62 @@ pub record Missed (key count : ℕ) (old new : Hands) : Type 0 where
   pub moves : Moves steps (misses old.reader.number key requests) old new
 
 pub missed_none : (key : ℕ) (a : Hands) → a.sends ≤ last_count → Missed key 0 a a
-missed_none key a small = record { requests = []; count_is = refl; missed = refl; steps = 0; counted = λ _. refl; moves = moves_none a small }
+missed_none key a small =
+    record { requests = []; count_is = refl; missed = refl; steps = 0; counted = λ _. refl; moves = moves_none a small }
 
 -- one try more that found a hole
-pub missed_more : (key n : ℕ) (a b c : Hands) (before rows : List Row) (request : Requested) → Missed key n a b → TriesOnce key b before c rows (tried.Missed request) → Missed key (n + 1) a c
+pub missed_more : (key n : ℕ) (a b c : Hands) (before rows : List Row) (request : Requested) → Missed key n a b
+    → TriesOnce key b before c rows (tried.Missed request) → Missed key (n + 1) a c
 missed_more key n a b c before rows request missed once =
     let by = a.reader.number in
-    let moves = subst (λ (at : ℕ). Moves (once.0.steps + length (requested at key request)) (miss at key request) b c) missed.moves.makes.number once.0.moves in
+    let moves
+    = subst (λ (at : ℕ). Moves (once.0.steps + length (requested at key request)) (miss at key request) b c)
+    missed.moves.makes.number once.0.moves in
     let old = misses by key missed.requests in
-    let all : old ++ miss by key request ≡ misses by key (missed.requests ++ request ∷ []) = sym (misses-snoc by key missed.requests request) in
+    let all : old ++ miss by key request ≡ misses by key (missed.requests ++ request ∷ [])
+    = sym (misses-snoc by key missed.requests request) in
     record {
       requests = missed.requests ++ request ∷ [];
       count_is = omega (arith, missed.count_is, length-append missed.requests (request ∷ []));
       missed = misses_then key a b c missed.requests request missed.missed once.0;
       steps = missed.steps + (once.0.steps + length (requested by key request));
-      counted = λ no_word. let one : once.0.steps ≡ 1 = (subst (λ (w : Bool). HoleIn w once.0.named once.0.steps) (same_words missed.steps a old b missed.moves ∙ no_word) once.0.finds_in).1 in
-          omega (arith, one, missed.counted no_word, length-append old (miss by key request), ap (λ (l : List Entry). length l) all);
-      moves = subst (λ (l : List Entry). Moves (missed.steps + (once.0.steps + length (requested by key request))) l a c) all
-          (moves_both missed.steps (once.0.steps + length (requested by key request)) _ a old b (miss by key request) c refl missed.moves moves);
+      counted = λ no_word.
+          let one : once.0.steps ≡ 1
+          = (subst (λ (w : Bool). HoleIn w once.0.named once.0.steps)
+          (same_words missed.steps a old b missed.moves ∙ no_word) once.0.finds_in).1 in
+          omega (
+            arith,
+            one,
+            missed.counted no_word,
+            length-append old (miss by key request),
+            ap (λ (l : List Entry). length l) all,
+          );
+      moves =
+          subst (λ (l : List Entry). Moves (missed.steps + (once.0.steps + length (requested by key request))) l a c)
+          all
+          (moves_both missed.steps (once.0.steps + length (requested by key request)) _ a old b (miss by key request) c
+          refl missed.moves moves);
     }
 
 -- by the counts they took a step for each call
-counted_by : (key n : ℕ) (a b : Hands) → (missed : Missed key n a b) → finds_by_word a.reader ≡ false → b.reader.steps ≡ a.reader.steps + length (misses a.reader.number key missed.requests)
-counted_by key n a b missed no_word = let all = missed.moves.makes.steps_made in let each = missed.counted no_word in omega (arith, all, each)
+counted_by : (key n : ℕ) (a b : Hands) → (missed : Missed key n a b) → finds_by_word a.reader ≡ false
+    → b.reader.steps ≡ a.reader.steps + length (misses a.reader.number key missed.requests)
+counted_by key n a b missed no_word =
+    let all = missed.moves.makes.steps_made in
+    let each = missed.counted no_word in
+    omega (arith, all, each)
 
 -- a last find, and all calls together
-found_last : (key n more : ℕ) (a b c : Hands) (set : List Row) (missed : Missed key n a b) → (once : FindsOnce key more b c set)
-    → Moves (missed.steps + (once.steps + more)) (misses a.reader.number key missed.requests ++ found b.reader.number key (reply.Rows set) ∷ []) a c
+found_last : (key n more : ℕ) (a b c : Hands) (set : List Row) (missed : Missed key n a b)
+    → (once : FindsOnce key more b c set)
+    → Moves (missed.steps + (once.steps + more))
+    (misses a.reader.number key missed.requests ++ found b.reader.number key (reply.Rows set) ∷ []) a c
 found_last key n more a b c set missed once =
-    moves_both missed.steps (once.steps + more) _ a (misses a.reader.number key missed.requests) b (found b.reader.number key (reply.Rows set) ∷ []) c refl missed.moves once.moves
+    moves_both missed.steps (once.steps + more) _ a (misses a.reader.number key missed.requests) b
+    (found b.reader.number key (reply.Rows set) ∷ []) c refl missed.moves once.moves
 
-pub gets_by_end : (key n tries : ℕ) (a b c : Hands) (before rows : List Row) (answer : Got) → n < tries → Missed key n a b → TriesOnce key b before c rows (tried.Ended answer) → Gets key tries a before c rows answer
+pub gets_by_end : (key n tries : ℕ) (a b c : Hands) (before rows : List Row) (answer : Got) → n < tries
+    → Missed key n a b → TriesOnce key b before c rows (tried.Ended answer) → Gets key tries a before c rows answer
 gets_by_end key n tries a b c before rows got.Rows low missed once = record {
   requests = missed.requests;
   between = b;
@@ -93,7 +126,8 @@ gets_by_end key n tries a b c before rows got.Barred low missed once = record {
   moves = found_last key n 1 a b c once.0 missed once.1;
 }
 
-pub gets_by_none : (key n tries : ℕ) (a b : Hands) (before rows : List Row) → n ≡ tries → Missed key n a b → rows ≡ before → Gets key tries a before b rows got.GaveUp
+pub gets_by_none : (key n tries : ℕ) (a b : Hands) (before rows : List Row) → n ≡ tries → Missed key n a b
+    → rows ≡ before → Gets key tries a before b rows got.GaveUp
 gets_by_none key n tries a b before rows all missed same = record {
   requests = missed.requests;
   between = b;
@@ -103,13 +137,23 @@ gets_by_none key n tries a b before rows all missed same = record {
   last = [];
   ends = (refl, refl, same);
   steps = missed.steps + 0;
-  moves = moves_both missed.steps 0 _ a (misses a.reader.number key missed.requests) b [] b refl missed.moves (moves_none b (let counted = missed.moves.sends in omega (arith, counted)));
+  moves =
+      moves_both missed.steps 0 _ a (misses a.reader.number key missed.requests) b
+      [] b refl missed.moves (moves_none b (let counted = missed.moves.sends in omega (arith, counted)));
 }
 
 -- the sleep after one try more timed out
-pub ends_late : (key n tries : ℕ) (a b c : Hands) (before rows : List Row) (request : Requested) → n + 1 < tries → Missed key n a b → rows ≡ before → AwaitsFill key b c request → EndsLate key tries a before c rows
+pub ends_late : (key n tries : ℕ) (a b c : Hands) (before rows : List Row) (request : Requested) → n + 1 < tries
+    → Missed key n a b → rows ≡ before → AwaitsFill key b c request → EndsLate key tries a before c rows
 ends_late key n tries a b c before rows request few missed same slept =
-    record { made = n; few = few; last = b; gets = gets_by_none key n n a b before rows refl missed same; request = request; slept = slept }
+    record {
+      made = n;
+      few = few;
+      last = b;
+      gets = gets_by_none key n n a b before rows refl missed same;
+      request = request;
+      slept = slept;
+    }
 
 -- the calls of a get, however it ended
 pub record Called (old new : Hands) : Type 0 where
@@ -117,7 +161,8 @@ pub record Called (old new : Hands) : Type 0 where
   pub entries : List Entry
   pub moves : Moves steps entries old new
 
-pub called_in_time : (key tries : ℕ) (a b : Hands) (before rows : List Row) (answer : Result Got TooLate) → GetsInTime key tries a before b rows answer → Called a b
+pub called_in_time : (key tries : ℕ) (a b : Hands) (before rows : List Row) (answer : Result Got TooLate)
+    → GetsInTime key tries a before b rows answer → Called a b
 called_in_time key tries a b before rows (Ok got) gets = record { steps = _; entries = _; moves = gets.moves }
 called_in_time key tries a b before rows (Err late) gets = record {
   steps = _;

@@ -1,5 +1,6 @@
 -- Where each find of a get stands in what its client has seen.
-use Rattle.std.proofs.Common.{◌≡◌, ℕ, ◌+◌, ◌<◌, Bool, true, false, ◌==◌, cond, List, [], ◌∷◌, ◌++◌, ap, subst, sym, ◌∙◌, arith, append_assoc, length, ⊎_elim}
+use Rattle.std.proofs.Common.{◌≡◌, ℕ, ◌+◌, ◌<◌, Bool, true, false, ◌==◌, cond, List, [], ◌∷◌, ◌++◌, ap, subst, sym, ◌∙◌}
+use Rattle.std.proofs.Common.{arith, append_assoc, length, ⊎_elim}
 use Rattle.std.proofs.lemmas.List.{append-nil, append_cancel_left, length-replicate}
 use Rattle.std.proofs.lemmas.List.Elements.{filter-append}
 use Rattle.nr_model.specs.declared.states.KeyState.TheVariants.{Hole}
@@ -17,55 +18,85 @@ record Stands (log : List Entry) (e : Entry) : Type 0 where
   back : List Entry
   is : log ≡ front ++ e ∷ back
 
-stands_by : (his : Bool) (x : Entry) (log own first rest : List Entry) (e : Entry) → cond his (x ∷ own) own ≡ first ++ e ∷ rest → ((others : List Entry) → own ≡ others ++ e ∷ rest → Stands log e) → Stands (x ∷ log) e
+stands_by : (his : Bool) (x : Entry) (log own first rest : List Entry) (e : Entry)
+    → cond his (x ∷ own) own ≡ first ++ e ∷ rest → ((others : List Entry) → own ≡ others ++ e ∷ rest → Stands log e)
+    → Stands (x ∷ log) e
 stands_by true x log own [] rest e is later = record { front = []; back = log; is = cc }
-stands_by true x log own (f ∷ first) rest e is later = let there = later first cc in record { front = x ∷ there.front; back = there.back; is = ap (λ (l : List Entry). x ∷ l) there.is }
-stands_by false x log own first rest e is later = let there = later first is in record { front = x ∷ there.front; back = there.back; is = ap (λ (l : List Entry). x ∷ l) there.is }
+stands_by true x log own (f ∷ first) rest e is later =
+    let there = later first cc in
+    record { front = x ∷ there.front; back = there.back; is = ap (λ (l : List Entry). x ∷ l) there.is }
+stands_by false x log own first rest e is later =
+    let there = later first is in
+    record { front = x ∷ there.front; back = there.back; is = ap (λ (l : List Entry). x ∷ l) there.is }
 
 no_entry : (first rest : List Entry) (e : Entry) → [] ≡ first ++ e ∷ rest → ⊥
 no_entry [] rest e is = absurd (cc)
 no_entry (f ∷ first) rest e is = absurd (cc)
 
 -- an entry among the caller's own stands in the whole log
-stands : (log : List Entry) (caller : ℕ) (first rest : List Entry) (e : Entry) → entries_of log caller ≡ first ++ e ∷ rest → Stands log e
+stands : (log : List Entry) (caller : ℕ) (first rest : List Entry) (e : Entry)
+    → entries_of log caller ≡ first ++ e ∷ rest → Stands log e
 stands [] caller first rest e is = absurd (no_entry first rest e is)
-stands (x ∷ log) caller first rest e is = stands_by (x.caller == caller) x log (entries_of log caller) first rest e is (λ others same. stands log caller others rest e same)
+stands (x ∷ log) caller first rest e is =
+    stands_by (x.caller == caller) x log (entries_of log caller) first rest e is
+    (λ others same. stands log caller others rest e same)
 
 -- a call that the caller made stands behind all that it had seen, in a sound history
-module _ (steps : ℕ) (old new : Caller) (first rest : List Entry) (e : Entry) (makes : Makes steps (first ++ e ∷ rest) old new) (knows : KnowsOwn old) where
+module _ (steps : ℕ) (old new : Caller) (first rest : List Entry) (e : Entry)
+    (makes : Makes steps (first ++ e ∷ rest) old new) (knows : KnowsOwn old) where
   is_sound : IsSound new
   is_sound = ⊎_elim
-      (λ (same : (new.seen ≡ old.seen) × (new.mine ≡ old.mine)). absurd (no_entry first rest e (append_cancel_left old.mine [] (first ++ e ∷ rest) (append-nil old.mine ∙ sym same.1 ∙ makes.mine))))
+      (λ (same : (new.seen ≡ old.seen) × (new.mine ≡ old.mine)). absurd
+      (no_entry first rest e
+      (append_cancel_left old.mine [] (first ++ e ∷ rest) (append-nil old.mine ∙ sym same.1 ∙ makes.mine))))
       (λ (sound : IsSound new). sound)
       makes.sound
 
   own_after : entries_of makes.seen.rest old.number ≡ first ++ e ∷ rest
   own_after = append_cancel_left old.mine (entries_of makes.seen.rest old.number) (first ++ e ∷ rest)
-      (ap (λ (l : List Entry). l ++ entries_of makes.seen.rest old.number) (sym knows) ∙ sym (filter-append (λ (k : Entry). k.caller == old.number) old.seen makes.seen.rest)
-      ∙ ap (λ (l : List Entry). entries_of l old.number) (sym makes.seen.is) ∙ ap (entries_of new.seen) (sym makes.number) ∙ is_sound.own ∙ makes.mine)
+      (ap (λ (l : List Entry). l ++ entries_of makes.seen.rest old.number) (sym knows)
+      ∙ sym (filter-append (λ (k : Entry). k.caller == old.number) old.seen makes.seen.rest)
+      ∙ ap (λ (l : List Entry). entries_of l old.number) (sym makes.seen.is)
+      ∙ ap (entries_of new.seen) (sym makes.number) ∙ is_sound.own ∙ makes.mine)
 
   made : Stands makes.seen.rest e
   made = stands makes.seen.rest old.number first rest e own_after
 
 pub gets_what_it_heard_lem : FindsWritten → GetsWhatItHeard
-gets_what_it_heard_lem finds_written old note asking new key tries rows_before rows got before since first rest put answer near had puts_it heard knows gets among =
-    let by = asking.reader in let find = found by.number key answer in let written = before ++ put ∷ [] in let opening = map_at_opening old.table in
+gets_what_it_heard_lem finds_written old note asking new key tries rows_before rows got before since first rest put
+    answer near had puts_it heard knows gets among =
+    let by = asking.reader in
+    let find = found by.number key answer in
+    let written = before ++ put ∷ [] in
+    let opening = map_at_opening old.table in
     let makes = subst (λ (entries : List Entry). Makes gets.steps entries by new.reader) among gets.moves.makes in
     let there = made gets.steps by new.reader first rest find makes knows in
     let sound = is_sound gets.steps by new.reader first rest find makes knows in
     let known = heard.hears.seen.rest ++ heard.seen.rest in
     let more = known ++ there.front in
-    let all_known : by.seen ≡ note.seen ++ known = heard.seen.is ∙ ap (λ (l : List Entry). l ++ heard.seen.rest) heard.hears.seen.is ∙ append_assoc note.seen heard.hears.seen.rest heard.seen.rest in
-    let begun : by.seen ++ there.front ≡ written ++ (since ++ more) = ap (λ (l : List Entry). l ++ there.front) all_known
-    ∙ append_assoc note.seen known there.front ∙ ap (λ (l : List Entry). l ++ more) had ∙ append_assoc written since more in
+    let all_known : by.seen ≡ note.seen ++ known
+    = heard.seen.is ∙ ap (λ (l : List Entry). l ++ heard.seen.rest) heard.hears.seen.is
+    ∙ append_assoc note.seen heard.hears.seen.rest heard.seen.rest in
+    let begun : by.seen ++ there.front ≡ written ++ (since ++ more)
+    = ap (λ (l : List Entry). l ++ there.front) all_known
+    ∙ append_assoc note.seen known there.front ∙ ap (λ (l : List Entry). l ++ more) had
+    ∙ append_assoc written since more in
     let place : new.reader.seen ≡ ((written ++ (since ++ more)) ++ find ∷ []) ++ there.back =
-    makes.seen.is ∙ ap (λ (l : List Entry). by.seen ++ l) there.is ∙ sym (append_assoc by.seen there.front (find ∷ there.back))
-    ∙ ap (λ (l : List Entry). l ++ find ∷ there.back) begun ∙ sym (append_assoc (written ++ (since ++ more)) (find ∷ []) there.back) in
+    makes.seen.is ∙ ap (λ (l : List Entry). by.seen ++ l) there.is
+    ∙ sym (append_assoc by.seen there.front (find ∷ there.back))
+    ∙ ap (λ (l : List Entry). l ++ find ∷ there.back) begun
+    ∙ sym (append_assoc (written ++ (since ++ more)) (find ∷ []) there.back) in
     let table : new.reader.table ≡ old.table = makes.table ∙ heard.table ∙ heard.hears.learns.table in
-    let legal : IsLegal opening (((written ++ (since ++ more)) ++ find ∷ []) ++ there.back) = subst (IsLegal opening) place (subst (λ (t : Table). IsLegal (map_at_opening t) new.reader.seen) table sound.legal) in
-    let keys : key < length opening.states = omega (arith, near, length-replicate old.table.shape.keys (Hole old.table.shape.first_number)) in record {
+    let legal : IsLegal opening (((written ++ (since ++ more)) ++ find ∷ []) ++ there.back)
+    = subst (IsLegal opening) place
+    (subst (λ (t : Table). IsLegal (map_at_opening t) new.reader.seen) table sound.legal) in
+    let keys : key < length opening.states
+    = omega (arith, near, length-replicate old.table.shape.keys (Hole old.table.shape.first_number)) in
+    record {
       more = more;
       later = there.back;
       place = place;
-      finds = finds_written opening before (since ++ more) put key by.number answer keys puts_it (legal_begins_lem opening ((written ++ (since ++ more)) ++ find ∷ []) there.back legal);
+      finds =
+          finds_written opening before (since ++ more) put key by.number answer keys puts_it
+          (legal_begins_lem opening ((written ++ (since ++ more)) ++ find ∷ []) there.back legal);
     }

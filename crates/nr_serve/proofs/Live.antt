@@ -17,14 +17,19 @@ use Rattle.nr_serve.specs.Requests.{CancelledIsStale, OneAtATime, is_sent, took_
 abbrev is_fill : ℕ → Entry → Bool
 is_fill key e = fills_key key e.call && is_done e.reply
 
-counts_last : (test : Entry → Bool) (l : List Entry) (e : Entry) → count_by test (l ++ e ∷ []) ≡ count_by test l + one (test e)
-counts_last test l e = omega (arith, sum_by-append (λ (x : Entry). cond (test x) 1 0) l (e ∷ []), count_by-cons test e [])
+counts_last : (test : Entry → Bool) (l : List Entry) (e : Entry)
+    → count_by test (l ++ e ∷ []) ≡ count_by test l + one (test e)
+counts_last test l e =
+    omega (arith, sum_by-append (λ (x : Entry). cond (test x) 1 0) l (e ∷ []), count_by-cons test e [])
 
-counts : (test : Entry → Bool) (l : List Entry) (e : Entry) (m : List Entry) → count_by test ((l ++ e ∷ []) ++ m) ≡ count_by test l + one (test e) + count_by test m
-counts test l e m = omega (arith, sum_by-append (λ (x : Entry). cond (test x) 1 0) (l ++ e ∷ []) m, counts_last test l e)
+counts : (test : Entry → Bool) (l : List Entry) (e : Entry) (m : List Entry)
+    → count_by test ((l ++ e ∷ []) ++ m) ≡ count_by test l + one (test e) + count_by test m
+counts test l e m =
+    omega (arith, sum_by-append (λ (x : Entry). cond (test x) 1 0) (l ++ e ∷ []) m, counts_last test l e)
 
 -- a request is no fill and no cancel
-no_fill : (key : ℕ) (call : Call) (answer : Reply) → (asks key call && is_send answer) ≡ true → one (fills_key key call && is_done answer) ≡ 0
+no_fill : (key : ℕ) (call : Call) (answer : Reply) → (asks key call && is_send answer) ≡ true
+    → one (fills_key key call && is_done answer) ≡ 0
 no_fill key (Ask k) answer sent = refl
 no_fill key (Find k) answer sent = refl
 no_fill key (Fill k number rows) answer sent = absurd (cc)
@@ -33,7 +38,8 @@ no_fill key (Replace k rows) answer sent = refl
 no_fill key (Evict k) answer sent = refl
 no_fill key (Cancel k) answer sent = refl
 
-no_cancel : (key : ℕ) (call : Call) (answer : Reply) → (asks key call && is_send answer) ≡ true → one (cancels_key key call && is_cancelled answer) ≡ 0
+no_cancel : (key : ℕ) (call : Call) (answer : Reply) → (asks key call && is_send answer) ≡ true
+    → one (cancels_key key call && is_cancelled answer) ≡ 0
 no_cancel key (Ask k) answer sent = refl
 no_cancel key (Find k) answer sent = refl
 no_cancel key (Fill k number rows) answer sent = refl
@@ -86,7 +92,8 @@ one_at_a_time_lem answered begins keys bound first key before between one_sent t
     )
 
 pub cancelled_is_stale_lem : NumbersCountCancels → AnswersFitTheirRequests → LegalBegins → CancelledIsStale
-cancelled_is_stale_lem numbers fit begins keys bound first key number rows before between cancel fill legal low took early is_fill done =
+cancelled_is_stale_lem numbers fit begins keys bound first key number rows before between cancel fill legal low took
+    early is_fill done =
     let map : PartialMap = opening keys bound first in
     let h1 : List Entry = before ++ cancel ∷ [] in
     let h2 : List Entry = h1 ++ between in

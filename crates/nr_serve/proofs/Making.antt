@@ -1,5 +1,6 @@
 -- The calls of a caller, put together.
-use Rattle.std.proofs.Common.{◌≡◌, ℕ, ◌+◌, List, [], ◌∷◌, ◌++◌, refl, sym, ap, ◌∙◌, subst, arith, append_assoc, append-nil, inl, inr, ⊎_elim}
+use Rattle.std.proofs.Common.{◌≡◌, ℕ, ◌+◌, List, [], ◌∷◌, ◌++◌, refl, sym, ap, ◌∙◌, subst, arith, append_assoc}
+use Rattle.std.proofs.Common.{append-nil, inl, inr, ⊎_elim}
 use Rattle.nr_model.specs.declared.calls.Call.{Call}
 use Rattle.nr_model.specs.declared.calls.Reply.{Reply}
 use Rattle.nr_model.specs.Histories.{Entry, IsLegal, entries_of}
@@ -10,7 +11,11 @@ use Rattle.nr_board.specs.Rule.{StartsWith}
 use Rattle.nr_serve.specs.Callers.{Makes}
 
 starts_both : (a b c : List Entry) → StartsWith b a → StartsWith c b → StartsWith c a
-starts_both a b c one two = record { rest = one.rest ++ two.rest; is = two.is ∙ ap (λ (l : List Entry). l ++ two.rest) one.is ∙ append_assoc a one.rest two.rest }
+starts_both a b c one two =
+    record {
+      rest = one.rest ++ two.rest;
+      is = two.is ∙ ap (λ (l : List Entry). l ++ two.rest) one.is ∙ append_assoc a one.rest two.rest;
+    }
 
 pub makes_by_rests : (steps : ℕ) (a b : Caller) → Rests steps a b → Makes steps [] a b
 makes_by_rests steps a b rests = record {
@@ -32,11 +37,16 @@ makes_none a = record {
   sound = inl (refl, refl);
 }
 
-pub makes_by_gains : (steps : ℕ) (a : Caller) (call : Call) (reply : Reply) (b : Caller) → Gains steps call a b reply → Makes steps (entry a.number call reply ∷ []) a b
+pub makes_by_gains : (steps : ℕ) (a : Caller) (call : Call) (reply : Reply) (b : Caller) → Gains steps call a b reply
+    → Makes steps (entry a.number call reply ∷ []) a b
 makes_by_gains steps a call reply b gains = record {
   table = gains.table;
   number = gains.number;
-  seen = record { rest = gains.between ++ entry a.number call reply ∷ []; is = gains.seen ∙ append_assoc a.seen gains.between (entry a.number call reply ∷ []) };
+  seen =
+      record {
+        rest = gains.between ++ entry a.number call reply ∷ [];
+        is = gains.seen ∙ append_assoc a.seen gains.between (entry a.number call reply ∷ []);
+      };
   mine = gains.mine;
   steps_made = gains.steps_made;
   sound = inr (record {
@@ -46,14 +56,19 @@ makes_by_gains steps a call reply b gains = record {
   });
 }
 
-still_sound : (a b : Caller) → b.table ≡ a.table → b.number ≡ a.number → b.seen ≡ a.seen → b.mine ≡ a.mine → IsSound a → IsSound b
+still_sound : (a b : Caller) → b.table ≡ a.table → b.number ≡ a.number → b.seen ≡ a.seen → b.mine ≡ a.mine → IsSound a
+    → IsSound b
 still_sound a b table number seen mine sound = record {
-  legal = subst (λ (at : Table × List Entry). IsLegal (map_at_opening at.0) at.1) (λ i. (sym table i, sym seen i)) sound.legal;
+  legal =
+      subst (λ (at : Table × List Entry). IsLegal (map_at_opening at.0) at.1) (λ i. (sym table i, sym seen i))
+      sound.legal;
   own = (λ i. entries_of (seen i) (number i)) ∙ sound.own ∙ sym mine;
-  callers = subst (λ (at : Table × List Entry). AreCallers at.0.shape at.1) (λ i. (sym table i, sym seen i)) sound.callers;
+  callers =
+      subst (λ (at : Table × List Entry). AreCallers at.0.shape at.1) (λ i. (sym table i, sym seen i)) sound.callers;
 }
 
-pub makes_both : (m n sum : ℕ) (a : Caller) (es : List Entry) (b : Caller) (fs : List Entry) (c : Caller) → sum ≡ m + n → Makes m es a b → Makes n fs b c → Makes sum (es ++ fs) a c
+pub makes_both : (m n sum : ℕ) (a : Caller) (es : List Entry) (b : Caller) (fs : List Entry) (c : Caller) → sum ≡ m + n
+    → Makes m es a b → Makes n fs b c → Makes sum (es ++ fs) a c
 makes_both m n sum a es b fs c is one two = record {
   table = two.table ∙ one.table;
   number = two.number ∙ one.number;

@@ -1,5 +1,6 @@
 -- A client's rings are as many as its posts, over several steps.
-use Rattle.std.proofs.Common.{◌≡◌, ◌∷◌, [], ◌++◌, ◌+◌, ℕ, List, length, replicate, length-append, refl, ap, subst, arith}
+use Rattle.std.proofs.Common.{◌≡◌, ◌∷◌, [], ◌++◌, ◌+◌, ℕ, List, length, replicate, length-append, refl, ap, subst}
+use Rattle.std.proofs.Common.{arith}
 use Rattle.std.proofs.lemmas.List.{replicate-append-replicate}
 use Rattle.nr_trigger.specs.declared.post.Upquery.{Upquery}
 use Rattle.nr_serve.specs.declared.hands.Hands.{Hands}
@@ -9,10 +10,16 @@ use Rattle.nr_serve.proofs.Later.{looks_raise, raises_both, raises_none}
 
 -- nothing was posted, and the guest only looked
 pub rings_none : (a b : Hands) (g h : GuestSeen) → b.poster.posted ≡ a.poster.posted → OnlyLooks g h → Rings a g b h
-rings_none a b g h same looks = record { count = 0; posted = omega (arith, ap (λ (l : List Upquery). length l) same); raises = looks_raise g h looks }
+rings_none a b g h same looks =
+    record {
+      count = 0;
+      posted = omega (arith, ap (λ (l : List Upquery). length l) same);
+      raises = looks_raise g h looks;
+    }
 
 -- one ticket was posted, and the bell rung
-pub rings_once : (a b : Hands) (g h : GuestSeen) (upquery : Upquery) → b.poster.posted ≡ a.poster.posted ++ upquery ∷ [] → Raises (rung_at ∷ []) g h → Rings a g b h
+pub rings_once : (a b : Hands) (g h : GuestSeen) (upquery : Upquery) → b.poster.posted ≡ a.poster.posted ++ upquery ∷ []
+    → Raises (rung_at ∷ []) g h → Rings a g b h
 rings_once a b g h upquery more raises = record {
   count = 1;
   posted = omega (arith, ap (λ (l : List Upquery). length l) more, length-append a.poster.posted (upquery ∷ []));
@@ -29,7 +36,8 @@ rings_both a b c g h i one two = record {
 
 -- the poster stayed the same
 pub rings_same : (a b : Hands) (g : GuestSeen) → b.poster ≡ a.poster → Rings a g b g
-rings_same a b g same = record { count = 0; posted = omega (arith, ap (λ (poster : _). length poster.posted) same); raises = raises_none g }
+rings_same a b g same =
+    record { count = 0; posted = omega (arith, ap (λ (poster : _). length poster.posted) same); raises = raises_none g }
 
 -- the guest looked
 pub rings_looks : (a : Hands) (g h : GuestSeen) → OnlyLooks g h → Rings a g a h

@@ -1,5 +1,6 @@
 -- A client stays what it is, and its count right, whatever calls it makes.
-use Rattle.std.proofs.Common.{◌≡◌, ℕ, ◌+◌, List, ◌++◌, length, drop, sym, ap, ◌∙◌, arith, append_assoc, length-append, refl, subst, Option, Some, unwrap_or}
+use Rattle.std.proofs.Common.{◌≡◌, ℕ, ◌+◌, List, ◌++◌, length, drop, sym, ap, ◌∙◌, arith, append_assoc, length-append}
+use Rattle.std.proofs.Common.{refl, subst, Option, Some, unwrap_or}
 use Rattle.std.specs.Prelude.{IsSome}
 use Rattle.std.proofs.Math.Seq.{drop-append_seam}
 use Rattle.nr_model.specs.Histories.{Entry}
@@ -12,26 +13,37 @@ use Rattle.nr_serve.specs.Hands.{IsReady, Moves}
 use Rattle.nr_serve.specs.Tickets.{sent}
 use Rattle.nr_serve.proofs.Moving.{sent-append}
 
-serves_on : (map : Table) (queue : Queue) (opened old new : Hands) (steps : ℕ) (entries : List Entry) → IsServing map queue opened old → IsReady map queue new → Moves steps entries old new → IsServing map queue opened new
+serves_on : (map : Table) (queue : Queue) (opened old new : Hands) (steps : ℕ) (entries : List Entry)
+    → IsServing map queue opened old → IsReady map queue new → Moves steps entries old new
+    → IsServing map queue opened new
 serves_on map queue opened old new steps entries serving ready moves =
     let before = opened.reader.mine in
     let begins = serving.begins in
     let mine = moves.makes.mine in
     let grown : since opened new ≡ since opened old ++ entries =
-    ap (λ (l : List Entry). drop (length before) l) (mine ∙ ap (λ (l : List Entry). l ++ entries) (sym begins) ∙ append_assoc before (since opened old) entries)
+    ap (λ (l : List Entry). drop (length before) l)
+    (mine ∙ ap (λ (l : List Entry). l ++ entries) (sym begins) ∙ append_assoc before (since opened old) entries)
     ∙ drop-append_seam before (since opened old ++ entries) in
     let count : length (sent (since opened new)) ≡ length (sent (since opened old)) + length (sent entries) =
-    ap (λ (l : List Entry). length (sent l)) grown ∙ ap (λ (l : List Upquery). length l) (sent-append (since opened old) entries) ∙ length-append (sent (since opened old)) (sent entries) in
+    ap (λ (l : List Entry). length (sent l)) grown
+    ∙ ap (λ (l : List Upquery). length l) (sent-append (since opened old) entries)
+    ∙ length-append (sent (since opened old)) (sent entries) in
     record {
       ready = ready;
-      begins = ap (λ (l : List Entry). before ++ l) grown ∙ sym (append_assoc before (since opened old) entries) ∙ ap (λ (l : List Entry). l ++ entries) begins ∙ sym mine;
+      begins =
+          ap (λ (l : List Entry). before ++ l) grown ∙ sym (append_assoc before (since opened old) entries)
+          ∙ ap (λ (l : List Entry). l ++ entries) begins ∙ sym mine;
       counted = let sends = moves.sends in let was = serving.counted in omega (arith, count, sends, was);
     }
 
 -- so it does where its hands were taken out and other ones put back
-pub stays_serving : (map : Table) (queue : Queue) (opened old new : Hands) (before after : Option Hands) (steps : ℕ) (entries : List Entry) → before ≡ Some old → after ≡ Some new
+pub stays_serving : (map : Table) (queue : Queue) (opened old new : Hands) (before after : Option Hands) (steps : ℕ)
+    (entries : List Entry)
+    → before ≡ Some old → after ≡ Some new
     → IsServing map queue opened (unwrap_or before opened) → IsReady map queue new → Moves steps entries old new
     → IsSome after × IsServing map queue opened (unwrap_or after opened)
 stays_serving map queue opened old new before after steps entries was is serving ready moves =
-    let old_serving = subst (λ (hands : Option Hands). IsServing map queue opened (unwrap_or hands opened)) was serving in
-    subst (λ (hands : Option Hands). IsSome hands × IsServing map queue opened (unwrap_or hands opened)) (sym is) (refl, serves_on map queue opened old new steps entries old_serving ready moves)
+    let old_serving
+    = subst (λ (hands : Option Hands). IsServing map queue opened (unwrap_or hands opened)) was serving in
+    subst (λ (hands : Option Hands). IsSome hands × IsServing map queue opened (unwrap_or hands opened)) (sym is)
+    (refl, serves_on map queue opened old new steps entries old_serving ready moves)

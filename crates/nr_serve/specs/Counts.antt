@@ -1,5 +1,6 @@
 -- The counts of a lobby: what holds of them, and what those who raise them know.
-use Rattle.std.specs.Prelude.{◌≡◌, ◌≢◌, ◌<◌, ◌≤◌, ◌==◌, ◌+◌, ◌*◌, ◌%◌, ◌⊎◌, ℕ, zero, suc, List, [], ◌∷◌, ◌++◌, MatchBool, length, slice_index}
+use Rattle.std.specs.Prelude.{◌≡◌, ◌≢◌, ◌<◌, ◌≤◌, ◌==◌, ◌+◌, ◌*◌, ◌%◌, ◌⊎◌, ℕ, zero, suc, List, [], ◌∷◌, ◌++◌}
+use Rattle.std.specs.Prelude.{MatchBool, length, slice_index}
 use mathlib.Core.Option.{some}
 use lib.ListN.{get_elem?}
 use Rattle.atomic_table.specs.Seated.{TableId}
@@ -7,7 +8,8 @@ use Rattle.atomic_table.specs.Table.{Me, State, Step}
 use Rattle.nr_machine.specs.Sums.{only, total}
 use Rattle.nr_serve.specs.Hands.{capped, last_count}
 
--- what a guest knows and did: each number as it last saw them all, the indexes of the counts that it raised, oldest first, and how often it closed the lobby
+-- what a guest knows and did: each number as it last saw them all, the indexes of the counts that it raised, oldest
+-- first, and how often it closed the lobby
 pub record Visit : Type 0 where
   pub seen : List ℕ
   pub raised : List ℕ
@@ -79,7 +81,8 @@ rung_at = 528
 abbrev pub raises_for : ℕ → List ℕ
 raises_for key = group_at key ∷ whole_at ∷ []
 
--- the index of the count of failures for a key's group, and the counts that are raised where the rows of a key couldn't be had
+-- the index of the count of failures for a key's group, and the counts that are raised where the rows of a key couldn't
+-- be had
 abbrev pub failed_at : ℕ → ℕ
 failed_at key = group_at key + 1
 
@@ -94,21 +97,29 @@ groups_below (suc n) = groups_below n ++ (8 * n) ∷ []
 pub record AreCounts (state : State (Unit {0}) Visit) : Type 0 where
   pub size : length state.words ≡ 536
   -- a count is how often the guests raised it, all together, up to the last number
-  pub counted : (place : ℕ) → place ≢ closed_at → slice_index state.words place ≡ capped (total (λ visit. how_often place visit.raised) state.views)
+  pub counted : (place : ℕ) → place ≢ closed_at
+      → slice_index state.words place ≡ capped (total (λ visit. how_often place visit.raised) state.views)
   -- a count that has reached the last number closed the lobby
-  pub last : (place : ℕ) → place ≢ closed_at → slice_index state.words place ≡ last_count → 0 < slice_index state.words closed_at
+  pub last : (place : ℕ) → place ≢ closed_at → slice_index state.words place ≡ last_count
+      → 0 < slice_index state.words closed_at
   -- it was closed by a guest
   pub closed : 0 < slice_index state.words closed_at → 0 < total (λ visit. visit.closes) state.views
   pub seen : (id : ℕ) (visit : Visit) → get_elem? state.views id ≡ some visit → IsLater visit.seen state.words
 
 -- a step that raises nothing, and finds this number
 abbrev pub has_read_count : Step (Unit {0}) → Me (Unit {0}) Visit → ℕ → Me (Unit {0}) Visit → Type 0
-has_read_count step (old, _) found (new, _) = IsLater old.seen new.seen × (new.raised ≡ old.raised) × (new.closes ≡ old.closes) × (slice_index new.seen step.word ≡ found)
+has_read_count step (old, _) found (new, _) =
+    IsLater old.seen new.seen × (new.raised ≡ old.raised) × (new.closes ≡ old.closes)
+    × (slice_index new.seen step.word ≡ found)
 
 -- a step that closes the lobby
 abbrev pub has_closed : Step (Unit {0}) → Me (Unit {0}) Visit → ℕ → Me (Unit {0}) Visit → Type 0
-has_closed step (old, _) found (new, _) = IsLater old.seen new.seen × (new.raised ≡ old.raised) × (new.closes ≡ old.closes + 1) × (0 < slice_index new.seen step.word)
+has_closed step (old, _) found (new, _) =
+    IsLater old.seen new.seen × (new.raised ≡ old.raised) × (new.closes ≡ old.closes + 1)
+    × (0 < slice_index new.seen step.word)
 
 -- a step that raises the count if it finds the number that it expects
 abbrev pub has_raised : Step (Unit {0}) → Me (Unit {0}) Visit → ℕ → Me (Unit {0}) Visit → Type 0
-has_raised step (old, _) found (new, _) = IsLater old.seen new.seen × (new.closes ≡ old.closes) × MatchBool (found == step.first) (new.raised ≡ old.raised ++ step.word ∷ []) (new.raised ≡ old.raised)
+has_raised step (old, _) found (new, _) =
+    IsLater old.seen new.seen × (new.closes ≡ old.closes)
+    × MatchBool (found == step.first) (new.raised ≡ old.raised ++ step.word ∷ []) (new.raised ≡ old.raised)

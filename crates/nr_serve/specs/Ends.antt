@@ -23,22 +23,31 @@ IsPast fill.Stale = Unit {0}
 IsPast (fill.NoSlot counts) = ⊥
 
 -- the trigger's key was to be filled by its ticket number with these rows, which was answered so
-pub record FillsBy {S : Type 0} (post : Post) (rows : List Row) (old new : FlowSeen S) (answer : Result (Unit {0}) FillFault) : Type 0 where
+pub record FillsBy {S : Type 0} (post : Post) (rows : List Row) (old new : FlowSeen S)
+    (answer : Result (Unit {0}) FillFault) : Type 0 where
   pub fills : FillsKey post.upquery.key post.upquery.number rows old.writer new.writer answer
   pub rest : new ≡ record old { writer = new.writer; guest = new.guest }
 
 -- a trigger is given these rows: it is spent and the lobby raised for its key, or there is no slot and it comes back
 abbrev pub FillsOne : {S : Type 0} → Post → List Row → FlowSeen S → FlowSeen S → Result Spent (Post × NoSlot) → Type 0
-FillsOne post rows old new (Ok spent.Filled) = FillsBy post rows old new (Ok tt) × Raises (raises_for post.upquery.key) old.guest new.guest
-FillsOne post rows old new (Ok spent.Passed) = (fault : FillFault) × IsPast fault × FillsBy post rows old new (Err fault) × Raises (raises_for post.upquery.key) old.guest new.guest
+FillsOne post rows old new (Ok spent.Filled) =
+    FillsBy post rows old new (Ok tt) × Raises (raises_for post.upquery.key) old.guest new.guest
+FillsOne post rows old new (Ok spent.Passed) =
+    (fault : FillFault) × IsPast fault × FillsBy post rows old new (Err fault)
+    × Raises (raises_for post.upquery.key) old.guest new.guest
 FillsOne post rows old new (Ok spent.Failed) = ⊥
-FillsOne post rows old new (Err (back, counts)) = FillsBy post rows old new (Err (fill.NoSlot counts)) × (back ≡ post) × (new.guest ≡ old.guest)
+FillsOne post rows old new (Err (back, counts)) =
+    FillsBy post rows old new (Err (fill.NoSlot counts)) × (back ≡ post) × (new.guest ≡ old.guest)
 
 -- the key's request is cancelled if it has that ticket number, and else left alone
 abbrev pub TakesBack : Upquery → Caller → Caller → Cancel → Type 0
-TakesBack upquery old new cancel.Cancelled = (slice_index old.numbers upquery.key ≡ upquery.number) × CancelsKey upquery.key old new cancel.Cancelled
-TakesBack upquery old new cancel.Nothing = ((slice_index old.numbers upquery.key ≢ upquery.number) × (new ≡ old)) ⊎ CancelsKey upquery.key old new cancel.Nothing
-TakesBack upquery old new cancel.Worn = (slice_index old.numbers upquery.key ≡ upquery.number) × CancelsKey upquery.key old new cancel.Worn
+TakesBack upquery old new cancel.Cancelled =
+    (slice_index old.numbers upquery.key ≡ upquery.number) × CancelsKey upquery.key old new cancel.Cancelled
+TakesBack upquery old new cancel.Nothing =
+    ((slice_index old.numbers upquery.key ≢ upquery.number) × (new ≡ old))
+    ⊎ CancelsKey upquery.key old new cancel.Nothing
+TakesBack upquery old new cancel.Worn =
+    (slice_index old.numbers upquery.key ≡ upquery.number) × CancelsKey upquery.key old new cancel.Worn
 
 -- a request that is taken back for want of rows is told to who waits for the key
 abbrev pub FailRaises : Cancel → ℕ → GuestSeen → GuestSeen → Type 0

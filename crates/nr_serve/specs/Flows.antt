@@ -17,7 +17,8 @@ pub record FlowSeen (S : Type 0) : Type 0 where
   pub guest : GuestSeen
 
 -- the writer is the map's and the taker the queue's, and each key that comes out of the queue is one of the map's
-pub record IsPlaced (map : Table) (queue : Queue) (writer : Caller) (taker : TakerSeen) (kept : Option Post) : Type 0 where
+pub record IsPlaced (map : Table) (queue : Queue) (writer : Caller) (taker : TakerSeen) (kept : Option Post) : Type
+    0 where
   pub writes : writer.table ≡ map
   pub takes : taker.queue ≡ queue.id
   pub keys : taker.keys ≤ map.shape.keys

@@ -1,5 +1,6 @@
 -- What a get does: tries that find a hole, and how it ends.
-use Rattle.std.specs.Prelude.{◌≡◌, ◌<◌, ◌+◌, ◌*◌, ℕ, Bool, true, false, List, [], ◌∷◌, ◌++◌, length, Option, None, Some, Result, Ok, Err, is_some}
+use Rattle.std.specs.Prelude.{◌≡◌, ◌<◌, ◌+◌, ◌*◌, ℕ, Bool, true, false, List, [], ◌∷◌, ◌++◌, length, Option, None, Some}
+use Rattle.std.specs.Prelude.{Result, Ok, Err, is_some}
 use Rattle.nr_model.specs.declared.rows.Row.{Row}
 use Rattle.nr_model.specs.declared.calls.Call.TheVariants as call
 use Rattle.nr_model.specs.declared.calls.Reply.{Reply}
@@ -55,13 +56,15 @@ LeavesKept (Sent number) kept = Unit {0}
 LeavesKept Waiting kept = kept ≡ None
 LeavesKept Filled kept = kept ≡ None
 
--- one try that found a hole: the ticket that was kept is posted or kept still, and where none is kept a request is made, whose ticket is posted or kept
+-- one try that found a hole: the ticket that was kept is posted or kept still, and where none is kept a request is
+-- made, whose ticket is posted or kept
 pub record MissesOnce (key : ℕ) (old new : Hands) (request : Requested) : Type 0 where
   pub steps : ℕ
   pub named : List ℕ
   pub finds_in : HoleIn (finds_by_word old.reader) named steps
   pub looks : new.reader.marks ≡ acted (looked old.reader.marks key named) new.reader.marks.put
-  pub moves : Moves (steps + length (requested old.reader.number key request)) (miss old.reader.number key request) old new
+  pub moves : Moves (steps + length (requested old.reader.number key request)) (miss old.reader.number key request) old
+      new
   pub leaves : LeavesKept request new.kept
   pub attempts : new.poster.tries ≡ old.poster.tries + (kept_attempts old.kept + sent_attempts request)
 
@@ -81,7 +84,8 @@ pub record AwaitsFill (key : ℕ) (old new : Hands) (request : Requested) : Type
 -- tries that found a hole, one after the other
 abbrev pub MissesAll : ℕ → Hands → Hands → List Requested → Type 0
 MissesAll key old new [] = new ≡ old
-MissesAll key old new (request ∷ requests) = (mid : Hands) × MissesOnce key old mid request × MissesAll key mid new requests
+MissesAll key old new (request ∷ requests) =
+    (mid : Hands) × MissesOnce key old mid request × MissesAll key mid new requests
 
 -- a pin is answered: the caller gets its rows, unless it is barred, and the reader is released
 abbrev pub AnswersPin : Pinned → List Row → Caller → List Row → Got → Type 0
@@ -89,13 +93,15 @@ AnswersPin pin before reader rows got.Rows = Rests (2 * length pin.rows + 1) pin
 AnswersPin pin before reader rows got.GaveUp = ⊥
 AnswersPin pin before reader rows got.Barred = Rests 1 pin.reader reader × (rows ≡ before)
 
--- one try that found rows, in the steps of a hold and so many more: the ticket that was kept is posted or kept still, and no other call is made
+-- one try that found rows, in the steps of a hold and so many more: the ticket that was kept is posted or kept still,
+-- and no other call is made
 pub record FindsOnce (key more : ℕ) (old new : Hands) (set : List Row) : Type 0 where
   pub steps : ℕ
   pub named : List ℕ
   pub says : ℕ
   pub holds_in : HeldIn (finds_by_word old.reader) named says steps
-  pub looks : new.reader.marks ≡ acted (acted (looked old.reader.marks key named) new.reader.marks.put) new.reader.marks.put
+  pub looks : new.reader.marks
+      ≡ acted (acted (looked old.reader.marks key named) new.reader.marks.put) new.reader.marks.put
   pub moves : Moves (steps + more) (found old.reader.number key (reply.Rows set) ∷ []) old new
   pub attempts : new.poster.tries ≡ old.poster.tries + kept_attempts old.kept
 
@@ -104,7 +110,8 @@ abbrev pub TriesOnce : ℕ → Hands → List Row → Hands → List Row → Tri
 TriesOnce key old before new rows (tried.Missed request) = MissesOnce key old new request × (rows ≡ before)
 TriesOnce key old before new rows (tried.Ended got.Rows) = FindsOnce key (2 * length rows + 1) old new rows
 TriesOnce key old before new rows (tried.Ended got.GaveUp) = ⊥
-TriesOnce key old before new rows (tried.Ended got.Barred) = (set : List Row) × FindsOnce key 1 old new set × (rows ≡ before)
+TriesOnce key old before new rows (tried.Ended got.Barred) =
+    (set : List Row) × FindsOnce key 1 old new set × (rows ≡ before)
 
 -- after that many tries that found a hole a get of so many may end so
 abbrev pub MayEnd : ℕ → Got → ℕ → Type 0
@@ -114,18 +121,24 @@ MayEnd tries got.Barred missed = missed < tries
 
 -- how a get ends after those: by one try more, whose find is its last entry, or by none
 abbrev pub Ends : ℕ → Got → Hands → List Row → List Entry → Hands → List Row → Type 0
-Ends key got.Rows between before last new rows = (last ≡ found between.reader.number key (reply.Rows rows) ∷ []) × FindsOnce key (2 * length rows + 1) between new rows
+Ends key got.Rows between before last new rows =
+    (last ≡ found between.reader.number key (reply.Rows rows) ∷ [])
+    × FindsOnce key (2 * length rows + 1) between new rows
 Ends key got.GaveUp between before last new rows = (last ≡ []) × (new ≡ between) × (rows ≡ before)
-Ends key got.Barred between before last new rows = (set : List Row) × (last ≡ found between.reader.number key (reply.Rows set) ∷ []) × FindsOnce key 1 between new set × (rows ≡ before)
+Ends key got.Barred between before last new rows =
+    (set : List Row) × (last ≡ found between.reader.number key (reply.Rows set) ∷ []) × FindsOnce key 1 between new set
+    × (rows ≡ before)
 
 -- a get of that many tries: those that found a hole, and how it ended
-pub record Gets (key tries : ℕ) (old : Hands) (before : List Row) (new : Hands) (rows : List Row) (got : Got) : Type 0 where
+pub record Gets (key tries : ℕ) (old : Hands) (before : List Row) (new : Hands) (rows : List Row) (got : Got) : Type
+    0 where
   pub requests : List Requested
   -- what the client had in its hands after them
   pub between : Hands
   pub missed : MissesAll key old between requests
   -- by the counts each of their calls is one step
-  pub counted : finds_by_word old.reader ≡ false → between.reader.steps ≡ old.reader.steps + length (misses old.reader.number key requests)
+  pub counted : finds_by_word old.reader ≡ false
+      → between.reader.steps ≡ old.reader.steps + length (misses old.reader.number key requests)
   pub few : MayEnd tries got (length requests)
   pub last : List Entry
   pub ends : Ends key got between before last new rows
@@ -133,7 +146,8 @@ pub record Gets (key tries : ℕ) (old : Hands) (before : List Row) (new : Hands
   pub steps : ℕ
   pub moves : Moves steps (misses old.reader.number key requests ++ last) old new
 
--- a get that a sleep ended which timed out: tries were left, those that it made found a hole, and to the last of them a fill was to come
+-- a get that a sleep ended which timed out: tries were left, those that it made found a hole, and to the last of them a
+-- fill was to come
 pub record EndsLate (key tries : ℕ) (old : Hands) (before : List Row) (new : Hands) (rows : List Row) : Type 0 where
   -- those before the last are a get of so many tries that found a hole
   pub made : ℕ

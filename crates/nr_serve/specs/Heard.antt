@@ -11,17 +11,22 @@ use Rattle.nr_serve.specs.declared.hands.Hands.{Hands}
 use Rattle.nr_serve.specs.declared.answers.Got.{Got}
 use Rattle.nr_serve.specs.Gets.{Gets, found, misses}
 
--- the find stands in what the caller has seen, after a history that begins with the put and what the note's maker had seen since
-pub record FindsHeard (old : Caller) (key : ℕ) (written since : List Entry) (find : Entry) (seen : List Entry) : Type 0 where
+-- the find stands in what the caller has seen, after a history that begins with the put and what the note's maker had
+-- seen since
+pub record FindsHeard (old : Caller) (key : ℕ) (written since : List Entry) (find : Entry) (seen : List Entry) : Type
+    0 where
   pub more : List Entry
   pub later : List Entry
   pub place : seen ≡ ((written ++ (since ++ more)) ++ find ∷ []) ++ later
   pub finds : FindsPut (map_at_opening old.table) key written (since ++ more) find.reply
 
--- the note's maker had seen the put, and the client heard the note: each find of its get has the rows of that put or of a later one, or a hole where the key was evicted since
+-- the note's maker had seen the put, and the client heard the note: each find of its get has the rows of that put or of
+-- a later one, or a hole where the key was evicted since
 abbrev pub GetsWhatItHeard : Type 0
 GetsWhatItHeard =
-    (old : Caller) (note : Known) (asking new : Hands) (key tries : ℕ) (rows_before rows : List Row) (got : Got) (before since first rest : List Entry) (put : Entry) (answer : Reply) →
+    (old : Caller) (note : Known) (asking new : Hands) (key tries : ℕ) (rows_before rows : List Row) (got : Got)
+    (before since first rest : List Entry) (put : Entry) (answer : Reply)
+    →
     key < old.table.shape.keys →
     note.seen ≡ (before ++ put ∷ []) ++ since →
     puts_at key put ≡ true →

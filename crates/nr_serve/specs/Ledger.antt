@@ -25,7 +25,8 @@ use Rattle.nr_serve.specs.Ends.{FailsOne, FillsOne}
 use Rattle.nr_serve.specs.Flows.{FlowSeen}
 use Rattle.nr_serve.specs.Turns.{FindsNone, Takes, Turns, kept_posts}
 
--- how a trigger ended: its key was filled with these rows; it needed none; or they couldn't be had, and its request was taken back
+-- how a trigger ended: its key was filled with these rows; it needed none; or they couldn't be had, and its request was
+-- taken back
 pub data Fate : Type 0 where
   Filled : List Row → Fate
   Passed : Fate
@@ -50,9 +51,11 @@ fate_by cancel.Cancelled = Failed
 fate_by cancel.Nothing = Passed
 fate_by cancel.Worn = Passed
 
-module _ {S : Type 0} (gives : S → (key bound : ℕ) → List Row → S → Type 0) (fails : S → (key bound : ℕ) → S → Type 0) where
+module _ {S : Type 0} (gives : S → (key bound : ℕ) → List Row → S → Type 0)
+    (fails : S → (key bound : ℕ) → S → Type 0) where
   -- the trigger that a turn spent
-  abbrev pub ended_by : (old : FlowSeen S) (turned : Turn) (new : FlowSeen S) → Turns gives fails old new turned → List Ending
+  abbrev pub ended_by : (old : FlowSeen S) (turned : Turn) (new : FlowSeen S) → Turns gives fails old new turned
+      → List Ending
   ended_by old turn.Idle new turns = []
   ended_by old (turn.Filled key) new turns = ended turns.post (Filled turns.answers.rows)
   ended_by old (turn.Passed key) new (_, _, spends) = ended spends.post Passed
@@ -60,34 +63,47 @@ module _ {S : Type 0} (gives : S → (key bound : ℕ) → List Row → S → Ty
   ended_by old (turn.Kept counts) new turns = []
   ended_by old (turn.Worn key) new turns = []
 
-  -- a call of the dataflow, by what its contract says, with the triggers that it gave out, those that it got back, and those that ended
+  -- a call of the dataflow, by what its contract says, with the triggers that it gave out, those that it got back, and
+  -- those that ended
   pub data Does : FlowSeen S → List Post → List Post → List Ending → FlowSeen S → Type 0 where
     TakesOne : (old new : FlowSeen S) (post : Post) → Takes old new post → Does old (post ∷ []) [] [] new
     TakesNone : (old new : FlowSeen S) → FindsNone old new → Does old [] [] [] new
-    Fills : (old new : FlowSeen S) (post : Post) (rows : List Row) (spent : Spent) → FillsOne post rows old new (Ok spent) → Does old [] (post ∷ []) (ended post (fate_of spent rows)) new
-    FillLacks : (old new : FlowSeen S) (post : Post) (rows : List Row) (back : Post) (counts : NoSlot) → FillsOne post rows old new (Err (back, counts)) → Does old (back ∷ []) (post ∷ []) [] new
-    Fails : (old new : FlowSeen S) (post : Post) (spent : Spent) → FailsOne post old new (Ok spent) → Does old [] (post ∷ []) (ended post (fate_of spent [])) new
-    FailWorn : (old new : FlowSeen S) (post back : Post) → FailsOne post old new (Err back) → Does old (back ∷ []) (post ∷ []) [] new
-    Keeps : (old new : FlowSeen S) (post : Post) → new ≡ record old { kept = Some post } → Does old (kept_posts old.kept) (post ∷ []) [] new
-    TurnsOnce : (old new : FlowSeen S) (turned : Turn) (turns : Turns gives fails old new turned) → Does old [] [] (ended_by old turned new turns) new
+    Fills : (old new : FlowSeen S) (post : Post) (rows : List Row) (spent : Spent)
+        → FillsOne post rows old new (Ok spent) → Does old [] (post ∷ []) (ended post (fate_of spent rows)) new
+    FillLacks : (old new : FlowSeen S) (post : Post) (rows : List Row) (back : Post) (counts : NoSlot)
+        → FillsOne post rows old new (Err (back, counts)) → Does old (back ∷ []) (post ∷ []) [] new
+    Fails : (old new : FlowSeen S) (post : Post) (spent : Spent) → FailsOne post old new (Ok spent)
+        → Does old [] (post ∷ []) (ended post (fate_of spent [])) new
+    FailWorn : (old new : FlowSeen S) (post back : Post) → FailsOne post old new (Err back)
+        → Does old (back ∷ []) (post ∷ []) [] new
+    Keeps : (old new : FlowSeen S) (post : Post) → new ≡ record old { kept = Some post }
+        → Does old (kept_posts old.kept) (post ∷ []) [] new
+    TurnsOnce : (old new : FlowSeen S) (turned : Turn) (turns : Turns gives fails old new turned)
+        → Does old [] [] (ended_by old turned new turns) new
     Updates : (old new : FlowSeen S) (key : ℕ) (batch : List Delta) (answer : Result (Unit {0}) UpdateFault)
-        → UpdatesKey old.map.shape.rows key batch old.writer new.writer answer → new ≡ record old { writer = new.writer } → Does old [] [] [] new
+        → UpdatesKey old.map.shape.rows key batch old.writer new.writer answer
+        → new ≡ record old { writer = new.writer } → Does old [] [] [] new
     Replaces : (old new : FlowSeen S) (key : ℕ) (rows : List Row) (answer : Result (Unit {0}) ReplaceFault)
-        → ReplacesKey key rows old.writer new.writer answer → new ≡ record old { writer = new.writer } → Does old [] [] [] new
-    Evicts : (old new : FlowSeen S) (key : ℕ) (answer : Evict) → EvictsKey key old.writer new.writer answer → new ≡ record old { writer = new.writer } → Does old [] [] [] new
+        → ReplacesKey key rows old.writer new.writer answer → new ≡ record old { writer = new.writer }
+        → Does old [] [] [] new
+    Evicts : (old new : FlowSeen S) (key : ℕ) (answer : Evict) → EvictsKey key old.writer new.writer answer
+        → new ≡ record old { writer = new.writer } → Does old [] [] [] new
     Cancels : (old new : FlowSeen S) (key : ℕ) (answer : Cancel) → CancelsKey key old.writer new.writer answer
         → new ≡ record old { writer = new.writer; guest = new.guest } → Does old [] [] [] new
     Tells : (old new : FlowSeen S) → new ≡ record old { writer = with_step old.writer } → Does old [] [] [] new
-    Hears : (old new : FlowSeen S) (note : Known) → HearsNote 1 note old.writer new.writer → new ≡ record old { writer = new.writer } → Does old [] [] [] new
+    Hears : (old new : FlowSeen S) (note : Known) → HearsNote 1 note old.writer new.writer
+        → new ≡ record old { writer = new.writer } → Does old [] [] [] new
     -- it reads the bell or sleeps, and its source is changed
     Looks : (old new : FlowSeen S) → new ≡ record old { guest = new.guest } → Does old [] [] [] new
     Lends : (old new : FlowSeen S) → new ≡ record old { source = new.source } → Does old [] [] [] new
 
-  -- a dataflow after any such calls since it was opened, with the triggers that are under way, as nobody can drop or copy one, and those that ended, in order
+  -- a dataflow after any such calls since it was opened, with the triggers that are under way, as nobody can drop or
+  -- copy one, and those that ended, in order
   pub data Run (first : FlowSeen S) : FlowSeen S → List Post → List Ending → Type 0 where
     Opens : first.kept ≡ None → Run first first [] []
     Goes : (old new : FlowSeen S) (before after out back : List Post) (ends more : List Ending)
-        → Run first old (before ++ (back ++ after)) ends → Does old out back more new → Run first new (before ++ (out ++ after)) (ends ++ more)
+        → Run first old (before ++ (back ++ after)) ends → Does old out back more new
+        → Run first new (before ++ (out ++ after)) (ends ++ more)
 
 -- the triggers that ended
 abbrev pub posts_of : List Ending → List Post
@@ -126,11 +142,14 @@ pub record IsEachOnce {S : Type 0} (first flow : FlowSeen S) (out : List Post) (
   pub gain : List Post
   pub taken : flow.taker.taken ≡ first.taker.taken ++ gain
   pub each : AreTheSame gain (posts_of ends ++ (kept_posts flow.kept ++ out))
-  -- the fills that the map's history has of the writer are those of triggers, one each, by its number and with the rows that were given for it
+  -- the fills that the map's history has of the writer are those of triggers, one each, by its number and with the rows
+  -- that were given for it
   pub calls : List Entry
   pub mine : flow.writer.mine ≡ first.writer.mine ++ calls
   pub fills : fills_done calls ≡ fills_of ends
 
-abbrev pub EachTriggerEndsOnce : {S : Type 0} → (S → (key bound : ℕ) → List Row → S → Type 0) → (S → (key bound : ℕ) → S → Type 0) → Type 0
+abbrev pub EachTriggerEndsOnce : {S : Type 0} → (S → (key bound : ℕ) → List Row → S → Type 0)
+    → (S → (key bound : ℕ) → S → Type 0) → Type 0
 EachTriggerEndsOnce {S} gives fails =
-    (first flow : FlowSeen S) (out : List Post) (ends : List Ending) → Run gives fails first flow out ends → IsEachOnce first flow out ends
+    (first flow : FlowSeen S) (out : List Post) (ends : List Ending) → Run gives fails first flow out ends
+    → IsEachOnce first flow out ends

@@ -8,4 +8,5 @@ use Rattle.nr_serve.specs.Flows.{FlowSeen}
 module _ (S : RattleType) (flow : MutBor (FlowSeen S.Denot)) where
   -- once the borrow ends, the source is what was left behind it, and everything else is as it was
   abbrev pub LendsSource : MutBor S.Denot → Fml
-  LendsSource lent = Lends (the_row (record { mir = named 1; lft = [] }) S) S flow lent (λ source. record flow.now { source = source })
+  LendsSource lent =
+      Lends (the_row (record { mir = named 1; lft = [] }) S) S flow lent (λ source. record flow.now { source = source })

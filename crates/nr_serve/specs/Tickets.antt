@@ -25,7 +25,8 @@ sent [] = []
 sent (entry ∷ entries) = sent_by entry.call entry.reply ++ sent entries
 
 -- no ticket is lost: the one kept before, and then those that came, are what was posted, and then the one kept after
-pub record Posts (came : List Upquery) (old : PosterSeen) (before : Option Request) (new : PosterSeen) (after : Option Request) : Type 0 where
+pub record Posts (came : List Upquery) (old : PosterSeen) (before : Option Request) (new : PosterSeen)
+    (after : Option Request) : Type 0 where
   pub same : IsSamePoster old new
   pub gain : List Upquery
   pub posted : new.posted ≡ old.posted ++ gain

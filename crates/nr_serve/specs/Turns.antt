@@ -20,8 +20,10 @@ abbrev pub kept_posts : Option Post → List Post
 kept_posts None = []
 kept_posts (Some post) = post ∷ []
 
--- no trigger is lost: the one kept before, and then those that were taken, are those that were spent, and then the one kept after
-pub record Spends (spent : List Post) (old : TakerSeen) (before : Option Post) (new : TakerSeen) (after : Option Post) : Type 0 where
+-- no trigger is lost: the one kept before, and then those that were taken, are those that were spent, and then the one
+-- kept after
+pub record Spends (spent : List Post) (old : TakerSeen) (before : Option Post) (new : TakerSeen)
+    (after : Option Post) : Type 0 where
   pub same : IsSameTaker old new
   pub gain : List Post
   pub taken : new.taken ≡ old.taken ++ gain
@@ -35,7 +37,9 @@ pub record Takes {S : Type 0} (old new : FlowSeen S) (post : Post) : Type 0 wher
 
 -- none is kept, and one attempt to take finds none
 abbrev pub FindsNone : {S : Type 0} → FlowSeen S → FlowSeen S → Type 0
-FindsNone old new = (old.kept ≡ None) × WasEmpty old.taker × (new ≡ record old { taker = taker_tried old.taker; guest = new.guest }) × OnlyLooks old.guest new.guest
+FindsNone old new =
+    (old.kept ≡ None) × WasEmpty old.taker × (new ≡ record old { taker = taker_tried old.taker; guest = new.guest })
+    × OnlyLooks old.guest new.guest
 
 -- just one attempt to take was made between these two, and it found none
 abbrev pub AwaitsPost : TakerSeen → TakerSeen → Type 0
@@ -46,7 +50,8 @@ Nexts old new None = FindsNone old new
 Nexts old new (Some post) = Takes old new post
 
 module _ {S : Type 0} (gives : S → (key bound : ℕ) → List Row → S → Type 0) where
-  -- one fill of the trigger's key, by its number, with rows that the source gave in this turn, told the map's bound on them
+  -- one fill of the trigger's key, by its number, with rows that the source gave in this turn, told the map's bound on
+  -- them
   pub record FillsPost (post : Post) (old new : FlowSeen S) (answer : Result (Unit {0}) FillFault) : Type 0 where
     pub rows : List Row
     pub gave : gives old.source post.upquery.key old.map.shape.rows rows new.source
@@ -78,7 +83,8 @@ IsOver cancel.Nothing = Unit {0}
 IsOver cancel.Worn = ⊥
 
 module _ {S : Type 0} (fails : S → (key bound : ℕ) → S → Type 0) where
-  -- the source, told the map's bound, failed for the trigger's key, and the trigger's own request is taken back, if it still stands and can be; who waits for the key is told
+  -- the source, told the map's bound, failed for the trigger's key, and the trigger's own request is taken back, if it
+  -- still stands and can be; who waits for the key is told
   pub record FailsPost (post : Post) (old new : FlowSeen S) (answer : Cancel) : Type 0 where
     pub failed : fails old.source post.upquery.key old.map.shape.rows new.source
     pub takes_back : TakesBack post.upquery old.writer new.writer answer
@@ -103,7 +109,8 @@ module _ {S : Type 0} (fails : S → (key bound : ℕ) → S → Type 0) where
     pub spends : Spends [] old.taker old.kept new.taker (Some post)
     pub kept : new.kept ≡ Some post
 
-module _ {S : Type 0} (gives : S → (key bound : ℕ) → List Row → S → Type 0) (fails : S → (key bound : ℕ) → S → Type 0) where
+module _ {S : Type 0} (gives : S → (key bound : ℕ) → List Row → S → Type 0)
+    (fails : S → (key bound : ℕ) → S → Type 0) where
   abbrev pub Turns : FlowSeen S → FlowSeen S → Turn → Type 0
   Turns old new turn.Idle = FindsNone old new
   Turns old new (turn.Filled key) = SpendsOne gives key old new (Ok tt)
@@ -115,16 +122,20 @@ module _ {S : Type 0} (gives : S → (key bound : ℕ) → List Row → S → Ty
   -- the source is asked for the rows of a trigger, which its key is filled with; or it fails
   abbrev pub AsksSource : Post → FlowSeen S → FlowSeen S → Result (Result (Unit {0}) FillFault) SourceFault → Type 0
   AsksSource post old new (Ok answer) = FillsPost gives post old new answer
-  AsksSource post old new (Err fault) = fails old.source post.upquery.key old.map.shape.rows new.source × (new.writer ≡ old.writer)
+  AsksSource post old new (Err fault) =
+      fails old.source post.upquery.key old.map.shape.rows new.source × (new.writer ≡ old.writer)
 
 -- a turn goes on with a trigger for whose key the source failed
 abbrev pub TurnsFailed : {S : Type 0} → Post → FlowSeen S → FlowSeen S → Turn → Type 0
 TurnsFailed post old new turn.Idle = ⊥
 TurnsFailed post old new (turn.Filled key) = ⊥
 TurnsFailed post old new (turn.Passed key) = ⊥
-TurnsFailed post old new (turn.Failed key) = (key ≡ post.upquery.key) × (answer : Cancel) × IsOver answer × FailsBy post old new answer
+TurnsFailed post old new (turn.Failed key) =
+    (key ≡ post.upquery.key) × (answer : Cancel) × IsOver answer × FailsBy post old new answer
 TurnsFailed post old new (turn.Kept counts) = ⊥
-TurnsFailed post old new (turn.Worn key) = (key ≡ post.upquery.key) × TakesBack post.upquery old.writer new.writer cancel.Worn × OnlyLooks old.guest new.guest × (new ≡ record old { writer = new.writer; guest = new.guest; kept = Some post })
+TurnsFailed post old new (turn.Worn key) =
+    (key ≡ post.upquery.key) × TakesBack post.upquery old.writer new.writer cancel.Worn × OnlyLooks old.guest new.guest
+    × (new ≡ record old { writer = new.writer; guest = new.guest; kept = Some post })
 
 -- a cancel raises the lobby for the key where it took a request back, and else leaves it alone
 abbrev pub CancelRaises : Cancel → ℕ → GuestSeen → GuestSeen → Type 0

@@ -1,5 +1,6 @@
 -- The grammar of words: numbers, rows, signed rows, and what a line of them spells.
-use Rattle.std.specs.Prelude.{ℕ, ◌+◌, ◌-◌, ◌*◌, ◌^◌, ◌==◌, ◌&&◌, nat_lt, nat_le, if◌then◌else◌, Bool, true, false, List, [], ◌∷◌, length, Option, Some, None, Result, Ok, Err, option_map, option_and_then}
+use Rattle.std.specs.Prelude.{ℕ, ◌+◌, ◌-◌, ◌*◌, ◌^◌, ◌==◌, ◌&&◌, nat_lt, nat_le, if◌then◌else◌, Bool, true, false, List}
+use Rattle.std.specs.Prelude.{[], ◌∷◌, length, Option, Some, None, Result, Ok, Err, option_map, option_and_then}
 use Rattle.std.specs.List.{slice_split, before_first, after_first}
 use Rattle.std.specs.Char.{is_ascii_digit}
 use Rattle.nr_model.specs.declared.rows.Row.{Row}
@@ -47,7 +48,8 @@ signed plus = option_map (λ row. record { plus = plus; row = row })
 -- a signed row: a plus or a minus, and a row right behind it
 abbrev pub delta : List ℕ → Option Delta
 delta [] = None
-delta (sign ∷ spelled) = if sign == 43 then signed true (row spelled) else if sign == 45 then signed false (row spelled) else None
+delta (sign ∷ spelled) =
+    if sign == 43 then signed true (row spelled) else if sign == 45 then signed false (row spelled) else None
 
 -- a set of those rows, if they are not too many
 abbrev pub set_of : List Row → Result (List Row) TooMany
@@ -63,17 +65,23 @@ abbrev pub batch_of : List Delta → Option (List Delta)
 batch_of deltas = if nat_lt 0 (length deltas) && nat_le (length deltas) MAX_DELTAS then Some deltas else None
 
 -- a word for a key, and rows
-abbrev pub filling : {K C : Type 0} → (List ℕ → Option K) → (K → Result (List Row) TooMany → C) → List (List ℕ) → Option C
+abbrev pub filling : {K C : Type 0} → (List ℕ → Option K) → (K → Result (List Row) TooMany → C) → List (List ℕ)
+    → Option C
 filling key command [] = None
-filling key command (word ∷ more) = option_and_then (λ k. option_map (λ rows. command k (set_of rows)) (each row more)) (key word)
+filling key command (word ∷ more) =
+    option_and_then (λ k. option_map (λ rows. command k (set_of rows)) (each row more)) (key word)
 
 -- a word for a key, the number of its request, and rows
-abbrev pub filling_as : {K C : Type 0} → (List ℕ → Option K) → (K → ℕ → Result (List Row) TooMany → C) → List (List ℕ) → Option C
+abbrev pub filling_as : {K C : Type 0} → (List ℕ → Option K) → (K → ℕ → Result (List Row) TooMany → C) → List (List ℕ)
+    → Option C
 filling_as key command (word ∷ spelled ∷ more) =
-    option_and_then (λ k. option_and_then (λ n. option_map (λ rows. command k n (set_of rows)) (each row more)) (number spelled)) (key word)
+    option_and_then
+    (λ k. option_and_then (λ n. option_map (λ rows. command k n (set_of rows)) (each row more)) (number spelled))
+    (key word)
 filling_as key command other = None
 
 -- a word for a key, and signed rows
 abbrev pub updating : {K C : Type 0} → (List ℕ → Option K) → (K → List Delta → C) → List (List ℕ) → Option C
 updating key command [] = None
-updating key command (word ∷ more) = option_and_then (λ k. option_map (λ batch. command k batch) (option_and_then batch_of (each delta more))) (key word)
+updating key command (word ∷ more) =
+    option_and_then (λ k. option_map (λ batch. command k batch) (option_and_then batch_of (each delta more))) (key word)

@@ -1,5 +1,6 @@
 -- An update for a text leaves the rows that spell it, in one call and over whole runs.
-use Rattle.std.proofs.Common.{◌≡◌, ℕ, suc, ◌+◌, ◌≤◌, ⊎_elim, true, false, List, [], ◌∷◌, ◌++◌, length, refl, sym, ap, ◌∙◌, arith, Result, Ok, Err}
+use Rattle.std.proofs.Common.{◌≡◌, ℕ, suc, ◌+◌, ◌≤◌, ⊎_elim, true, false, List, [], ◌∷◌, ◌++◌, length, refl, sym, ap}
+use Rattle.std.proofs.Common.{◌∙◌, arith, Result, Ok, Err}
 use Rattle.std.specs.List.{count_by}
 use Rattle.std.proofs.lemmas.Bool.{cases_Bool, cases_lt}
 use Rattle.nr_model.specs.declared.rows.Row.{Row}
@@ -12,7 +13,8 @@ use Rattle.nr_model.specs.declared.states.KeyState.{KeyState}
 use Rattle.nr_model.specs.declared.states.KeyState.TheVariants.{Rows}
 use Rattle.nr_model.specs.Batches.{applied, negative_rows, positive_rows}
 use Rattle.nr_model.specs.Histories.{Entry, IsLegal}
-use Rattle.nr_model.specs.Maps.{PartialMap, asked, cancelled, evict_reply, filled, next, replaced, reply_at, rows_or, state_after, updated}
+use Rattle.nr_model.specs.Maps.{PartialMap, asked, cancelled, evict_reply, filled, next, replaced, reply_at, rows_or}
+use Rattle.nr_model.specs.Maps.{state_after, updated}
 use Rattle.nr_model.specs.Rows.{is_short, with_all, without_all}
 use Rattle.nr_model.proofs.BatchLemmas.{applied_no_row, applied_ok, applied_too_many}
 use Rattle.nr_model.proofs.HistoryLemmas.{count_by-cons}
@@ -39,7 +41,8 @@ put_none : (r : Result (List Row) ApplyFault) → r ≡ put_all [] r
 put_none (Ok rows) = refl
 put_none (Err why) = refl
 
-put_on : (first : Row) (front : List Row) (r : Result (List Row) ApplyFault) → put_first first (put_all front r) ≡ put_all (first ∷ front) r
+put_on : (first : Row) (front : List Row) (r : Result (List Row) ApplyFault)
+    → put_first first (put_all front r) ≡ put_all (first ∷ front) r
 put_on first front (Ok rows) = refl
 put_on first front (Err why) = refl
 
@@ -55,7 +58,8 @@ applied_all_behind (first ∷ front) bound rows batch behind =
     ∙ put_on first front (applied bound rows batch)
 
 -- whatever the bound, the rows in front are left
-put_ok : (front left : List Row) (r : Result (List Row) ApplyFault) → Ok left ≡ put_all front r → (rest : List Row) × (left ≡ front ++ rest)
+put_ok : (front left : List Row) (r : Result (List Row) ApplyFault) → Ok left ≡ put_all front r
+    → (rest : List Row) × (left ≡ front ++ rest)
 put_ok front left (Ok rows) is = (rows, cc (is))
 put_ok front left (Err why) is = absurd (cc (is))
 
@@ -63,35 +67,55 @@ front_left : (front rows : List Row) (bound : ℕ) (batch : List Delta) → AllB
     (rest : List Row) × (rows_or (applied bound (front ++ rows) batch) (front ++ rows) ≡ front ++ rest)
 front_left front rows bound batch behind =
     let left : List Row = without_all (with_all (front ++ rows) (positive_rows batch)) (negative_rows batch) in ⊎_elim
-    (λ short. (rows, ap (λ (r : Result (List Row) ApplyFault). rows_or r (front ++ rows)) (applied_no_row bound (front ++ rows) batch short)))
+    (λ short. (
+      rows,
+      ap (λ (r : Result (List Row) ApplyFault). rows_or r (front ++ rows))
+          (applied_no_row bound (front ++ rows) batch short),
+    ))
     (λ enough. ⊎_elim
-    (λ above. (rows, ap (λ (r : Result (List Row) ApplyFault). rows_or r (front ++ rows)) (applied_too_many bound (front ++ rows) batch enough above)))
+    (λ above. (
+      rows,
+      ap (λ (r : Result (List Row) ApplyFault). rows_or r (front ++ rows))
+          (applied_too_many bound (front ++ rows) batch enough above),
+    ))
     (λ fits. let wide = applied_ok (bound + length front) (front ++ rows) batch enough (omega (arith, fits)) in
-    let rest = put_ok front (without_all (with_all (front ++ rows) (positive_rows batch)) (negative_rows batch)) (applied bound rows batch)
-    (sym wide ∙ applied_all_behind front bound rows batch behind) in
-    (rest.0, ap (λ (r : Result (List Row) ApplyFault). rows_or r (front ++ rows)) (applied_ok bound (front ++ rows) batch enough fits) ∙ rest.1))
+    let rest
+    = put_ok front (without_all (with_all (front ++ rows) (positive_rows batch)) (negative_rows batch))
+    (applied bound rows batch)
+    (sym wide ∙ applied_all_behind front bound rows batch behind) in (
+      rest.0,
+      ap (λ (r : Result (List Row) ApplyFault). rows_or r (front ++ rows))
+          (applied_ok bound (front ++ rows) batch enough fits)
+          ∙ rest.1,
+    ))
     (cases_lt bound (length left)))
     (cases_Bool (is_short (with_all (front ++ rows) (positive_rows batch)) (negative_rows batch)))
 
 -- A TEXT'S
-words_behind : (first : ℕ) (words : List ℕ) (batch : List Delta) → first + length words ≤ 33 → AreTextDeltas batch → AllBehind (rows_from first words) batch
+words_behind : (first : ℕ) (words : List ℕ) (batch : List Delta) → first + length words ≤ 33 → AreTextDeltas batch
+    → AllBehind (rows_from first words) batch
 words_behind first [] batch few deltas = tt
-words_behind first (word ∷ words) batch few deltas =
-    (λ k d inside. omega (arith, few, deltas k d inside), words_behind (suc first) words batch (omega (arith, few)) deltas)
+words_behind first (word ∷ words) batch few deltas = (
+  λ k d inside. omega (arith, few, deltas k d inside),
+  words_behind (suc first) words batch (omega (arith, few)) deltas,
+)
 
-text_behind : (text : Named) (batch : List Delta) → IsText text.bytes → AreTextDeltas batch → AllBehind (tag_of text.id ∷ text_rows text) batch
+text_behind : (text : Named) (batch : List Delta) → IsText text.bytes → AreTextDeltas batch
+    → AllBehind (tag_of text.id ∷ text_rows text) batch
 text_behind text batch is deltas = (
   λ k d inside. omega (arith, deltas k d inside),
   words_behind 1 (words_of text.bytes) batch (omega (arith, length_words text.bytes, few_words text.bytes is)) deltas,
 )
 
-left_is : (text : Named) (r : Result (List Row) ApplyFault) → put_all (tag_of text.id ∷ text_rows text) r ≡ set_left text r
+left_is : (text : Named) (r : Result (List Row) ApplyFault)
+    → put_all (tag_of text.id ∷ text_rows text) r ≡ set_left text r
 left_is text (Ok rows) = refl
 left_is text (Err why) = refl
 
 pub updates_behind : UpdatesBehind
 updates_behind bound text rows batch is deltas =
-    let e : bound + word_count text.bytes + 1 ≡ bound + length (tag_of text.id ∷ text_rows text) = omega (arith, length_text_rows text) in
+    let e : bound + word_count text.bytes + 1 ≡ bound + length (tag_of text.id ∷ text_rows text)
+    = omega (arith, length_text_rows text) in
     ap (λ (n : ℕ). applied n (set_with text rows) batch) e
     ∙ applied_all_behind (tag_of text.id ∷ text_rows text) bound rows batch (text_behind text batch is deltas)
     ∙ left_is text (applied bound rows batch)
@@ -101,11 +125,13 @@ module _ (text : Named) (is : IsText text.bytes) where
   abbrev HasSet : KeyState → Type 0
   HasSet state = (number : ℕ) × (rows : List Row) × (state ≡ Rows number (set_with text rows))
 
-  call_keeps : (bound : ℕ) (call : Call) (answer : Reply) (state : KeyState) → answer ≡ reply_at bound call state → IsCallFor text call →
+  call_keeps : (bound : ℕ) (call : Call) (answer : Reply) (state : KeyState) → answer ≡ reply_at bound call state
+      → IsCallFor text call →
       is_evicted answer ≡ false → HasSet state → HasSet (state_after bound call state)
   call_keeps bound (Find key) answer state replied calls none has = has
   call_keeps bound (Ask key) answer state replied calls none has = (has.0, has.1, ap asked has.2)
-  call_keeps bound (Fill key number new) answer state replied calls none has = (has.0, has.1, ap (filled number new) has.2)
+  call_keeps bound (Fill key number new) answer state replied calls none has =
+      (has.0, has.1, ap (filled number new) has.2)
   call_keeps bound (Update key batch) answer state replied calls none has =
       let left = front_left (tag_of text.id ∷ text_rows text) has.1 bound batch (text_behind text batch is calls) in
       (has.0, left.0, ap (updated bound batch) has.2 ∙ ap (Rows has.0) left.1)
@@ -115,11 +141,13 @@ module _ (text : Named) (is : IsText text.bytes) where
       let e : true ≡ false = sym (ap is_evicted (replied ∙ ap evict_reply has.2)) ∙ none in absurd (cc (e))
   call_keeps bound (Cancel key) answer state replied calls none has = (has.0, has.1, ap cancelled has.2)
 
-  calls_keep : (key : ℕ) (history : List Entry) (map : PartialMap) → IsLegal map history → AreCallsFor text key history →
+  calls_keep : (key : ℕ) (history : List Entry) (map : PartialMap) → IsLegal map history → AreCallsFor text key history
+      →
       count_by (evicts_at key) history ≡ 0 → AllKeep key HasSet map history
   calls_keep key [] map legal calls none = tt
   calls_keep key (e ∷ history) map legal calls none = let counts = count_by-cons (evicts_at key) e history in (
-    (λ same. call_keeps map.bound e.call e.reply _ legal.0 (calls.0 same) (none_evicted key e same (omega (arith, counts, none)))),
+    (λ same. call_keeps map.bound e.call e.reply _ legal.0 (calls.0 same)
+        (none_evicted key e same (omega (arith, counts, none)))),
     calls_keep key history (next map e.call) legal.1 calls.1 (omega (arith, counts, none)),
   )
 

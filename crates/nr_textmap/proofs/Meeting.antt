@@ -1,5 +1,6 @@
 -- What the writer's look found of an id, its next call meets.
-use Rattle.std.proofs.Common.{◌≡◌, ◌≢◌, ℕ, ◌+◌, ◌*◌, ◌<◌, ⊎_elim, List, ◌∷◌, length, refl, sym, ap, ◌∙◌, subst, Result, Ok, Err, Some, None}
+use Rattle.std.proofs.Common.{◌≡◌, ◌≢◌, ℕ, ◌+◌, ◌*◌, ◌<◌, ⊎_elim, List, ◌∷◌, length, refl, sym, ap, ◌∙◌, subst, Result}
+use Rattle.std.proofs.Common.{Ok, Err, Some, None}
 use Rattle.nr_model.specs.declared.rows.Row.{Row}
 use Rattle.nr_model.specs.declared.batches.ApplyFault.{ApplyFault}
 use Rattle.nr_model.specs.declared.batches.ApplyFault.TheVariants as apply
@@ -45,46 +46,59 @@ near : (keeper : Keeper) (clerk : Token) (id way : ℕ) → IsTied keeper → Fi
     way < keeper.writer.table.shape.keys
 near keeper clerk id way tied finds =
     let e : ways clerk.directory.plan ≡ keeper.writer.table.shape.keys =
-    ap (λ (d : Opened). ways d.plan) (finds.grows.directory ∙ tied.names.0) ∙ tied.ways_are ∙ ap (λ (t : Table). t.shape.keys) (sym tied.writes.0) in
+    ap (λ (d : Opened). ways d.plan) (finds.grows.directory ∙ tied.names.0) ∙ tied.ways_are
+    ∙ ap (λ (t : Table). t.shape.keys) (sym tied.writes.0) in
     subst (λ (n : ℕ). way < n) e finds.named.inside
 
-filled_still : (was now : KeyState) (number : ℕ) (rows : List Row) → was ≡ Rows number rows → IsStill was now → now ≡ Rows number rows
+filled_still : (was now : KeyState) (number : ℕ) (rows : List Row) → was ≡ Rows number rows → IsStill was now
+    → now ≡ Rows number rows
 filled_still was now number rows is still = ⊎_elim
     (λ (same : now ≡ was). same ∙ is)
-    (λ (asked : (n : ℕ) × (was ≡ Hole n) × (now ≡ Asked n)). let e : Rows number rows ≡ Hole asked.0 = sym is ∙ asked.1 in absurd (cc (e)))
+    (λ (asked : (n : ℕ) × (was ≡ Hole n) × (now ≡ Asked n)).
+    let e : Rows number rows ≡ Hole asked.0 = sym is ∙ asked.1 in absurd (cc (e)))
     still
 
 -- THE NEXT CALL
-module _ (text : Named) (old mid : Keeper) (set : List Row) (tied : IsTied mid) (found : FindsSet text old mid set) where
+module _ (text : Named) (old mid : Keeper) (set : List Row) (tied : IsTied mid)
+    (found : FindsSet text old mid set) where
   -- the id has its way still
   pub way_stays : (clerk : Token) → FindsWay text.id mid.clerk clerk None → ⊥
-  way_stays clerk none = none.1 found.0 (clerk_looks mid.clerk places mid.clerk.number clerk found.0 tied.names.1 none.0 ∙ found.2.0.named.has)
+  way_stays clerk none =
+      none.1 found.0
+      (clerk_looks mid.clerk places mid.clerk.number clerk found.0 tied.names.1 none.0 ∙ found.2.0.named.has)
 
   same_way : (clerk : Token) (way : ℕ) → 0 < text.id → FindsWay text.id mid.clerk clerk (Some way) → found.0 ≡ way
   same_way clerk way real finds =
       one_way mid.table.directory.plan mid.clerk.seen found.0 way text.id tied.legal real found.2.0.named.has
-      (sym (clerk_looks mid.clerk (finds.place + 1) mid.clerk.number clerk way tied.names.1 finds.grows) ∙ finds.named.has)
+      (sym (clerk_looks mid.clerk (finds.place + 1) mid.clerk.number clerk way tied.names.1 finds.grows)
+      ∙ finds.named.has)
 
   -- and its set
-  state_found : IsTied old → (number : ℕ) × (state_of (map_seen mid.writer) found.0 ≡ Rows number (tag_of text.id ∷ found.1))
+  state_found : IsTied old
+      → (number : ℕ) × (state_of (map_seen mid.writer) found.0 ≡ Rows number (tag_of text.id ∷ found.1))
   state_found was =
-      let go = went (2 * length (tag_of text.id ∷ found.1) + 2) old.writer mid.writer (Find found.0) (reply.Rows (tag_of text.id ∷ found.1))
+      let go
+      = went (2 * length (tag_of text.id ∷ found.1) + 2) old.writer mid.writer (Find found.0)
+      (reply.Rows (tag_of text.id ∷ found.1))
       (rested old was) found.2.1 (near old mid.clerk text.id found.0 was found.2.0) in
       let has = set_found (state_of go.mid found.0) (tag_of text.id ∷ found.1) go.replied in
       (has.0, go.at_key ∙ has.1)
 
   -- so a call of the id's way is answered as one of a filled key
-  module _ (was : IsTied old) (real : 0 < text.id) (new : Caller) (clerk : Token) (way : ℕ) (finds : FindsWay text.id mid.clerk clerk (Some way)) where
+  module _ (was : IsTied old) (real : 0 < text.id) (new : Caller) (clerk : Token) (way : ℕ)
+      (finds : FindsWay text.id mid.clerk clerk (Some way)) where
     meets : (steps : ℕ) (call : Call) (answer : Reply) → call_key call ≡ way → Gains steps call mid.writer new answer →
         (bound number : ℕ) × (answer ≡ reply_at bound call (Rows number (tag_of text.id ∷ found.1)))
     meets steps call answer key gains =
-        let inside : call_key call < mid.writer.table.shape.keys = subst (λ (n : ℕ). n < mid.writer.table.shape.keys) (sym key)
+        let inside : call_key call < mid.writer.table.shape.keys
+        = subst (λ (n : ℕ). n < mid.writer.table.shape.keys) (sym key)
         (near mid clerk text.id way tied finds) in
         let go = went steps mid.writer new call answer (rested mid tied) gains inside in
         let has = state_found was in
         let at : found.0 ≡ call_key call = same_way clerk way real finds ∙ sym key in
         let now : state_of go.mid (call_key call) ≡ Rows has.0 (tag_of text.id ∷ found.1) =
-        filled_still (state_of (map_seen mid.writer) (call_key call)) (state_of go.mid (call_key call)) has.0 (tag_of text.id ∷ found.1)
+        filled_still (state_of (map_seen mid.writer) (call_key call)) (state_of go.mid (call_key call)) has.0
+        (tag_of text.id ∷ found.1)
         (ap (state_of (map_seen mid.writer)) (sym at) ∙ has.1) (go.still (call_key call)) in
         (go.mid.bound, has.0, go.replied ∙ ap (reply_at go.mid.bound call) now)
 
@@ -106,17 +120,23 @@ module _ (text : Named) (old mid : Keeper) (set : List Row) (tied : IsTied mid) 
         let e : reply.Nothing ≡ reply.Evicted = it.2 in absurd (cc (e))
 
   -- an update and a replacement aren't dropped
-  pub update_fills : (new : Keeper) (id bound way : ℕ) (batch : List Delta) (fault : UpdateFault) → IsTied old → 0 < text.id → id ≡ text.id →
-      FindsWay id mid.clerk new.clerk (Some way) → UpdatesKey bound way batch mid.writer new.writer (Err fault) → fault ≢ update.Dropped
+  pub update_fills : (new : Keeper) (id bound way : ℕ) (batch : List Delta) (fault : UpdateFault) → IsTied old
+      → 0 < text.id → id ≡ text.id →
+      FindsWay id mid.clerk new.clerk (Some way) → UpdatesKey bound way batch mid.writer new.writer (Err fault)
+      → fault ≢ update.Dropped
   update_fills new id bound way batch fault was real same finds updates is =
       let told = subst (λ (f : UpdateFault). UpdatesKey bound way batch mid.writer new.writer (Err f)) is updates in
-      update_meets was real new.writer new.clerk way (subst (λ (n : ℕ). FindsWay n mid.clerk new.clerk (Some way)) same finds) batch told.0
+      update_meets was real new.writer new.clerk way
+      (subst (λ (n : ℕ). FindsWay n mid.clerk new.clerk (Some way)) same finds) batch told.0
 
-  pub replace_fills : (new : Keeper) (id way : ℕ) (rows : List Row) (fault : ReplaceFault) → IsTied old → 0 < text.id → id ≡ text.id →
-      FindsWay id mid.clerk new.clerk (Some way) → ReplacesKey way rows mid.writer new.writer (Err fault) → fault ≢ replace.Dropped
+  pub replace_fills : (new : Keeper) (id way : ℕ) (rows : List Row) (fault : ReplaceFault) → IsTied old → 0 < text.id
+      → id ≡ text.id →
+      FindsWay id mid.clerk new.clerk (Some way) → ReplacesKey way rows mid.writer new.writer (Err fault)
+      → fault ≢ replace.Dropped
   replace_fills new id way rows fault was real same finds replaces is =
       let told = subst (λ (f : ReplaceFault). ReplacesKey way rows mid.writer new.writer (Err f)) is replaces in
-      replace_meets was real new.writer new.clerk way (subst (λ (n : ℕ). FindsWay n mid.clerk new.clerk (Some way)) same finds) rows told.0
+      replace_meets was real new.writer new.clerk way
+      (subst (λ (n : ℕ). FindsWay n mid.clerk new.clerk (Some way)) same finds) rows told.0
 
   -- an eviction evicts it
   pub evicts_what_it_found : (new : Keeper) → IsTied old → 0 < text.id → EvictsId text.id mid new evict.Nothing → ⊥

@@ -14,10 +14,12 @@ mixed a b turn = bit_xor (rotate_left w64 b turn) (added a b)
 
 -- a round: two such steps on each half, crosswise
 abbrev pub straight : State → State
-straight s = record { a = rotate_left w64 (added s.a s.b) 32; b = mixed s.a s.b 13; c = added s.c s.d; d = mixed s.c s.d 16 }
+straight s =
+    record { a = rotate_left w64 (added s.a s.b) 32; b = mixed s.a s.b 13; c = added s.c s.d; d = mixed s.c s.d 16 }
 
 abbrev pub crossed : State → State
-crossed s = record { a = added s.a s.d; b = mixed s.c s.b 17; c = rotate_left w64 (added s.c s.b) 32; d = mixed s.a s.d 21 }
+crossed s =
+    record { a = added s.a s.d; b = mixed s.c s.b 17; c = rotate_left w64 (added s.c s.b) 32; d = mixed s.a s.d 21 }
 
 unfoldable pub round : State → State
 round s = crossed (straight s)

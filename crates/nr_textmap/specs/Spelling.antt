@@ -1,5 +1,7 @@
--- A text, a string of 1 to 255 bytes, as words: its length and then its bytes, eight a word, the first one lowest, and 0 where the last word has room for more.
-use Rattle.std.specs.Prelude.{◌≡◌, ℕ, zero, suc, ◌+◌, ◌-◌, ◌*◌, ◌/◌, ◌<◌, ◌≤◌, List, [], ◌∷◌, ◌++◌, length, take, replicate, slice_index, All}
+-- A text, a string of 1 to 255 bytes, as words: its length and then its bytes, eight a word, the first one lowest, and
+-- 0 where the last word has room for more.
+use Rattle.std.specs.Prelude.{◌≡◌, ℕ, zero, suc, ◌+◌, ◌-◌, ◌*◌, ◌/◌, ◌<◌, ◌≤◌, List, [], ◌∷◌, ◌++◌, length, take}
+use Rattle.std.specs.Prelude.{replicate, slice_index, All}
 use Rattle.std.specs.Int.{w64, from_le_bytes, to_le_bytes}
 use Rattle.nr_textmap.specs.declared.texts.TheConstants.{MAX_TEXT}
 
@@ -16,7 +18,9 @@ cells_of bytes = length bytes ∷ bytes ++ replicate (MAX_TEXT - length bytes) 0
 -- eight cells as a word
 abbrev pub word_at : List ℕ → ℕ → ℕ
 word_at cells place = from_le_bytes w64
-    (slice_index cells (8 * place) ∷ slice_index cells (8 * place + 1) ∷ slice_index cells (8 * place + 2) ∷ slice_index cells (8 * place + 3) ∷ slice_index cells (8 * place + 4) ∷ slice_index cells (8 * place + 5) ∷ slice_index cells (8 * place + 6) ∷ slice_index cells (8 * place + 7) ∷ [])
+    (slice_index cells (8 * place) ∷ slice_index cells (8 * place + 1) ∷ slice_index cells (8 * place + 2)
+    ∷ slice_index cells (8 * place + 3) ∷ slice_index cells (8 * place + 4) ∷ slice_index cells (8 * place + 5)
+    ∷ slice_index cells (8 * place + 6) ∷ slice_index cells (8 * place + 7) ∷ [])
 
 abbrev pub first_words : List ℕ → ℕ → List ℕ
 first_words cells zero = []

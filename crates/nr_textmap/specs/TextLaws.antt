@@ -27,7 +27,9 @@ use Rattle.nr_textmap.specs.Texts.{AreTextDeltas, IsPresent, LacksText, Named, b
 
 -- what the rows tell that spell a text, and any behind them
 abbrev pub TellsText : Type 0
-TellsText = (text : Named) (rows : List Row) → IsText text.bytes → AreBytes text.bytes → bytes_told (text_rows text ++ rows) ≡ text.bytes
+TellsText =
+    (text : Named) (rows : List Row) → IsText text.bytes → AreBytes text.bytes
+    → bytes_told (text_rows text ++ rows) ≡ text.bytes
 
 -- in a legal history whose writer puts tags, texts of one id that are both present are one text, with one set
 abbrev pub OneText : Type 0
@@ -49,16 +51,21 @@ pub record WasResident (id : ℕ) (set : List Row) (old new : Caller) : Type 0 w
   pub known : new.seen ≡ (old.seen ++ since) ++ later
   pub resident : IsResident (after (map_at_opening old.table) (old.seen ++ since)) id set
 
--- a find that has rows names a moment at which the text had them; one that tells of another text, a moment at which its id had a set without the text's rows
+-- a find that has rows names a moment at which the text had them; one that tells of another text, a moment at which its
+-- id had a set without the text's rows
 abbrev pub NamesMoment : Named → IdHanded → IdHanded → FoundText → Type 0
-NamesMoment text old new found.Rows = (rows : List Row) × (rows_in_hand new ≡ text_rows text ++ rows) × WasResident text.id (text_rows text ++ rows) old.hand.reader new.hand.reader
-NamesMoment text old new found.Other = (set : List Row) × LacksText text set × WasResident text.id set old.hand.reader new.hand.reader
+NamesMoment text old new found.Rows =
+    (rows : List Row) × (rows_in_hand new ≡ text_rows text ++ rows)
+    × WasResident text.id (text_rows text ++ rows) old.hand.reader new.hand.reader
+NamesMoment text old new found.Other =
+    (set : List Row) × LacksText text set × WasResident text.id set old.hand.reader new.hand.reader
 NamesMoment text old new found.Pending = Unit {0}
 NamesMoment text old new found.Moved = Unit {0}
 NamesMoment text old new found.Absent = Unit {0}
 
 abbrev pub FindsAtMoment : Type 0
-FindsAtMoment = (text : Named) (old new : IdHanded) (told : FoundText) → PinsText text old new told → NamesMoment text old new told
+FindsAtMoment =
+    (text : Named) (old new : IdHanded) (told : FoundText) → PinsText text old new told → NamesMoment text old new told
 
 -- UPDATES
 -- the rows that spell the text in front of these, behind the tag of its id
@@ -109,10 +116,13 @@ TextStays =
     HasTextAt map key text →
     HasTextAt (after map history) key text
 
--- a hand had seen the way's name, and that the way had the text's set; the writer has heard of the find since, and the find's history has since then but calls for the text there, and no eviction: the text was found, unless the name was taken since
+-- a hand had seen the way's name, and that the way had the text's set; the writer has heard of the find since, and the
+-- find's history has since then but calls for the text there, and no eviction: the text was found, unless the name was
+-- taken since
 abbrev pub PinsItsText : Type 0
 PinsItsText =
-    (keeper : Keeper) (text : Named) (old new : IdHanded) (way : ℕ) (before since later : List Entry) (told : FoundText) →
+    (keeper : Keeper) (text : Named) (old new : IdHanded) (way : ℕ) (before since later : List Entry) (told : FoundText)
+    →
     IsTied keeper →
     hand_table_of old ≡ keeper.table →
     StartsWith keeper.writer.seen new.hand.reader.seen →

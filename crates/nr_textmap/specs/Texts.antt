@@ -1,5 +1,7 @@
--- A text with its id, and the rows in front of its own that tell whose they are: one for each word that spells it, whose `a` counts from 1. Rows of a text have an `a` above 32.
-use Rattle.std.specs.Prelude.{◌≡◌, ◌≢◌, ℕ, suc, ◌+◌, ◌<◌, ◌≤◌, ◌==◌, if◌then◌else◌, List, [], ◌∷◌, ◌++◌, length, map, All, IsTrue}
+-- A text with its id, and the rows in front of its own that tell whose they are: one for each word that spells it,
+-- whose `a` counts from 1. Rows of a text have an `a` above 32.
+use Rattle.std.specs.Prelude.{◌≡◌, ◌≢◌, ℕ, suc, ◌+◌, ◌<◌, ◌≤◌, ◌==◌, if◌then◌else◌, List, [], ◌∷◌, ◌++◌, length, map}
+use Rattle.std.specs.Prelude.{All, IsTrue}
 use Rattle.nr_model.specs.declared.rows.Row.{Row}
 use Rattle.nr_model.specs.declared.batches.Delta.{Delta}
 use Rattle.nr_model.specs.declared.rows.TheConstants.{MAX_ROWS}

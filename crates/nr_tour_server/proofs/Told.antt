@@ -7,5 +7,7 @@ use Rattle.nr_board.specs.WriterAnswers.{ReplacesKey}
 use Rattle.nr_serve.specs.Applied.{HasPut}
 
 -- the history that its writer knows then has it
-pub replacement_is_put : (key : ℕ) (rows : List Row) (old new : Caller) → ReplacesKey key rows old new (Ok tt) → HasPut key (known_to new)
-replacement_is_put key rows old new replaces = (old.seen ++ replaces.gains.between, [], _, replaces.gains.seen ∙ sym (append-nil _), eq-eqb key key refl)
+pub replacement_is_put : (key : ℕ) (rows : List Row) (old new : Caller) → ReplacesKey key rows old new (Ok tt)
+    → HasPut key (known_to new)
+replacement_is_put key rows old new replaces =
+    (old.seen ++ replaces.gains.between, [], _, replaces.gains.seen ∙ sym (append-nil _), eq-eqb key key refl)

@@ -11,8 +11,11 @@ module _ (posted taken : List Post) (limits : Limits) (passes place : ℕ) where
   abbrev pub KnowsItsPart : PassView → Type 0
   KnowsItsPart Opener = (place ≡ 0) × (passes ≡ 1) × (posted ≡ [])
   KnowsItsPart Leftover = place ≡ 1
-  KnowsItsPart (Taker taking) = (place ≡ 0) × (passes ≡ taking.made + 2) × (taking.taken ≡ taken) × (taking.limits ≡ limits)
-  KnowsItsPart (Poster posting) = (place ≡ posting.number + 2) × (posting.posted ≡ part posting.number posted) × (posting.notes ≡ notes_part posting.number posted) × (posting.limits ≡ limits)
+  KnowsItsPart (Taker taking) =
+      (place ≡ 0) × (passes ≡ taking.made + 2) × (taking.taken ≡ taken) × (taking.limits ≡ limits)
+  KnowsItsPart (Poster posting) =
+      (place ≡ posting.number + 2) × (posting.posted ≡ part posting.number posted)
+      × (posting.notes ≡ notes_part posting.number posted) × (posting.limits ≡ limits)
 
 pub record Delivers (held : List Post) (views : List PassView) : Type 0 where
   -- everything that was posted, oldest first, and what of it was taken
@@ -24,7 +27,8 @@ pub record Delivers (held : List Post) (views : List PassView) : Type 0 where
   pub limits : Limits
   pub within : MayAllGo limits posted
   -- the taker's pass knows what was taken, each poster's its own part of what was posted
-  pub fits : (place : ℕ) (view : PassView) → get_elem? views place ≡ some view → KnowsItsPart posted taken limits (length views) place view
+  pub fits : (place : ℕ) (view : PassView) → get_elem? views place ≡ some view
+      → KnowsItsPart posted taken limits (length views) place view
   -- a poster that wasn't made yet has posted nothing
   pub silent : (number : ℕ) → length views ≤ number + 2 → (part number posted ≡ []) × (notes_part number posted ≡ [])
 

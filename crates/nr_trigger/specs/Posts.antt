@@ -13,7 +13,8 @@ upquery_of ticket = record { key = ticket.key; number = ticket.number }
 -- what each post of one poster has, in their order
 abbrev pub part_of : {A : Type 0} → (Post → A) → ℕ → List Post → List A
 part_of has number [] = []
-part_of has number (post ∷ posts) = cond (nat_eq post.poster number) (has post ∷ part_of has number posts) (part_of has number posts)
+part_of has number (post ∷ posts) =
+    cond (nat_eq post.poster number) (has post ∷ part_of has number posts) (part_of has number posts)
 
 -- the upqueries of one poster, in their order
 abbrev pub part : ℕ → List Post → List Upquery

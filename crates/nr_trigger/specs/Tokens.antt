@@ -43,32 +43,59 @@ pub record TakerSeen : Type 0 where
   pub tries : ℕ
 
 abbrev pub poster_seen : TableId → Posting → ℕ → PosterSeen
-poster_seen queue posting tries = record { queue = queue; keys = posting.limits.keys; map = posting.limits.map; number = posting.number; posted = posting.posted; notes = posting.notes; tries = tries }
+poster_seen queue posting tries =
+    record {
+      queue = queue;
+      keys = posting.limits.keys;
+      map = posting.limits.map;
+      number = posting.number;
+      posted = posting.posted;
+      notes = posting.notes;
+      tries = tries;
+    }
 
 abbrev pub taker_seen : TableId → Taking → ℕ → TakerSeen
-taker_seen queue taking tries = record { queue = queue; keys = taking.limits.keys; map = taking.limits.map; made = taking.made; taken = taking.taken; tries = tries }
+taker_seen queue taking tries =
+    record {
+      queue = queue;
+      keys = taking.limits.keys;
+      map = taking.limits.map;
+      made = taking.made;
+      taken = taking.taken;
+      tries = tries;
+    }
 
 abbrev pub posting : PosterSeen → Posting
-posting poster = record { limits = record { keys = poster.keys; map = poster.map }; number = poster.number; posted = poster.posted; notes = poster.notes }
+posting poster =
+    record {
+      limits = record { keys = poster.keys; map = poster.map };
+      number = poster.number;
+      posted = poster.posted;
+      notes = poster.notes;
+    }
 
 abbrev pub taking : TakerSeen → Taking
 taking taker = record { limits = record { keys = taker.keys; map = taker.map }; made = taker.made; taken = taker.taken }
 
 -- a poster that has posted nothing, and a taker that has taken nothing and made that many posters
 abbrev pub new_poster : TableId → Limits → ℕ → PosterSeen
-new_poster queue limits number = record { queue = queue; keys = limits.keys; map = limits.map; number = number; posted = []; notes = []; tries = 0 }
+new_poster queue limits number =
+    record { queue = queue; keys = limits.keys; map = limits.map; number = number; posted = []; notes = []; tries = 0 }
 
 abbrev pub new_taker : TableId → Limits → ℕ → TakerSeen
-new_taker queue limits made = record { queue = queue; keys = limits.keys; map = limits.map; made = made; taken = []; tries = 0 }
+new_taker queue limits made =
+    record { queue = queue; keys = limits.keys; map = limits.map; made = made; taken = []; tries = 0 }
 
 -- the taker has made that many posters, which stand in the order of their numbers, and nothing was posted
-pub record IsSeated (queue : TableId) (limits : Limits) (taker : TakerSeen) (posters : List PosterSeen) (made : ℕ) : Type 0 where
+pub record IsSeated (queue : TableId) (limits : Limits) (taker : TakerSeen) (posters : List PosterSeen)
+    (made : ℕ) : Type 0 where
   pub takes : taker ≡ new_taker queue limits made
   pub count : length posters ≡ made
   pub posts : (number : ℕ) → number < made → slice_get posters number ≡ Some (new_poster queue limits number)
 
 -- a new queue of that capacity with its tokens, which know what may go through it
-pub record IsOpenedWithin (limits : Limits) (capacity count : ℕ) (queue : Queue) (posters : List PosterSeen) (taker : TakerSeen) : Type 0 where
+pub record IsOpenedWithin (limits : Limits) (capacity count : ℕ) (queue : Queue) (posters : List PosterSeen)
+    (taker : TakerSeen) : Type 0 where
   pub room : queue.capacity ≡ capacity
   pub tokens : IsSeated queue.id limits taker posters count
 

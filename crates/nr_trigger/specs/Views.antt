@@ -53,7 +53,8 @@ next_poster view = Leftover
 
 -- a push: nobody but a poster makes one
 abbrev pub has_posted : PassView → Post → PassView → Type 0
-has_posted (Poster old) post new = new ≡ Poster (record old { posted = old.posted ++ post.upquery ∷ []; notes = old.notes ++ post.note ∷ [] })
+has_posted (Poster old) post new =
+    new ≡ Poster (record old { posted = old.posted ++ post.upquery ∷ []; notes = old.notes ++ post.note ∷ [] })
 has_posted _ post new = ⊥
 
 -- a pop: nobody but the taker makes one

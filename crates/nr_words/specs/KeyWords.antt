@@ -1,5 +1,7 @@
--- What a key's word says: whether the key is asked, whether it is filled, which slot it names or, where it is not filled, its ticket number, and how many readers have arrived, modulo 2^40.
-use Rattle.std.specs.Prelude.{ℕ, ◌+◌, ◌*◌, ◌/◌, ◌%◌, ◌^◌, ◌==◌, Bool, true, false, if◌then◌else◌, bit_or, Option, Some, None}
+-- What a key's word says: whether the key is asked, whether it is filled, which slot it names or, where it is not
+-- filled, its ticket number, and how many readers have arrived, modulo 2^40.
+use Rattle.std.specs.Prelude.{ℕ, ◌+◌, ◌*◌, ◌/◌, ◌%◌, ◌^◌, ◌==◌, Bool, true, false, if◌then◌else◌, bit_or, Option, Some}
+use Rattle.std.specs.Prelude.{None}
 use Rattle.std.specs.Int.{from_bool}
 use Rattle.nr_words.specs.declared.key_words.KeyParts.{KeyParts}
 use Rattle.nr_words.specs.declared.key_words.TheConstants.{ARRIVE}
@@ -8,7 +10,8 @@ use Rattle.nr_words.specs.declared.key_words.TheConstants.{ARRIVE}
 abbrev pub key_word : KeyParts → ℕ
 key_word parts = from_bool parts.ask + 2 * from_bool parts.filled + 4 * parts.slot + 2 ^ 24 * parts.arrivals
 
--- the word that fills a key with a slot whose departures are these: its arrivals begin there, so that nobody holds the slot
+-- the word that fills a key with a slot whose departures are these: its arrivals begin there, so that nobody holds the
+-- slot
 abbrev pub naming : ℕ → ℕ → ℕ
 naming slot departed = key_word (record { ask = false; filled = true; slot = slot; arrivals = departed % 2 ^ 40 })
 

@@ -9,7 +9,8 @@ use Rattle.nr_words.specs.Places.{Word, HasWord, place_of, total_of}
 
 -- an arrival changes the arrivals alone, by one modulo 2^40
 abbrev pub ArrivalCountsOne : Type 0
-ArrivalCountsOne = (word : ℕ) → parts_of (with_arrival word) ≡ record (parts_of word) { arrivals = (arrivals_of word + 1) % 2 ^ 40 }
+ArrivalCountsOne =
+    (word : ℕ) → parts_of (with_arrival word) ≡ record (parts_of word) { arrivals = (arrivals_of word + 1) % 2 ^ 40 }
 
 -- to ask changes the flag alone
 abbrev pub AskSetsFlag : Type 0
@@ -21,7 +22,8 @@ ReadersKeepNames = (word : ℕ) → (name_of (with_arrival word) ≡ name_of wor
 
 -- neither an arrival nor a request changes the ticket number that the word carries
 abbrev pub ReadersKeepNumbers : Type 0
-ReadersKeepNumbers = (word : ℕ) → (number_in (with_arrival word) ≡ number_in word) × (number_in (with_ask word) ≡ number_in word)
+ReadersKeepNumbers =
+    (word : ℕ) → (number_in (with_arrival word) ≡ number_in word) × (number_in (with_ask word) ≡ number_in word)
 
 -- words decode to ascending rows exactly where they begin with what encode makes of them
 abbrev pub DecodeUndoesEncode : Type 0

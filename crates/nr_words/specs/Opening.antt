@@ -12,4 +12,5 @@ repeated (suc n) xs = xs ++ repeated n xs
 -- every key a hole with the first number, and every slot's departures the first count
 abbrev pub opening_words : Layout → ℕ → ℕ → List ℕ
 opening_words layout first_count first_number =
-    replicate layout.keys (hole_word first_number false) ++ repeated layout.slots (first_count ∷ replicate (content_words layout.rows) 0)
+    replicate layout.keys (hole_word first_number false)
+    ++ repeated layout.slots (first_count ∷ replicate (content_words layout.rows) 0)

@@ -1,4 +1,5 @@
--- Where each word lies in the table: the words of the keys first, and then, slot by slot, its departures and its content.
+-- Where each word lies in the table: the words of the keys first, and then, slot by slot, its departures and its
+-- content.
 use Rattle.std.specs.Prelude.{ℕ, ◌+◌, ◌*◌, ◌<◌}
 use Rattle.nr_words.specs.declared.layout.Layout.{Layout}
 use Rattle.nr_words.specs.SetWords.{content_words}

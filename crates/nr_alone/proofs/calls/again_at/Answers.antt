@@ -20,11 +20,16 @@ returns-then-not-again c =
       ap pin_of is,
       subst (λ s. Grows 1 [] (caller_in s) c.again.new.self.reader) (sym is) told.finds,
       λ has. let never : false ≡ true = told.exact.1 has in cc,
-      ((λ j. Some (record x { rows = told.rows j; put = (told.marks.marks j).put })) ∙ sym (ap pin_of is), told.holds ∙ ap (λ s. (caller_in s).holds) (sym is)),
+      (
+        (λ j. Some (record x { rows = told.rows j; put = (told.marks.marks j).put })) ∙ sym (ap pin_of is),
+        told.holds ∙ ap (λ s. (caller_in s).holds) (sym is),
+      ),
     )
 
 -- a find, and then steps that read what it found
-finds_and_reads : (steps : ℕ) (old mid new : Caller) (key : ℕ) (rows : List Row) → Gains 1 (model.Find key) old mid (reply.Rows rows) → Rests steps mid new → Calls old.seen (model.Find key) old new (reply.Rows rows)
+finds_and_reads : (steps : ℕ) (old mid new : Caller) (key : ℕ) (rows : List Row)
+    → Gains 1 (model.Find key) old mid (reply.Rows rows) → Rests steps mid new
+    → Calls old.seen (model.Find key) old new (reply.Rows rows)
 finds_and_reads steps old mid new key rows finds rests = record {
   quiet = refl;
   table = rests.table ∙ finds.table;
@@ -44,18 +49,25 @@ still_put steps key put mid new rests has = (
 
 pub returns : goal.returns
 returns c =
-    let is = c.in-Pinned.is in let found = c.if-not-again.ensures in let told = c.copy_to.ensures in let pin = c.in-Pinned.pin in
+    let is = c.in-Pinned.is in
+    let found = c.if-not-again.ensures in
+    let told = c.copy_to.ensures in
+    let pin = c.in-Pinned.pin in
     let x : Pin = record { key = c.in-Pinned.field-1; rows = pin.rows; put = pin.reader.marks.put } in
-    let mid = c.again.new.self.reader in let new = c.copy_to.new.self.reader in let copied = told.copied ∙ found.rows in (
+    let mid = c.again.new.self.reader in
+    let new = c.copy_to.new.self.reader in
+    let copied = told.copied ∙ found.rows in (
       x,
       ap pin_of is,
       ap reply.Rows copied,
-      subst (λ s. Calls (caller_in s).seen (model.Find c.args.key) (caller_in s) new (reply.Rows c.copy_to.new.rows)) (sym is)
+      subst (λ s. Calls (caller_in s).seen (model.Find c.args.key) (caller_in s) new (reply.Rows c.copy_to.new.rows))
+          (sym is)
           (subst (λ rows. Calls pin.reader.seen (model.Find c.args.key) pin.reader new (reply.Rows rows)) (sym copied)
           (finds_and_reads _ pin.reader mid new c.args.key pin.rows found.finds told.rests)),
       still_put _ c.args.key pin.reader.marks.put mid new told.rests (found.exact.0 refl),
       (
-        (λ j. Some (record x { rows = (told.rows ∙ found.rows) j; put = ((told.marks ∙ found.marks.marks) j).put })) ∙ sym (ap pin_of is),
+        (λ j. Some (record x { rows = (told.rows ∙ found.rows) j; put = ((told.marks ∙ found.marks.marks) j).put }))
+            ∙ sym (ap pin_of is),
         (told.holds ∙ found.holds) ∙ ap (λ s. (caller_in s).holds) (sym is),
       ),
     )

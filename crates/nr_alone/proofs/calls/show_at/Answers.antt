@@ -15,5 +15,8 @@ returns-in-Pinned c =
       ap (λ rows. answers.Reply (reply.Rows rows)) told.copied,
       2 * length pin.rows,
       subst (λ s. Rests (2 * length pin.rows) (caller_in s) c.copy_to.new.self.reader) (sym is) told.rests,
-      ((λ j. Some (record x { rows = told.rows j; put = (told.marks j).put })) ∙ sym (ap pin_of is), told.holds ∙ ap (λ s. (caller_in s).holds) (sym is)),
+      (
+        (λ j. Some (record x { rows = told.rows j; put = (told.marks j).put })) ∙ sym (ap pin_of is),
+        told.holds ∙ ap (λ s. (caller_in s).holds) (sym is),
+      ),
     )

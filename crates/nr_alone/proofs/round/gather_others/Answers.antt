@@ -3,23 +3,36 @@ use Rattle.std.proofs.lemmas.List.{set-get_or}
 use Rattle.std.proofs.Math.Seq.{map-set_same}
 use Rattle.nr_alone.specs.Tokens.{still}
 use Rattle.nr_alone.specs.Rounds.{GathersToken}
-use Rattle.nr_alone.proofs.Rounds.{first_still, gather_sound, learns_stays, one_more, same_still, skipped, stays_then, tables_on}
+use Rattle.nr_alone.proofs.Rounds.{first_still, gather_sound, learns_stays, one_more, same_still, skipped, stays_then}
+use Rattle.nr_alone.proofs.Rounds.{tables_on}
 use Rattle.nr_alone.proofs.round.gather_others.Goals as goal
 use Rattle.nr_alone.proofs.round.gather_others.Goals.{then-at-first, else-at-first}
 
 pub gather_token-requires : goal.gather_token-requires
-gather_token-requires c = let i = c.loop-at.invariant in let low : c.loop-at.at < length c.loop-at.tokens = omega arith in record {
-  own = (i.stays.only.table ∙ c.requires.own, tables_on c.args.map.now c.args.tokens.now c.loop-at.tokens i.same c.requires.tokens c.loop-at.at c.index-tokens-at.result low);
-}
+gather_token-requires c =
+    let i = c.loop-at.invariant in
+    let low : c.loop-at.at < length c.loop-at.tokens = omega arith in
+    record {
+      own = (
+        i.stays.only.table ∙ c.requires.own,
+        tables_on c.args.map.now c.args.tokens.now c.loop-at.tokens i.same c.requires.tokens c.loop-at.at
+            c.index-tokens-at.result low,
+      );
+    }
 
 pub loop-at-preserved : goal.loop-at-preserved
 loop-at-preserved c =
-    let i = c.loop-at.invariant in let w = c.loop-at.writer in let tokens = c.loop-at.tokens in let at = c.loop-at.at in let log = c.args.writer.now.seen in
+    let i = c.loop-at.invariant in
+    let w = c.loop-at.writer in
+    let tokens = c.loop-at.tokens in
+    let at = c.loop-at.at in
+    let log = c.args.writer.now.seen in
     let low : at < length tokens = omega arith in
     elim c.if-at-first.branch [
       | then-at-first b ↦
           let w' = b.gather_token.new.writer in let s = c.index-tokens-at.result in let s' = b.gather_token.new.token in
-          let g : GathersToken w s w' s' = subst (λ x. GathersToken w x w' s') (sym c.index-tokens-at.is) b.gather_token.ensures in
+          let g : GathersToken w s w' s'
+          = subst (λ x. GathersToken w x w' s') (sym c.index-tokens-at.is) b.gather_token.ensures in
           let apart : at ≢ c.args.first = b.if-at-first.true in
           rw (b.writer-is, b.tokens-is) (record {
             stays = stays_then c.args.writer.now w w' i.stays (learns_stays 2 w w' g.gathers.of_reader.learns);
@@ -30,5 +43,12 @@ loop-at-preserved c =
           })
       | else-at-first b ↦
           let is : at ≡ c.args.first = b.if-at-first.false in
-          rw (b.writer-is, b.tokens-is, set-get_or tokens at c.index-tokens-at.result) (record { stays = i.stays; sound = i.sound; same = i.same; first = i.first; done = skipped log w tokens at c.args.first is i.first i.done })
+          rw (b.writer-is, b.tokens-is, set-get_or tokens at c.index-tokens-at.result)
+          (record {
+            stays = i.stays;
+            sound = i.sound;
+            same = i.same;
+            first = i.first;
+            done = skipped log w tokens at c.args.first is i.first i.done;
+          })
     ]

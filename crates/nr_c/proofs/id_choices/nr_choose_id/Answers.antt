@@ -20,7 +20,13 @@ returns-in-Some c = inr (inr (
     is = refl;
     map = refl;
     spare = refl;
-    made = record { became_so = (Some c.in-Some.named, refl, refl, c.in-Some.ensures.chooses, c.in-Some.ensures.stays); owes = c.in-Some.ensures.stays.owes; asker = c.in-Some.ensures.stays.asker; keeps = refl };
+    made =
+        record {
+          became_so = (Some c.in-Some.named, refl, refl, c.in-Some.ensures.chooses, c.in-Some.ensures.stays);
+          owes = c.in-Some.ensures.stays.owes;
+          asker = c.in-Some.ensures.stays.asker;
+          keeps = refl;
+        };
   },
 ))
 
@@ -34,6 +40,12 @@ returns-in-None c = inr (inr (
     is = refl;
     map = refl;
     spare = refl;
-    made = record { became_so = (None, refl, refl, c.in-None.ensures.chooses, c.in-None.ensures.stays); owes = c.in-None.ensures.stays.owes; asker = c.in-None.ensures.stays.asker; keeps = refl };
+    made =
+        record {
+          became_so = (None, refl, refl, c.in-None.ensures.chooses, c.in-None.ensures.stays);
+          owes = c.in-None.ensures.stays.owes;
+          asker = c.in-None.ensures.stays.asker;
+          keeps = refl;
+        };
   },
 ))

@@ -21,7 +21,18 @@ returns-then-used c = inr (inr (
     is = refl;
     map = refl;
     spare = refl;
-    made = record { became_so = (c.uses-used.result, ap (λ (b : Bool). cond {A = ℕ} b answer_done answer_nothing) (sym c.if-used.true), c.uses-used.ensures.uses, c.uses-used.ensures.stays); owes = c.uses-used.ensures.stays.owes; asker = c.uses-used.ensures.stays.asker; keeps = refl };
+    made =
+        record {
+          became_so = (
+            c.uses-used.result,
+            ap (λ (b : Bool). cond {A = ℕ} b answer_done answer_nothing) (sym c.if-used.true),
+            c.uses-used.ensures.uses,
+            c.uses-used.ensures.stays,
+          );
+          owes = c.uses-used.ensures.stays.owes;
+          asker = c.uses-used.ensures.stays.asker;
+          keeps = refl;
+        };
   },
 ))
 
@@ -35,6 +46,17 @@ returns-else-used c = inr (inr (
     is = refl;
     map = refl;
     spare = refl;
-    made = record { became_so = (c.uses-used.result, ap (λ (b : Bool). cond {A = ℕ} b answer_done answer_nothing) (sym c.if-used.false), c.uses-used.ensures.uses, c.uses-used.ensures.stays); owes = c.uses-used.ensures.stays.owes; asker = c.uses-used.ensures.stays.asker; keeps = refl };
+    made =
+        record {
+          became_so = (
+            c.uses-used.result,
+            ap (λ (b : Bool). cond {A = ℕ} b answer_done answer_nothing) (sym c.if-used.false),
+            c.uses-used.ensures.uses,
+            c.uses-used.ensures.stays,
+          );
+          owes = c.uses-used.ensures.stays.owes;
+          asker = c.uses-used.ensures.stays.asker;
+          keeps = refl;
+        };
   },
 ))

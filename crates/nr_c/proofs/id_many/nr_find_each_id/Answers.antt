@@ -34,7 +34,12 @@ returns c = inr (inr (
       was = ap (λ handle. handle.live) (sym c.is_live.ensures.same) ∙ c.side-side.ensures.value;
       is = refl;
       map = refl;
-      made = record { was_idle = c.if-holds.ensures.none; is_idle = c.find_all_ids.ensures.idle; became_so = c.find_all_ids.ensures.finds };
+      made =
+          record {
+            was_idle = c.if-holds.ensures.none;
+            is_idle = c.find_all_ids.ensures.idle;
+            became_so = c.find_all_ids.ensures.finds;
+          };
     },
   ),
 ))

@@ -18,13 +18,30 @@ returns-then-is_live c =
 pub returns-in_default : goal.returns-in_default
 returns-in_default c =
     let side = c.side-side.result.now in
-    let none : side.spare.items ≡ [] = grind (arith, common_steps, c.in_default.ensures.items, c.in_default.ensures.variant) in
-    let left : c.pop.new.self.items ≡ [] = sym (append-nil c.pop.new.self.items) ∙ sym c.in_default.ensures.items ∙ none in
-    let was : c.args.writer.now.live ≡ side ∷ [] = ap (λ handle. handle.live) (sym c.is_live.ensures.same) ∙ c.side-side.ensures.value in
+    let none : side.spare.items ≡ []
+    = grind (arith, common_steps, c.in_default.ensures.items, c.in_default.ensures.variant) in
+    let left : c.pop.new.self.items ≡ []
+    = sym (append-nil c.pop.new.self.items) ∙ sym c.in_default.ensures.items ∙ none in
+    let was : c.args.writer.now.live ≡ side ∷ []
+    = ap (λ handle. handle.live) (sym c.is_live.ensures.same) ∙ c.side-side.ensures.value in
     inr (inr (
       (side, was),
       ap (λ handle. handle.live) (sym c.is_live-2.ensures.same) ∙ c.if-is_live.ensures.empty,
-      inl (refl, record { old = side; new = _; was = was; is = refl; map = refl; writer = refl; ledger = refl; had_spare = none; has_spare = left }, ap (λ handle. handle.live) c.is_live-2.ensures.same),
+      inl (
+        refl,
+        record {
+          old = side;
+          new = _;
+          was = was;
+          is = refl;
+          map = refl;
+          writer = refl;
+          ledger = refl;
+          had_spare = none;
+          has_spare = left;
+        },
+        ap (λ handle. handle.live) c.is_live-2.ensures.same,
+      ),
     ))
 
 -- the readers that are left are the map's, as all were
@@ -35,15 +52,19 @@ invariant_of-side-in-Ok-1 c =
     record {
       own = side.own;
       spares = λ k d low.
-          ap id_table_of (sym (get_or_append_left rest (c.in-Some.next ∷ []) d k low) ∙ ap (λ (readers : List IdCaller). get_or readers k d) (sym c.in-Some.ensures.items))
-          ∙ side.spares k d (omega (arith, low, ap length c.in-Some.ensures.items, length-append rest (c.in-Some.next ∷ [])));
+          ap id_table_of
+          (sym (get_or_append_left rest (c.in-Some.next ∷ []) d k low)
+          ∙ ap (λ (readers : List IdCaller). get_or readers k d) (sym c.in-Some.ensures.items))
+          ∙ side.spares k d
+          (omega (arith, low, ap length c.in-Some.ensures.items, length-append rest (c.in-Some.next ∷ [])));
       owed = side.owed;
     }
 
 pub returns-in-Ok : goal.returns-in-Ok
 returns-in-Ok c =
     let side = c.side-side.result.now in let (shared, reader) = c.in-Ok.ensures.ok in
-    let was : c.args.writer.now.live ≡ side ∷ [] = ap (λ handle. handle.live) (sym c.is_live.ensures.same) ∙ c.side-side.ensures.value in
+    let was : c.args.writer.now.live ≡ side ∷ []
+    = ap (λ handle. handle.live) (sym c.is_live.ensures.same) ∙ c.side-side.ensures.value in
     inr (inr (
       (side, was),
       ap (λ handle. handle.live) (sym c.is_live-2.ensures.same) ∙ c.if-is_live.ensures.empty,
@@ -51,16 +72,36 @@ returns-in-Ok c =
         refl,
         c.pop.new.self.items,
         c.in-Some.next,
-        record { old = side; new = _; was = was; is = refl; map = refl; writer = refl; ledger = refl; had_spare = c.in-Some.ensures.items; has_spare = refl },
-        record { held = side; side = c.in-Ok.made.value; was = was; is = c.lead_to.ensures; map = shared; holds_none = reader },
+        record {
+          old = side;
+          new = _;
+          was = was;
+          is = refl;
+          map = refl;
+          writer = refl;
+          ledger = refl;
+          had_spare = c.in-Some.ensures.items;
+          has_spare = refl;
+        },
+        record {
+          held = side;
+          side = c.in-Ok.made.value;
+          was = was;
+          is = c.lead_to.ensures;
+          map = shared;
+          holds_none = reader;
+        },
       )),
     ))
 
 pub returns-in-Err : goal.returns-in-Err
 returns-in-Err c =
     let side = c.side-side.result.now in
-    let back : c.push_reserved.new.self.items ≡ c.pop.new.self.items ++ c.in-Some.next ∷ [] = c.push_reserved.ensures.items ∙ ap (λ (token : IdCaller). c.pop.new.self.items ++ token ∷ []) c.in-Err.ensures.back in
-    let was : c.args.writer.now.live ≡ side ∷ [] = ap (λ handle. handle.live) (sym c.is_live.ensures.same) ∙ c.side-side.ensures.value in
+    let back : c.push_reserved.new.self.items ≡ c.pop.new.self.items ++ c.in-Some.next ∷ []
+    = c.push_reserved.ensures.items
+    ∙ ap (λ (token : IdCaller). c.pop.new.self.items ++ token ∷ []) c.in-Err.ensures.back in
+    let was : c.args.writer.now.live ≡ side ∷ []
+    = ap (λ handle. handle.live) (sym c.is_live.ensures.same) ∙ c.side-side.ensures.value in
     inr (inr (
       (side, was),
       ap (λ handle. handle.live) (sym c.is_live-2.ensures.same) ∙ c.if-is_live.ensures.empty,
@@ -68,7 +109,17 @@ returns-in-Err c =
         refl,
         c.pop.new.self.items,
         c.in-Some.next,
-        record { old = side; new = _; was = was; is = refl; map = refl; writer = refl; ledger = refl; had_spare = c.in-Some.ensures.items; has_spare = back },
+        record {
+          old = side;
+          new = _;
+          was = was;
+          is = refl;
+          map = refl;
+          writer = refl;
+          ledger = refl;
+          had_spare = c.in-Some.ensures.items;
+          has_spare = back;
+        },
         ap (λ handle. handle.live) c.is_live-2.ensures.same,
       )),
     ))

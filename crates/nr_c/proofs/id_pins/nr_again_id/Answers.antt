@@ -33,7 +33,12 @@ returns-then-found c = inr (inr (
     was = ap (λ handle. handle.live) (sym c.is_live.ensures.same) ∙ c.side-side.ensures.value;
     is = refl;
     map = refl;
-    made = (c.again-found.result, ap (λ (b : Bool). cond {A = ℕ} b answer_rows answer_other) (sym c.if-found.true), c.if-not-holds.ensures.some, c.again-found.ensures.again);
+    made = (
+      c.again-found.result,
+      ap (λ (b : Bool). cond {A = ℕ} b answer_rows answer_other) (sym c.if-found.true),
+      c.if-not-holds.ensures.some,
+      c.again-found.ensures.again,
+    );
   }),
 ))
 
@@ -46,6 +51,11 @@ returns-else-found c = inr (inr (
     was = ap (λ handle. handle.live) (sym c.is_live.ensures.same) ∙ c.side-side.ensures.value;
     is = refl;
     map = refl;
-    made = (c.again-found.result, ap (λ (b : Bool). cond {A = ℕ} b answer_rows answer_other) (sym c.if-found.false), c.if-not-holds.ensures.some, c.again-found.ensures.again);
+    made = (
+      c.again-found.result,
+      ap (λ (b : Bool). cond {A = ℕ} b answer_rows answer_other) (sym c.if-found.false),
+      c.if-not-holds.ensures.some,
+      c.again-found.ensures.again,
+    );
   }),
 ))

@@ -31,5 +31,13 @@ returns c = inr (inr (record {
   was = ap (λ handle. handle.live) (sym c.is_live.ensures.same) ∙ c.side-side.ensures.value;
   is = refl;
   map = refl;
-  made = (refl, inl (refl, ap (λ (l : List Row). slice_get l c.args.place) (sym c.rows-held.ensures.rows) ∙ slice_get-get_or c.rows-held.result.now c.args.place (record { a = 0; b = 0 }) (omega (arith, c.if-place-held.false))));
+  made = (
+    refl,
+    inl (
+      refl,
+      ap (λ (l : List Row). slice_get l c.args.place) (sym c.rows-held.ensures.rows)
+          ∙ slice_get-get_or c.rows-held.result.now c.args.place (record { a = 0; b = 0 })
+          (omega (arith, c.if-place-held.false)),
+    ),
+  );
 }))

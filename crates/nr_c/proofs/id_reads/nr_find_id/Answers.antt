@@ -32,6 +32,11 @@ returns c = inr (inr (
     was = ap (λ handle. handle.live) (sym c.is_live.ensures.same) ∙ c.side-side.ensures.value;
     is = refl;
     map = refl;
-    made = record { was_idle = c.if-holds.ensures.none; is_idle = c.find.ensures.idle; became_so = (c.find.result, c.of_found_id.ensures, c.find.ensures.finds) };
+    made =
+        record {
+          was_idle = c.if-holds.ensures.none;
+          is_idle = c.find.ensures.idle;
+          became_so = (c.find.result, c.of_found_id.ensures, c.find.ensures.finds);
+        };
   }),
 ))

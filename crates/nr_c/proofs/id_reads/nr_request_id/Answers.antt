@@ -19,6 +19,12 @@ returns c = inr (inr (
     was = ap (λ handle. handle.live) (sym c.is_live.ensures.same) ∙ c.side-side.ensures.value;
     is = refl;
     map = refl;
-    made = (c.request.result, c.of_request.ensures, c.request.ensures.answer, c.request.ensures.held.0, c.request.ensures.held.1);
+    made = (
+      c.request.result,
+      c.of_request.ensures,
+      c.request.ensures.answer,
+      c.request.ensures.held.0,
+      c.request.ensures.held.1,
+    );
   },
 ))

@@ -9,5 +9,11 @@ returns c = inr (record {
   is = refl;
   map = refl;
   spare = refl;
-  made = record { became_so = (c.reap.result, c.of_reaped.ensures, c.reap.ensures.reaps, c.reap.ensures.clerk); owes = c.reap.ensures.owes; asker = c.reap.ensures.asker; keeps = refl };
+  made =
+      record {
+        became_so = (c.reap.result, c.of_reaped.ensures, c.reap.ensures.reaps, c.reap.ensures.clerk);
+        owes = c.reap.ensures.owes;
+        asker = c.reap.ensures.asker;
+        keeps = refl;
+      };
 })

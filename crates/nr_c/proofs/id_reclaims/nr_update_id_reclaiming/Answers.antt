@@ -38,6 +38,26 @@ returns c = inr (inr (
     is = refl;
     map = refl;
     spare = refl;
-    made = record { became_so = inr (c.in_default.ensures, (c.update_reclaiming-answer.result, c.of_id_update_reclaiming.ensures, subst (λ (t : IdTable). CallsWay (λ way o n r. UpdatesReclaiming ShowsSet t.map.shape.rows way c.args.deltas.now o c.args.had.now n c.update_reclaiming-answer.new.had r) c.args.id c.side-side.result.now.writer c.update_reclaiming-answer.new.writer c.update_reclaiming-answer.result) (c.deref.ensures ∙ sym c.side-side.result.now.own) c.update_reclaiming-answer.ensures.updates, c.update_reclaiming-answer.ensures.absent)); owes = c.update_reclaiming-answer.ensures.owes; asker = c.update_reclaiming-answer.ensures.asker; keeps = refl };
+    made =
+        record {
+          became_so = inr (
+            c.in_default.ensures,
+            (
+              c.update_reclaiming-answer.result,
+              c.of_id_update_reclaiming.ensures,
+              subst
+                  (λ (t : IdTable). CallsWay
+                  (λ way o n r. UpdatesReclaiming ShowsSet t.map.shape.rows way c.args.deltas.now o
+                  c.args.had.now n c.update_reclaiming-answer.new.had r)
+                  c.args.id c.side-side.result.now.writer c.update_reclaiming-answer.new.writer
+                  c.update_reclaiming-answer.result)
+                  (c.deref.ensures ∙ sym c.side-side.result.now.own) c.update_reclaiming-answer.ensures.updates,
+              c.update_reclaiming-answer.ensures.absent,
+            ),
+          );
+          owes = c.update_reclaiming-answer.ensures.owes;
+          asker = c.update_reclaiming-answer.ensures.asker;
+          keeps = refl;
+        };
   },
 ))

@@ -20,7 +20,16 @@ returns-in-Ok c = inr (inr (
     is = refl;
     map = refl;
     spare = refl;
-    made = inl (record { code_is = refl; upquery = c.in-Ok.opened; admits = c.in-Ok.ensures.admits.1; numbers = c.keep_new.ensures.numbers; count = c.keep_new.ensures.count; keeps = c.keep_new.ensures.keeps });
+    made =
+        inl
+        (record {
+          code_is = refl;
+          upquery = c.in-Ok.opened;
+          admits = c.in-Ok.ensures.admits.1;
+          numbers = c.keep_new.ensures.numbers;
+          count = c.keep_new.ensures.count;
+          keeps = c.keep_new.ensures.keeps;
+        });
   },
 ))
 
@@ -34,6 +43,14 @@ returns-in-Err c = inr (inr (
     is = refl;
     map = refl;
     spare = refl;
-    made = inr (record { why = c.in-Err.why; code_is = c.of_refused.ensures; refuses = c.in-Err.ensures.refused; stays = refl; keeps = refl });
+    made =
+        inr
+        (record {
+          why = c.in-Err.why;
+          code_is = c.of_refused.ensures;
+          refuses = c.in-Err.ensures.refused;
+          stays = refl;
+          keeps = refl;
+        });
   },
 ))

@@ -20,6 +20,12 @@ returns c = inr (inr (
     is = refl;
     map = refl;
     spare = refl;
-    made = record { became_so = (c.evict.result, c.of_evict.ensures, c.evict.ensures.evicts); owes = c.evict.ensures.owes; asker = c.evict.ensures.asker; keeps = refl };
+    made =
+        record {
+          became_so = (c.evict.result, c.of_evict.ensures, c.evict.ensures.evicts);
+          owes = c.evict.ensures.owes;
+          asker = c.evict.ensures.asker;
+          keeps = refl;
+        };
   },
 ))

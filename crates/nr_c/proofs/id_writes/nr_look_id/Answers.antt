@@ -20,6 +20,12 @@ returns c = inr (inr (
     is = refl;
     map = refl;
     spare = refl;
-    made = record { became_so = (c.look.result, c.of_looked.ensures, c.look.ensures.looks); owes = c.look.ensures.owes; asker = c.look.ensures.asker; keeps = refl };
+    made =
+        record {
+          became_so = (c.look.result, c.of_looked.ensures, c.look.ensures.looks);
+          owes = c.look.ensures.owes;
+          asker = c.look.ensures.asker;
+          keeps = refl;
+        };
   },
 ))

@@ -15,29 +15,53 @@ returns-then-id-eq0 c = let (side, is) = c.if-not-is_live.ensures.live in inr (i
 ))
 
 pub returns-in-Some : goal.returns-in-Some
-returns-in-Some c = let side = c.side-side.result.now in let bound = c.rows.ensures ∙ ap id_rows (c.deref.ensures ∙ sym side.own) in inr (inr (
-  omega (arith, c.if-id-eq0.false),
-  record {
-    old = c.side-side.result.now;
-    new = _;
-    was = ap (λ handle. handle.live) (sym c.is_live.ensures.same) ∙ c.side-side.ensures.value;
-    is = refl;
-    map = refl;
-    spare = refl;
-    made = record { became_so = inl (subst (λ (n : ℕ). AreIdRowsRefused n c.args.rows.now c.in-Some.code) bound c.in-Some.ensures, refl); owes = λ way. refl; asker = refl; keeps = refl };
-  },
-))
+returns-in-Some c =
+    let side = c.side-side.result.now in
+    let bound = c.rows.ensures ∙ ap id_rows (c.deref.ensures ∙ sym side.own) in
+    inr (inr (
+      omega (arith, c.if-id-eq0.false),
+      record {
+        old = c.side-side.result.now;
+        new = _;
+        was = ap (λ handle. handle.live) (sym c.is_live.ensures.same) ∙ c.side-side.ensures.value;
+        is = refl;
+        map = refl;
+        spare = refl;
+        made =
+            record {
+              became_so = inl
+                  (subst (λ (n : ℕ). AreIdRowsRefused n c.args.rows.now c.in-Some.code) bound c.in-Some.ensures, refl);
+              owes = λ way. refl;
+              asker = refl;
+              keeps = refl;
+            };
+      },
+    ))
 
 pub returns : goal.returns
-returns c = let side = c.side-side.result.now in let bound = c.rows.ensures ∙ ap id_rows (c.deref.ensures ∙ sym side.own) in inr (inr (
-  omega (arith, c.if-id-eq0.false),
-  record {
-    old = c.side-side.result.now;
-    new = _;
-    was = ap (λ handle. handle.live) (sym c.is_live.ensures.same) ∙ c.side-side.ensures.value;
-    is = refl;
-    map = refl;
-    spare = refl;
-    made = record { became_so = inr (subst (λ (n : ℕ). IsIdSet n c.args.rows.now) bound c.in_default.ensures, c.replace.result, c.of_id_replace.ensures, c.replace.ensures.replaces); owes = c.replace.ensures.owes; asker = c.replace.ensures.asker; keeps = refl };
-  },
-))
+returns c =
+    let side = c.side-side.result.now in
+    let bound = c.rows.ensures ∙ ap id_rows (c.deref.ensures ∙ sym side.own) in
+    inr (inr (
+      omega (arith, c.if-id-eq0.false),
+      record {
+        old = c.side-side.result.now;
+        new = _;
+        was = ap (λ handle. handle.live) (sym c.is_live.ensures.same) ∙ c.side-side.ensures.value;
+        is = refl;
+        map = refl;
+        spare = refl;
+        made =
+            record {
+              became_so = inr (
+                subst (λ (n : ℕ). IsIdSet n c.args.rows.now) bound c.in_default.ensures,
+                c.replace.result,
+                c.of_id_replace.ensures,
+                c.replace.ensures.replaces,
+              );
+              owes = c.replace.ensures.owes;
+              asker = c.replace.ensures.asker;
+              keeps = refl;
+            };
+      },
+    ))

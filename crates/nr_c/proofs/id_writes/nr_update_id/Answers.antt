@@ -37,6 +37,20 @@ returns c = let side = c.side-side.result.now in inr (inr (
     is = refl;
     map = refl;
     spare = refl;
-    made = record { became_so = inr (c.in_default.ensures, c.update.result, c.of_id_update.ensures, subst (λ (t : IdTable). CallsWay (λ way. UpdatesKey t.map.shape.rows way c.args.deltas.now) c.args.id side.writer c.update.new.writer c.update.result) (c.deref.ensures ∙ sym side.own) c.update.ensures.updates); owes = c.update.ensures.owes; asker = c.update.ensures.asker; keeps = refl };
+    made =
+        record {
+          became_so = inr (
+            c.in_default.ensures,
+            c.update.result,
+            c.of_id_update.ensures,
+            subst
+                (λ (t : IdTable). CallsWay (λ way. UpdatesKey t.map.shape.rows way c.args.deltas.now) c.args.id
+                side.writer c.update.new.writer c.update.result)
+                (c.deref.ensures ∙ sym side.own) c.update.ensures.updates,
+          );
+          owes = c.update.ensures.owes;
+          asker = c.update.ensures.asker;
+          keeps = refl;
+        };
   },
 ))

@@ -16,13 +16,28 @@ returns-then-not-has_key c = inr (inl (record {
 
 pub returns : goal.returns
 returns c = inr (inr (
-  record { held = c.side-side.result.now; was = ap (λ handle. handle.live) (sym c.is_live.ensures.same) ∙ c.side-side.ensures.value; below = c.if-not-has_key.ensures.has },
+  record {
+    held = c.side-side.result.now;
+    was = ap (λ handle. handle.live) (sym c.is_live.ensures.same) ∙ c.side-side.ensures.value;
+    below = c.if-not-has_key.ensures.has;
+  },
   (
     c.find_kept.result,
     c.of_found.ensures,
     c.side-side.result.now.hand,
     c.find_kept.new.self,
-    record { old = c.side-side.result.now; new = _; led = ap (λ handle. handle.live) (sym c.is_live.ensures.same) ∙ c.side-side.ensures.value; leads = refl; map = refl; old_hand = refl; new_hand = refl },
-    subst (λ (h : Handed). FindsKept ShowsSet c.args.key h c.args.rows.now c.find_kept.new.self c.find_kept.new.rows c.find_kept.result) c.hold_for.ensures c.find_kept.ensures.finds,
+    record {
+      old = c.side-side.result.now;
+      new = _;
+      led = ap (λ handle. handle.live) (sym c.is_live.ensures.same) ∙ c.side-side.ensures.value;
+      leads = refl;
+      map = refl;
+      old_hand = refl;
+      new_hand = refl;
+    },
+    subst
+        (λ (h : Handed). FindsKept ShowsSet c.args.key h c.args.rows.now c.find_kept.new.self c.find_kept.new.rows
+        c.find_kept.result)
+        c.hold_for.ensures c.find_kept.ensures.finds,
   ),
 ))

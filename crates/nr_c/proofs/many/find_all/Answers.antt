@@ -9,11 +9,19 @@ abbrev blank : NrWanted
 blank = record { key = 0; answer = 0; rows = record { count = 0; row = [] } }
 
 pub find_one-requires-clause-key : goal.find_one-requires-clause-key
-find_one-requires-clause-key c = let place = c.loop-place.place in let keys = c.loop-place.wanted in let had = c.loop-place.invariant.made in let one = get_or keys place blank in
+find_one-requires-clause-key c =
+    let place = c.loop-place.place in
+    let keys = c.loop-place.wanted in
+    let had = c.loop-place.invariant.made in
+    let one = get_or keys place blank in
     let low : place < length keys = omega (arith, c.loop-place-test.true, had.long) in
-    let was = as_wanted FindsAtByCode c.args.hand.now.reader c.args.wanted.now place c.loop-place.hand.reader keys had one low (get_or_default keys place blank one low) in
-    subst (λ (w : NrWanted). w.key < c.args.map.now.shape.keys) (sym was) (c.requires.keys place one (omega (arith, low, had.long)))
+    let was
+    = as_wanted FindsAtByCode c.args.hand.now.reader c.args.wanted.now place c.loop-place.hand.reader keys had one
+    low (get_or_default keys place blank one low) in
+    subst (λ (w : NrWanted). w.key < c.args.map.now.shape.keys) (sym was)
+    (c.requires.keys place one (omega (arith, low, had.long)))
 
 pub returns-clause-finds : goal.returns-clause-finds
 returns-clause-finds c = let had = c.loop-place.invariant.made in
-    all_made FindsAtByCode c.args.hand.now.reader c.args.wanted.now c.loop-place.place c.loop-place.hand.reader c.loop-place.wanted had (omega (arith, had.long, c.loop-place-test.false))
+    all_made FindsAtByCode c.args.hand.now.reader c.args.wanted.now c.loop-place.place c.loop-place.hand.reader
+    c.loop-place.wanted had (omega (arith, had.long, c.loop-place-test.false))

@@ -3,16 +3,38 @@ use Rattle.nr_c.proofs.many.nr_find_each.Goals as goal
 
 pub returns-then-not-has_keys : goal.returns-then-not-has_keys
 returns-then-not-has_keys c =
-    inr (inl (record { code_is = refl; stay = refl; held = c.side-side.result.now; was = ap (λ handle. handle.live) (sym c.is_live.ensures.same) ∙ c.side-side.ensures.value; is = refl; lacks = c.if-not-has_keys.ensures.not_all }))
+    inr
+    (inl
+    (record {
+      code_is = refl;
+      stay = refl;
+      held = c.side-side.result.now;
+      was = ap (λ handle. handle.live) (sym c.is_live.ensures.same) ∙ c.side-side.ensures.value;
+      is = refl;
+      lacks = c.if-not-has_keys.ensures.not_all;
+    }))
 
 pub returns-then-holds : goal.returns-then-holds
 returns-then-holds c =
     let was = ap (λ handle. handle.live) (sym c.is_live.ensures.same) ∙ c.side-side.ensures.value in
-    inr (inr (record { held = c.side-side.result.now; was = was; has = c.if-not-has_keys.ensures.all }, inl (record { code_is = refl; stay = refl; held = c.side-side.result.now; was = was; is = refl; hand = c.if-holds.ensures.some })))
+    inr
+    (inr (
+      record { held = c.side-side.result.now; was = was; has = c.if-not-has_keys.ensures.all },
+      inl
+          (record {
+            code_is = refl;
+            stay = refl;
+            held = c.side-side.result.now;
+            was = was;
+            is = refl;
+            hand = c.if-holds.ensures.some;
+          }),
+    ))
 
 pub returns : goal.returns
 returns c =
-    let was = ap (λ handle. handle.live) (sym c.is_live.ensures.same) ∙ c.side-side.ensures.value in let none = c.if-holds.ensures.none in
+    let was = ap (λ handle. handle.live) (sym c.is_live.ensures.same) ∙ c.side-side.ensures.value in
+    let none = c.if-holds.ensures.none in
     inr (inr (
       record { held = c.side-side.result.now; was = was; has = c.if-not-has_keys.ensures.all },
       inr (
@@ -20,7 +42,15 @@ returns c =
         (
           c.side-side.result.now.hand,
           c.find_all.new.hand,
-          record { old = c.side-side.result.now; new = _; led = was; leads = refl; map = refl; old_hand = refl; new_hand = refl },
+          record {
+            old = c.side-side.result.now;
+            new = _;
+            led = was;
+            leads = refl;
+            map = refl;
+            old_hand = refl;
+            new_hand = refl;
+          },
           none,
           c.find_all.ensures.idle,
           c.find_all.ensures.finds,

@@ -4,7 +4,8 @@ use Rattle.nr_c.proofs.open.nr_return_reader.Goals as goal
 pub returns-then-is_err : goal.returns-then-is_err
 returns-then-is_err c =
     let side = c.side-side.result.now in let (held, led) = c.if-not-is_live-2.ensures.live in
-    let was : c.args.writer.now.live ≡ side ∷ [] = ap (λ handle. handle.live) (sym c.is_live.ensures.same) ∙ c.side-side.ensures.value in
+    let was : c.args.writer.now.live ≡ side ∷ []
+    = ap (λ handle. handle.live) (sym c.is_live.ensures.same) ∙ c.side-side.ensures.value in
     inr (
       (side, was),
       (held, ap (λ handle. handle.live) (sym c.is_live-else-not-is_live.ensures.same) ∙ led),
@@ -28,7 +29,8 @@ returns-then-is_err c =
 pub returns : goal.returns
 returns c =
     let side = c.side-side.result.now in let (held, led) = c.if-not-is_live-2.ensures.live in
-    let was : c.args.writer.now.live ≡ side ∷ [] = ap (λ handle. handle.live) (sym c.is_live.ensures.same) ∙ c.side-side.ensures.value in
+    let was : c.args.writer.now.live ≡ side ∷ []
+    = ap (λ handle. handle.live) (sym c.is_live.ensures.same) ∙ c.side-side.ensures.value in
     inr (
       (side, was),
       (held, ap (λ handle. handle.live) (sym c.is_live-else-not-is_live.ensures.same) ∙ led),
@@ -39,7 +41,17 @@ returns c =
         held,
         ap (λ handle. handle.live) (sym c.is_live-else-not-is_live.ensures.same) ∙ led,
         c.close.ensures.ends held led,
-        record { old = side; new = _; was = was; is = refl; map = refl; writer = refl; had_spare = refl; has_spare = c.push_reserved.ensures.items ∙ ap (λ items. items ++ c.close.result ∷ []) c.try_reserve.ensures.items },
+        record {
+          old = side;
+          new = _;
+          was = was;
+          is = refl;
+          map = refl;
+          writer = refl;
+          had_spare = refl;
+          has_spare = c.push_reserved.ensures.items
+              ∙ ap (λ items. items ++ c.close.result ∷ []) c.try_reserve.ensures.items;
+        },
         c.close.ensures.empty,
       ),
     )

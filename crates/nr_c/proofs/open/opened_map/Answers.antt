@@ -14,4 +14,7 @@ bad_of_large shape bad = ⊎_elim (λ slots. inr (inl (narrower 131072 4194303 s
     (λ last. ⊎_elim (λ number. inr (inr (inr (inl number)))) (λ rows. inr (inr (inr (inr rows)))) last) more) rest) bad
 
 pub returns-clause-bad_size : goal.returns-clause-bad_size
-returns-clause-bad_size c = ((λ e. let large = c.open_large.ensures.bad_size.0 e in (bad_of_large c.args.shape.now large, large)), (λ bad. c.open_large.ensures.bad_size.1 bad.1))
+returns-clause-bad_size c = (
+  (λ e. let large = c.open_large.ensures.bad_size.0 e in (bad_of_large c.args.shape.now large, large)),
+  (λ bad. c.open_large.ensures.bad_size.1 bad.1),
+)

@@ -36,28 +36,54 @@ returns-then-not-holds c = inr (inr (
 
 pub returns-then-found : goal.returns-then-found
 returns-then-found c = inr (inr (
-  record { held = c.side-side.result.now; was = ap (λ handle. handle.live) (sym c.is_live.ensures.same) ∙ c.side-side.ensures.value; below = c.if-not-has_key.ensures.has },
+  record {
+    held = c.side-side.result.now;
+    was = ap (λ handle. handle.live) (sym c.is_live.ensures.same) ∙ c.side-side.ensures.value;
+    below = c.if-not-has_key.ensures.has;
+  },
   inr (
     c.again-found.result,
     ap (λ (b : Bool). cond {A = ℕ} b answer_rows answer_other) (sym c.if-found.true),
     c.side-side.result.now.hand,
     c.again-found.new.self,
-    record { old = c.side-side.result.now; new = _; led = ap (λ handle. handle.live) (sym c.is_live.ensures.same) ∙ c.side-side.ensures.value; leads = refl; map = refl; old_hand = refl; new_hand = refl },
+    record {
+      old = c.side-side.result.now;
+      new = _;
+      led = ap (λ handle. handle.live) (sym c.is_live.ensures.same) ∙ c.side-side.ensures.value;
+      leads = refl;
+      map = refl;
+      old_hand = refl;
+      new_hand = refl;
+    },
     c.if-not-holds.ensures.some,
-    subst (λ (h : Handed). AgainByHand c.args.key h c.again-found.new.self c.again-found.result) c.hold_for.ensures c.again-found.ensures.again,
+    subst (λ (h : Handed). AgainByHand c.args.key h c.again-found.new.self c.again-found.result) c.hold_for.ensures
+        c.again-found.ensures.again,
   ),
 ))
 
 pub returns-else-found : goal.returns-else-found
 returns-else-found c = inr (inr (
-  record { held = c.side-side.result.now; was = ap (λ handle. handle.live) (sym c.is_live.ensures.same) ∙ c.side-side.ensures.value; below = c.if-not-has_key.ensures.has },
+  record {
+    held = c.side-side.result.now;
+    was = ap (λ handle. handle.live) (sym c.is_live.ensures.same) ∙ c.side-side.ensures.value;
+    below = c.if-not-has_key.ensures.has;
+  },
   inr (
     c.again-found.result,
     ap (λ (b : Bool). cond {A = ℕ} b answer_rows answer_other) (sym c.if-found.false),
     c.side-side.result.now.hand,
     c.again-found.new.self,
-    record { old = c.side-side.result.now; new = _; led = ap (λ handle. handle.live) (sym c.is_live.ensures.same) ∙ c.side-side.ensures.value; leads = refl; map = refl; old_hand = refl; new_hand = refl },
+    record {
+      old = c.side-side.result.now;
+      new = _;
+      led = ap (λ handle. handle.live) (sym c.is_live.ensures.same) ∙ c.side-side.ensures.value;
+      leads = refl;
+      map = refl;
+      old_hand = refl;
+      new_hand = refl;
+    },
     c.if-not-holds.ensures.some,
-    subst (λ (h : Handed). AgainByHand c.args.key h c.again-found.new.self c.again-found.result) c.hold_for.ensures c.again-found.ensures.again,
+    subst (λ (h : Handed). AgainByHand c.args.key h c.again-found.new.self c.again-found.result) c.hold_for.ensures
+        c.again-found.ensures.again,
   ),
 ))

@@ -34,12 +34,54 @@ returns-then-holds c = inr (inr (
 
 pub returns-then-not-pin : goal.returns-then-not-pin
 returns-then-not-pin c = inr (inr (
-  record { held = c.side-side.result.now; was = ap (λ handle. handle.live) (sym c.is_live.ensures.same) ∙ c.side-side.ensures.value; below = c.if-not-has_key.ensures.has },
-  inr (inr (refl, c.side-side.result.now.hand, c.pin.new.self, record { old = c.side-side.result.now; new = _; led = ap (λ handle. handle.live) (sym c.is_live.ensures.same) ∙ c.side-side.ensures.value; leads = refl; map = refl; old_hand = refl; new_hand = refl }, c.if-holds.ensures.none, c.if-not-pin.ensures.pins, refl)),
+  record {
+    held = c.side-side.result.now;
+    was = ap (λ handle. handle.live) (sym c.is_live.ensures.same) ∙ c.side-side.ensures.value;
+    below = c.if-not-has_key.ensures.has;
+  },
+  inr
+      (inr (
+        refl,
+        c.side-side.result.now.hand,
+        c.pin.new.self,
+        record {
+          old = c.side-side.result.now;
+          new = _;
+          led = ap (λ handle. handle.live) (sym c.is_live.ensures.same) ∙ c.side-side.ensures.value;
+          leads = refl;
+          map = refl;
+          old_hand = refl;
+          new_hand = refl;
+        },
+        c.if-holds.ensures.none,
+        c.if-not-pin.ensures.pins,
+        refl,
+      )),
 ))
 
 pub returns : goal.returns
 returns c = inr (inr (
-  record { held = c.side-side.result.now; was = ap (λ handle. handle.live) (sym c.is_live.ensures.same) ∙ c.side-side.ensures.value; below = c.if-not-has_key.ensures.has },
-  inr (inl (refl, c.side-side.result.now.hand, c.pin.new.self, record { old = c.side-side.result.now; new = _; led = ap (λ handle. handle.live) (sym c.is_live.ensures.same) ∙ c.side-side.ensures.value; leads = refl; map = refl; old_hand = refl; new_hand = refl }, c.if-holds.ensures.none, c.if-not-pin.ensures.pins, c.len.ensures.len)),
+  record {
+    held = c.side-side.result.now;
+    was = ap (λ handle. handle.live) (sym c.is_live.ensures.same) ∙ c.side-side.ensures.value;
+    below = c.if-not-has_key.ensures.has;
+  },
+  inr
+      (inl (
+        refl,
+        c.side-side.result.now.hand,
+        c.pin.new.self,
+        record {
+          old = c.side-side.result.now;
+          new = _;
+          led = ap (λ handle. handle.live) (sym c.is_live.ensures.same) ∙ c.side-side.ensures.value;
+          leads = refl;
+          map = refl;
+          old_hand = refl;
+          new_hand = refl;
+        },
+        c.if-holds.ensures.none,
+        c.if-not-pin.ensures.pins,
+        c.len.ensures.len,
+      )),
 ))

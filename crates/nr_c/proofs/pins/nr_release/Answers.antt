@@ -13,4 +13,21 @@ returns-then-not-holds c = inr (inl (record {
 }))
 
 pub returns : goal.returns
-returns c = inr (inr (refl, c.side-side.result.now.hand, c.release.new.self, record { old = c.side-side.result.now; new = _; led = ap (λ handle. handle.live) (sym c.is_live.ensures.same) ∙ c.side-side.ensures.value; leads = refl; map = refl; old_hand = refl; new_hand = refl }, c.if-not-holds.ensures.some, c.release.ensures.lets_go))
+returns c =
+    inr
+    (inr (
+      refl,
+      c.side-side.result.now.hand,
+      c.release.new.self,
+      record {
+        old = c.side-side.result.now;
+        new = _;
+        led = ap (λ handle. handle.live) (sym c.is_live.ensures.same) ∙ c.side-side.ensures.value;
+        leads = refl;
+        map = refl;
+        old_hand = refl;
+        new_hand = refl;
+      },
+      c.if-not-holds.ensures.some,
+      c.release.ensures.lets_go,
+    ))

@@ -13,7 +13,42 @@ returns-then-not-holds c = inr (inl (record {
 }))
 
 pub returns-then-place-len : goal.returns-then-place-len
-returns-then-place-len c = inr (inr (inr (refl, c.side-side.result.now.hand, record { old = c.side-side.result.now; new = _; led = ap (λ handle. handle.live) (sym c.is_live.ensures.same) ∙ c.side-side.ensures.value; leads = refl; map = refl; old_hand = refl; new_hand = refl }, omega (arith, c.len.ensures.len, c.if-place-len.true), refl)))
+returns-then-place-len c =
+    inr
+    (inr
+    (inr (
+      refl,
+      c.side-side.result.now.hand,
+      record {
+        old = c.side-side.result.now;
+        new = _;
+        led = ap (λ handle. handle.live) (sym c.is_live.ensures.same) ∙ c.side-side.ensures.value;
+        leads = refl;
+        map = refl;
+        old_hand = refl;
+        new_hand = refl;
+      },
+      omega (arith, c.len.ensures.len, c.if-place-len.true),
+      refl,
+    )))
 
 pub returns : goal.returns
-returns c = inr (inr (inl (refl, c.side-side.result.now.hand, c.row.new.self, record { old = c.side-side.result.now; new = _; led = ap (λ handle. handle.live) (sym c.is_live.ensures.same) ∙ c.side-side.ensures.value; leads = refl; map = refl; old_hand = refl; new_hand = refl }, c.row.ensures.row, c.row.ensures.reads)))
+returns c =
+    inr
+    (inr
+    (inl (
+      refl,
+      c.side-side.result.now.hand,
+      c.row.new.self,
+      record {
+        old = c.side-side.result.now;
+        new = _;
+        led = ap (λ handle. handle.live) (sym c.is_live.ensures.same) ∙ c.side-side.ensures.value;
+        leads = refl;
+        map = refl;
+        old_hand = refl;
+        new_hand = refl;
+      },
+      c.row.ensures.row,
+      c.row.ensures.reads,
+    )))

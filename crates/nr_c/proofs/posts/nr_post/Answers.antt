@@ -1,17 +1,21 @@
-use Rattle.std.proofs.Common.{ℕ, ◌≡◌, ◌<◌, ◌≤◌, Err, IfErr, MatchResult, Ok, Result, arith, inl, inr, refl, ap, subst, sym, ◌∙◌}
+use Rattle.std.proofs.Common.{ℕ, ◌≡◌, ◌<◌, ◌≤◌, Err, IfErr, MatchResult, Ok, Result, arith, inl, inr, refl, ap, subst}
+use Rattle.std.proofs.Common.{sym, ◌∙◌}
 use Rattle.nr_trigger.specs.declared.faults.PostFault.{PostFault}
 use Rattle.nr_trigger.specs.declared.faults.PostFault.TheVariants as post
 use Rattle.nr_trigger.specs.Tokens.{Queue, WasFull}
 use Rattle.nr_c.proofs.posts.nr_post.Goals as goal
 
 -- what is said of each answer and what is said of a fault alone
-both : (posted stays : Type 0) (told : PostFault → Type 0) (answer : Result (Unit {0}) PostFault) → MatchResult answer (λ _. posted) (λ _. stays) → IfErr answer told → MatchResult answer (λ _. posted) (λ fault. stays × told fault)
+both : (posted stays : Type 0) (told : PostFault → Type 0) (answer : Result (Unit {0}) PostFault)
+    → MatchResult answer (λ _. posted) (λ _. stays) → IfErr answer told
+    → MatchResult answer (λ _. posted) (λ fault. stays × told fault)
 both posted stays told (Ok done) one other = one
 both posted stays told (Err fault) one other = (one, other)
 
 pub returns-then-key-side : goal.returns-then-key-side
 returns-then-key-side c = inr (
-    let side = c.side-side.result.now in let above : side.poster.keys ≤ c.args.key = omega (arith, c.if-key-side.true, side.below) in
+    let side = c.side-side.result.now in
+    let above : side.poster.keys ≤ c.args.key = omega (arith, c.if-key-side.true, side.below) in
     inl (record {
       code_is = refl;
       stay = tt;
@@ -26,7 +30,9 @@ pub returns : goal.returns
 returns c = inr (
     let side = c.side-side.result.now in
     let below : c.args.key < side.poster.keys = omega (arith, c.if-key-side.false, side.below) in
-    let full = subst (λ (n : ℕ). IfErr c.try_post.result (λ fault. fault ≡ post.Full → WasFull n side.poster)) (ap (λ (q : Queue). q.capacity) c.deref.ensures) c.try_post.ensures.full in
+    let full
+    = subst (λ (n : ℕ). IfErr c.try_post.result (λ fault. fault ≡ post.Full → WasFull n side.poster))
+    (ap (λ (q : Queue). q.capacity) c.deref.ensures) c.try_post.ensures.full in
     let was = ap (λ handle. handle.live) (sym c.is_live.ensures.same) ∙ c.side-side.ensures.value in
     inr (
       record { held = side; was = was; below = below },

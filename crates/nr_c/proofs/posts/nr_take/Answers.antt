@@ -10,7 +10,18 @@ returns-in-Err c = inr (
       is = refl;
       queue = refl;
       spare = refl;
-      made = (c.in-Err.ensures.own, c.in-Err.ensures.tries, inr (c.in-Err.fault, c.of_take_fault.ensures, c.in-Err.ensures.taken, c.in-Err.ensures.empty, refl, refl));
+      made = (
+        c.in-Err.ensures.own,
+        c.in-Err.ensures.tries,
+        inr (
+          c.in-Err.fault,
+          c.of_take_fault.ensures,
+          c.in-Err.ensures.taken,
+          c.in-Err.ensures.empty,
+          refl,
+          refl,
+        ),
+      );
     })
 
 pub returns-in-Ok : goal.returns-in-Ok

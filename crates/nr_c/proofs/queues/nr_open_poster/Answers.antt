@@ -17,19 +17,36 @@ returns-then-is_live c =
 pub returns-in_default : goal.returns-in_default
 returns-in_default c =
     let side = c.side-side.result.now in
-    let none : side.spare.items ≡ [] = grind (arith, common_steps, c.in_default.ensures.items, c.in_default.ensures.variant) in
-    let left : c.pop.new.self.items ≡ [] = sym (append-nil c.pop.new.self.items) ∙ sym c.in_default.ensures.items ∙ none in
-    let was : c.args.taker.now.live ≡ side ∷ [] = ap (λ handle. handle.live) (sym c.is_live.ensures.same) ∙ c.side-side.ensures.value in
+    let none : side.spare.items ≡ []
+    = grind (arith, common_steps, c.in_default.ensures.items, c.in_default.ensures.variant) in
+    let left : c.pop.new.self.items ≡ []
+    = sym (append-nil c.pop.new.self.items) ∙ sym c.in_default.ensures.items ∙ none in
+    let was : c.args.taker.now.live ≡ side ∷ []
+    = ap (λ handle. handle.live) (sym c.is_live.ensures.same) ∙ c.side-side.ensures.value in
     inr (inr (
       (side, was),
       ap (λ handle. handle.live) (sym c.is_live-2.ensures.same) ∙ c.if-is_live.ensures.empty,
-      inl (refl, record { old = side; new = _; was = was; is = refl; queue = refl; taker = refl; had_spare = none; has_spare = left }, ap (λ handle. handle.live) c.is_live-2.ensures.same),
+      inl (
+        refl,
+        record {
+          old = side;
+          new = _;
+          was = was;
+          is = refl;
+          queue = refl;
+          taker = refl;
+          had_spare = none;
+          has_spare = left;
+        },
+        ap (λ handle. handle.live) c.is_live-2.ensures.same,
+      ),
     ))
 
 pub returns-in-Ok : goal.returns-in-Ok
 returns-in-Ok c =
     let side = c.side-side.result.now in let (shared, poster) = c.in-Ok.ensures.ok in
-    let was : c.args.taker.now.live ≡ side ∷ [] = ap (λ handle. handle.live) (sym c.is_live.ensures.same) ∙ c.side-side.ensures.value in
+    let was : c.args.taker.now.live ≡ side ∷ []
+    = ap (λ handle. handle.live) (sym c.is_live.ensures.same) ∙ c.side-side.ensures.value in
     inr (inr (
       (side, was),
       ap (λ handle. handle.live) (sym c.is_live-2.ensures.same) ∙ c.if-is_live.ensures.empty,
@@ -37,16 +54,35 @@ returns-in-Ok c =
         refl,
         c.pop.new.self.items,
         c.in-Some.next,
-        record { old = side; new = _; was = was; is = refl; queue = refl; taker = refl; had_spare = c.in-Some.ensures.items; has_spare = refl },
-        record { held = side; side = c.in-Ok.made.value; was = was; is = c.lead_to.ensures; queue = shared; poster_is = poster },
+        record {
+          old = side;
+          new = _;
+          was = was;
+          is = refl;
+          queue = refl;
+          taker = refl;
+          had_spare = c.in-Some.ensures.items;
+          has_spare = refl;
+        },
+        record {
+          held = side;
+          side = c.in-Ok.made.value;
+          was = was;
+          is = c.lead_to.ensures;
+          queue = shared;
+          poster_is = poster;
+        },
       )),
     ))
 
 pub returns-in-Err : goal.returns-in-Err
 returns-in-Err c =
     let side = c.side-side.result.now in
-    let back : c.push_reserved.new.self.items ≡ c.pop.new.self.items ++ c.in-Some.next ∷ [] = c.push_reserved.ensures.items ∙ ap (λ (token : PosterSeen). c.pop.new.self.items ++ token ∷ []) c.in-Err.ensures.back in
-    let was : c.args.taker.now.live ≡ side ∷ [] = ap (λ handle. handle.live) (sym c.is_live.ensures.same) ∙ c.side-side.ensures.value in
+    let back : c.push_reserved.new.self.items ≡ c.pop.new.self.items ++ c.in-Some.next ∷ []
+    = c.push_reserved.ensures.items
+    ∙ ap (λ (token : PosterSeen). c.pop.new.self.items ++ token ∷ []) c.in-Err.ensures.back in
+    let was : c.args.taker.now.live ≡ side ∷ []
+    = ap (λ handle. handle.live) (sym c.is_live.ensures.same) ∙ c.side-side.ensures.value in
     inr (inr (
       (side, was),
       ap (λ handle. handle.live) (sym c.is_live-2.ensures.same) ∙ c.if-is_live.ensures.empty,
@@ -54,8 +90,16 @@ returns-in-Err c =
         refl,
         c.pop.new.self.items,
         c.in-Some.next,
-        record
-            { old = side; new = _; was = was; is = refl; queue = refl; taker = refl; had_spare = c.in-Some.ensures.items; has_spare = back },
+        record {
+          old = side;
+          new = _;
+          was = was;
+          is = refl;
+          queue = refl;
+          taker = refl;
+          had_spare = c.in-Some.ensures.items;
+          has_spare = back;
+        },
         ap (λ handle. handle.live) c.is_live-2.ensures.same,
       )),
     ))

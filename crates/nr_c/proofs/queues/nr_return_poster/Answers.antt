@@ -5,7 +5,8 @@ use Rattle.nr_c.proofs.queues.nr_return_poster.Goals as goal
 pub returns-then-is_err : goal.returns-then-is_err
 returns-then-is_err c =
     let side = c.side-side.result.now in let (held, led) = c.if-not-is_live-2.ensures.live in
-    let was : c.args.taker.now.live ≡ side ∷ [] = ap (λ handle. handle.live) (sym c.is_live.ensures.same) ∙ c.side-side.ensures.value in
+    let was : c.args.taker.now.live ≡ side ∷ []
+    = ap (λ handle. handle.live) (sym c.is_live.ensures.same) ∙ c.side-side.ensures.value in
     inr (
       (side, was),
       (held, ap (λ handle. handle.live) (sym c.is_live-else-not-is_live.ensures.same) ∙ led),
@@ -29,9 +30,11 @@ returns-then-is_err c =
 pub returns : goal.returns
 returns c =
     let side = c.side-side.result.now in let (held, led) = c.if-not-is_live-2.ensures.live in
-    let was : c.args.taker.now.live ≡ side ∷ [] = ap (λ handle. handle.live) (sym c.is_live.ensures.same) ∙ c.side-side.ensures.value in
+    let was : c.args.taker.now.live ≡ side ∷ []
+    = ap (λ handle. handle.live) (sym c.is_live.ensures.same) ∙ c.side-side.ensures.value in
     let back : c.push_reserved.new.self.items ≡ side.spare.items ++ held.poster ∷ [] = c.push_reserved.ensures.items
-    ∙ ap (λ items. items ++ c.close.result ∷ []) c.try_reserve.ensures.items ∙ ap (λ (one : PosterSeen). side.spare.items ++ one ∷ [])
+    ∙ ap (λ items. items ++ c.close.result ∷ []) c.try_reserve.ensures.items
+    ∙ ap (λ (one : PosterSeen). side.spare.items ++ one ∷ [])
     (c.close.ensures.ends held led) in
     inr (
       (side, was),
@@ -41,7 +44,16 @@ returns c =
         side.spare.items,
         held,
         ap (λ handle. handle.live) (sym c.is_live-else-not-is_live.ensures.same) ∙ led,
-        record { old = side; new = _; was = was; is = refl; queue = refl; taker = refl; had_spare = refl; has_spare = back },
+        record {
+          old = side;
+          new = _;
+          was = was;
+          is = refl;
+          queue = refl;
+          taker = refl;
+          had_spare = refl;
+          has_spare = back;
+        },
         c.close.ensures.empty,
       ),
     )

@@ -36,11 +36,23 @@ returns-then-holds c = inr (inr (
 
 pub returns-in-Send : goal.returns-in-Send
 returns-in-Send c = inr (inr (
-  record { held = c.side-side.result.now; was = ap (λ handle. handle.live) (sym c.is_live.ensures.same) ∙ c.side-side.ensures.value; below = c.if-not-has_key.ensures.has },
+  record {
+    held = c.side-side.result.now;
+    was = ap (λ handle. handle.live) (sym c.is_live.ensures.same) ∙ c.side-side.ensures.value;
+    below = c.if-not-has_key.ensures.has;
+  },
   inr (
     c.side-side.result.now.hand,
     c.ask.new.self,
-    record { old = c.side-side.result.now; new = _; led = ap (λ handle. handle.live) (sym c.is_live.ensures.same) ∙ c.side-side.ensures.value; leads = refl; map = refl; old_hand = refl; new_hand = refl },
+    record {
+      old = c.side-side.result.now;
+      new = _;
+      led = ap (λ handle. handle.live) (sym c.is_live.ensures.same) ∙ c.side-side.ensures.value;
+      leads = refl;
+      map = refl;
+      old_hand = refl;
+      new_hand = refl;
+    },
     c.if-holds.ensures.none,
     ap (λ (h : Handed). h.key) c.in-Send.ensures.idle.0,
     (asked.Send _, refl, c.in-Send.ensures.asks, c.number.ensures, c.in-Send.ensures.idle.1, c.in-Send.ensures.marks),
@@ -49,11 +61,23 @@ returns-in-Send c = inr (inr (
 
 pub returns-in-Waiting : goal.returns-in-Waiting
 returns-in-Waiting c = inr (inr (
-  record { held = c.side-side.result.now; was = ap (λ handle. handle.live) (sym c.is_live.ensures.same) ∙ c.side-side.ensures.value; below = c.if-not-has_key.ensures.has },
+  record {
+    held = c.side-side.result.now;
+    was = ap (λ handle. handle.live) (sym c.is_live.ensures.same) ∙ c.side-side.ensures.value;
+    below = c.if-not-has_key.ensures.has;
+  },
   inr (
     c.side-side.result.now.hand,
     c.ask.new.self,
-    record { old = c.side-side.result.now; new = _; led = ap (λ handle. handle.live) (sym c.is_live.ensures.same) ∙ c.side-side.ensures.value; leads = refl; map = refl; old_hand = refl; new_hand = refl },
+    record {
+      old = c.side-side.result.now;
+      new = _;
+      led = ap (λ handle. handle.live) (sym c.is_live.ensures.same) ∙ c.side-side.ensures.value;
+      leads = refl;
+      map = refl;
+      old_hand = refl;
+      new_hand = refl;
+    },
     c.if-holds.ensures.none,
     ap (λ (h : Handed). h.key) c.in-Waiting.ensures.idle.0,
     (asked.Waiting, refl, c.in-Waiting.ensures.asks, refl, c.in-Waiting.ensures.idle.1, c.in-Waiting.ensures.marks),
@@ -62,11 +86,23 @@ returns-in-Waiting c = inr (inr (
 
 pub returns-in-Filled : goal.returns-in-Filled
 returns-in-Filled c = inr (inr (
-  record { held = c.side-side.result.now; was = ap (λ handle. handle.live) (sym c.is_live.ensures.same) ∙ c.side-side.ensures.value; below = c.if-not-has_key.ensures.has },
+  record {
+    held = c.side-side.result.now;
+    was = ap (λ handle. handle.live) (sym c.is_live.ensures.same) ∙ c.side-side.ensures.value;
+    below = c.if-not-has_key.ensures.has;
+  },
   inr (
     c.side-side.result.now.hand,
     c.ask.new.self,
-    record { old = c.side-side.result.now; new = _; led = ap (λ handle. handle.live) (sym c.is_live.ensures.same) ∙ c.side-side.ensures.value; leads = refl; map = refl; old_hand = refl; new_hand = refl },
+    record {
+      old = c.side-side.result.now;
+      new = _;
+      led = ap (λ handle. handle.live) (sym c.is_live.ensures.same) ∙ c.side-side.ensures.value;
+      leads = refl;
+      map = refl;
+      old_hand = refl;
+      new_hand = refl;
+    },
     c.if-holds.ensures.none,
     ap (λ (h : Handed). h.key) c.in-Filled.ensures.idle.0,
     (asked.Filled, refl, c.in-Filled.ensures.asks, refl, c.in-Filled.ensures.idle.1, c.in-Filled.ensures.marks),

@@ -42,9 +42,18 @@ returns c =
       inr (
         hand,
         c.find.new.self,
-        record { old = c.side-side.result.now; new = _; led = was; leads = refl; map = refl; old_hand = refl; new_hand = refl },
+        record {
+          old = c.side-side.result.now;
+          new = _;
+          led = was;
+          leads = refl;
+          map = refl;
+          old_hand = refl;
+          new_hand = refl;
+        },
         none,
         still_idle c.args.key hand c.find.new.self c.args.rows.now c.find.new.rows c.find.result finds,
-        finds_by_code c.args.key hand c.find.new.self c.args.rows.now c.find.new.rows c.find.result finds _ c.of_found.ensures none,
+        finds_by_code c.args.key hand c.find.new.self c.args.rows.now c.find.new.rows c.find.result finds _
+            c.of_found.ensures none,
       ),
     ))

@@ -55,6 +55,7 @@ returns c = inr (let side = c.side-side.result.now in
         is = refl;
         map = refl;
         spare = refl;
-        made = inr (rows, c.fill_reclaiming-answer.result, c.of_fill_reclaiming.ensures, c.fill_reclaiming-answer.ensures);
+        made =
+            inr (rows, c.fill_reclaiming-answer.result, c.of_fill_reclaiming.ensures, c.fill_reclaiming-answer.ensures);
       },
     ))

@@ -55,6 +55,12 @@ returns c = inr (let side = c.side-side.result.now in
         is = refl;
         map = refl;
         spare = refl;
-        made = inr (rows, c.replace_reclaiming-answer.result, c.of_replace_reclaiming.ensures, c.replace_reclaiming-answer.ensures);
+        made =
+            inr (
+              rows,
+              c.replace_reclaiming-answer.result,
+              c.of_replace_reclaiming.ensures,
+              c.replace_reclaiming-answer.ensures,
+            );
       },
     ))

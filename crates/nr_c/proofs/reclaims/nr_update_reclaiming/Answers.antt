@@ -38,7 +38,11 @@ returns-then-not-are_batch c = inr (let side = c.side-side.result.now in
 pub returns : goal.returns
 returns c = inr (let side = c.side-side.result.now in let made = c.update_reclaiming-answer in
     let bound = ap (λ (t : Table). t.shape.rows) (c.deref.ensures ∙ sym side.own) in
-    let updates = subst (λ (n : ℕ). UpdatesReclaiming ShowsSet n c.args.key c.args.deltas.now side.writer c.args.had.now made.new.writer made.new.had made.result) bound made.ensures in
+    let updates
+    = subst
+    (λ (n : ℕ). UpdatesReclaiming ShowsSet n c.args.key c.args.deltas.now side.writer c.args.had.now
+    made.new.writer made.new.had made.result)
+    bound made.ensures in
     inr (
       record {
         held = side;

@@ -17,11 +17,20 @@ returns-then-is_live c =
 pub returns-then-not-has_all_readers : goal.returns-then-not-has_all_readers
 returns-then-not-has_all_readers c =
     let side = c.side.result.now in
-    let was : c.args.writer.now.live ≡ side ∷ [] = ap (λ handle. handle.live) (sym c.is_live.ensures.same) ∙ c.side.ensures.value in
+    let was : c.args.writer.now.live ≡ side ∷ []
+    = ap (λ handle. handle.live) (sym c.is_live.ensures.same) ∙ c.side.ensures.value in
     inr (inr (
       (side, was),
       ap (λ handle. handle.live) (sym c.is_live-2.ensures.same) ∙ c.if-is_live.ensures.empty,
-      inl (record { code_is = refl; held = side; was = was; out = c.if-not-has_all_readers.ensures.not_all; is = sym was; stay = ap (λ handle. handle.live) c.is_live-2.ensures.same }),
+      inl
+          (record {
+            code_is = refl;
+            held = side;
+            was = was;
+            out = c.if-not-has_all_readers.ensures.not_all;
+            is = sym was;
+            stay = ap (λ handle. handle.live) c.is_live-2.ensures.same;
+          }),
     ))
 
 pub close-map-requires : goal.close-map-requires
@@ -30,7 +39,8 @@ close-map-requires c = (_, refl)
 pub returns : goal.returns
 returns c =
     let side = c.side.result.now in
-    let was : c.args.writer.now.live ≡ side ∷ [] = ap (λ handle. handle.live) (sym c.is_live.ensures.same) ∙ c.side.ensures.value in
+    let was : c.args.writer.now.live ≡ side ∷ []
+    = ap (λ handle. handle.live) (sym c.is_live.ensures.same) ∙ c.side.ensures.value in
     let empty = ap (λ handle. handle.live) (sym c.is_live-2.ensures.same) ∙ c.if-is_live.ensures.empty in
     let same = c.close-map.ensures.ends side refl in
     inr (inr (

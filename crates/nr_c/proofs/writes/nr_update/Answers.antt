@@ -37,7 +37,11 @@ returns-then-not-are_batch c = inr (inr (
 pub returns : goal.returns
 returns c = inr (let side = c.side-side.result.now in
     let bound = ap (λ (t : Table). t.shape.rows) (c.deref.ensures ∙ sym side.own) in
-    let updates = subst (λ (n : ℕ). UpdatesKey n c.args.key c.args.deltas.now side.writer c.update_rows.new.writer c.update_rows.result) bound c.update_rows.ensures in
+    let updates
+    = subst
+    (λ (n : ℕ). UpdatesKey n c.args.key c.args.deltas.now side.writer c.update_rows.new.writer
+    c.update_rows.result)
+    bound c.update_rows.ensures in
     inr (
       record {
         held = c.side-side.result.now;

@@ -9,6 +9,7 @@ invariant-loop-reader l = record {
   room : vec_len l.paired + into_iter_len l.reader-iterator ≤ vec_capacity l.paired;
   own : l.clerk.directory ≡ l.fn.directory;
   clerk : (l.clerk.number ≡ l.fn.clerk.number) × (l.clerk.seen ≡ l.fn.clerk.seen);
-  pairs : vec_items l.paired ++ pairs_from l.fn.directory l.clerk.made (into_iter_items l.reader-iterator) ≡ pairs_from l.fn.directory
+  pairs : vec_items l.paired ++ pairs_from l.fn.directory l.clerk.made (into_iter_items l.reader-iterator)
+      ≡ pairs_from l.fn.directory
       l.fn.clerk.made (vec_items l.fn.readers);
 }

@@ -11,7 +11,8 @@ take_all (row ∷ rows) = ap (λ (l : List Row). row ∷ l) (take_all rows)
 
 behind : (id : ℕ) (set rows : List Row) → set ≡ tag_of id ∷ rows → take (length set - 1) (drop 1 set) ≡ rows
 behind id set rows is = ap (λ (l : List Row). take (length l - 1) (drop 1 l)) is
-    ∙ (let same : length (tag_of id ∷ rows) - 1 ≡ length rows = omega arith in ap (λ (n : ℕ). take n rows) same ∙ take_all rows)
+    ∙ (let same : length (tag_of id ∷ rows) - 1 ≡ length rows = omega arith in
+    ap (λ (n : ℕ). take n rows) same ∙ take_all rows)
 
 pub refill-requires-clause-row_set : goal.refill-requires-clause-row_set
 refill-requires-clause-row_set g c = let tag = c.has_tag.ensures.0 c.if-not-has_tag.false in

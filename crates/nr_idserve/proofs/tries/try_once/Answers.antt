@@ -11,12 +11,15 @@ returns-clause-rings g c =
     let posted = c.post_kept-posted in
     let went = c.go_on-missed in
     rings_both _ _ _ _ _ _ posted.ensures.rings
-    (subst (λ (poster : PosterSeen). RingsFor poster posted.new.lobby went.result.1.poster went.new.lobby) (ap (λ (hands : IdHands). hands.poster) c.find-found.ensures.rest) went.ensures.rings)
+    (subst (λ (poster : PosterSeen). RingsFor poster posted.new.lobby went.result.1.poster went.new.lobby)
+    (ap (λ (hands : IdHands). hands.poster) c.find-found.ensures.rest) went.ensures.rings)
 
 pub returns-clause-tries : goal.returns-clause-tries
 returns-clause-tries g c =
     let capacity = c.args.service.now.queue.capacity in
     let finds = c.find-found in
     let went = c.go_on-missed in
-    misses_once g.R.RowRoom.shows capacity c.args.id c.args.hands c.post_kept-posted.result finds.result.1 went.result.1 went.result.0 finds.result.0 c.args.rows.now finds.new.rows c.post_kept-posted.ensures.posts
-    (not_rows capacity c.args.id finds.result.0 finds.result.1 went.result.0 went.result.1 went.ensures.goes_on) finds.ensures.finds finds.ensures.rest went.ensures.goes_on
+    misses_once g.R.RowRoom.shows capacity c.args.id c.args.hands c.post_kept-posted.result finds.result.1 went.result.1
+    went.result.0 finds.result.0 c.args.rows.now finds.new.rows c.post_kept-posted.ensures.posts
+    (not_rows capacity c.args.id finds.result.0 finds.result.1 went.result.0 went.result.1 went.ensures.goes_on)
+    finds.ensures.finds finds.ensures.rest went.ensures.goes_on

@@ -4,7 +4,8 @@ use Rattle.nr_lines.proofs.output.write_all.Given as goal
 
 abbrev pub invariant-rest : goal.invariant-rest
 invariant-rest g l =
-    (sent : List ℕ) × (l.fn.bytes ≡ sent ++ l.rest) × Appends (g.W.Write.contents l.fn.writer) (g.W.Write.contents l.writer) sent
+    (sent : List ℕ) × (l.fn.bytes ≡ sent ++ l.rest)
+    × Appends (g.W.Write.contents l.fn.writer) (g.W.Write.contents l.writer) sent
 
 abbrev pub decreases-rest : goal.decreases-rest
 decreases-rest g l = length l.rest

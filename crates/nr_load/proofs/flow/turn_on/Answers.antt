@@ -14,7 +14,8 @@ turn_once-turned-requires-clause-base g c =
     ∙ rounds_long _ _ _ _ _ _ so_far.far.rounds ∙ ap (λ (t : Table). t.shape.keys) (sym (ready.only.map ∙ so_far.map))
 
 pub turn_once-turned-requires-clause-room : goal.turn_once-turned-requires-clause-room
-turn_once-turned-requires-clause-room g c = subst HasRoomForAll (sym (c.ready.ensures.only.map ∙ c.loop.invariant.map)) c.requires.room
+turn_once-turned-requires-clause-room g c =
+    subst HasRoomForAll (sym (c.ready.ensures.only.map ∙ c.loop.invariant.map)) c.requires.room
 
 pub loop-init : goal.loop-init
 loop-init g c = record {
@@ -31,8 +32,12 @@ loop-preserved g c =
     record {
       map = turned.ensures.places.0 ∙ ready.only.map ∙ so_far.map;
       none = turned.ensures.turns.none;
-      near = subst (λ (t : Table). AreBelow t.shape.keys c.ready.new.self.posts) (sym (turned.ensures.places.0 ∙ ready.only.map)) ready.near;
-      far = so_far_more c.args.flow.now c.loop.flow c.ready.new.flow turned.new.flow c.loop.under_way c.ready.new.self turned.result c.loop.fills turned.new.fills so_far.map so_far.far ready turned.ensures.turns
+      near =
+          subst (λ (t : Table). AreBelow t.shape.keys c.ready.new.self.posts)
+          (sym (turned.ensures.places.0 ∙ ready.only.map)) ready.near;
+      far =
+          so_far_more c.args.flow.now c.loop.flow c.ready.new.flow turned.new.flow c.loop.under_way c.ready.new.self
+          turned.result c.loop.fills turned.new.fills so_far.map so_far.far ready turned.ensures.turns
           (λ wrong. not_both c.is_last.result (c.is_last.ensures.wrong wrong) c.if-is_last.false);
       lobby = c.is_closed-is_closed.ensures.looks.later.lobby ∙ so_far.lobby;
     }
@@ -40,5 +45,6 @@ loop-preserved g c =
 pub returns-then-is_last : goal.returns-then-is_last
 returns-then-is_last g c =
     let so_far = c.loop.invariant in let turned = c.turn_once-turned in
-    turns_end c.args.flow.now c.loop.flow c.ready.new.flow turned.new.flow c.loop.under_way c.ready.new.self turned.result c.loop.fills turned.new.fills so_far.map so_far.far c.ready.ensures turned.ensures.turns
+    turns_end c.args.flow.now c.loop.flow c.ready.new.flow turned.new.flow c.loop.under_way c.ready.new.self
+    turned.result c.loop.fills turned.new.fills so_far.map so_far.far c.ready.ensures turned.ensures.turns
     c.fault_of.result c.fault_of.ensures (c.is_last.ensures.idle c.if-is_last.true)

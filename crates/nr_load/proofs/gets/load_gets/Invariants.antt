@@ -11,5 +11,6 @@ invariant-loop-made g l = record {
   lobby : l.guest.lobby ≡ l.fn.lobby;
   few : l.answered ≤ l.made;
   long : length l.known.items ≡ l.fn.draws.keys;
-  begun : Begins 1000000 l.fn.draws.keys l.made l.fn.draws.generator l.answered (replicate l.fn.draws.keys 0) l.fn.client.hands l.known.items l.client.hands l.draws.generator;
+  begun : Begins 1000000 l.fn.draws.keys l.made l.fn.draws.generator l.answered (replicate l.fn.draws.keys 0)
+      l.fn.client.hands l.known.items l.client.hands l.draws.generator;
 }

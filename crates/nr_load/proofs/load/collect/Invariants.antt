@@ -11,5 +11,6 @@ invariant-loop-outcome l = record {
   sends_are : l.sends + sends_in (into_iter_items l.outcome-iterator) ≡ sends_in (vec_items l.fn.outcomes);
   answered_are : l.answered + answered_in (into_iter_items l.outcome-iterator) ≡ answered_in (vec_items l.fn.outcomes);
   fault_is : earliest l.fault (into_iter_items l.outcome-iterator) ≡ earliest None (vec_items l.fn.outcomes);
-  gave : vec_items l.readers ++ map reader_of (into_iter_items l.outcome-iterator) ≡ map reader_of (vec_items l.fn.outcomes);
+  gave : vec_items l.readers ++ map reader_of (into_iter_items l.outcome-iterator)
+      ≡ map reader_of (vec_items l.fn.outcomes);
 }

@@ -14,9 +14,17 @@ serve_all-requires-clause-tokens g c κs within =
       taker = search rules;
       readers = search rules;
       posters = λ at other low.
-          let is = get_or_from_slice_get c.in-Ok-open-2.posters.items at _ other (tokens.posts at (omega (arith, low, tokens.count))) in (
-            ap (λ (poster : PosterSeen). poster.queue) is ∙ sym (ap (λ (service : ServiceSeen). service.queue.id) c.of.ensures),
-            omega (arith, ap (λ (poster : PosterSeen). poster.keys) is, keys, ap (λ (service : ServiceSeen). service.map.shape.keys) c.of.ensures),
+          let is
+          = get_or_from_slice_get c.in-Ok-open-2.posters.items at _ other
+          (tokens.posts at (omega (arith, low, tokens.count))) in (
+            ap (λ (poster : PosterSeen). poster.queue) is
+                ∙ sym (ap (λ (service : ServiceSeen). service.queue.id) c.of.ensures),
+            omega (
+              arith,
+              ap (λ (poster : PosterSeen). poster.keys) is,
+              keys,
+              ap (λ (service : ServiceSeen). service.map.shape.keys) c.of.ensures,
+            ),
           );
       count = search rules;
     }

@@ -9,15 +9,22 @@ pub returns : goal.returns
 returns c =
     let one = c.gather_all.ensures in let counted = c.count_asked-asked.ensures in let two = c.gather_all-2.ensures in
     let table : c.args.map.now ≡ c.args.writer.now.table = sym c.requires.own in
-    let tally = tallies c.rounds_tell_all.ensures c.entries_are_callers.ensures c.calls_stay.ensures c.args.writer.now c.gather_all.new.writer c.count_asked-asked.new.writer c.gather_all-2.new.writer
+    let tally
+    = tallies c.rounds_tell_all.ensures c.entries_are_callers.ensures c.calls_stay.ensures c.args.writer.now
+    c.gather_all.new.writer c.count_asked-asked.new.writer c.gather_all-2.new.writer
     c.args.readers.now c.gather_all.new.readers c.gather_all-2.new.readers c.count_asked-asked.result
-    one counted two c.requires.writer (subst (λ (t : Table). IsInOrder t.shape.readers c.args.readers.now) table c.requires.order) (subst (λ (t : Table). 0 < t.shape.readers) table c.requires.some) in
+    one counted two c.requires.writer
+    (subst (λ (t : Table). IsInOrder t.shape.readers c.args.readers.now) table c.requires.order)
+    (subst (λ (t : Table). 0 < t.shape.readers) table c.requires.some) in
     record {
       tally = tally;
       balances = balances c.sends_of_all_keys.ensures _ _ _ tally;
-      writer = stays_then _ c.count_asked-asked.new.writer _ (stays_then _ c.gather_all.new.writer _ one.stays counted.stays) two.stays;
+      writer =
+          stays_then _ c.count_asked-asked.new.writer _ (stays_then _ c.gather_all.new.writer _ one.stays counted.stays)
+          two.stays;
       readers = (
         two.count ∙ one.count,
-        λ at other low. stays_then _ (get_or c.gather_all.new.readers at other) _ (one.each at other low).stays (two.each at other (omega (arith, low, one.count))).stays,
+        λ at other low. stays_then _ (get_or c.gather_all.new.readers at other) _ (one.each at other low).stays
+            (two.each at other (omega (arith, low, one.count))).stays,
       );
     }

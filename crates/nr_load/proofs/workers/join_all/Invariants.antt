@@ -8,5 +8,6 @@ abbrev pub invariant-loop-handle : goal.invariant-loop-handle
 invariant-loop-handle g l = record {
   long : into_iter_len l.handle-iterator ≡ length (into_iter_items l.handle-iterator);
   room : vec_len l.outcomes + into_iter_len l.handle-iterator ≤ vec_capacity l.outcomes;
-  kept : (more : List Outcome) → KeptBy (into_iter_items l.handle-iterator) more → KeptBy (vec_items l.fn.handles) (vec_items l.outcomes ++ more);
+  kept : (more : List Outcome) → KeptBy (into_iter_items l.handle-iterator) more
+      → KeptBy (vec_items l.fn.handles) (vec_items l.outcomes ++ more);
 }

@@ -17,6 +17,7 @@ invariant-loop-reader g l = record {
   room : vec_len l.handles + into_iter_len l.reader-iterator ≤ vec_capacity l.handles;
   own : All (λ (reader : Caller). reader.table ≡ l.shared.service.map) (into_iter_items l.reader-iterator);
   queue : All (IsPosterOf l.shared.service.map l.shared.service.queue) (into_iter_items l.posters);
-  carries : (more : List (PromisedHandle Outcome Serving)) → CarriesFirst l.shared.plan.seed l.shared.plan.gets (into_iter_items l.reader-iterator) more
+  carries : (more : List (PromisedHandle Outcome Serving))
+      → CarriesFirst l.shared.plan.seed l.shared.plan.gets (into_iter_items l.reader-iterator) more
       → CarriesFirst l.shared.plan.seed l.shared.plan.gets (vec_items l.fn.readers) (vec_items l.handles ++ more);
 }

@@ -18,22 +18,50 @@ returns-clause-serves g c =
     let old = c.open-client.result.hands in
     let new = load.new.client.hands in
     let table : c.args.shared.now.service.map ≡ c.args.reader.table = sym c.requires.own in
-    let keys : c.open-draws.result.keys ≡ c.args.reader.table.shape.keys = c.open-draws.ensures.keys ∙ c.keys.ensures ∙ ap (λ (t : Table). t.shape.keys) (c.map.ensures ∙ table) in
-    let stream : c.open-draws.result.generator ≡ stream_of c.args.shared.now.plan.seed c.args.reader.number = c.open-draws.ensures.generator ∙ ap (stream_of c.args.shared.now.plan.seed) c.number.ensures.number in
-    let works : Works 1000000 c.args.reader.table.shape.keys load.result.0.made (replicate c.args.reader.table.shape.keys 0)
-    (stream_of c.args.shared.now.plan.seed c.args.reader.number) old load.new.draws.generator new load.result.0.answered (of_gets load.result.0.fault) =
-    subst (λ (k : ℕ). Works 1000000 k load.result.0.made (replicate k 0) (stream_of c.args.shared.now.plan.seed c.args.reader.number) old load.new.draws.generator new load.result.0.answered (of_gets load.result.0.fault)) keys
-    (subst (λ (x : Lcg). Works 1000000 c.open-draws.result.keys load.result.0.made (replicate c.open-draws.result.keys 0) x old load.new.draws.generator new load.result.0.answered (of_gets load.result.0.fault)) stream load.ensures.works) in
-    let some : 0 < c.args.reader.table.shape.keys = subst (λ (t : Table). 0 < t.shape.keys) table c.args.shared.now.keys.0 in
+    let keys : c.open-draws.result.keys ≡ c.args.reader.table.shape.keys
+    = c.open-draws.ensures.keys ∙ c.keys.ensures ∙ ap (λ (t : Table). t.shape.keys) (c.map.ensures ∙ table) in
+    let stream : c.open-draws.result.generator ≡ stream_of c.args.shared.now.plan.seed c.args.reader.number
+    = c.open-draws.ensures.generator ∙ ap (stream_of c.args.shared.now.plan.seed) c.number.ensures.number in
+    let works : Works 1000000 c.args.reader.table.shape.keys load.result.0.made
+    (replicate c.args.reader.table.shape.keys 0)
+    (stream_of c.args.shared.now.plan.seed c.args.reader.number) old load.new.draws.generator new load.result.0.answered
+    (of_gets load.result.0.fault) =
+    subst
+    (λ (k : ℕ). Works 1000000 k load.result.0.made (replicate k 0)
+    (stream_of c.args.shared.now.plan.seed c.args.reader.number) old load.new.draws.generator new
+    load.result.0.answered (of_gets load.result.0.fault))
+    keys
+    (subst
+    (λ (x : Lcg). Works 1000000 c.open-draws.result.keys load.result.0.made (replicate c.open-draws.result.keys 0) x
+    old load.new.draws.generator new load.result.0.answered (of_gets load.result.0.fault))
+    stream load.ensures.works) in
+    let some : 0 < c.args.reader.table.shape.keys
+    = subst (λ (t : Table). 0 < t.shape.keys) table c.args.shared.now.keys.0 in
     let first : old.reader ≡ c.args.reader = ap (λ (hands : Hands). hands.reader) c.open-client.ensures.hands in
     let few = works_few 1000000 _ load.result.0.made _ _ _ _ old new _ some works in
-    let gained : Gained c.args.reader.table.shape.keys c.args.reader new.reader few.count 0 = subst (λ (r : Caller). Gained c.args.reader.table.shape.keys r new.reader few.count 0) first few.gained in
-    let opened : load.new.client.opened.reader ≡ c.args.reader = ap (λ (hands : Hands). hands.reader) (load.ensures.places.2 ∙ c.open-client.ensures.opened) ∙ first in
-    let counted : length (sent (since load.new.client.opened new)) ≡ few.count = ap (λ (r : Caller). length (sent (drop (length r.mine) new.reader.mine))) opened ∙ since_gained _ c.args.reader new.reader few.count 0 gained in
-    let sends : c.sends-sends.result ≡ few.count = omega (arith, c.sends-sends.ensures, counted, few.low, load.ensures.few.0, c.args.shared.now.gets) in
+    let gained : Gained c.args.reader.table.shape.keys c.args.reader new.reader few.count 0
+    = subst (λ (r : Caller). Gained c.args.reader.table.shape.keys r new.reader few.count 0) first few.gained in
+    let opened : load.new.client.opened.reader ≡ c.args.reader
+    = ap (λ (hands : Hands). hands.reader) (load.ensures.places.2 ∙ c.open-client.ensures.opened) ∙ first in
+    let counted : length (sent (since load.new.client.opened new)) ≡ few.count
+    = ap (λ (r : Caller). length (sent (drop (length r.mine) new.reader.mine))) opened
+    ∙ since_gained _ c.args.reader new.reader few.count 0 gained in
+    let sends : c.sends-sends.result ≡ few.count
+    = omega (arith, c.sends-sends.ensures, counted, few.low, load.ensures.few.0, c.args.shared.now.gets) in
     record {
-      works = record { old = old; new = new; begins = first; empty = ap (λ (hands : Hands). hands.kept) c.open-client.ensures.hands; ends = sym c.end-reader.ensures.reader; generator = load.new.draws.generator; works = works };
-      gained = subst (λ (r : Caller). Gained c.args.reader.table.shape.keys c.args.reader r c.sends-sends.result 0) (sym c.end-reader.ensures.reader)
+      works =
+          record {
+            old = old;
+            new = new;
+            begins = first;
+            empty = ap (λ (hands : Hands). hands.kept) c.open-client.ensures.hands;
+            ends = sym c.end-reader.ensures.reader;
+            generator = load.new.draws.generator;
+            works = works;
+          };
+      gained =
+          subst (λ (r : Caller). Gained c.args.reader.table.shape.keys c.args.reader r c.sends-sends.result 0)
+          (sym c.end-reader.ensures.reader)
           (subst (λ (n : ℕ). Gained c.args.reader.table.shape.keys c.args.reader new.reader n 0) (sym sends) gained);
       few = omega (arith, sends, few.low, load.ensures.few.0);
       made = load.ensures.few.0;

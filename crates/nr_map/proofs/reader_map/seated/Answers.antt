@@ -10,7 +10,15 @@ pub returns : goal.returns
 returns c = let board = c.in_ok-board.board in let seated = c.in_ok-readers.ensures in record {
   sizes = c.in_ok-board.ensures.board.0;
   words_are = c.in_ok-board.ensures.board.1;
-  writes = c.in_ok-writer.ensures ∙ (λ j. caller_of (seated.own j) (seated.view j)) ∙ ap (λ (s : Shape). record (newcomer board 0 (opening_marks s)) { numbers = replicate s.keys s.first_number; heard = replicate s.slots 0 }) c.in_ok-board.ensures.board.0;
+  writes =
+      c.in_ok-writer.ensures ∙ (λ j. caller_of (seated.own j) (seated.view j))
+      ∙ ap
+      (λ (s : Shape).
+      record (newcomer board 0 (opening_marks s)) {
+        numbers = replicate s.keys s.first_number;
+        heard = replicate s.slots 0;
+      })
+      c.in_ok-board.ensures.board.0;
   count = seated.count;
   reads = seated.reads;
   own = all_own board c.in_ok-readers.readers.items (λ place low. seated.reads place (omega (arith, seated.count)));

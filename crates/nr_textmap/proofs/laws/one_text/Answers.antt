@@ -9,5 +9,7 @@ use Rattle.nr_textmap.proofs.laws.one_text.Goals as goal
 pub returns : goal.returns
 returns c = λ keys bound number history text twin rows others is are same legal tidy here there.
     one_spelled text twin rows others is are
-    (c.one_set.ensures keys bound number history text.id here.0 there.0 (text_rows text ++ rows) (text_rows twin ++ others) legal tidy here.1
-    (subst (λ (id : ℕ). KeepsId (after (opening keys (suc bound) number) history) there.0 id (text_rows twin ++ others)) (sym same) there.1)).1
+    (c.one_set.ensures keys bound number history text.id here.0 there.0 (text_rows text ++ rows)
+    (text_rows twin ++ others) legal tidy here.1
+    (subst (λ (id : ℕ). KeepsId (after (opening keys (suc bound) number) history) there.0 id (text_rows twin ++ others))
+    (sym same) there.1)).1

@@ -18,22 +18,51 @@ find_at-requires-clause-key c =
 
 pub invariant_of-self-2 : goal.invariant_of-self-2
 invariant_of-self-2 c =
-    let map = c.self.inside.map in let w0 = c.self.inside.writer in let tokens = c.self.inside.tokens in let at = c.args.at in
-    let w' = c.gather_round.new.writer in let tokens' = c.gather_round.new.tokens in let items = c.as_mut_slice.ensures.value in
-    let old = c.index_mut.result.now in let x = c.find_at.new.token in let call = model.Find c.args.key in let answer = c.in_ok-answer.answer in
-    let g = round_after_note map w0 tokens at x w' tokens' _ items _ _ answer c.in_ok-answer.was c.find_at.ensures.writer c.gather_round.ensures in
+    let map = c.self.inside.map in
+    let w0 = c.self.inside.writer in
+    let tokens = c.self.inside.tokens in
+    let at = c.args.at in
+    let w' = c.gather_round.new.writer in
+    let tokens' = c.gather_round.new.tokens in
+    let items = c.as_mut_slice.ensures.value in
+    let old = c.index_mut.result.now in
+    let x = c.find_at.new.token in
+    let call = model.Find c.args.key in
+    let answer = c.in_ok-answer.answer in
+    let g
+    = round_after_note map w0 tokens at x w' tokens' _ items _ _ answer c.in_ok-answer.was c.find_at.ensures.writer
+    c.gather_round.ensures in
     let low = place_here map w0 tokens at _ c.self.view_is c.requires.reader in
-    let made : MakesCall c.self.inside.writer.seen call old x (Ok answer) = subst (λ (r : Result Answer PinRefusal). MakesCall c.self.inside.writer.seen call old x r) c.in_ok-answer.was c.find_at.ensures.made in
-    let said = says_call c.laws.ensures map w0 tokens.items c.self.invariant at old x low c.index_mut.ensures.value w' tokens' g c.self.inside.writer.seen call answer made in
+    let made : MakesCall c.self.inside.writer.seen call old x (Ok answer)
+    = subst (λ (r : Result Answer PinRefusal). MakesCall c.self.inside.writer.seen call old x r) c.in_ok-answer.was
+    c.find_at.ensures.made in
+    let said
+    = says_call c.laws.ensures map w0 tokens.items c.self.invariant at old x low c.index_mut.ensures.value w'
+    tokens' g c.self.inside.writer.seen call answer made in
     alone_here map w0 tokens at x w' tokens' _ items c.as_mut_slice.ensures.len g said.0
 
 pub returns : goal.returns
 returns c =
-    let map = c.self.inside.map in let w0 = c.self.inside.writer in let tokens = c.self.inside.tokens in let at = c.args.at in
-    let w' = c.gather_round.new.writer in let tokens' = c.gather_round.new.tokens in let items = c.as_mut_slice.ensures.value in
-    let old = c.index_mut.result.now in let x = c.find_at.new.token in let call = model.Find c.args.key in let answer = c.in_ok-answer.answer in
-    let g = round_after_note map w0 tokens at x w' tokens' _ items _ _ answer c.in_ok-answer.was c.find_at.ensures.writer c.gather_round.ensures in
+    let map = c.self.inside.map in
+    let w0 = c.self.inside.writer in
+    let tokens = c.self.inside.tokens in
+    let at = c.args.at in
+    let w' = c.gather_round.new.writer in
+    let tokens' = c.gather_round.new.tokens in
+    let items = c.as_mut_slice.ensures.value in
+    let old = c.index_mut.result.now in
+    let x = c.find_at.new.token in
+    let call = model.Find c.args.key in
+    let answer = c.in_ok-answer.answer in
+    let g
+    = round_after_note map w0 tokens at x w' tokens' _ items _ _ answer c.in_ok-answer.was c.find_at.ensures.writer
+    c.gather_round.ensures in
     let low = place_here map w0 tokens at _ c.self.view_is c.requires.reader in
-    let made : MakesCall c.self.inside.writer.seen call old x (Ok answer) = subst (λ (r : Result Answer PinRefusal). MakesCall c.self.inside.writer.seen call old x r) c.in_ok-answer.was c.find_at.ensures.made in
-    let said = says_call c.laws.ensures map w0 tokens.items c.self.invariant at old x low c.index_mut.ensures.value w' tokens' g c.self.inside.writer.seen call answer made in
-    answers_here map w0 tokens at x w' tokens' _ items c.as_mut_slice.ensures.len g (λ (s : MapState). answer_of_reader s at call) _ answer c.self.view_is said.1
+    let made : MakesCall c.self.inside.writer.seen call old x (Ok answer)
+    = subst (λ (r : Result Answer PinRefusal). MakesCall c.self.inside.writer.seen call old x r) c.in_ok-answer.was
+    c.find_at.ensures.made in
+    let said
+    = says_call c.laws.ensures map w0 tokens.items c.self.invariant at old x low c.index_mut.ensures.value w'
+    tokens' g c.self.inside.writer.seen call answer made in
+    answers_here map w0 tokens at x w' tokens' _ items c.as_mut_slice.ensures.len g
+    (λ (s : MapState). answer_of_reader s at call) _ answer c.self.view_is said.1

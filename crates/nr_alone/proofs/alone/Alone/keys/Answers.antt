@@ -6,4 +6,7 @@ use Rattle.nr_alone.proofs.Sizes.{keys_are}
 use Rattle.nr_alone.proofs.alone.Alone.keys.Goals as goal
 
 pub returns : goal.returns
-returns c = let inside = c.self.inside in c.keys.ensures ∙ sym (keys_are inside.map (log_of inside.writer inside.tokens.items)) ∙ ap (λ (s : MapState). key_count s.map) c.self.view_is
+returns c =
+    let inside = c.self.inside in
+    c.keys.ensures ∙ sym (keys_are inside.map (log_of inside.writer inside.tokens.items))
+    ∙ ap (λ (s : MapState). key_count s.map) c.self.view_is

@@ -17,26 +17,51 @@ pin_at-requires-clause-key c =
 
 pub invariant_of-self-2 : goal.invariant_of-self-2
 invariant_of-self-2 c =
-    let map = c.self.inside.map in let w0 = c.self.inside.writer in let tokens = c.self.inside.tokens in let at = c.args.at in
-    let w' = c.gather_round.new.writer in let tokens' = c.gather_round.new.tokens in let items = c.as_mut_slice.ensures.value in
+    let map = c.self.inside.map in
+    let w0 = c.self.inside.writer in
+    let tokens = c.self.inside.tokens in
+    let at = c.args.at in
+    let w' = c.gather_round.new.writer in
+    let tokens' = c.gather_round.new.tokens in
+    let items = c.as_mut_slice.ensures.value in
     let old = c.index_mut.result.now in let x = c.pin_at.new.token in let answer = c.in_ok-answer.answer in
-    let g = round_after_note map w0 tokens at x w' tokens' _ items _ _ answer c.in_ok-answer.was c.pin_at.ensures.writer c.gather_round.ensures in
+    let g
+    = round_after_note map w0 tokens at x w' tokens' _ items _ _ answer c.in_ok-answer.was c.pin_at.ensures.writer
+    c.gather_round.ensures in
     let low = place_here map w0 tokens at _ c.self.view_is c.requires.reader in
-    let made : MakesPin c.self.inside.writer.seen c.args.key old x (Ok answer) = subst (λ (r : Result Answer PinRefusal). MakesPin c.self.inside.writer.seen c.args.key old x r) c.in_ok-answer.was c.pin_at.ensures.made in
+    let made : MakesPin c.self.inside.writer.seen c.args.key old x (Ok answer)
+    = subst (λ (r : Result Answer PinRefusal). MakesPin c.self.inside.writer.seen c.args.key old x r)
+    c.in_ok-answer.was c.pin_at.ensures.made in
     let near : c.args.key < map.shape.keys =
-    let low_key = subst (λ (s : MapState). c.args.key < key_count s.map) (sym c.self.view_is) c.requires.key in omega (arith, low_key, keys_are map (log_of w0 tokens.items)) in
-    let said = says_pin c.laws.ensures map w0 tokens.items c.self.invariant at old x low c.index_mut.ensures.value w' tokens' g c.self.inside.writer.seen c.args.key answer near made in
+    let low_key = subst (λ (s : MapState). c.args.key < key_count s.map) (sym c.self.view_is) c.requires.key in
+    omega (arith, low_key, keys_are map (log_of w0 tokens.items)) in
+    let said
+    = says_pin c.laws.ensures map w0 tokens.items c.self.invariant at old x low c.index_mut.ensures.value w' tokens'
+    g c.self.inside.writer.seen c.args.key answer near made in
     alone_here map w0 tokens at x w' tokens' _ items c.as_mut_slice.ensures.len g said.0
 
 pub returns : goal.returns
 returns c =
-    let map = c.self.inside.map in let w0 = c.self.inside.writer in let tokens = c.self.inside.tokens in let at = c.args.at in
-    let w' = c.gather_round.new.writer in let tokens' = c.gather_round.new.tokens in let items = c.as_mut_slice.ensures.value in
+    let map = c.self.inside.map in
+    let w0 = c.self.inside.writer in
+    let tokens = c.self.inside.tokens in
+    let at = c.args.at in
+    let w' = c.gather_round.new.writer in
+    let tokens' = c.gather_round.new.tokens in
+    let items = c.as_mut_slice.ensures.value in
     let old = c.index_mut.result.now in let x = c.pin_at.new.token in let answer = c.in_ok-answer.answer in
-    let g = round_after_note map w0 tokens at x w' tokens' _ items _ _ answer c.in_ok-answer.was c.pin_at.ensures.writer c.gather_round.ensures in
+    let g
+    = round_after_note map w0 tokens at x w' tokens' _ items _ _ answer c.in_ok-answer.was c.pin_at.ensures.writer
+    c.gather_round.ensures in
     let low = place_here map w0 tokens at _ c.self.view_is c.requires.reader in
-    let made : MakesPin c.self.inside.writer.seen c.args.key old x (Ok answer) = subst (λ (r : Result Answer PinRefusal). MakesPin c.self.inside.writer.seen c.args.key old x r) c.in_ok-answer.was c.pin_at.ensures.made in
+    let made : MakesPin c.self.inside.writer.seen c.args.key old x (Ok answer)
+    = subst (λ (r : Result Answer PinRefusal). MakesPin c.self.inside.writer.seen c.args.key old x r)
+    c.in_ok-answer.was c.pin_at.ensures.made in
     let near : c.args.key < map.shape.keys =
-    let low_key = subst (λ (s : MapState). c.args.key < key_count s.map) (sym c.self.view_is) c.requires.key in omega (arith, low_key, keys_are map (log_of w0 tokens.items)) in
-    let said = says_pin c.laws.ensures map w0 tokens.items c.self.invariant at old x low c.index_mut.ensures.value w' tokens' g c.self.inside.writer.seen c.args.key answer near made in
-    answers_here map w0 tokens at x w' tokens' _ items c.as_mut_slice.ensures.len g (λ (s : MapState). answer_pinning s at c.args.key (state_of s.map c.args.key)) _ answer c.self.view_is said.1
+    let low_key = subst (λ (s : MapState). c.args.key < key_count s.map) (sym c.self.view_is) c.requires.key in
+    omega (arith, low_key, keys_are map (log_of w0 tokens.items)) in
+    let said
+    = says_pin c.laws.ensures map w0 tokens.items c.self.invariant at old x low c.index_mut.ensures.value w' tokens'
+    g c.self.inside.writer.seen c.args.key answer near made in
+    answers_here map w0 tokens at x w' tokens' _ items c.as_mut_slice.ensures.len g
+    (λ (s : MapState). answer_pinning s at c.args.key (state_of s.map c.args.key)) _ answer c.self.view_is said.1

@@ -9,22 +9,39 @@ use Rattle.nr_alone.proofs.alone.Alone.show.Goals as goal
 
 pub invariant_of-self-2 : goal.invariant_of-self-2
 invariant_of-self-2 c =
-    let map = c.self.inside.map in let w0 = c.self.inside.writer in let tokens = c.self.inside.tokens in let at = c.args.at in
-    let w' = c.gather_round.new.writer in let tokens' = c.gather_round.new.tokens in let items = c.as_mut_slice.ensures.value in
+    let map = c.self.inside.map in
+    let w0 = c.self.inside.writer in
+    let tokens = c.self.inside.tokens in
+    let at = c.args.at in
+    let w' = c.gather_round.new.writer in
+    let tokens' = c.gather_round.new.tokens in
+    let items = c.as_mut_slice.ensures.value in
     let old = c.index_mut.result.now in let x = c.show_at.new.token in let answer = c.in_ok-answer.answer in
     let g = round_here map w0 tokens at x w' tokens' _ items _ refl c.gather_round.ensures in
     let low = place_here map w0 tokens at _ c.self.view_is c.requires in
-    let made : ShowsPin old x (Ok answer) = subst (λ (r : Result Answer PinRefusal). ShowsPin old x r) c.in_ok-answer.was c.show_at.ensures in
-    let said = says_show c.laws.ensures map w0 tokens.items c.self.invariant at old x low c.index_mut.ensures.value w' tokens' g answer made in
+    let made : ShowsPin old x (Ok answer)
+    = subst (λ (r : Result Answer PinRefusal). ShowsPin old x r) c.in_ok-answer.was c.show_at.ensures in
+    let said
+    = says_show c.laws.ensures map w0 tokens.items c.self.invariant at old x low c.index_mut.ensures.value w'
+    tokens' g answer made in
     alone_here map w0 tokens at x w' tokens' _ items c.as_mut_slice.ensures.len g said.0
 
 pub returns : goal.returns
 returns c =
-    let map = c.self.inside.map in let w0 = c.self.inside.writer in let tokens = c.self.inside.tokens in let at = c.args.at in
-    let w' = c.gather_round.new.writer in let tokens' = c.gather_round.new.tokens in let items = c.as_mut_slice.ensures.value in
+    let map = c.self.inside.map in
+    let w0 = c.self.inside.writer in
+    let tokens = c.self.inside.tokens in
+    let at = c.args.at in
+    let w' = c.gather_round.new.writer in
+    let tokens' = c.gather_round.new.tokens in
+    let items = c.as_mut_slice.ensures.value in
     let old = c.index_mut.result.now in let x = c.show_at.new.token in let answer = c.in_ok-answer.answer in
     let g = round_here map w0 tokens at x w' tokens' _ items _ refl c.gather_round.ensures in
     let low = place_here map w0 tokens at _ c.self.view_is c.requires in
-    let made : ShowsPin old x (Ok answer) = subst (λ (r : Result Answer PinRefusal). ShowsPin old x r) c.in_ok-answer.was c.show_at.ensures in
-    let said = says_show c.laws.ensures map w0 tokens.items c.self.invariant at old x low c.index_mut.ensures.value w' tokens' g answer made in
-    answers_here map w0 tokens at x w' tokens' _ items c.as_mut_slice.ensures.len g (λ (s : MapState). answer_show s at) _ answer c.self.view_is said.1
+    let made : ShowsPin old x (Ok answer)
+    = subst (λ (r : Result Answer PinRefusal). ShowsPin old x r) c.in_ok-answer.was c.show_at.ensures in
+    let said
+    = says_show c.laws.ensures map w0 tokens.items c.self.invariant at old x low c.index_mut.ensures.value w'
+    tokens' g answer made in
+    answers_here map w0 tokens at x w' tokens' _ items c.as_mut_slice.ensures.len g (λ (s : MapState). answer_show s at)
+    _ answer c.self.view_is said.1

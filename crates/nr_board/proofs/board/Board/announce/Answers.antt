@@ -10,18 +10,40 @@ use Rattle.nr_board.specs.WordPlays.{has_said}
 use Rattle.nr_board.proofs.board.Board.announce.Goals as goal
 
 pub swap-requires : goal.swap-requires
-swap-requires c = let shared = c.self.inside.table.shared in let board = stands c.self.view_is c.self.invariant in let seat = c.args.seat.now in let n : ℕ = shared.table_id.slots in
-    let says : ℕ = c.args.slot + 1 in let word = c.requires.word.within in let within : c.args.own.index < c.args.self.now.announcers = omega (arith, ap (λ (t : Table). t.announcers) c.requires.own) in let is = c.requires.place within in let shape_is = ap (λ (t : Table). t.shape) c.requires.own in (
+swap-requires c =
+    let shared = c.self.inside.table.shared in
+    let board = stands c.self.view_is c.self.invariant in
+    let seat = c.args.seat.now in
+    let n : ℕ = shared.table_id.slots in
+    let says : ℕ = c.args.slot + 1 in
+    let word = c.requires.word.within in
+    let within : c.args.own.index < c.args.self.now.announcers
+    = omega (arith, ap (λ (t : Table). t.announcers) c.requires.own) in
+    let is = c.requires.place within in
+    let shape_is = ap (λ (t : Table). t.shape) c.requires.own in (
       ap (λ (t : Table). t.id) (c.requires.own ∙ sym c.self.view_is),
       said_in board c.args.own.index within is,
-      subst (λ (at : ℕ). Allows (Kept shared.key.shape) n seat.id seat.me at (λ _. says) (has_said (step n at says 0 none) seat.me)) (sym (said_at board c.args.own.index is))
-          (says_so shared.key.shape n seat.id c.args.own.index says seat.me c.requires.word (shape_is ∙ sym board.key_is) (holds_by_word c.args.self.now.shape shared.key.shape seat.me.0 (sym board.key_is) c.requires.free)),
+      subst
+          (λ (at : ℕ). Allows (Kept shared.key.shape) n seat.id seat.me at (λ _. says)
+          (has_said (step n at says 0 none) seat.me))
+          (sym (said_at board c.args.own.index is))
+          (says_so shared.key.shape n seat.id c.args.own.index says seat.me c.requires.word
+          (shape_is ∙ sym board.key_is)
+          (holds_by_word c.args.self.now.shape shared.key.shape seat.me.0 (sym board.key_is) c.requires.free)),
     )
 
 pub returns : goal.returns
-returns c = let before = c.args.seat.now in let after = c.swap.new.seat in let same = c.swap.ensures.0 in let told = c.swap.ensures.2 in let map = c.args.self.now in let says : ℕ = c.args.slot + 1 in let next : says ≡ suc c.args.slot = omega arith in record {
-  says = said_announces map before after same c.args.slot says c.requires.own next told;
-  word = said_word map before after same c.args.own.index says c.requires.word told;
-  rests = said_rests map before after same says told;
-  marks = told.marks;
-}
+returns c =
+    let before = c.args.seat.now in
+    let after = c.swap.new.seat in
+    let same = c.swap.ensures.0 in
+    let told = c.swap.ensures.2 in
+    let map = c.args.self.now in
+    let says : ℕ = c.args.slot + 1 in
+    let next : says ≡ suc c.args.slot = omega arith in
+    record {
+      says = said_announces map before after same c.args.slot says c.requires.own next told;
+      word = said_word map before after same c.args.own.index says c.requires.word told;
+      rests = said_rests map before after same says told;
+      marks = told.marks;
+    }

@@ -10,15 +10,26 @@ use Rattle.nr_board.specs.Spares.{desk_with}
 use Rattle.nr_board.proofs.board.Board.begin_replace.Goals as goal
 
 pub look-requires-clause-given : goal.look-requires-clause-given
-look-requires-clause-given g c = subst (λ (call : WriterCall). IsGivenCall (bound_of c.args.self.now.shape) call) (sym c.requires.call) c.requires.row_set
+look-requires-clause-given g c =
+    subst (λ (call : WriterCall). IsGivenCall (bound_of c.args.self.now.shape) call) (sym c.requires.call)
+    c.requires.row_set
 
 pub returns-then-not-parts : goal.returns-then-not-parts
 returns-then-not-parts g c =
-    let looks = has_looked {before = c.args.seat.now} refl c.requires.own c.requires.rests c.requires.call c.look.ensures.leads c.look.ensures.marks c.look.ensures.heard in
-    let told = look_ends looks reply.Dropped (replace_dropped c.args.self.now.shape (desk_with c.args.spare.now Idle) c.args.key c.look.result c.args.rows.now (is_empty c.look.result c.parts.ensures.parts c.if-not-parts.true)) in
+    let looks
+    = has_looked {before = c.args.seat.now} refl c.requires.own c.requires.rests c.requires.call
+    c.look.ensures.leads c.look.ensures.marks c.look.ensures.heard in
+    let told
+    = look_ends looks reply.Dropped
+    (replace_dropped c.args.self.now.shape (desk_with c.args.spare.now Idle) c.args.key c.look.result
+    c.args.rows.now (is_empty c.look.result c.parts.ensures.parts c.if-not-parts.true)) in
     (told.0, told.1, told.1.1.2)
 
 pub returns : goal.returns
 returns g c =
-    let looks = has_looked {before = c.args.seat.now} refl c.requires.own c.requires.rests c.requires.call c.look.ensures.leads c.look.ensures.marks c.look.ensures.heard in
-    look_settles looks (replace_settles c.args.self.now.shape (desk_with c.args.spare.now Idle) c.args.key c.look.result c.args.rows.now (is_full c.look.result c.parts.ensures.parts c.if-not-parts.false))
+    let looks
+    = has_looked {before = c.args.seat.now} refl c.requires.own c.requires.rests c.requires.call
+    c.look.ensures.leads c.look.ensures.marks c.look.ensures.heard in
+    look_settles looks
+    (replace_settles c.args.self.now.shape (desk_with c.args.spare.now Idle) c.args.key c.look.result
+    c.args.rows.now (is_full c.look.result c.parts.ensures.parts c.if-not-parts.false))

@@ -14,44 +14,77 @@ use Rattle.nr_board.proofs.board.Board.begin_update.Goals as goal
 
 pub returns-then-not-found : goal.returns-then-not-found
 returns-then-not-found g c =
-    let looks = has_looked {before = c.args.seat.now} refl c.requires.own c.requires.rests c.requires.call c.look.ensures.leads c.look.ensures.marks c.look.ensures.heard in
-    let told = look_ends looks reply.Dropped (update_dropped c.args.self.now.shape (desk_with c.args.spare.now Idle) c.args.key c.look.result c.args.deltas.now (is_empty c.look.result c.parts-found.ensures.parts c.if-not-found.true)) in
+    let looks
+    = has_looked {before = c.args.seat.now} refl c.requires.own c.requires.rests c.requires.call
+    c.look.ensures.leads c.look.ensures.marks c.look.ensures.heard in
+    let told
+    = look_ends looks reply.Dropped
+    (update_dropped c.args.self.now.shape (desk_with c.args.spare.now Idle) c.args.key c.look.result
+    c.args.deltas.now (is_empty c.look.result c.parts-found.ensures.parts c.if-not-found.true)) in
     (told.0, told.1, told.1.1.2)
 
 pub read_set-requires : goal.read_set-requires
 read_set-requires g c =
-    let looks = has_looked {before = c.args.seat.now} refl c.requires.own c.requires.rests c.requires.call c.look.ensures.leads c.look.ensures.marks c.look.ensures.heard in
+    let looks
+    = has_looked {before = c.args.seat.now} refl c.requires.own c.requires.rests c.requires.call
+    c.look.ensures.leads c.look.ensures.marks c.look.ensures.heard in
     let full = is_full c.look.result c.parts-found.ensures.parts c.if-not-found.false in
     let desk = desk_with c.args.spare.now Idle in
-    let reads = about_to_read looks (update_reads c.args.self.now.shape desk c.args.key c.look.result c.args.deltas.now full) c.requires.call (slot_so c.look.result c.parts-found.ensures.parts) in
-    record { writer = reads.0; slot = reads.1; key = subst (λ (call : WriterCall). key_of call < c.args.self.now.shape.keys) (sym c.requires.call) c.requires.key }
+    let reads
+    = about_to_read looks (update_reads c.args.self.now.shape desk c.args.key c.look.result c.args.deltas.now full)
+    c.requires.call (slot_so c.look.result c.parts-found.ensures.parts) in
+    record {
+      writer = reads.0;
+      slot = reads.1;
+      key = subst (λ (call : WriterCall). key_of call < c.args.self.now.shape.keys) (sym c.requires.call)
+          c.requires.key;
+    }
 
 pub returns-in-Err-NoRow : goal.returns-in-Err-NoRow
 returns-in-Err-NoRow g c =
-    let looks = has_looked {before = c.args.seat.now} refl c.requires.own c.requires.rests c.requires.call c.look.ensures.leads c.look.ensures.marks c.look.ensures.heard in
+    let looks
+    = has_looked {before = c.args.seat.now} refl c.requires.own c.requires.rests c.requires.call
+    c.look.ensures.leads c.look.ensures.marks c.look.ensures.heard in
     let full = is_full c.look.result c.parts-found.ensures.parts c.if-not-found.false in
     let desk = desk_with c.args.spare.now Idle in
-    let read = has_read looks (update_reads c.args.self.now.shape desk c.args.key c.look.result c.args.deltas.now full) c.requires.call (reads_set c.read_set.ensures) in
+    let read
+    = has_read looks (update_reads c.args.self.now.shape desk c.args.key c.look.result c.args.deltas.now full)
+    c.requires.call (reads_set c.read_set.ensures) in
     let is : applied (bound_of c.args.self.now.shape) c.read_set.new.rows c.args.deltas.now ≡ Err fault.NoRow =
-    ap (λ (bound : ℕ). applied bound c.read_set.new.rows c.args.deltas.now) (sym c.rows.ensures.value) ∙ c.in-Err-NoRow.ensures.fault ∙ ap Err c.in-Err-NoRow.field-0-is in
+    ap (λ (bound : ℕ). applied bound c.read_set.new.rows c.args.deltas.now) (sym c.rows.ensures.value)
+    ∙ c.in-Err-NoRow.ensures.fault ∙ ap Err c.in-Err-NoRow.field-0-is in
     let told = has_refused read fault.NoRow is in
     (told.0, (c.read_set.new.rows, is, told.1.0, told.1.1, told.1.2), told.1.2.2)
 
 pub returns-in-Err-TooMany : goal.returns-in-Err-TooMany
 returns-in-Err-TooMany g c =
-    let looks = has_looked {before = c.args.seat.now} refl c.requires.own c.requires.rests c.requires.call c.look.ensures.leads c.look.ensures.marks c.look.ensures.heard in
+    let looks
+    = has_looked {before = c.args.seat.now} refl c.requires.own c.requires.rests c.requires.call
+    c.look.ensures.leads c.look.ensures.marks c.look.ensures.heard in
     let full = is_full c.look.result c.parts-found.ensures.parts c.if-not-found.false in
     let desk = desk_with c.args.spare.now Idle in
-    let read = has_read looks (update_reads c.args.self.now.shape desk c.args.key c.look.result c.args.deltas.now full) c.requires.call (reads_set c.read_set.ensures) in
+    let read
+    = has_read looks (update_reads c.args.self.now.shape desk c.args.key c.look.result c.args.deltas.now full)
+    c.requires.call (reads_set c.read_set.ensures) in
     let is : applied (bound_of c.args.self.now.shape) c.read_set.new.rows c.args.deltas.now ≡ Err fault.TooMany =
-    ap (λ (bound : ℕ). applied bound c.read_set.new.rows c.args.deltas.now) (sym c.rows.ensures.value) ∙ c.in-Err-TooMany.ensures.fault ∙ ap Err c.in-Err-TooMany.field-0-is in
+    ap (λ (bound : ℕ). applied bound c.read_set.new.rows c.args.deltas.now) (sym c.rows.ensures.value)
+    ∙ c.in-Err-TooMany.ensures.fault ∙ ap Err c.in-Err-TooMany.field-0-is in
     let told = has_refused read fault.TooMany is in
     (told.0, (c.read_set.new.rows, is, told.1.0, told.1.1, told.1.2), told.1.2.2)
 
 pub returns-in-Ok : goal.returns-in-Ok
 returns-in-Ok g c =
-    let looks = has_looked {before = c.args.seat.now} refl c.requires.own c.requires.rests c.requires.call c.look.ensures.leads c.look.ensures.marks c.look.ensures.heard in
+    let looks
+    = has_looked {before = c.args.seat.now} refl c.requires.own c.requires.rests c.requires.call
+    c.look.ensures.leads c.look.ensures.marks c.look.ensures.heard in
     let full = is_full c.look.result c.parts-found.ensures.parts c.if-not-found.false in
     let desk = desk_with c.args.spare.now Idle in
-    let read = has_read looks (update_reads c.args.self.now.shape desk c.args.key c.look.result c.args.deltas.now full) c.requires.call (reads_set c.read_set.ensures) in
-    (_, c.read_set.new.rows, read, ap (λ (bound : ℕ). applied bound c.read_set.new.rows c.args.deltas.now) (sym c.rows.ensures.value) ∙ c.in-Ok.ensures.ok)
+    let read
+    = has_read looks (update_reads c.args.self.now.shape desk c.args.key c.look.result c.args.deltas.now full)
+    c.requires.call (reads_set c.read_set.ensures) in (
+      _,
+      c.read_set.new.rows,
+      read,
+      ap (λ (bound : ℕ). applied bound c.read_set.new.rows c.args.deltas.now) (sym c.rows.ensures.value)
+          ∙ c.in-Ok.ensures.ok,
+    )

@@ -1,25 +1,50 @@
 use Rattle.std.proofs.Common.{ap, arith, sym, ◌∙◌, ◌<◌}
 use Rattle.nr_machine.specs.declared.shape.Shape.{Shape}
 use Rattle.nr_board.proofs.BoardPlaces.{key_in, stands}
-use Rattle.nr_board.proofs.WordSeats.{confirmed_held, confirmed_marks, confirmed_not_yet, confirmed_other, confirmed_says, confirmed_word, looked_announces, looked_hole, looked_named, names_empty_not}
+use Rattle.nr_board.proofs.WordSeats.{confirmed_held, confirmed_marks, confirmed_not_yet, confirmed_other}
+use Rattle.nr_board.proofs.WordSeats.{confirmed_says, confirmed_word, looked_announces, looked_hole, looked_named}
+use Rattle.nr_board.proofs.WordSeats.{names_empty_not}
 use Rattle.nr_board.proofs.WordSteps.{confirms_so}
 use Rattle.nr_board.specs.Callers.{Table}
 use Rattle.nr_board.proofs.board.Board.confirm.Goals as goal
 
 pub load-requires : goal.load-requires
-load-requires c = let shared = c.self.inside.table.shared in let board = stands c.self.view_is c.self.invariant in let seat = c.args.seat.now in let reader = c.requires.reader in
-    let near : c.args.key < shared.key.shape.keys = omega (arith, c.requires.key, ap (λ (s : Shape). s.keys) board.key_is) in let says = reader.says in (
+load-requires c =
+    let shared = c.self.inside.table.shared in
+    let board = stands c.self.view_is c.self.invariant in
+    let seat = c.args.seat.now in
+    let reader = c.requires.reader in
+    let near : c.args.key < shared.key.shape.keys
+    = omega (arith, c.requires.key, ap (λ (s : Shape). s.keys) board.key_is) in
+    let says = reader.says in (
       ap (λ (t : Table). t.id) (reader.own ∙ sym c.self.view_is),
       key_in board c.requires.key,
-      confirms_so shared.key.shape shared.table_id.slots seat.id c.args.own.index seat.me c.args.key near c.requires.word (ap (λ (t : Table). t.shape) reader.own ∙ sym board.key_is) reader.idle (omega arith),
+      confirms_so shared.key.shape shared.table_id.slots seat.id c.args.own.index seat.me c.args.key near
+          c.requires.word (ap (λ (t : Table). t.shape) reader.own ∙ sym board.key_is) reader.idle (omega arith),
     )
 
 pub returns : goal.returns
-returns c = let before = c.args.seat.now in let after = c.load.new.seat in let same = c.load.ensures.0 in let told = c.load.ensures.2 in let key = c.args.key in let found = c.load.result in let map = c.args.self.now in
+returns c =
+    let before = c.args.seat.now in
+    let after = c.load.new.seat in
+    let same = c.load.ensures.0 in
+    let told = c.load.ensures.2 in
+    let key = c.args.key in
+    let found = c.load.result in
+    let map = c.args.self.now in
     let slot = c.args.slot in let at = c.requires.reader in record {
       held = confirmed_held map before after same slot key found at told;
-      hole = λ empty. let looked = confirmed_other map before after same slot key found at told (names_empty_not slot found empty) in (looked_announces map before after same slot key found at looked, looked_hole map before after same key found looked empty);
-      other = λ no full. let looked = confirmed_other map before after same slot key found at told no in (looked_announces map before after same slot key found at looked, looked_named map before after same key found looked full);
+      hole = λ empty.
+          let looked
+          = confirmed_other map before after same slot key found at told (names_empty_not slot found empty) in (
+            looked_announces map before after same slot key found at looked,
+            looked_hole map before after same key found looked empty,
+          );
+      other = λ no full.
+          let looked = confirmed_other map before after same slot key found at told no in (
+            looked_announces map before after same slot key found at looked,
+            looked_named map before after same key found looked full,
+          );
       says = confirmed_says map before after same slot key found at told;
       word = confirmed_word map before after same slot key found at told c.args.own.index c.requires.word;
       found = confirmed_marks map before after same slot key found at told;

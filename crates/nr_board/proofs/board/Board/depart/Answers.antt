@@ -13,14 +13,27 @@ use Rattle.nr_board.specs.Views.{slot_held}
 use Rattle.nr_board.proofs.board.Board.depart.Goals as goal
 
 pub fetch_add-requires : goal.fetch_add-requires
-fetch_add-requires c = let shared = c.self.inside.table.shared in let board = stands c.self.view_is c.self.invariant in let seat = c.args.seat.now in let reader = c.requires.reader in
-    let slot : ℕ = slot_held seat.me.0.role in let before : c.args.begin - 1 ≡ departures c.args.self.now.shape slot = omega (arith, reader.begin_is) in (
+fetch_add-requires c =
+    let shared = c.self.inside.table.shared in
+    let board = stands c.self.view_is c.self.invariant in
+    let seat = c.args.seat.now in
+    let reader = c.requires.reader in
+    let slot : ℕ = slot_held seat.me.0.role in
+    let before : c.args.begin - 1 ≡ departures c.args.self.now.shape slot = omega (arith, reader.begin_is) in (
       ap (λ (t : Table). t.id) (reader.own ∙ sym c.self.view_is),
       departures_in board slot reader.holds.inside before,
-      subst (λ (at : ℕ). Allows (Kept shared.key.shape) shared.table_id.slots seat.id seat.me at (λ n. (n + 1) % 2 ^ 64) (has_departed (step shared.table_id.slots at 1 0 none) seat.me)) (sym (departures_at board slot reader.holds.inside before))
-          (departs_so shared.key.shape shared.table_id.slots seat.id seat.me reader.holds.is (omega (arith, reader.holds.inside, ap (λ (s : Shape). s.slots) board.key_is)) (ap (λ (t : Table). t.shape) reader.own ∙ sym board.key_is) c.requires.counted),
+      subst
+          (λ (at : ℕ). Allows (Kept shared.key.shape) shared.table_id.slots seat.id seat.me at (λ n. (n + 1) % 2 ^ 64)
+          (has_departed (step shared.table_id.slots at 1 0 none) seat.me))
+          (sym (departures_at board slot reader.holds.inside before))
+          (departs_so shared.key.shape shared.table_id.slots seat.id seat.me reader.holds.is
+          (omega (arith, reader.holds.inside, ap (λ (s : Shape). s.slots) board.key_is))
+          (ap (λ (t : Table). t.shape) reader.own ∙ sym board.key_is) c.requires.counted),
     )
 
 pub returns : goal.returns
-returns c = let told = departed_seat c.args.self.now c.args.seat.now c.fetch_add.new.seat c.fetch_add.ensures.0 c.args.begin c.requires.reader c.requires.counted
+returns c =
+    let told
+    = departed_seat c.args.self.now c.args.seat.now c.fetch_add.new.seat c.fetch_add.ensures.0 c.args.begin
+    c.requires.reader c.requires.counted
     c.fetch_add.ensures.2 in record { reader = told.0; rests = told.1; marks = c.fetch_add.ensures.2.marks }

@@ -9,22 +9,52 @@ use Rattle.nr_board.specs.WriterSeats.{IsLeaving}
 use Rattle.nr_board.proofs.board.Board.evict_key.Goals as goal
 
 pub returns-then-not-found : goal.returns-then-not-found
-returns-then-not-found g c = let looks = has_looked {before = c.args.seat.now} refl c.requires.own c.requires.rests c.requires.call c.look.ensures.leads c.look.ensures.marks c.look.ensures.heard in
-    let told = look_ends looks reply.Nothing (evict_nothing c.args.self.now.shape (desk_with c.args.spare.now Idle) c.args.key c.look.result (is_empty c.look.result c.parts-found.ensures.parts c.if-not-found.true)) in
+returns-then-not-found g c =
+    let looks
+    = has_looked {before = c.args.seat.now} refl c.requires.own c.requires.rests c.requires.call
+    c.look.ensures.leads c.look.ensures.marks c.look.ensures.heard in
+    let told
+    = look_ends looks reply.Nothing
+    (evict_nothing c.args.self.now.shape (desk_with c.args.spare.now Idle) c.args.key c.look.result
+    (is_empty c.look.result c.parts-found.ensures.parts c.if-not-found.true)) in
     record { rests = told.0; evicts = told.1 }
 
 pub unpublish-old_word-requires : goal.unpublish-old_word-requires
-unpublish-old_word-requires g c = let looks = has_looked {before = c.args.seat.now} refl c.requires.own c.requires.rests c.requires.call c.look.ensures.leads c.look.ensures.marks c.look.ensures.heard in
-    let leads = about_to_leave looks (evict_leaves c.args.self.now.shape (desk_with c.args.spare.now Idle) c.args.key c.look.result (is_full c.look.result c.parts-found.ensures.parts c.if-not-found.false)) in
-    subst (λ (t : Table). IsLeaving t c.args.key c.number.result c.look.new.seat) (sym refl) (record { desk = desk_with c.args.spare.now (Leaving c.args.key); writes = leads.writes; place = refl; number_is = c.number.ensures })
+unpublish-old_word-requires g c =
+    let looks
+    = has_looked {before = c.args.seat.now} refl c.requires.own c.requires.rests c.requires.call
+    c.look.ensures.leads c.look.ensures.marks c.look.ensures.heard in
+    let leads
+    = about_to_leave looks
+    (evict_leaves c.args.self.now.shape (desk_with c.args.spare.now Idle) c.args.key c.look.result
+    (is_full c.look.result c.parts-found.ensures.parts c.if-not-found.false)) in
+    subst (λ (t : Table). IsLeaving t c.args.key c.number.result c.look.new.seat) (sym refl)
+    (record {
+      desk = desk_with c.args.spare.now (Leaving c.args.key);
+      writes = leads.writes;
+      place = refl;
+      number_is = c.number.ensures;
+    })
 
 pub retire-requires : goal.retire-requires
-retire-requires g c = let looks = has_looked {before = c.args.seat.now} refl c.requires.own c.requires.rests c.requires.call c.look.ensures.leads c.look.ensures.marks c.look.ensures.heard in
-    let leads = about_to_leave looks (evict_leaves c.args.self.now.shape (desk_with c.args.spare.now Idle) c.args.key c.look.result (is_full c.look.result c.parts-found.ensures.parts c.if-not-found.false)) in
+retire-requires g c =
+    let looks
+    = has_looked {before = c.args.seat.now} refl c.requires.own c.requires.rests c.requires.call
+    c.look.ensures.leads c.look.ensures.marks c.look.ensures.heard in
+    let leads
+    = about_to_leave looks
+    (evict_leaves c.args.self.now.shape (desk_with c.args.spare.now Idle) c.args.key c.look.result
+    (is_full c.look.result c.parts-found.ensures.parts c.if-not-found.false)) in
     omega (arith, leads.writes.room.place.1, c.requires.rests.slots, ap (λ (t : Table). t.shape.slots) c.requires.own)
 
 pub returns : goal.returns
-returns g c = let looks = has_looked {before = c.args.seat.now} refl c.requires.own c.requires.rests c.requires.call c.look.ensures.leads c.look.ensures.marks c.look.ensures.heard in
-    let told = has_evicted looks (evict_leaves c.args.self.now.shape (desk_with c.args.spare.now Idle) c.args.key c.look.result
-    (is_full c.look.result c.parts-found.ensures.parts c.if-not-found.false)) refl c.unpublish-old_word.ensures c.retire.ensures in
+returns g c =
+    let looks
+    = has_looked {before = c.args.seat.now} refl c.requires.own c.requires.rests c.requires.call
+    c.look.ensures.leads c.look.ensures.marks c.look.ensures.heard in
+    let told
+    = has_evicted looks
+    (evict_leaves c.args.self.now.shape (desk_with c.args.spare.now Idle) c.args.key c.look.result
+    (is_full c.look.result c.parts-found.ensures.parts c.if-not-found.false)) refl c.unpublish-old_word.ensures
+    c.retire.ensures in
     record { rests = told.0; evicts = told.1 }

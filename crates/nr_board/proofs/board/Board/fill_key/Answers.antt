@@ -7,10 +7,16 @@ use Rattle.nr_board.specs.Flags.{IsFlagged}
 use Rattle.nr_board.proofs.board.Board.fill_key.Goals as goal
 
 pub returns-in-Err : goal.returns-in-Err
-returns-in-Err g c = let told = has_lacked c.in_ok-begin_fill.ensures c.requires.call c.in-Err.ensures.publishes in record { rests = told.0; flagged = c.in-Err.ensures.flagged; fills = told.1 }
+returns-in-Err g c =
+    let told = has_lacked c.in_ok-begin_fill.ensures c.requires.call c.in-Err.ensures.publishes in
+    record { rests = told.0; flagged = c.in-Err.ensures.flagged; fills = told.1 }
 
 pub returns : goal.returns
-returns g c = let told = has_published c.in_ok-begin_fill.ensures c.requires.call c.in_default.ensures.publishes in record { rests = told.0; flagged = c.in_default.ensures.flagged; fills = told.1 }
+returns g c =
+    let told = has_published c.in_ok-begin_fill.ensures c.requires.call c.in_default.ensures.publishes in
+    record { rests = told.0; flagged = c.in_default.ensures.flagged; fills = told.1 }
 
 pub returns-in_err-begin_fill-clause-flagged : goal.returns-in_err-begin_fill-clause-flagged
-returns-in_err-begin_fill-clause-flagged g c = subst (λ (heard : List ℕ). IsFlagged c.args.self.now c.args.spare.now.retired heard c.args.unheard.now) (sym c.in_err-begin_fill.ensures.2) c.requires.flagged
+returns-in_err-begin_fill-clause-flagged g c =
+    subst (λ (heard : List ℕ). IsFlagged c.args.self.now c.args.spare.now.retired heard c.args.unheard.now)
+    (sym c.in_err-begin_fill.ensures.2) c.requires.flagged

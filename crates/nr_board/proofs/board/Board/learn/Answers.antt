@@ -6,7 +6,10 @@ use Rattle.nr_board.specs.Callers.{Table}
 use Rattle.nr_board.proofs.board.Board.learn.Goals as goal
 
 pub load-requires : goal.load-requires
-load-requires c = let shared = c.self.inside.table.shared in let about = c.self.invariant in let seat = c.args.seat.now in
+load-requires c =
+    let shared = c.self.inside.table.shared in
+    let about = c.self.invariant in
+    let seat = c.args.seat.now in
     let near : 0 < shared.key.shape.keys = omega (arith, about.2, ap (λ (s : Shape). s.keys) about.0) in (
       ap (λ (t : Table). t.id) (c.requires.own ∙ sym c.self.view_is),
       omega (arith, ap (λ (s : Shape). s.keys) about.0),
@@ -18,6 +21,8 @@ returns c = let learned = c.load.ensures.2 in record {
   learns = learns_seat 0 c.load.result c.args.seat.now c.load.new.seat c.load.ensures.0 learned;
   role = (c.load.ensures.0, learned.role);
   says = learned.says;
-  lists = λ desk is. learned_lists c.args.self.now c.args.seat.now c.load.new.seat 0 c.load.result c.requires.own learned desk is;
-  numbers = λ desk is. learned_numbers c.args.self.now c.args.seat.now c.load.new.seat 0 c.load.result c.requires.own learned desk is;
+  lists = λ desk is. learned_lists c.args.self.now c.args.seat.now c.load.new.seat 0 c.load.result c.requires.own
+      learned desk is;
+  numbers = λ desk is. learned_numbers c.args.self.now c.args.seat.now c.load.new.seat 0 c.load.result c.requires.own
+      learned desk is;
 }

@@ -6,8 +6,17 @@ use Rattle.nr_board.specs.Callers.{Table}
 use Rattle.nr_board.proofs.board.Board.learn_at.Goals as goal
 
 pub load-requires : goal.load-requires
-load-requires c = let shared = c.self.inside.table.shared in let about = c.self.invariant in let seat = c.args.seat.now in
-    let near : c.args.key < shared.key.shape.keys = omega (arith, c.requires.key, ap (λ (t : Table). t.shape.keys) c.self.view_is, ap (λ (s : Shape). s.keys) about.0) in (
+load-requires c =
+    let shared = c.self.inside.table.shared in
+    let about = c.self.invariant in
+    let seat = c.args.seat.now in
+    let near : c.args.key < shared.key.shape.keys
+    = omega (
+      arith,
+      c.requires.key,
+      ap (λ (t : Table). t.shape.keys) c.self.view_is,
+      ap (λ (s : Shape). s.keys) about.0,
+    ) in (
       ap (λ (t : Table). t.id) (c.requires.own ∙ sym c.self.view_is),
       omega (arith, ap (λ (s : Shape). s.keys) about.0),
       learns_so shared.key.shape seat.id seat.me c.args.key near c.requires.caller shared.table_id.slots,
@@ -19,5 +28,6 @@ returns c = let learned = c.load.ensures.2 in record {
   role = (c.load.ensures.0, learned.role);
   says = learned.says;
   state = learned.state;
-  numbers = λ desk is. learned_numbers c.args.self.now c.args.seat.now c.load.new.seat c.args.key c.load.result c.requires.own learned desk is;
+  numbers = λ desk is. learned_numbers c.args.self.now c.args.seat.now c.load.new.seat c.args.key c.load.result
+      c.requires.own learned desk is;
 }

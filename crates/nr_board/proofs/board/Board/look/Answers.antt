@@ -16,19 +16,34 @@ use Rattle.nr_board.proofs.board.Board.look.Goals as goal
 use Rattle.nr_machine.specs.Slots.{bound_of}
 
 pub load-requires : goal.load-requires
-load-requires g c = let shared = c.self.inside.table.shared in let about = c.self.invariant in let seat = c.args.seat.now in let writer = c.requires.writer in let call = g.G.BegunCall.call in
-    let key_is : shared.key.shape ≡ c.args.self.now.shape = about.0 ∙ ap (λ (t : Table). t.shape) c.self.view_is in let near : key_of call < shared.key.shape.keys = omega (arith, c.requires.call, c.requires.key, ap (λ (s : Shape). s.keys) key_is) in
-    let given : IsGivenCall (bound_of shared.key.shape) call = subst (λ (s : Shape). IsGivenCall (bound_of s) call) (sym key_is) c.requires.given in
+load-requires g c =
+    let shared = c.self.inside.table.shared in
+    let about = c.self.invariant in
+    let seat = c.args.seat.now in
+    let writer = c.requires.writer in
+    let call = g.G.BegunCall.call in
+    let key_is : shared.key.shape ≡ c.args.self.now.shape = about.0 ∙ ap (λ (t : Table). t.shape) c.self.view_is in
+    let near : key_of call < shared.key.shape.keys
+    = omega (arith, c.requires.call, c.requires.key, ap (λ (s : Shape). s.keys) key_is) in
+    let given : IsGivenCall (bound_of shared.key.shape) call
+    = subst (λ (s : Shape). IsGivenCall (bound_of s) call) (sym key_is) c.requires.given in
     let n : ℕ = shared.table_id.slots in (
       ap (λ (t : Table). t.id) (writer.writes.own ∙ sym c.self.view_is),
       omega (arith, c.requires.key, ap (λ (t : Table). t.shape.keys) c.self.view_is),
-      subst (λ (at : ℕ). Allows (Kept shared.key.shape) n seat.id seat.me at (λ w. w) (λ found after. (other : Desk) → seat.me.0.role ≡ Writer other → Looked other call found seat.me.0 after.0)) (sym c.requires.call)
+      subst
+          (λ (at : ℕ). Allows (Kept shared.key.shape) n seat.id seat.me at (λ w. w)
+          (λ found after. (other : Desk) → seat.me.0.role ≡ Writer other
+          → Looked other call found seat.me.0 after.0))
+          (sym c.requires.call)
           (looks_so shared.key.shape n seat.id seat.me writer.desk call writer.writes.role writer.place given near),
     )
 
 pub returns : goal.returns
 returns g c = let before = c.args.seat.now in let told = c.load.ensures.2 in record {
-  leads = λ desk is. looked_seat c.args.self.now before c.load.new.seat c.load.ensures.0 c.requires.writer.writes.own desk g.G.BegunCall.call c.load.result (told desk is);
+  leads = λ desk is. looked_seat c.args.self.now before c.load.new.seat c.load.ensures.0 c.requires.writer.writes.own
+      desk g.G.BegunCall.call c.load.result (told desk is);
   marks = (told c.requires.writer.desk c.requires.writer.writes.role).marks.0;
-  heard = (told c.requires.writer.desk c.requires.writer.writes.role).heard ∙ ap (λ (p : Place). heard_at p before.me.0.heard) c.requires.writer.place;
+  heard =
+      (told c.requires.writer.desk c.requires.writer.writes.role).heard
+      ∙ ap (λ (p : Place). heard_at p before.me.0.heard) c.requires.writer.place;
 }

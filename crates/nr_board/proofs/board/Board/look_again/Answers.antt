@@ -2,24 +2,47 @@ use Rattle.std.proofs.Common.{ap, arith, sym, ℕ, ◌<◌, ◌∙◌, ◌≡◌
 use Rattle.nr_machine.specs.Slots.{content, names_slot}
 use Rattle.nr_machine.specs.declared.shape.Shape.{Shape}
 use Rattle.nr_board.proofs.BoardPlaces.{stands}
-use Rattle.nr_board.proofs.ReaderSeats.{again_exact, again_gains, again_holds, again_learns, again_marks, held_gripped, held_inside, held_slot}
+use Rattle.nr_board.proofs.ReaderSeats.{again_exact, again_gains, again_holds, again_learns, again_marks, held_gripped}
+use Rattle.nr_board.proofs.ReaderSeats.{held_inside, held_slot}
 use Rattle.nr_board.proofs.ReaderSteps.{finds_again_so}
 use Rattle.nr_board.specs.Callers.{Table}
 use Rattle.nr_board.specs.Views.{slot_held}
 use Rattle.nr_board.proofs.board.Board.look_again.Goals as goal
 
 pub load-requires : goal.load-requires
-load-requires c = let shared = c.self.inside.table.shared in let about = c.self.invariant in let seat = c.args.seat.now in
-    let near : c.args.key < shared.key.shape.keys = omega (arith, c.requires.key, ap (λ (t : Table). t.shape.keys) c.self.view_is, ap (λ (s : Shape). s.keys) about.0) in (
+load-requires c =
+    let shared = c.self.inside.table.shared in
+    let about = c.self.invariant in
+    let seat = c.args.seat.now in
+    let near : c.args.key < shared.key.shape.keys
+    = omega (
+      arith,
+      c.requires.key,
+      ap (λ (t : Table). t.shape.keys) c.self.view_is,
+      ap (λ (s : Shape). s.keys) about.0,
+    ) in (
       ap (λ (t : Table). t.id) (c.requires.reader.own ∙ sym c.self.view_is),
       omega (arith, ap (λ (s : Shape). s.keys) about.0),
-      finds_again_so shared.key.shape shared.table_id.slots seat.id seat.me c.args.key near c.requires.reader.holds.is (ap (λ (t : Table). t.shape) (c.requires.reader.own ∙ sym c.self.view_is) ∙ sym about.0),
+      finds_again_so shared.key.shape shared.table_id.slots seat.id seat.me c.args.key near c.requires.reader.holds.is
+          (ap (λ (t : Table). t.shape) (c.requires.reader.own ∙ sym c.self.view_is) ∙ sym about.0),
     )
 
 pub returns : goal.returns
-returns c = let board = c.args.self.now in let before = c.args.seat.now in let after = c.load.new.seat in let slot = c.args.slot in let begin = content board.shape slot 0 in let key = c.args.key in
-    let word = c.load.result in let reader = c.requires.reader in let same = c.load.ensures.0 in let told = c.load.ensures.2 in let answer = names_slot slot word in
-    let named : names_slot (slot_held before.me.0.role) word ≡ answer = ap (λ (s : ℕ). names_slot s word) (sym (held_slot slot reader)) in record {
+returns c =
+    let board = c.args.self.now in
+    let before = c.args.seat.now in
+    let after = c.load.new.seat in
+    let slot = c.args.slot in
+    let begin = content board.shape slot 0 in
+    let key = c.args.key in
+    let word = c.load.result in
+    let reader = c.requires.reader in
+    let same = c.load.ensures.0 in
+    let told = c.load.ensures.2 in
+    let answer = names_slot slot word in
+    let named : names_slot (slot_held before.me.0.role) word ≡ answer
+    = ap (λ (s : ℕ). names_slot s word) (sym (held_slot slot reader)) in
+    record {
       reader = again_holds board before after same begin key word reader told answer named;
       role = told.role;
       same = again_gains board before after same begin key word reader told answer named;
@@ -28,5 +51,7 @@ returns c = let board = c.args.self.now in let before = c.args.seat.now in let a
       marks = again_marks board before after same begin key word reader told answer named;
       says = told.says;
       holds = held_gripped slot reader;
-      fits = let about = stands c.self.view_is c.self.invariant in omega (arith, held_inside slot reader, about.fits.slots);
+      fits =
+          let about = stands c.self.view_is c.self.invariant in
+          omega (arith, held_inside slot reader, about.fits.slots);
     }

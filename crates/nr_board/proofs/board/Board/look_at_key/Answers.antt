@@ -7,17 +7,29 @@ use Rattle.nr_board.specs.Callers.{Table}
 use Rattle.nr_board.proofs.board.Board.look_at_key.Goals as goal
 
 pub load-requires : goal.load-requires
-load-requires c = let shared = c.self.inside.table.shared in let board = stands c.self.view_is c.self.invariant in let seat = c.args.seat.now in
-    let near : c.args.key < shared.key.shape.keys = omega (arith, c.requires.key, ap (λ (s : Shape). s.keys) board.key_is) in (
+load-requires c =
+    let shared = c.self.inside.table.shared in
+    let board = stands c.self.view_is c.self.invariant in
+    let seat = c.args.seat.now in
+    let near : c.args.key < shared.key.shape.keys
+    = omega (arith, c.requires.key, ap (λ (s : Shape). s.keys) board.key_is) in (
       ap (λ (t : Table). t.id) (c.requires.reader.own ∙ sym c.self.view_is),
       key_in board c.requires.key,
-      looks_up_so shared.key.shape shared.table_id.slots seat.id seat.me c.args.key near c.requires.reader.idle (ap (λ (t : Table). t.shape) c.requires.reader.own ∙ sym board.key_is),
+      looks_up_so shared.key.shape shared.table_id.slots seat.id seat.me c.args.key near c.requires.reader.idle
+          (ap (λ (t : Table). t.shape) c.requires.reader.own ∙ sym board.key_is),
     )
 
 pub returns : goal.returns
-returns c = let before = c.args.seat.now in let after = c.load.new.seat in let same = c.load.ensures.0 in let told = c.load.ensures.2 in let key = c.args.key in let found = c.load.result in record {
-  reader = looked_idle c.args.self.now before after same key found c.requires.reader told;
-  hole = looked_hole c.args.self.now before after same key found told;
-  named = looked_named c.args.self.now before after same key found told;
-  marks = told.marks;
-}
+returns c =
+    let before = c.args.seat.now in
+    let after = c.load.new.seat in
+    let same = c.load.ensures.0 in
+    let told = c.load.ensures.2 in
+    let key = c.args.key in
+    let found = c.load.result in
+    record {
+      reader = looked_idle c.args.self.now before after same key found c.requires.reader told;
+      hole = looked_hole c.args.self.now before after same key found told;
+      named = looked_named c.args.self.now before after same key found told;
+      marks = told.marks;
+    }

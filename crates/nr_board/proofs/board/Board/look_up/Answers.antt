@@ -11,19 +11,52 @@ use Rattle.nr_board.specs.Spares.{desk_with}
 use Rattle.nr_board.proofs.board.Board.look_up.Goals as goal
 
 pub returns-then-not-found : goal.returns-then-not-found
-returns-then-not-found g c = let looks = has_looked {before = c.args.seat.now} refl c.requires.own c.requires.rests c.requires.call c.look.ensures.leads c.look.ensures.marks c.look.ensures.heard in
-    let told = look_ends looks reply.Hole (find_hole c.args.self.now.shape (desk_with c.args.spare.now Idle) c.args.key c.look.result (is_empty c.look.result c.parts-found.ensures.parts c.if-not-found.true)) in
+returns-then-not-found g c =
+    let looks
+    = has_looked {before = c.args.seat.now} refl c.requires.own c.requires.rests c.requires.call
+    c.look.ensures.leads c.look.ensures.marks c.look.ensures.heard in
+    let told
+    = look_ends looks reply.Hole
+    (find_hole c.args.self.now.shape (desk_with c.args.spare.now Idle) c.args.key c.look.result
+    (is_empty c.look.result c.parts-found.ensures.parts c.if-not-found.true)) in
     record { rests = told.0; looks = (told.1.0, told.1.1, refl) }
 
 pub read_set-requires : goal.read_set-requires
-read_set-requires g c = let looks = has_looked {before = c.args.seat.now} refl c.requires.own c.requires.rests c.requires.call c.look.ensures.leads c.look.ensures.marks c.look.ensures.heard in
-    let reads = about_to_read looks (find_reads c.args.self.now.shape (desk_with c.args.spare.now Idle) c.args.key c.look.result
+read_set-requires g c =
+    let looks
+    = has_looked {before = c.args.seat.now} refl c.requires.own c.requires.rests c.requires.call
+    c.look.ensures.leads c.look.ensures.marks c.look.ensures.heard in
+    let reads
+    = about_to_read looks
+    (find_reads c.args.self.now.shape (desk_with c.args.spare.now Idle) c.args.key c.look.result
     (is_full c.look.result c.parts-found.ensures.parts c.if-not-found.false)) c.requires.call
     (slot_so c.look.result c.parts-found.ensures.parts) in
-    record { writer = reads.0; slot = reads.1; key = subst (λ (call : WriterCall). key_of call < c.args.self.now.shape.keys) (sym c.requires.call) c.requires.key }
+    record {
+      writer = reads.0;
+      slot = reads.1;
+      key = subst (λ (call : WriterCall). key_of call < c.args.self.now.shape.keys) (sym c.requires.call)
+          c.requires.key;
+    }
 
 pub returns : goal.returns
-returns g c = let looks = has_looked {before = c.args.seat.now} refl c.requires.own c.requires.rests c.requires.call c.look.ensures.leads c.look.ensures.marks c.look.ensures.heard in
+returns g c =
+    let looks
+    = has_looked {before = c.args.seat.now} refl c.requires.own c.requires.rests c.requires.call
+    c.look.ensures.leads c.look.ensures.marks c.look.ensures.heard in
     let (rows, shows, reads) = c.read_set.ensures in
-    let told = has_found (has_read looks (find_reads c.args.self.now.shape (desk_with c.args.spare.now Idle) c.args.key c.look.result (is_full c.look.result c.parts-found.ensures.parts c.if-not-found.false)) c.requires.call reads) in
-    record { rests = told.0; looks = (rows, told.1.0, told.1.1, shows, subst (λ (t : Table). IsRowSet t.shape.rows rows) (sym c.requires.own) reads.row_set) }
+    let told
+    = has_found
+    (has_read looks
+    (find_reads c.args.self.now.shape (desk_with c.args.spare.now Idle) c.args.key c.look.result
+    (is_full c.look.result c.parts-found.ensures.parts c.if-not-found.false))
+    c.requires.call reads) in
+    record {
+      rests = told.0;
+      looks = (
+        rows,
+        told.1.0,
+        told.1.1,
+        shows,
+        subst (λ (t : Table). IsRowSet t.shape.rows rows) (sym c.requires.own) reads.row_set,
+      );
+    }

@@ -4,4 +4,9 @@ use Rattle.nr_board.specs.Callers.{Table}
 use Rattle.nr_board.proofs.board.Board.note.Goals as goal
 
 pub split_seat-requires : goal.split_seat-requires
-split_seat-requires c = let seat = c.args.seat.now in (c.requires ∙ sym (ap (λ (t : Table). t.id) c.self.view_is), omega arith, splits_so c.self.inside.table.shared.key.shape seat.id seat.me.0)
+split_seat-requires c =
+    let seat = c.args.seat.now in (
+      c.requires ∙ sym (ap (λ (t : Table). t.id) c.self.view_is),
+      omega arith,
+      splits_so c.self.inside.table.shared.key.shape seat.id seat.me.0,
+    )

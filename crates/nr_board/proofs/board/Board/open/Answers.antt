@@ -7,7 +7,10 @@ use Rattle.nr_board.specs.Views.{opener}
 use Rattle.nr_board.proofs.board.Board.open.Goals as goal
 
 pub of_words-requires : goal.of_words-requires
-of_words-requires c = subst (λ (words : List ℕ). Kept c.args.plan.shape (opening words [] (opener c.args.plan))) (sym (c.deref.ensures.value ∙ c.in_ok-words.ensures.words)) (opens_so c.args.plan c.requires.sizes c.in_ok-words.ensures.count)
+of_words-requires c =
+    subst (λ (words : List ℕ). Kept c.args.plan.shape (opening words [] (opener c.args.plan)))
+    (sym (c.deref.ensures.value ∙ c.in_ok-words.ensures.words))
+    (opens_so c.args.plan c.requires.sizes c.in_ok-words.ensures.count)
 
 pub invariant_of-result : goal.invariant_of-result
 invariant_of-result c = let opened = c.in_ok-table.ensures in (

@@ -18,24 +18,48 @@ use Rattle.nr_board.specs.WriterSeats.{IsPolling, MapSeat}
 use Rattle.nr_board.proofs.board.Board.poll.Goals as goal
 
 inside : (table : Table) (slot : ℕ) (seat : MapSeat) → IsPolling table slot seat → slot < table.shape.slots
-inside table slot seat polling = let few = subst (RoomAt table.shape polling.desk) polling.place polling.writes.room.place in
-    let low = polling.writes.room.inside polling.poll (retired_at polling.desk polling.poll) (at_get polling.desk.retired polling.poll few) in let is = polling.slot_is in omega arith
+inside table slot seat polling =
+    let few = subst (RoomAt table.shape polling.desk) polling.place polling.writes.room.place in
+    let low
+    = polling.writes.room.inside polling.poll (retired_at polling.desk polling.poll)
+    (at_get polling.desk.retired polling.poll few) in
+    let is = polling.slot_is in
+    omega arith
 
 pub departures-place-requires-clause-has : goal.departures-place-requires-clause-has
-departures-place-requires-clause-has c = let low = inside c.args.self.now c.args.slot c.args.seat.now c.requires in omega (arith, low, ap (λ (l : Layout). l.slots) c.layout.ensures.value)
+departures-place-requires-clause-has c =
+    let low = inside c.args.self.now c.args.slot c.args.seat.now c.requires in
+    omega (arith, low, ap (λ (l : Layout). l.slots) c.layout.ensures.value)
 
 pub load-requires : goal.load-requires
-load-requires c = let shared = c.self.inside.table.shared in let board = stands c.self.view_is c.self.invariant in let seat = c.args.seat.now in let polling = c.requires in
+load-requires c =
+    let shared = c.self.inside.table.shared in
+    let board = stands c.self.view_is c.self.invariant in
+    let seat = c.args.seat.now in
+    let polling = c.requires in
     let low = inside c.args.self.now c.args.slot seat polling in
-    let is : c.departures-place.result ≡ departures c.args.self.now.shape c.args.slot = c.departures-place.ensures.place ∙ ap (λ (l : Layout). place_of l (Departures c.args.slot)) c.layout.ensures.value in
-    let n : ℕ = shared.table_id.slots in let at = record polling.desk { place = Searching polling.call polling.rows polling.poll } in
+    let is : c.departures-place.result ≡ departures c.args.self.now.shape c.args.slot
+    = c.departures-place.ensures.place
+    ∙ ap (λ (l : Layout). place_of l (Departures c.args.slot)) c.layout.ensures.value in
+    let n : ℕ = shared.table_id.slots in
+    let at = record polling.desk { place = Searching polling.call polling.rows polling.poll } in
     let place = departures_at board c.args.slot low is ∙ ap (departures shared.key.shape) polling.slot_is in (
       ap (λ (t : Table). t.id) (polling.writes.own ∙ sym c.self.view_is),
       departures_in board c.args.slot low is,
-      subst (λ (p : ℕ). Allows (Kept shared.key.shape) n seat.id seat.me p (λ w. w) (λ found after. (other : Desk) → seat.me.0.role ≡ Writer other → Went other found seat.me.0 after.0)) (sym place)
-          (goes_so shared.key.shape n seat.id seat.me at (desk_at seat.me.0.role polling.desk (Searching polling.call polling.rows polling.poll) polling.writes.role polling.place) refl
-          (subst (λ (q : ℕ × ℕ). q.0 ≤ get_or seat.me.0.heard q.1 0) (λ j. (sym (ap (λ (t : Table). t.announcers) polling.writes.own) j, polling.slot_is j)) polling.heard) polling.in_order),
+      subst
+          (λ (p : ℕ). Allows (Kept shared.key.shape) n seat.id seat.me p (λ w. w)
+          (λ found after. (other : Desk) → seat.me.0.role ≡ Writer other → Went other found seat.me.0 after.0))
+          (sym place)
+          (goes_so shared.key.shape n seat.id seat.me at
+          (desk_at seat.me.0.role polling.desk (Searching polling.call polling.rows polling.poll)
+          polling.writes.role polling.place)
+          refl
+          (subst (λ (q : ℕ × ℕ). q.0 ≤ get_or seat.me.0.heard q.1 0)
+          (λ j. (sym (ap (λ (t : Table). t.announcers) polling.writes.own) j, polling.slot_is j)) polling.heard)
+          polling.in_order),
     )
 
 pub returns : goal.returns
-returns c = λ desk is. gone_seat c.args.self.now c.args.seat.now c.load.new.seat c.load.ensures.0 c.requires.writes.own desk c.load.result (c.load.ensures.2 desk is)
+returns
+    c = λ desk is. gone_seat c.args.self.now c.args.seat.now c.load.new.seat c.load.ensures.0 c.requires.writes.own desk
+    c.load.result (c.load.ensures.2 desk is)

@@ -23,21 +23,33 @@ near : (table : Table) (entry : Retired) (seat : MapSeat) → ProbesAt table ent
 near table entry seat probes = probes.room.inside probes.poll entry probes.here
 
 pub departures-place-requires-clause-has : goal.departures-place-requires-clause-has
-departures-place-requires-clause-has c = let low = near c.args.self.now c.args.entry c.args.seat.now c.requires in omega (arith, low, ap (λ (l : Layout). l.slots) c.layout.ensures.value)
+departures-place-requires-clause-has c =
+    let low = near c.args.self.now c.args.entry c.args.seat.now c.requires in
+    omega (arith, low, ap (λ (l : Layout). l.slots) c.layout.ensures.value)
 
 pub load-requires : goal.load-requires
-load-requires c = let shared = c.self.inside.table.shared in let board = stands c.self.view_is c.self.invariant in let seat = c.args.seat.now in let probes = c.requires in let entry = c.args.entry in
+load-requires c =
+    let shared = c.self.inside.table.shared in
+    let board = stands c.self.view_is c.self.invariant in
+    let seat = c.args.seat.now in
+    let probes = c.requires in
+    let entry = c.args.entry in
     let low = near c.args.self.now entry seat probes in
-    let is : c.departures-place.result ≡ departures c.args.self.now.shape entry.slot = c.departures-place.ensures.place ∙ ap (λ (l : Layout). place_of l (Departures entry.slot)) c.layout.ensures.value in
+    let is : c.departures-place.result ≡ departures c.args.self.now.shape entry.slot
+    = c.departures-place.ensures.place
+    ∙ ap (λ (l : Layout). place_of l (Departures entry.slot)) c.layout.ensures.value in
     let n : ℕ = shared.table_id.slots in let place = departures_at board entry.slot low is in (
       ap (λ (t : Table). t.id) (probes.own ∙ sym c.self.view_is),
       departures_in board entry.slot low is,
       subst (λ (p : ℕ). Allows (Kept shared.key.shape) n seat.id seat.me p (λ w. w)
-          (λ found after. (other : Desk) (at : ℕ) (named : Retired) → seat.me.0.role ≡ Writer other → other.place ≡ Idle → Room seat.me.0.shape other
+          (λ found after. (other : Desk) (at : ℕ) (named : Retired) → seat.me.0.role ≡ Writer other → other.place ≡ Idle
+          → Room seat.me.0.shape other
           → get_elem? other.retired at ≡ some named → p ≡ departures seat.me.0.shape named.slot
           → ProbesTo seat.me.0.shape named found seat.me.0 after.0)) (sym place)
-          (probes_so shared.key.shape n seat.id seat.me probes.desk probes.poll entry probes.role probes.idle probes.here
-          (subst (λ (n : ℕ). n ≤ get_or seat.me.0.heard entry.slot 0) (sym (ap (λ (t : Table). t.announcers) probes.own)) probes.heard)),
+          (probes_so shared.key.shape n seat.id seat.me probes.desk probes.poll entry probes.role probes.idle
+          probes.here
+          (subst (λ (n : ℕ). n ≤ get_or seat.me.0.heard entry.slot 0)
+          (sym (ap (λ (t : Table). t.announcers) probes.own)) probes.heard)),
     )
 
 pub returns-clause-own : goal.returns-clause-own
@@ -46,6 +58,10 @@ returns-clause-own c = c.load.ensures.0
 pub returns-clause-tells : goal.returns-clause-tells
 returns-clause-tells c = let seat = c.args.seat.now in let probes = c.requires in let entry = c.args.entry in
     let size = ap (λ (t : Table). t.shape) probes.own in
-    let is : c.departures-place.result ≡ departures c.args.self.now.shape entry.slot = c.departures-place.ensures.place ∙ ap (λ (l : Layout). place_of l (Departures entry.slot)) c.layout.ensures.value in
+    let is : c.departures-place.result ≡ departures c.args.self.now.shape entry.slot
+    = c.departures-place.ensures.place
+    ∙ ap (λ (l : Layout). place_of l (Departures entry.slot)) c.layout.ensures.value in
     subst (λ (s : Shape). ProbesTo s entry c.load.result seat.me.0 c.load.new.seat.me.0) size
-    (c.load.ensures.2 probes.desk probes.poll entry probes.role probes.idle (subst (λ (s : Shape). Room s probes.desk) (sym size) probes.room) probes.here (is ∙ ap (λ (s : Shape). departures s entry.slot) (sym size)))
+    (c.load.ensures.2 probes.desk probes.poll entry probes.role probes.idle
+    (subst (λ (s : Shape). Room s probes.desk) (sym size) probes.room) probes.here
+    (is ∙ ap (λ (s : Shape). departures s entry.slot) (sym size)))

@@ -21,24 +21,48 @@ use Rattle.nr_board.specs.Views.{View}
 use Rattle.nr_board.proofs.board.Board.publish.Goals as goal
 
 pub naming-word-requires : goal.naming-word-requires
-naming-word-requires c = let publishing = c.requires.writer in let room = subst (RoomAt c.args.self.now.shape publishing.desk) publishing.place publishing.writes.room.place in
-    let shape = c.self.invariant.4 in omega (arith, room.0, shape.slots, ap (λ (t : Table). t.shape.slots) c.self.view_is)
+naming-word-requires c =
+    let publishing = c.requires.writer in
+    let room = subst (RoomAt c.args.self.now.shape publishing.desk) publishing.place publishing.writes.room.place in
+    let shape = c.self.invariant.4 in
+    omega (arith, room.0, shape.slots, ap (λ (t : Table). t.shape.slots) c.self.view_is)
 
 pub swap-requires : goal.swap-requires
-swap-requires c = let shared = c.self.inside.table.shared in let about = c.self.invariant in let seat = c.args.seat.now in let publishing = c.requires.writer in
-    let rows = publishing.rows in let call = publishing.call in let slot : ℕ = c.args.slot in let last : ℕ = 2 * length rows + 1 in
-    let at = record publishing.desk { place = Putting call rows slot c.args.departed last } in let word : ℕ = naming slot c.args.departed in
+swap-requires c =
+    let shared = c.self.inside.table.shared in
+    let about = c.self.invariant in
+    let seat = c.args.seat.now in
+    let publishing = c.requires.writer in
+    let rows = publishing.rows in
+    let call = publishing.call in
+    let slot : ℕ = c.args.slot in
+    let last : ℕ = 2 * length rows + 1 in
+    let at = record publishing.desk { place = Putting call rows slot c.args.departed last } in
+    let word : ℕ = naming slot c.args.departed in
     let operation : going shared.key.shape at at.place ≡ Swap (key_of call)
-    word = ap (λ (b : Bool). cond {A = Operation} b (Store (content shared.key.shape slot last) (get_or (encode rows) last 0))
+    word =
+    ap
+    (λ (b : Bool). cond {A = Operation} b
+    (Store (content shared.key.shape slot last) (get_or (encode rows) last 0))
     (Swap (key_of call) word)) (lt-leb last (2 * length rows) (omega arith)) in
     let n : ℕ = shared.table_id.slots in
-    let told : ℕ → Me (Unit {0}) View → Type 0 = λ found after. (other : Desk) → seat.me.0.role ≡ Writer other → Went other found seat.me.0 after.0 in
-    let allows = subst (λ (o : Operation). Allows (Kept shared.key.shape) n seat.id seat.me (target_of o) (becomes o) told) operation
-    (goes_so shared.key.shape n seat.id seat.me at (desk_at seat.me.0.role publishing.desk (Putting call rows slot c.args.departed last) publishing.writes.role publishing.place) refl tt tt) in (
+    let told : ℕ → Me (Unit {0}) View → Type 0
+    = λ found after. (other : Desk) → seat.me.0.role ≡ Writer other → Went other found seat.me.0 after.0 in
+    let allows
+    = subst (λ (o : Operation). Allows (Kept shared.key.shape) n seat.id seat.me (target_of o) (becomes o) told)
+    operation
+    (goes_so shared.key.shape n seat.id seat.me at
+    (desk_at seat.me.0.role publishing.desk (Putting call rows slot c.args.departed last) publishing.writes.role
+    publishing.place)
+    refl tt tt) in (
       ap (λ (t : Table). t.id) (publishing.writes.own ∙ sym c.self.view_is),
-      omega (arith, c.requires.key, ap (λ (s : Shape). s.keys) about.0, ap (λ (t : Table). t.shape.keys) c.self.view_is),
-      subst (λ (p : ℕ × ℕ). Allows (Kept shared.key.shape) n seat.id seat.me p.0 (λ _. p.1) told) (λ j. (sym publishing.key_is j, sym c.naming-word.ensures j)) allows,
+      omega
+          (arith, c.requires.key, ap (λ (s : Shape). s.keys) about.0, ap (λ (t : Table). t.shape.keys) c.self.view_is),
+      subst (λ (p : ℕ × ℕ). Allows (Kept shared.key.shape) n seat.id seat.me p.0 (λ _. p.1) told)
+          (λ j. (sym publishing.key_is j, sym c.naming-word.ensures j)) allows,
     )
 
 pub returns : goal.returns
-returns c = λ desk is. gone_seat c.args.self.now c.args.seat.now c.swap.new.seat c.swap.ensures.0 c.requires.writer.writes.own desk c.swap.result (c.swap.ensures.2 desk is)
+returns
+    c = λ desk is. gone_seat c.args.self.now c.args.seat.now c.swap.new.seat c.swap.ensures.0
+    c.requires.writer.writes.own desk c.swap.result (c.swap.ensures.2 desk is)

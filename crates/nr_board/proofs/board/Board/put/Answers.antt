@@ -11,22 +11,38 @@ use Rattle.nr_board.specs.Rule.{Kept}
 use Rattle.nr_board.proofs.board.Board.put.Goals as goal
 
 pub overflow_add-place : goal.overflow_add-place
-overflow_add-place c = let board = stands c.self.view_is c.self.invariant in let putting = c.requires in let room = subst (RoomAt c.args.self.now.shape putting.desk) putting.place putting.writes.room.place in
-    record { fits = content_fits board putting.slot room.0 c.args.begin c.args.index putting.begin_is (omega (arith, putting.more, room.1.1)) }
+overflow_add-place c =
+    let board = stands c.self.view_is c.self.invariant in
+    let putting = c.requires in
+    let room = subst (RoomAt c.args.self.now.shape putting.desk) putting.place putting.writes.room.place in
+    record {
+      fits = content_fits board putting.slot room.0 c.args.begin c.args.index putting.begin_is
+          (omega (arith, putting.more, room.1.1));
+    }
 
 pub store-requires : goal.store-requires
-store-requires c = let shared = c.self.inside.table.shared in let board = stands c.self.view_is c.self.invariant in let seat = c.args.seat.now in
-    let putting = c.requires in let room = subst (RoomAt c.args.self.now.shape putting.desk) putting.place putting.writes.room.place in
+store-requires c =
+    let shared = c.self.inside.table.shared in
+    let board = stands c.self.view_is c.self.invariant in
+    let seat = c.args.seat.now in
+    let putting = c.requires in
+    let room = subst (RoomAt c.args.self.now.shape putting.desk) putting.place putting.writes.room.place in
     let n : ℕ = shared.table_id.slots in (
       ap (λ (t : Table). t.id) (putting.writes.own ∙ sym c.self.view_is),
-      content_in board putting.slot room.0 c.args.begin c.args.index putting.begin_is (omega (arith, putting.more, room.1.1)),
-      subst (λ (p : ℕ × ℕ). Allows (Kept shared.key.shape) n seat.id seat.me p.0 (λ _. p.1) (λ _ after. (other : Desk) → seat.me.0.role ≡ Writer other
+      content_in board putting.slot room.0 c.args.begin c.args.index putting.begin_is
+          (omega (arith, putting.more, room.1.1)),
+      subst
+          (λ (p : ℕ × ℕ). Allows (Kept shared.key.shape) n seat.id seat.me p.0 (λ _. p.1)
+          (λ _ after. (other : Desk) → seat.me.0.role ≡ Writer other
           → Put other seat.me.0 after.0)) (λ j. (
             sym (content_at board putting.slot room.0 c.args.begin c.args.index putting.begin_is) j,
             sym putting.word_is j,
           ))
-          (puts_so shared.key.shape n seat.id seat.me putting.desk putting.call putting.rows putting.slot putting.departed c.args.index putting.writes.role putting.place putting.more),
+          (puts_so shared.key.shape n seat.id seat.me putting.desk putting.call putting.rows putting.slot
+          putting.departed c.args.index putting.writes.role putting.place putting.more),
     )
 
 pub returns : goal.returns
-returns c = λ desk is. put_seat c.args.self.now c.args.seat.now c.store.new.seat c.store.ensures.0 c.requires.writes.own desk (c.store.ensures.2 desk is)
+returns
+    c = λ desk is. put_seat c.args.self.now c.args.seat.now c.store.new.seat c.store.ensures.0 c.requires.writes.own
+    desk (c.store.ensures.2 desk is)

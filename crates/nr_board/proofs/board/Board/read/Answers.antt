@@ -16,24 +16,52 @@ use Rattle.nr_board.specs.Views.{grip_of, rows_held, slot_held}
 use Rattle.nr_board.proofs.board.Board.read.Goals as goal
 
 pub overflow_add-place : goal.overflow_add-place
-overflow_add-place c = let board = stands c.self.view_is c.self.invariant in let reader = c.requires.reader in let words = length-encode (rows_held c.args.seat.now.me.0.role) in
-    record { fits = content_fits board (slot_held c.args.seat.now.me.0.role) reader.holds.inside c.args.begin c.args.index reader.begin_is (omega (arith, c.requires.index, reader.holds.row_set.1)) }
+overflow_add-place c =
+    let board = stands c.self.view_is c.self.invariant in
+    let reader = c.requires.reader in
+    let words = length-encode (rows_held c.args.seat.now.me.0.role) in
+    record {
+      fits = content_fits board (slot_held c.args.seat.now.me.0.role) reader.holds.inside c.args.begin
+          c.args.index reader.begin_is (omega (arith, c.requires.index, reader.holds.row_set.1));
+    }
 
 pub load-requires : goal.load-requires
-load-requires c = let shared = c.self.inside.table.shared in let board = stands c.self.view_is c.self.invariant in let seat = c.args.seat.now in let reader = c.requires.reader in let words = length-encode (rows_held seat.me.0.role) in
-    let slot : ℕ = slot_held seat.me.0.role in let index : ℕ = c.args.index in let place = content_at board slot reader.holds.inside c.args.begin index reader.begin_is in (
+load-requires c =
+    let shared = c.self.inside.table.shared in
+    let board = stands c.self.view_is c.self.invariant in
+    let seat = c.args.seat.now in
+    let reader = c.requires.reader in
+    let words = length-encode (rows_held seat.me.0.role) in
+    let slot : ℕ = slot_held seat.me.0.role in
+    let index : ℕ = c.args.index in
+    let place = content_at board slot reader.holds.inside c.args.begin index reader.begin_is in (
       ap (λ (t : Table). t.id) (reader.own ∙ sym c.self.view_is),
-      content_in board slot reader.holds.inside c.args.begin index reader.begin_is (omega (arith, c.requires.index, reader.holds.row_set.1)),
-      subst (λ (at : ℕ). Allows (Kept shared.key.shape) shared.table_id.slots seat.id seat.me at (λ n. n) (has_read_word (step shared.table_id.slots at 0 0 none) seat.me)) (sym place)
-          (reads_so shared.key.shape shared.table_id.slots seat.id seat.me index reader.holds.is (omega (arith, reader.holds.inside, ap (λ (s : Shape). s.slots) board.key_is))
-          (omega (arith, words, c.requires.index, reader.holds.row_set.1, ap (λ (s : Shape). s.rows) board.key_is)) c.requires.index (ap (λ (t : Table). t.shape) reader.own ∙ sym board.key_is)),
+      content_in board slot reader.holds.inside c.args.begin index reader.begin_is
+          (omega (arith, c.requires.index, reader.holds.row_set.1)),
+      subst
+          (λ (at : ℕ). Allows (Kept shared.key.shape) shared.table_id.slots seat.id seat.me at (λ n. n)
+          (has_read_word (step shared.table_id.slots at 0 0 none) seat.me))
+          (sym place)
+          (reads_so shared.key.shape shared.table_id.slots seat.id seat.me index reader.holds.is
+          (omega (arith, reader.holds.inside, ap (λ (s : Shape). s.slots) board.key_is))
+          (omega (arith, words, c.requires.index, reader.holds.row_set.1, ap (λ (s : Shape). s.rows) board.key_is))
+          c.requires.index (ap (λ (t : Table). t.shape) reader.own ∙ sym board.key_is)),
     )
 
 pub returns : goal.returns
-returns c = let before = c.args.seat.now in let told = c.load.ensures.2 in let index : ℕ = c.args.index in let reader = c.requires.reader in
+returns c =
+    let before = c.args.seat.now in
+    let told = c.load.ensures.2 in
+    let index : ℕ = c.args.index in
+    let reader = c.requires.reader in
     let shape_is = ap (λ (t : Table). t.shape) reader.own in let slot : ℕ = slot_held before.me.0.role in
-    let back : c.args.begin + c.args.index - content before.me.0.shape slot 0 ≡ index = ap (λ (s : Shape). c.args.begin + c.args.index - content s slot 0) shape_is ∙ omega (arith, reader.begin_is) in
-    let still = read_seat c.args.self.now before c.load.new.seat c.load.ensures.0 c.args.begin (c.args.begin + c.args.index) c.load.result reader told in record {
+    let back : c.args.begin + c.args.index - content before.me.0.shape slot 0 ≡ index
+    = ap (λ (s : Shape). c.args.begin + c.args.index - content s slot 0) shape_is
+    ∙ omega (arith, reader.begin_is) in
+    let still
+    = read_seat c.args.self.now before c.load.new.seat c.load.ensures.0 c.args.begin (c.args.begin + c.args.index)
+    c.load.result reader told in
+    record {
       value = told.value ∙ ap (λ (i : ℕ). get_or (encode (rows_held before.me.0.role)) i 0) back;
       reader = still.0;
       rows = still.1;

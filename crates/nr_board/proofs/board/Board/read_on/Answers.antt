@@ -13,19 +13,41 @@ use Rattle.nr_board.specs.Rule.{Kept}
 use Rattle.nr_board.proofs.board.Board.read_on.Goals as goal
 
 pub overflow_add-place : goal.overflow_add-place
-overflow_add-place c = let board = stands c.self.view_is c.self.invariant in let reading = c.requires in let room = subst (RoomAt c.args.self.now.shape reading.desk) reading.place reading.writes.room.place in
-    record { fits = content_fits board reading.slot room.0 c.args.begin c.args.index reading.begin_is (omega (arith, reading.index_is, room.1)) }
+overflow_add-place c =
+    let board = stands c.self.view_is c.self.invariant in
+    let reading = c.requires in
+    let room = subst (RoomAt c.args.self.now.shape reading.desk) reading.place reading.writes.room.place in
+    record {
+      fits = content_fits board reading.slot room.0 c.args.begin c.args.index reading.begin_is
+          (omega (arith, reading.index_is, room.1));
+    }
 
 pub load-requires : goal.load-requires
-load-requires c = let shared = c.self.inside.table.shared in let board = stands c.self.view_is c.self.invariant in let seat = c.args.seat.now in let reading = c.requires in
+load-requires c =
+    let shared = c.self.inside.table.shared in
+    let board = stands c.self.view_is c.self.invariant in
+    let seat = c.args.seat.now in
+    let reading = c.requires in
     let room = subst (RoomAt c.args.self.now.shape reading.desk) reading.place reading.writes.room.place in
-    let place = content_at board reading.slot room.0 c.args.begin c.args.index reading.begin_is ∙ ap (content shared.key.shape reading.slot) reading.index_is in
-    let n : ℕ = shared.table_id.slots in let at = record reading.desk { place = Reading reading.call reading.slot reading.got } in (
+    let place
+    = content_at board reading.slot room.0 c.args.begin c.args.index reading.begin_is
+    ∙ ap (content shared.key.shape reading.slot) reading.index_is in
+    let n : ℕ = shared.table_id.slots in
+    let at = record reading.desk { place = Reading reading.call reading.slot reading.got } in (
       ap (λ (t : Table). t.id) (reading.writes.own ∙ sym c.self.view_is),
-      content_in board reading.slot room.0 c.args.begin c.args.index reading.begin_is (omega (arith, reading.index_is, room.1)),
-      subst (λ (p : ℕ). Allows (Kept shared.key.shape) n seat.id seat.me p (λ w. w) (λ found after. (other : Desk) → seat.me.0.role ≡ Writer other → Went other found seat.me.0 after.0)) (sym place)
-          (goes_so shared.key.shape n seat.id seat.me at (desk_at seat.me.0.role reading.desk (Reading reading.call reading.slot reading.got) reading.writes.role reading.place) refl tt tt),
+      content_in board reading.slot room.0 c.args.begin c.args.index reading.begin_is
+          (omega (arith, reading.index_is, room.1)),
+      subst
+          (λ (p : ℕ). Allows (Kept shared.key.shape) n seat.id seat.me p (λ w. w)
+          (λ found after. (other : Desk) → seat.me.0.role ≡ Writer other → Went other found seat.me.0 after.0))
+          (sym place)
+          (goes_so shared.key.shape n seat.id seat.me at
+          (desk_at seat.me.0.role reading.desk (Reading reading.call reading.slot reading.got) reading.writes.role
+          reading.place)
+          refl tt tt),
     )
 
 pub returns : goal.returns
-returns c = λ desk is. gone_seat c.args.self.now c.args.seat.now c.load.new.seat c.load.ensures.0 c.requires.writes.own desk c.load.result (c.load.ensures.2 desk is)
+returns
+    c = λ desk is. gone_seat c.args.self.now c.args.seat.now c.load.new.seat c.load.ensures.0 c.requires.writes.own desk
+    c.load.result (c.load.ensures.2 desk is)

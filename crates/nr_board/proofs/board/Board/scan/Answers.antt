@@ -15,11 +15,21 @@ pub own_word-place-requires : goal.own_word-place-requires
 own_word-place-requires c = c.requires.within
 
 pub load-requires : goal.load-requires
-load-requires c = let shared = c.self.inside.table.shared in let board = stands c.self.view_is c.self.invariant in let seat = c.args.seat.now in let n : ℕ = shared.table_id.slots in
-    let is = c.own_word-place.ensures.place in let scans = c.requires in let within : c.args.own < seat.me.0.announcers = omega (arith, scans.within, ap (λ (t : Table). t.announcers) scans.own_table) in (
+load-requires c =
+    let shared = c.self.inside.table.shared in
+    let board = stands c.self.view_is c.self.invariant in
+    let seat = c.args.seat.now in
+    let n : ℕ = shared.table_id.slots in
+    let is = c.own_word-place.ensures.place in
+    let scans = c.requires in
+    let within : c.args.own < seat.me.0.announcers
+    = omega (arith, scans.within, ap (λ (t : Table). t.announcers) scans.own_table) in (
       ap (λ (t : Table). t.id) (scans.own_table ∙ sym c.self.view_is),
       said_in board c.args.own scans.within is,
-      subst (λ (at : ℕ). Allows (Kept shared.key.shape) n seat.id seat.me at (λ w. w) (has_scanned (step n at 0 0 none) seat.me)) (sym (said_at board c.args.own is))
+      subst
+          (λ (at : ℕ). Allows (Kept shared.key.shape) n seat.id seat.me at (λ w. w)
+          (has_scanned (step n at 0 0 none) seat.me))
+          (sym (said_at board c.args.own is))
           (scans_so shared.key.shape n seat.id c.args.own seat.me scans.desk scans.role within),
     )
 
@@ -27,5 +37,10 @@ pub returns-clause-own : goal.returns-clause-own
 returns-clause-own c = c.load.ensures.0
 
 pub returns-clause-hears : goal.returns-clause-hears
-returns-clause-hears c = let seat = c.args.seat.now in let scans = c.requires in let within : c.args.own < seat.me.0.announcers = omega (arith, scans.within, ap (λ (t : Table). t.announcers) scans.own_table) in
-    λ desk is. c.load.ensures.2 desk c.args.own is within (c.own_word-place.ensures.place ∙ ap (λ (t : Table). says_at t.shape c.args.own) (sym scans.own_table))
+returns-clause-hears c =
+    let seat = c.args.seat.now in
+    let scans = c.requires in
+    let within : c.args.own < seat.me.0.announcers
+    = omega (arith, scans.within, ap (λ (t : Table). t.announcers) scans.own_table) in
+    λ desk is. c.load.ensures.2 desk c.args.own is within
+    (c.own_word-place.ensures.place ∙ ap (λ (t : Table). says_at t.shape c.args.own) (sym scans.own_table))

@@ -13,17 +13,33 @@ pub own_word-place-requires : goal.own_word-place-requires
 own_word-place-requires c = c.requires.within
 
 pub load-requires : goal.load-requires
-load-requires c = let shared = c.self.inside.table.shared in let board = stands c.self.view_is c.self.invariant in let seat = c.args.seat.now in let n : ℕ = shared.table_id.slots in
-    let is = c.own_word-place.ensures.place in let search = c.requires.search in let within : c.args.own < seat.me.0.announcers = omega (arith, c.requires.within, ap (λ (t : Table). t.announcers) search.own) in (
+load-requires c =
+    let shared = c.self.inside.table.shared in
+    let board = stands c.self.view_is c.self.invariant in
+    let seat = c.args.seat.now in
+    let n : ℕ = shared.table_id.slots in
+    let is = c.own_word-place.ensures.place in
+    let search = c.requires.search in
+    let within : c.args.own < seat.me.0.announcers
+    = omega (arith, c.requires.within, ap (λ (t : Table). t.announcers) search.own) in (
       ap (λ (t : Table). t.id) (search.own ∙ sym c.self.view_is),
       said_in board c.args.own c.requires.within is,
-      subst (λ (at : ℕ). Allows (Kept shared.key.shape) n seat.id seat.me at (λ w. w) (has_searched (step n at 0 0 none) seat.me)) (sym (said_at board c.args.own is))
-          (has_searched_so shared.key.shape n seat.id seat.me search.desk search.call search.rows search.role search.place (ap (λ (t : Table). t.shape) search.own ∙ sym board.key_is) c.args.own within),
+      subst
+          (λ (at : ℕ). Allows (Kept shared.key.shape) n seat.id seat.me at (λ w. w)
+          (has_searched (step n at 0 0 none) seat.me))
+          (sym (said_at board c.args.own is))
+          (has_searched_so shared.key.shape n seat.id seat.me search.desk search.call search.rows search.role
+          search.place (ap (λ (t : Table). t.shape) search.own ∙ sym board.key_is) c.args.own within),
     )
 
 pub returns-clause-own : goal.returns-clause-own
 returns-clause-own c = c.load.ensures.0
 
 pub returns-clause-hears : goal.returns-clause-hears
-returns-clause-hears c = let seat = c.args.seat.now in let search = c.requires.search in let within : c.args.own < seat.me.0.announcers = omega (arith, c.requires.within, ap (λ (t : Table). t.announcers) search.own) in
-    λ desk call rows is is_at. c.load.ensures.2 desk call rows c.args.own is is_at within (c.own_word-place.ensures.place ∙ ap (λ (t : Table). says_at t.shape c.args.own) (sym search.own))
+returns-clause-hears c =
+    let seat = c.args.seat.now in
+    let search = c.requires.search in
+    let within : c.args.own < seat.me.0.announcers
+    = omega (arith, c.requires.within, ap (λ (t : Table). t.announcers) search.own) in
+    λ desk call rows is is_at. c.load.ensures.2 desk call rows c.args.own is is_at within
+    (c.own_word-place.ensures.place ∙ ap (λ (t : Table). says_at t.shape c.args.own) (sym search.own))

@@ -7,21 +7,50 @@ use Rattle.nr_board.specs.WholeScans.{ScannedTo}
 use Rattle.nr_board.proofs.board.Board.search_retired.Goals as goal
 
 pub returns-in-Some-clause-searches : goal.returns-in-Some-clause-searches
-returns-in-Some-clause-searches c = takes_first c.args.self.now c.args.spare.now c.pass.new.spare c.args.unheard.now c.args.seat.now c.pass.new.seat c.in-Some.taken c.requires.flagged c.requires.begins c.in-Some.ensures
+returns-in-Some-clause-searches c =
+    takes_first c.args.self.now c.args.spare.now c.pass.new.spare c.args.unheard.now c.args.seat.now c.pass.new.seat
+    c.in-Some.taken c.requires.flagged c.requires.begins c.in-Some.ensures
 
 pub returns-in-Some-pass-clause-searches : goal.returns-in-Some-pass-clause-searches
-returns-in-Some-pass-clause-searches c = let map = c.args.self.now in let spare = c.args.spare.now in let first = c.in_default.ensures in let scan = c.scan_words.ensures in
-    takes_second map spare c.args.unheard.now c.scan_words.new.unheard c.args.seat.now c.pass.new.seat c.scan_words.new.seat c.requires.flagged first.1 c.requires.begins scan.own first.1.search.search.own scan.few c.requires.some_words
-    (subst (λ (s : Spare). ScannedTo s.retired c.pass.new.seat.me.0 c.scan_words.new.seat.me.0 c.scan_words.new.unheard map.announcers) first.0 scan.scans)
-    (subst (λ (s : Spare). Flagged map s.retired c.scan_words.new.seat.me.0.heard c.scan_words.new.unheard) first.0 scan.flagged)
+returns-in-Some-pass-clause-searches c =
+    let map = c.args.self.now in
+    let spare = c.args.spare.now in
+    let first = c.in_default.ensures in
+    let scan = c.scan_words.ensures in
+    takes_second map spare c.args.unheard.now c.scan_words.new.unheard c.args.seat.now c.pass.new.seat
+    c.scan_words.new.seat c.requires.flagged first.1 c.requires.begins scan.own first.1.search.search.own scan.few
+    c.requires.some_words
+    (subst
+    (λ (s : Spare). ScannedTo s.retired c.pass.new.seat.me.0 c.scan_words.new.seat.me.0 c.scan_words.new.unheard
+    map.announcers)
+    first.0 scan.scans)
+    (subst (λ (s : Spare). Flagged map s.retired c.scan_words.new.seat.me.0.heard c.scan_words.new.unheard) first.0
+    scan.flagged)
     c.pass-2.new.spare c.pass-2.new.seat c.in-Some-pass.taken
-    (subst (λ (s : Spare). PassTakes map c.scan_words.new.unheard c.scan_words.new.seat s c.pass-2.new.seat c.pass-2.new.spare c.in-Some-pass.taken) first.0 c.in-Some-pass.ensures)
+    (subst
+    (λ (s : Spare). PassTakes map c.scan_words.new.unheard c.scan_words.new.seat s c.pass-2.new.seat
+    c.pass-2.new.spare c.in-Some-pass.taken)
+    first.0 c.in-Some-pass.ensures)
 
 pub returns-clause-searches : goal.returns-clause-searches
-returns-clause-searches c = let map = c.args.self.now in let spare = c.args.spare.now in let first = c.in_default.ensures in let scan = c.scan_words.ensures in let second = c.in_default-pass.ensures in
-    lacks_so map spare c.args.unheard.now c.scan_words.new.unheard c.args.seat.now c.pass.new.seat c.scan_words.new.seat c.requires.flagged first.1 c.requires.begins scan.own first.1.search.search.own scan.few c.requires.some_words
-    (subst (λ (s : Spare). ScannedTo s.retired c.pass.new.seat.me.0 c.scan_words.new.seat.me.0 c.scan_words.new.unheard map.announcers) first.0 scan.scans)
-    (subst (λ (s : Spare). Flagged map s.retired c.scan_words.new.seat.me.0.heard c.scan_words.new.unheard) first.0 scan.flagged)
+returns-clause-searches c =
+    let map = c.args.self.now in
+    let spare = c.args.spare.now in
+    let first = c.in_default.ensures in
+    let scan = c.scan_words.ensures in
+    let second = c.in_default-pass.ensures in
+    lacks_so map spare c.args.unheard.now c.scan_words.new.unheard c.args.seat.now c.pass.new.seat c.scan_words.new.seat
+    c.requires.flagged first.1 c.requires.begins scan.own first.1.search.search.own scan.few c.requires.some_words
+    (subst
+    (λ (s : Spare). ScannedTo s.retired c.pass.new.seat.me.0 c.scan_words.new.seat.me.0 c.scan_words.new.unheard
+    map.announcers)
+    first.0 scan.scans)
+    (subst (λ (s : Spare). Flagged map s.retired c.scan_words.new.seat.me.0.heard c.scan_words.new.unheard) first.0
+    scan.flagged)
     c.pass-2.new.spare c.pass-2.new.seat c.give_up.new.seat c.counts.result
-    (subst (λ (s : Spare). PassedTo map s c.scan_words.new.unheard c.scan_words.new.seat c.pass-2.new.seat (length s.retired)) first.0 second.1)
-    c.give_up.ensures.own c.give_up.ensures.ends (second.0 ∙ first.0) (c.counts.ensures ∙ ap none_spare (second.0 ∙ first.0))
+    (subst
+    (λ (s : Spare). PassedTo map s c.scan_words.new.unheard c.scan_words.new.seat c.pass-2.new.seat
+    (length s.retired))
+    first.0 second.1)
+    c.give_up.ensures.own c.give_up.ensures.ends (second.0 ∙ first.0)
+    (c.counts.ensures ∙ ap none_spare (second.0 ∙ first.0))

@@ -9,14 +9,22 @@ use Rattle.nr_board.proofs.board.Board.sweep_heard.Goals as goal
 
 pub returns-clause-sweeps : goal.returns-clause-sweeps
 returns-clause-sweeps c = let spare = c.args.spare.now in let before = c.args.seat.now in
-    let some_words : 0 < before.me.0.announcers = omega (arith, c.announcers.ensures.value, c.if-announcers-eq0.false, ap (λ (t : Table). t.announcers) c.requires.rests.writes.own) in
-    let loads : c.args.self.now.announcers ≡ before.me.0.announcers = ap (λ (t : Table). t.announcers) (sym c.requires.rests.writes.own) in
+    let some_words : 0 < before.me.0.announcers
+    = omega (
+      arith,
+      c.announcers.ensures.value,
+      c.if-announcers-eq0.false,
+      ap (λ (t : Table). t.announcers) c.requires.rests.writes.own,
+    ) in
+    let loads : c.args.self.now.announcers ≡ before.me.0.announcers
+    = ap (λ (t : Table). t.announcers) (sym c.requires.rests.writes.own) in
     let scan = c.scan_at_rest.ensures.hears in let heard = c.scan_at_rest.new.seat.me.0.heard in
     let held : SweepsFor spare before c.sweep-first.new.seat sweep.Held = elim c.match-matches.branch [
       | in-Held w ↦ w.in-Held.ensures.sweeps
       | in_default w ↦ absurd (let clash : true ≡ false = sym c.if-not-matches.false ∙ w.matches-is in cc)
     ] in
-    let slots : c.sweep-first.new.seat.me.0.shape.slots ≡ before.me.0.shape.slots = ap (λ (v : View). v.shape.slots) held.3 in
+    let slots : c.sweep-first.new.seat.me.0.shape.slots ≡ before.me.0.shape.slots
+    = ap (λ (v : View). v.shape.slots) held.3 in
     inr (
       some_words,
       c.sweep-first.new.seat,

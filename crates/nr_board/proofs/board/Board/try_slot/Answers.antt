@@ -25,27 +25,51 @@ near : (table : Table) (entry : Retired) (seat : MapSeat) → TriesAt table entr
 near table entry seat tries = tries.search.room.inside tries.poll entry tries.here
 
 pub departures-place-requires-clause-has : goal.departures-place-requires-clause-has
-departures-place-requires-clause-has c = let low = near c.args.self.now c.args.entry c.args.seat.now c.requires in omega (arith, low, ap (λ (l : Layout). l.slots) c.layout.ensures.value)
+departures-place-requires-clause-has c =
+    let low = near c.args.self.now c.args.entry c.args.seat.now c.requires in
+    omega (arith, low, ap (λ (l : Layout). l.slots) c.layout.ensures.value)
 
 pub load-requires : goal.load-requires
-load-requires c = let shared = c.self.inside.table.shared in let board = stands c.self.view_is c.self.invariant in let seat = c.args.seat.now in let tries = c.requires in let entry = c.args.entry in
+load-requires c =
+    let shared = c.self.inside.table.shared in
+    let board = stands c.self.view_is c.self.invariant in
+    let seat = c.args.seat.now in
+    let tries = c.requires in
+    let entry = c.args.entry in
     let search = tries.search in let n : ℕ = shared.table_id.slots in let low = near c.args.self.now entry seat tries in
-    let is : c.departures-place.result ≡ departures c.args.self.now.shape entry.slot = c.departures-place.ensures.place ∙ ap (λ (l : Layout). place_of l (Departures entry.slot)) c.layout.ensures.value in (
+    let is : c.departures-place.result ≡ departures c.args.self.now.shape entry.slot
+    = c.departures-place.ensures.place
+    ∙ ap (λ (l : Layout). place_of l (Departures entry.slot)) c.layout.ensures.value in (
       ap (λ (t : Table). t.id) (search.own ∙ sym c.self.view_is),
       departures_in board entry.slot low is,
-      subst (λ (at : ℕ). Allows (Kept shared.key.shape) n seat.id seat.me at (λ w. w) (has_tried (step n at 0 0 none) seat.me)) (sym (departures_at board entry.slot low is))
-          (has_tried_so shared.key.shape n seat.id seat.me search.desk search.call search.rows search.role search.place (ap (λ (t : Table). t.shape) search.own ∙ sym board.key_is) tries.poll entry tries.here
-          (inside_list search.desk.retired tries.poll entry tries.here) (there_is search.desk.retired tries.poll entry tries.here)
-          (subst (λ (n : ℕ). n ≤ get_or seat.me.0.heard entry.slot 0) (sym (ap (λ (t : Table). t.announcers) search.own)) tries.heard)),
+      subst
+          (λ (at : ℕ). Allows (Kept shared.key.shape) n seat.id seat.me at (λ w. w)
+          (has_tried (step n at 0 0 none) seat.me))
+          (sym (departures_at board entry.slot low is))
+          (has_tried_so shared.key.shape n seat.id seat.me search.desk search.call search.rows search.role search.place
+          (ap (λ (t : Table). t.shape) search.own ∙ sym board.key_is) tries.poll entry tries.here
+          (inside_list search.desk.retired tries.poll entry tries.here)
+          (there_is search.desk.retired tries.poll entry tries.here)
+          (subst (λ (n : ℕ). n ≤ get_or seat.me.0.heard entry.slot 0)
+          (sym (ap (λ (t : Table). t.announcers) search.own)) tries.heard)),
     )
 
 pub returns-clause-own : goal.returns-clause-own
 returns-clause-own c = c.load.ensures.0
 
 pub returns-clause-tries : goal.returns-clause-tries
-returns-clause-tries c = let seat = c.args.seat.now in let tries = c.requires in let entry = c.args.entry in let search = tries.search in let size = ap (λ (t : Table). t.shape) search.own in
-    let is : c.departures-place.result ≡ departures c.args.self.now.shape entry.slot = c.departures-place.ensures.place ∙ ap (λ (l : Layout). place_of l (Departures entry.slot)) c.layout.ensures.value in
+returns-clause-tries c =
+    let seat = c.args.seat.now in
+    let tries = c.requires in
+    let entry = c.args.entry in
+    let search = tries.search in
+    let size = ap (λ (t : Table). t.shape) search.own in
+    let is : c.departures-place.result ≡ departures c.args.self.now.shape entry.slot
+    = c.departures-place.ensures.place
+    ∙ ap (λ (l : Layout). place_of l (Departures entry.slot)) c.layout.ensures.value in
     λ desk call rows poll is_desk is_at here. c.load.ensures.2 desk call rows poll is_desk is_at
-    (subst (λ (s : Shape). Room s desk) (sym size) (subst (Room c.args.self.now.shape) (sym (ap desk_of search.role) ∙ ap desk_of is_desk) search.room))
+    (subst (λ (s : Shape). Room s desk) (sym size)
+    (subst (Room c.args.self.now.shape) (sym (ap desk_of search.role) ∙ ap desk_of is_desk) search.room))
     (inside_list desk.retired poll entry here)
-    (is ∙ ap (λ (s : Shape). departures s entry.slot) (sym size) ∙ ap (λ (e : Retired). departures seat.me.0.shape e.slot) (there_is desk.retired poll entry here))
+    (is ∙ ap (λ (s : Shape). departures s entry.slot) (sym size)
+    ∙ ap (λ (e : Retired). departures seat.me.0.shape e.slot) (there_is desk.retired poll entry here))

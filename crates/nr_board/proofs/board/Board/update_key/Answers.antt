@@ -7,20 +7,43 @@ use Rattle.nr_board.specs.WriterSeats.{Settles}
 use Rattle.nr_board.proofs.board.Board.update_key.Goals as goal
 
 pub publish_set-requires : goal.publish_set-requires
-publish_set-requires g c = let begun = c.in_ok-begin_update.ensures in let is = begun.3 ∙ ap Ok (sym c.as_slice.ensures.value) in record {
-  settles = subst (λ (call : WriterCall). Settles c.args.self.now call c.as_slice.result.now c.args.spare.now c.begin_update.new.seat) (sym c.requires.call) (has_renewed begun.2 is).settles;
-  flagged = subst (λ (heard : List ℕ). IsFlagged c.args.self.now c.args.spare.now.retired heard c.args.unheard.now) (sym begun.2.heard) c.requires.flagged;
-  call = ap key_of (sym c.requires.call);
-  key = c.requires.key;
-}
+publish_set-requires g c =
+    let begun = c.in_ok-begin_update.ensures in
+    let is = begun.3 ∙ ap Ok (sym c.as_slice.ensures.value) in
+    record {
+      settles =
+          subst
+          (λ (call : WriterCall). Settles c.args.self.now call c.as_slice.result.now c.args.spare.now
+          c.begin_update.new.seat)
+          (sym c.requires.call) (has_renewed begun.2 is).settles;
+      flagged =
+          subst (λ (heard : List ℕ). IsFlagged c.args.self.now c.args.spare.now.retired heard c.args.unheard.now)
+          (sym begun.2.heard) c.requires.flagged;
+      call = ap key_of (sym c.requires.call);
+      key = c.requires.key;
+    }
 
 pub returns-in-Err : goal.returns-in-Err
-returns-in-Err g c = let begun = c.in_ok-begin_update.ensures in let is = begun.3 ∙ ap Ok (sym c.as_slice.ensures.value) in
-    let told = has_not_updated begun.2 is c.requires.call c.requires.key c.in-Err.ensures.publishes in record { rests = told.0; flagged = c.in-Err.ensures.flagged; updates = (begun.1, c.as_slice.result.now, is, told.1.0, told.1.1) }
+returns-in-Err g c =
+    let begun = c.in_ok-begin_update.ensures in
+    let is = begun.3 ∙ ap Ok (sym c.as_slice.ensures.value) in
+    let told = has_not_updated begun.2 is c.requires.call c.requires.key c.in-Err.ensures.publishes in
+    record {
+      rests = told.0;
+      flagged = c.in-Err.ensures.flagged;
+      updates = (begun.1, c.as_slice.result.now, is, told.1.0, told.1.1);
+    }
 
 pub returns : goal.returns
 returns g c = let begun = c.in_ok-begin_update.ensures in let is = begun.3 ∙ ap Ok (sym c.as_slice.ensures.value) in
-    let told = has_updated begun.2 is c.requires.call c.requires.key c.in_default.ensures.publishes in record { rests = told.0; flagged = c.in_default.ensures.flagged; updates = (begun.1, c.as_slice.result.now, is, told.1.0, told.1.1) }
+    let told = has_updated begun.2 is c.requires.call c.requires.key c.in_default.ensures.publishes in
+    record {
+      rests = told.0;
+      flagged = c.in_default.ensures.flagged;
+      updates = (begun.1, c.as_slice.result.now, is, told.1.0, told.1.1);
+    }
 
 pub returns-in_err-begin_update-clause-flagged : goal.returns-in_err-begin_update-clause-flagged
-returns-in_err-begin_update-clause-flagged g c = subst (λ (heard : List ℕ). IsFlagged c.args.self.now c.args.spare.now.retired heard c.args.unheard.now) (sym c.in_err-begin_update.ensures.2) c.requires.flagged
+returns-in_err-begin_update-clause-flagged g c =
+    subst (λ (heard : List ℕ). IsFlagged c.args.self.now c.args.spare.now.retired heard c.args.unheard.now)
+    (sym c.in_err-begin_update.ensures.2) c.requires.flagged

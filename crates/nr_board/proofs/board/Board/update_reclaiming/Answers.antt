@@ -8,21 +8,55 @@ use Rattle.nr_board.specs.WriterSeats.{Settles}
 use Rattle.nr_board.proofs.board.Board.update_reclaiming.Goals as goal
 
 pub publish_reclaiming-requires : goal.publish_reclaiming-requires
-publish_reclaiming-requires g c = let begun = c.in_ok-begin_update.ensures in let is = begun.3 ∙ ap Ok (sym c.as_slice.ensures.value) in record {
-  settles = subst (λ (call : WriterCall). Settles c.args.self.now call c.as_slice.result.now c.args.spare.now c.begin_update.new.seat) (sym c.requires.call) (has_renewed begun.2 is).settles;
-  flagged = subst (λ (heard : List ℕ). IsFlagged c.args.self.now c.args.spare.now.retired heard c.args.unheard.now) (sym begun.2.heard) c.requires.flagged;
-  call = ap key_of (sym c.requires.call);
-  key = c.requires.key;
-}
+publish_reclaiming-requires g c =
+    let begun = c.in_ok-begin_update.ensures in
+    let is = begun.3 ∙ ap Ok (sym c.as_slice.ensures.value) in
+    record {
+      settles =
+          subst
+          (λ (call : WriterCall). Settles c.args.self.now call c.as_slice.result.now c.args.spare.now
+          c.begin_update.new.seat)
+          (sym c.requires.call) (has_renewed begun.2 is).settles;
+      flagged =
+          subst (λ (heard : List ℕ). IsFlagged c.args.self.now c.args.spare.now.retired heard c.args.unheard.now)
+          (sym begun.2.heard) c.requires.flagged;
+      call = ap key_of (sym c.requires.call);
+      key = c.requires.key;
+    }
 
 pub returns-in-Ok : goal.returns-in-Ok
-returns-in-Ok g c = let begun = c.in_ok-begin_update.ensures in let is = begun.3 ∙ ap Ok (sym c.as_slice.ensures.value) in let put = c.in-Ok.ensures.publishes in
+returns-in-Ok g c =
+    let begun = c.in_ok-begin_update.ensures in
+    let is = begun.3 ∙ ap Ok (sym c.as_slice.ensures.value) in
+    let put = c.in-Ok.ensures.publishes in
     let told = has_updated_later begun.2 is c.requires.call c.requires.key put.0 put.1 in
-    record { rests = told.0; flagged = c.in-Ok.ensures.flagged; updates = record { set = begun.1; left = c.as_slice.result.now; applies = is; steps = put.0; published = told.1.0; had = told.1.1; gives = given_out g.R.RowRoom.shows _ put.1.slot _ _ put.0 c.in-Ok.given (has_renewed begun.2 is) c.requires.own told.1.2 put.2 } }
+    record {
+      rests = told.0;
+      flagged = c.in-Ok.ensures.flagged;
+      updates = record {
+        set = begun.1;
+        left = c.as_slice.result.now;
+        applies = is;
+        steps = put.0;
+        published = told.1.0;
+        had = told.1.1;
+        gives = given_out g.R.RowRoom.shows _ put.1.slot _ _ put.0 c.in-Ok.given (has_renewed begun.2 is)
+            c.requires.own told.1.2 put.2;
+      };
+    }
 
 pub returns-in-Err : goal.returns-in-Err
-returns-in-Err g c = let begun = c.in_ok-begin_update.ensures in let is = begun.3 ∙ ap Ok (sym c.as_slice.ensures.value) in
-    let told = has_not_updated begun.2 is c.requires.call c.requires.key c.in-Err.ensures.publishes.0 in record { rests = told.0; flagged = c.in-Err.ensures.flagged; updates = ((begun.1, c.as_slice.result.now, is, told.1.0, told.1.1), c.in-Err.ensures.publishes.1) }
+returns-in-Err g c =
+    let begun = c.in_ok-begin_update.ensures in
+    let is = begun.3 ∙ ap Ok (sym c.as_slice.ensures.value) in
+    let told = has_not_updated begun.2 is c.requires.call c.requires.key c.in-Err.ensures.publishes.0 in
+    record {
+      rests = told.0;
+      flagged = c.in-Err.ensures.flagged;
+      updates = ((begun.1, c.as_slice.result.now, is, told.1.0, told.1.1), c.in-Err.ensures.publishes.1);
+    }
 
 pub returns-in_err-begin_update-clause-flagged : goal.returns-in_err-begin_update-clause-flagged
-returns-in_err-begin_update-clause-flagged g c = subst (λ (heard : List ℕ). IsFlagged c.args.self.now c.args.spare.now.retired heard c.args.unheard.now) (sym c.in_err-begin_update.ensures.2) c.requires.flagged
+returns-in_err-begin_update-clause-flagged g c =
+    subst (λ (heard : List ℕ). IsFlagged c.args.self.now c.args.spare.now.retired heard c.args.unheard.now)
+    (sym c.in_err-begin_update.ensures.2) c.requires.flagged

@@ -14,19 +14,35 @@ use Rattle.nr_board.specs.Rule.{Kept}
 use Rattle.nr_board.proofs.board.Board.withdraw.Goals as goal
 
 pub hole_word-hole-requires : goal.hole_word-hole-requires
-hole_word-hole-requires c = let withdrawing = c.requires in let room = subst (RoomAt c.args.self.now.shape withdrawing.desk) withdrawing.place withdrawing.writes.room.place in omega (arith, room.1, withdrawing.number_is)
+hole_word-hole-requires c =
+    let withdrawing = c.requires in
+    let room = subst (RoomAt c.args.self.now.shape withdrawing.desk) withdrawing.place withdrawing.writes.room.place in
+    omega (arith, room.1, withdrawing.number_is)
 
 pub swap-requires : goal.swap-requires
-swap-requires c = let shared = c.self.inside.table.shared in let about = c.self.invariant in let seat = c.args.seat.now in let withdrawing = c.requires in let at = record withdrawing.desk { place = Withdrawing c.args.key } in
+swap-requires c =
+    let shared = c.self.inside.table.shared in
+    let about = c.self.invariant in
+    let seat = c.args.seat.now in
+    let withdrawing = c.requires in
+    let at = record withdrawing.desk { place = Withdrawing c.args.key } in
     let room = subst (RoomAt c.args.self.now.shape withdrawing.desk) withdrawing.place withdrawing.writes.room.place in
-    let word_is : hole_word c.args.next false ≡ hole_word (number_at withdrawing.desk c.args.key + 1) false = ap (λ (n : ℕ). hole_word n false) withdrawing.number_is in (
+    let word_is : hole_word c.args.next false ≡ hole_word (number_at withdrawing.desk c.args.key + 1) false
+    = ap (λ (n : ℕ). hole_word n false) withdrawing.number_is in (
       ap (λ (t : Table). t.id) (withdrawing.writes.own ∙ sym c.self.view_is),
       omega (arith, room.0, ap (λ (s : Shape). s.keys) about.0, ap (λ (t : Table). t.shape.keys) c.self.view_is),
       subst (λ (w : ℕ). Allows (Kept shared.key.shape) shared.table_id.slots seat.id seat.me c.args.key (λ _. w)
           (λ found after. (other : Desk) → seat.me.0.role ≡ Writer other → Went other found seat.me.0 after.0))
           (sym (c.hole_word-hole.ensures.word ∙ word_is))
-          (goes_so shared.key.shape shared.table_id.slots seat.id seat.me at (desk_at seat.me.0.role withdrawing.desk (Withdrawing c.args.key) withdrawing.writes.role withdrawing.place) refl tt tt),
+          (goes_so shared.key.shape shared.table_id.slots seat.id seat.me at
+          (desk_at seat.me.0.role withdrawing.desk (Withdrawing c.args.key) withdrawing.writes.role
+          withdrawing.place)
+          refl tt tt),
     )
 
 pub returns : goal.returns
-returns c = (c.swap.result, λ desk is. gone_seat c.args.self.now c.args.seat.now c.swap.new.seat c.swap.ensures.0 c.requires.writes.own desk c.swap.result (c.swap.ensures.2 desk is))
+returns c = (
+  c.swap.result,
+  λ desk is. gone_seat c.args.self.now c.args.seat.now c.swap.new.seat c.swap.ensures.0 c.requires.writes.own desk
+      c.swap.result (c.swap.ensures.2 desk is),
+)

@@ -18,7 +18,8 @@ use types.Logic.{Logic, sem}
 use contract.Monad.{Fun, fact, fact_i, fact_use}
 use contract.Running.{tables, tables_of}
 use sound.WpLaws.{WpFn-mono}
-use types.Kit.{given, learn, raw, ‵, ◌⊛◌, ◌$◌, ◌∵◌, !, qed, by, move, keep, use0, use1, split, join, rewrite, fsplit, fsplit3, fjoin, fpick, fpack, feq_i, feq_l, suffices, group, done}
+use types.Kit.{given, learn, raw, ‵, ◌⊛◌, ◌$◌, ◌∵◌, !, qed, by, move, keep, use0, use1, split, join, rewrite, fsplit}
+use types.Kit.{fsplit3, fjoin, fpick, fpack, feq_i, feq_l, suffices, group, done}
 use types.Part.{whole, sub, look_in}
 use types.Run.{stop, fld, load, of_opd, bin, un, lit, returns, enter}
 use types.ByLocal.{alloc_all, pass_all, free_all, look_at, get, through, sets}
@@ -56,30 +57,47 @@ with_live h l = record { ptr = h.ptr; alloc = h.alloc; live = l }
 abbrev boxed : S.Denot → T.Denot → D E
 boxed h t = record { ptr = h.ptr; alloc = h.alloc; value = t }
 
-module _ {M : Type 1} {𝓤 : Ura M} (𝓛 : Logic 𝓤) (at_mem : Memory → SProp 𝓤) (run : Routine → Fun 𝓤) (𝓣 : Tables 𝓤 𝓛.H) (κ : Lft) (q : Share) (rb ro : ℕ) (γ : GName) (h : S.Denot) where
+module _ {M : Type 1} {𝓤 : Ura M} (𝓛 : Logic 𝓤) (at_mem : Memory → SProp 𝓤) (run : Routine → Fun 𝓤) (𝓣 : Tables 𝓤 𝓛.H)
+    (κ : Lft) (q : Share) (rb ro : ℕ) (γ : GName) (h : S.Denot) where
   open 𝓛 use {H}
 
   abbrev bound : (walk_of 𝓛 F.ended stayed (F.clauses 𝓛 at_mem run)).Ghost
-  bound = (((κ, tt), (q, tt), tt, (record { ref_ptr = (rb, ro); ghost_name = γ; now = h }, tt), (vptr rb ro ∷ [], tt)), tt)
+  bound =
+      (((κ, tt), (q, tt), tt, (record { ref_ptr = (rb, ro); ghost_name = γ; now = h }, tt), (vptr rb ro ∷ [], tt)), tt)
 
   abbrev Post : Val → SProp 𝓤
   Post = (walk_of 𝓛 F.ended stayed (F.clauses 𝓛 at_mem run)).post bound
 
   abbrev Self : Type 1
-  Self = ent 𝓤 (types.Kit.⋆ 𝓛 (‵ ((MutRef (named 0) κ S).own_val (record { ref_ptr = (rb, ro); ghost_name = γ; now = h }) (vptr rb ro ∷ [])) ∷ ‵ (flft κ q) ∷ [])) (WpFn 𝓤 H 𝓣.C 𝓣.Λ code.function (vptr rb ro ∷ []) Post)
+  Self =
+      ent 𝓤
+      (types.Kit.⋆ 𝓛
+      (‵ ((MutRef (named 0) κ S).own_val (record { ref_ptr = (rb, ro); ghost_name = γ; now = h })
+      (vptr rb ro ∷ []))
+      ∷ ‵ (flft κ q) ∷ []))
+      (WpFn 𝓤 H 𝓣.C 𝓣.Λ code.function (vptr rb ro ∷ []) Post)
 
   led : (t : T.Denot) → h.live ≡ t ∷ [] → Self
   led t is =
-      qed 𝓛 (‵ ((MutRef (named 0) κ S).own_val (record { ref_ptr = (rb, ro); ghost_name = γ; now = h }) (vptr rb ro ∷ [])) ∷ ‵ (flft κ q) ∷ []) ∵
+      qed 𝓛
+      (‵ ((MutRef (named 0) κ S).own_val (record { ref_ptr = (rb, ro); ghost_name = γ; now = h }) (vptr rb ro ∷ []))
+      ∷ ‵ (flft κ q) ∷ [])
+      ∵
       enter ! 𝓣.C 𝓣.Λ code.function (vptr rb ro ∷ []) Post $ alloc_all ! (λ l. pass_all ! refl ((tt, tt), tt) $
       fsplit3 ! $ move ! (1 ∷ 2 ∷ 3 ∷ []) $ opens ! tt S {h = h} rb ro (λ vs. move ! (1 ∷ []) $
       rewrite ! 0 (λ (l : List T.Denot). ‵ (S.own_val (with_live h l) vs)) is refl $
       use1 𝓛 (‵ ((B E).own_val (boxed h t) vs)) (id⊢ 𝓤 _) $
       box_out E ! (boxed h t) vs (λ b o hv at_b ws fa. move ! (1 ∷ []) $
       let right = token E.al h.alloc (bare (τ E)) (block_ptr b o) in
-      use1 𝓛 (given (Testable (block_ptr b o)) (‵ right)) (fact_use 𝓤 (Testable (block_ptr b o)) (dealloc_token-Testable 𝓛 h.alloc (bare (τ E)) (block_ptr b o)) (λ p. guard_i 𝓤 (Testable (block_ptr b o)) (sem 𝓛 right) p)) $ learn ! (λ test.
+      use1 𝓛 (given (Testable (block_ptr b o)) (‵ right))
+      (fact_use 𝓤 (Testable (block_ptr b o)) (dealloc_token-Testable 𝓛 h.alloc (bare (τ E)) (block_ptr b o))
+      (λ p. guard_i 𝓤 (Testable (block_ptr b o)) (sem 𝓛 right) p))
+      $ learn ! (λ test.
       rewrite ! 3 (λ (us : List Val). ‵ (cell_at full_share S.mir us rb ro)) ws refl $
-      sets ! (of_opd ! (load ! (through ! refl (fld ! refl (stop !))) (look_in ! 3 (sub ! 0 refl (whole !))))) refl (tt, tt) $
+      sets
+      ! (of_opd ! (load ! (through ! refl (fld ! refl (stop !))) (look_in ! 3 (sub ! 0 refl (whole !))))) refl
+      (tt, tt)
+      $
       sets ! (bin ! (get ! refl) (lit ! tt) (tests_null (block_ptr b o) test)) refl (tt, tt) $
       sets ! (un ! (get ! refl) tt) refl (tt, tt) $
       move ! (1 ∷ 0 ∷ 2 ∷ []) $ box_in E ! (boxed h t) b o t at_b refl $
@@ -88,39 +106,63 @@ module _ {M : Type 1} {𝓤 : Ura M} (𝓛 : Logic 𝓤) (at_mem : Memory → SP
       move ! (1 ∷ []) $ closes ! tt S h (word E hv b o ∷ []) rb ro $
       returns ! (look_at ! 0 refl) $ free_all ! refl $ move ! (3 ∷ []) $
       suffices ! _ (ends_at 𝓛 F.ended stayed (F.clauses 𝓛 at_mem run) bound (vbool true) true (h, tt) (tt, tt)) $
-      group ! 3 $ nothing ! $ move ! (1 ∷ 0 ∷ []) $ join ! $ nothing ! $ move ! (2 ∷ 0 ∷ []) $ join ! $ owned ! bool _ (bool_Makes 𝓛) true _ refl $
-      use0 𝓛 (raw (fact 𝓤 (Unit {0}))) (fact_i 𝓤 (Unit {0}) (emp 𝓤) tt) $ use0 𝓛 (raw (fact 𝓤 ((u : T.Denot) × (h.live ≡ u ∷ [])))) (fact_i 𝓤 ((u : T.Denot) × (h.live ≡ u ∷ [])) (emp 𝓤) (t, is)) $
+      group ! 3 $ nothing ! $ move ! (1 ∷ 0 ∷ []) $ join ! $ nothing ! $ move ! (2 ∷ 0 ∷ []) $ join ! $ owned
+      ! bool _ (bool_Makes 𝓛) true _ refl $
+      use0 𝓛 (raw (fact 𝓤 (Unit {0}))) (fact_i 𝓤 (Unit {0}) (emp 𝓤) tt)
+      $ use0 𝓛 (raw (fact 𝓤 ((u : T.Denot) × (h.live ≡ u ∷ []))))
+      (fact_i 𝓤 ((u : T.Denot) × (h.live ≡ u ∷ [])) (emp 𝓤) (t, is))
+      $
       use0 𝓛 (raw (fact 𝓤 (h ≡ h))) (fact_i 𝓤 (h ≡ h) (emp 𝓤) refl) $ move ! (4 ∷ 5 ∷ 3 ∷ []) $ group ! 3 $ done !))))
 
   none : h.live ≡ [] → Self
   none is =
-      qed 𝓛 (‵ ((MutRef (named 0) κ S).own_val (record { ref_ptr = (rb, ro); ghost_name = γ; now = h }) (vptr rb ro ∷ [])) ∷ ‵ (flft κ q) ∷ []) ∵
+      qed 𝓛
+      (‵ ((MutRef (named 0) κ S).own_val (record { ref_ptr = (rb, ro); ghost_name = γ; now = h }) (vptr rb ro ∷ []))
+      ∷ ‵ (flft κ q) ∷ [])
+      ∵
       enter ! 𝓣.C 𝓣.Λ code.function (vptr rb ro ∷ []) Post $ alloc_all ! (λ l. pass_all ! refl ((tt, tt), tt) $
       fsplit3 ! $ move ! (1 ∷ 2 ∷ 3 ∷ []) $ opens ! tt S {h = h} rb ro (λ vs. move ! (1 ∷ []) $
       rewrite ! 0 (λ (l : List T.Denot). ‵ (S.own_val (with_live h l) vs)) is refl $
-      fsplit ! $ move ! (1 ∷ []) $ feq_l ! (λ null. fpick ! (λ vss. fsplit ! $ feq_l ! (λ ev. fsplit ! $ feq_l ! (λ ep. fsplit ! $ handle_tells E.al ! h.alloc vss.1.0 (λ hv ea fa.
+      fsplit ! $ move ! (1 ∷ []) $ feq_l
+      ! (λ null. fpick
+      ! (λ vss. fsplit ! $ feq_l
+      ! (λ ev. fsplit ! $ feq_l ! (λ ep. fsplit ! $ handle_tells E.al ! h.alloc vss.1.0 (λ hv ea fa.
       let w : Val = vstruct (vcons vnull (vcons hv vnil)) in
       let ws : vs ≡ w ∷ [] = subst (λ (p : Ptr). vs ≡ vstruct (of_list (ptr_val p ∷ hv ∷ [])) ∷ []) null
-      (subst (λ (us : List Val). vs ≡ vstruct (of_list (ptr_val h.ptr ∷ (us ++ []))) ∷ []) ea (subst (λ (ps : List Val). vs ≡ vstruct (of_list (ps ++ (vss.1.0 ++ []))) ∷ []) ep ev)) in
+      (subst (λ (us : List Val). vs ≡ vstruct (of_list (ptr_val h.ptr ∷ (us ++ []))) ∷ []) ea
+      (subst (λ (ps : List Val). vs ≡ vstruct (of_list (ps ++ (vss.1.0 ++ []))) ∷ []) ep ev)) in
       rewrite ! 2 (λ (us : List Val). ‵ (cell_at full_share S.mir us rb ro)) ws refl $
-      sets ! (of_opd ! (load ! (through ! refl (fld ! refl (stop !))) (look_in ! 2 (sub ! 0 refl (whole !))))) refl (tt, record { fits = lit< tt }) $
+      sets
+      ! (of_opd ! (load ! (through ! refl (fld ! refl (stop !))) (look_in ! 2 (sub ! 0 refl (whole !))))) refl
+      (tt, record { fits = lit< tt })
+      $
       sets ! (bin ! (get ! refl) (lit ! tt) tt) refl (tt, tt) $
       sets ! (un ! (get ! refl) tt) refl (tt, tt) $
       feq_i ! Ptr h.ptr null_ptr null $ move ! (1 ∷ 2 ∷ []) $ fjoin ! $
-      feq_i ! (List Val) (vnull ∷ []) (ptr_val h.ptr ∷ []) (ap (λ (p : Ptr). ptr_val p ∷ []) (sym null)) $ fjoin ! $ feq_i ! (List Val) (w ∷ []) (w ∷ []) refl $ fjoin ! $
-      fpack ! (Valss (RawPtr ∷ P E ∷ [])) (within (shape (owning E)) (h.ptr, (h.alloc, tt)) (w ∷ [])) (vnull ∷ [], (hv ∷ [], tt)) $ fjoin ! $
+      feq_i ! (List Val) (vnull ∷ []) (ptr_val h.ptr ∷ []) (ap (λ (p : Ptr). ptr_val p ∷ []) (sym null)) $ fjoin !
+      $ feq_i ! (List Val) (w ∷ []) (w ∷ []) refl $ fjoin ! $
+      fpack
+      ! (Valss (RawPtr ∷ P E ∷ [])) (within (shape (owning E)) (h.ptr, (h.alloc, tt)) (w ∷ []))
+      (vnull ∷ [], (hv ∷ [], tt))
+      $ fjoin ! $
       use1 𝓛 (‵ (S.own_val (with_live h []) (w ∷ []))) (id⊢ 𝓤 _) $
       rewrite ! 0 (λ (l : List T.Denot). ‵ (S.own_val (with_live h l) (w ∷ []))) (sym is) refl $
       move ! (1 ∷ []) $ closes ! tt S h (w ∷ []) rb ro $
       returns ! (look_at ! 0 refl) $ free_all ! refl $ move ! (3 ∷ []) $
       suffices ! _ (ends_at 𝓛 F.ended stayed (F.clauses 𝓛 at_mem run) bound (vbool false) false (h, tt) (tt, tt)) $
-      group ! 3 $ nothing ! $ move ! (1 ∷ 0 ∷ []) $ join ! $ nothing ! $ move ! (2 ∷ 0 ∷ []) $ join ! $ owned ! bool _ (bool_Makes 𝓛) false _ refl $
-      use0 𝓛 (raw (fact 𝓤 (h.live ≡ []))) (fact_i 𝓤 (h.live ≡ []) (emp 𝓤) is) $ use0 𝓛 (raw (fact 𝓤 (Unit {0}))) (fact_i 𝓤 (Unit {0}) (emp 𝓤) tt) $
-      use0 𝓛 (raw (fact 𝓤 (h ≡ h))) (fact_i 𝓤 (h ≡ h) (emp 𝓤) refl) $ move ! (4 ∷ 5 ∷ 3 ∷ []) $ group ! 3 $ done !)))))))
+      group ! 3 $ nothing ! $ move ! (1 ∷ 0 ∷ []) $ join ! $ nothing ! $ move ! (2 ∷ 0 ∷ []) $ join ! $ owned
+      ! bool _ (bool_Makes 𝓛) false _ refl $
+      use0 𝓛 (raw (fact 𝓤 (h.live ≡ []))) (fact_i 𝓤 (h.live ≡ []) (emp 𝓤) is)
+      $ use0 𝓛 (raw (fact 𝓤 (Unit {0}))) (fact_i 𝓤 (Unit {0}) (emp 𝓤) tt) $
+      use0 𝓛 (raw (fact 𝓤 (h ≡ h))) (fact_i 𝓤 (h ≡ h) (emp 𝓤) refl) $ move ! (4 ∷ 5 ∷ 3 ∷ []) $ group ! 3 $ done
+      !)))))))
 
   many : (t u : T.Denot) (ts : List T.Denot) → h.live ≡ t ∷ u ∷ ts → Self
   many t u ts is =
-      qed 𝓛 (‵ ((MutRef (named 0) κ S).own_val (record { ref_ptr = (rb, ro); ghost_name = γ; now = h }) (vptr rb ro ∷ [])) ∷ ‵ (flft κ q) ∷ []) ∵
+      qed 𝓛
+      (‵ ((MutRef (named 0) κ S).own_val (record { ref_ptr = (rb, ro); ghost_name = γ; now = h }) (vptr rb ro ∷ []))
+      ∷ ‵ (flft κ q) ∷ [])
+      ∵
       enter ! 𝓣.C 𝓣.Λ code.function (vptr rb ro ∷ []) Post $ alloc_all ! (λ l. pass_all ! refl ((tt, tt), tt) $
       fsplit3 ! $ move ! (1 ∷ 2 ∷ 3 ∷ []) $ opens ! tt S {h = h} rb ro (λ vs. move ! (1 ∷ []) $
       rewrite ! 0 (λ (l : List T.Denot). ‵ (S.own_val (with_live h l) vs)) is refl $
@@ -135,10 +177,16 @@ pub is_live_spec : {M : Type 1} → stated.statement M
 unfolding tables_of
 is_live_spec 𝓤 𝓛 𝓜 𝓡 wired =
     let 𝓣 : Tables 𝓤 𝓛.H = tables_of 𝓤 𝓛.H 𝓜 (tables 𝓤 𝓛.H 𝓜 𝓡 𝓡.env) in
-    entered 𝓤 𝓛.H (triple_of 𝓛 F.signature (F.spec 𝓛 𝓜.mem 𝓡.returns)) 𝓣.C 𝓣.Λ #self code.function (code.unfolded 𝓤 𝓛.H 𝓜 𝓡 wired)
-    (walk_Meets 𝓛 F.ended stayed (Goes-ref 𝓛 1 0 tt (plain (λ _. S)), tt) (F.clauses 𝓛 𝓜.mem 𝓡.returns) (WpFn 𝓤 𝓛.H 𝓣.C 𝓣.Λ code.function) (WpFn-mono 𝓤 𝓛.H 𝓛.laws 𝓣 code.function)
-    (walked 𝓛 F.ended stayed (F.clauses 𝓛 𝓜.mem 𝓡.returns) (WpFn 𝓤 𝓛.H 𝓣.C 𝓣.Λ code.function) (λ κs. (mut_vals, tt)) (λ κs. (mut_Tells (named 0) κs.0 S, tt))
+    entered 𝓤 𝓛.H (triple_of 𝓛 F.signature (F.spec 𝓛 𝓜.mem 𝓡.returns)) 𝓣.C 𝓣.Λ #self code.function
+    (code.unfolded 𝓤 𝓛.H 𝓜 𝓡 wired)
+    (walk_Meets 𝓛 F.ended stayed (Goes-ref 𝓛 1 0 tt (plain (λ _. S)), tt) (F.clauses 𝓛 𝓜.mem 𝓡.returns)
+    (WpFn 𝓤 𝓛.H 𝓣.C 𝓣.Λ code.function) (WpFn-mono 𝓤 𝓛.H 𝓛.laws 𝓣 code.function)
+    (walked 𝓛 F.ended stayed (F.clauses 𝓛 𝓜.mem 𝓡.returns) (WpFn 𝓤 𝓛.H 𝓣.C 𝓣.Λ code.function) (λ κs. (mut_vals, tt))
+    (λ κs. (mut_Tells (named 0) κs.0 S, tt))
     (λ κs qs bounds a g are.
-    qed 𝓛 (((‵ (flft κs.0 qs.0) ⊛ ‵ ftrue) ⊛ ‵ ((MutRef (named 0) κs.0 S).own_val a.0 (mut_vals a.0)) ⊛ ‵ ftrue) ∷ raw (emp 𝓤) ∷ []) ∵
+    qed 𝓛
+    (((‵ (flft κs.0 qs.0) ⊛ ‵ ftrue) ⊛ ‵ ((MutRef (named 0) κs.0 S).own_val a.0 (mut_vals a.0)) ⊛ ‵ ftrue)
+    ∷ raw (emp 𝓤) ∷ [])
+    ∵
     split ! $ split ! $ move ! (2 ∷ []) $ split ! $ keep ! (0 ∷ 2 ∷ []) $
     by ! (each 𝓛 𝓜.mem 𝓡.returns 𝓣 κs.0 qs.0 a.0.ref_ptr.0 a.0.ref_ptr.1 a.0.ghost_name a.0.now a.0.now.live refl))))

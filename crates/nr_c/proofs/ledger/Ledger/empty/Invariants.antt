@@ -2,4 +2,5 @@ use Rattle.std.proofs.Common.{◌≡◌, ◌≤◌, None, replicate, vec_capacit
 use Rattle.nr_c.proofs.ledger.Ledger.empty.Given as goal
 
 abbrev pub invariant-loop-way : goal.invariant-loop-way
-invariant-loop-way l = (l.places.items ≡ replicate l._way None) × (vec_len l.places ≡ l._way) × (l.ways ≤ vec_capacity l.places)
+invariant-loop-way l =
+    (l.places.items ≡ replicate l._way None) × (vec_len l.places ≡ l._way) × (l.ways ≤ vec_capacity l.places)

@@ -7,4 +7,6 @@ pub arrive-requires : goal.arrive-requires
 arrive-requires c = has_room (machine_state c.self.inside.machine) c.self.invariant
 
 pub invariant_of-self : goal.invariant_of-self
-invariant_of-self c = rw c.arrive.ensures.new (leads_on (machine_state c.self.inside.machine) (Arrive c.args.reader c.args.key) tt c.self.invariant)
+invariant_of-self c =
+    rw c.arrive.ensures.new
+    (leads_on (machine_state c.self.inside.machine) (Arrive c.args.reader c.args.key) tt c.self.invariant)

@@ -7,4 +7,6 @@ pub ask-requires : goal.ask-requires
 ask-requires c = has_room (machine_state c.self.inside.machine) c.self.invariant
 
 pub invariant_of-self : goal.invariant_of-self
-invariant_of-self c = rw c.ask.ensures.new (leads_on (machine_state c.self.inside.machine) (Ask c.args.reader c.args.key) tt c.self.invariant)
+invariant_of-self c =
+    rw c.ask.ensures.new
+    (leads_on (machine_state c.self.inside.machine) (Ask c.args.reader c.args.key) tt c.self.invariant)

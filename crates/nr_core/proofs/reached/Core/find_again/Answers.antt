@@ -7,4 +7,6 @@ pub find_again-requires : goal.find_again-requires
 find_again-requires c = has_room (machine_state c.self.inside.machine) c.self.invariant
 
 pub invariant_of-self : goal.invariant_of-self
-invariant_of-self c = rw c.find_again.ensures.new (leads_on (machine_state c.self.inside.machine) (FindAgain c.args.reader c.args.key) tt c.self.invariant)
+invariant_of-self c =
+    rw c.find_again.ensures.new
+    (leads_on (machine_state c.self.inside.machine) (FindAgain c.args.reader c.args.key) tt c.self.invariant)

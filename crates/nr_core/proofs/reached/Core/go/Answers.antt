@@ -10,7 +10,8 @@ pub invariant_of-self : goal.invariant_of-self
 invariant_of-self c = rw c.go.ensures.new (leads_on (machine_state c.self.inside.machine) Go tt c.self.invariant)
 
 pub invariant_of-self-in-Going : goal.invariant_of-self-in-Going
-invariant_of-self-in-Going c = rw c.go.ensures.new (leads_on (machine_state c.self.inside.machine) Go tt c.self.invariant)
+invariant_of-self-in-Going c =
+    rw c.go.ensures.new (leads_on (machine_state c.self.inside.machine) Go tt c.self.invariant)
 
 pub invariant_of-self-2 : goal.invariant_of-self-2
 invariant_of-self-2 c = rw c.go.ensures.new (leads_on (machine_state c.self.inside.machine) Go tt c.self.invariant)

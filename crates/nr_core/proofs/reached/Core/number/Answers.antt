@@ -12,6 +12,9 @@ pub number-requires-clause-listed : goal.number-requires-clause-listed
 number-requires-clause-listed c = (has_room (machine_state c.self.inside.machine) c.self.invariant).numbers
 
 pub returns-clause-shown : goal.returns-clause-shown
-returns-clause-shown c = let near : c.args.key < (machine_state c.self.inside.machine).shape.keys = subst (λ (s : State). c.args.key < s.shape.keys) (sym c.self.view_is) c.requires in
-    subst (λ (s : State). option_map (λ (z : KeyState). number_of z) (shown s c.args.key) ≡ Some c.number.result) c.self.view_is
+returns-clause-shown c =
+    let near : c.args.key < (machine_state c.self.inside.machine).shape.keys
+    = subst (λ (s : State). c.args.key < s.shape.keys) (sym c.self.view_is) c.requires in
+    subst (λ (s : State). option_map (λ (z : KeyState). number_of z) (shown s c.args.key) ≡ Some c.number.result)
+    c.self.view_is
     (rw c.number.ensures (number_shown (machine_state c.self.inside.machine) c.self.invariant c.args.key near))

@@ -7,4 +7,6 @@ pub read-requires : goal.read-requires
 read-requires c = has_room (machine_state c.self.inside.machine) c.self.invariant
 
 pub invariant_of-self : goal.invariant_of-self
-invariant_of-self c = rw c.read.ensures.new (leads_on (machine_state c.self.inside.machine) (Read c.args.reader c.args.index) tt c.self.invariant)
+invariant_of-self c =
+    rw c.read.ensures.new
+    (leads_on (machine_state c.self.inside.machine) (Read c.args.reader c.args.index) tt c.self.invariant)

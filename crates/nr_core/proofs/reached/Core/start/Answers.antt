@@ -8,13 +8,19 @@ pub start-requires-clause-room : goal.start-requires-clause-room
 start-requires-clause-room c = has_room (machine_state c.self.inside.machine) c.self.invariant
 
 pub invariant_of-self : goal.invariant_of-self
-invariant_of-self c = rw c.start.ensures.new (leads_on (machine_state c.self.inside.machine) (Start c.args.call.now) c.start.ensures.given c.self.invariant)
+invariant_of-self c =
+    rw c.start.ensures.new
+    (leads_on (machine_state c.self.inside.machine) (Start c.args.call.now) c.start.ensures.given c.self.invariant)
 
 pub invariant_of-self-in-Going : goal.invariant_of-self-in-Going
-invariant_of-self-in-Going c = rw c.start.ensures.new (leads_on (machine_state c.self.inside.machine) (Start c.args.call.now) c.start.ensures.given c.self.invariant)
+invariant_of-self-in-Going c =
+    rw c.start.ensures.new
+    (leads_on (machine_state c.self.inside.machine) (Start c.args.call.now) c.start.ensures.given c.self.invariant)
 
 pub invariant_of-self-2 : goal.invariant_of-self-2
-invariant_of-self-2 c = rw c.start.ensures.new (leads_on (machine_state c.self.inside.machine) (Start c.args.call.now) c.start.ensures.given c.self.invariant)
+invariant_of-self-2 c =
+    rw c.start.ensures.new
+    (leads_on (machine_state c.self.inside.machine) (Start c.args.call.now) c.start.ensures.given c.self.invariant)
 
 pub returns-in_err-outcome-clause-answer : goal.returns-in_err-outcome-clause-answer
 returns-in_err-outcome-clause-answer c = let answer = c.in_err-outcome.ensures.answer [] in search rules

@@ -9,28 +9,44 @@ use Rattle.nr_idmap.proofs.Holding.{KeepsIn, hand_is, holds_moved, holds_pending
 use Rattle.nr_idmap.proofs.hands.IdHand.hold_anew.Goals as goal
 
 -- the hand that loaded the line keeps what it finds
-kept : (own : IdHanded) (loaded : Handed) (way : ℕ) (new : Handed) (before set : List Row) (told : Found) → loaded.reader ≡ with_loads 1 own.hand.reader → (loaded.key ≡ own.hand.key) × (loaded.rows ≡ own.hand.rows)
+kept : (own : IdHanded) (loaded : Handed) (way : ℕ) (new : Handed) (before set : List Row) (told : Found)
+    → loaded.reader ≡ with_loads 1 own.hand.reader → (loaded.key ≡ own.hand.key) × (loaded.rows ≡ own.hand.rows)
     → KeepsIn way loaded before new set told → KeepsIn way (with_line_loaded own).hand before new set told
 kept own loaded way new before set told reader held keeps =
-    subst (λ (h : Handed). KeepsIn way h before new set told) (hand_is loaded (with_loads 1 own.hand.reader) own.hand.key own.hand.rows reader held.0 held.1) keeps
+    subst (λ (h : Handed). KeepsIn way h before new set told)
+    (hand_is loaded (with_loads 1 own.hand.reader) own.hand.key own.hand.rows reader held.0 held.1) keeps
 
 pub returns-in-Hole-clause-holds : goal.returns-in-Hole-clause-holds
 returns-in-Hole-clause-holds c =
-    let own : IdHanded = record { hand = c.self.inside.hand; ids = c.self.inside.ids; id = id_held c.self.inside.held } in
-    holds_pending c.args.id c.in-Some.way own c.args.self.now c.self.view_is c.look_up.new.reader c.in-Some.ensures.answer
-    c.find_kept.new.self c.self.inside.pile c.find_kept.new.rows (kept own c.load_key.new.self c.in-Some.way c.find_kept.new.self c.self.inside.pile c.find_kept.new.rows answer.Hole c.load_key.ensures.reader c.load_key.ensures.held c.in-Hole.ensures.finds)
+    let own : IdHanded
+    = record { hand = c.self.inside.hand; ids = c.self.inside.ids; id = id_held c.self.inside.held } in
+    holds_pending c.args.id c.in-Some.way own c.args.self.now c.self.view_is c.look_up.new.reader
+    c.in-Some.ensures.answer
+    c.find_kept.new.self c.self.inside.pile c.find_kept.new.rows
+    (kept own c.load_key.new.self c.in-Some.way c.find_kept.new.self c.self.inside.pile c.find_kept.new.rows
+    answer.Hole c.load_key.ensures.reader c.load_key.ensures.held c.in-Hole.ensures.finds)
 
 pub returns-then-has_tag-clause-holds : goal.returns-then-has_tag-clause-holds
 returns-then-has_tag-clause-holds c =
-    let own : IdHanded = record { hand = c.self.inside.hand; ids = c.self.inside.ids; id = id_held c.self.inside.held } in
+    let own : IdHanded
+    = record { hand = c.self.inside.hand; ids = c.self.inside.ids; id = id_held c.self.inside.held } in
     holds_rows c.args.id c.in-Some.way own c.args.self.now c.self.view_is c.look_up.new.reader c.in-Some.ensures.answer
-    c.find_kept.new.self c.self.inside.pile c.find_kept.new.rows (kept own c.load_key.new.self c.in-Some.way c.find_kept.new.self c.self.inside.pile c.find_kept.new.rows answer.Rows c.load_key.ensures.reader c.load_key.ensures.held c.in-Rows.ensures.finds) c.as_slice.result.now c.as_slice.ensures.value
+    c.find_kept.new.self c.self.inside.pile c.find_kept.new.rows
+    (kept own c.load_key.new.self c.in-Some.way c.find_kept.new.self c.self.inside.pile c.find_kept.new.rows
+    answer.Rows c.load_key.ensures.reader c.load_key.ensures.held c.in-Rows.ensures.finds)
+    c.as_slice.result.now c.as_slice.ensures.value
     (c.has_tag.ensures.0 c.if-has_tag.true)
 
 pub returns-else-has_tag-clause-holds : goal.returns-else-has_tag-clause-holds
 returns-else-has_tag-clause-holds c =
-    let own : IdHanded = record { hand = c.self.inside.hand; ids = c.self.inside.ids; id = id_held c.self.inside.held } in
+    let own : IdHanded
+    = record { hand = c.self.inside.hand; ids = c.self.inside.ids; id = id_held c.self.inside.held } in
     holds_moved c.args.id c.in-Some.way own c.args.self.now c.self.view_is c.look_up.new.reader c.in-Some.ensures.answer
-    c.find_kept.new.self c.self.inside.pile c.find_kept.new.rows (kept own c.load_key.new.self c.in-Some.way c.find_kept.new.self c.self.inside.pile c.find_kept.new.rows answer.Rows c.load_key.ensures.reader c.load_key.ensures.held c.in-Rows.ensures.finds) c.as_slice.result.now c.as_slice.ensures.value
-    (λ tag. let yes : c.has_tag.result ≡ true = c.has_tag.ensures.1 tag in let no : c.has_tag.result ≡ false = c.if-has_tag.false in
+    c.find_kept.new.self c.self.inside.pile c.find_kept.new.rows
+    (kept own c.load_key.new.self c.in-Some.way c.find_kept.new.self c.self.inside.pile c.find_kept.new.rows
+    answer.Rows c.load_key.ensures.reader c.load_key.ensures.held c.in-Rows.ensures.finds)
+    c.as_slice.result.now c.as_slice.ensures.value
+    (λ tag.
+    let yes : c.has_tag.result ≡ true = c.has_tag.ensures.1 tag in
+    let no : c.has_tag.result ≡ false = c.if-has_tag.false in
     absurd (cc (yes, no))) c.release-else-has_tag.new.self c.release-else-has_tag.ensures.lets_go

@@ -25,7 +25,8 @@ invariant_of-writer c =
 
 -- a fill of the way by those numbers that the map refused
 abbrev Refused : Owed → List Row → Caller → Caller → Type 0
-Refused owed rows writer writer' = (why : FillFault) × FillsKey owed.way owed.number (tag_of owed.id ∷ rows) writer writer' (Err why)
+Refused owed rows writer writer' =
+    (why : FillFault) × FillsKey owed.way owed.number (tag_of owed.id ∷ rows) writer writer' (Err why)
 
 pub returns-then-ne-clause-fills : goal.returns-then-ne-clause-fills
 returns-then-ne-clause-fills c =
@@ -34,7 +35,8 @@ returns-then-ne-clause-fills c =
     let owed : Owed = record { way = way; number = c.into_parts-way.result.1; id = c.into_parts-way.result.2 } in
     subst (λ (o : Owed). WasClosed (Refused o c.args.rows.now) o c.args.writer.now (keeper_of writer asker searched_by))
     (sym c.into_parts-way.ensures.parts)
-    (closed_unfound writer asker c.writer.inside.clerk c.args.writer.now c.writer.view_is searched_by c.writer.invariant owed
+    (closed_unfound writer asker c.writer.inside.clerk c.args.writer.now c.writer.view_is searched_by c.writer.invariant
+    owed
     c.into_parts-way.ensures.id c.way_of.result c.way_of.ensures.answer (Refused owed c.args.rows.now)
     (found_not c.way_of.result way (sym c.if-ne.true ∙ c.ne.ensures)))
 
@@ -44,20 +46,29 @@ finds c = subst (FindsWay c.into_parts-way.result.2 c.writer.inside.clerk c.way_
     (found_is c.way_of.result c.into_parts-way.result.0 c.if-ne.ensures) c.way_of.ensures.answer
 
 near : (c : goal.Joined-fill_rows) → c.into_parts-way.result.0 < c.writer.inside.writer.table.shape.keys
-near c = near_of c.writer.inside.writer c.writer.inside.asker c.into_parts-way.result.2 c.into_parts-way.result.0 c.writer.inside.clerk
+near c =
+    near_of c.writer.inside.writer c.writer.inside.asker c.into_parts-way.result.2 c.into_parts-way.result.0
+    c.writer.inside.clerk
     c.way_of.new.clerk c.writer.invariant (finds c)
 
 put : (c : goal.Joined-fill_rows) (r : Result (Unit {0}) FillFault) →
-    FillsKey c.into_parts-way.result.0 c.into_parts-way.result.1 c.as_slice.result.now c.writer.inside.writer c.fill_rows.new.writer r →
-    FillsKey c.into_parts-way.result.0 c.into_parts-way.result.1 (tag_of c.into_parts-way.result.2 ∷ c.args.rows.now) c.writer.inside.writer
+    FillsKey c.into_parts-way.result.0 c.into_parts-way.result.1 c.as_slice.result.now c.writer.inside.writer
     c.fill_rows.new.writer r
-put c r h = subst (λ (l : List Row). FillsKey c.into_parts-way.result.0 c.into_parts-way.result.1 l c.writer.inside.writer
+    →
+    FillsKey c.into_parts-way.result.0 c.into_parts-way.result.1 (tag_of c.into_parts-way.result.2 ∷ c.args.rows.now)
+    c.writer.inside.writer
+    c.fill_rows.new.writer r
+put c r h =
+    subst (λ (l : List Row). FillsKey c.into_parts-way.result.0 c.into_parts-way.result.1 l c.writer.inside.writer
     c.fill_rows.new.writer r) (c.as_slice.ensures.value ∙ c.put_tagged.ensures.pile) h
 
 pub invariant_of-writer-2 : goal.invariant_of-writer-2
-invariant_of-writer-2 c = fill_tied c.writer.inside.writer c.writer.inside.asker c.fill_rows.new.writer c.writer.inside.clerk
-    c.way_of.new.clerk c.writer.invariant c.into_parts-way.result.2 c.into_parts-way.result.0 (finds c) (near c) c.args.rows.now
-    c.into_parts-way.result.1 c.fill_rows.result c.into_parts-way.ensures.id (put c c.fill_rows.result c.fill_rows.ensures)
+invariant_of-writer-2 c =
+    fill_tied c.writer.inside.writer c.writer.inside.asker c.fill_rows.new.writer c.writer.inside.clerk
+    c.way_of.new.clerk c.writer.invariant c.into_parts-way.result.2 c.into_parts-way.result.0 (finds c) (near c)
+    c.args.rows.now
+    c.into_parts-way.result.1 c.fill_rows.result c.into_parts-way.ensures.id
+    (put c c.fill_rows.result c.fill_rows.ensures)
 
 pub returns-clause-fills : goal.returns-clause-fills
 returns-clause-fills c =
@@ -65,41 +76,56 @@ returns-clause-fills c =
     let clerk = c.writer.inside.clerk in let searched_by = c.way_of.new.clerk in let tied = c.writer.invariant in
     let id = c.into_parts-way.result.2 in let way = c.into_parts-way.result.0 in
     let number = c.into_parts-way.result.1 in
-    let owed : Owed = record { way = way; number = number; id = id } in let new = keeper_of c.fill_rows.new.writer asker searched_by in
+    let owed : Owed = record { way = way; number = number; id = id } in
+    let new = keeper_of c.fill_rows.new.writer asker searched_by in
     let so = λ (r : Result (Unit {0}) Unfilled) (h : FillsId owed c.args.rows.now (keeper_of writer asker clerk) new r).
     subst (λ (o : Owed). FillsId o c.args.rows.now c.args.writer.now new r) (sym c.into_parts-way.ensures.parts)
     (subst (λ (k : Keeper). FillsId owed c.args.rows.now k new r) c.writer.view_is h) in
     let closed = λ (why : FillFault) (other : (counts : NoSlot) → why ≢ fill.NoSlot counts)
     (h : FillsKey way number c.as_slice.result.now writer c.fill_rows.new.writer (Err why))
     (same : c.match-fill_rows.result ≡ Err unfilled.Closed).
-    let kept = fill_refused writer asker c.fill_rows.new.writer clerk searched_by tied id way (finds c) (near c) c.args.rows.now number why
+    let kept
+    = fill_refused writer asker c.fill_rows.new.writer clerk searched_by tied id way (finds c) (near c)
+    c.args.rows.now number why
     other (put c (Err why) h) in
     let was : FillsId owed c.args.rows.now (keeper_of writer asker clerk) new (Err unfilled.Closed) = record
     { closed = kept.0; found = Some way; finds = finds c; how = inr (refl, (why, put c (Err why) h)); owes = kept.1 } in
-    subst (λ (r : Result (Unit {0}) Unfilled). FillsId c.args.upquery.owed c.args.rows.now c.args.writer.now new r) (sym same)
+    subst (λ (r : Result (Unit {0}) Unfilled). FillsId c.args.upquery.owed c.args.rows.now c.args.writer.now new r)
+    (sym same)
     (so (Err unfilled.Closed) was) in
     elim c.match-fill_rows.branch [
-      | in-Ok v ↦ subst (λ (r : Result (Unit {0}) Unfilled). FillsId c.args.upquery.owed c.args.rows.now c.args.writer.now new r)
+      | in-Ok v ↦
+          subst
+          (λ (r : Result (Unit {0}) Unfilled). FillsId c.args.upquery.owed c.args.rows.now c.args.writer.now new r)
           (sym v.result-is) (so (Ok tt)
-          (fill_closes writer asker c.fill_rows.new.writer clerk searched_by tied id way (finds c) (near c) c.args.rows.now number
+          (fill_closes writer asker c.fill_rows.new.writer clerk searched_by tied id way (finds c) (near c)
+          c.args.rows.now number
           c.into_parts-way.ensures.id (put c (Ok tt) v.in-Ok.ensures)))
-      | in-Err-NoSlot v ↦ subst (λ (r : Result (Unit {0}) Unfilled). FillsId c.args.upquery.owed c.args.rows.now c.args.writer.now new r)
+      | in-Err-NoSlot v ↦
+          subst
+          (λ (r : Result (Unit {0}) Unfilled). FillsId c.args.upquery.owed c.args.rows.now c.args.writer.now new r)
           (sym v.result-is) (so (Err (unfilled.NoSlot v.upquery.result v.in-Err-NoSlot.counts)) (
             v.upquery.ensures ∙ ap (λ (t : IdTable). record { table = t; owed = owed })
                 (sym c.requires.own ∙ ap (λ (k : Keeper). k.table) (sym c.writer.view_is)),
-            fill_lacks writer asker c.fill_rows.new.writer clerk searched_by tied id way (finds c) (near c) c.args.rows.now number
+            fill_lacks writer asker c.fill_rows.new.writer clerk searched_by tied id way (finds c) (near c)
+                c.args.rows.now number
                 v.in-Err-NoSlot.counts c.into_parts-way.ensures.id
                 (put c (Err (fill.NoSlot v.in-Err-NoSlot.counts))
-                (subst (λ (why : FillFault). FillsKey way number c.as_slice.result.now writer c.fill_rows.new.writer (Err why))
+                (subst
+                (λ (why : FillFault). FillsKey way number c.as_slice.result.now writer c.fill_rows.new.writer
+                (Err why))
                 v.in-Err-NoSlot.field-0-is v.in-Err-NoSlot.ensures)),
           ))
       | in-Err-NotAsked v ↦ closed fill.NotAsked (λ counts e. absurd (cc (e)))
-          (subst (λ (why : FillFault). FillsKey way number c.as_slice.result.now writer c.fill_rows.new.writer (Err why))
+          (subst
+          (λ (why : FillFault). FillsKey way number c.as_slice.result.now writer c.fill_rows.new.writer (Err why))
           v.in-Err-NotAsked.field-0-is v.in-Err-NotAsked.ensures) v.result-is
       | in-Err-Already v ↦ closed fill.Already (λ counts e. absurd (cc (e)))
-          (subst (λ (why : FillFault). FillsKey way number c.as_slice.result.now writer c.fill_rows.new.writer (Err why))
+          (subst
+          (λ (why : FillFault). FillsKey way number c.as_slice.result.now writer c.fill_rows.new.writer (Err why))
           v.in-Err-Already.field-0-is v.in-Err-Already.ensures) v.result-is
       | in-Err-Stale v ↦ closed fill.Stale (λ counts e. absurd (cc (e)))
-          (subst (λ (why : FillFault). FillsKey way number c.as_slice.result.now writer c.fill_rows.new.writer (Err why))
+          (subst
+          (λ (why : FillFault). FillsKey way number c.as_slice.result.now writer c.fill_rows.new.writer (Err why))
           v.in-Err-Stale.field-0-is v.in-Err-Stale.ensures) v.result-is
     ]

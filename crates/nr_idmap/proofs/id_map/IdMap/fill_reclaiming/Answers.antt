@@ -20,7 +20,8 @@ use Rattle.nr_idmap.proofs.Ties.{near_of}
 use Rattle.nr_idmap.proofs.WayCalls.{fill_lacks, fill_refused, searched}
 use Rattle.nr_idmap.proofs.id_map.IdMap.fill_reclaiming.Given as given
 use Rattle.nr_idmap.proofs.id_map.IdMap.fill_reclaiming.Goals as goal
-use Rattle.nr_idmap.proofs.id_map.IdMap.fill_reclaiming.Goals.{in-Ok, in-Err-NoSlot, in-Err-NotAsked, in-Err-Already, in-Err-Stale}
+use Rattle.nr_idmap.proofs.id_map.IdMap.fill_reclaiming.Goals.{in-Ok, in-Err-NoSlot, in-Err-NotAsked, in-Err-Already}
+use Rattle.nr_idmap.proofs.id_map.IdMap.fill_reclaiming.Goals.{in-Err-Stale}
 
 pub invariant_of-writer : goal.invariant_of-writer
 invariant_of-writer g c =
@@ -29,16 +30,25 @@ invariant_of-writer g c =
 
 -- a fill of the way by those numbers that the map refused
 abbrev Refused : Owed → List Row → Caller → Caller → Type 0
-Refused owed rows writer writer' = (why : FillFault) × FillsKey owed.way owed.number (tag_of owed.id ∷ rows) writer writer' (Err why)
+Refused owed rows writer writer' =
+    (why : FillFault) × FillsKey owed.way owed.number (tag_of owed.id ∷ rows) writer writer' (Err why)
 
 pub returns-then-ne-clause-fills : goal.returns-then-ne-clause-fills
 returns-then-ne-clause-fills g c =
-    let owed : Owed = record { way = c.into_parts-way.result.0; number = c.into_parts-way.result.1; id = c.into_parts-way.result.2 } in (
+    let owed : Owed
+    = record {
+      way = c.into_parts-way.result.0;
+      number = c.into_parts-way.result.1;
+      id = c.into_parts-way.result.2;
+    } in (
       subst (λ (o : Owed). WasClosed (Refused o c.args.rows.now) o c.args.writer.now
-          (keeper_of c.writer.inside.writer c.writer.inside.asker c.way_of.new.clerk)) (sym c.into_parts-way.ensures.parts)
-          (closed_unfound c.writer.inside.writer c.writer.inside.asker c.writer.inside.clerk c.args.writer.now c.writer.view_is
+          (keeper_of c.writer.inside.writer c.writer.inside.asker c.way_of.new.clerk))
+          (sym c.into_parts-way.ensures.parts)
+          (closed_unfound c.writer.inside.writer c.writer.inside.asker c.writer.inside.clerk c.args.writer.now
+          c.writer.view_is
           c.way_of.new.clerk c.writer.invariant owed c.into_parts-way.ensures.id c.way_of.result c.way_of.ensures.answer
-          (Refused owed c.args.rows.now) (found_not c.way_of.result c.into_parts-way.result.0 (sym c.if-ne.true ∙ c.ne.ensures))),
+          (Refused owed c.args.rows.now)
+          (found_not c.way_of.result c.into_parts-way.result.0 (sym c.if-ne.true ∙ c.ne.ensures))),
       refl,
     )
 
@@ -47,82 +57,125 @@ finds : (g : given.Over) (c : goal.Joined-fill_reclaiming g) →
 finds g c = subst (FindsWay c.into_parts-way.result.2 c.writer.inside.clerk c.way_of.new.clerk)
     (found_is c.way_of.result c.into_parts-way.result.0 c.if-ne.ensures) c.way_of.ensures.answer
 
-near : (g : given.Over) (c : goal.Joined-fill_reclaiming g) → c.into_parts-way.result.0 < c.writer.inside.writer.table.shape.keys
-near g c = near_of c.writer.inside.writer c.writer.inside.asker c.into_parts-way.result.2 c.into_parts-way.result.0 c.writer.inside.clerk
+near : (g : given.Over) (c : goal.Joined-fill_reclaiming g)
+    → c.into_parts-way.result.0 < c.writer.inside.writer.table.shape.keys
+near g c =
+    near_of c.writer.inside.writer c.writer.inside.asker c.into_parts-way.result.2 c.into_parts-way.result.0
+    c.writer.inside.clerk
     c.way_of.new.clerk c.writer.invariant (finds g c)
 
 put : (g : given.Over) (c : goal.Joined-fill_reclaiming g) (r : Result Reclaimed FillFault) →
-    FillsReclaiming g.R.RowRoom.shows c.into_parts-way.result.0 c.into_parts-way.result.1 c.as_slice.result.now c.writer.inside.writer
+    FillsReclaiming g.R.RowRoom.shows c.into_parts-way.result.0 c.into_parts-way.result.1 c.as_slice.result.now
+    c.writer.inside.writer
     c.args.had.now c.fill_reclaiming.new.writer c.fill_reclaiming.new.had r →
     FillsReclaiming g.R.RowRoom.shows c.into_parts-way.result.0 c.into_parts-way.result.1
-    (tag_of c.into_parts-way.result.2 ∷ c.args.rows.now) c.writer.inside.writer c.args.had.now c.fill_reclaiming.new.writer
+    (tag_of c.into_parts-way.result.2 ∷ c.args.rows.now) c.writer.inside.writer c.args.had.now
+    c.fill_reclaiming.new.writer
     c.fill_reclaiming.new.had r
-put g c r h = subst (λ (l : List Row). FillsReclaiming g.R.RowRoom.shows c.into_parts-way.result.0 c.into_parts-way.result.1 l
+put g c r h =
+    subst (λ (l : List Row). FillsReclaiming g.R.RowRoom.shows c.into_parts-way.result.0 c.into_parts-way.result.1 l
     c.writer.inside.writer c.args.had.now c.fill_reclaiming.new.writer c.fill_reclaiming.new.had r)
     (c.as_slice.ensures.value ∙ c.put_tagged.ensures.pile) h
 
 pub invariant_of-writer-2 : goal.invariant_of-writer-2
 invariant_of-writer-2 g c = fill_gives g.R.RowRoom.shows c.args.had.now c.fill_reclaiming.new.had c.writer.inside.writer
-    c.writer.inside.asker c.fill_reclaiming.new.writer c.writer.inside.clerk c.way_of.new.clerk c.writer.invariant c.into_parts-way.result.2
-    c.into_parts-way.result.0 (finds g c) c.args.rows.now c.into_parts-way.ensures.id c.into_parts-way.result.1 c.fill_reclaiming.result
+    c.writer.inside.asker c.fill_reclaiming.new.writer c.writer.inside.clerk c.way_of.new.clerk c.writer.invariant
+    c.into_parts-way.result.2
+    c.into_parts-way.result.0 (finds g c) c.args.rows.now c.into_parts-way.ensures.id c.into_parts-way.result.1
+    c.fill_reclaiming.result
     (put g c c.fill_reclaiming.result c.fill_reclaiming.ensures)
 
 pub returns-clause-fills : goal.returns-clause-fills
 returns-clause-fills g c =
-    let owed : Owed = record { way = c.into_parts-way.result.0; number = c.into_parts-way.result.1; id = c.into_parts-way.result.2 } in
+    let owed : Owed
+    = record {
+      way = c.into_parts-way.result.0;
+      number = c.into_parts-way.result.1;
+      id = c.into_parts-way.result.2;
+    } in
     let new = keeper_of c.fill_reclaiming.new.writer c.writer.inside.asker c.way_of.new.clerk in
     let so = λ (r : Result Reclaimed Unfilled)
     (h : FillsIdReclaiming g.R.RowRoom.shows owed c.args.rows.now
-    (keeper_of c.writer.inside.writer c.writer.inside.asker c.writer.inside.clerk) c.args.had.now new c.fill_reclaiming.new.had r)
+    (keeper_of c.writer.inside.writer c.writer.inside.asker c.writer.inside.clerk) c.args.had.now new
+    c.fill_reclaiming.new.had r)
     (same : c.match-fill_reclaiming.result ≡ r).
-    subst (λ (q : Result Reclaimed Unfilled). FillsIdReclaiming g.R.RowRoom.shows c.args.upquery.owed c.args.rows.now c.args.writer.now
+    subst
+    (λ (q : Result Reclaimed Unfilled). FillsIdReclaiming g.R.RowRoom.shows c.args.upquery.owed c.args.rows.now
+    c.args.writer.now
     c.args.had.now new c.fill_reclaiming.new.had q) (sym same)
     (subst (λ (o : Owed). FillsIdReclaiming g.R.RowRoom.shows o c.args.rows.now c.args.writer.now c.args.had.now new
     c.fill_reclaiming.new.had r) (sym c.into_parts-way.ensures.parts)
-    (subst (λ (k : Keeper). FillsIdReclaiming g.R.RowRoom.shows owed c.args.rows.now k c.args.had.now new c.fill_reclaiming.new.had r)
+    (subst
+    (λ (k : Keeper). FillsIdReclaiming g.R.RowRoom.shows owed c.args.rows.now k c.args.had.now new
+    c.fill_reclaiming.new.had r)
     c.writer.view_is h)) in
     let closed = λ (why : FillFault) (other : (counts : NoSlot) → why ≢ fill.NoSlot counts)
     (h : FillsReclaiming g.R.RowRoom.shows c.into_parts-way.result.0 c.into_parts-way.result.1 c.as_slice.result.now
     c.writer.inside.writer c.args.had.now c.fill_reclaiming.new.writer c.fill_reclaiming.new.had (Err why))
     (same : c.match-fill_reclaiming.result ≡ Err unfilled.Closed).
     let it = put g c (Err why) h in
-    let kept = fill_refused c.writer.inside.writer c.writer.inside.asker c.fill_reclaiming.new.writer c.writer.inside.clerk
-    c.way_of.new.clerk c.writer.invariant c.into_parts-way.result.2 c.into_parts-way.result.0 (finds g c) (near g c) c.args.rows.now
+    let kept
+    = fill_refused c.writer.inside.writer c.writer.inside.asker c.fill_reclaiming.new.writer c.writer.inside.clerk
+    c.way_of.new.clerk c.writer.invariant c.into_parts-way.result.2 c.into_parts-way.result.0 (finds g c) (near g c)
+    c.args.rows.now
     c.into_parts-way.result.1 why other it.0 in
-    let was : FillsId owed c.args.rows.now (keeper_of c.writer.inside.writer c.writer.inside.asker c.writer.inside.clerk) new
-    (Err unfilled.Closed) = record
-    { closed = kept.0; found = Some c.into_parts-way.result.0; finds = finds g c; how = inr (refl, (why, it.0)); owes = kept.1 } in
+    let was : FillsId owed c.args.rows.now
+    (keeper_of c.writer.inside.writer c.writer.inside.asker c.writer.inside.clerk) new
+    (Err unfilled.Closed) = record {
+      closed = kept.0;
+      found = Some c.into_parts-way.result.0;
+      finds = finds g c;
+      how = inr (refl, (why, it.0));
+      owes = kept.1;
+    } in
     so (Err unfilled.Closed) (was, it.1) same in
     elim c.match-fill_reclaiming.branch [
       | in-Ok v ↦ so (Ok v.in-Ok.given)
-          (filled_gives g.R.RowRoom.shows c.args.had.now c.fill_reclaiming.new.had c.writer.inside.writer c.writer.inside.asker
-          c.fill_reclaiming.new.writer c.writer.inside.clerk c.way_of.new.clerk c.writer.invariant c.into_parts-way.result.2
-          c.into_parts-way.result.0 (finds g c) c.args.rows.now c.into_parts-way.ensures.id c.into_parts-way.result.1 v.in-Ok.given
+          (filled_gives g.R.RowRoom.shows c.args.had.now c.fill_reclaiming.new.had c.writer.inside.writer
+          c.writer.inside.asker
+          c.fill_reclaiming.new.writer c.writer.inside.clerk c.way_of.new.clerk c.writer.invariant
+          c.into_parts-way.result.2
+          c.into_parts-way.result.0 (finds g c) c.args.rows.now c.into_parts-way.ensures.id c.into_parts-way.result.1
+          v.in-Ok.given
           (put g c (Ok v.in-Ok.given) v.in-Ok.ensures)) v.result-is
       | in-Err-NoSlot v ↦ let it = put g c (Err (fill.NoSlot v.in-Err-NoSlot.counts))
-          (subst (λ (why : FillFault). FillsReclaiming g.R.RowRoom.shows c.into_parts-way.result.0 c.into_parts-way.result.1
-          c.as_slice.result.now c.writer.inside.writer c.args.had.now c.fill_reclaiming.new.writer c.fill_reclaiming.new.had (Err why))
+          (subst
+          (λ (why : FillFault). FillsReclaiming g.R.RowRoom.shows c.into_parts-way.result.0
+          c.into_parts-way.result.1
+          c.as_slice.result.now c.writer.inside.writer c.args.had.now c.fill_reclaiming.new.writer
+          c.fill_reclaiming.new.had (Err why))
           v.in-Err-NoSlot.field-0-is v.in-Err-NoSlot.ensures) in
           so (Err (unfilled.NoSlot v.upquery.result v.in-Err-NoSlot.counts)) (
             (
               v.upquery.ensures ∙ ap (λ (t : IdTable). record { table = t; owed = owed })
                   (sym c.requires.own ∙ ap (λ (k : Keeper). k.table) (sym c.writer.view_is)),
-              fill_lacks c.writer.inside.writer c.writer.inside.asker c.fill_reclaiming.new.writer c.writer.inside.clerk c.way_of.new.clerk
-                  c.writer.invariant c.into_parts-way.result.2 c.into_parts-way.result.0 (finds g c) (near g c) c.args.rows.now
+              fill_lacks c.writer.inside.writer c.writer.inside.asker c.fill_reclaiming.new.writer c.writer.inside.clerk
+                  c.way_of.new.clerk
+                  c.writer.invariant c.into_parts-way.result.2 c.into_parts-way.result.0 (finds g c) (near g c)
+                  c.args.rows.now
                   c.into_parts-way.result.1 v.in-Err-NoSlot.counts c.into_parts-way.ensures.id it.0,
             ),
             it.1,
           ) v.result-is
       | in-Err-NotAsked v ↦ closed fill.NotAsked (λ counts e. absurd (cc (e)))
-          (subst (λ (why : FillFault). FillsReclaiming g.R.RowRoom.shows c.into_parts-way.result.0 c.into_parts-way.result.1
-          c.as_slice.result.now c.writer.inside.writer c.args.had.now c.fill_reclaiming.new.writer c.fill_reclaiming.new.had (Err why))
+          (subst
+          (λ (why : FillFault). FillsReclaiming g.R.RowRoom.shows c.into_parts-way.result.0
+          c.into_parts-way.result.1
+          c.as_slice.result.now c.writer.inside.writer c.args.had.now c.fill_reclaiming.new.writer
+          c.fill_reclaiming.new.had (Err why))
           v.in-Err-NotAsked.field-0-is v.in-Err-NotAsked.ensures) v.result-is
       | in-Err-Already v ↦ closed fill.Already (λ counts e. absurd (cc (e)))
-          (subst (λ (why : FillFault). FillsReclaiming g.R.RowRoom.shows c.into_parts-way.result.0 c.into_parts-way.result.1
-          c.as_slice.result.now c.writer.inside.writer c.args.had.now c.fill_reclaiming.new.writer c.fill_reclaiming.new.had (Err why))
+          (subst
+          (λ (why : FillFault). FillsReclaiming g.R.RowRoom.shows c.into_parts-way.result.0
+          c.into_parts-way.result.1
+          c.as_slice.result.now c.writer.inside.writer c.args.had.now c.fill_reclaiming.new.writer
+          c.fill_reclaiming.new.had (Err why))
           v.in-Err-Already.field-0-is v.in-Err-Already.ensures) v.result-is
       | in-Err-Stale v ↦ closed fill.Stale (λ counts e. absurd (cc (e)))
-          (subst (λ (why : FillFault). FillsReclaiming g.R.RowRoom.shows c.into_parts-way.result.0 c.into_parts-way.result.1
-          c.as_slice.result.now c.writer.inside.writer c.args.had.now c.fill_reclaiming.new.writer c.fill_reclaiming.new.had (Err why))
+          (subst
+          (λ (why : FillFault). FillsReclaiming g.R.RowRoom.shows c.into_parts-way.result.0
+          c.into_parts-way.result.1
+          c.as_slice.result.now c.writer.inside.writer c.args.had.now c.fill_reclaiming.new.writer
+          c.fill_reclaiming.new.had (Err why))
           v.in-Err-Stale.field-0-is v.in-Err-Stale.ensures) v.result-is
     ]

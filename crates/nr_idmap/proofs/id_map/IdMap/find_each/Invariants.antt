@@ -9,5 +9,6 @@ invariant-loop-batch g l = record {
   own : id_table_of l.reader ≡ l.self;
   long : length l.wanted ≡ length l.fn.wanted;
   rest : drop (l.batch * 16) l.wanted ≡ drop (l.batch * 16) l.fn.wanted;
-  made : Made (FindsBatch g.R.RowRoom.shows) l.fn.reader (in_sixteens l.fn.wanted) l.batch l.reader (batches ((length l.fn.wanted + 15) / 16) l.wanted);
+  made : Made (FindsBatch g.R.RowRoom.shows) l.fn.reader (in_sixteens l.fn.wanted) l.batch l.reader
+      (batches ((length l.fn.wanted + 15) / 16) l.wanted);
 }

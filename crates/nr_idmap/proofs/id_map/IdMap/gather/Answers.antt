@@ -4,7 +4,8 @@ use Rattle.nr_idmap.proofs.id_map.IdMap.gather.Goals as goal
 
 pub invariant_of-writer : goal.invariant_of-writer
 invariant_of-writer c =
-    (learnt_tied 2 c.writer.inside.writer c.writer.inside.asker c.gather.new.writer c.writer.inside.clerk c.writer.invariant
+    (learnt_tied 2 c.writer.inside.writer c.writer.inside.asker c.gather.new.writer c.writer.inside.clerk
+    c.writer.invariant
     c.gather.ensures.of_reader.learns).0
 
 pub returns-clause-owes : goal.returns-clause-owes

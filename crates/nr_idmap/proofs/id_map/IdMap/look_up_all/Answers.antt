@@ -10,17 +10,28 @@ use Rattle.nr_idmap.proofs.id_map.IdMap.look_up_all.Goals as goal
 
 pub loop-place-preserved : goal.loop-place-preserved
 loop-place-preserved c =
-    let place = c.loop-place.place in let ids : List ℕ = c.args.ids.now in let id : ℕ = get_or ids place 0 in let now = c.args.self.now in
+    let place = c.loop-place.place in
+    let ids : List ℕ = c.args.ids.now in
+    let id : ℕ = get_or ids place 0 in
+    let now = c.args.self.now in
     let low : place < length ids = omega (arith, c.loop-place-test.true) in let had = c.loop-place.invariant in
     let far : place < length c.loop-place.keys = omega (arith, low, c.requires.few, had.long) in
-    let own : c.look_up.new.reader.directory ≡ now.directory = c.look_up.ensures.own ∙ ap (λ (t : IdTable). t.directory) c.self.view_is in
-    let size : ways now.directory.plan ≡ now.map.shape.keys = subst (λ (t : IdTable). ways t.directory.plan ≡ t.map.shape.keys) c.self.view_is c.self.invariant.0 in
-    let groups : c.plan.result.now.groups ≡ now.directory.plan.groups = ap (λ (p : Plan). p.groups) c.plan.ensures.value ∙ ap (λ (t : IdTable). t.directory.plan.groups) c.self.view_is in
+    let own : c.look_up.new.reader.directory ≡ now.directory
+    = c.look_up.ensures.own ∙ ap (λ (t : IdTable). t.directory) c.self.view_is in
+    let size : ways now.directory.plan ≡ now.map.shape.keys
+    = subst (λ (t : IdTable). ways t.directory.plan ≡ t.map.shape.keys) c.self.view_is c.self.invariant.0 in
+    let groups : c.plan.result.now.groups ≡ now.directory.plan.groups
+    = ap (λ (p : Plan). p.groups) c.plan.ensures.value
+    ∙ ap (λ (t : IdTable). t.directory.plan.groups) c.self.view_is in
     let some : 0 < now.map.shape.keys = omega (arith, c.plan.ensures.sizes.0, groups, size) in record {
       own = own;
-      looks = subst (λ (l : List ℕ). LooksUpEach l c.args.reader.now c.look_up.new.reader) (sym (take_more ids place 0 low))
-          (one_more_looked (take place ids) id c.look_up.result c.args.reader.now c.loop-place.reader c.look_up.new.reader had.looks c.look_up.ensures.answer);
+      looks =
+          subst (λ (l : List ℕ). LooksUpEach l c.args.reader.now c.look_up.new.reader) (sym (take_more ids place 0 low))
+          (one_more_looked (take place ids) id c.look_up.result c.args.reader.now c.loop-place.reader
+          c.look_up.new.reader had.looks c.look_up.ensures.answer);
       keys = all_one_more (λ (key : ℕ). key < now.map.shape.keys) c.loop-place.keys place c.key_of.result far had.keys
-          (c.key_of.ensures now.map.shape.keys some (looked_inside id now.map.shape.keys c.loop-place.reader c.look_up.new.reader now.directory c.look_up.result c.look_up.ensures.answer own size));
+          (c.key_of.ensures now.map.shape.keys some
+          (looked_inside id now.map.shape.keys c.loop-place.reader c.look_up.new.reader now.directory
+          c.look_up.result c.look_up.ensures.answer own size));
       long = length-set c.loop-place.keys place c.key_of.result ∙ had.long;
     }

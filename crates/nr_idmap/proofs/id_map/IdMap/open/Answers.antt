@@ -14,11 +14,17 @@ new_clerk : (c : goal.After-new) → (c.pair_readers.new.clerk.number ≡ 0) × 
 new_clerk c = let fresh = c.in-Ok-open.ensures.ok.1 in let kept = c.pair_readers.ensures.clerk in
     (kept.0 ∙ ap (λ (t : Token). t.number) fresh, kept.1 ∙ ap (λ (t : Token). t.seen) fresh)
 
-opened : (c : goal.After-new) → IsOpened (shape_of c.args.shape.now) (words_of_large (shape_of c.args.shape.now)) c.in-Ok.map c.in-Ok.writer c.in-Ok.readers.items
-opened c = subst (λ (s : Shape). IsOpened s (words_of_large s) c.in-Ok.map c.in-Ok.writer c.in-Ok.readers.items) c.of_map.ensures.value c.in-Ok.ensures.ok
+opened : (c : goal.After-new)
+    → IsOpened (shape_of c.args.shape.now) (words_of_large (shape_of c.args.shape.now)) c.in-Ok.map c.in-Ok.writer
+    c.in-Ok.readers.items
+opened c =
+    subst (λ (s : Shape). IsOpened s (words_of_large s) c.in-Ok.map c.in-Ok.writer c.in-Ok.readers.items)
+    c.of_map.ensures.value c.in-Ok.ensures.ok
 
 pub invariant_of-writer : goal.invariant_of-writer
-invariant_of-writer c = opened_tied (shape_of c.args.shape.now) (words_of_large (shape_of c.args.shape.now)) c.in-Ok.map c.in-Ok.writer c.in-Some.asker c.in-Ok.readers.items
+invariant_of-writer c =
+    opened_tied (shape_of c.args.shape.now) (words_of_large (shape_of c.args.shape.now)) c.in-Ok.map c.in-Ok.writer
+    c.in-Some.asker c.in-Ok.readers.items
     c.pop.new.self.items (opened c) c.in-Some.ensures.items c.pair_readers.new.clerk (new_clerk c)
     (ap (λ (d : Opened). ways d.plan) c.pair_readers.ensures.own ∙ ap ways c.in-Ok-open.ensures.ok.0) (omega arith)
 
@@ -40,7 +46,10 @@ returns-clause-ok c =
         rest_count (shape_of c.args.shape.now) (words_of_large (shape_of c.args.shape.now))
             c.in-Ok.map c.in-Ok.writer c.in-Some.asker c.in-Ok.readers.items rest (opened c) c.in-Some.ensures.items,
       );
-      own = subst (λ (l : List IdCaller). All (λ reader. id_table_of reader ≡ record { map = c.in-Ok.map; directory = directory }) l)
+      own =
+          subst
+          (λ (l : List IdCaller). All
+          (λ reader. id_table_of reader ≡ record { map = c.in-Ok.map; directory = directory }) l)
           (sym pairs)
           (pairs_own c.in-Ok.map directory 0 rest
           (others_own c.in-Ok.map c.in-Ok.readers.items rest c.in-Some.asker c.in-Some.ensures.items (opened c).own));

@@ -13,7 +13,8 @@ use Rattle.nr_idmap.proofs.id_map.IdMap.replace.Goals.{in-Ok, in-Err}
 
 pub invariant_of-writer : goal.invariant_of-writer
 invariant_of-writer c =
-    (searched c.writer.inside.writer c.writer.inside.asker c.writer.inside.clerk c.way_of.new.clerk c.writer.invariant c.args.id
+    (searched c.writer.inside.writer c.writer.inside.asker c.writer.inside.clerk c.way_of.new.clerk c.writer.invariant
+    c.args.id
     c.requires.id c.way_of.result c.way_of.ensures.answer).0
 
 pub returns-in_default-clause-owes : goal.returns-in_default-clause-owes
@@ -21,7 +22,8 @@ returns-in_default-clause-owes c =
     let writer = c.writer.inside.writer in let asker = c.writer.inside.asker in
     let clerk = c.writer.inside.clerk in let searched_by = c.way_of.new.clerk in
     owes_so writer asker clerk c.args.writer.now c.writer.view_is writer asker searched_by
-    (searched writer asker clerk searched_by c.writer.invariant c.args.id c.requires.id c.way_of.result c.way_of.ensures.answer).1
+    (searched writer asker clerk searched_by c.writer.invariant c.args.id c.requires.id c.way_of.result
+    c.way_of.ensures.answer).1
 
 put : (c : goal.Joined-replace_rows) (r : Result (Unit {0}) ReplaceFault) →
     ReplacesKey c.in-Some.way c.as_slice.result.now c.writer.inside.writer c.replace_rows.new.writer r →
@@ -51,13 +53,19 @@ returns-clause-replaces c =
     let Calls : ℕ → Caller → Caller → Result (Unit {0}) ReplaceFault →
     Type 0 = λ way. ReplacesKey way (tag_of c.args.id ∷ c.args.rows.now) in
     elim c.match-replace_rows.branch [
-      | in-Ok v ↦ way_done writer asker clerk c.args.writer.now c.writer.view_is c.replace_rows.new.writer asker searched_by Calls c.args.id
-          c.match-replace_rows.result c.in-Some.way tt c.in-Some.ensures.answer (put c (Ok tt) v.in-Ok.ensures) v.result-is
-      | in-Err v ↦ way_refused writer asker clerk c.args.writer.now c.writer.view_is c.replace_rows.new.writer asker searched_by Calls
+      | in-Ok v ↦
+          way_done writer asker clerk c.args.writer.now c.writer.view_is c.replace_rows.new.writer asker searched_by
+          Calls c.args.id
+          c.match-replace_rows.result c.in-Some.way tt c.in-Some.ensures.answer (put c (Ok tt) v.in-Ok.ensures)
+          v.result-is
+      | in-Err v ↦
+          way_refused writer asker clerk c.args.writer.now c.writer.view_is c.replace_rows.new.writer asker searched_by
+          Calls
           c.args.id c.match-replace_rows.result c.in-Some.way v.in-Err.fault c.in-Some.ensures.answer
           (put c (Err v.in-Err.fault) v.in-Err.ensures) v.result-is
     ]
 
 pub returns-clause-owes : goal.returns-clause-owes
-returns-clause-owes c = owes_so c.writer.inside.writer c.writer.inside.asker c.writer.inside.clerk c.args.writer.now c.writer.view_is
+returns-clause-owes c =
+    owes_so c.writer.inside.writer c.writer.inside.asker c.writer.inside.clerk c.args.writer.now c.writer.view_is
     c.replace_rows.new.writer c.writer.inside.asker c.way_of.new.clerk (left c).1

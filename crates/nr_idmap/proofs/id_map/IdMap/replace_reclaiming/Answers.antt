@@ -15,28 +15,36 @@ use Rattle.nr_idmap.proofs.id_map.IdMap.replace_reclaiming.Goals.{in-Ok, in-Err}
 
 pub invariant_of-writer : goal.invariant_of-writer
 invariant_of-writer g c =
-    (searched c.writer.inside.writer c.writer.inside.asker c.writer.inside.clerk c.way_of.new.clerk c.writer.invariant c.args.id
+    (searched c.writer.inside.writer c.writer.inside.asker c.writer.inside.clerk c.way_of.new.clerk c.writer.invariant
+    c.args.id
     c.requires.id c.way_of.result c.way_of.ensures.answer).0
 
 pub returns-in_default-clause-owes : goal.returns-in_default-clause-owes
-returns-in_default-clause-owes g c = owes_so c.writer.inside.writer c.writer.inside.asker c.writer.inside.clerk c.args.writer.now
+returns-in_default-clause-owes g c =
+    owes_so c.writer.inside.writer c.writer.inside.asker c.writer.inside.clerk c.args.writer.now
     c.writer.view_is c.writer.inside.writer c.writer.inside.asker c.way_of.new.clerk
-    (searched c.writer.inside.writer c.writer.inside.asker c.writer.inside.clerk c.way_of.new.clerk c.writer.invariant c.args.id
+    (searched c.writer.inside.writer c.writer.inside.asker c.writer.inside.clerk c.way_of.new.clerk c.writer.invariant
+    c.args.id
     c.requires.id c.way_of.result c.way_of.ensures.answer).1
 
 put : (g : given.Over) (c : goal.Joined-replace_reclaiming g) (r : Result Reclaimed ReplaceFault) →
     ReplacesReclaiming g.R.RowRoom.shows c.in-Some.way c.as_slice.result.now c.writer.inside.writer c.args.had.now
     c.replace_reclaiming.new.writer c.replace_reclaiming.new.had r →
-    ReplacesReclaiming g.R.RowRoom.shows c.in-Some.way (tag_of c.args.id ∷ c.args.rows.now) c.writer.inside.writer c.args.had.now
+    ReplacesReclaiming g.R.RowRoom.shows c.in-Some.way (tag_of c.args.id ∷ c.args.rows.now) c.writer.inside.writer
+    c.args.had.now
     c.replace_reclaiming.new.writer c.replace_reclaiming.new.had r
-put g c r h = subst (λ (l : List Row). ReplacesReclaiming g.R.RowRoom.shows c.in-Some.way l c.writer.inside.writer c.args.had.now
-    c.replace_reclaiming.new.writer c.replace_reclaiming.new.had r) (c.as_slice.ensures.value ∙ c.put_tagged.ensures.pile) h
+put g c r h =
+    subst (λ (l : List Row). ReplacesReclaiming g.R.RowRoom.shows c.in-Some.way l c.writer.inside.writer c.args.had.now
+    c.replace_reclaiming.new.writer c.replace_reclaiming.new.had r)
+    (c.as_slice.ensures.value ∙ c.put_tagged.ensures.pile) h
 
 left : (g : given.Over) (c : goal.Joined-replace_reclaiming g) →
     IsTied (keeper_of c.replace_reclaiming.new.writer c.writer.inside.asker c.way_of.new.clerk) ×
     OwesSame (keeper_of c.writer.inside.writer c.writer.inside.asker c.writer.inside.clerk)
     (keeper_of c.replace_reclaiming.new.writer c.writer.inside.asker c.way_of.new.clerk)
-left g c = replace_gives g.R.RowRoom.shows c.args.had.now c.replace_reclaiming.new.had c.writer.inside.writer c.writer.inside.asker
+left g c =
+    replace_gives g.R.RowRoom.shows c.args.had.now c.replace_reclaiming.new.had c.writer.inside.writer
+    c.writer.inside.asker
     c.replace_reclaiming.new.writer c.writer.inside.clerk c.way_of.new.clerk c.writer.invariant c.args.id c.in-Some.way
     c.in-Some.ensures.answer c.args.rows.now c.requires.id c.replace_reclaiming.result
     (put g c c.replace_reclaiming.result c.replace_reclaiming.ensures)
@@ -47,20 +55,28 @@ invariant_of-writer-2 g c = (left g c).0
 pub returns-clause-replaces : goal.returns-clause-replaces
 returns-clause-replaces g c =
     let Calls : ℕ → Caller → Caller → Result Reclaimed ReplaceFault →
-    Type 0 = λ way old new r. ReplacesReclaiming g.R.RowRoom.shows way (tag_of c.args.id ∷ c.args.rows.now) old c.args.had.now new
+    Type
+    0 = λ way old new r. ReplacesReclaiming g.R.RowRoom.shows way (tag_of c.args.id ∷ c.args.rows.now) old
+    c.args.had.now new
     c.replace_reclaiming.new.had r in
     let so = λ (r : Result Reclaimed ReplaceFault)
     (h : ReplacesReclaiming g.R.RowRoom.shows c.in-Some.way c.as_slice.result.now c.writer.inside.writer c.args.had.now
     c.replace_reclaiming.new.writer c.replace_reclaiming.new.had r). put g c r h in
     elim c.match-replace_reclaiming.branch [
-      | in-Ok v ↦ way_done c.writer.inside.writer c.writer.inside.asker c.writer.inside.clerk c.args.writer.now c.writer.view_is
-          c.replace_reclaiming.new.writer c.writer.inside.asker c.way_of.new.clerk Calls c.args.id c.match-replace_reclaiming.result
+      | in-Ok v ↦
+          way_done c.writer.inside.writer c.writer.inside.asker c.writer.inside.clerk c.args.writer.now c.writer.view_is
+          c.replace_reclaiming.new.writer c.writer.inside.asker c.way_of.new.clerk Calls c.args.id
+          c.match-replace_reclaiming.result
           c.in-Some.way v.in-Ok.given c.in-Some.ensures.answer (so (Ok v.in-Ok.given) v.in-Ok.ensures) v.result-is
-      | in-Err v ↦ way_refused c.writer.inside.writer c.writer.inside.asker c.writer.inside.clerk c.args.writer.now c.writer.view_is
-          c.replace_reclaiming.new.writer c.writer.inside.asker c.way_of.new.clerk Calls c.args.id c.match-replace_reclaiming.result
+      | in-Err v ↦
+          way_refused c.writer.inside.writer c.writer.inside.asker c.writer.inside.clerk c.args.writer.now
+          c.writer.view_is
+          c.replace_reclaiming.new.writer c.writer.inside.asker c.way_of.new.clerk Calls c.args.id
+          c.match-replace_reclaiming.result
           c.in-Some.way v.in-Err.fault c.in-Some.ensures.answer (so (Err v.in-Err.fault) v.in-Err.ensures) v.result-is
     ]
 
 pub returns-clause-owes : goal.returns-clause-owes
-returns-clause-owes g c = owes_so c.writer.inside.writer c.writer.inside.asker c.writer.inside.clerk c.args.writer.now c.writer.view_is
+returns-clause-owes g c =
+    owes_so c.writer.inside.writer c.writer.inside.asker c.writer.inside.clerk c.args.writer.now c.writer.view_is
     c.replace_reclaiming.new.writer c.writer.inside.asker c.way_of.new.clerk (left g c).1

@@ -11,7 +11,8 @@ use Rattle.nr_idmap.proofs.id_map.IdMap.update.Goals.{in-Ok, in-Err}
 
 pub invariant_of-writer : goal.invariant_of-writer
 invariant_of-writer c =
-    (searched c.writer.inside.writer c.writer.inside.asker c.writer.inside.clerk c.way_of.new.clerk c.writer.invariant c.args.id
+    (searched c.writer.inside.writer c.writer.inside.asker c.writer.inside.clerk c.way_of.new.clerk c.writer.invariant
+    c.args.id
     c.requires.id c.way_of.result c.way_of.ensures.answer).0
 
 pub returns-in_default-clause-owes : goal.returns-in_default-clause-owes
@@ -19,7 +20,8 @@ returns-in_default-clause-owes c =
     let writer = c.writer.inside.writer in let asker = c.writer.inside.asker in
     let clerk = c.writer.inside.clerk in let searched_by = c.way_of.new.clerk in
     owes_so writer asker clerk c.args.writer.now c.writer.view_is writer asker searched_by
-    (searched writer asker clerk searched_by c.writer.invariant c.args.id c.requires.id c.way_of.result c.way_of.ensures.answer).1
+    (searched writer asker clerk searched_by c.writer.invariant c.args.id c.requires.id c.way_of.result
+    c.way_of.ensures.answer).1
 
 left : (c : goal.Joined-update_rows) →
     IsTied (keeper_of c.update_rows.new.writer c.writer.inside.asker c.way_of.new.clerk) ×
@@ -44,16 +46,24 @@ returns-clause-updates c =
     Type 0 = λ way. UpdatesKey c.args.self.now.map.shape.rows way c.args.deltas.now in
     let calls = λ (r : Result (Unit {0}) UpdateFault)
     (h : UpdatesKey c.self.inside.map.shape.rows c.in-Some.way c.args.deltas.now writer c.update_rows.new.writer r).
-    subst (λ (t : IdTable). UpdatesKey t.map.shape.rows c.in-Some.way c.args.deltas.now writer c.update_rows.new.writer r) c.self.view_is h
+    subst
+    (λ (t : IdTable). UpdatesKey t.map.shape.rows c.in-Some.way c.args.deltas.now writer c.update_rows.new.writer r)
+    c.self.view_is h
     in
     elim c.match-update_rows.branch [
-      | in-Ok v ↦ way_done writer asker clerk c.args.writer.now c.writer.view_is c.update_rows.new.writer asker searched_by Calls c.args.id
-          c.match-update_rows.result c.in-Some.way tt c.in-Some.ensures.answer (calls (Ok tt) v.in-Ok.ensures) v.result-is
-      | in-Err v ↦ way_refused writer asker clerk c.args.writer.now c.writer.view_is c.update_rows.new.writer asker searched_by Calls
+      | in-Ok v ↦
+          way_done writer asker clerk c.args.writer.now c.writer.view_is c.update_rows.new.writer asker searched_by
+          Calls c.args.id
+          c.match-update_rows.result c.in-Some.way tt c.in-Some.ensures.answer (calls (Ok tt) v.in-Ok.ensures)
+          v.result-is
+      | in-Err v ↦
+          way_refused writer asker clerk c.args.writer.now c.writer.view_is c.update_rows.new.writer asker searched_by
+          Calls
           c.args.id c.match-update_rows.result c.in-Some.way v.in-Err.fault c.in-Some.ensures.answer
           (calls (Err v.in-Err.fault) v.in-Err.ensures) v.result-is
     ]
 
 pub returns-clause-owes : goal.returns-clause-owes
-returns-clause-owes c = owes_so c.writer.inside.writer c.writer.inside.asker c.writer.inside.clerk c.args.writer.now c.writer.view_is
+returns-clause-owes c =
+    owes_so c.writer.inside.writer c.writer.inside.asker c.writer.inside.clerk c.args.writer.now c.writer.view_is
     c.update_rows.new.writer c.writer.inside.asker c.way_of.new.clerk (left c).1

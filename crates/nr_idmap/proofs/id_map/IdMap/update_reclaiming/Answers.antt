@@ -13,20 +13,25 @@ use Rattle.nr_idmap.proofs.id_map.IdMap.update_reclaiming.Goals.{in-Ok, in-Err}
 
 pub invariant_of-writer : goal.invariant_of-writer
 invariant_of-writer g c =
-    (searched c.writer.inside.writer c.writer.inside.asker c.writer.inside.clerk c.way_of.new.clerk c.writer.invariant c.args.id
+    (searched c.writer.inside.writer c.writer.inside.asker c.writer.inside.clerk c.way_of.new.clerk c.writer.invariant
+    c.args.id
     c.requires.id c.way_of.result c.way_of.ensures.answer).0
 
 pub returns-in_default-clause-owes : goal.returns-in_default-clause-owes
-returns-in_default-clause-owes g c = owes_so c.writer.inside.writer c.writer.inside.asker c.writer.inside.clerk c.args.writer.now
+returns-in_default-clause-owes g c =
+    owes_so c.writer.inside.writer c.writer.inside.asker c.writer.inside.clerk c.args.writer.now
     c.writer.view_is c.writer.inside.writer c.writer.inside.asker c.way_of.new.clerk
-    (searched c.writer.inside.writer c.writer.inside.asker c.writer.inside.clerk c.way_of.new.clerk c.writer.invariant c.args.id
+    (searched c.writer.inside.writer c.writer.inside.asker c.writer.inside.clerk c.way_of.new.clerk c.writer.invariant
+    c.args.id
     c.requires.id c.way_of.result c.way_of.ensures.answer).1
 
 left : (g : given.Over) (c : goal.Joined-update_reclaiming g) →
     IsTied (keeper_of c.update_reclaiming.new.writer c.writer.inside.asker c.way_of.new.clerk) ×
     OwesSame (keeper_of c.writer.inside.writer c.writer.inside.asker c.writer.inside.clerk)
     (keeper_of c.update_reclaiming.new.writer c.writer.inside.asker c.way_of.new.clerk)
-left g c = update_gives g.R.RowRoom.shows c.args.had.now c.update_reclaiming.new.had c.writer.inside.writer c.writer.inside.asker
+left g c =
+    update_gives g.R.RowRoom.shows c.args.had.now c.update_reclaiming.new.had c.writer.inside.writer
+    c.writer.inside.asker
     c.update_reclaiming.new.writer c.writer.inside.clerk c.way_of.new.clerk c.writer.invariant c.args.id c.in-Some.way
     c.in-Some.ensures.answer c.self.inside.map.shape.rows c.args.deltas.now c.update_reclaiming.result c.requires.deltas
     c.update_reclaiming.ensures
@@ -37,22 +42,33 @@ invariant_of-writer-2 g c = (left g c).0
 pub returns-clause-updates : goal.returns-clause-updates
 returns-clause-updates g c =
     let Calls : ℕ → Caller → Caller → Result Reclaimed UpdateFault →
-    Type 0 = λ way old new r. UpdatesReclaiming g.R.RowRoom.shows c.args.self.now.map.shape.rows way c.args.deltas.now old
+    Type
+    0 = λ way old new r. UpdatesReclaiming g.R.RowRoom.shows c.args.self.now.map.shape.rows way c.args.deltas.now
+    old
     c.args.had.now new c.update_reclaiming.new.had r in
     let so = λ (r : Result Reclaimed UpdateFault)
-    (h : UpdatesReclaiming g.R.RowRoom.shows c.self.inside.map.shape.rows c.in-Some.way c.args.deltas.now c.writer.inside.writer
+    (h : UpdatesReclaiming g.R.RowRoom.shows c.self.inside.map.shape.rows c.in-Some.way c.args.deltas.now
+    c.writer.inside.writer
     c.args.had.now c.update_reclaiming.new.writer c.update_reclaiming.new.had r).
-    subst (λ (t : IdTable). UpdatesReclaiming g.R.RowRoom.shows t.map.shape.rows c.in-Some.way c.args.deltas.now c.writer.inside.writer
+    subst
+    (λ (t : IdTable). UpdatesReclaiming g.R.RowRoom.shows t.map.shape.rows c.in-Some.way c.args.deltas.now
+    c.writer.inside.writer
     c.args.had.now c.update_reclaiming.new.writer c.update_reclaiming.new.had r) c.self.view_is h in
     elim c.match-update_reclaiming.branch [
-      | in-Ok v ↦ way_done c.writer.inside.writer c.writer.inside.asker c.writer.inside.clerk c.args.writer.now c.writer.view_is
-          c.update_reclaiming.new.writer c.writer.inside.asker c.way_of.new.clerk Calls c.args.id c.match-update_reclaiming.result
+      | in-Ok v ↦
+          way_done c.writer.inside.writer c.writer.inside.asker c.writer.inside.clerk c.args.writer.now c.writer.view_is
+          c.update_reclaiming.new.writer c.writer.inside.asker c.way_of.new.clerk Calls c.args.id
+          c.match-update_reclaiming.result
           c.in-Some.way v.in-Ok.given c.in-Some.ensures.answer (so (Ok v.in-Ok.given) v.in-Ok.ensures) v.result-is
-      | in-Err v ↦ way_refused c.writer.inside.writer c.writer.inside.asker c.writer.inside.clerk c.args.writer.now c.writer.view_is
-          c.update_reclaiming.new.writer c.writer.inside.asker c.way_of.new.clerk Calls c.args.id c.match-update_reclaiming.result
+      | in-Err v ↦
+          way_refused c.writer.inside.writer c.writer.inside.asker c.writer.inside.clerk c.args.writer.now
+          c.writer.view_is
+          c.update_reclaiming.new.writer c.writer.inside.asker c.way_of.new.clerk Calls c.args.id
+          c.match-update_reclaiming.result
           c.in-Some.way v.in-Err.fault c.in-Some.ensures.answer (so (Err v.in-Err.fault) v.in-Err.ensures) v.result-is
     ]
 
 pub returns-clause-owes : goal.returns-clause-owes
-returns-clause-owes g c = owes_so c.writer.inside.writer c.writer.inside.asker c.writer.inside.clerk c.args.writer.now c.writer.view_is
+returns-clause-owes g c =
+    owes_so c.writer.inside.writer c.writer.inside.asker c.writer.inside.clerk c.args.writer.now c.writer.view_is
     c.update_reclaiming.new.writer c.writer.inside.asker c.way_of.new.clerk (left g c).1

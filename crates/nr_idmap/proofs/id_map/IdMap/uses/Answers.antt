@@ -6,14 +6,16 @@ pub invariant_of-writer : goal.invariant_of-writer
 invariant_of-writer c =
     let writer = c.writer.inside.writer in let asker = c.writer.inside.asker in
     let clerk = c.writer.inside.clerk in let mid = c.way_of.new.clerk in
-    (searched writer asker clerk mid c.writer.invariant c.args.id c.requires.id c.way_of.result c.way_of.ensures.answer).0
+    (searched writer asker clerk mid c.writer.invariant c.args.id c.requires.id c.way_of.result
+    c.way_of.ensures.answer).0
 
 pub returns-in_default-clause-stays : goal.returns-in_default-clause-stays
 returns-in_default-clause-stays c =
     let writer = c.writer.inside.writer in let asker = c.writer.inside.asker in
     let clerk = c.writer.inside.clerk in let mid = c.way_of.new.clerk in
     stays_so writer asker clerk c.args.writer.now c.writer.view_is mid
-    (searched writer asker clerk mid c.writer.invariant c.args.id c.requires.id c.way_of.result c.way_of.ensures.answer).1
+    (searched writer asker clerk mid c.writer.invariant c.args.id c.requires.id c.way_of.result
+    c.way_of.ensures.answer).1
 
 pub invariant_of-writer-2 : goal.invariant_of-writer-2
 invariant_of-writer-2 c =

@@ -30,7 +30,8 @@ returns-then-ne-clause-withdraws c =
     let owed : Owed = record { way = way; number = c.into_parts-way.result.1; id = c.into_parts-way.result.2 } in
     subst (λ (o : Owed). WasClosed (Refused o) o c.args.writer.now (keeper_of writer asker searched_by))
     (sym c.into_parts-way.ensures.parts)
-    (closed_unfound writer asker c.writer.inside.clerk c.args.writer.now c.writer.view_is searched_by c.writer.invariant owed
+    (closed_unfound writer asker c.writer.inside.clerk c.args.writer.now c.writer.view_is searched_by c.writer.invariant
+    owed
     c.into_parts-way.ensures.id c.way_of.result c.way_of.ensures.answer (Refused owed)
     (found_not c.way_of.result way (sym c.if-ne.true ∙ c.ne.ensures)))
 
@@ -49,10 +50,16 @@ pub returns-then-number-clause-withdraws : goal.returns-then-number-clause-withd
 returns-then-number-clause-withdraws c =
     let writer = c.writer.inside.writer in let asker = c.writer.inside.asker in
     let clerk = c.writer.inside.clerk in let searched_by = c.way_of.new.clerk in
-    let owed : Owed = record { way = c.into_parts-way.result.0; number = c.into_parts-way.result.1; id = c.into_parts-way.result.2 } in
+    let owed : Owed
+    = record {
+      way = c.into_parts-way.result.0;
+      number = c.into_parts-way.result.1;
+      id = c.into_parts-way.result.2;
+    } in
     subst (λ (o : Owed). WasClosed (Refused o) o c.args.writer.now (keeper_of writer asker searched_by))
     (sym c.into_parts-way.ensures.parts)
-    (closed_so writer asker clerk c.args.writer.now c.writer.view_is searched_by c.writer.invariant owed c.into_parts-way.ensures.id
+    (closed_so writer asker clerk c.args.writer.now c.writer.view_is searched_by c.writer.invariant owed
+    c.into_parts-way.ensures.id
     c.way_of.result c.way_of.ensures.answer (Refused owed)
     (other_number writer asker clerk owed (λ e. c.if-number.true (c.number.ensures.number ∙ e))))
 
@@ -61,8 +68,11 @@ invariant_of-writer-in-Cancelled c =
     let writer = c.writer.inside.writer in let asker = c.writer.inside.asker in
     let clerk = c.writer.inside.clerk in let searched_by = c.way_of.new.clerk in let tied = c.writer.invariant in
     let id = c.into_parts-way.result.2 in let way = c.into_parts-way.result.0 in
-    let finds = subst (FindsWay id clerk searched_by) (found_is c.way_of.result way c.if-ne.ensures) c.way_of.ensures.answer in
-    (withdrawn_way writer asker c.cancel.new.writer clerk searched_by c.unname.new.clerk tied id way c.into_parts-way.ensures.id finds
+    let finds
+    = subst (FindsWay id clerk searched_by) (found_is c.way_of.result way c.if-ne.ensures)
+    c.way_of.ensures.answer in
+    (withdrawn_way writer asker c.cancel.new.writer clerk searched_by c.unname.new.clerk tied id way
+    c.into_parts-way.ensures.id finds
     (near_of writer asker id way clerk searched_by tied finds) c.unname.ensures.answer c.into_parts-way.result.1
     (sym c.number.ensures.number ∙ c.if-number.false) c.in-Cancelled.ensures).0
 
@@ -71,7 +81,9 @@ invariant_of-writer-in-Nothing c =
     let writer = c.writer.inside.writer in let asker = c.writer.inside.asker in
     let clerk = c.writer.inside.clerk in let searched_by = c.way_of.new.clerk in let tied = c.writer.invariant in
     let id = c.into_parts-way.result.2 in let way = c.into_parts-way.result.0 in
-    let finds = subst (FindsWay id clerk searched_by) (found_is c.way_of.result way c.if-ne.ensures) c.way_of.ensures.answer in
+    let finds
+    = subst (FindsWay id clerk searched_by) (found_is c.way_of.result way c.if-ne.ensures)
+    c.way_of.ensures.answer in
     (cancel_nothing writer asker c.cancel.new.writer clerk searched_by tied id way finds
     (near_of writer asker id way clerk searched_by tied finds) c.in-Nothing.ensures).0.0
 
@@ -80,7 +92,9 @@ invariant_of-writer-in-Worn c =
     let writer = c.writer.inside.writer in let asker = c.writer.inside.asker in
     let clerk = c.writer.inside.clerk in let searched_by = c.way_of.new.clerk in let tied = c.writer.invariant in
     let id = c.into_parts-way.result.2 in let way = c.into_parts-way.result.0 in
-    let finds = subst (FindsWay id clerk searched_by) (found_is c.way_of.result way c.if-ne.ensures) c.way_of.ensures.answer in
+    let finds
+    = subst (FindsWay id clerk searched_by) (found_is c.way_of.result way c.if-ne.ensures)
+    c.way_of.ensures.answer in
     (cancel_worn writer asker c.cancel.new.writer clerk searched_by tied id way finds
     (near_of writer asker id way clerk searched_by tied finds) c.into_parts-way.result.1 c.into_parts-way.ensures.id
     (sym c.number.ensures.number ∙ c.if-number.false) c.in-Worn.ensures).0
@@ -91,11 +105,15 @@ returns-in-Cancelled-clause-withdraws c =
     let clerk = c.writer.inside.clerk in let searched_by = c.way_of.new.clerk in let tied = c.writer.invariant in
     let id = c.into_parts-way.result.2 in let way = c.into_parts-way.result.0 in
     let number = c.into_parts-way.result.1 in
-    let finds = subst (FindsWay id clerk searched_by) (found_is c.way_of.result way c.if-ne.ensures) c.way_of.ensures.answer in
-    let owed : Owed = record { way = way; number = number; id = id } in let new = keeper_of c.cancel.new.writer asker c.unname.new.clerk in
+    let finds
+    = subst (FindsWay id clerk searched_by) (found_is c.way_of.result way c.if-ne.ensures)
+    c.way_of.ensures.answer in
+    let owed : Owed = record { way = way; number = number; id = id } in
+    let new = keeper_of c.cancel.new.writer asker c.unname.new.clerk in
     subst (λ (o : Owed). WithdrawsOwed o c.args.writer.now new) (sym c.into_parts-way.ensures.parts)
     (subst (λ (k : Keeper). WithdrawsOwed owed k new) c.writer.view_is
-    (withdrawn_way writer asker c.cancel.new.writer clerk searched_by c.unname.new.clerk tied id way c.into_parts-way.ensures.id finds
+    (withdrawn_way writer asker c.cancel.new.writer clerk searched_by c.unname.new.clerk tied id way
+    c.into_parts-way.ensures.id finds
     (near_of writer asker id way clerk searched_by tied finds) c.unname.ensures.answer number
     (sym c.number.ensures.number ∙ c.if-number.false) c.in-Cancelled.ensures).1)
 
@@ -104,7 +122,9 @@ returns-in-Nothing-clause-withdraws c =
     let writer = c.writer.inside.writer in let asker = c.writer.inside.asker in
     let clerk = c.writer.inside.clerk in let searched_by = c.way_of.new.clerk in let tied = c.writer.invariant in
     let id = c.into_parts-way.result.2 in let way = c.into_parts-way.result.0 in
-    let finds = subst (FindsWay id clerk searched_by) (found_is c.way_of.result way c.if-ne.ensures) c.way_of.ensures.answer in
+    let finds
+    = subst (FindsWay id clerk searched_by) (found_is c.way_of.result way c.if-ne.ensures)
+    c.way_of.ensures.answer in
     let owed : Owed = record { way = way; number = c.into_parts-way.result.1; id = id } in
     let new = keeper_of c.cancel.new.writer asker searched_by in
     let met = cancel_nothing writer asker c.cancel.new.writer clerk searched_by tied id way finds
@@ -120,8 +140,11 @@ returns-in-Worn-clause-withdraws c =
     let clerk = c.writer.inside.clerk in let searched_by = c.way_of.new.clerk in let tied = c.writer.invariant in
     let id = c.into_parts-way.result.2 in let way = c.into_parts-way.result.0 in
     let number = c.into_parts-way.result.1 in
-    let finds = subst (FindsWay id clerk searched_by) (found_is c.way_of.result way c.if-ne.ensures) c.way_of.ensures.answer in
-    let owed : Owed = record { way = way; number = number; id = id } in let new = keeper_of c.cancel.new.writer asker searched_by in (
+    let finds
+    = subst (FindsWay id clerk searched_by) (found_is c.way_of.result way c.if-ne.ensures)
+    c.way_of.ensures.answer in
+    let owed : Owed = record { way = way; number = number; id = id } in
+    let new = keeper_of c.cancel.new.writer asker searched_by in (
       c.upquery.ensures ∙ (λ i. record { table = sym c.requires.own i; owed = sym c.into_parts-way.ensures.parts i }),
       subst (λ (o : Owed). WornOwed o c.args.writer.now new) (sym c.into_parts-way.ensures.parts)
           (subst (λ (k : Keeper). WornOwed owed k new) c.writer.view_is

@@ -7,4 +7,5 @@ use Rattle.nr_ids.proofs.directory.Directory.choose.Goals as goal
 pub returns-clause-steps : goal.returns-clause-steps
 returns-clause-steps c = let new = token c.turn_marks.new.seat in
     subst (λ (t : Token). Grows (looks 2 t.number) t new) c.clerk.view_is
-    (then_looks (token c.clerk.inside.seat) (token c.marks.new.seat) new 1 c.marks.ensures.grows c.turn_marks.ensures.grows)
+    (then_looks (token c.clerk.inside.seat) (token c.marks.new.seat) new 1 c.marks.ensures.grows
+    c.turn_marks.ensures.grows)

@@ -6,7 +6,16 @@ use Rattle.nr_ids.proofs.Calls.{group_is, grows_on}
 use Rattle.nr_ids.proofs.directory.Directory.clear.Goals as goal
 
 pub returns-clause-answer : goal.returns-clause-answer
-returns-clause-answer c = let old = token c.clerk.inside.seat in let mid = token c.look_at_turn-turn.new.seat in let new = token c.close.new.seat in let id = c.args.id in
-    let group = group_is id c.group_of-group.result c.plan.result.now c.args.self.now old (ap (λ (t : Token). t.directory) c.clerk.view_is ∙ c.requires.own) c.group_of-group.ensures.value c.plan.ensures.value in
+returns-clause-answer c =
+    let old = token c.clerk.inside.seat in
+    let mid = token c.look_at_turn-turn.new.seat in
+    let new = token c.close.new.seat in
+    let id = c.args.id in
+    let group
+    = group_is id c.group_of-group.result c.plan.result.now c.args.self.now old
+    (ap (λ (t : Token). t.directory) c.clerk.view_is ∙ c.requires.own) c.group_of-group.ensures.value
+    c.plan.ensures.value in
     subst (λ (t : Token). Grows (cleared (group_for t id) ∷ looks 1 t.number) t new) c.clerk.view_is
-    (subst (λ (g : ℕ). Grows (cleared g ∷ looks 1 old.number) old new) group (grows_on old mid new (looked old.number ∷ []) (cleared c.group_of-group.result ∷ []) c.look_at_turn-turn.ensures.grows c.close.ensures.grows))
+    (subst (λ (g : ℕ). Grows (cleared g ∷ looks 1 old.number) old new) group
+    (grows_on old mid new (looked old.number ∷ []) (cleared c.group_of-group.result ∷ [])
+    c.look_at_turn-turn.ensures.grows c.close.ensures.grows))

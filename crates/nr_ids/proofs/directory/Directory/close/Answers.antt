@@ -5,14 +5,23 @@ use Rattle.nr_ids.proofs.Seats.{clears_group, grows_by, sits_on, stands}
 use Rattle.nr_ids.proofs.directory.Directory.close.Goals as goal
 
 pub store-requires : goal.store-requires
-store-requires c = clears_group _ _ _ (stands _ _ _ _ c.self.view_is c.self.invariant) c.args.seat.now c.requires.clerk c.requires.number c.args.group c.turn_place-place.result c.args.was
+store-requires c =
+    clears_group _ _ _ (stands _ _ _ _ c.self.view_is c.self.invariant) c.args.seat.now c.requires.clerk
+    c.requires.number c.args.group c.turn_place-place.result c.args.was
     c.requires.group c.turn_place-place.ensures.value c.requires.was c.requires.open_claim
 
 pub returns-clause-clerk : goal.returns-clause-clerk
 returns-clause-clerk c = let old = c.args.seat.now in let next = c.store.new.seat in
-    let goes = c.store.ensures.2 c.args.group (c.turn_place-place.ensures.value ∙ ap (λ (d : Opened). turn_place d.plan c.args.group) (sym c.requires.clerk.own)) in
-    sits_on c.args.self.now old next _ c.requires.clerk (grows_by old next _ c.store.ensures.0 goes (sym c.requires.number)) (ap (λ (v : View). v.calls) goes.next_is)
+    let goes
+    = c.store.ensures.2 c.args.group
+    (c.turn_place-place.ensures.value
+    ∙ ap (λ (d : Opened). turn_place d.plan c.args.group) (sym c.requires.clerk.own)) in
+    sits_on c.args.self.now old next _ c.requires.clerk
+    (grows_by old next _ c.store.ensures.0 goes (sym c.requires.number)) (ap (λ (v : View). v.calls) goes.next_is)
 
 pub returns-clause-grows : goal.returns-clause-grows
 returns-clause-grows c = grows_by c.args.seat.now c.store.new.seat _ c.store.ensures.0
-    (c.store.ensures.2 c.args.group (c.turn_place-place.ensures.value ∙ ap (λ (d : Opened). turn_place d.plan c.args.group) (sym c.requires.clerk.own))) (sym c.requires.number)
+    (c.store.ensures.2 c.args.group
+    (c.turn_place-place.ensures.value
+    ∙ ap (λ (d : Opened). turn_place d.plan c.args.group) (sym c.requires.clerk.own)))
+    (sym c.requires.number)

@@ -9,5 +9,6 @@ returns-then-marks-bit-eq0-clause-marks c = let new = token c.add_marks.new.seat
   2,
   inr refl,
   subst (λ (t : Token). Grows (looks 2 t.number) t new) c.reader.view_is
-      (then_looks (token c.reader.inside.seat) (token c.marks.new.seat) new 1 c.marks.ensures.grows c.add_marks.ensures.grows),
+      (then_looks (token c.reader.inside.seat) (token c.marks.new.seat) new 1 c.marks.ensures.grows
+      c.add_marks.ensures.grows),
 )

@@ -12,13 +12,24 @@ use Rattle.nr_ids.proofs.directory.Directory.request.Goals.{then-claim, else-cla
 pub returns-in-Some-clause-answer : goal.returns-in-Some-clause-answer
 returns-in-Some-clause-answer c = let second = token c.scan.new.seat in let way = c.in-Some.way in
     subst (λ (t : Token). FindsAt c.args.id 2 t second way) c.reader.view_is
-    (then_found c.args.id way (token c.reader.inside.seat) (token c.look_at_turn-turn.new.seat) second c.look_at_turn-turn.ensures.grows c.in-Some.ensures.scans)
+    (then_found c.args.id way (token c.reader.inside.seat) (token c.look_at_turn-turn.new.seat) second
+    c.look_at_turn-turn.ensures.grows c.in-Some.ensures.scans)
 
 pub returns-clause-answer : goal.returns-clause-answer
-returns-clause-answer c = let old = token c.reader.inside.seat in let first = token c.look_at_turn-turn.new.seat in let second = token c.scan.new.seat in let third = token c.claim.new.seat in
-    let id = c.args.id in let found = c.look_at_turn-turn.result in let turn = c.look_at_turn-turn.ensures in let own = turn.caller.own in
-    let of_is = group_is id c.group_of.result c.plan.result.now c.args.self.now first own c.group_of.ensures.value c.plan.ensures.value in
-    let of = c.group_of.ensures.value ∙ ap (λ (p : Plan). group_of p id) c.plan.ensures.value in let scan = c.in_default.ensures.scans.grows in
+returns-clause-answer c =
+    let old = token c.reader.inside.seat in
+    let first = token c.look_at_turn-turn.new.seat in
+    let second = token c.scan.new.seat in
+    let third = token c.claim.new.seat in
+    let id = c.args.id in
+    let found = c.look_at_turn-turn.result in
+    let turn = c.look_at_turn-turn.ensures in
+    let own = turn.caller.own in
+    let of_is
+    = group_is id c.group_of.result c.plan.result.now c.args.self.now first own c.group_of.ensures.value
+    c.plan.ensures.value in
+    let of = c.group_of.ensures.value ∙ ap (λ (p : Plan). group_of p id) c.plan.ensures.value in
+    let scan = c.in_default.ensures.scans.grows in
     subst (λ (t : Token). Requests id t third c.if-claim.result) c.reader.view_is (elim c.if-claim.branch [
       | then-claim w ↦ subst (Requests id old third) (sym w.result-is) (
         granted c.args.self.now id c.group_of.result found first own of_is turn.value old second third turn.grows scan
@@ -26,7 +37,11 @@ returns-clause-answer c = let old = token c.reader.inside.seat in let first = to
         w.of.ensures ∙ sym (ap (λ (t : Token). t.directory) c.reader.view_is ∙ c.requires.own),
         refl,
       )
-      | else-claim w ↦ subst (Requests id old third) (sym w.result-is) (outrun c.args.self.now id c.group_of.result found first own of_is turn.value old second third turn.grows scan
+      | else-claim w ↦
+          subst (Requests id old third) (sym w.result-is)
+          (outrun c.args.self.now id c.group_of.result found first own of_is turn.value old second third turn.grows
+          scan
           (omega (arith, c.if-turn-eq1.false)) (c.claim.ensures.lost w.if-claim.false).0
-          (λ same. (c.claim.ensures.lost w.if-claim.false).1 (ap (turn_of c.args.self.now.plan third.seen) (sym of) ∙ same)))
+          (λ same. (c.claim.ensures.lost w.if-claim.false).1
+          (ap (turn_of c.args.self.now.plan third.seen) (sym of) ∙ same)))
     ])

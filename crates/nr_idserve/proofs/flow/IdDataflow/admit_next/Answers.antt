@@ -10,7 +10,8 @@ returns-in-Err-Full-clause-admits g c =
     let after = c.admit_making_room.new.self in (
       refl,
       after,
-      subst (λ (why : Refused). AdmitsMakingRoom c.args.id c.args.self.now after (Err why)) c.in-Err-Full.field-0-is c.in-Err-Full.ensures.admits,
+      subst (λ (why : Refused). AdmitsMakingRoom c.args.id c.args.self.now after (Err why)) c.in-Err-Full.field-0-is
+          c.in-Err-Full.ensures.admits,
       ap (λ (flow : IdFlowSeen). record flow { refused = Some c.args.id }) c.self.view_is,
     )
 
@@ -19,5 +20,6 @@ returns-in-Err-NoClaim-clause-admits g c = (
   refl,
   refused.NoClaim,
   tt,
-  subst (λ (why : Refused). AdmitsMakingRoom c.args.id c.args.self.now c.admit_making_room.new.self (Err why)) c.in-Err-NoClaim.field-0-is c.in-Err-NoClaim.ensures.admits,
+  subst (λ (why : Refused). AdmitsMakingRoom c.args.id c.args.self.now c.admit_making_room.new.self (Err why))
+      c.in-Err-NoClaim.field-0-is c.in-Err-NoClaim.ensures.admits,
 )

@@ -9,8 +9,11 @@ pub returns-in_default-clause-moves : goal.returns-in_default-clause-moves
 returns-in_default-clause-moves c = let seat = c.self.inside.caller.seat in let own = c.self.inside.caller.own in
     let silent : seat.me.0.says ≡ 0 = elim c.in_default.branch [
       | in_default-via-in-Some+else-kept-gt0 w ↦
-          silent_by_count own w.in-Some.kept.set seat (subst (λ (o : Option Kept). IsHand seat own o) w.in-Some.is c.self.invariant) (omega (arith, w.if-kept-gt0.false))
+          silent_by_count own w.in-Some.kept.set seat
+          (subst (λ (o : Option Kept). IsHand seat own o) w.in-Some.is c.self.invariant)
+          (omega (arith, w.if-kept-gt0.false))
       | in_default-via-in_default w ↦
           (subst (λ (o : Option Kept). IsHand seat own o) w.in_default.is c.self.invariant).1.silent
     ] in
-    pinned_late c.args.key c.args.word c.args.self.now c.pin.new.self c.pin.result c.requires.holds (ap (λ (h : Handed). h.reader.says) (sym c.self.view_is) ∙ silent) c.pin.ensures.pins
+    pinned_late c.args.key c.args.word c.args.self.now c.pin.new.self c.pin.result c.requires.holds
+    (ap (λ (h : Handed). h.reader.says) (sym c.self.view_is) ∙ silent) c.pin.ensures.pins

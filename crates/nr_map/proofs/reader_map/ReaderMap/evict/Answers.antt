@@ -8,13 +8,20 @@ use Rattle.nr_map.proofs.Evictions.{evicts_heard}
 use Rattle.nr_map.proofs.reader_map.ReaderMap.evict.Goals as goal
 
 pub invariant_of-writer : goal.invariant_of-writer
-invariant_of-writer c = let before = c.writer.inside in let seat = c.evict_key.new.seat in let spare = c.evict_key.new.spare in
+invariant_of-writer c =
+    let before = c.writer.inside in
+    let seat = c.evict_key.new.seat in
+    let spare = c.evict_key.new.spare in
     let told = evicts_heard c.args.key (token before.seat) (token seat) c.evict_key.result c.evict_key.ensures.evicts in
-    let retired : (token seat).retired ≡ spare.retired = ap (λ r. (desk_of r).retired) c.evict_key.ensures.rests.writes.role in
-    let retired_before : (token before.seat).retired ≡ before.spare.retired = ap (λ r. (desk_of r).retired) c.writer.invariant.0.writes.role in
-    let fewer : (slot : ℕ) → retirements slot spare.retired ≡ 0 → retirements slot before.spare.retired ≡ 0 = λ slot none. let now = ap (retirements slot) retired in let then = ap (retirements slot) retired_before in
+    let retired : (token seat).retired ≡ spare.retired
+    = ap (λ r. (desk_of r).retired) c.evict_key.ensures.rests.writes.role in
+    let retired_before : (token before.seat).retired ≡ before.spare.retired
+    = ap (λ r. (desk_of r).retired) c.writer.invariant.0.writes.role in
+    let fewer : (slot : ℕ) → retirements slot spare.retired ≡ 0 → retirements slot before.spare.retired ≡ 0
+    = λ slot none. let now = ap (retirements slot) retired in let then = ap (retirements slot) retired_before in
     let all = told.2 slot (omega arith) in omega arith in (
       c.evict_key.ensures.rests,
       subst (λ (t : Table). IsFlagged t spare.retired (token seat).heard before.unheard) (sym told.0)
-          (flags_retire (token before.seat).table before.spare.retired spare.retired (token before.seat).heard (token seat).heard before.unheard c.writer.invariant.1 told.1 fewer),
+          (flags_retire (token before.seat).table before.spare.retired spare.retired (token before.seat).heard
+          (token seat).heard before.unheard c.writer.invariant.1 told.1 fewer),
     )

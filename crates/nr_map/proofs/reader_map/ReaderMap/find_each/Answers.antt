@@ -1,4 +1,5 @@
-use Rattle.std.proofs.Common.{ℕ, ◌≡◌, ◌+◌, ◌-◌, ◌*◌, ◌<◌, ◌≤◌, ◌++◌, ◌∙◌, List, ap, arith, drop, length, min, subst, sym, take}
+use Rattle.std.proofs.Common.{ℕ, ◌≡◌, ◌+◌, ◌-◌, ◌*◌, ◌<◌, ◌≤◌, ◌++◌, ◌∙◌, List, ap, arith, drop, length, min, subst}
+use Rattle.std.proofs.Common.{sym, take}
 use Rattle.std.proofs.lemmas.Grind.{div_ceil_times}
 use Rattle.std.proofs.lemmas.List.{drop-drop, length-take-le, length-append, take-append-drop}
 use Rattle.nr_board.specs.Callers.{Table}
@@ -10,36 +11,68 @@ use Rattle.nr_map.proofs.reader_map.ReaderMap.find_each.Goals as goal
 -- a part of a list from a place to an end, and what comes after it
 module _ {A : Type 0} (keys : List A) (begin end : ℕ) (low : begin ≤ end) (fits : end ≤ length keys) where
   after : drop (end - begin) (drop begin keys) ≡ drop end keys
-  after = drop-drop (end - begin) begin keys ∙ ap (λ (n : ℕ). drop n keys) (let whole : begin + (end - begin) ≡ end = omega (arith, low) in whole)
+  after =
+      drop-drop (end - begin) begin keys
+      ∙ ap (λ (n : ℕ). drop n keys) (let whole : begin + (end - begin) ≡ end = omega (arith, low) in whole)
 
   left : length (drop begin keys) + begin ≡ length keys
-  left = let front : length (take begin keys) ≡ begin = length-take-le begin keys (omega (arith, low, fits)) in omega (arith, length-append (take begin keys) (drop begin keys), ap length (take-append-drop begin keys), front)
+  left =
+      let front : length (take begin keys) ≡ begin = length-take-le begin keys (omega (arith, low, fits)) in
+      omega (arith, length-append (take begin keys) (drop begin keys), ap length (take-append-drop begin keys), front)
 
   part_size : length (take (end - begin) (drop begin keys)) + begin ≡ end
-  part_size = let part : length (take (end - begin) (drop begin keys)) ≡ end - begin = length-take-le (end - begin) (drop begin keys) (omega (arith, left, low, fits)) in omega (arith, part, low)
+  part_size =
+      let part : length (take (end - begin) (drop begin keys)) ≡ end - begin
+      = length-take-le (end - begin) (drop begin keys) (omega (arith, left, low, fits)) in
+      omega (arith, part, low)
 
   part_whole : take (end - begin) (drop begin keys) ++ drop end keys ≡ drop begin keys
-  part_whole = ap (λ (l : List A). take (end - begin) (drop begin keys) ++ l) (sym after) ∙ take-append-drop (end - begin) (drop begin keys)
+  part_whole =
+      ap (λ (l : List A). take (end - begin) (drop begin keys) ++ l) (sym after)
+      ∙ take-append-drop (end - begin) (drop begin keys)
 
 pub loop-group-preserved : goal.loop-group-preserved
-loop-group-preserved g c = let shows = g.R.RowRoom.shows in let first = c.args.reader.now in let wanted : List (Wanted g.row.R.Denot) = c.args.wanted.now in let keys : List (Wanted g.row.R.Denot) = c.loop-group.wanted in
-    let begin : ℕ = c.loop-group.group * 16 in let end : ℕ = c.end_of_group-end.result in let had = c.loop-group.invariant.grouped in let long : length keys ≡ length wanted = had.long in
+loop-group-preserved g c =
+    let shows = g.R.RowRoom.shows in
+    let first = c.args.reader.now in
+    let wanted : List (Wanted g.row.R.Denot) = c.args.wanted.now in
+    let keys : List (Wanted g.row.R.Denot) = c.loop-group.wanted in
+    let begin : ℕ = c.loop-group.group * 16 in
+    let end : ℕ = c.end_of_group-end.result in
+    let had = c.loop-group.invariant.grouped in
+    let long : length keys ≡ length wanted = had.long in
     let bounds = div_ceil_times (length wanted) 16 (omega arith) in
     let near : begin < length wanted = omega (arith, bounds.1, c.div_ceil-group-end.ensures, c.loop-group-test.true) in
     let low : begin < length keys = omega (arith, near, long) in
     let end_is : end ≡ min (begin + 16) (length keys) = c.end_of_group-end.ensures in
-    let here : min begin (length wanted) ≡ begin = omega (arith, near) in let there : end ≡ min ((c.loop-group.group + 1) * 16) (length wanted) = omega (arith, end_is, long) in
+    let here : min begin (length wanted) ≡ begin = omega (arith, near) in
+    let there : end ≡ min ((c.loop-group.group + 1) * 16) (length wanted) = omega (arith, end_is, long) in
     let up : begin ≤ end = omega (arith, end_is, low) in let fits : end ≤ length keys = omega (arith, end_is) in
-    let found : List (Wanted g.row.R.Denot) = c.find_group.new.group in let group : List (Wanted g.row.R.Denot) = take (end - begin) (drop begin keys) in
-    let finds = subst (λ (t : Table). FindsList shows (with_loads (loads_of_key t.shape.rows * length group) c.loop-group.reader) group c.find_group.new.reader found) (sym c.loop-group.invariant.own) c.find_group.ensures.finds in
+    let found : List (Wanted g.row.R.Denot) = c.find_group.new.group in
+    let group : List (Wanted g.row.R.Denot) = take (end - begin) (drop begin keys) in
+    let finds
+    = subst
+    (λ (t : Table). FindsList shows (with_loads (loads_of_key t.shape.rows * length group) c.loop-group.reader)
+    group c.find_group.new.reader found)
+    (sym c.loop-group.invariant.own) c.find_group.ensures.finds in
     let more : Grouped shows first wanted end c.find_group.new.reader (take begin keys ++ (found ++ drop end keys)) =
-    group_more shows first wanted c.loop-group.group end c.loop-group.reader keys (subst (λ (made : ℕ). Grouped shows first wanted made c.loop-group.reader keys) here had) low end_is
-    c.find_group.new.reader found group (part_whole keys begin end up fits) (part_size keys begin end up fits) finds in record {
+    group_more shows first wanted c.loop-group.group end c.loop-group.reader keys
+    (subst (λ (made : ℕ). Grouped shows first wanted made c.loop-group.reader keys) here had) low end_is
+    c.find_group.new.reader found group (part_whole keys begin end up fits) (part_size keys begin end up fits) finds in
+    record {
       own = c.find_group.ensures.own;
-      grouped = subst (λ (p : ℕ × List (Wanted g.row.R.Denot)). Grouped shows first wanted p.0 c.find_group.new.reader (take begin keys ++ (found ++ p.1))) (λ j. (there j, sym (after keys begin end up fits) j)) more;
+      grouped =
+          subst
+          (λ (p : ℕ × List (Wanted g.row.R.Denot)). Grouped shows first wanted p.0 c.find_group.new.reader
+          (take begin keys ++ (found ++ p.1)))
+          (λ j. (there j, sym (after keys begin end up fits) j)) more;
     }
 
 pub returns-clause-finds : goal.returns-clause-finds
-returns-clause-finds g c = let wanted = c.args.wanted.now in let had = c.loop-group.invariant.grouped in let bounds = div_ceil_times (length wanted) 16 (omega arith) in
-    all_grouped g.R.RowRoom.shows c.args.reader.now wanted (min (c.loop-group.group * 16) (length wanted)) c.loop-group.reader c.loop-group.wanted had
+returns-clause-finds g c =
+    let wanted = c.args.wanted.now in
+    let had = c.loop-group.invariant.grouped in
+    let bounds = div_ceil_times (length wanted) 16 (omega arith) in
+    all_grouped g.R.RowRoom.shows c.args.reader.now wanted (min (c.loop-group.group * 16) (length wanted))
+    c.loop-group.reader c.loop-group.wanted had
     (omega (arith, had.long, bounds.0, c.div_ceil-group-end.ensures, c.loop-group-test.false))

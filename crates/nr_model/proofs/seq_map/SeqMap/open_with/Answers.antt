@@ -21,4 +21,6 @@ invariant_of-result c =
 pub returns-clause-ok : goal.returns-clause-ok
 returns-clause-ok c =
     let heads : c.in_ok-heads.heads.items ≡ replicate c.args.keys (head.Hole c.args.first_number) = search rules in
-    rw heads (ap (λ l. record { bound = c.args.rows; states = l }) (states_opened c.args.rows c.args.keys c.args.first_number c.in_ok-cells.cells.items))
+    rw heads
+    (ap (λ l. record { bound = c.args.rows; states = l })
+    (states_opened c.args.rows c.args.keys c.args.first_number c.in_ok-cells.cells.items))

@@ -11,7 +11,8 @@ invariant_of-self-2 c =
     let new = IsNew-from_adds _ _ _ (rw (← c.self.view_is) at c.requires.adds) in
     let next = rw (← c.self.view_is) at c.requires.next in
     rw (c.push_reserved.ensures.items, c.push_reserved.ensures.capacity)
-    (IsKept-push _ _ _ c.in_ok-key.key c.in_ok-text.text _ c.self.invariant new next key_is text_is c.in_ok-insert.ensures.updates)
+    (IsKept-push _ _ _ c.in_ok-key.key c.in_ok-text.text _ c.self.invariant new next key_is text_is
+    c.in_ok-insert.ensures.updates)
 
 pub returns-clause-sound : goal.returns-clause-sound
 returns-clause-sound c = (invariant_of-self-2 c).sound

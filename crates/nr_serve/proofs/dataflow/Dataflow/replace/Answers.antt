@@ -6,7 +6,8 @@ use Rattle.nr_serve.proofs.dataflow.Dataflow.replace.Goals as goal
 
 pub returns-clause-replaces : goal.returns-clause-replaces
 returns-clause-replaces g c =
-    subst (λ (writer : Caller). ReplacesKey c.args.key c.args.rows.now writer c.replace.new.writer c.replace.result) (ap (λ flow. flow.writer) c.self.view_is) c.replace.ensures
+    subst (λ (writer : Caller). ReplacesKey c.args.key c.args.rows.now writer c.replace.new.writer c.replace.result)
+    (ap (λ flow. flow.writer) c.self.view_is) c.replace.ensures
 
 pub returns-clause-room : goal.returns-clause-room
 returns-clause-room g c room counts none =

@@ -6,4 +6,5 @@ use Rattle.nr_text.proofs.spelling.RowsDisplay.fmt.Given as goal
 
 abbrev pub invariant-loop-i : goal.invariant-loop-i
 invariant-loop-i g l =
-    IsPlainFormatter l.fn.f → HasWritten g.W.Write.write_str_gives l.fn.f (codes "rows" ++ flat_map spelled_row (take l.i l.self.0.now)) l.f
+    IsPlainFormatter l.fn.f
+    → HasWritten g.W.Write.write_str_gives l.fn.f (codes "rows" ++ flat_map spelled_row (take l.i l.self.0.now)) l.f

@@ -9,7 +9,9 @@ bounds-self-place-else-place-self c = let words = c.args.self.now.words.now in l
     omega (arith, length-append (rows_from 1 words) rows, length_rows 1 words, c.requires.more)
 
 pub offset_bounds-self-place-else-place-self : goal.offset_bounds-self-place-else-place-self
-offset_bounds-self-place-else-place-self c = let words = c.args.self.now.words.now in let rows = c.args.self.now.rows.now in
+offset_bounds-self-place-else-place-self c =
+    let words = c.args.self.now.words.now in
+    let rows = c.args.self.now.rows.now in
     let inside : c.args.place - length c.args.self.now.words.now < length c.args.self.now.rows.now =
     omega (arith, length-append (rows_from 1 words) rows, length_rows 1 words, c.requires.more) in search rules
 
@@ -22,4 +24,5 @@ pub returns-else-place-self-clause-row : goal.returns-else-place-self-clause-row
 returns-else-place-self-clause-row c = let words = c.args.self.now.words.now in let rows = c.args.self.now.rows.now in
     let inside : c.args.place - length c.args.self.now.words.now < length c.args.self.now.rows.now =
     omega (arith, length-append (rows_from 1 words) rows, length_rows 1 words, c.requires.more) in
-    behind_at 1 words rows c.args.place (omega arith) ∙ get_some rows (c.args.place - length c.args.self.now.words.now) _ inside
+    behind_at 1 words rows c.args.place (omega arith)
+    ∙ get_some rows (c.args.place - length c.args.self.now.words.now) _ inside

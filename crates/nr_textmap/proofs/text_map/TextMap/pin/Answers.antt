@@ -22,4 +22,5 @@ returns-else-begins-clause-pins c = (
 
 pub returns-in-Pending-clause-pins : goal.returns-in-Pending-clause-pins
 returns-in-Pending-clause-pins c =
-    subst (λ (n : ℕ). PinsById n c.args.hand.now c.pin.new.self of_id.Pending) c.id.ensures.value c.in-Pending.ensures.pins
+    subst (λ (n : ℕ). PinsById n c.args.hand.now c.pin.new.self of_id.Pending) c.id.ensures.value
+    c.in-Pending.ensures.pins

@@ -6,13 +6,16 @@ use Rattle.nr_textmap.proofs.text_map.TextMap.replace.Goals as goal
 pub unreachable-requires : goal.unreachable-requires
 unreachable-requires c =
     let told = rw c.in-Err-Absent.field-0-is at c.in-Err-Absent.ensures.replaces in
-    way_stays c.args.text.now c.args.writer.now.ids c.look_at.new.writer.ids c.look_at.new.writer.set c.in-Rows.ensures.tied.1
+    way_stays c.args.text.now c.args.writer.now.ids c.look_at.new.writer.ids c.look_at.new.writer.set
+    c.in-Rows.ensures.tied.1
     c.in-Rows.ensures.looks.0 c.replace.new.writer.clerk
-    (subst (λ (n : ℕ). FindsWay n c.look_at.new.writer.ids.clerk c.replace.new.writer.clerk None) c.id.ensures.value told.0)
+    (subst (λ (n : ℕ). FindsWay n c.look_at.new.writer.ids.clerk c.replace.new.writer.clerk None) c.id.ensures.value
+    told.0)
 
 pub returns-in-Err-Refused-clause-filled : goal.returns-in-Err-Refused-clause-filled
 returns-in-Err-Refused-clause-filled c e =
     let told = rw c.in-Err-Refused.field-0-is at c.in-Err-Refused.ensures.replaces in
-    replace_fills c.args.text.now c.args.writer.now.ids c.look_at.new.writer.ids c.look_at.new.writer.set c.in-Rows.ensures.tied.1
+    replace_fills c.args.text.now c.args.writer.now.ids c.look_at.new.writer.ids c.look_at.new.writer.set
+    c.in-Rows.ensures.tied.1
     c.in-Rows.ensures.looks.0 c.replace.new.writer c.id.result told.0 _ c.in-Err-Refused.fault c.in-Rows.ensures.tied.0
     c.id.ensures.real c.id.ensures.value told.1 told.2 (cc (e))

@@ -6,9 +6,11 @@ use Rattle.nr_textmap.proofs.text_map.TextMap.update_reclaiming.Goals as goal
 pub unreachable-requires : goal.unreachable-requires
 unreachable-requires g c =
     let told = rw c.in-Err-Absent.field-0-is at c.in-Err-Absent.ensures.updates in
-    way_stays c.args.text.now c.args.writer.now.ids c.look_at.new.writer.ids c.look_at.new.writer.set c.in-Rows.ensures.tied.1
+    way_stays c.args.text.now c.args.writer.now.ids c.look_at.new.writer.ids c.look_at.new.writer.set
+    c.in-Rows.ensures.tied.1
     c.in-Rows.ensures.looks.0 c.update_reclaiming.new.writer.clerk
-    (subst (λ (n : ℕ). FindsWay n c.look_at.new.writer.ids.clerk c.update_reclaiming.new.writer.clerk None) c.id.ensures.value told.0)
+    (subst (λ (n : ℕ). FindsWay n c.look_at.new.writer.ids.clerk c.update_reclaiming.new.writer.clerk None)
+    c.id.ensures.value told.0)
 
 pub returns-in-Ok-clause-updates : goal.returns-in-Ok-clause-updates
 returns-in-Ok-clause-updates g c = let told = c.in-Ok.ensures.updates in (
@@ -16,7 +18,8 @@ returns-in-Ok-clause-updates g c = let told = c.in-Ok.ensures.updates in (
   (c.look_at.new.writer.set, c.in-Rows.ensures.looks),
   (
     told.0,
-    subst (λ (n : ℕ). FindsWay n c.look_at.new.writer.ids.clerk c.update_reclaiming.new.writer.clerk (Some told.0)) c.id.ensures.value told.1,
+    subst (λ (n : ℕ). FindsWay n c.look_at.new.writer.ids.clerk c.update_reclaiming.new.writer.clerk (Some told.0))
+        c.id.ensures.value told.1,
     told.2,
   ),
 )
@@ -24,6 +27,8 @@ returns-in-Ok-clause-updates g c = let told = c.in-Ok.ensures.updates in (
 pub returns-in-Err-Refused-clause-filled : goal.returns-in-Err-Refused-clause-filled
 returns-in-Err-Refused-clause-filled g c e =
     let told = rw c.in-Err-Refused.field-0-is at c.in-Err-Refused.ensures.updates in
-    update_fills c.args.text.now c.args.writer.now.ids c.look_at.new.writer.ids c.look_at.new.writer.set c.in-Rows.ensures.tied.1
-    c.in-Rows.ensures.looks.0 c.update_reclaiming.new.writer c.id.result c.args.self.now.ids.map.shape.rows told.0 c.args.deltas.now c.in-Err-Refused.fault c.in-Rows.ensures.tied.0
+    update_fills c.args.text.now c.args.writer.now.ids c.look_at.new.writer.ids c.look_at.new.writer.set
+    c.in-Rows.ensures.tied.1
+    c.in-Rows.ensures.looks.0 c.update_reclaiming.new.writer c.id.result c.args.self.now.ids.map.shape.rows told.0
+    c.args.deltas.now c.in-Err-Refused.fault c.in-Rows.ensures.tied.0
     c.id.ensures.real c.id.ensures.value told.1 told.2.0 (cc (e))

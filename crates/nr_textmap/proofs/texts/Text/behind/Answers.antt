@@ -11,4 +11,5 @@ slice_bounds-result-start c =
     omega (arith, text_fits c.args.self.now c.args.set.now (c.begins.ensures.0 c.if-begins.true), c.rows.ensures.value)
 
 pub returns-then-begins : goal.returns-then-begins
-returns-then-begins c = rest_is c.args.self.now c.args.set.now c.rows.result (c.begins.ensures.0 c.if-begins.true) c.rows.ensures.value
+returns-then-begins c =
+    rest_is c.args.self.now c.args.set.now c.rows.result (c.begins.ensures.0 c.if-begins.true) c.rows.ensures.value

@@ -10,4 +10,6 @@ is_empty_as-requires-clause-rule c = pass-learns-moment _ _
 
 pub returns-then-is_empty_as-clause-empty : goal.returns-then-is_empty_as-clause-empty
 returns-then-is_empty_as-clause-empty c _ =
-    subst WasEmpty c.taker.view_is (empty-moment _ _ _ (subst (λ old. Held 0 (Moment old)) c.taker.invariant.1 (c.if-is_empty_as.ensures.rule refl)))
+    subst WasEmpty c.taker.view_is
+    (empty-moment _ _ _
+    (subst (λ old. Held 0 (Moment old)) c.taker.invariant.1 (c.if-is_empty_as.ensures.rule refl)))

@@ -12,5 +12,7 @@ is_full_as-requires-clause-rule c = pass-learns-moment _ _
 pub returns-then-is_full_as-clause-full : goal.returns-then-is_full_as-clause-full
 returns-then-is_full_as-clause-full c _ =
     let room = ap (λ queue. queue.capacity) c.self.view_is in
-    let held = subst (λ old. Held (ruled_capacity c.self.inside.queue) (Moment old)) c.poster.invariant.1 (c.if-is_full_as.ensures.rule refl) in
+    let held
+    = subst (λ old. Held (ruled_capacity c.self.inside.queue) (Moment old)) c.poster.invariant.1
+    (c.if-is_full_as.ensures.rule refl) in
     subst (λ (at : ℕ × PosterSeen). WasFull at.0 at.1) (λ i. (room i, c.poster.view_is i)) (full-moment _ _ _ _ held)

@@ -15,5 +15,10 @@ pop_as-requires-clause-rule g c = (taker-takes _ _ _ c.taker.invariant.1, pass-l
 pub returns-clause-key : goal.returns-clause-key
 returns-clause-key g c =
     let new = view c.pop_as.new.pass in
-    subst (λ taker. MatchOption c.pop_as.result (WasEmpty taker) (λ post. (post.upquery.key < taker.keys) × IsNoteOf taker.map post.note)) c.taker.view_is
-    (pop-tells _ _ _ _ new (subst (λ old. MatchOption c.pop_as.result ((new ≡ old) × Held 0 (Moment old)) (λ post. has_taken old post new)) c.taker.invariant.1 c.pop_as.ensures.rule))
+    subst
+    (λ taker. MatchOption c.pop_as.result (WasEmpty taker)
+    (λ post. (post.upquery.key < taker.keys) × IsNoteOf taker.map post.note))
+    c.taker.view_is
+    (pop-tells _ _ _ _ new
+    (subst (λ old. MatchOption c.pop_as.result ((new ≡ old) × Held 0 (Moment old)) (λ post. has_taken old post new))
+    c.taker.invariant.1 c.pop_as.ensures.rule))

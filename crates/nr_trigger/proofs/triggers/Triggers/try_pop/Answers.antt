@@ -10,5 +10,7 @@ try_pop_as-requires-clause-rule c = taker-takes _ _ _ c.taker.invariant.1
 
 pub returns-in-None-clause-empty : goal.returns-in-None-clause-empty
 returns-in-None-clause-empty c is = empty-before _ (subst WasEmpty
-    ((λ i. taker_seen (c.try_pop_as.ensures.queue.0 i) (taking_of (c.in-None.ensures.rule i)) (c.then-taker-inside.ensures i)) ∙ ap taker_tried c.taker.view_is)
+    ((λ i. taker_seen (c.try_pop_as.ensures.queue.0 i) (taking_of (c.in-None.ensures.rule i))
+    (c.then-taker-inside.ensures i))
+    ∙ ap taker_tried c.taker.view_is)
     (c.obstacle_to_pop.ensures.empty is))

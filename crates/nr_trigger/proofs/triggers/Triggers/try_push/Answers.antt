@@ -12,5 +12,7 @@ try_push_as-requires-clause-rule c =
 
 pub returns-in-Err-clause-full : goal.returns-in-Err-clause-full
 returns-in-Err-clause-full c is = full-before _ _ (subst (WasFull c.args.self.now.capacity)
-    ((λ i. poster_seen (c.try_push_as.ensures.queue.0 i) (posting_of (c.in-Err.ensures.rule.1 i)) (c.then-poster-inside.ensures i)) ∙ ap poster_tried c.poster.view_is)
+    ((λ i. poster_seen (c.try_push_as.ensures.queue.0 i) (posting_of (c.in-Err.ensures.rule.1 i))
+    (c.then-poster-inside.ensures i))
+    ∙ ap poster_tried c.poster.view_is)
     (c.obstacle_to_push.ensures.full is))

@@ -9,13 +9,17 @@ loop-place-preserved c =
     let order = sym (tests_order c.row.result c.row-in-loop-place.result) ∙ sym c.lt.ensures ∙ c.if-lt.false in
     record {
       some = omega arith;
-      ordered = ascends_one_more (rows_in c.args.self.now.words.now) c.loop-place.place c.row.result c.row-in-loop-place.result c.row.ensures c.row-in-loop-place.ensures order c.loop-place.invariant.ordered;
+      ordered =
+          ascends_one_more (rows_in c.args.self.now.words.now) c.loop-place.place c.row.result
+          c.row-in-loop-place.result c.row.ensures c.row-in-loop-place.ensures order c.loop-place.invariant.ordered;
     }
 
 pub returns-then-lt : goal.returns-then-lt
 returns-then-lt c =
     let order = sym (tests_order c.row.result c.row-in-loop-place.result) ∙ sym c.lt.ensures ∙ c.if-lt.true in
-    sym (descends_there (rows_in c.args.self.now.words.now) c.loop-place.place c.row.result c.row-in-loop-place.result c.loop-place.invariant.some c.row.ensures c.row-in-loop-place.ensures order)
+    sym
+    (descends_there (rows_in c.args.self.now.words.now) c.loop-place.place c.row.result c.row-in-loop-place.result
+    c.loop-place.invariant.some c.row.ensures c.row-in-loop-place.ensures order)
 
 pub returns : goal.returns
 returns c =
