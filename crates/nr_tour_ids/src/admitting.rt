@@ -64,11 +64,10 @@ pub fn show_misses<R: AllocGlobal + Print>(
     let way = answer(directory, clerk, 42);
     let found = directory.look_up(reader, 42);
     println!(rt; "id 42: {first:?}, then {second:?}; admitted to {way:?}, and found in {found:?}")?;
-    let (group, second) = (
-        directory.plan().group_of(42),
-        directory.plan().second_of(42),
-    );
-    println!(rt; "its groups are {group} and {second}")?;
+    let plan = directory.plan();
+    let (group, second) = (plan.group_of(42), plan.second_of(42));
+    let first = plan.first_way(42);
+    println!(rt; "its groups are {group} and {second}; the first's ways begin at {first}")?;
     if let Some(way) = directory.way_of(clerk, 42) {
         directory.unname(clerk, way);
     }
