@@ -1,11 +1,18 @@
 /* The algorithm's steps in C without proof: finds that count themselves at the key and at the slot, and, with ANNOUNCES,
-   finds that write the slot into their reader's own word and look again. Ids stand eight to a line, and the words of
-   their keys in the next one. One thread writes. */
+   finds that write the slot into their reader's own word and look again. With RELEASES the stores of rows and the clearing
+   of a reader's word are released in place of sequentially consistent. Ids stand eight to a line, and the words of their
+   keys in the next one. One thread writes. */
 #include "contestant.h"
 #include <stdatomic.h>
 
 #ifndef ANNOUNCES
 #define ANNOUNCES 0
+#endif
+
+#if RELEASES
+enum { STORES = memory_order_release };
+#else
+enum { STORES = memory_order_seq_cst };
 #endif
 
 enum { STRIDE = 2 * ROWS + 2, LINE = 8, TRIES = 2, SPARE = 64, READERS = 4 * MOST_READERS };
@@ -73,8 +80,8 @@ static void put(map *m, uint32_t slot, uint64_t key, uint64_t version) {
   value v;
   make_value(key, version, &v);
   word *at = block(m, slot);
-  atomic_store(&at[1], ROWS);
-  for (int i = 0; i < WORDS; i++) atomic_store(&at[2 + i], v.word[i]);
+  atomic_store_explicit(&at[1], ROWS, STORES);
+  for (int i = 0; i < WORDS; i++) atomic_store_explicit(&at[2 + i], v.word[i], STORES);
 }
 
 static void *opened(const plan *p) {
@@ -135,7 +142,7 @@ static inline const uint64_t *find_at(map *m, reader *r, uint64_t place, value *
     uint64_t now = load(&m->key[place]);
     if (__builtin_expect(NAMED(now ^ named) == 0, 1)) {
       copied(m, named, to);
-      atomic_store(r->said, 0);
+      atomic_store_explicit(r->said, 0, STORES);
       return to->word;
     }
     named = now;
@@ -244,7 +251,10 @@ static void update(void *of, uint64_t key, uint64_t version) {
   retire(m, SLOT(old), old >> 24);
 }
 
-#if ANNOUNCES
+#if RELEASES
+const contestant releasing = {.name = "the same in C, stores released", .open = opened, .reader = new_reader, .begin = no_thread,
+  .end = no_thread, .find = find, .update = update};
+#elif ANNOUNCES
 const contestant announcing = {.name = "the same steps in C", .open = opened, .reader = new_reader, .begin = no_thread,
   .end = no_thread, .find = find, .update = update};
 const contestant announcing_each = {.name = "the same steps in C, 16 at once", .map_of = &announcing, .open = opened,

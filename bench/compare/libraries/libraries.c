@@ -13,12 +13,12 @@ enum { MOST = 24 };
 /* Of a library that isn't there the object isn't linked. */
 #define MAYBE __attribute__((weak))
 extern const contestant this_map, this_map_kept, this_map_each, this_ids, plain, plain_each, lock_a_key, counted, counted_each,
-    announcing, announcing_each;
+    announcing, announcing_each, releasing;
 extern const contestant this_map_behind MAYBE, qsbr_array MAYBE, qsbr_table MAYBE, memb_array MAYBE, memb_table MAYBE,
     arc_swaps MAYBE, dashmaps MAYBE, tbb_map MAYBE, cuckoo MAYBE, michael MAYBE;
 
 static const contestant *const all[] = {&this_map, &this_map_kept, &this_map_each, &this_ids, &counted, &counted_each, &announcing,
-    &announcing_each, &qsbr_array, &memb_array, &arc_swaps, &lock_a_key, &plain, &plain_each, &qsbr_table, &memb_table,
+    &announcing_each, &releasing, &qsbr_array, &memb_array, &arc_swaps, &lock_a_key, &plain, &plain_each, &qsbr_table, &memb_table,
     &dashmaps, &tbb_map, &cuckoo, &michael, &this_map_behind};
 
 typedef enum { EVEN, ZIPF, HOT, DRAWS } draw;
