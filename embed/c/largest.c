@@ -1,5 +1,5 @@
 /* The largest map and the largest queue open, in the memory that nr.h tells and little more; their last keys, readers
-   and posters work. Linked with --wrap for malloc and realloc. */
+   and posters work. Linked with --wrap for what the library asks by. */
 #include "../../include/nr.h"
 #include <stdio.h>
 #include <stdlib.h>
@@ -11,8 +11,10 @@ static size_t asked;
 
 void *__real_malloc(size_t size);
 void *__real_realloc(void *old, size_t size);
+int __real_posix_memalign(void **at, size_t align, size_t size);
 void *__wrap_malloc(size_t size);
 void *__wrap_realloc(void *old, size_t size);
+int __wrap_posix_memalign(void **at, size_t align, size_t size);
 
 void *__wrap_malloc(size_t size) {
   asked += size;
@@ -22,6 +24,11 @@ void *__wrap_malloc(size_t size) {
 void *__wrap_realloc(void *old, size_t size) {
   asked += size;
   return __real_realloc(old, size);
+}
+
+int __wrap_posix_memalign(void **at, size_t align, size_t size) {
+  asked += size;
+  return __real_posix_memalign(at, align, size);
 }
 
 static void want(bool is_so, const char *what) {

@@ -1,7 +1,8 @@
 /* Each request for memory is refused in turn: the opening that made it answers NR_NO_MEMORY, leaves its handle empty,
-   and does its work when it is called again. No other call asks for memory. Linked with --wrap for malloc and
-   realloc. */
+   and does its work when it is called again. No other call asks for memory. Linked with --wrap for what the library
+   asks by. */
 #include "../../include/nr.h"
+#include <errno.h>
 #include <stdio.h>
 #include <stdlib.h>
 
@@ -11,8 +12,10 @@ static long requests;
 
 void *__real_malloc(size_t size);
 void *__real_realloc(void *old, size_t size);
+int __real_posix_memalign(void **at, size_t align, size_t size);
 void *__wrap_malloc(size_t size);
 void *__wrap_realloc(void *old, size_t size);
+int __wrap_posix_memalign(void **at, size_t align, size_t size);
 
 static bool is_refused(void) {
   requests++;
@@ -25,6 +28,10 @@ void *__wrap_malloc(size_t size) {
 
 void *__wrap_realloc(void *old, size_t size) {
   return is_refused() ? NULL : __real_realloc(old, size);
+}
+
+int __wrap_posix_memalign(void **at, size_t align, size_t size) {
+  return is_refused() ? ENOMEM : __real_posix_memalign(at, align, size);
 }
 
 static void want(bool is_so, const char *what) {
