@@ -1,6 +1,6 @@
 -- Each claim that a client is granted is posted, or kept: try by try.
-use Rattle.std.proofs.Common.{◌≡◌, ◌+◌, ◌%◌, ℕ, zero, suc, List, [], ◌∷◌, ◌++◌, Option, None, Some, Result, Ok, Err}
-use Rattle.std.proofs.Common.{refl, sym, ap, ◌∙◌, subst, arith, append_assoc, append-nil}
+use Rattle.std.proofs.Common.{◌≡◌, ◌+◌, ℕ, zero, suc, List, [], ◌∷◌, ◌++◌, Option, None, Some, Ok, Err}
+use Rattle.std.proofs.Common.{refl, sym, ap, ◌∙◌, subst, append_assoc, append-nil}
 use Rattle.nr_model.specs.declared.rows.Row.{Row}
 use Rattle.nr_ids.specs.Groups.{places}
 use Rattle.nr_ids.specs.declared.requests.Requested.{Requested}
@@ -13,16 +13,14 @@ use Rattle.nr_idmap.specs.declared.finds.FoundId.{FoundId}
 use Rattle.nr_idmap.specs.declared.finds.FoundId.TheVariants as found
 use Rattle.nr_idmap.specs.IdFinds.{FindsById}
 use Rattle.nr_idmap.specs.Keepers.{IdCaller}
-use Rattle.nr_serve.specs.declared.sleepers.TooLate.{TooLate}
 use Rattle.nr_trigger.specs.declared.post.Upquery.{Upquery}
 use Rattle.nr_trigger.specs.Tokens.{PosterSeen}
-use Rattle.nr_idserve.specs.declared.answers.GotId.{GotId}
 use Rattle.nr_idserve.specs.declared.answers.GotId.TheVariants as got
 use Rattle.nr_idserve.specs.declared.answers.Missed.{Missed}
 use Rattle.nr_idserve.specs.declared.answers.Missed.TheVariants as missed
 use Rattle.nr_idserve.specs.declared.hands.IdHands.{IdHands}
 use Rattle.nr_idserve.specs.IdHands.{PostsFirst, PostsKept, with_id_reader}
-use Rattle.nr_idserve.specs.IdGets.{FindsOnce, GetsIdInTime, GoesOn, MissesAll, MissesOnce, RequestsOnce}
+use Rattle.nr_idserve.specs.IdGets.{FindsOnce, GoesOn, MissesAll, MissesOnce, RequestsOnce}
 use Rattle.nr_idserve.specs.IdClaims.{EachClaimIsPosted, PostsEach, claimed_ids, ids_kept, ids_posted}
 
 claimed_ids-append : (l m : List Event) → claimed_ids (l ++ m) ≡ claimed_ids m ++ claimed_ids l

@@ -1,5 +1,4 @@
 pub mod IdRinging
-pub mod IdTrying
 pub mod IdGetting
 pub mod IdOpen
 pub mod IdMade

@@ -28,12 +28,11 @@ use std::time::{Clock, Instant};
 pub struct IdClient<'a> {
     service: &'a IdService,
     lobby: Watched<'a>,
-    hands: Option<IdHands>,
+    hands: IdHands,
     opened: Snapshot<IdHands>,
 }
 
 impl<'a> Model for IdClient<'a> {
-    ghost use Rattle.std.specs.Prelude.{IsSome, unwrap_or};
     ghost use Rattle.nr_idserve.specs.IdHands.{IdClientSeen, IsReadyFor};
 
     ghost Value = { IdClientSeen };
@@ -42,11 +41,11 @@ impl<'a> Model for IdClient<'a> {
       map = client.service.now.map;
       queue = client.service.now.queue;
       opened = client.opened.value;
-      hands = unwrap_or client.hands client.opened.value;
+      hands = client.hands;
       guest = client.lobby;
     } };
 
-    ghost invariant = { λ client. IsSome client.hands × IsReadyFor client.service.now.map client.service.now.queue (unwrap_or client.hands client.opened.value) };
+    ghost invariant = { λ client. IsReadyFor client.service.now.map client.service.now.queue client.hands };
 }
 
 impl<'a> IdClient<'a> {
@@ -60,12 +59,16 @@ impl<'a> IdClient<'a> {
         ensures opened { result.opened ≡ result.hands }
         ensures guest { (result.guest.lobby ≡ service.now.lobby) × IsNew result.guest }
     {
-        let hands = IdHands::of(reader, poster, None);
+        let hands = IdHands {
+            reader,
+            poster,
+            kept: None,
+        };
         let opened = Snapshot::of(&hands);
         IdClient {
             service,
             lobby: Watched::of(service.lobby()),
-            hands: Some(hands),
+            hands,
             opened,
         }
     }
@@ -130,23 +133,16 @@ impl<'a> IdClient<'a> {
         ensures places { (self.new.map ≡ self.old.map) × (self.new.queue ≡ self.old.queue) }
         ensures opened { self.new.opened ≡ self.old.opened }
     {
-        let Some(hands) = self.hands.take() else {
-            unreachable!()
-        };
-        let (got, hands) = get_by_tries(
+        get_by_tries(
             rt,
             self.service,
             &mut self.lobby,
             limit,
             id,
             tries,
-            hands,
+            &mut self.hands,
             rows,
-        );
-        match self.hands.replace(hands) {
-            None => got,
-            Some(_) => unreachable!(),
-        }
+        )
     }
 
     /// A note of what the client has seen, in a step on each of its map's tables. Else the client stays as
@@ -156,10 +152,7 @@ impl<'a> IdClient<'a> {
         ensures note { result ≡ known_to_reader self.old.hands.reader }
         ensures rest { self.new ≡ record self.old { hands = with_id_reader self.old.hands (with_steps_of_note self.old.hands.reader) } }
     {
-        match &mut self.hands {
-            Some(hands) => self.service.map().note(&mut hands.reader),
-            None => unreachable!(),
-        }
+        self.service.map().note(&mut self.hands.reader)
     }
 
     /// The client learns all that the note's maker had seen.
@@ -168,10 +161,7 @@ impl<'a> IdClient<'a> {
         ensures hears { HearsIdNote note self.old.hands.reader self.new.hands.reader }
         ensures rest { self.new ≡ record self.old { hands = with_id_reader self.old.hands self.new.hands.reader } }
     {
-        match &mut self.hands {
-            Some(hands) => self.service.map().hear(&mut hands.reader, note),
-            None => unreachable!(),
-        }
+        self.service.map().hear(&mut self.hands.reader, note)
     }
 
     /// Sleeps until the dataflow told that it has applied so much at least, hears the note that tells it, in
@@ -190,16 +180,13 @@ impl<'a> IdClient<'a> {
         ensures looks { OnlyLooks self.old.guest self.new.guest }
         ensures rest { self.new ≡ record self.old { hands = with_id_reader self.old.hands self.new.hands.reader; guest = self.new.guest } }
     {
-        match &mut self.hands {
-            Some(hands) => applied.wait(
-                rt,
-                self.service.map(),
-                &mut self.lobby,
-                &mut hands.reader,
-                least,
-            ),
-            None => unreachable!(),
-        }
+        applied.wait(
+            rt,
+            self.service.map(),
+            &mut self.lobby,
+            &mut self.hands.reader,
+            least,
+        )
     }
 
     /// How often the rows of an id of this one's group couldn't be had, up to 2^64 - 1. A get that gave up
@@ -223,18 +210,13 @@ impl<'a> IdClient<'a> {
         let IdClient {
             service: _,
             lobby: _,
-            hands,
+            hands: IdHands {
+                reader,
+                poster,
+                kept,
+            },
             opened: _,
         } = self;
-        match hands {
-            Some(
-                IdHands {
-                    reader,
-                    poster,
-                    kept,
-                },
-            ) => (reader, poster, kept),
-            None => unreachable!(),
-        }
+        (reader, poster, kept)
     }
 }

@@ -1,5 +1,5 @@
-//! What a client by id moves from get to get.
-ghost use Rattle.std.specs.Prelude.{◌≡◌};
+//! What a client by id has in its hands from get to get.
+ghost use Rattle.std.specs.Prelude.{◌≡◌, None, Some};
 
 use nr_idmap::{Claim, IdReader};
 use nr_trigger::Poster;
@@ -13,13 +13,14 @@ pub struct IdHands {
 }
 
 impl IdHands {
-    pub(crate) fn of(reader: IdReader, poster: Poster, kept: Option<Claim>) -> IdHands
-        ensures { result ≡ record { reader = reader; poster = poster; kept = kept } }
+    // Keeps a claim where none is kept.
+    pub(crate) fn keep(&mut self, claim: Claim)
+        requires { self.old.kept ≡ None }
+        ensures { self.new ≡ record self.old { kept = Some claim } }
     {
-        IdHands {
-            reader,
-            poster,
-            kept,
+        match self.kept.replace(claim) {
+            None => {}
+            Some(_) => unreachable!(),
         }
     }
 }

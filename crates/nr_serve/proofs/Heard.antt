@@ -1,5 +1,5 @@
 -- Where each find of a get stands in what its client has seen.
-use Rattle.std.proofs.Common.{◌≡◌, ℕ, ◌+◌, ◌<◌, Bool, true, false, ◌==◌, cond, List, [], ◌∷◌, ◌++◌, ap, subst, sym, ◌∙◌}
+use Rattle.std.proofs.Common.{◌≡◌, ℕ, ◌<◌, Bool, true, false, ◌==◌, cond, List, [], ◌∷◌, ◌++◌, ap, subst, sym, ◌∙◌}
 use Rattle.std.proofs.Common.{arith, append_assoc, length, ⊎_elim}
 use Rattle.std.proofs.lemmas.List.{append-nil, append_cancel_left, length-replicate}
 use Rattle.std.proofs.lemmas.List.Elements.{filter-append}
@@ -9,7 +9,7 @@ use Rattle.nr_model.proofs.LawLemmas.{legal_begins_lem}
 use Rattle.nr_board.specs.Callers.{Caller, IsSound, KnowsOwn, Table, map_at_opening}
 use Rattle.nr_map.specs.Written.{FindsWritten}
 use Rattle.nr_serve.specs.Callers.{Makes}
-use Rattle.nr_serve.specs.Gets.{found, misses}
+use Rattle.nr_serve.specs.Gets.{found}
 use Rattle.nr_serve.specs.Heard.{GetsWhatItHeard}
 
 -- the entry stands in the log

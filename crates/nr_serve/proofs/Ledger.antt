@@ -1,6 +1,6 @@
 -- A dataflow's calls one by one, and then in a row: each trigger that was taken ended, or is kept, or is under way, and
 -- the writer's fills that were done are those of triggers.
-use Rattle.std.proofs.Common.{◌≡◌, ℕ, ◌+◌, List, [], ◌∷◌, ◌++◌, Option, None, Some, Result, Ok, Err, refl, sym, ap, ◌∙◌}
+use Rattle.std.proofs.Common.{◌≡◌, ℕ, ◌+◌, List, [], ◌∷◌, ◌++◌, Option, None, Some, Ok, refl, sym, ap, ◌∙◌}
 use Rattle.std.proofs.Common.{arith, append_assoc, append-nil, inl, inr}
 use Rattle.nr_core.proofs.Sums.{total-append}
 use Rattle.nr_model.specs.declared.rows.Row.{Row}

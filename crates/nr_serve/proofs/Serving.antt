@@ -1,7 +1,5 @@
 -- A client stays what it is, and its count right, whatever calls it makes.
 use Rattle.std.proofs.Common.{◌≡◌, ℕ, ◌+◌, List, ◌++◌, length, drop, sym, ap, ◌∙◌, arith, append_assoc, length-append}
-use Rattle.std.proofs.Common.{refl, subst, Option, Some, unwrap_or}
-use Rattle.std.specs.Prelude.{IsSome}
 use Rattle.std.proofs.Math.Seq.{drop-append_seam}
 use Rattle.nr_model.specs.Histories.{Entry}
 use Rattle.nr_board.specs.Callers.{Table}
@@ -13,7 +11,7 @@ use Rattle.nr_serve.specs.Hands.{IsReady, Moves}
 use Rattle.nr_serve.specs.Tickets.{sent}
 use Rattle.nr_serve.proofs.Moving.{sent-append}
 
-serves_on : (map : Table) (queue : Queue) (opened old new : Hands) (steps : ℕ) (entries : List Entry)
+pub serves_on : (map : Table) (queue : Queue) (opened old new : Hands) (steps : ℕ) (entries : List Entry)
     → IsServing map queue opened old → IsReady map queue new → Moves steps entries old new
     → IsServing map queue opened new
 serves_on map queue opened old new steps entries serving ready moves =
@@ -35,15 +33,3 @@ serves_on map queue opened old new steps entries serving ready moves =
           ∙ ap (λ (l : List Entry). l ++ entries) begins ∙ sym mine;
       counted = let sends = moves.sends in let was = serving.counted in omega (arith, count, sends, was);
     }
-
--- so it does where its hands were taken out and other ones put back
-pub stays_serving : (map : Table) (queue : Queue) (opened old new : Hands) (before after : Option Hands) (steps : ℕ)
-    (entries : List Entry)
-    → before ≡ Some old → after ≡ Some new
-    → IsServing map queue opened (unwrap_or before opened) → IsReady map queue new → Moves steps entries old new
-    → IsSome after × IsServing map queue opened (unwrap_or after opened)
-stays_serving map queue opened old new before after steps entries was is serving ready moves =
-    let old_serving
-    = subst (λ (hands : Option Hands). IsServing map queue opened (unwrap_or hands opened)) was serving in
-    subst (λ (hands : Option Hands). IsSome hands × IsServing map queue opened (unwrap_or hands opened)) (sym is)
-    (refl, serves_on map queue opened old new steps entries old_serving ready moves)

@@ -1,23 +1,22 @@
--- What one try adds.
-use Rattle.std.proofs.Common.{◌≡◌, ℕ, Bool, Ok, Err, List, [], ◌∷◌, length, refl, sym, ap, ◌*◌, ◌+◌, ◌∙◌, subst, arith}
+-- What one try that finds a hole adds.
+use Rattle.std.proofs.Common.{◌≡◌, ℕ, Bool, false, List, [], ◌∷◌, length, Option, None, refl, sym, ap, ◌+◌}
+use Rattle.std.proofs.Common.{◌∙◌, subst, arith}
 use Rattle.nr_model.specs.declared.rows.Row.{Row}
 use Rattle.nr_model.specs.declared.calls.Call.TheVariants as call
 use Rattle.nr_model.specs.declared.calls.Reply.{Reply}
 use Rattle.nr_model.specs.declared.calls.Reply.TheVariants as reply
-use Rattle.nr_marks.specs.Marks.{Marks, acted}
+use Rattle.nr_marks.specs.Marks.{LoggedLoad, Marks, acted, with_loads}
 use Rattle.nr_marks.specs.Puts.{put_number}
-use Rattle.nr_board.specs.Callers.{Caller, Gains, Rests}
-use Rattle.nr_board.specs.Holds.{FindsRows, HeldIn, HoleIn, looked}
+use Rattle.nr_board.specs.Callers.{Caller, Gains}
+use Rattle.nr_board.specs.Holds.{FindsHole, HoleIn, looked}
+use Rattle.nr_map.specs.Hands.{Handed, PinsByHand, departed, steps_to_depart}
 use Rattle.nr_serve.proofs.Getting.{same_words}
-use Rattle.nr_map.specs.Pins.{Pinned, PinsKey}
 use Rattle.nr_serve.specs.declared.hands.Hands.{Hands}
-use Rattle.nr_serve.specs.declared.answers.Got.{Got}
-use Rattle.nr_serve.specs.declared.answers.Got.TheVariants as got
 use Rattle.nr_serve.specs.declared.answers.Requested.{Requested}
 use Rattle.nr_serve.specs.declared.answers.Tried.TheVariants as tried
-use Rattle.nr_serve.specs.Gets.{AnswersPin, LeavesKept, TriesOnce, found, kept_attempts, miss, requested, sent_attempts}
+use Rattle.nr_serve.specs.Gets.{LeavesKept, TriesOnce, found, kept_attempts, miss, requested, sent_attempts}
 use Rattle.nr_serve.specs.Hands.{Moves}
-use Rattle.nr_serve.proofs.Making.{makes_by_gains, makes_by_rests}
+use Rattle.nr_serve.proofs.Making.{makes_by_gains}
 use Rattle.nr_serve.proofs.Moving.{moves_both, posts_none}
 
 -- a find after the post of a ticket that was kept
@@ -52,110 +51,48 @@ misses_once key steps a b c reader request posted gains asked =
     (requested a.reader.number key request) c (omega arith)
     (finds (steps + 0) key a b reply.Hole reader posted gains) asked'
 
--- a try that finds a hole: the post, the find, and the request with what it came from
-pub tries_hole : (key : ℕ) (a b from c : Hands) (reader : Caller) (request : Requested) (rows : List Row)
-    → Moves 0 [] a b → b.poster.tries ≡ a.poster.tries + kept_attempts a.kept
-    → b.reader ≡ a.reader → PinsKey key b.reader (Err reader) → from ≡ record b { reader = reader }
-    → c.reader.marks ≡ from.reader.marks
-    → Moves (length (requested from.reader.number key request)) (requested from.reader.number key request) from c
-    → LeavesKept request c.kept → c.poster.tries ≡ from.poster.tries + sent_attempts request
+-- a ticket that was kept was posted, or is kept still
+pub record Posted (a b : Hands) : Type 0 where
+  pub moves : Moves 0 [] a b
+  pub attempts : b.poster.tries ≡ a.poster.tries + kept_attempts a.kept
+  pub reader : b.reader ≡ a.reader
+
+-- a find by a hand that held nothing is its reader's
+pub hole_by_hand : (key : ℕ) (old new : Handed) → old.key ≡ None → PinsByHand key old new false
+    → (finds : FindsHole 0 key old.reader new.reader)
+    × (new.reader.marks ≡ acted (looked old.reader.marks key finds.named) (put_number new.reader.seen key))
+hole_by_hand key old new none pins =
+    let put : ℕ = put_number new.reader.seen key in
+    let finds
+    = subst (λ (held : Option ℕ). FindsHole (steps_to_depart held) key old.reader new.reader) none pins.0 in
+    let marks
+    = subst
+    (λ (held : Option ℕ). new.reader.marks
+    ≡ acted (with_loads (departed held old.reader.marks) new.reader.marks.loads) put)
+    none pins.1.marks in
+    (finds, marks ∙ ap (λ (loads : List LoggedLoad). acted (with_loads old.reader.marks loads) put) finds.looks)
+
+-- a try that finds a hole: the post, the find, and the request
+pub tries_hole : (key : ℕ) (a b c : Hands) (reader : Caller) (request : Requested) (rows : List Row) → Posted a b
+    → (hole : FindsHole 0 key b.reader reader)
+    → reader.marks ≡ acted (looked b.reader.marks key hole.named) (put_number reader.seen key)
+    → c.reader.marks ≡ reader.marks
+    → Moves (length (requested reader.number key request)) (requested reader.number key request)
+    (record b { reader = reader }) c
+    → LeavesKept request c.kept → c.poster.tries ≡ b.poster.tries + sent_attempts request
     → TriesOnce key a rows c rows (tried.Missed request)
-tries_hole key a b from c reader request rows posted first same pins is still asked leaves then = let hole = pins.0 in (
+tries_hole key a b c reader request rows posted hole marked still asked leaves then = (
   record {
     steps = hole.steps;
     named = hole.named;
-    finds_in = subst (λ (w : Bool). HoleIn w hole.named hole.steps) (same_words 0 a [] b posted) hole.finds_in;
-    looks = let marks : c.reader.marks ≡ reader.marks = still ∙ ap (λ (hands : Hands). hands.reader.marks) is in
-        let found
-        = marks ∙ pins.1
-        ∙ ap (λ (old : Caller). acted (looked old.marks key hole.named) (put_number reader.seen key)) same in
+    finds_in = subst (λ (w : Bool). HoleIn w hole.named hole.steps) (same_words 0 a [] b posted.moves) hole.finds_in;
+    looks = let found
+        = still ∙ marked
+        ∙ ap (λ (old : Caller). acted (looked old.marks key hole.named) (put_number reader.seen key)) posted.reader in
         found ∙ ap (acted (looked a.reader.marks key hole.named)) (sym (ap (λ (m : Marks). m.put) found));
-    moves =
-        misses_once key hole.steps a b c reader request posted hole.gains
-        (subst
-        (λ (hands : Hands). Moves (length (requested hands.reader.number key request))
-        (requested hands.reader.number key request) hands c)
-        is asked);
+    moves = misses_once key hole.steps a b c reader request posted.moves hole.gains asked;
     leaves = leaves;
-    attempts = omega (arith, first, then, ap (λ (hands : Hands). hands.poster.tries) is);
+    attempts = let first = posted.attempts in omega (arith, first, then);
   },
   refl,
-)
-
--- the find and what the reader did with its pin, after the post
-pinned_through : (more key : ℕ) (a b : Hands) (pin : Pinned) (reader : Caller) → Moves 0 [] a b
-    → (pinned : FindsRows 0 key pin.rows b.reader pin.reader) → Rests more pin.reader reader
-    → Moves (pinned.steps + more) (found a.reader.number key (reply.Rows pin.rows) ∷ []) a
-    (record b { reader = reader })
-pinned_through more key a b pin reader posted pinned rests =
-    moves_both (pinned.steps + 0) more (pinned.steps + more) a (found a.reader.number key (reply.Rows pin.rows) ∷ [])
-    (record b { reader = pin.reader })
-    [] (record b { reader = reader }) (omega arith)
-    (finds (pinned.steps + 0) key a b (reply.Rows pin.rows) pin.reader posted pinned.gains)
-    (record {
-      makes = makes_by_rests more pin.reader reader rests;
-      posts = posts_none b.kept b.poster;
-      sends = omega (arith, posted.sends);
-    })
-
--- the marks after a pin that is released
-released_marks : (key : ℕ) (a b c : Hands) (pin : Pinned) (reader : Caller) → b.reader ≡ a.reader
-    → (pins : PinsKey key b.reader (Ok pin)) → reader.marks ≡ acted pin.reader.marks pin.reader.marks.put
-    → c ≡ record b { reader = reader }
-    → c.reader.marks ≡ acted (acted (looked a.reader.marks key pins.0.named) c.reader.marks.put) c.reader.marks.put
-released_marks key a b c pin reader same pins still is =
-    let put : ℕ = put_number pin.reader.seen key in
-    let pinned = pins.1 ∙ ap (λ (old : Caller). acted (looked old.marks key pins.0.named) put) same in
-    let found = ap (λ (hands : Hands). hands.reader.marks) is ∙ still ∙ ap (λ (m : Marks). acted m m.put) pinned in
-    found
-    ∙ ap (λ (n : ℕ). acted (acted (looked a.reader.marks key pins.0.named) n) n)
-    (sym (ap (λ (m : Marks). m.put) found))
-
--- a try that finds rows: the post, the find, and what became of the pin
-pub tries_pin : (key : ℕ) (a b c : Hands) (pin : Pinned) (answer : Got) (reader : Caller) (before rows : List Row)
-    → Moves 0 [] a b
-    → b.poster.tries ≡ a.poster.tries + kept_attempts a.kept → b.reader ≡ a.reader → PinsKey key b.reader (Ok pin)
-    → AnswersPin pin before reader rows answer → reader.marks ≡ acted pin.reader.marks pin.reader.marks.put
-    → c ≡ record b { reader = reader } → TriesOnce key a before c rows (tried.Ended answer)
-tries_pin key a b c pin got.Rows reader before rows posted first same pins answers still is =
-    let pinned = pins.0 in
-    let moved = pinned_through (2 * length pin.rows + 1) key a b pin reader posted pinned answers.0 in
-    let told
-    = subst
-    (λ (set : List Row). Moves (pinned.steps + (2 * length set + 1))
-    (found a.reader.number key (reply.Rows set) ∷ []) a (record b { reader = reader }))
-    (sym answers.1) moved in
-    record {
-      steps = pinned.steps;
-      named = pinned.named;
-      says = pinned.says;
-      holds_in =
-          subst (λ (w : Bool). HeldIn w pinned.named pinned.says pinned.steps) (same_words 0 a [] b posted)
-          pinned.holds_in;
-      looks = released_marks key a b c pin reader same pins still is;
-      moves =
-          subst
-          (λ (hands : Hands). Moves (pinned.steps + (2 * length rows + 1))
-          (found a.reader.number key (reply.Rows rows) ∷ []) a hands)
-          (sym is) told;
-      attempts = ap (λ (hands : Hands). hands.poster.tries) is ∙ first;
-    }
-tries_pin key a b c pin got.GaveUp reader before rows posted first same pins answers still is = absurd answers
-tries_pin key a b c pin got.Barred reader before rows posted first same pins answers still is = let pinned = pins.0 in (
-  pin.rows,
-  record {
-    steps = pinned.steps;
-    named = pinned.named;
-    says = pinned.says;
-    holds_in =
-        subst (λ (w : Bool). HeldIn w pinned.named pinned.says pinned.steps) (same_words 0 a [] b posted)
-        pinned.holds_in;
-    looks = released_marks key a b c pin reader same pins still is;
-    moves =
-        subst
-        (λ (hands : Hands). Moves (pinned.steps + 1) (found a.reader.number key (reply.Rows pin.rows) ∷ []) a hands)
-        (sym is) (pinned_through 1 key a b pin reader posted pinned answers.0);
-    attempts = ap (λ (hands : Hands). hands.poster.tries) is ∙ first;
-  },
-  answers.1,
 )

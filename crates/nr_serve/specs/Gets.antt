@@ -1,5 +1,5 @@
 -- What a get does: tries that find a hole, and how it ends.
-use Rattle.std.specs.Prelude.{◌≡◌, ◌<◌, ◌+◌, ◌*◌, ℕ, Bool, true, false, List, [], ◌∷◌, ◌++◌, length, Option, None, Some}
+use Rattle.std.specs.Prelude.{◌≡◌, ◌<◌, ◌+◌, ◌*◌, ℕ, true, false, List, [], ◌∷◌, ◌++◌, length, Option, None, Some}
 use Rattle.std.specs.Prelude.{Result, Ok, Err, is_some}
 use Rattle.nr_model.specs.declared.rows.Row.{Row}
 use Rattle.nr_model.specs.declared.calls.Call.TheVariants as call
@@ -10,7 +10,7 @@ use Rattle.nr_machine.specs.Story.{entry}
 use Rattle.nr_marks.specs.Marks.{acted}
 use Rattle.nr_board.specs.Callers.{Caller, Rests}
 use Rattle.nr_board.specs.Holds.{HeldIn, HoleIn, finds_by_word, looked}
-use Rattle.nr_map.specs.Pins.{Pinned}
+use Rattle.nr_map.specs.Hands.{Handed}
 use Rattle.nr_map.specs.Tickets.{Request}
 use Rattle.nr_serve.specs.declared.hands.Hands.{Hands}
 use Rattle.nr_serve.specs.declared.answers.Got.{Got}
@@ -87,11 +87,12 @@ MissesAll key old new [] = new ≡ old
 MissesAll key old new (request ∷ requests) =
     (mid : Hands) × MissesOnce key old mid request × MissesAll key mid new requests
 
--- a pin is answered: the caller gets its rows, unless it is barred, and the reader is released
-abbrev pub AnswersPin : Pinned → List Row → Caller → List Row → Got → Type 0
-AnswersPin pin before reader rows got.Rows = Rests (2 * length pin.rows + 1) pin.reader reader × (rows ≡ pin.rows)
-AnswersPin pin before reader rows got.GaveUp = ⊥
-AnswersPin pin before reader rows got.Barred = Rests 1 pin.reader reader × (rows ≡ before)
+-- a set that is held is answered: the caller gets its rows, unless it is barred, and the reader lets it go
+abbrev pub AnswersHeld : Handed → List Row → Caller → List Row → Got → Type 0
+AnswersHeld held before reader rows got.Rows =
+    Rests (2 * length held.rows + 1) held.reader reader × (rows ≡ held.rows)
+AnswersHeld held before reader rows got.GaveUp = ⊥
+AnswersHeld held before reader rows got.Barred = Rests 1 held.reader reader × (rows ≡ before)
 
 -- one try that found rows, in the steps of a hold and so many more: the ticket that was kept is posted or kept still,
 -- and no other call is made

@@ -2,13 +2,15 @@
 //! finds what was applied.
 ghost use Rattle.std.specs.Prelude.{◌≡◌, ◌≤◌, IfSome, None};
 ghost use Rattle.nr_board.specs.Meetings.{with_steps};
+ghost use Rattle.nr_map.specs.Hands.{idle};
 ghost use Rattle.nr_serve.specs.Applied.{HearsApplied};
 ghost use Rattle.nr_serve.specs.Counts.{OnlyLooks};
 
+use crate::hands::split_by_hand;
 use crate::lobby::Lobby;
 use crate::service::Service;
 use crate::watched::Watched;
-use nr_map::{Note, Reader, ReaderMap};
+use nr_map::{Hand, Note, ReaderMap};
 use std::marker::{Brand, Model, PhantomData};
 use std::sync::{Mutex, Wait};
 
@@ -57,22 +59,18 @@ impl<M: Measure> Told<M> {
     }
 
     // The amount with a note of it, if it is so much at least. Another note stays, which says the same.
-    fn of_at_least(
-        &mut self,
-        map: &ReaderMap,
-        reader: &mut Reader,
-        least: u64,
-    ) -> Option<(u64, Note)>
-        requires own { reader.old.table ≡ map.now }
+    fn of_at_least(&mut self, map: &ReaderMap, reader: &mut Hand, least: u64) -> Option<(u64, Note)>
+        requires own { reader.old.reader.table ≡ map.now }
+        requires idle { reader.old.key ≡ None }
         requires notes { (amount : _) (note : _) → M.reached amount note → note.table ≡ map.now }
-        ensures told { IfSome result (λ (amount, rest). (least ≤ amount) × M.reached amount rest × (reader.new ≡ with_steps 3 reader.old)) }
+        ensures told { IfSome result (λ (amount, rest). (least ≤ amount) × M.reached amount rest × (reader.new ≡ idle (with_steps 3 reader.old.reader))) }
         ensures none { result ≡ None → reader.new ≡ reader.old }
     {
         if self.amount < least {
             return None;
         }
         let note = self.note.take()?;
-        let (mine, kept) = map.split_note(reader, note);
+        let (mine, kept) = split_by_hand(map, reader, note);
         self.note = Some(kept);
         Some((self.amount, mine))
     }
@@ -118,12 +116,13 @@ impl<'a, M: Measure> Applied<'a, M> {
         &self,
         rt: &R,
         map: &ReaderMap,
-        reader: &mut Reader,
+        reader: &mut Hand,
         least: u64,
     ) -> Option<(u64, Note)>
-        requires own { reader.old.table ≡ map.now }
+        requires own { reader.old.reader.table ≡ map.now }
+        requires idle { reader.old.key ≡ None }
         requires notes { (amount : _) (note : _) → M.reached amount note → note.table ≡ map.now }
-        ensures told { IfSome result (λ (amount, rest). (least ≤ amount) × M.reached amount rest × (reader.new ≡ with_steps 3 reader.old)) }
+        ensures told { IfSome result (λ (amount, rest). (least ≤ amount) × M.reached amount rest × (reader.new ≡ idle (with_steps 3 reader.old.reader))) }
         ensures none { result ≡ None → reader.new ≡ reader.old }
     {
         self.told.lock(rt).of_at_least(map, reader, least)
@@ -136,18 +135,20 @@ impl<'a, M: Measure> Applied<'a, M> {
         rt: &R,
         map: &ReaderMap,
         lobby: &mut Watched<'_>,
-        reader: &mut Reader,
+        reader: &mut Hand,
         least: u64,
     ) -> Option<u64>
-        requires own { reader.old.table ≡ map.now }
+        requires own { reader.old.reader.table ≡ map.now }
+        requires idle { reader.old.key ≡ None }
         requires notes { (amount : _) (note : _) → M.reached amount note → note.table ≡ map.now }
-        ensures hears { HearsApplied M.reached least lobby.new reader.old reader.new result }
+        ensures hears { HearsApplied M.reached least lobby.new reader.old.reader reader.new.reader result }
+        ensures idle { reader.new.key ≡ None }
         ensures looks { OnlyLooks lobby.old lobby.new }
     {
         for _ in rt.forever() {
             let tellings = lobby.tellings();
             if let Some((amount, note)) = self.look(rt, map, reader, least) {
-                map.hear(reader, note);
+                reader.hear(map, note);
                 return Some(amount);
             }
             if lobby.is_closed() {

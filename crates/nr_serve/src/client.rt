@@ -31,13 +31,12 @@ use std::time::{Clock, Instant};
 pub struct Client<'a, G> {
     places: Places<'a, G>,
     lobby: Watched<'a>,
-    hands: Option<Hands>,
+    hands: Hands,
     gets: u64,
     opened: Snapshot<Hands>,
 }
 
 impl<'a, G> Model for Client<'a, G> {
-    ghost use Rattle.std.specs.Prelude.{IsSome, unwrap_or};
     ghost use Rattle.nr_serve.specs.Clients.{ClientSeen, IsServing};
 
     ghost Value = { ClientSeen G };
@@ -48,12 +47,12 @@ impl<'a, G> Model for Client<'a, G> {
       gate = client.places.gate.now;
       reader = client.places.reader;
       opened = client.opened.value;
-      hands = unwrap_or client.hands client.opened.value;
+      hands = client.hands;
       guest = client.lobby;
       gets = client.gets;
     } };
 
-    ghost invariant = { λ client. IsSome client.hands × IsServing client.places.map.now client.places.triggers.now client.opened.value (unwrap_or client.hands client.opened.value) };
+    ghost invariant = { λ client. IsServing client.places.map.now client.places.triggers.now client.opened.value client.hands };
 }
 
 impl<'a, G: Gate> Client<'a, G> {
@@ -73,7 +72,7 @@ impl<'a, G: Gate> Client<'a, G> {
         ensures counts { result.gets ≡ 0 }
     {
         let number = reader.number();
-        let hands = Hands::of(reader, poster, None, 0);
+        let hands = Hands::of(reader, poster);
         let opened = Snapshot::of(&hands);
         Client {
             places: Places {
@@ -83,7 +82,7 @@ impl<'a, G: Gate> Client<'a, G> {
                 reader: number,
             },
             lobby: Watched::of(service.lobby()),
-            hands: Some(hands),
+            hands,
             gets: 0,
             opened,
         }
@@ -164,11 +163,8 @@ impl<'a, G: Gate> Client<'a, G> {
         ensures gate { (self.new.gate ≡ self.old.gate) × (self.new.reader ≡ self.old.reader) }
         ensures opened { self.new.opened ≡ self.old.opened }
     {
-        let Some(hands) = self.hands.take() else {
-            unreachable!()
-        };
         self.gets = self.gets.saturating_add(1);
-        let (got, hands) = get_by_tries(
+        get_by_tries(
             rt,
             &self.places,
             &mut self.lobby,
@@ -176,13 +172,9 @@ impl<'a, G: Gate> Client<'a, G> {
             self.gets,
             key,
             tries,
-            hands,
+            &mut self.hands,
             rows,
-        );
-        match self.hands.replace(hands) {
-            None => got,
-            Some(_) => unreachable!(),
-        }
+        )
     }
 
     /// A note of what the client has seen, in 1 step of its reader. Else the client stays as it is.
@@ -192,10 +184,7 @@ impl<'a, G: Gate> Client<'a, G> {
         ensures knows { KnowsOwn self.old.hands.reader }
         ensures rest { self.new ≡ record self.old { hands = with_idle_reader self.old.hands (with_step self.old.hands.reader) } }
     {
-        match &mut self.hands {
-            Some(hands) => self.places.map.note(&mut hands.reader),
-            None => unreachable!(),
-        }
+        self.hands.reader.note(self.places.map)
     }
 
     /// The client learns, in 1 step of its reader, all that the note's maker had seen.
@@ -204,10 +193,7 @@ impl<'a, G: Gate> Client<'a, G> {
         ensures hears { HearsNote 1 note self.old.hands.reader self.new.hands.reader }
         ensures rest { self.new ≡ record self.old { hands = with_idle_reader self.old.hands self.new.hands.reader } }
     {
-        match &mut self.hands {
-            Some(hands) => self.places.map.hear(&mut hands.reader, note),
-            None => unreachable!(),
-        }
+        self.hands.reader.hear(self.places.map, note)
     }
 
     /// Sleeps until the dataflow told that it has applied so much at least, hears in 4 steps of its
@@ -226,16 +212,13 @@ impl<'a, G: Gate> Client<'a, G> {
         ensures looks { OnlyLooks self.old.guest self.new.guest }
         ensures rest { self.new ≡ record self.old { hands = with_idle_reader self.old.hands self.new.hands.reader; guest = self.new.guest } }
     {
-        match &mut self.hands {
-            Some(hands) => applied.wait(
-                rt,
-                self.places.map,
-                &mut self.lobby,
-                &mut hands.reader,
-                least,
-            ),
-            None => unreachable!(),
-        }
+        applied.wait(
+            rt,
+            self.places.map,
+            &mut self.lobby,
+            &mut self.hands.reader,
+            least,
+        )
     }
 
     /// How often the rows of a key of this one's group couldn't be had, up to 2^64 - 1. A get whose
@@ -252,10 +235,7 @@ impl<'a, G: Gate> Client<'a, G> {
     pub fn sends(&self) -> u64
         ensures { result ≡ capped (length (sent (since self.now.opened self.now.hands))) }
     {
-        match &self.hands {
-            Some(hands) => hands.sends,
-            None => unreachable!(),
-        }
+        self.hands.sends
     }
 
     /// Hands out what the client was opened with, and the ticket that it keeps.
@@ -265,22 +245,18 @@ impl<'a, G: Gate> Client<'a, G> {
         ensures kept { let (_, _, kept) = result in kept ≡ self.entry.hands.kept }
     {
         let Client {
-            places: _,
+            places,
             lobby: _,
             hands,
             gets: _,
             opened: _,
         } = self;
-        match hands {
-            Some(
-                Hands {
-                    reader,
-                    poster,
-                    kept,
-                    sends: _,
-                },
-            ) => (reader, poster, kept),
-            None => unreachable!(),
-        }
+        let Hands {
+            reader,
+            poster,
+            kept,
+            sends: _,
+        } = hands;
+        (reader.into_reader(places.map), poster, kept)
     }
 }

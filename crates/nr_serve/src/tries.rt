@@ -1,10 +1,10 @@
 //! The tries of a get.
-ghost use Rattle.std.specs.Prelude.{◌≡◌, ◌<◌, ◌+◌, ◌*◌, [], IfErr, IfOk, length, None};
+ghost use Rattle.std.specs.Prelude.{◌≡◌, ◌<◌, ◌+◌, ◌*◌, [], IfErr, IfOk, IsSome, length, None};
 ghost use Rattle.nr_marks.specs.Marks.{acted};
 ghost use Rattle.nr_board.specs.Callers.{Rests};
 ghost use Rattle.nr_serve.specs.Counts.{OnlyLooks};
 ghost use Rattle.nr_serve.specs.Gates.{AsksGate, AsksOnce};
-ghost use Rattle.nr_serve.specs.Gets.{AnswersPin, AwaitsFill, GetsInTime, LeavesKept, MissesOnce, TriesOnce, kept_attempts, requested, sent_attempts};
+ghost use Rattle.nr_serve.specs.Gets.{AnswersHeld, AwaitsFill, GetsInTime, LeavesKept, MissesOnce, TriesOnce, kept_attempts, requested, sent_attempts};
 ghost use Rattle.nr_serve.specs.Hands.{IsReady, Moves};
 ghost use Rattle.nr_serve.specs.Rings.{Rings};
 
@@ -14,7 +14,7 @@ use crate::hands::Hands;
 use crate::places::Places;
 use crate::sleepers::{Limit, TooLate};
 use crate::watched::{Counted, Watched};
-use nr_map::{Asked, Pin, Reader, ReaderMap};
+use nr_map::{Asked, Hand, ReaderMap};
 use nr_model::RowSet;
 use nr_trigger::Triggers;
 use std::sync::Wait;
@@ -34,32 +34,22 @@ fn post_kept<R: Wait>(
     map: &ReaderMap,
     triggers: &Triggers,
     lobby: &mut Watched<'_>,
-    hands: Hands,
-) -> Hands
-    requires { IsReady map.now triggers.now hands }
-    ensures ready { IsReady map.now triggers.now result }
-    ensures moves { Moves 0 [] hands result }
-    ensures reader { result.reader ≡ hands.reader }
-    ensures attempts { result.poster.tries ≡ hands.poster.tries + kept_attempts hands.kept }
-    ensures rings { Rings hands lobby.old result lobby.new }
+    hands: &mut Hands,
+)
+    requires { IsReady map.now triggers.now hands.old }
+    ensures ready { IsReady map.now triggers.now hands.new }
+    ensures moves { Moves 0 [] hands.old hands.new }
+    ensures reader { hands.new.reader ≡ hands.old.reader }
+    ensures attempts { hands.new.poster.tries ≡ hands.old.poster.tries + kept_attempts hands.old.kept }
+    ensures rings { Rings hands.old lobby.old hands.new lobby.new }
 {
-    let Hands {
-        reader,
-        mut poster,
-        kept,
-        sends,
-    } = hands;
-    let kept = match kept {
-        None => None,
-        Some(ticket) => match triggers.post(rt, &mut poster, ticket) {
-            Ok(()) => {
-                lobby.ring(rt);
-                None
-            }
-            Err(ticket) => Some(ticket),
-        },
+    let Some(ticket) = hands.kept.take() else {
+        return;
     };
-    Hands::of(reader, poster, kept, sends)
+    match triggers.post(rt, &mut hands.poster, ticket) {
+        Ok(()) => lobby.ring(rt),
+        Err(ticket) => hands.keep(ticket),
+    }
 }
 
 // Requests the key unless a ticket is kept, and posts the ticket of a request that is to be sent.
@@ -71,40 +61,30 @@ fn request<R: Wait>(
     triggers: &Triggers,
     lobby: &mut Watched<'_>,
     key: u32,
-    hands: Hands,
-) -> (Requested, Hands)
-    requires ready { IsReady map.now triggers.now hands }
+    hands: &mut Hands,
+) -> Requested
+    requires ready { IsReady map.now triggers.now hands.old }
     requires key { key < map.now.shape.keys }
-    ensures ready { let (_, after) = result in IsReady map.now triggers.now after }
-    ensures moves { let (answer, after) = result in Moves (length (requested hands.reader.number key answer)) (requested hands.reader.number key answer) hands after }
-    ensures marks { let (_, after) = result in after.reader.marks ≡ hands.reader.marks }
-    ensures leaves { let (answer, after) = result in LeavesKept answer after.kept }
-    ensures attempts { let (answer, after) = result in after.poster.tries ≡ hands.poster.tries + sent_attempts answer }
-    ensures rings { let (_, after) = result in Rings hands lobby.old after lobby.new }
+    ensures ready { IsReady map.now triggers.now hands.new }
+    ensures moves { Moves (length (requested hands.old.reader.number key result)) (requested hands.old.reader.number key result) hands.old hands.new }
+    ensures marks { hands.new.reader.marks ≡ hands.old.reader.marks }
+    ensures leaves { LeavesKept result hands.new.kept }
+    ensures attempts { hands.new.poster.tries ≡ hands.old.poster.tries + sent_attempts result }
+    ensures rings { Rings hands.old lobby.old hands.new lobby.new }
 {
-    let Hands {
-        mut reader,
-        poster,
-        kept,
-        sends,
-    } = hands;
-    if let Some(ticket) = kept {
-        return (
-            Requested::NotMade,
-            Hands::of(reader, poster, Some(ticket), sends),
-        );
+    if hands.kept.is_some() {
+        return Requested::NotMade;
     }
-    match map.ask(&mut reader, key) {
+    match hands.reader.ask(map, key) {
         Asked::Send(ticket) => {
             let number = ticket.number();
-            let hands = Hands::of(reader, poster, Some(ticket), sends.saturating_add(1));
-            (
-                Requested::Sent(number),
-                post_kept(rt, map, triggers, lobby, hands),
-            )
+            hands.sends = hands.sends.saturating_add(1);
+            hands.keep(ticket);
+            post_kept(rt, map, triggers, lobby, hands);
+            Requested::Sent(number)
         }
-        Asked::Waiting => (Requested::Waiting, Hands::of(reader, poster, None, sends)),
-        Asked::Filled => (Requested::Filled, Hands::of(reader, poster, None, sends)),
+        Asked::Waiting => Requested::Waiting,
+        Asked::Filled => Requested::Filled,
     }
 }
 
@@ -123,23 +103,24 @@ fn lets_pass<G: Gate>(places: &Places<'_, G>, get: u64) -> bool
     false
 }
 
-// With the pin of a filled key: copies its rows for the caller, if the gate lets pass.
+// With the set of a filled key: copies its rows for the caller, if the gate lets pass, and lets it go.
 #[inline(always)]
-fn answer<G: Gate>(places: &Places<'_, G>, get: u64, pin: Pin, rows: &mut RowSet) -> (Got, Reader)
-    requires own { pin.reader.table ≡ places.now.map.now }
-    ensures answers { let (got, reader) = result in AnswersPin pin rows.old reader rows.new got }
-    ensures asks { let (got, _) = result in AsksGate G.lets G.hears places.now.gate.now places.now.reader get got }
-    ensures idle { let (_, reader) = result in reader.holds ≡ None }
-    ensures marks { let (_, reader) = result in reader.marks ≡ acted pin.reader.marks pin.reader.marks.put }
+fn answer<G: Gate>(places: &Places<'_, G>, get: u64, reader: &mut Hand, rows: &mut RowSet) -> Got
+    requires own { reader.old.reader.table ≡ places.now.map.now }
+    requires holds { IsSome reader.old.key }
+    ensures answers { AnswersHeld reader.old rows.old reader.new.reader rows.new result }
+    ensures asks { AsksGate G.lets G.hears places.now.gate.now places.now.reader get result }
+    ensures idle { (reader.new.key ≡ None) × (reader.new.reader.holds ≡ None) }
+    ensures marks { reader.new.reader.marks ≡ acted reader.old.reader.marks reader.old.reader.marks.put }
 {
-    let mut pin = pin;
     if !lets_pass(places, get) {
-        return (Got::Barred, pin.release(places.map));
+        reader.release(places.map);
+        return Got::Barred;
     }
-    pin.copy_to(places.map, rows);
-    let reader = pin.release(places.map);
+    reader.copy_to(places.map, rows);
+    reader.release(places.map);
     places.gate.answered(places.reader, get);
-    (Got::Rows, reader)
+    Got::Rows
 }
 
 // One try: posts the ticket that is kept, and pins the key; asks for a hole.
@@ -150,33 +131,21 @@ fn try_once<G: Gate, R: Wait>(
     lobby: &mut Watched<'_>,
     get: u64,
     key: u32,
-    hands: Hands,
+    hands: &mut Hands,
     rows: &mut RowSet,
-) -> (Tried, Hands)
-    requires ready { IsReady places.now.map.now places.now.triggers.now hands }
+) -> Tried
+    requires ready { IsReady places.now.map.now places.now.triggers.now hands.old }
     requires key { key < places.now.map.now.shape.keys }
-    ensures ready { let (_, after) = result in IsReady places.now.map.now places.now.triggers.now after }
-    ensures tries { let (tried, after) = result in TriesOnce key hands rows.old after rows.new tried }
-    ensures rings { let (_, after) = result in Rings hands lobby.old after lobby.new }
-    ensures asks { let (tried, _) = result in AsksOnce G.lets G.hears places.now.gate.now places.now.reader get tried }
+    ensures ready { IsReady places.now.map.now places.now.triggers.now hands.new }
+    ensures tries { TriesOnce key hands.old rows.old hands.new rows.new result }
+    ensures rings { Rings hands.old lobby.old hands.new lobby.new }
+    ensures asks { AsksOnce G.lets G.hears places.now.gate.now places.now.reader get result }
 {
-    let Hands {
-        reader,
-        poster,
-        kept,
-        sends,
-    } = post_kept(rt, places.map, places.triggers, lobby, hands);
-    match places.map.pin(reader, key) {
-        Ok(pin) => {
-            let (got, reader) = answer(places, get, pin, rows);
-            (Tried::Ended(got), Hands::of(reader, poster, kept, sends))
-        }
-        Err(reader) => {
-            let hands = Hands::of(reader, poster, kept, sends);
-            let (requested, hands) = request(rt, places.map, places.triggers, lobby, key, hands);
-            (Tried::Missed(requested), hands)
-        }
+    post_kept(rt, places.map, places.triggers, lobby, hands);
+    if hands.reader.pin(places.map, key) {
+        return Tried::Ended(answer(places, get, &mut hands.reader, rows));
     }
+    Tried::Missed(request(rt, places.map, places.triggers, lobby, key, hands))
 }
 
 // After a try that found a hole: sleeps until the count has gone past what it was before the try, if
@@ -213,38 +182,25 @@ pub(crate) fn get_by_tries<G: Gate, L: Limit<R>, R: Wait>(
     get: u64,
     key: u32,
     tries: u32,
-    hands: Hands,
+    hands: &mut Hands,
     rows: &mut RowSet,
-) -> (Result<Got, TooLate>, Hands)
-    requires ready { IsReady places.now.map.now places.now.triggers.now hands }
+) -> Result<Got, TooLate>
+    requires ready { IsReady places.now.map.now places.now.triggers.now hands.old }
     requires key { key < places.now.map.now.shape.keys }
-    ensures ready { let (_, after) = result in IsReady places.now.map.now places.now.triggers.now after }
-    ensures gets { let (ended, after) = result in GetsInTime key tries hands rows.old after rows.new ended }
-    ensures late { let (ended, _) = result in IfErr ended (λ late. L.lapses limit.now late) }
-    ensures at_once { let (_, after) = result in tries ≡ 0 → after ≡ hands }
-    ensures rings { let (_, after) = result in Rings hands lobby.old after lobby.new }
-    ensures asks { let (ended, _) = result in IfOk ended (λ got. AsksGate G.lets G.hears places.now.gate.now places.now.reader get got) }
+    ensures ready { IsReady places.now.map.now places.now.triggers.now hands.new }
+    ensures gets { GetsInTime key tries hands.old rows.old hands.new rows.new result }
+    ensures late { IfErr result (λ late. L.lapses limit.now late) }
+    ensures at_once { tries ≡ 0 → hands.new ≡ hands.old }
+    ensures rings { Rings hands.old lobby.old hands.new lobby.new }
+    ensures asks { IfOk result (λ got. AsksGate G.lets G.hears places.now.gate.now places.now.reader get got) }
 {
-    let mut hands = hands;
     for i in 0..tries {
-        let counted = lobby.count_for(key, &hands);
-        let (tried, left) = try_once(rt, places, lobby, get, key, hands, rows);
-        hands = left;
-        let requested = match tried {
-            Tried::Ended(got) => return (Ok(got), hands),
+        let counted = lobby.count_for(key, hands);
+        let requested = match try_once(rt, places, lobby, get, key, hands, rows) {
+            Tried::Ended(got) => return Ok(got),
             Tried::Missed(requested) => requested,
         };
-        if let Err(late) = sleep_if(
-            rt,
-            lobby,
-            tries - i - 1,
-            &counted,
-            &requested,
-            &hands,
-            limit,
-        ) {
-            return (Err(late), hands);
-        }
+        sleep_if(rt, lobby, tries - i - 1, &counted, &requested, hands, limit)?;
     }
-    (Ok(Got::GaveUp), hands)
+    Ok(Got::GaveUp)
 }

@@ -1,8 +1,11 @@
-use Rattle.std.proofs.Common.{ℕ, List, ◌∙◌, arith, refl, subst}
+use Rattle.std.proofs.Common.{ℕ, List, Result, ◌∙◌, arith, refl, subst, sym}
+use Rattle.std.proofs.lemmas.Result.{err_from_is_err_and}
 use Rattle.nr_model.specs.declared.rows.Row.{Row}
+use Rattle.nr_serve.specs.declared.answers.Got.{Got}
 use Rattle.nr_serve.specs.declared.answers.Tried.{Tried}
 use Rattle.nr_serve.specs.declared.hands.Hands.{Hands}
-use Rattle.nr_serve.specs.Gets.{AwaitsFill, Gets, TriesOnce}
+use Rattle.nr_serve.specs.declared.sleepers.TooLate.{TooLate}
+use Rattle.nr_serve.specs.Gets.{AwaitsFill, Gets, GetsInTime, TriesOnce}
 use Rattle.nr_serve.proofs.Getting.{ends_late, gets_by_end, gets_by_none, missed_more, missed_none}
 use Rattle.nr_serve.proofs.Ringing.{rings_both, rings_looks, rings_same}
 use Rattle.nr_serve.proofs.tries.get_by_tries.Goals as goal
@@ -11,7 +14,7 @@ pub loop-i-init : goal.loop-i-init
 loop-i-init g c =
     record {
       ready = c.requires.ready;
-      missed = missed_none c.args.key c.args.hands c.requires.ready.few;
+      missed = missed_none c.args.key c.args.hands.now c.requires.ready.few;
       rows = refl;
       rings = rings_same _ _ _ refl;
       at_once = λ _. refl;
@@ -22,64 +25,68 @@ returns-in-Ended-clause-gets g c =
     let so_far = c.loop-i.invariant in
     let once
     = subst
-    (λ (tried : Tried). TriesOnce c.args.key c.loop-i.hands c.loop-i.rows c.try_once-tried.result.1
-    c.try_once-tried.new.rows tried)
-    c.in-Ended.is c.try_once-tried.ensures.tries in
+    (λ (tried : Tried). TriesOnce c.args.key c.loop-i.hands c.loop-i.rows c.try_once.new.hands c.try_once.new.rows
+    tried)
+    c.in-Ended.is c.try_once.ensures.tries in
     subst
-    (λ (before : List Row). Gets c.args.key c.args.tries c.args.hands before c.try_once-tried.result.1
-    c.try_once-tried.new.rows c.in-Ended.got)
+    (λ (before : List Row). Gets c.args.key c.args.tries c.args.hands.now before c.try_once.new.hands
+    c.try_once.new.rows c.in-Ended.got)
     so_far.rows
-    (gets_by_end c.args.key c.loop-i.i c.args.tries c.args.hands c.loop-i.hands c.try_once-tried.result.1 c.loop-i.rows
-    c.try_once-tried.new.rows c.in-Ended.got c.loop-i-test.true so_far.missed once)
+    (gets_by_end c.args.key c.loop-i.i c.args.tries c.args.hands.now c.loop-i.hands c.try_once.new.hands c.loop-i.rows
+    c.try_once.new.rows c.in-Ended.got c.loop-i-test.true so_far.missed once)
+
+pub returns-in-Ended-clause-rings : goal.returns-in-Ended-clause-rings
+returns-in-Ended-clause-rings g c =
+    rings_both _ _ _ _ _ _ c.loop-i.invariant.rings
+    (rings_both _ _ _ _ _ _ (rings_looks _ _ _ c.count_for-counted.ensures.looks) c.try_once.ensures.rings)
+
+pub returns-in_err-sleep_if-clause-gets : goal.returns-in_err-sleep_if-clause-gets
+returns-in_err-sleep_if-clause-gets g c =
+    let so_far = c.loop-i.invariant in
+    let once
+    = subst
+    (λ (tried : Tried). TriesOnce c.args.key c.loop-i.hands c.loop-i.rows c.try_once.new.hands c.try_once.new.rows
+    tried)
+    c.in-Missed.is c.try_once.ensures.tries in
+    let slept = c.in_err-sleep_if.ensures.slept in
+    let late = err_from_is_err_and c.from_residual.result c.from_residual.ensures.1 in
+    subst
+    (λ (ended : Result Got TooLate). GetsInTime c.args.key c.args.tries c.args.hands.now c.args.rows.now
+    c.try_once.new.hands c.try_once.new.rows ended)
+    (sym late.1)
+    (ends_late c.args.key c.loop-i.i c.args.tries c.args.hands.now c.loop-i.hands c.try_once.new.hands c.args.rows.now
+    c.try_once.new.rows c.in-Missed.requested (omega (arith, slept.0)) so_far.missed (once.1 ∙ so_far.rows)
+    (subst (λ (from : ℕ × Hands). AwaitsFill from.0 from.1 c.try_once.new.hands c.in-Missed.requested)
+    (λ j. (c.count_for-counted.ensures.key j, c.count_for-counted.ensures.hands j)) slept.1))
+
+pub returns-in_err-sleep_if-clause-rings : goal.returns-in_err-sleep_if-clause-rings
+returns-in_err-sleep_if-clause-rings g c =
+    rings_both _ _ _ _ _ _ c.loop-i.invariant.rings
+    (rings_both _ _ _ _ _ _ (rings_looks _ _ _ c.count_for-counted.ensures.looks)
+    (rings_both _ _ _ _ _ _ c.try_once.ensures.rings (rings_looks _ _ _ c.sleep_if.ensures.looks)))
 
 pub loop-i-preserved : goal.loop-i-preserved
 loop-i-preserved g c =
     let so_far = c.loop-i.invariant in
     let once
     = subst
-    (λ (tried : Tried). TriesOnce c.args.key c.loop-i.hands c.loop-i.rows c.try_once-tried.result.1
-    c.try_once-tried.new.rows tried)
-    c.in-Missed.is c.try_once-tried.ensures.tries in
+    (λ (tried : Tried). TriesOnce c.args.key c.loop-i.hands c.loop-i.rows c.try_once.new.hands c.try_once.new.rows
+    tried)
+    c.in-Missed.is c.try_once.ensures.tries in
     record {
-      ready = c.try_once-tried.ensures.ready;
+      ready = c.try_once.ensures.ready;
       missed =
-          missed_more c.args.key c.loop-i.i c.args.hands c.loop-i.hands c.try_once-tried.result.1 c.loop-i.rows
-          c.try_once-tried.new.rows c.in-Missed.requested so_far.missed once;
+          missed_more c.args.key c.loop-i.i c.args.hands.now c.loop-i.hands c.try_once.new.hands c.loop-i.rows
+          c.try_once.new.rows c.in-Missed.requested so_far.missed once;
       rows = once.1 ∙ so_far.rows;
       rings =
           rings_both _ _ _ _ _ _ so_far.rings
           (rings_both _ _ _ _ _ _ (rings_looks _ _ _ c.count_for-counted.ensures.looks)
-          (rings_both _ _ _ _ _ _ c.try_once-tried.ensures.rings (rings_looks _ _ _ c.sleep_if.ensures.looks)));
+          (rings_both _ _ _ _ _ _ c.try_once.ensures.rings (rings_looks _ _ _ c.sleep_if.ensures.looks)));
       at_once = λ none. absurd (omega (arith, none));
     }
 
-pub returns-in-Ended-clause-rings : goal.returns-in-Ended-clause-rings
-returns-in-Ended-clause-rings g c =
-    rings_both _ _ _ _ _ _ c.loop-i.invariant.rings
-    (rings_both _ _ _ _ _ _ (rings_looks _ _ _ c.count_for-counted.ensures.looks) c.try_once-tried.ensures.rings)
-
-pub returns-in-Err-clause-gets : goal.returns-in-Err-clause-gets
-returns-in-Err-clause-gets g c =
-    let so_far = c.loop-i.invariant in
-    let once
-    = subst
-    (λ (tried : Tried). TriesOnce c.args.key c.loop-i.hands c.loop-i.rows c.try_once-tried.result.1
-    c.try_once-tried.new.rows tried)
-    c.in-Missed.is c.try_once-tried.ensures.tries in
-    let slept = c.in-Err.ensures.slept in
-    ends_late c.args.key c.loop-i.i c.args.tries c.args.hands c.loop-i.hands c.try_once-tried.result.1 c.args.rows.now
-    c.try_once-tried.new.rows c.in-Missed.requested (omega (arith, slept.0))
-    so_far.missed (once.1 ∙ so_far.rows)
-    (subst (λ (from : ℕ × Hands). AwaitsFill from.0 from.1 c.try_once-tried.result.1 c.in-Missed.requested)
-    (λ j. (c.count_for-counted.ensures.key j, c.count_for-counted.ensures.hands j)) slept.1)
-
-pub returns-in-Err-clause-rings : goal.returns-in-Err-clause-rings
-returns-in-Err-clause-rings g c =
-    rings_both _ _ _ _ _ _ c.loop-i.invariant.rings
-    (rings_both _ _ _ _ _ _ (rings_looks _ _ _ c.count_for-counted.ensures.looks)
-    (rings_both _ _ _ _ _ _ c.try_once-tried.ensures.rings (rings_looks _ _ _ c.sleep_if.ensures.looks)))
-
 pub returns-clause-gets : goal.returns-clause-gets
 returns-clause-gets g c =
-    gets_by_none c.args.key c.loop-i.i c.args.tries c.args.hands c.loop-i.hands c.args.rows.now c.loop-i.rows
+    gets_by_none c.args.key c.loop-i.i c.args.tries c.args.hands.now c.loop-i.hands c.args.rows.now c.loop-i.rows
     (omega (arith, c.loop-i-test.false, c.loop-i.auto.i-end)) c.loop-i.invariant.missed c.loop-i.invariant.rows
