@@ -13,7 +13,10 @@ use Rattle.nr_model.specs.declared.calls.Reply.{Reply}
 use Rattle.nr_model.specs.declared.calls.Reply.TheVariants as reply
 use Rattle.nr_model.specs.Rows.{IsRowSet}
 use Rattle.nr_machine.specs.Slots.{name_number, names_slot}
+use Rattle.nr_machine.specs.declared.roles.Grip.{Grip}
+use Rattle.nr_machine.specs.declared.roles.Grip.TheVariants.{Nothing}
 use Rattle.nr_machine.specs.declared.roles.Role.{Role}
+use Rattle.nr_machine.specs.declared.roles.Role.TheVariants.{Reader}
 use Rattle.nr_marks.specs.Marks.{LoggedLoad, Marks, OfKey, acted, gripped, with_loads, with_look}
 use Rattle.nr_marks.specs.MarkSteps.{found_again}
 use Rattle.nr_marks.specs.Puts.{put_number}
@@ -26,7 +29,8 @@ use Rattle.nr_board.specs.Holds.{HeldAs, HeldIn, HoleIn, HoldsWhatItSays, finds_
 use Rattle.nr_board.specs.declared.board.Own.{Own}
 use Rattle.nr_board.specs.declared.holds.Held.{Held}
 use Rattle.nr_board.specs.Meetings.{HasPut}
-use Rattle.nr_board.specs.Views.{grip_of, rows_held, slot_held}
+use Rattle.nr_board.specs.Plays.{holding}
+use Rattle.nr_board.specs.Views.{caller_number, grip_of, is_sized, rows_held, slot_held}
 use Rattle.nr_map.specs.declared.hand.Kept.{Kept}
 use Rattle.nr_map.specs.Pins.{HoldsSlot, Pins}
 use Rattle.nr_map.specs.Hands.{AskedBefore, AsksInVain, FindsNone, Handed, HoldsAnew, HoldsKey, HoldsNothing, IsHand}
@@ -440,6 +444,13 @@ pin_says own held seat pins = held_says (token seat).table held seat pins.holds
 pub hand_says : (own : Own) (held : Option Kept) (seat : MapSeat) → IsHand seat own held → HoldsWhatItSays (token seat)
 hand_says own None seat is = λ loud. absurd (omega (arith, loud, is.1.silent))
 hand_says own (Some kept) seat is = pin_says own kept.set seat is
+
+-- a hand's seat is a reader's, whatever it holds
+pub hand_role : (own : Own) (held : Option Kept) (seat : MapSeat) → IsHand seat own held
+    → (grip : Grip) × (seat.me.0.role ≡ Reader (caller_number seat.me.0.role) grip)
+hand_role own None seat is = (Nothing, is.1.idle)
+hand_role own (Some kept) seat is = let role : Role = seat.me.0.role in
+    (grip_of (holding role (is_sized (grip_of role))), is.holds.holds.holds.is)
 
 -- who holds by its word says so
 pub loud_by_word : (own : Own) (held : Held) (seat : MapSeat) → Pins seat own held → 0 < held.says → 0 < seat.me.0.says
