@@ -16,7 +16,7 @@ use Rattle.nr_marks.specs.Pasts.{AllCurrent, AllKnown, AllReaders, Current}
 use Rattle.nr_board.specs.Callers.{Caller, Table}
 use Rattle.nr_map.specs.Hands.{Handed}
 use Rattle.nr_alone.specs.MapState.{is_full, pinned_puts, put_of}
-use Rattle.nr_alone.specs.Hands.{HandHoldsItsPin, HoldsItsPin, caller_in, how_of, pin_for, pin_of}
+use Rattle.nr_alone.specs.Hands.{HandHoldsItsPin, HoldsItsPin, how_of, pin_for, pin_of}
 use Rattle.nr_alone.specs.Alone.{IsAlone, IsKnown, log_of, shown_after}
 
 some_put : (slot : Option ℕ) (put : ℕ) → IsSome slot → Some put ≡ option_map (λ (s : ℕ). put) slot
@@ -54,7 +54,7 @@ module _ (table : Table) (w : Caller) (hands : List Handed) (alone : IsAlone tab
         at,
         how_of there.0,
         at_maps how_of hands at there.0 there.1,
-        ap (λ (s : Handed). (caller_in s).number) (sym (or_is hands at there.0 there.0 there.1))
+        ap (λ (s : Handed). s.reader.number) (sym (or_is hands at there.0 there.0 there.1))
             ∙ (alone.places at there.0 (inside hands at there.0 there.1)).number,
       )
 

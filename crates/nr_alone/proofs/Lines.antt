@@ -25,7 +25,7 @@ use Rattle.nr_alone.specs.Answers.{Answer}
 use Rattle.nr_alone.specs.Answers as answers
 use Rattle.nr_map.specs.Hands.{Handed}
 use Rattle.nr_alone.specs.MapState.{Pin, MapState, after_call, answer_call, is_full}
-use Rattle.nr_alone.specs.Hands.{HandHoldsItsPin, caller_in, how_of, mine_of, pin_of}
+use Rattle.nr_alone.specs.Hands.{HandHoldsItsPin, how_of, mine_of, pin_of}
 use Rattle.nr_alone.specs.Rounds.{Gathered}
 use Rattle.nr_alone.specs.Alone.{IsAlone, IsHand, Laws, calls_of, log_of, shown_by, shown_after}
 use Rattle.nr_alone.specs.Lines.{IsLine, SettlesLine}
@@ -80,8 +80,8 @@ module _ (table : Table) (w0 : Caller) (hands0 : List Handed) (alone : IsAlone t
   }
 
   module _ (at : ℕ) (x : Handed) (low : at < length hands0) (are : AreOf (suc at) es)
-      (same_table : (caller_in x).table ≡ (caller_in (get_or hands0 at x)).table)
-      (same_number : (caller_in x).number ≡ (caller_in (get_or hands0 at x)).number)
+      (same_table : x.reader.table ≡ (get_or hands0 at x).reader.table)
+      (same_number : x.reader.number ≡ (get_or hands0 at x).reader.number)
       (mine : mine_of x ≡ mine_of (get_or hands0 at x) ++ es) (fits : HandHoldsItsPin x) where
     placed : (P : ℕ → Handed → Type 0)
         → ((k : ℕ) (other : Handed) → k < length hands0 → P k (get_or hands0 k other)) → P at x

@@ -14,7 +14,7 @@ use Rattle.nr_board.specs.Callers.{Caller, Table}
 use Rattle.nr_map.specs.Opened.{IsOpened, newcomer}
 use Rattle.nr_map.specs.Hands.{Handed, idle}
 use Rattle.nr_alone.specs.MapState.{Pin, opened_map}
-use Rattle.nr_alone.specs.Hands.{HandHoldsItsPin, caller_in, mine_of, pin_of}
+use Rattle.nr_alone.specs.Hands.{HandHoldsItsPin, mine_of, pin_of}
 use Rattle.nr_alone.specs.Rounds.{Gathered}
 use Rattle.nr_alone.specs.Alone.{IsAlone, Laws, calls_of, log_of, made, shown_by, shown_after}
 use Rattle.nr_alone.specs.Lines.{IsLine, SettlesLine}
@@ -77,8 +77,8 @@ module _ (laws : Laws) (shape : Shape) (table : Table) (w : Caller) (readers : L
     seen = starts_same w.seen;
     size = refl;
     places = λ at other low. record {
-      table = ap (λ (s : Handed). (caller_in s).table) (hand_at at other low);
-      number = ap (λ (s : Handed). (caller_in s).number) (hand_at at other low) ∙ next at;
+      table = ap (λ (s : Handed). s.reader.table) (hand_at at other low);
+      number = ap (λ (s : Handed). s.reader.number) (hand_at at other low) ∙ next at;
       fits = subst HandHoldsItsPin (sym (hand_at at other low)) refl;
     };
     grown = λ caller. sym (append-nil (calls_of w.mine (map mine_of hands) caller));
@@ -112,8 +112,8 @@ module _ (laws : Laws) (shape : Shape) (table : Table) (w : Caller) (readers : L
       ∙ (λ j. record (opened_map shape) { puts = no_puts 0 shape.keys j })
 
 pub all_idle : (t : Table) (readers : List Caller) → All (λ (r : Caller). r.table ≡ t) readers
-    → All (λ (s : Handed). (caller_in s).table ≡ t) (map idle readers)
+    → All (λ (s : Handed). s.reader.table ≡ t) (map idle readers)
 all_idle t readers own at other low =
     let inside : at < length readers = omega (arith, many_idle readers, low) in
-    ap (λ (s : Handed). (caller_in s).table) (get_or-map idle readers at (caller_in other) other inside)
-    ∙ own at (caller_in other) inside
+    ap (λ (s : Handed). s.reader.table) (get_or-map idle readers at other.reader other inside)
+    ∙ own at other.reader inside

@@ -17,7 +17,7 @@ use Rattle.nr_map.specs.ExactPlaces.{OnlyLearnt}
 use Rattle.nr_board.specs.Meetings.{Gathers, Learns, how_is}
 use Rattle.nr_board.specs.Rule.{StartsWith}
 use Rattle.nr_map.specs.Hands.{Handed}
-use Rattle.nr_alone.specs.Hands.{Still, caller_in, how_of, mine_of, still}
+use Rattle.nr_alone.specs.Hands.{Still, how_of, mine_of, still}
 use Rattle.nr_alone.specs.Rounds.{Gathered, GathersHand, IsShown, IsSoundWriter, Round, WriterStays}
 
 pub starts_same : (xs : List Entry) → StartsWith xs xs
@@ -106,7 +106,7 @@ same_reader steps old new
 
 pub same_still : (w : Caller) (s : Handed) (w' : Caller) (s' : Handed) → GathersHand w s w' s'
     → still s' ≡ still s
-same_still w s w' s' g = let l = g.gathers.of_writer.learns in let how = same_reader 2 (caller_in s) (caller_in s') l in
+same_still w s w' s' g = let l = g.gathers.of_writer.learns in let how = same_reader 2 s.reader s'.reader l in
     λ j. record { table = l.table j; mine = l.mine j; how = how j; pin = g.pin j }
 
 pub place_on : (news known : List Past) (place : ℕ) (one : Past) → get_elem? known place ≡ some one
@@ -136,17 +136,17 @@ shown_on log w r w' r' x g s =
 pub shown_now : (log : List Entry) (w : Caller) (s : Handed) (w' : Caller) (s' : Handed)
     → GathersHand w s w' s' → StartsWith w'.seen log → IsShown log w' s'
 shown_now log w s w' s' g later =
-    let l = g.gathers.of_writer.learns in let how = same_reader 2 (caller_in s) (caller_in s') l in
-    let all : entries_of w'.seen (caller_in s').number ≡ mine_of s'
+    let l = g.gathers.of_writer.learns in let how = same_reader 2 s.reader s'.reader l in
+    let all : entries_of w'.seen s'.reader.number ≡ mine_of s'
     = ap (λ (n : ℕ). entries_of w'.seen n) l.number ∙ g.gathers.all ∙ sym l.mine in
     record {
       few =
-          subst (λ (m : List Entry). StartsWith m (entries_of log (caller_in s').number)) all
-          (starts_each w'.seen log (caller_in s').number later);
+          subst (λ (m : List Entry). StartsWith m (entries_of log s'.reader.number)) all
+          (starts_each w'.seen log s'.reader.number later);
       place = g.gathers.place;
       known = g.gathers.known ∙ ap some (sym how);
       current = subst (λ (p : Past). Current w'.retired w'.marks p) (sym how) g.gathers.current;
-      heard = starts_then log w'.seen (caller_in s').seen later g.gathers.of_writer.seen;
+      heard = starts_then log w'.seen s'.reader.seen later g.gathers.of_writer.seen;
     }
 
 -- the hand at the next place was gathered
@@ -156,7 +156,7 @@ module _ (log : List Entry) (w w' : Caller) (s s' : Handed) (hands : List Handed
       → IsShown log w' (get_or (set hands i s') at other)
   elsewhere at other apart shown =
       subst (λ (x : Handed). IsShown log w' x) (sym (get_or-set_other hands i at s' other apart))
-      (shown_on log w (caller_in s) w' (caller_in s') (get_or hands at other) g.gathers shown)
+      (shown_on log w s.reader w' s'.reader (get_or hands at other) g.gathers shown)
 
   here : (other : Handed) → IsShown log w' (get_or (set hands i s') i other)
   here other =
@@ -197,7 +197,7 @@ same_at xs ys e at a b low = let low' : at < length ys = omega (arith, same_leng
     ∙ get_or-map still ys at b (still a) low'
 
 pub tables_on : (t : Table) (xs ys : List Handed) → map still ys ≡ map still xs
-    → All (λ (s : Handed). (caller_in s).table ≡ t) xs → All (λ (s : Handed). (caller_in s).table ≡ t) ys
+    → All (λ (s : Handed). s.reader.table ≡ t) xs → All (λ (s : Handed). s.reader.table ≡ t) ys
 tables_on t xs ys e own at other low = let low' : at < length xs = omega (arith, same_length ys xs e) in
     ap (λ (s : Still). s.table) (same_at ys xs e at other other low) ∙ own at other low'
 
@@ -213,10 +213,10 @@ round_over w hands at w1 old s1 w' hands' low item g r =
     record {
       mid = w1;
       stays = learns_stays 2 w w1 g.gathers.of_reader.learns;
-      sound = gather_sound w (caller_in old) w1 (caller_in s1) g.gathers;
-      all = λ other. subst (λ (x : Handed). entries_of w1.seen (caller_in x).number ≡ mine_of x) (same_place other)
+      sound = gather_sound w old.reader w1 s1.reader g.gathers;
+      all = λ other. subst (λ (x : Handed). entries_of w1.seen x.reader.number ≡ mine_of x) (same_place other)
           g.gathers.all;
-      heard = λ other. subst (λ (x : Handed). StartsWith w1.seen (caller_in x).seen) (same_place other)
+      heard = λ other. subst (λ (x : Handed). StartsWith w1.seen x.reader.seen) (same_place other)
           g.gathers.of_reader.seen;
       round = record {
         stays = r.stays;

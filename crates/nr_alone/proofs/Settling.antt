@@ -9,7 +9,7 @@ use Rattle.nr_model.specs.Histories.{Entry, entries_of}
 use Rattle.nr_board.specs.Callers.{Caller, Table}
 use Rattle.nr_board.specs.Rule.{StartsWith}
 use Rattle.nr_map.specs.Hands.{Handed, idle}
-use Rattle.nr_alone.specs.Hands.{HoldsItsPin, Still, caller_in, mine_of, still}
+use Rattle.nr_alone.specs.Hands.{HoldsItsPin, Still, mine_of, still}
 use Rattle.nr_alone.specs.Rounds.{Gathered}
 use Rattle.nr_alone.specs.Alone.{HasJust, IsHand, Laws, ReadyForRound, calls_of, log_of}
 use Rattle.nr_alone.specs.Lines.{IsLine, SettlesLine}
@@ -56,7 +56,7 @@ module _ (laws : Laws) (table : Table) (w0 : Caller) (hands0 : List Handed) (w :
       let shown = g.round.each at other low in
       let same : still (get_or hands' at other) ≡ still (get_or hands at other)
       = same_at hands' hands g.round.same at other other (omega (arith, size, low)) in
-      let number : (caller_in (get_or hands' at other)).number ≡ suc at
+      let number : (get_or hands' at other).reader.number ≡ suc at
       = ap (λ (s : Still). s.how.reader) same ∙ (line.places at other low).number in
       let most : StartsWith (mine_of (get_or hands at other)) (entries_of g.mid.seen (suc at)) =
       subst (λ (m : List Entry). StartsWith m (entries_of g.mid.seen (suc at))) (ap (λ (s : Still). s.mine) same)
@@ -158,7 +158,7 @@ module _ (laws : Laws) (table : Table) (w0 : Caller) (hands0 : List Handed) (w :
         known = shown.known;
         current = shown.current;
         heard =
-            subst (λ (l : List Entry). StartsWith (caller_in (get_or hands' at other)).seen l) (mid_is ∙ sym log_now)
+            subst (λ (l : List Entry). StartsWith (get_or hands' at other).reader.seen l) (mid_is ∙ sym log_now)
             shown.heard;
       };
     };

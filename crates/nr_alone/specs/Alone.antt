@@ -46,12 +46,12 @@ pub record IsKnown (log : List Entry) (writer : Caller) (hand : Handed) : Type 0
   pub place : ℕ
   pub known : get_elem? writer.pasts place ≡ some (how_of hand)
   pub current : Current writer.retired writer.marks (how_of hand)
-  pub heard : StartsWith (caller_in hand).seen log
+  pub heard : StartsWith hand.reader.seen log
 
 -- the hand at an index is of the map, and its reader's number is the next one
 pub record IsHand (map : Table) (at : ℕ) (hand : Handed) : Type 0 where
-  pub table : (caller_in hand).table ≡ map
-  pub number : (caller_in hand).number ≡ suc at
+  pub table : hand.reader.table ≡ map
+  pub number : hand.reader.number ≡ suc at
   pub fits : HandHoldsItsPin hand
 
 -- what stood before a line as far as its round needs it: the history has exactly the calls

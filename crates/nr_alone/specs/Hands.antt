@@ -20,10 +20,11 @@ use Rattle.nr_alone.specs.declared.answer.PinRefusal.{PinRefusal}
 use Rattle.nr_alone.specs.declared.answer.PinRefusal.TheVariants as refusals
 use Rattle.nr_map.specs.Hands.{Handed}
 
+-- the reader of a hand
 abbrev pub caller_in : Handed → Caller
 caller_in hand = hand.reader
 
--- what the reader has pinned
+-- what a hand has pinned that holds the set of that key, or nothing
 abbrev pub pin_for : Handed → Option ℕ → Option Pin
 pin_for hand held = option_map (λ (key : ℕ). record { key = key; rows = hand.rows; put = hand.reader.marks.put }) held
 
@@ -31,10 +32,10 @@ abbrev pub pin_of : Handed → Option Pin
 pin_of hand = pin_for hand hand.key
 
 abbrev pub how_of : Handed → Past
-how_of hand = how_is (caller_in hand)
+how_of hand = how_is hand.reader
 
 abbrev pub mine_of : Handed → List Entry
-mine_of hand = (caller_in hand).mine
+mine_of hand = hand.reader.mine
 
 -- what gathers leave of a hand
 pub record Still : Type 0 where
@@ -44,7 +45,7 @@ pub record Still : Type 0 where
   pub pin : Option Pin
 
 abbrev pub still : Handed → Still
-still hand = record { table = (caller_in hand).table; mine = mine_of hand; how = how_of hand; pin = pin_of hand }
+still hand = record { table = hand.reader.table; mine = mine_of hand; how = how_of hand; pin = pin_of hand }
 
 -- a reader holds a slot exactly where it has a pin
 abbrev pub HoldsItsPin : Option Pin → Option ℕ → Type 0
@@ -52,7 +53,7 @@ HoldsItsPin None slot = slot ≡ None
 HoldsItsPin (Some pin) slot = IsSome slot
 
 abbrev pub HandHoldsItsPin : Handed → Type 0
-HandHoldsItsPin hand = HoldsItsPin (pin_of hand) (caller_in hand).holds
+HandHoldsItsPin hand = HoldsItsPin (pin_of hand) hand.reader.holds
 
 -- a reader's call with its reply; the history that it knew before had all that was heard
 pub record Calls (heard : List Entry) (call : Call) (old new : Caller) (reply' : Reply) : Type 0 where
@@ -72,7 +73,7 @@ NotesFor old new (Err refusal) = new ≡ old
 
 abbrev pub MakesCall : List Entry → Call → Handed → Handed → Result Answer PinRefusal → Type 0
 MakesCall heard call old new (Ok answer) =
-    (reply' : Reply) × (answer ≡ answers.Reply reply') × Calls heard call (caller_in old) (caller_in new) reply'
+    (reply' : Reply) × (answer ≡ answers.Reply reply') × Calls heard call old.reader new.reader reply'
     × (pin_of old ≡ None) × (pin_of new ≡ None) × HandHoldsItsPin new
 MakesCall heard call old new (Err refusals.Holding) = (new ≡ old) × IsSome (pin_of old)
 MakesCall heard call old new (Err refusals.NotHolding) = ⊥
@@ -80,12 +81,12 @@ MakesCall heard call old new (Err refusals.NotHolding) = ⊥
 -- a pin is a find: of a filled key it holds the rows of the reply, with the put number that the key had
 abbrev pub MakesPin : List Entry → ℕ → Handed → Handed → Result Answer PinRefusal → Type 0
 MakesPin heard key old new (Ok answers.Ok) =
-    (rows : List Row) × Calls heard (model.Find key) (caller_in old) (caller_in new) (reply.Rows rows)
+    (rows : List Row) × Calls heard (model.Find key) old.reader new.reader (reply.Rows rows)
     × (pin_of old ≡ None)
-    × (pin_of new ≡ Some (record { key = key; rows = rows; put = put_number (caller_in new).seen key }))
+    × (pin_of new ≡ Some (record { key = key; rows = rows; put = put_number new.reader.seen key }))
     × HandHoldsItsPin new
 MakesPin heard key old new (Ok (answers.Reply reply')) =
-    (reply' ≡ reply.Hole) × Calls heard (model.Find key) (caller_in old) (caller_in new) reply.Hole
+    (reply' ≡ reply.Hole) × Calls heard (model.Find key) old.reader new.reader reply.Hole
     × (pin_of old ≡ None) × (pin_of new ≡ None) × HandHoldsItsPin new
 MakesPin heard key old new (Ok answers.Other) = ⊥
 MakesPin heard key old new (Ok answers.NoSlot) = ⊥
@@ -95,20 +96,20 @@ MakesPin heard key old new (Err refusals.NotHolding) = ⊥
 -- the end of a pin
 abbrev pub Unpins : Handed → Handed → Result Answer PinRefusal → Type 0
 Unpins old new (Ok answer) =
-    (answer ≡ answers.Ok) × Rests 1 (caller_in old) (caller_in new) × IsSome (pin_of old) × (pin_of new ≡ None)
+    (answer ≡ answers.Ok) × Rests 1 old.reader new.reader × IsSome (pin_of old) × (pin_of new ≡ None)
     × HandHoldsItsPin new
 Unpins old new (Err refusals.Holding) = ⊥
 Unpins old new (Err refusals.NotHolding) = (new ≡ old) × (pin_of old ≡ None)
 
 -- what stays of a reader that reads by its pin
 abbrev pub KeepsPin : Handed → Handed → Type 0
-KeepsPin old new = (pin_of new ≡ pin_of old) × ((caller_in new).holds ≡ (caller_in old).holds)
+KeepsPin old new = (pin_of new ≡ pin_of old) × (new.reader.holds ≡ old.reader.holds)
 
 -- steps that read the pinned rows
 abbrev pub ShowsPin : Handed → Handed → Result Answer PinRefusal → Type 0
 ShowsPin old new (Ok answer) =
     (pin : Pin) × (pin_of old ≡ Some pin) × (answer ≡ answers.Reply (reply.Rows pin.rows)) × (steps : ℕ)
-    × Rests steps (caller_in old) (caller_in new)
+    × Rests steps old.reader new.reader
     × KeepsPin old new
 ShowsPin old new (Err refusals.Holding) = ⊥
 ShowsPin old new (Err refusals.NotHolding) = (new ≡ old) × (pin_of old ≡ None)
@@ -118,11 +119,11 @@ ShowsPin old new (Err refusals.NotHolding) = (new ≡ old) × (pin_of old ≡ No
 abbrev pub FindsAgain : ℕ → Handed → Handed → Result Answer PinRefusal → Type 0
 FindsAgain key old new (Ok (answers.Reply reply')) =
     (pin : Pin) × (pin_of old ≡ Some pin) × (reply' ≡ reply.Rows pin.rows)
-    × Calls (caller_in old).seen (model.Find key) (caller_in old) (caller_in new) reply'
-    × HasPut key pin.put (caller_in new) × KeepsPin old new
+    × Calls old.reader.seen (model.Find key) old.reader new.reader reply'
+    × HasPut key pin.put new.reader × KeepsPin old new
 FindsAgain key old new (Ok answers.Other) =
-    (pin : Pin) × (pin_of old ≡ Some pin) × Grows 1 [] (caller_in old) (caller_in new)
-    × (HasPut key pin.put (caller_in new) → ⊥) × KeepsPin old new
+    (pin : Pin) × (pin_of old ≡ Some pin) × Grows 1 [] old.reader new.reader
+    × (HasPut key pin.put new.reader → ⊥) × KeepsPin old new
 FindsAgain key old new (Ok answers.Ok) = ⊥
 FindsAgain key old new (Ok answers.NoSlot) = ⊥
 FindsAgain key old new (Err refusals.Holding) = ⊥

@@ -11,10 +11,10 @@ use Rattle.nr_map.specs.ExactPlaces.{OnlyLearnt}
 use Rattle.nr_board.specs.Meetings.{Gathers, desk_seen}
 use Rattle.nr_board.specs.Rule.{StartsWith}
 use Rattle.nr_map.specs.Hands.{Handed}
-use Rattle.nr_alone.specs.Hands.{caller_in, how_of, mine_of, pin_of, still}
+use Rattle.nr_alone.specs.Hands.{how_of, mine_of, pin_of, still}
 
 pub record GathersHand (writer : Caller) (hand : Handed) (writer' : Caller) (hand' : Handed) : Type 0 where
-  pub gathers : Gathers writer (caller_in hand) writer' (caller_in hand')
+  pub gathers : Gathers writer hand.reader writer' hand'.reader
   pub pin : pin_of hand' ≡ pin_of hand
 
 -- what a writer's history is, and what it has of the writer and of others
@@ -27,11 +27,11 @@ pub record IsSoundWriter (writer : Caller) : Type 0 where
 -- what the writer learnt of a reader, and the reader of the writer; `log` is what the writer knew first: it has no more
 -- calls of the reader than the reader made
 pub record IsShown (log : List Entry) (writer : Caller) (hand : Handed) : Type 0 where
-  pub few : StartsWith (mine_of hand) (entries_of log (caller_in hand).number)
+  pub few : StartsWith (mine_of hand) (entries_of log hand.reader.number)
   pub place : ℕ
   pub known : get_elem? writer.pasts place ≡ some (how_of hand)
   pub current : Current writer.retired writer.marks (how_of hand)
-  pub heard : StartsWith (caller_in hand).seen log
+  pub heard : StartsWith hand.reader.seen log
 
 -- the writer made no call, and forgot nothing
 pub record WriterStays (old new : Caller) : Type 0 where
@@ -55,8 +55,8 @@ pub record Gathered (first : ℕ) (writer : Caller) (hands : List Handed) (write
   pub stays : WriterStays writer mid
   pub sound : IsSoundWriter mid
   pub all : (other : Handed)
-      → entries_of mid.seen (caller_in (slice_index_or hands first other)).number
+      → entries_of mid.seen (slice_index_or hands first other).reader.number
       ≡ mine_of (slice_index_or hands first other)
   -- so it has all that the reader had seen
-  pub heard : (other : Handed) → StartsWith mid.seen (caller_in (slice_index_or hands first other)).seen
+  pub heard : (other : Handed) → StartsWith mid.seen (slice_index_or hands first other).reader.seen
   pub round : Round mid hands writer' hands'

@@ -2,7 +2,6 @@
 ghost use Rattle.std.specs.Prelude.{◌≡◌, ◌≤◌, ◌<◌, ◌↔◌, All, length, Ok, Err, IfOk, map as each_of};
 ghost use Rattle.nr_machine.specs.Sizes.{IsBadShape};
 ghost use Rattle.nr_model.specs.declared.rows.TheConstants.{MAX_ROWS};
-ghost use Rattle.nr_alone.specs.Hands.{caller_in};
 ghost use Rattle.nr_alone.specs.WriterCalls.{model_call, writer_key};
 ghost use Rattle.nr_map.specs.Hands.{idle};
 
@@ -206,7 +205,7 @@ fn hands_of(alloc: Global, readers: Vec<Reader>) -> Result<Vec<Hand>, AllocError
 }
 
 fn end_hands(map: &ReaderMap, mut hands: Vec<Hand>)
-    requires { All (λ s. (caller_in s).table ≡ map.now) hands.items }
+    requires { All (λ s. s.reader.table ≡ map.now) hands.items }
 {
     while let Some(hand) = hands.pop() {
         hand.into_reader(map);

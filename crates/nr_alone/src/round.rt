@@ -1,7 +1,6 @@
 //! A round of gathers, with the hand of the line first.
 ghost use Rattle.std.specs.Prelude.{◌≡◌, ◌<◌, All, length, slice_index_or};
 ghost use Rattle.nr_map.specs.Hands.{Handed};
-ghost use Rattle.nr_alone.specs.Hands.{caller_in};
 ghost use Rattle.nr_alone.specs.Rounds.{GathersHand, IsShown, IsSoundWriter, Round, Gathered};
 
 use nr_map::{Hand, ReaderMap, Writer};
@@ -9,7 +8,7 @@ use nr_map::{Hand, ReaderMap, Writer};
 /// Gathers every reader, that of the first hand before the others.
 pub(crate) fn gather_round(map: &ReaderMap, writer: &mut Writer, hands: &mut [Hand], first: usize)
     requires own { writer.old.table ≡ map.now }
-    requires hands { All (λ s. (caller_in s).table ≡ map.now) hands.old }
+    requires hands { All (λ s. s.reader.table ≡ map.now) hands.old }
     requires first { first < length hands.old }
     ensures { Gathered first writer.old hands.old writer.new hands.new }
 {
@@ -19,7 +18,7 @@ pub(crate) fn gather_round(map: &ReaderMap, writer: &mut Writer, hands: &mut [Ha
 
 fn gather_others(map: &ReaderMap, writer: &mut Writer, hands: &mut [Hand], first: usize)
     requires own { writer.old.table ≡ map.now }
-    requires hands { All (λ s. (caller_in s).table ≡ map.now) hands.old }
+    requires hands { All (λ s. s.reader.table ≡ map.now) hands.old }
     requires sound { IsSoundWriter writer.old }
     requires first { (other : Handed) → IsShown writer.old.seen writer.old (slice_index_or hands.old first other) }
     ensures { Round writer.old hands.old writer.new hands.new }
@@ -32,7 +31,7 @@ fn gather_others(map: &ReaderMap, writer: &mut Writer, hands: &mut [Hand], first
 }
 
 fn gather_one(map: &ReaderMap, writer: &mut Writer, hand: &mut Hand)
-    requires own { (writer.old.table ≡ map.now) × ((caller_in hand.old).table ≡ map.now) }
+    requires own { (writer.old.table ≡ map.now) × (hand.old.reader.table ≡ map.now) }
     ensures { GathersHand writer.old hand.old writer.new hand.new }
 {
     map.gather_hand(writer, hand);

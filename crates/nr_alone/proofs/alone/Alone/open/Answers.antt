@@ -2,7 +2,6 @@ use Rattle.std.proofs.Common.{◌≡◌, ◌<◌, ◌≤◌, inl, inr, ⊎_elim,
 use Rattle.std.proofs.lemmas.Bool.{cases_lt}
 use Rattle.std.proofs.lemmas.List.{with_items_is}
 use Rattle.nr_map.specs.Hands.{Handed, idle}
-use Rattle.nr_alone.specs.Hands.{caller_in}
 use Rattle.nr_alone.specs.Alone.{IsAlone, shown_by}
 use Rattle.nr_alone.specs.Rounds.{Gathered}
 use Rattle.nr_alone.proofs.Rounds.{same_length}
@@ -12,7 +11,7 @@ use Rattle.nr_alone.proofs.alone.Alone.open.Goals as goal
 pub gather_round-requires-clause-hands : goal.gather_round-requires-clause-hands
 gather_round-requires-clause-hands c =
     let is = c.as_mut_slice.ensures.value ∙ c.in-Ok.ensures in
-    subst (λ (l : List Handed). All (λ (s : Handed). (caller_in s).table ≡ c.in_ok-map.map) l) (sym is)
+    subst (λ (l : List Handed). All (λ (s : Handed). s.reader.table ≡ c.in_ok-map.map) l) (sym is)
     (all_idle c.in_ok-map.map c.in_ok-map.readers.items c.in_ok-map.ensures.ok.own)
 
 pub invariant_of-result : goal.invariant_of-result
