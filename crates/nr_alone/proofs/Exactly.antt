@@ -15,11 +15,10 @@ use Rattle.nr_board.proofs.Entries.{callers_before}
 use Rattle.nr_board.specs.Entries.{AreCallers}
 use Rattle.nr_map.specs.Rounds.{EntriesAreCallers}
 use Rattle.nr_board.specs.Rule.{StartsWith}
-use Rattle.nr_alone.specs.declared.reader_token.ReaderToken.{ReaderToken}
-use Rattle.nr_alone.specs.declared.reader_token.ReaderToken.TheVariants.{Idle}
-use Rattle.nr_alone.specs.Tokens.{caller_in, mine_of}
+use Rattle.nr_map.specs.Hands.{Handed, idle}
+use Rattle.nr_alone.specs.Hands.{caller_in, mine_of}
 use Rattle.nr_alone.specs.Rounds.{IsSoundWriter}
-use Rattle.nr_alone.specs.Alone.{HasJust, IsToken, calls_of, log_of, made, one_each}
+use Rattle.nr_alone.specs.Alone.{HasJust, IsHand, calls_of, log_of, made, one_each}
 
 pub entries_own : (entry : Entry) (log : List Entry) (caller : ℕ) → entry.caller ≡ caller
     → entries_of (entry ∷ log) caller ≡ entry ∷ entries_of log caller
@@ -80,34 +79,34 @@ count_all : (xs : List Entry) → count_by one_each xs ≡ length xs
 count_all [] = refl
 count_all (x ∷ xs) = omega (arith, sum_by-cons (λ (y : Entry). cond (one_each y) 1 0) x xs, count_all xs)
 
-many_callers : (xs : List ReaderToken) → length (map caller_in xs) ≡ length xs
+many_callers : (xs : List Handed) → length (map caller_in xs) ≡ length xs
 many_callers [] = refl
 many_callers (x ∷ xs) = ap suc (many_callers xs)
 
-pub many_mines : (xs : List ReaderToken) → length (map mine_of xs) ≡ length xs
+pub many_mines : (xs : List Handed) → length (map mine_of xs) ≡ length xs
 many_mines [] = refl
 many_mines (x ∷ xs) = ap suc (many_mines xs)
 
 -- the calls of the caller at a place
-pub calls_at : (mine : List Entry) (tokens : List ReaderToken) (at : ℕ) (other : ReaderToken) → at < length tokens
-    → calls_of mine (map mine_of tokens) (suc at) ≡ mine_of (get_or tokens at other)
-calls_at mine tokens at other low = get_or-map mine_of tokens at other [] low
+pub calls_at : (mine : List Entry) (hands : List Handed) (at : ℕ) (other : Handed) → at < length hands
+    → calls_of mine (map mine_of hands) (suc at) ≡ mine_of (get_or hands at other)
+calls_at mine hands at other low = get_or-map mine_of hands at other [] low
 
 next : (at : ℕ) → suc at ≡ at + 1
 next at = omega arith
 
 -- a history with exactly the calls that were made is as long as they are many
 pub as_many : EntriesAreCallers → LegalBegins
-    → (table : Table) (w : Caller) (tokens : List ReaderToken) (log : List Entry) → w.table ≡ table → w.number ≡ 0
-    → length tokens ≡ table.shape.readers
-    → ((at : ℕ) (other : ReaderToken) → at < length tokens → IsToken table at (get_or tokens at other))
-    → IsSoundWriter w → StartsWith w.seen log → HasJust log w tokens → length log ≡ made w tokens
-as_many entries begins table w tokens log own zero_is count places sound goes just =
-    let size : length (map caller_in tokens) ≡ length tokens = many_callers tokens in
-    let inside : (at : ℕ) → at < length (map caller_in tokens) → at < length tokens
+    → (table : Table) (w : Caller) (hands : List Handed) (log : List Entry) → w.table ≡ table → w.number ≡ 0
+    → length hands ≡ table.shape.readers
+    → ((at : ℕ) (other : Handed) → at < length hands → IsHand table at (get_or hands at other))
+    → IsSoundWriter w → StartsWith w.seen log → HasJust log w hands → length log ≡ made w hands
+as_many entries begins table w hands log own zero_is count places sound goes just =
+    let size : length (map caller_in hands) ≡ length hands = many_callers hands in
+    let inside : (at : ℕ) → at < length (map caller_in hands) → at < length hands
     = λ at low. omega (arith, size, low) in
     sym (count_all log) ∙
-    entries (record w { seen = log }) (map caller_in tokens) one_each (record {
+    entries (record w { seen = log }) (map caller_in hands) one_each (record {
       number = zero_is;
       own = ap (entries_of log) zero_is ∙ just 0;
       legal =
@@ -118,25 +117,25 @@ as_many entries begins table w tokens log own zero_is count places sound goes ju
           (subst (λ (l : List Entry). AreCallers w.table.shape l) goes.is sound.callers);
       count = size ∙ count ∙ ap (λ (t : Table). t.shape.readers) (sym own);
       numbers = λ at other low.
-          ap (λ (r : Caller). r.number) (get_or-map caller_in tokens at (Idle other) other (inside at low))
-          ∙ (places at (Idle other) (inside at low)).number ∙ next at;
+          ap (λ (r : Caller). r.number) (get_or-map caller_in hands at (idle other) other (inside at low))
+          ∙ (places at (idle other) (inside at low)).number ∙ next at;
       each = λ at other low.
           subst (λ (r : Caller). entries_of log r.number ≡ r.mine)
-          (sym (get_or-map caller_in tokens at (Idle other) other (inside at low)))
-          (ap (entries_of log) (places at (Idle other) (inside at low)).number ∙ just (suc at)
-          ∙ calls_at w.mine tokens at (Idle other) (inside at low));
+          (sym (get_or-map caller_in hands at (idle other) other (inside at low)))
+          (ap (entries_of log) (places at (idle other) (inside at low)).number ∙ just (suc at)
+          ∙ calls_at w.mine hands at (idle other) (inside at low));
     })
 
 -- so it is the one that the invariant names
 pub log_is : EntriesAreCallers → LegalBegins
-    → (table : Table) (w : Caller) (tokens : List ReaderToken) (log : List Entry) → w.table ≡ table → w.number ≡ 0
-    → length tokens ≡ table.shape.readers
-    → ((at : ℕ) (other : ReaderToken) → at < length tokens → IsToken table at (get_or tokens at other))
-    → IsSoundWriter w → StartsWith w.seen log → HasJust log w tokens → log_of w tokens ≡ log
-log_is entries begins table w tokens log own zero_is count places sound goes just =
+    → (table : Table) (w : Caller) (hands : List Handed) (log : List Entry) → w.table ≡ table → w.number ≡ 0
+    → length hands ≡ table.shape.readers
+    → ((at : ℕ) (other : Handed) → at < length hands → IsHand table at (get_or hands at other))
+    → IsSoundWriter w → StartsWith w.seen log → HasJust log w hands → log_of w hands ≡ log
+log_is entries begins table w hands log own zero_is count places sound goes just =
     ap (λ (n : ℕ). take n w.seen)
-    (sym (as_many entries begins table w tokens log own zero_is count places sound goes just))
+    (sym (as_many entries begins table w hands log own zero_is count places sound goes just))
     ∙ ap (λ (l : List Entry). take (length log) l) goes.is ∙ take-append_seam log goes.rest
 
-pub log_begins : (w : Caller) (tokens : List ReaderToken) → StartsWith w.seen (log_of w tokens)
-log_begins w tokens = record { rest = drop (made w tokens) w.seen; is = sym (take-append-drop (made w tokens) w.seen) }
+pub log_begins : (w : Caller) (hands : List Handed) → StartsWith w.seen (log_of w hands)
+log_begins w hands = record { rest = drop (made w hands) w.seen; is = sym (take-append-drop (made w hands) w.seen) }

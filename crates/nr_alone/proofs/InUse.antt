@@ -1,9 +1,9 @@
--- The slots that are in use, as the state has them and as the readers' tokens show them.
+-- The slots that are in use, as the state has them and as the readers' hands show them.
 use Rattle.std.proofs.Common.{◌≡◌, ◌<◌, ℕ, suc, zero, ◌+◌, List, [], ◌∷◌, true, false, length, map, get_or, refl, sym}
 use Rattle.std.proofs.Common.{ap, ◌∙◌, subst, arith, eq-eqb, ne_eqb, Option, None, Some, option_map, IsSome}
 use mathlib.Core.Option.{some, some-injective, some-ne-none}
 use lib.ListN.{get_elem?}
-use Rattle.core.specs.List.{cons_option}
+use Rattle.std.specs.List.{cons_option}
 use Rattle.nr_model.specs.Histories.{Entry}
 use Rattle.nr_model.specs.Strays.{keyed, strays}
 use Rattle.nr_model.specs.Maps.{filled_count}
@@ -14,57 +14,57 @@ use Rattle.nr_marks.specs.MarkLaws.{slots_in_use}
 use Rattle.nr_marks.specs.Marks.{Past}
 use Rattle.nr_marks.specs.Pasts.{AllCurrent, AllKnown, AllReaders, Current}
 use Rattle.nr_board.specs.Callers.{Caller, Table}
-use Rattle.nr_alone.specs.declared.reader_token.ReaderToken.{ReaderToken}
-use Rattle.nr_alone.specs.declared.reader_token.ReaderToken.TheVariants.{Idle, Pinned}
+use Rattle.nr_map.specs.Hands.{Handed}
 use Rattle.nr_alone.specs.MapState.{is_full, pinned_puts, put_of}
-use Rattle.nr_alone.specs.Tokens.{TokenHoldsItsPin, caller_in, how_of, pin_of}
+use Rattle.nr_alone.specs.Hands.{HandHoldsItsPin, HoldsItsPin, how_of, pin_for, pin_of}
 use Rattle.nr_alone.specs.Alone.{IsAlone, IsKnown, log_of, shown_after}
 
 some_put : (slot : Option ℕ) (put : ℕ) → IsSome slot → Some put ≡ option_map (λ (s : ℕ). put) slot
 some_put None put there = absurd (cc)
 some_put (Some s) put there = refl
 
-pin_same : (s : ReaderToken) → TokenHoldsItsPin s → put_of (pin_of s) ≡ pinned_put (how_of s)
-pin_same (Idle reader) fits = ap (λ (o : Option ℕ). option_map (λ (slot : ℕ). reader.marks.put) o) (sym fits)
-pin_same (Pinned pin key) fits = some_put pin.reader.holds pin.reader.marks.put fits
+pin_same : (s : Handed) (key : Option ℕ) → HoldsItsPin (pin_for s key) s.reader.holds
+    → put_of (pin_for s key) ≡ pinned_put (how_of s)
+pin_same s None fits = ap (λ (o : Option ℕ). option_map (λ (slot : ℕ). s.reader.marks.put) o) (sym fits)
+pin_same s (Some key) fits = some_put s.reader.holds s.reader.marks.put fits
 
-pub pins_same : (tokens : List ReaderToken)
-    → ((at : ℕ) (other : ReaderToken) → at < length tokens → TokenHoldsItsPin (get_or tokens at other))
-    → pinned_puts (map pin_of tokens) ≡ pins (map how_of tokens)
+pub pins_same : (hands : List Handed)
+    → ((at : ℕ) (other : Handed) → at < length hands → HandHoldsItsPin (get_or hands at other))
+    → pinned_puts (map pin_of hands) ≡ pins (map how_of hands)
 pins_same [] fits = refl
-pins_same (s ∷ tokens) fits =
-    ap (λ (o : Option ℕ). cons_option o (pinned_puts (map pin_of tokens))) (pin_same s (fits 0 s (omega arith)))
+pins_same (s ∷ hands) fits =
+    ap (λ (o : Option ℕ). cons_option o (pinned_puts (map pin_of hands))) (pin_same s s.key (fits 0 s (omega arith)))
     ∙ ap (λ (l : List ℕ). cons_option (pinned_put (how_of s)) l)
-    (pins_same tokens (λ at other low. fits (suc at) other (omega arith)))
+    (pins_same hands (λ at other low. fits (suc at) other (omega arith)))
 
-or_is : (l : List ReaderToken) (i : ℕ) (a d : ReaderToken) → get_elem? l i ≡ some a → get_or l i d ≡ a
+or_is : (l : List Handed) (i : ℕ) (a d : Handed) → get_elem? l i ≡ some a → get_or l i d ≡ a
 or_is [] i a d e = absurd (some-ne-none a (sym e))
 or_is (x ∷ xs) zero a d e = some-injective x a e
 or_is (x ∷ xs) (suc i) a d e = or_is xs i a d e
 
-module _ (table : Table) (w : Caller) (tokens : List ReaderToken) (alone : IsAlone table w tokens) where
+module _ (table : Table) (w : Caller) (hands : List Handed) (alone : IsAlone table w hands) where
   abbrev pub readers : List Past
-  readers = map how_of tokens
+  readers = map how_of hands
 
   pub all_readers : AllReaders table.shape.readers readers
   all_readers zero low high = absurd (omega arith)
   all_readers (suc at) low high =
       let size = alone.stands.count in
-      let there = before tokens at (omega (arith, size)) in (
+      let there = before hands at (omega (arith, size)) in (
         at,
         how_of there.0,
-        at_maps how_of tokens at there.0 there.1,
-        ap (λ (s : ReaderToken). (caller_in s).number) (sym (or_is tokens at there.0 there.0 there.1))
-            ∙ (alone.places at there.0 (inside tokens at there.0 there.1)).number,
+        at_maps how_of hands at there.0 there.1,
+        ap (λ (s : Handed). s.reader.number) (sym (or_is hands at there.0 there.0 there.1))
+            ∙ (alone.places at there.0 (inside hands at there.0 there.1)).number,
       )
 
   known_at : (at : ℕ) (one : Past) → get_elem? readers at ≡ some one
-      → (s : ReaderToken) × IsKnown (log_of w tokens) w s × (how_of s ≡ one)
+      → (s : Handed) × IsKnown (log_of w hands) w s × (how_of s ≡ one)
   known_at at one is =
-      let here = at_unmap how_of tokens at one is in (
+      let here = at_unmap how_of hands at one is in (
         here.0,
-        subst (λ (s : ReaderToken). IsKnown (log_of w tokens) w s) (or_is tokens at here.0 here.0 here.1)
-            (alone.known at here.0 (inside tokens at here.0 here.1)),
+        subst (λ (s : Handed). IsKnown (log_of w hands) w s) (or_is hands at here.0 here.0 here.1)
+            (alone.known at here.0 (inside hands at here.0 here.1)),
         here.2,
       )
 
@@ -80,16 +80,16 @@ module _ (table : Table) (w : Caller) (tokens : List ReaderToken) (alone : IsAlo
   pub in_use_is : (log : List Entry)
       → filled_count (map_after table.shape log)
       + strays (keyed (map_after table.shape log).states (put_numbers table.shape log))
-      (pinned_puts (map pin_of tokens))
+      (pinned_puts (map pin_of hands))
       ≡ slots_in_use table.shape log readers
   in_use_is log =
       ap (λ (l : List ℕ). filled_count (map_after table.shape log) + strays (filled_puts table.shape log) l)
-      (pins_same tokens (λ at other low. (alone.places at other low).fits))
+      (pins_same hands (λ at other low. (alone.places at other low).fits))
 
   pub full : (log : List Entry) → slots_in_use table.shape log readers ≡ table.shape.slots
-      → is_full (shown_after table log tokens) ≡ true
+      → is_full (shown_after table log hands) ≡ true
   full log all = eq-eqb _ _ (in_use_is log ∙ all)
 
   pub not_full : (log : List Entry) → slots_in_use table.shape log readers < table.shape.slots
-      → is_full (shown_after table log tokens) ≡ false
+      → is_full (shown_after table log hands) ≡ false
   not_full log less = ne_eqb _ _ (λ e. let same = sym (in_use_is log) ∙ e in omega arith)

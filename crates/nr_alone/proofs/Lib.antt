@@ -9,3 +9,4 @@ pub mod AfterLine
 pub mod Opening
 pub mod Sizes
 pub mod Numbers
+pub mod Pinned

@@ -15,7 +15,7 @@ use Rattle.nr_machine.specs.declared.shape.Shape.{Shape}
 use Rattle.nr_machine.specs.Story.{map_after}
 use Rattle.nr_board.specs.Callers.{Caller, Table, map_seen, map_at_opening}
 use Rattle.nr_board.specs.Entries.{AreCallers, is_reading}
-use Rattle.nr_alone.specs.declared.reader_token.ReaderToken.{ReaderToken}
+use Rattle.nr_map.specs.Hands.{Handed}
 use Rattle.nr_alone.specs.Alone.{IsAlone, log_of}
 use Rattle.nr_alone.proofs.Exactly.{entries_own, log_begins}
 use Rattle.nr_board.proofs.Entries.{callers_of_more}
@@ -58,11 +58,11 @@ none_cancelled shape key (e ∷ rest) are none = ⊎_elim
     ))
     are.0.1
 
-pub number_is : NumbersCountCancels → LegalBegins → (table : Table) (w : Caller) (tokens : List ReaderToken)
-    → IsAlone table w tokens → (key : ℕ) → key < table.shape.keys
-    → number_of (state_of (map_seen w) key) ≡ number_of (state_of (map_after table.shape (log_of w tokens)) key)
-number_is counts begins table w tokens alone key low =
-    let shape = table.shape in let log : List Entry = log_of w tokens in let goes = log_begins w tokens in
+pub number_is : NumbersCountCancels → LegalBegins → (table : Table) (w : Caller) (hands : List Handed)
+    → IsAlone table w hands → (key : ℕ) → key < table.shape.keys
+    → number_of (state_of (map_seen w) key) ≡ number_of (state_of (map_after table.shape (log_of w hands)) key)
+number_is counts begins table w hands alone key low =
+    let shape = table.shape in let log : List Entry = log_of w hands in let goes = log_begins w hands in
     let legal : IsLegal (map_at_opening table) w.seen
     = subst (λ (t : Table). IsLegal (map_at_opening t) w.seen) alone.stands.own alone.sound.legal in
     let legal' : IsLegal (map_at_opening table) log

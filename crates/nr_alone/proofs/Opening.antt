@@ -12,10 +12,9 @@ use Rattle.nr_marks.specs.Marks.{no_marks}
 use Rattle.nr_marks.specs.Puts.{put_number}
 use Rattle.nr_board.specs.Callers.{Caller, Table}
 use Rattle.nr_map.specs.Opened.{IsOpened, newcomer}
-use Rattle.nr_alone.specs.declared.reader_token.ReaderToken.{ReaderToken}
-use Rattle.nr_alone.specs.declared.reader_token.ReaderToken.TheVariants.{Idle}
+use Rattle.nr_map.specs.Hands.{Handed, idle}
 use Rattle.nr_alone.specs.MapState.{Pin, opened_map}
-use Rattle.nr_alone.specs.Tokens.{TokenHoldsItsPin, caller_in, mine_of, pin_of}
+use Rattle.nr_alone.specs.Hands.{HandHoldsItsPin, mine_of, pin_of}
 use Rattle.nr_alone.specs.Rounds.{Gathered}
 use Rattle.nr_alone.specs.Alone.{IsAlone, Laws, calls_of, log_of, made, shown_by, shown_after}
 use Rattle.nr_alone.specs.Lines.{IsLine, SettlesLine}
@@ -24,11 +23,11 @@ use Rattle.nr_alone.proofs.Exactly.{calls_at, many_mines}
 use Rattle.nr_alone.proofs.Settling.{beyond_it, settled}
 use Rattle.nr_alone.proofs.Lines.{shown_with}
 
-many_idle : (readers : List Caller) → length (map Idle readers) ≡ length readers
+many_idle : (readers : List Caller) → length (map idle readers) ≡ length readers
 many_idle [] = refl
 many_idle (r ∷ readers) = ap suc (many_idle readers)
 
-no_pins : (readers : List Caller) → map pin_of (map Idle readers) ≡ replicate (length readers) None
+no_pins : (readers : List Caller) → map pin_of (map idle readers) ≡ replicate (length readers) None
 no_pins [] = refl
 no_pins (r ∷ readers) = ap (λ (l : List (Option Pin)). None ∷ l) (no_pins readers)
 
@@ -37,39 +36,39 @@ no_puts a zero = refl
 no_puts a (suc n) = ap (λ (l : List ℕ). 0 ∷ l) (no_puts (a + 1) n)
 
 module _ (laws : Laws) (shape : Shape) (table : Table) (w : Caller) (readers : List Caller)
-    (new : IsOpened shape 0 table w readers) (some : 0 < shape.readers) (w' : Caller) (tokens' : List ReaderToken)
-    (g : Gathered 0 w (map Idle readers) w' tokens') where
-  abbrev tokens : List ReaderToken
-  tokens = map Idle readers
+    (new : IsOpened shape 0 table w readers) (some : 0 < shape.readers) (w' : Caller) (hands' : List Handed)
+    (g : Gathered 0 w (map idle readers) w' hands') where
+  abbrev hands : List Handed
+  hands = map idle readers
 
-  size : length tokens ≡ shape.readers
+  size : length hands ≡ shape.readers
   size = many_idle readers ∙ new.count
 
-  token_at : (at : ℕ) (other : ReaderToken) → at < length tokens
-      → get_or tokens at other ≡ Idle (newcomer table (at + 1) no_marks)
-  token_at at other low =
+  hand_at : (at : ℕ) (other : Handed) → at < length hands
+      → get_or hands at other ≡ idle (newcomer table (at + 1) no_marks)
+  hand_at at other low =
       let inside : at < length readers = omega (arith, many_idle readers, low) in
       let near : at < shape.readers = omega (arith, size, low) in
       let c : Caller = newcomer table (at + 1) no_marks in
-      get_or-map Idle readers at c other inside ∙ ap Idle (get_or_from_slice_get readers at c c (new.reads at near))
+      get_or-map idle readers at c other inside ∙ ap idle (get_or_from_slice_get readers at c c (new.reads at near))
 
   seen_none : w.seen ≡ []
   seen_none = ap (λ (c : Caller). c.seen) new.writes
 
-  log_none : log_of w tokens ≡ []
-  log_none = ap (λ (l : List Entry). take (made w tokens) l) seen_none ∙ take-nil (made w tokens)
+  log_none : log_of w hands ≡ []
+  log_none = ap (λ (l : List Entry). take (made w hands) l) seen_none ∙ take-nil (made w hands)
 
-  calls_none : (caller : ℕ) → calls_of w.mine (map mine_of tokens) caller ≡ []
+  calls_none : (caller : ℕ) → calls_of w.mine (map mine_of hands) caller ≡ []
   calls_none zero = ap (λ (c : Caller). c.mine) new.writes
   calls_none (suc at) = ⊎_elim
-      (λ (low : at < length tokens). calls_at w.mine tokens at (Idle w) low ∙ ap mine_of (token_at at (Idle w) low))
-      (λ (past : length tokens ≤ at). beyond_it (map mine_of tokens) at (omega (arith, many_mines tokens, past)))
-      (cases_lt at (length tokens))
+      (λ (low : at < length hands). calls_at w.mine hands at (idle w) low ∙ ap mine_of (hand_at at (idle w) low))
+      (λ (past : length hands ≤ at). beyond_it (map mine_of hands) at (omega (arith, many_mines hands, past)))
+      (cases_lt at (length hands))
 
   next : (at : ℕ) → at + 1 ≡ suc at
   next at = omega arith
 
-  line : IsLine table w tokens w tokens 0 []
+  line : IsLine table w hands w hands 0 []
   line = record {
     low = omega (arith, size, some);
     few = omega arith;
@@ -78,16 +77,16 @@ module _ (laws : Laws) (shape : Shape) (table : Table) (w : Caller) (readers : L
     seen = starts_same w.seen;
     size = refl;
     places = λ at other low. record {
-      table = ap (λ (s : ReaderToken). (caller_in s).table) (token_at at other low);
-      number = ap (λ (s : ReaderToken). (caller_in s).number) (token_at at other low) ∙ next at;
-      fits = subst TokenHoldsItsPin (sym (token_at at other low)) refl;
+      table = ap (λ (s : Handed). s.reader.table) (hand_at at other low);
+      number = ap (λ (s : Handed). s.reader.number) (hand_at at other low) ∙ next at;
+      fits = subst HandHoldsItsPin (sym (hand_at at other low)) refl;
     };
-    grown = λ caller. sym (append-nil (calls_of w.mine (map mine_of tokens) caller));
+    grown = λ caller. sym (append-nil (calls_of w.mine (map mine_of hands) caller));
     others = λ at apart. refl;
   }
 
-  settles : SettlesLine table [] g.mid.seen w tokens tokens w' tokens'
-  settles = settled laws table w tokens w tokens 0 [] w' tokens' (record {
+  settles : SettlesLine table [] g.mid.seen w hands hands w' hands'
+  settles = settled laws table w hands w hands 0 [] w' hands' (record {
     own = ap (λ (c : Caller). c.table) new.writes;
     number = ap (λ (c : Caller). c.number) new.writes;
     count = size ∙ ap (λ (s : Shape). s.readers) (sym new.sizes);
@@ -96,25 +95,25 @@ module _ (laws : Laws) (shape : Shape) (table : Table) (w : Caller) (readers : L
     just = λ caller. ap (λ (l : List Entry). entries_of l caller) log_none ∙ sym (calls_none caller);
   }) line g
 
-  pub alone : IsAlone table w' tokens'
+  pub alone : IsAlone table w' hands'
   alone = settles.alone
 
-  pub shows : shown_by table w' tokens' ≡ opened_map shape
+  pub shows : shown_by table w' hands' ≡ opened_map shape
   shows =
-      let pins : map pin_of tokens ≡ replicate shape.readers None
+      let pins : map pin_of hands ≡ replicate shape.readers None
       = no_pins readers ∙ ap (λ (n : ℕ). replicate n None) new.count in
-      shown_with laws table w tokens tokens [] g.mid.seen w' tokens' settles (replicate shape.readers None) pins
-      ∙ ap (λ (l : List Entry). record (shown_after table (l ++ []) tokens) { pins = replicate shape.readers None })
+      shown_with laws table w hands hands [] g.mid.seen w' hands' settles (replicate shape.readers None) pins
+      ∙ ap (λ (l : List Entry). record (shown_after table (l ++ []) hands) { pins = replicate shape.readers None })
       log_none
       ∙ ap
       (λ (s : Shape).
-      record (shown_after (record table { shape = s }) [] tokens) { pins = replicate shape.readers None })
+      record (shown_after (record table { shape = s }) [] hands) { pins = replicate shape.readers None })
       new.sizes
       ∙ (λ j. record (opened_map shape) { puts = no_puts 0 shape.keys j })
 
 pub all_idle : (t : Table) (readers : List Caller) → All (λ (r : Caller). r.table ≡ t) readers
-    → All (λ (s : ReaderToken). (caller_in s).table ≡ t) (map Idle readers)
+    → All (λ (s : Handed). s.reader.table ≡ t) (map idle readers)
 all_idle t readers own at other low =
     let inside : at < length readers = omega (arith, many_idle readers, low) in
-    ap (λ (s : ReaderToken). (caller_in s).table) (get_or-map Idle readers at (caller_in other) other inside)
-    ∙ own at (caller_in other) inside
+    ap (λ (s : Handed). s.reader.table) (get_or-map idle readers at other.reader other inside)
+    ∙ own at other.reader inside

@@ -24,11 +24,11 @@ use Rattle.nr_board.specs.Rule.{StartsWith}
 use Rattle.nr_alone.specs.Answers.{Answer}
 use Rattle.nr_alone.specs.Answers as answers
 use Rattle.nr_alone.specs.declared.answer.PinRefusal.TheVariants as refusals
-use Rattle.nr_alone.specs.declared.reader_token.ReaderToken.{ReaderToken}
+use Rattle.nr_map.specs.Hands.{Handed}
 use Rattle.nr_alone.specs.MapState.{MapOutcome, Pin, MapState, answer_again, answer_call, answer_pin, find_again}
 use Rattle.nr_alone.specs.MapState.{pin_at, pins_after, with_pin, without_pin}
-use Rattle.nr_alone.specs.Tokens.{Calls, AgainByToken, KeepsPin, TokenHoldsItsPin, HoldsItsPin, MakesCall, MakesPin}
-use Rattle.nr_alone.specs.Tokens.{ShowsPin, Unpins, caller_in, mine_of, pin_of}
+use Rattle.nr_alone.specs.Hands.{Calls, FindsAgain, KeepsPin, HandHoldsItsPin, HoldsItsPin, MakesCall, MakesPin}
+use Rattle.nr_alone.specs.Hands.{ShowsPin, Unpins, mine_of, pin_of}
 use Rattle.nr_alone.specs.Rounds.{Gathered}
 use Rattle.nr_alone.specs.Alone.{IsAlone, Laws, log_of, shown_by, shown_after}
 use Rattle.nr_alone.specs.Lines.{SettlesLine}
@@ -95,33 +95,33 @@ found_other (states.Rows n rows) put pin no_put =
 map_same : (m : PartialMap) (key : ℕ) → next m (model.Find key) ≡ m
 map_same m key = λ j. record { bound = m.bound; states = set-get_or m.states key (states.Hole 0) j }
 
-module _ (laws : Laws) (table : Table) (w0 : Caller) (tokens0 : List ReaderToken) (alone : IsAlone table w0 tokens0)
-    (at : ℕ) (old x : ReaderToken) (low : at < length tokens0) (item : old ≡ get_or tokens0 at old)
-    (w' : Caller) (tokens' : List ReaderToken) (g : Gathered at w0 (set tokens0 at x) w' tokens') where
+module _ (laws : Laws) (table : Table) (w0 : Caller) (hands0 : List Handed) (alone : IsAlone table w0 hands0)
+    (at : ℕ) (old x : Handed) (low : at < length hands0) (item : old ≡ get_or hands0 at old)
+    (w' : Caller) (hands' : List Handed) (g : Gathered at w0 (set hands0 at x) w' hands') where
   abbrev log : List Entry
-  log = log_of w0 tokens0
+  log = log_of w0 hands0
 
   abbrev stood : MapState
-  stood = shown_by table w0 tokens0
+  stood = shown_by table w0 hands0
 
-  here : (d : ReaderToken) → get_or tokens0 at d ≡ old
-  here d = get_or_default tokens0 at d old low ∙ sym item
+  here : (d : Handed) → get_or hands0 at d ≡ old
+  here d = get_or_default hands0 at d old low ∙ sym item
 
-  settled_at : (es : List Entry) → AreOf (suc at) es → (caller_in x).table ≡ (caller_in old).table
-      → (caller_in x).number ≡ (caller_in old).number → mine_of x ≡ mine_of old ++ es → TokenHoldsItsPin x
-      → SettlesLine table es g.mid.seen w0 tokens0 (set tokens0 at x) w' tokens'
-  settled_at es are t n m fits = settled laws table w0 tokens0 w0 (set tokens0 at x) at es w' tokens' alone.stands
-      (reader_line table w0 tokens0 alone es at x low are
-      (t ∙ ap (λ (s : ReaderToken). (caller_in s).table) (sym (here x)))
-      (n ∙ ap (λ (s : ReaderToken). (caller_in s).number) (sym (here x)))
-      (m ∙ ap (λ (s : ReaderToken). mine_of s ++ es) (sym (here x))) fits)
+  settled_at : (es : List Entry) → AreOf (suc at) es → x.reader.table ≡ old.reader.table
+      → x.reader.number ≡ old.reader.number → mine_of x ≡ mine_of old ++ es → HandHoldsItsPin x
+      → SettlesLine table es g.mid.seen w0 hands0 (set hands0 at x) w' hands'
+  settled_at es are t n m fits = settled laws table w0 hands0 w0 (set hands0 at x) at es w' hands' alone.stands
+      (reader_line table w0 hands0 alone es at x low are
+      (t ∙ ap (λ (s : Handed). s.reader.table) (sym (here x)))
+      (n ∙ ap (λ (s : Handed). s.reader.number) (sym (here x)))
+      (m ∙ ap (λ (s : Handed). mine_of s ++ es) (sym (here x))) fits)
       g
 
-  number_is : (caller_in old).number ≡ suc at
-  number_is = ap (λ (s : ReaderToken). (caller_in s).number) (sym (here old)) ∙ (alone.places at old low).number
+  number_is : old.reader.number ≡ suc at
+  number_is = ap (λ (s : Handed). s.reader.number) (sym (here old)) ∙ (alone.places at old low).number
 
   pin_here : pin_at stood at ≡ pin_of old
-  pin_here = get_or-map pin_of tokens0 at old None low ∙ ap pin_of (here old)
+  pin_here = get_or-map pin_of hands0 at old None low ∙ ap pin_of (here old)
 
   again_by : (key : ℕ) {pin : Pin} → pin_at stood at ≡ Some pin
       → answer_again stood at key ≡ (Ok (find_again (state_of stood.map key) (get_or stood.puts key 0) pin), stood)
@@ -131,26 +131,26 @@ module _ (laws : Laws) (table : Table) (w0 : Caller) (tokens0 : List ReaderToken
       (λ (q : Pin). (Ok (find_again (state_of stood.map key) (get_or stood.puts key 0) q), stood)))
       is
 
-  pins_set : map pin_of (set tokens0 at x) ≡ set (map pin_of tokens0) at (pin_of x)
-  pins_set = map-set pin_of tokens0 at x
+  pins_set : map pin_of (set hands0 at x) ≡ set (map pin_of hands0) at (pin_of x)
+  pins_set = map-set pin_of hands0 at x
 
-  pins_kept : pin_of x ≡ pin_of old → map pin_of (set tokens0 at x) ≡ map pin_of tokens0
-  pins_kept same = map-set_same pin_of tokens0 at x old (same ∙ ap pin_of item)
+  pins_kept : pin_of x ≡ pin_of old → map pin_of (set hands0 at x) ≡ map pin_of hands0
+  pins_kept same = map-set_same pin_of hands0 at x old (same ∙ ap pin_of item)
 
   -- the call's entry, with the reader's place
-  mine_at : (heard : List Entry) (call : Call) (r : Reply) → Calls heard call (caller_in old) (caller_in x) r
+  mine_at : (heard : List Entry) (call : Call) (r : Reply) → Calls heard call old.reader x.reader r
       → mine_of x ≡ mine_of old ++ entry (suc at) call r ∷ []
   mine_at heard call r made = subst (λ (n : ℕ). mine_of x ≡ mine_of old ++ entry n call r ∷ []) number_is made.mine
 
-  settled_call : (heard : List Entry) (call : Call) (r : Reply) → Calls heard call (caller_in old) (caller_in x) r
-      → TokenHoldsItsPin x
-      → SettlesLine table (entry (suc at) call r ∷ []) g.mid.seen w0 tokens0 (set tokens0 at x) w' tokens'
+  settled_call : (heard : List Entry) (call : Call) (r : Reply) → Calls heard call old.reader x.reader r
+      → HandHoldsItsPin x
+      → SettlesLine table (entry (suc at) call r ∷ []) g.mid.seen w0 hands0 (set hands0 at x) w' hands'
   settled_call heard call r made fits =
       settled_at (entry (suc at) call r ∷ []) (one_of (suc at) call r) made.table made.number
       (mine_at heard call r made) fits
 
   abbrev Says : MapOutcome → Answer → Type 0
-  Says outcome answer = IsAlone table w' tokens' × (outcome ≡ (Ok answer, shown_by table w' tokens'))
+  Says outcome answer = IsAlone table w' hands' × (outcome ≡ (Ok answer, shown_by table w' hands'))
 
   pub says_call : (heard : List Entry) (call : Call) (answer : Answer) → MakesCall heard call old x (Ok answer)
       → Says (without_pin (pin_at stood at) stood (answer_call stood call)) answer
@@ -158,20 +158,20 @@ module _ (laws : Laws) (table : Table) (w0 : Caller) (tokens0 : List ReaderToken
       let s = settled_call heard call r made fits in (
         s.alone,
         ap (λ (p : Option Pin). without_pin p stood (answer_call stood call)) (pin_here ∙ before)
-            ∙ answers_quiet laws table w0 tokens0 (set tokens0 at x) (suc at) call r g.mid.seen w' tokens' s
+            ∙ answers_quiet laws table w0 hands0 (set hands0 at x) (suc at) call r g.mid.seen w' hands' s
             (pins_kept (after ∙ sym before)) made.quiet
-            ∙ ap (λ (a : Answer). (Ok a, shown_by table w' tokens')) (sym is),
+            ∙ ap (λ (a : Answer). (Ok a, shown_by table w' hands')) (sym is),
       )
 
   -- the find of a pin leaves all but the pins
   found : (heard : List Entry) (key : ℕ) (r : Reply) (pins' : List (Option Pin))
-      → Calls heard (model.Find key) (caller_in old) (caller_in x) r → TokenHoldsItsPin x
-      → map pin_of (set tokens0 at x) ≡ pins' → shown_by table w' tokens' ≡ record stood { pins = pins' }
+      → Calls heard (model.Find key) old.reader x.reader r → HandHoldsItsPin x
+      → map pin_of (set hands0 at x) ≡ pins' → shown_by table w' hands' ≡ record stood { pins = pins' }
   found heard key r pins' made fits kept =
       let s = settled_call heard (model.Find key) r made fits in let e : Entry = entry (suc at) (model.Find key) r in
       let maps : map_after table.shape (log ++ e ∷ []) ≡ map_after table.shape log
       = (laws.goes_on (map_at_opening table) log e).0 ∙ map_same (map_after table.shape log) key in
-      shown_with laws table w0 tokens0 (set tokens0 at x) (e ∷ []) g.mid.seen w' tokens' s pins' kept
+      shown_with laws table w0 hands0 (set hands0 at x) (e ∷ []) g.mid.seen w' hands' s pins' kept
       ∙ (λ j.
       record stood {
         map = maps j;
@@ -180,32 +180,32 @@ module _ (laws : Laws) (table : Table) (w0 : Caller) (tokens0 : List ReaderToken
         pins = pins';
       })
 
-  reply_at : (heard : List Entry) (key : ℕ) (r : Reply) → Calls heard (model.Find key) (caller_in old) (caller_in x) r
-      → TokenHoldsItsPin x → r ≡ find_reply (state_of stood.map key)
+  reply_at : (heard : List Entry) (key : ℕ) (r : Reply) → Calls heard (model.Find key) old.reader x.reader r
+      → HandHoldsItsPin x → r ≡ find_reply (state_of stood.map key)
   reply_at heard key r made fits =
-      reply_is laws table w0 tokens0 (set tokens0 at x) (suc at) (model.Find key) r g.mid.seen w' tokens'
+      reply_is laws table w0 hands0 (set hands0 at x) (suc at) (model.Find key) r g.mid.seen w' hands'
       (settled_call heard (model.Find key) r made fits)
 
   -- the reader has seen just the history that the round knows
-  seen_just : (heard : List Entry) (call : Call) (r : Reply) → Calls heard call (caller_in old) (caller_in x) r
-      → TokenHoldsItsPin x → (caller_in x).seen ≡ log ++ entry (suc at) call r ∷ []
+  seen_just : (heard : List Entry) (call : Call) (r : Reply) → Calls heard call old.reader x.reader r
+      → HandHoldsItsPin x → x.reader.seen ≡ log ++ entry (suc at) call r ∷ []
   seen_just before call r made fits =
       let e : Entry = entry (suc at) call r in let s = settled_call before call r made fits in
-      let first : get_or (set tokens0 at x) at x ≡ x = get_or-set_same tokens0 at x x low in
-      let heard : StartsWith g.mid.seen (caller_in x).seen
-      = subst (λ (k : ReaderToken). StartsWith g.mid.seen (caller_in k).seen) first (g.heard x) in
-      let all : entries_of g.mid.seen (caller_in x).number ≡ mine_of x
-      = subst (λ (k : ReaderToken). entries_of g.mid.seen (caller_in k).number ≡ mine_of k) first (g.all x) in
-      let whole : log ++ e ∷ [] ≡ (caller_in x).seen ++ heard.rest = sym s.mid_log ∙ heard.is in
-      let n : ℕ = (caller_in x).number in
+      let first : get_or (set hands0 at x) at x ≡ x = get_or-set_same hands0 at x x low in
+      let heard : StartsWith g.mid.seen x.reader.seen
+      = subst (λ (k : Handed). StartsWith g.mid.seen k.reader.seen) first (g.heard x) in
+      let all : entries_of g.mid.seen x.reader.number ≡ mine_of x
+      = subst (λ (k : Handed). entries_of g.mid.seen k.reader.number ≡ mine_of k) first (g.all x) in
+      let whole : log ++ e ∷ [] ≡ x.reader.seen ++ heard.rest = sym s.mid_log ∙ heard.is in
+      let n : ℕ = x.reader.number in
       let none : entries_of heard.rest n ≡ []
-      = append_cancel_left (entries_of (caller_in x).seen n) (entries_of heard.rest n) []
-      (sym (filter-append (λ (k : Entry). k.caller == n) (caller_in x).seen heard.rest)
+      = append_cancel_left (entries_of x.reader.seen n) (entries_of heard.rest n) []
+      (sym (filter-append (λ (k : Entry). k.caller == n) x.reader.seen heard.rest)
       ∙ ap (λ (l : List Entry). entries_of l n) (sym heard.is) ∙ all ∙ sym made.own
-      ∙ sym (append-nil (entries_of (caller_in x).seen n))) in
+      ∙ sym (append-nil (entries_of x.reader.seen n))) in
       ⊎_elim
       (λ (nothing : heard.rest ≡ []). sym
-      (whole ∙ ap (λ (l : List Entry). (caller_in x).seen ++ l) nothing ∙ append-nil (caller_in x).seen))
+      (whole ∙ ap (λ (l : List Entry). x.reader.seen ++ l) nothing ∙ append-nil x.reader.seen))
       (λ (more : (k : List Entry) × (heard.rest ≡ k ++ e ∷ [])).
       let is_n : n ≡ suc at = made.number ∙ number_is in
       let mine : entries_of (e ∷ []) n ≡ e ∷ [] = ap (entries_of (e ∷ [])) is_n ∙ (one_of (suc at) call r).his in
@@ -215,15 +215,15 @@ module _ (laws : Laws) (table : Table) (w0 : Caller) (tokens0 : List ReaderToken
       ∙ ap (λ (l : List Entry). entries_of more.0 n ++ l) mine in
       let many = ap (λ (l : List Entry). length l) split in
       absurd (omega (arith, length-append (entries_of more.0 n) (e ∷ []))))
-      (last_split (caller_in x).seen heard.rest log e whole)
+      (last_split x.reader.seen heard.rest log e whole)
 
   -- the put number of a key in the state, and as a reader sees it that has just found the key
   put_in : (key : ℕ) → key < table.shape.keys → get_or stood.puts key 0 ≡ put_number log key
   put_in key inside = get_or-map-range_with_len (put_number log) 0 table.shape.keys key key 0 inside (omega arith)
 
   put_found : (heard : List Entry) (key : ℕ) (rows : List Row) → key < table.shape.keys
-      → Calls heard (model.Find key) (caller_in old) (caller_in x) (reply.Rows rows) → TokenHoldsItsPin x
-      → put_number (caller_in x).seen key ≡ get_or stood.puts key 0
+      → Calls heard (model.Find key) old.reader x.reader (reply.Rows rows) → HandHoldsItsPin x
+      → put_number x.reader.seen key ≡ get_or stood.puts key 0
   put_found heard key rows inside made fits =
       ap (λ (l : List Entry). put_number l key) (seen_just heard (model.Find key) (reply.Rows rows) made fits)
       ∙ quiet_number laws.puts log (entry (suc at) (model.Find key) (reply.Rows rows)) key refl
@@ -238,8 +238,8 @@ module _ (laws : Laws) (table : Table) (w0 : Caller) (tokens0 : List ReaderToken
       = after ∙ (λ j. Some (record { key = key; rows = rows; put = put_is j })) in
       let now
       = found heard key (reply.Rows rows)
-      (set (map pin_of tokens0) at (Some (record { key = key; rows = rows; put = get_or stood.puts key 0 })))
-      made fits (pins_set ∙ ap (set (map pin_of tokens0) at) pinned) in
+      (set (map pin_of hands0) at (Some (record { key = key; rows = rows; put = get_or stood.puts key 0 })))
+      made fits (pins_set ∙ ap (set (map pin_of hands0) at) pinned) in
       let is = state_is (state_of stood.map key) rows (reply_at heard key (reply.Rows rows) made fits) in (
         (settled_call heard (model.Find key) (reply.Rows rows) made fits).alone,
         ap (λ (p : Option Pin). without_pin p stood (answer_pin stood at key (state_of stood.map key)))
@@ -248,80 +248,80 @@ module _ (laws : Laws) (table : Table) (w0 : Caller) (tokens0 : List ReaderToken
             ∙ ap (λ (k : MapState). (Ok answers.Ok, k)) (sym now),
       )
   says_pin heard key (answers.Reply r) inside (is, made, before, after, fits) =
-      let now = found heard key reply.Hole (map pin_of tokens0) made fits (pins_kept (after ∙ sym before)) in (
+      let now = found heard key reply.Hole (map pin_of hands0) made fits (pins_kept (after ∙ sym before)) in (
         (settled_call heard (model.Find key) reply.Hole made fits).alone,
         ap (λ (p : Option Pin). without_pin p stood (answer_pin stood at key (state_of stood.map key)))
             (pin_here ∙ before)
             ∙ found_hole (state_of stood.map key) stood at key (reply_at heard key reply.Hole made fits)
             ∙ ap (λ (k : MapState). (Ok (answers.Reply reply.Hole), k)) (sym now)
-            ∙ ap (λ (k : Reply). (Ok (answers.Reply k), shown_by table w' tokens')) (sym is),
+            ∙ ap (λ (k : Reply). (Ok (answers.Reply k), shown_by table w' hands')) (sym is),
       )
   says_pin heard key answers.Other inside made = absurd made
   says_pin heard key answers.NoSlot inside made = absurd made
 
   -- steps that are no call
-  rested : (caller_in x).table ≡ (caller_in old).table → (caller_in x).number ≡ (caller_in old).number
-      → mine_of x ≡ mine_of old → TokenHoldsItsPin x
-      → SettlesLine table [] g.mid.seen w0 tokens0 (set tokens0 at x) w' tokens'
+  rested : x.reader.table ≡ old.reader.table → x.reader.number ≡ old.reader.number
+      → mine_of x ≡ mine_of old → HandHoldsItsPin x
+      → SettlesLine table [] g.mid.seen w0 hands0 (set hands0 at x) w' hands'
   rested t n m fits = settled_at [] (none_of (suc at)) t n (m ∙ sym (append-nil (mine_of old))) fits
 
-  rested_state : (pins' : List (Option Pin)) → SettlesLine table [] g.mid.seen w0 tokens0 (set tokens0 at x) w' tokens'
-      → map pin_of (set tokens0 at x) ≡ pins' → shown_by table w' tokens' ≡ record stood { pins = pins' }
+  rested_state : (pins' : List (Option Pin)) → SettlesLine table [] g.mid.seen w0 hands0 (set hands0 at x) w' hands'
+      → map pin_of (set hands0 at x) ≡ pins' → shown_by table w' hands' ≡ record stood { pins = pins' }
   rested_state pins' s kept =
-      shown_with laws table w0 tokens0 (set tokens0 at x) [] g.mid.seen w' tokens' s pins' kept
-      ∙ ap (λ (l : List Entry). record (shown_after table l tokens0) { pins = pins' }) (append-nil log)
+      shown_with laws table w0 hands0 (set hands0 at x) [] g.mid.seen w' hands' s pins' kept
+      ∙ ap (λ (l : List Entry). record (shown_after table l hands0) { pins = pins' }) (append-nil log)
 
   pub says_unpin : (answer : Answer) → Unpins old x (Ok answer)
       → Says (with_pin (pin_at stood at) stood (λ pin. (Ok answers.Ok, pins_after stood at None))) answer
   says_unpin answer (is, rests, before, after, fits) =
       let s = rested rests.table rests.number rests.mine fits in
       let now
-      = rested_state (set (map pin_of tokens0) at None) s (pins_set ∙ ap (set (map pin_of tokens0) at) after) in (
+      = rested_state (set (map pin_of hands0) at None) s (pins_set ∙ ap (set (map pin_of hands0) at) after) in (
         s.alone,
         with_some (pin_at stood at) stood (Ok answers.Ok, pins_after stood at None) (subst IsSome (sym pin_here) before)
             ∙ ap (λ (k : MapState). (Ok answers.Ok, k)) (sym now)
-            ∙ ap (λ (a : Answer). (Ok a, shown_by table w' tokens')) (sym is),
+            ∙ ap (λ (a : Answer). (Ok a, shown_by table w' hands')) (sym is),
       )
 
   -- a reader that keeps its pin
-  still_fits : KeepsPin old x → TokenHoldsItsPin x
+  still_fits : KeepsPin old x → HandHoldsItsPin x
   still_fits (same, holds) =
-      let had : TokenHoldsItsPin old = subst TokenHoldsItsPin (here old) (alone.places at old low).fits in
-      subst (λ (p : Option Pin). HoldsItsPin p (caller_in x).holds) (sym same)
+      let had : HandHoldsItsPin old = subst HandHoldsItsPin (here old) (alone.places at old low).fits in
+      subst (λ (p : Option Pin). HoldsItsPin p x.reader.holds) (sym same)
       (subst (HoldsItsPin (pin_of old)) (sym holds) had)
 
   pub says_show : (answer : Answer) → ShowsPin old x (Ok answer)
       → Says (with_pin (pin_at stood at) stood (λ pin. (Ok (answers.Reply (reply.Rows pin.rows)), stood))) answer
   says_show answer (pin, before, is, steps, rests, keeps) =
       let s = rested rests.table rests.number rests.mine (still_fits keeps) in
-      let now = rested_state (map pin_of tokens0) s (pins_kept keeps.0) in (
+      let now = rested_state (map pin_of hands0) s (pins_kept keeps.0) in (
         s.alone,
         ap (λ (p : Option Pin). with_pin p stood (λ (q : Pin). (Ok (answers.Reply (reply.Rows q.rows)), stood)))
             (pin_here ∙ before)
             ∙ ap (λ (k : MapState). (Ok (answers.Reply (reply.Rows pin.rows)), k)) (sym now)
-            ∙ ap (λ (a : Answer). (Ok a, shown_by table w' tokens')) (sym is),
+            ∙ ap (λ (a : Answer). (Ok a, shown_by table w' hands')) (sym is),
       )
 
   -- it has heard the history, so where its line is no call it has seen just that
-  heard_just : (later : StartsWith (caller_in x).seen (caller_in old).seen)
-      → SettlesLine table [] g.mid.seen w0 tokens0 (set tokens0 at x) w' tokens' → (caller_in x).seen ≡ log
+  heard_just : (later : StartsWith x.reader.seen old.reader.seen)
+      → SettlesLine table [] g.mid.seen w0 hands0 (set hands0 at x) w' hands' → x.reader.seen ≡ log
   heard_just later s =
-      let least : StartsWith (caller_in old).seen log
-      = subst (λ (k : ReaderToken). StartsWith (caller_in k).seen log) (here old) (alone.known at old low).heard in
-      let first : get_or (set tokens0 at x) at x ≡ x = get_or-set_same tokens0 at x x low in
-      let mid : StartsWith g.mid.seen (caller_in x).seen
-      = subst (λ (k : ReaderToken). StartsWith g.mid.seen (caller_in k).seen) first (g.heard x) in
-      let most : StartsWith log (caller_in x).seen
-      = subst (λ (l : List Entry). StartsWith l (caller_in x).seen) (s.mid_log ∙ append-nil log) mid in
-      starts_both (caller_in x).seen log (starts_then log (caller_in old).seen (caller_in x).seen least later) most
+      let least : StartsWith old.reader.seen log
+      = subst (λ (k : Handed). StartsWith k.reader.seen log) (here old) (alone.known at old low).heard in
+      let first : get_or (set hands0 at x) at x ≡ x = get_or-set_same hands0 at x x low in
+      let mid : StartsWith g.mid.seen x.reader.seen
+      = subst (λ (k : Handed). StartsWith g.mid.seen k.reader.seen) first (g.heard x) in
+      let most : StartsWith log x.reader.seen
+      = subst (λ (l : List Entry). StartsWith l x.reader.seen) (s.mid_log ∙ append-nil log) mid in
+      starts_both x.reader.seen log (starts_then log old.reader.seen x.reader.seen least later) most
 
-  pub says_again : (key : ℕ) (answer : Answer) → key < table.shape.keys → AgainByToken key old x (Ok answer)
+  pub says_again : (key : ℕ) (answer : Answer) → key < table.shape.keys → FindsAgain key old x (Ok answer)
       → Says (answer_again stood at key) answer
   says_again key (answers.Reply r) inside (pin, before, is, called, has, keeps) =
-      let fits = still_fits keeps in let heard = (caller_in old).seen in
-      let made : Calls heard (model.Find key) (caller_in old) (caller_in x) (reply.Rows pin.rows)
-      = subst (λ (k : Reply). Calls heard (model.Find key) (caller_in old) (caller_in x) k) is called in
-      let now = found heard key (reply.Rows pin.rows) (map pin_of tokens0) made fits (pins_kept keeps.0) in
+      let fits = still_fits keeps in let heard = old.reader.seen in
+      let made : Calls heard (model.Find key) old.reader x.reader (reply.Rows pin.rows)
+      = subst (λ (k : Reply). Calls heard (model.Find key) old.reader x.reader k) is called in
+      let now = found heard key (reply.Rows pin.rows) (map pin_of hands0) made fits (pins_kept keeps.0) in
       let filled = state_is (state_of stood.map key) pin.rows (reply_at heard key (reply.Rows pin.rows) made fits) in
       let put : get_or stood.puts key 0 ≡ pin.put = sym (put_found heard key pin.rows inside made fits) ∙ has.1 in (
         (settled_call heard (model.Find key) (reply.Rows pin.rows) made fits).alone,
@@ -330,15 +330,15 @@ module _ (laws : Laws) (table : Table) (w0 : Caller) (tokens0 : List ReaderToken
             (ap (λ (k : KeyState). find_again k (get_or stood.puts key 0) pin) filled.1
             ∙ found_rows filled.0 pin.rows (get_or stood.puts key 0) pin put)
             ∙ ap (λ (k : MapState). (Ok (answers.Reply (reply.Rows pin.rows)), k)) (sym now)
-            ∙ ap (λ (k : Reply). (Ok (answers.Reply k), shown_by table w' tokens')) (sym is),
+            ∙ ap (λ (k : Reply). (Ok (answers.Reply k), shown_by table w' hands')) (sym is),
       )
   says_again key answers.Other inside (pin, before, grows, hasnt, keeps) =
       let fits = still_fits keeps in
       let s = rested grows.table grows.number (grows.mine ∙ append-nil (mine_of old)) fits in
-      let now = rested_state (map pin_of tokens0) s (pins_kept keeps.0) in
-      let seen = heard_just (seen_more 1 (caller_in old) [] (caller_in x) grows) s in
-      let tables : (caller_in x).table ≡ table
-      = grows.table ∙ ap (λ (k : ReaderToken). (caller_in k).table) (sym (here old))
+      let now = rested_state (map pin_of hands0) s (pins_kept keeps.0) in
+      let seen = heard_just (seen_more 1 old.reader [] x.reader grows) s in
+      let tables : x.reader.table ≡ table
+      = grows.table ∙ ap (λ (k : Handed). k.reader.table) (sym (here old))
       ∙ (alone.places at old low).table in
       let no_put : (n : ℕ) (rows : List Row) → state_of stood.map key ≡ states.Rows n rows
       → get_or stood.puts key 0 ≢ pin.put
@@ -355,6 +355,6 @@ module _ (laws : Laws) (table : Table) (w0 : Caller) (tokens0 : List ReaderToken
   says_again key answers.Ok inside made = absurd made
   says_again key answers.NoSlot inside made = absurd made
 
-pub many_pins : (xs : List ReaderToken) → length (map pin_of xs) ≡ length xs
+pub many_pins : (xs : List Handed) → length (map pin_of xs) ≡ length xs
 many_pins [] = refl
 many_pins (x ∷ xs) = ap suc (many_pins xs)

@@ -1,4 +1,4 @@
--- Rounds of gathers over tokens.
+-- Rounds of gathers over hands.
 use Rattle.std.proofs.Common.{◌≡◌, ◌<◌, ℕ, suc, ◌+◌, List, [], ◌∷◌, ◌++◌, ◌==◌, length, map, All, get_or, refl, sym, ap}
 use Rattle.std.proofs.Common.{◌∙◌, subst, append_assoc, arith, length-append, ◌≢◌, set, below_more}
 use Rattle.std.proofs.lemmas.List.{append-nil, nil_from_length, get_or-set_same, get_or-set_other, get_or_default}
@@ -16,9 +16,9 @@ use Rattle.nr_board.specs.Entries.{AreCallers}
 use Rattle.nr_map.specs.ExactPlaces.{OnlyLearnt}
 use Rattle.nr_board.specs.Meetings.{Gathers, Learns, how_is}
 use Rattle.nr_board.specs.Rule.{StartsWith}
-use Rattle.nr_alone.specs.declared.reader_token.ReaderToken.{ReaderToken}
-use Rattle.nr_alone.specs.Tokens.{Still, caller_in, how_of, mine_of, still}
-use Rattle.nr_alone.specs.Rounds.{Gathered, GathersToken, IsShown, IsSoundWriter, Round, WriterStays}
+use Rattle.nr_map.specs.Hands.{Handed}
+use Rattle.nr_alone.specs.Hands.{Still, how_of, mine_of, still}
+use Rattle.nr_alone.specs.Rounds.{Gathered, GathersHand, IsShown, IsSoundWriter, Round, WriterStays}
 
 pub starts_same : (xs : List Entry) → StartsWith xs xs
 starts_same xs = record { rest = []; is = sym (append-nil xs) }
@@ -104,9 +104,9 @@ pub same_reader : (steps : ℕ) (old new : Caller) → Learns steps old new → 
 same_reader steps old new
     l = λ j. record { reader = l.number j; count = (l.marks j).acts; slot = l.holds j; put = (l.marks j).put }
 
-pub same_still : (w : Caller) (s : ReaderToken) (w' : Caller) (s' : ReaderToken) → GathersToken w s w' s'
+pub same_still : (w : Caller) (s : Handed) (w' : Caller) (s' : Handed) → GathersHand w s w' s'
     → still s' ≡ still s
-same_still w s w' s' g = let l = g.gathers.of_writer.learns in let how = same_reader 2 (caller_in s) (caller_in s') l in
+same_still w s w' s' g = let l = g.gathers.of_writer.learns in let how = same_reader 2 s.reader s'.reader l in
     λ j. record { table = l.table j; mine = l.mine j; how = how j; pin = g.pin j }
 
 pub place_on : (news known : List Past) (place : ℕ) (one : Past) → get_elem? known place ≡ some one
@@ -121,7 +121,7 @@ current_on w w' one r m c =
     (subst (λ (k : Marks). Current w.retired k one) (sym m) c)
 
 -- what was shown stays so, while the writer learns of others
-pub shown_on : (log : List Entry) (w r w' r' : Caller) (x : ReaderToken) → Gathers w r w' r' → IsShown log w x
+pub shown_on : (log : List Entry) (w r w' r' : Caller) (x : Handed) → Gathers w r w' r' → IsShown log w x
     → IsShown log w' x
 shown_on log w r w' r' x g s =
     let on = place_on g.of_reader.learns.news w.pasts s.place (how_of x) s.known in
@@ -133,95 +133,95 @@ shown_on log w r w' r' x g s =
       heard = s.heard;
     }
 
-pub shown_now : (log : List Entry) (w : Caller) (s : ReaderToken) (w' : Caller) (s' : ReaderToken)
-    → GathersToken w s w' s' → StartsWith w'.seen log → IsShown log w' s'
+pub shown_now : (log : List Entry) (w : Caller) (s : Handed) (w' : Caller) (s' : Handed)
+    → GathersHand w s w' s' → StartsWith w'.seen log → IsShown log w' s'
 shown_now log w s w' s' g later =
-    let l = g.gathers.of_writer.learns in let how = same_reader 2 (caller_in s) (caller_in s') l in
-    let all : entries_of w'.seen (caller_in s').number ≡ mine_of s'
+    let l = g.gathers.of_writer.learns in let how = same_reader 2 s.reader s'.reader l in
+    let all : entries_of w'.seen s'.reader.number ≡ mine_of s'
     = ap (λ (n : ℕ). entries_of w'.seen n) l.number ∙ g.gathers.all ∙ sym l.mine in
     record {
       few =
-          subst (λ (m : List Entry). StartsWith m (entries_of log (caller_in s').number)) all
-          (starts_each w'.seen log (caller_in s').number later);
+          subst (λ (m : List Entry). StartsWith m (entries_of log s'.reader.number)) all
+          (starts_each w'.seen log s'.reader.number later);
       place = g.gathers.place;
       known = g.gathers.known ∙ ap some (sym how);
       current = subst (λ (p : Past). Current w'.retired w'.marks p) (sym how) g.gathers.current;
-      heard = starts_then log w'.seen (caller_in s').seen later g.gathers.of_writer.seen;
+      heard = starts_then log w'.seen s'.reader.seen later g.gathers.of_writer.seen;
     }
 
--- the token at the next place was gathered
-module _ (log : List Entry) (w w' : Caller) (s s' : ReaderToken) (tokens : List ReaderToken) (i : ℕ)
-    (low : i < length tokens) (begins : StartsWith w.seen log) (g : GathersToken w s w' s') where
-  elsewhere : (at : ℕ) (other : ReaderToken) → at ≢ i → IsShown log w (get_or tokens at other)
-      → IsShown log w' (get_or (set tokens i s') at other)
+-- the hand at the next place was gathered
+module _ (log : List Entry) (w w' : Caller) (s s' : Handed) (hands : List Handed) (i : ℕ)
+    (low : i < length hands) (begins : StartsWith w.seen log) (g : GathersHand w s w' s') where
+  elsewhere : (at : ℕ) (other : Handed) → at ≢ i → IsShown log w (get_or hands at other)
+      → IsShown log w' (get_or (set hands i s') at other)
   elsewhere at other apart shown =
-      subst (λ (x : ReaderToken). IsShown log w' x) (sym (get_or-set_other tokens i at s' other apart))
-      (shown_on log w (caller_in s) w' (caller_in s') (get_or tokens at other) g.gathers shown)
+      subst (λ (x : Handed). IsShown log w' x) (sym (get_or-set_other hands i at s' other apart))
+      (shown_on log w s.reader w' s'.reader (get_or hands at other) g.gathers shown)
 
-  here : (other : ReaderToken) → IsShown log w' (get_or (set tokens i s') i other)
+  here : (other : Handed) → IsShown log w' (get_or (set hands i s') i other)
   here other =
-      subst (λ (x : ReaderToken). IsShown log w' x) (sym (get_or-set_same tokens i s' other low))
+      subst (λ (x : Handed). IsShown log w' x) (sym (get_or-set_same hands i s' other low))
       (shown_now log w s w' s' g (starts_then log w.seen w'.seen begins g.gathers.of_reader.learns.seen))
 
-  pub one_more : ((at : ℕ) (other : ReaderToken) → at < i → IsShown log w (get_or tokens at other))
-      → (at : ℕ) (other : ReaderToken) → at < i + 1 → IsShown log w' (get_or (set tokens i s') at other)
+  pub one_more : ((at : ℕ) (other : Handed) → at < i → IsShown log w (get_or hands at other))
+      → (at : ℕ) (other : Handed) → at < i + 1 → IsShown log w' (get_or (set hands i s') at other)
   one_more done at other below_i =
-      below_more (λ (j : ℕ). (o : ReaderToken) → IsShown log w' (get_or (set tokens i s') j o)) i
+      below_more (λ (j : ℕ). (o : Handed) → IsShown log w' (get_or (set hands i s') j o)) i
       (λ j before o. elsewhere j o (omega arith) (done j o before)) here at below_i other
 
-  pub first_still : (first : ℕ) → i ≢ first → ((other : ReaderToken) → IsShown log w (get_or tokens first other))
-      → (other : ReaderToken) → IsShown log w' (get_or (set tokens i s') first other)
+  pub first_still : (first : ℕ) → i ≢ first → ((other : Handed) → IsShown log w (get_or hands first other))
+      → (other : Handed) → IsShown log w' (get_or (set hands i s') first other)
   first_still first apart shown other = elsewhere first other (λ e. apart (sym e)) (shown other)
 
 -- the next place is that of the first one, which was gathered before
-pub skipped : (log : List Entry) (w : Caller) (tokens : List ReaderToken) (i first : ℕ) → i ≡ first
-    → ((other : ReaderToken) → IsShown log w (get_or tokens first other))
-    → ((at : ℕ) (other : ReaderToken) → at < i → IsShown log w (get_or tokens at other))
-    → (at : ℕ) (other : ReaderToken) → at < i + 1 → IsShown log w (get_or tokens at other)
-skipped log w tokens i first is shown done at other below_i =
-    below_more (λ (j : ℕ). (o : ReaderToken) → IsShown log w (get_or tokens j o)) i (λ j before o. done j o before)
-    (λ o. subst (λ (j : ℕ). IsShown log w (get_or tokens j o)) (sym is) (shown o)) at below_i other
+pub skipped : (log : List Entry) (w : Caller) (hands : List Handed) (i first : ℕ) → i ≡ first
+    → ((other : Handed) → IsShown log w (get_or hands first other))
+    → ((at : ℕ) (other : Handed) → at < i → IsShown log w (get_or hands at other))
+    → (at : ℕ) (other : Handed) → at < i + 1 → IsShown log w (get_or hands at other)
+skipped log w hands i first is shown done at other below_i =
+    below_more (λ (j : ℕ). (o : Handed) → IsShown log w (get_or hands j o)) i (λ j before o. done j o before)
+    (λ o. subst (λ (j : ℕ). IsShown log w (get_or hands j o)) (sym is) (shown o)) at below_i other
 
-many_still : (xs : List ReaderToken) → length (map still xs) ≡ length xs
+many_still : (xs : List Handed) → length (map still xs) ≡ length xs
 many_still [] = refl
 many_still (x ∷ xs) = ap suc (many_still xs)
 
--- tokens that gathers left as they were
-pub same_length : (xs ys : List ReaderToken) → map still xs ≡ map still ys → length xs ≡ length ys
+-- hands that gathers left as they were
+pub same_length : (xs ys : List Handed) → map still xs ≡ map still ys → length xs ≡ length ys
 same_length xs ys e = sym (many_still xs) ∙ ap (λ (l : List Still). length l) e ∙ many_still ys
 
-pub same_at : (xs ys : List ReaderToken) → map still xs ≡ map still ys → (at : ℕ) (a b : ReaderToken) → at < length xs
+pub same_at : (xs ys : List Handed) → map still xs ≡ map still ys → (at : ℕ) (a b : Handed) → at < length xs
     → still (get_or xs at a) ≡ still (get_or ys at b)
 same_at xs ys e at a b low = let low' : at < length ys = omega (arith, same_length xs ys e) in
     sym (get_or-map still xs at a (still a) low) ∙ ap (λ (l : List Still). get_or l at (still a)) e
     ∙ get_or-map still ys at b (still a) low'
 
-pub tables_on : (t : Table) (xs ys : List ReaderToken) → map still ys ≡ map still xs
-    → All (λ (s : ReaderToken). (caller_in s).table ≡ t) xs → All (λ (s : ReaderToken). (caller_in s).table ≡ t) ys
+pub tables_on : (t : Table) (xs ys : List Handed) → map still ys ≡ map still xs
+    → All (λ (s : Handed). s.reader.table ≡ t) xs → All (λ (s : Handed). s.reader.table ≡ t) ys
 tables_on t xs ys e own at other low = let low' : at < length xs = omega (arith, same_length ys xs e) in
     ap (λ (s : Still). s.table) (same_at ys xs e at other other low) ∙ own at other low'
 
--- a round of all tokens, after a gather of the first one
-pub round_over : (w : Caller) (tokens : List ReaderToken) (at : ℕ) (w1 : Caller) (old s1 : ReaderToken) (w' : Caller)
-    (tokens' : List ReaderToken)
-    → at < length tokens → old ≡ get_or tokens at old → GathersToken w old w1 s1
-    → Round w1 (set tokens at s1) w' tokens' → Gathered at w tokens w' tokens'
-round_over w tokens at w1 old s1 w' tokens' low item g r =
-    let same_place : (other : ReaderToken) → old ≡ get_or tokens at other
-    = λ other. item ∙ get_or_default tokens at old other low in
-    let size : length (set tokens at s1) ≡ length tokens = length-set tokens at s1 in
+-- a round of all hands, after a gather of the first one
+pub round_over : (w : Caller) (hands : List Handed) (at : ℕ) (w1 : Caller) (old s1 : Handed) (w' : Caller)
+    (hands' : List Handed)
+    → at < length hands → old ≡ get_or hands at old → GathersHand w old w1 s1
+    → Round w1 (set hands at s1) w' hands' → Gathered at w hands w' hands'
+round_over w hands at w1 old s1 w' hands' low item g r =
+    let same_place : (other : Handed) → old ≡ get_or hands at other
+    = λ other. item ∙ get_or_default hands at old other low in
+    let size : length (set hands at s1) ≡ length hands = length-set hands at s1 in
     record {
       mid = w1;
       stays = learns_stays 2 w w1 g.gathers.of_reader.learns;
-      sound = gather_sound w (caller_in old) w1 (caller_in s1) g.gathers;
-      all = λ other. subst (λ (x : ReaderToken). entries_of w1.seen (caller_in x).number ≡ mine_of x) (same_place other)
+      sound = gather_sound w old.reader w1 s1.reader g.gathers;
+      all = λ other. subst (λ (x : Handed). entries_of w1.seen x.reader.number ≡ mine_of x) (same_place other)
           g.gathers.all;
-      heard = λ other. subst (λ (x : ReaderToken). StartsWith w1.seen (caller_in x).seen) (same_place other)
+      heard = λ other. subst (λ (x : Handed). StartsWith w1.seen x.reader.seen) (same_place other)
           g.gathers.of_reader.seen;
       round = record {
         stays = r.stays;
         sound = r.sound;
-        same = r.same ∙ map-set_same still tokens at s1 old (same_still w old w1 s1 g ∙ ap still item);
+        same = r.same ∙ map-set_same still hands at s1 old (same_still w old w1 s1 g ∙ ap still item);
         each = λ place other inside. r.each place other (omega (arith, size, inside));
       };
     }

@@ -15,7 +15,7 @@ use Rattle.nr_marks.specs.Puts.{put_count, put_number, puts_set}
 use Rattle.nr_marks.specs.MarkLaws.{PutGoesOn}
 use Rattle.nr_board.specs.Callers.{Table, map_at_opening}
 use Rattle.nr_alone.specs.Answers as answers
-use Rattle.nr_alone.specs.declared.reader_token.ReaderToken.{ReaderToken}
+use Rattle.nr_map.specs.Hands.{Handed}
 use Rattle.nr_alone.specs.MapState.{MapOutcome, MapState, after_call, answer_call, is_full, put_count_after, puts_after}
 use Rattle.nr_alone.specs.Alone.{shown_after}
 
@@ -63,9 +63,9 @@ pub puts_quiet : PutGoesOn → (shape : Shape) (log : List Entry) (e : Entry) �
 puts_quiet law shape log e quiet =
     ap (λ (f : ℕ → ℕ). map f (range_with_len 0 shape.keys)) (λ j key. quiet_number law log e key quiet j)
 
-module _ (puts : PutGoesOn) (table : Table) (log : List Entry) (n : ℕ) (call : Call) (tokens : List ReaderToken) where
+module _ (puts : PutGoesOn) (table : Table) (log : List Entry) (n : ℕ) (call : Call) (hands : List Handed) where
   abbrev state : MapState
-  state = shown_after table log tokens
+  state = shown_after table log hands
 
   puts_are : (r : Reply) → put_numbers table.shape (log ++ entry n call r ∷ []) ≡ puts_after r (call_key call) state
   puts_are reply.Done = puts_done puts table.shape log n call
@@ -107,7 +107,7 @@ module _ (puts : PutGoesOn) (table : Table) (log : List Entry) (n : ℕ) (call :
   abbrev pub reply_here : Reply
   reply_here = reply_to (map_after table.shape log) call
 
-  pub goes_on : LegalGoesOn → shown_after table (log ++ entry n call reply_here ∷ []) tokens ≡ after_call state call
+  pub goes_on : LegalGoesOn → shown_after table (log ++ entry n call reply_here ∷ []) hands ≡ after_call state call
   goes_on law =
       let maps : map_after table.shape (log ++ entry n call reply_here ∷ []) ≡ next (map_after table.shape log) call
       = (law (map_at_opening table) log (entry n call reply_here)).0 in

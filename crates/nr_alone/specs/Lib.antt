@@ -2,7 +2,7 @@ pub mod Answers
 pub mod Said
 pub mod WriterCalls
 pub mod MapState
-pub mod Tokens
+pub mod Hands
 pub mod Rounds
 pub mod Alone
 pub mod Lines

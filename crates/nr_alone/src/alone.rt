@@ -1,18 +1,16 @@
-//! A running map whose tokens are all in one hand.
+//! A running map whose tokens all have one owner.
 ghost use Rattle.std.specs.Prelude.{◌≡◌, ◌≤◌, ◌<◌, ◌↔◌, All, length, Ok, Err, IfOk, map as each_of};
 ghost use Rattle.nr_machine.specs.Sizes.{IsBadShape};
 ghost use Rattle.nr_model.specs.declared.rows.TheConstants.{MAX_ROWS};
-ghost use Rattle.nr_alone.specs.Tokens.{caller_in};
 ghost use Rattle.nr_alone.specs.WriterCalls.{model_call, writer_key};
-ghost use Rattle.nr_alone.specs.declared.reader_token.ReaderToken.TheVariants.{Idle};
+ghost use Rattle.nr_map.specs.Hands.{idle};
 
 use crate::answer::{Answer, PinRefusal};
 use crate::calls::{again_at, ask_at, find_at, pin_at, show_at, unpin_at};
 use crate::premises::laws;
-use crate::reader_token::ReaderToken;
 use crate::round::gather_round;
 use crate::writer_calls::{WriterCall, call_writer};
-use nr_map::{Reader, ReaderMap, Shape, Writer};
+use nr_map::{Hand, Reader, ReaderMap, Shape, Writer};
 use nr_model::laws::{legal_begins, numbers_count_cancels};
 use nr_model::{OpenFault, RowSet};
 use std::alloc::{AllocError, Global};
@@ -23,7 +21,7 @@ use std::marker::Model;
 pub struct Alone {
     map: ReaderMap,
     writer: Writer,
-    tokens: Vec<ReaderToken>,
+    hands: Vec<Hand>,
 }
 
 impl Model for Alone {
@@ -32,9 +30,9 @@ impl Model for Alone {
 
     ghost Value = { MapState };
 
-    ghost view = { λ inside. shown_by inside.map inside.writer inside.tokens.items };
+    ghost view = { λ inside. shown_by inside.map inside.writer inside.hands.items };
 
-    ghost invariant = { λ inside. IsAlone inside.map inside.writer inside.tokens.items };
+    ghost invariant = { λ inside. IsAlone inside.map inside.writer inside.hands.items };
 }
 
 impl Alone {
@@ -49,17 +47,13 @@ impl Alone {
         ensures ok { IfOk result (λ alone. alone ≡ opened_map shape.now) }
     {
         let (map, mut writer, readers) = ReaderMap::open_with(alloc, shape)?;
-        let mut tokens = match tokens_of(alloc, readers) {
-            Ok(tokens) => tokens,
+        let mut hands = match hands_of(alloc, readers) {
+            Ok(hands) => hands,
             Err(_) => return Err(OpenFault::Memory),
         };
         laws();
-        gather_round(&map, &mut writer, tokens.as_mut_slice(), 0);
-        Ok(Alone {
-            map,
-            writer,
-            tokens,
-        })
+        gather_round(&map, &mut writer, hands.as_mut_slice(), 0);
+        Ok(Alone { map, writer, hands })
     }
 
     /// How many keys the map has. They are numbered from 0.
@@ -103,7 +97,7 @@ impl Alone {
     {
         laws();
         let answer = call_writer(&self.map, &mut self.writer, call, rows);
-        gather_round(&self.map, &mut self.writer, self.tokens.as_mut_slice(), 0);
+        gather_round(&self.map, &mut self.writer, self.hands.as_mut_slice(), 0);
         answer
     }
 
@@ -119,8 +113,8 @@ impl Alone {
         ensures { answer_of_reader self.old at (model.Find key) ≡ (result, self.new) }
     {
         laws();
-        let answer = find_at(&self.map, &mut self.writer, &mut self.tokens[at], key, rows)?;
-        gather_round(&self.map, &mut self.writer, self.tokens.as_mut_slice(), at);
+        let answer = find_at(&self.map, &mut self.writer, &mut self.hands[at], key, rows)?;
+        gather_round(&self.map, &mut self.writer, self.hands.as_mut_slice(), at);
         Ok(answer)
     }
 
@@ -131,8 +125,8 @@ impl Alone {
         ensures { answer_of_reader self.old at (model.Ask key) ≡ (result, self.new) }
     {
         laws();
-        let answer = ask_at(&self.map, &mut self.writer, &mut self.tokens[at], key)?;
-        gather_round(&self.map, &mut self.writer, self.tokens.as_mut_slice(), at);
+        let answer = ask_at(&self.map, &mut self.writer, &mut self.hands[at], key)?;
+        gather_round(&self.map, &mut self.writer, self.hands.as_mut_slice(), at);
         Ok(answer)
     }
 
@@ -143,8 +137,8 @@ impl Alone {
         ensures { answer_pinning self.old at key (state_of self.old.map key) ≡ (result, self.new) }
     {
         laws();
-        let answer = pin_at(&self.map, &mut self.writer, &mut self.tokens[at], key)?;
-        gather_round(&self.map, &mut self.writer, self.tokens.as_mut_slice(), at);
+        let answer = pin_at(&self.map, &mut self.writer, &mut self.hands[at], key)?;
+        gather_round(&self.map, &mut self.writer, self.hands.as_mut_slice(), at);
         Ok(answer)
     }
 
@@ -154,8 +148,8 @@ impl Alone {
         ensures { answer_show self.old at ≡ (result, self.new) }
     {
         laws();
-        let answer = show_at(&self.map, &mut self.tokens[at], rows)?;
-        gather_round(&self.map, &mut self.writer, self.tokens.as_mut_slice(), at);
+        let answer = show_at(&self.map, &mut self.hands[at], rows)?;
+        gather_round(&self.map, &mut self.writer, self.hands.as_mut_slice(), at);
         Ok(answer)
     }
 
@@ -172,8 +166,8 @@ impl Alone {
         ensures { answer_again self.old at key ≡ (result, self.new) }
     {
         laws();
-        let answer = again_at(&self.map, &mut self.tokens[at], key, rows)?;
-        gather_round(&self.map, &mut self.writer, self.tokens.as_mut_slice(), at);
+        let answer = again_at(&self.map, &mut self.hands[at], key, rows)?;
+        gather_round(&self.map, &mut self.writer, self.hands.as_mut_slice(), at);
         Ok(answer)
     }
 
@@ -183,8 +177,8 @@ impl Alone {
         ensures { answer_unpin self.old at ≡ (result, self.new) }
     {
         laws();
-        let answer = unpin_at(&self.map, &mut self.tokens[at])?;
-        gather_round(&self.map, &mut self.writer, self.tokens.as_mut_slice(), at);
+        let answer = unpin_at(&self.map, &mut self.hands[at])?;
+        gather_round(&self.map, &mut self.writer, self.hands.as_mut_slice(), at);
         Ok(answer)
     }
 
@@ -193,33 +187,28 @@ impl Alone {
         let Alone {
             map,
             writer: _,
-            tokens,
+            hands,
         } = self;
-        end_tokens(&map, tokens);
+        end_hands(&map, hands);
     }
 }
 
-// A token for each reader, which has no pin.
-fn tokens_of(alloc: Global, readers: Vec<Reader>) -> Result<Vec<ReaderToken>, AllocError>
-    ensures { IfOk result (λ tokens. tokens.items ≡ each_of Idle readers.items) }
+// A hand for each reader, which holds nothing.
+fn hands_of(alloc: Global, readers: Vec<Reader>) -> Result<Vec<Hand>, AllocError>
+    ensures { IfOk result (λ hands. hands.items ≡ each_of idle readers.items) }
 {
-    let mut tokens = Vec::with_capacity(alloc, readers.len())?;
+    let mut hands = Vec::with_capacity(alloc, readers.len())?;
     for reader in readers {
-        tokens.push_reserved(ReaderToken::Idle(reader));
+        hands.push_reserved(Hand::of(reader));
     }
-    Ok(tokens)
+    Ok(hands)
 }
 
-fn end_tokens(map: &ReaderMap, mut tokens: Vec<ReaderToken>)
-    requires { All (λ s. (caller_in s).table ≡ map.now) tokens.items }
+fn end_hands(map: &ReaderMap, mut hands: Vec<Hand>)
+    requires { All (λ s. s.reader.table ≡ map.now) hands.items }
 {
-    while let Some(token) = tokens.pop() {
-        match token {
-            ReaderToken::Idle(_) => {}
-            ReaderToken::Pinned(pin, _) => {
-                pin.release(map);
-            }
-        }
+    while let Some(hand) = hands.pop() {
+        hand.into_reader(map);
     }
-    tokens.destroy_empty();
+    hands.destroy_empty();
 }

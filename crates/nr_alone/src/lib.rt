@@ -1,4 +1,4 @@
-//! A running map whose tokens are all in one hand: each call is answered as the sequential map
+//! A running map whose tokens all have one owner: each call is answered as the sequential map
 //! answers it, and a call finds no slot exactly where all slots are in use.
 #![tactic(auto)]
 
@@ -6,7 +6,6 @@ mod alone;
 mod answer;
 mod calls;
 mod premises;
-mod reader_token;
 mod round;
 mod writer_calls;
 

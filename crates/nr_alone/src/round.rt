@@ -1,48 +1,38 @@
-//! A round of gathers, with the token of the line first.
+//! A round of gathers, with the hand of the line first.
 ghost use Rattle.std.specs.Prelude.{◌≡◌, ◌<◌, All, length, slice_index_or};
-ghost use Rattle.nr_alone.specs.declared.reader_token.ReaderToken.{ReaderToken as TokenOf};
-ghost use Rattle.nr_alone.specs.Tokens.{caller_in};
-ghost use Rattle.nr_alone.specs.Rounds.{GathersToken, IsShown, IsSoundWriter, Round, Gathered};
+ghost use Rattle.nr_map.specs.Hands.{Handed};
+ghost use Rattle.nr_alone.specs.Rounds.{GathersHand, IsShown, IsSoundWriter, Round, Gathered};
 
-use crate::reader_token::ReaderToken;
-use nr_map::{ReaderMap, Writer};
+use nr_map::{Hand, ReaderMap, Writer};
 
-/// Gathers every reader, that of the first token before the others.
-pub(crate) fn gather_round(
-    map: &ReaderMap,
-    writer: &mut Writer,
-    tokens: &mut [ReaderToken],
-    first: usize,
-)
+/// Gathers every reader, that of the first hand before the others.
+pub(crate) fn gather_round(map: &ReaderMap, writer: &mut Writer, hands: &mut [Hand], first: usize)
     requires own { writer.old.table ≡ map.now }
-    requires tokens { All (λ s. (caller_in s).table ≡ map.now) tokens.old }
-    requires first { first < length tokens.old }
-    ensures { Gathered first writer.old tokens.old writer.new tokens.new }
+    requires hands { All (λ s. s.reader.table ≡ map.now) hands.old }
+    requires first { first < length hands.old }
+    ensures { Gathered first writer.old hands.old writer.new hands.new }
 {
-    gather_token(map, writer, &mut tokens[first]);
-    gather_others(map, writer, tokens, first);
+    gather_one(map, writer, &mut hands[first]);
+    gather_others(map, writer, hands, first);
 }
 
-fn gather_others(map: &ReaderMap, writer: &mut Writer, tokens: &mut [ReaderToken], first: usize)
+fn gather_others(map: &ReaderMap, writer: &mut Writer, hands: &mut [Hand], first: usize)
     requires own { writer.old.table ≡ map.now }
-    requires tokens { All (λ s. (caller_in s).table ≡ map.now) tokens.old }
+    requires hands { All (λ s. s.reader.table ≡ map.now) hands.old }
     requires sound { IsSoundWriter writer.old }
-    requires first { (other : TokenOf) → IsShown writer.old.seen writer.old (slice_index_or tokens.old first other) }
-    ensures { Round writer.old tokens.old writer.new tokens.new }
+    requires first { (other : Handed) → IsShown writer.old.seen writer.old (slice_index_or hands.old first other) }
+    ensures { Round writer.old hands.old writer.new hands.new }
 {
-    for (at, token) in tokens.iter_mut().enumerate() {
+    for (at, hand) in hands.iter_mut().enumerate() {
         if at != first {
-            gather_token(map, writer, token);
+            gather_one(map, writer, hand);
         }
     }
 }
 
-fn gather_token(map: &ReaderMap, writer: &mut Writer, token: &mut ReaderToken)
-    requires own { (writer.old.table ≡ map.now) × ((caller_in token.old).table ≡ map.now) }
-    ensures { GathersToken writer.old token.old writer.new token.new }
+fn gather_one(map: &ReaderMap, writer: &mut Writer, hand: &mut Hand)
+    requires own { (writer.old.table ≡ map.now) × (hand.old.reader.table ≡ map.now) }
+    ensures { GathersHand writer.old hand.old writer.new hand.new }
 {
-    match token {
-        ReaderToken::Idle(reader) => map.gather(writer, reader),
-        ReaderToken::Pinned(pin, _) => map.gather_pin(writer, pin),
-    }
+    map.gather_hand(writer, hand);
 }

@@ -1,5 +1,5 @@
 -- How the words that the core sees go along with the table's, and what the readers' words say.
-use Rattle.std.proofs.Common.{◌≡◌, ◌≢◌, ℕ, suc, ◌+◌, ◌-◌, ◌%◌, ◌^◌, ◌<◌, ◌≤◌, ◌⊎◌, ⊎_elim, List, ◌++◌, ◌∷◌, [], Bool}
+use Rattle.std.proofs.Common.{◌≡◌, ◌≢◌, ℕ, suc, ◌+◌, ◌-◌, ◌%◌, ◌^◌, ◌<◌, ◌≤◌, ⊎_elim, List, ◌++◌, ◌∷◌, [], Bool}
 use Rattle.std.proofs.Common.{true, cond, length, get_or, set, length-set, get_or-set_other, get_or-set_same, sym, ap}
 use Rattle.std.proofs.Common.{◌∙◌, subst, arith}
 use Rattle.std.proofs.lemmas.Bool.{lt-ltb}

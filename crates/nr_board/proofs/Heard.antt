@@ -1,5 +1,5 @@
 -- What the writer has heard of slots stays so while tokens step, and tells that nobody holds a slot by a word.
-use Rattle.std.proofs.Common.{◌≡◌, ◌≢◌, ℕ, suc, zero, ◌+◌, ◌<◌, ◌≤◌, ◌⊎◌, ⊎_elim, inl, List, [], ◌∷◌, ◌++◌, Bool, true}
+use Rattle.std.proofs.Common.{◌≡◌, ◌≢◌, ℕ, suc, zero, ◌<◌, ◌≤◌, ◌⊎◌, ⊎_elim, inl, List, [], ◌∷◌, ◌++◌, Bool, true}
 use Rattle.std.proofs.Common.{cond, eq-eqb, get_or, set, ne_eqb, refl, sym, ap, ◌∙◌, subst, arith}
 use Rattle.std.proofs.lemmas.Bool.{eqb-true, ltb-false, ltb-true}
 use Rattle.std.specs.Prelude.{nat_lt}

@@ -27,6 +27,7 @@ pub mod WriterSteps
 pub mod Scanning
 pub mod SearchSeats
 pub mod WordLoads
+pub mod ScannedWords
 pub mod WholeScans
 pub mod Passes
 pub mod Flagging

@@ -4,11 +4,10 @@ use Rattle.std.proofs.Common.{false, cond, length, take, get_or, refl, sym, ap, 
 use Rattle.std.proofs.Common.{append_assoc, length-append, take-suc}
 use Rattle.std.specs.Prelude.{Some, None, Option, remove}
 use mathlib.Core.Logic.{dite}
-use mathlib.Core.Option.{some, some-injective, some-ne-none}
+use mathlib.Core.Option.{some}
 use native.Mathlib.Decide.{ℕ_discrete}
 use lib.ListN.{get_elem?}
 use Rattle.nr_core.proofs.Sums.{at_snoc, only-is, only-le, only-other, some_term, total-append}
-use Rattle.nr_core.specs.Roles.{retirements}
 use Rattle.nr_machine.specs.Spares.{Spare}
 use Rattle.nr_machine.specs.Sums.{only, total}
 use Rattle.nr_machine.specs.declared.places.Retired.{Retired}
@@ -20,7 +19,7 @@ use Rattle.nr_board.proofs.PollNotes.{at_get}
 use Rattle.nr_board.proofs.SearchSeats.{there_is}
 use Rattle.nr_board.proofs.Searching.{grows_none}
 use Rattle.nr_board.proofs.Tokens.{grows_both, seat_grows}
-use Rattle.nr_board.proofs.WholeScans.{is_retired}
+use Rattle.nr_board.proofs.ScannedWords.{is_retired}
 use Rattle.nr_board.proofs.WriterSteps.{same_desk}
 use Rattle.nr_board.specs.declared.publish.Taken.{Taken}
 use Rattle.nr_board.specs.Callers.{Grows, IsSound, Table, map_seen, token}

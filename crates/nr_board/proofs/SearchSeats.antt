@@ -1,6 +1,6 @@
 -- The steps of a scan and of a search in any order as the writer's seat makes them, whatever its desk, its call and its
 -- rows.
-use Rattle.std.proofs.Common.{◌≡◌, ℕ, ◌<◌, ◌≤◌, List, [], ◌∷◌, zero, suc, length, get_or, refl, sym, ap, ◌∙◌, subst}
+use Rattle.std.proofs.Common.{◌≡◌, ℕ, ◌<◌, ◌≤◌, List, [], ◌∷◌, zero, suc, length, get_or, sym, ap, ◌∙◌, subst}
 use Rattle.std.proofs.Common.{arith}
 use mathlib.Core.Option.{none, some, some-injective, some-ne-none}
 use lib.ListN.{get_elem?}
@@ -17,12 +17,11 @@ use Rattle.nr_machine.specs.declared.roles.Desk.{Desk}
 use Rattle.nr_machine.specs.declared.roles.Role.TheVariants.{Writer}
 use Rattle.nr_machine.specs.declared.shape.Shape.{Shape}
 use Rattle.nr_board.proofs.PollNotes.{at_get}
-use Rattle.nr_board.proofs.Scanning.{says_apart, scans_so}
+use Rattle.nr_board.proofs.Scanning.{says_apart}
 use Rattle.nr_board.proofs.SearchSteps.{gives_up_so, searches_so, tries_so}
 use Rattle.nr_core.proofs.WordPlaces.{same_departures}
 use Rattle.nr_board.proofs.WriterSteps.{same_desk}
 use Rattle.nr_board.specs.Announcing.{says_at}
-use Rattle.nr_board.specs.Plays.{Room}
 use Rattle.nr_board.specs.Rule.{Kept}
 use Rattle.nr_board.specs.SearchPlays.{GaveUp, Scanned, Tried, has_given_up, has_searched, has_tried}
 use Rattle.nr_board.specs.Views.{View}

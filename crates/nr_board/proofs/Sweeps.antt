@@ -41,7 +41,6 @@ use Rattle.nr_board.proofs.PollNotes.{at_get}
 use Rattle.nr_board.specs.Callers.{Caller, Table, caller_of, map_seen, token}
 use Rattle.nr_board.specs.Entries.{AreCallers}
 use Rattle.nr_board.specs.Plays.{Room}
-use Rattle.nr_board.specs.Recalls.{RecallsAt}
 use Rattle.nr_board.specs.Reaping.{HeldEach, ProbesAt, ProbesTo, SweepsFor, SweptTo, probed, ready, ready_in, waiting}
 use Rattle.nr_board.specs.Rule.{Kept, marks_of, role_of}
 use Rattle.nr_board.specs.Spares.{desk_with, held_polls, not_passed}

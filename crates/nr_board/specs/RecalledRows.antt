@@ -3,7 +3,7 @@ use Rattle.std.specs.Prelude.{◌≡◌, ℕ, ◌+◌, ◌*◌}
 use Rattle.std.proofs.Common.{◌∙◌, refl, arith}
 use Rattle.nr_board.specs.declared.recalls.Recalled.{Recalled}
 use Rattle.nr_board.specs.Recalls.{waited}
-use Rattle.nr_board.specs.Views.{View, view_of}
+use Rattle.nr_board.specs.Views.{view_of}
 
 -- that many rows were read by the same seat
 pub record GaveRecalled (first : Recalled) (count : ℕ) (last : Recalled) : Type 0 where

@@ -21,7 +21,6 @@ use Rattle.nr_board.specs.declared.publish.Taken.{Taken}
 use Rattle.nr_board.specs.Callers.{Caller, Table}
 use Rattle.nr_board.specs.Recalls.{later}
 use Rattle.nr_board.specs.Spares.{spare_of}
-use Rattle.nr_board.specs.Views.{view_of}
 use Rattle.nr_board.specs.WriterAnswers.{FillsKey, KeyHad, Publishes, ReplacesKey, UpdatesKey}
 use Rattle.nr_board.specs.WriterSeats.{LacksSlot, MapSeat, PublishesSet, TakesSlot}
 

@@ -13,7 +13,10 @@ use Rattle.nr_model.specs.declared.calls.Reply.{Reply}
 use Rattle.nr_model.specs.declared.calls.Reply.TheVariants as reply
 use Rattle.nr_model.specs.Rows.{IsRowSet}
 use Rattle.nr_machine.specs.Slots.{name_number, names_slot}
+use Rattle.nr_machine.specs.declared.roles.Grip.{Grip}
+use Rattle.nr_machine.specs.declared.roles.Grip.TheVariants.{Nothing}
 use Rattle.nr_machine.specs.declared.roles.Role.{Role}
+use Rattle.nr_machine.specs.declared.roles.Role.TheVariants.{Reader}
 use Rattle.nr_marks.specs.Marks.{LoggedLoad, Marks, OfKey, acted, gripped, with_loads, with_look}
 use Rattle.nr_marks.specs.MarkSteps.{found_again}
 use Rattle.nr_marks.specs.Puts.{put_number}
@@ -22,13 +25,14 @@ use Rattle.nr_board.proofs.ReaderSeats.{held_says}
 use Rattle.nr_board.proofs.Tokens.{MapSeat}
 use Rattle.nr_board.specs.Ahead.{after_look}
 use Rattle.nr_board.specs.Callers.{Caller, Gains, Grows, Rests, Table, token}
-use Rattle.nr_board.specs.Holds.{HeldIn, HoleIn, HoldsWhatItSays, finds_by_word, looks_at, slot_in}
+use Rattle.nr_board.specs.Holds.{HeldAs, HeldIn, HoleIn, HoldsWhatItSays, finds_by_word, looks_at, slot_in}
 use Rattle.nr_board.specs.declared.board.Own.{Own}
 use Rattle.nr_board.specs.declared.holds.Held.{Held}
 use Rattle.nr_board.specs.Meetings.{HasPut}
-use Rattle.nr_board.specs.Views.{grip_of, rows_held}
+use Rattle.nr_board.specs.Plays.{holding}
+use Rattle.nr_board.specs.Views.{caller_number, grip_of, is_sized, rows_held, slot_held}
 use Rattle.nr_map.specs.declared.hand.Kept.{Kept}
-use Rattle.nr_map.specs.Pins.{Pins}
+use Rattle.nr_map.specs.Pins.{HoldsSlot, Pins}
 use Rattle.nr_map.specs.Hands.{AskedBefore, AsksInVain, FindsNone, Handed, HoldsAnew, HoldsKey, HoldsNothing, IsHand}
 use Rattle.nr_map.specs.Hands.{KeepsAnew, KeepsByHand, MovesByHand, PinsByHand, departed, goes_on, handed, late_by}
 use Rattle.nr_map.specs.Hands.{looks_first, steps_to_depart}
@@ -424,6 +428,15 @@ module _ (key : ℕ) (before after : MapSeat) (held : Option Kept) (role : after
         is,
       )
 
+-- a seat that holds a set holds its slot
+pub holds_slot : (table : Table) (held : Held) (seat : MapSeat) → HeldAs table held seat → HoldsSlot (token seat)
+holds_slot table held seat so = let role = so.holds.holds.is in record {
+  slot = slot_held seat.me.0.role;
+  is = ap (λ (r : Role). gripped (grip_of r)) role;
+  inside = subst (λ (t : Table). slot_held seat.me.0.role < t.shape.slots) (sym so.holds.own) so.holds.holds.inside;
+  said = λ loud. held_says table held seat so loud ∙ ap (λ (r : Role). suc (slot_in (gripped (grip_of r)))) role;
+}
+
 -- what a pin or a hand holds by its word is the slot that this says
 pub pin_says : (own : Own) (held : Held) (seat : MapSeat) → Pins seat own held → HoldsWhatItSays (token seat)
 pin_says own held seat pins = held_says (token seat).table held seat pins.holds
@@ -432,9 +445,22 @@ pub hand_says : (own : Own) (held : Option Kept) (seat : MapSeat) → IsHand sea
 hand_says own None seat is = λ loud. absurd (omega (arith, loud, is.1.silent))
 hand_says own (Some kept) seat is = pin_says own kept.set seat is
 
+-- a hand's seat is a reader's, whatever it holds
+pub hand_role : (own : Own) (held : Option Kept) (seat : MapSeat) → IsHand seat own held
+    → (grip : Grip) × (seat.me.0.role ≡ Reader (caller_number seat.me.0.role) grip)
+hand_role own None seat is = (Nothing, is.1.idle)
+hand_role own (Some kept) seat is = let role : Role = seat.me.0.role in
+    (grip_of (holding role (is_sized (grip_of role))), is.holds.holds.holds.is)
+
 -- who holds by its word says so
 pub loud_by_word : (own : Own) (held : Held) (seat : MapSeat) → Pins seat own held → 0 < held.says → 0 < seat.me.0.says
 loud_by_word own held seat pins loud = omega (arith, pins.holds.says, loud)
+
+pub finds_loud : (own : Own) (held : Held) (seat : MapSeat) → Pins seat own held → 0 < held.says
+    → finds_by_word (token seat) ≡ true
+finds_loud own held seat pins loud =
+    lt-ltb ((token seat).number - 1) (token seat).table.announcers
+    (omega (arith, pins.reader.number, pins.holds.worded loud))
 
 pub silent_by_count : (own : Own) (held : Held) (seat : MapSeat) → Pins seat own held → held.says ≡ 0
     → seat.me.0.says ≡ 0

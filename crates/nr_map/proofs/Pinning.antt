@@ -1,14 +1,17 @@
 -- What a hold comes to: for a reader that held nothing, for a hand that let go what it held, and for one that reads the
 -- rows then.
-use Rattle.std.proofs.Common.{◌≡◌, ℕ, ◌+◌, ◌-◌, ◌*◌, Option, Some, None, ⊎_elim, inl, inr, refl, ap, ◌∙◌, sym, subst}
-use Rattle.std.proofs.Common.{arith, Bool, true, List, [], ◌∷◌, ◌++◌, length}
-use Rattle.std.specs.Prelude.{IsSome, Ok, Err, is_some, nat_lt}
+use Rattle.std.proofs.Common.{◌≡◌, ℕ, ◌+◌, ◌-◌, ◌*◌, ◌<◌, Option, Some, None, ⊎_elim, inl, inr, refl, ap, ◌∙◌, sym}
+use Rattle.std.proofs.Common.{subst, arith, Bool, cond, true, List, [], ◌∷◌, ◌++◌, length}
+use Rattle.std.specs.Prelude.{◌&&◌, Ok, Err, nat_lt}
+use Rattle.std.proofs.lemmas.Bool.{lt-ltb}
+use Rattle.nr_words.specs.KeyWords.{is_filled}
 use Rattle.nr_model.specs.Histories.{Entry, after}
 use Rattle.nr_model.specs.Maps.{state_of}
 use Rattle.nr_model.specs.declared.calls.Call.TheVariants as model
 use Rattle.nr_model.specs.declared.calls.Reply.TheVariants as reply
 use Rattle.nr_model.specs.declared.rows.Row.{Row}
 use Rattle.nr_model.specs.Rows.{IsRowSet}
+use Rattle.nr_machine.specs.Slots.{name_number}
 use Rattle.nr_machine.specs.Story.{entry}
 use Rattle.nr_machine.specs.declared.roles.Role.{Role}
 use Rattle.nr_marks.specs.Marks.{LoggedLoad, Marks, acted, gripped, with_loads}
@@ -16,16 +19,18 @@ use Rattle.nr_marks.specs.Puts.{put_number}
 use Rattle.nr_board.proofs.Holding.{rests_gains}
 use Rattle.nr_board.proofs.Tokens.{MapSeat, grows_rests}
 use Rattle.nr_board.specs.Callers.{Caller, Gains, Rests, Table, map_at_opening, token}
-use Rattle.nr_board.specs.Holds.{FindsRows, HeldIn, HoldsAfter, LooksAgain, finds_by_word, looks_at}
+use Rattle.nr_board.specs.Holds.{FindsRows, HeldIn, HoldsAfter, LooksAgain, MovesTo, finds_by_word, looks_at}
 use Rattle.nr_board.specs.Kinds.{kind_of}
 use Rattle.nr_board.specs.Views.{grip_of, rows_held}
 use Rattle.nr_board.specs.declared.answers.Found.TheVariants as found
 use Rattle.nr_board.specs.declared.answers.KeyKind.TheVariants as kind
+use Rattle.nr_board.specs.declared.board.Own.{Own}
 use Rattle.nr_board.specs.declared.holds.Held.{Held}
 use Rattle.nr_map.specs.declared.hand.Kept.{Kept}
-use Rattle.nr_map.specs.Pins.{PinsKey}
-use Rattle.nr_map.specs.Hands.{CopiesHeld, FindsKept, Handed, HoldsKey, KeepsByHand, LetsGo, PinsByHand, departed}
-use Rattle.nr_map.specs.Hands.{handed, steps_to_depart}
+use Rattle.nr_map.specs.Pins.{HoldsSlot, Pins, PinsKey}
+use Rattle.nr_map.specs.Hands.{CopiesHeld, FindsKept, Handed, HoldsKey, KeepsByHand, LetsGo, MovesByHand, PinsByHand}
+use Rattle.nr_map.specs.Hands.{departed, goes_on, handed, steps_to_depart}
+use Rattle.nr_map.proofs.HandSteps.{finds_loud, holds_slot, loud_by_word}
 
 -- a reader that found a hole comes back
 pub pins_hole : (table : Table) (key : ℕ) (reader back : Caller) (old new : MapSeat) → token old ≡ reader
@@ -48,8 +53,8 @@ pins_hole table key reader back old new is came holds =
 -- a hold of a key's set, by the seats before and after it
 module _ (table : Table) (key : ℕ) (old new : MapSeat) (held : Held)
     (holds : HoldsAfter 0 (finds_by_word (token old)) table key old.me.0.marks old new (Some held)) where
-  some_held : IsSome (token new).holds
-  some_held = ap (λ (r : Role). is_some (gripped (grip_of r))) holds.answered.held_as.holds.holds.is
+  holds_its_slot : HoldsSlot (token new)
+  holds_its_slot = holds_slot table held new holds.answered.held_as
 
   -- a reader's pin
   pub pins_key : (reader : Caller) → token old ≡ reader
@@ -65,7 +70,7 @@ module _ (table : Table) (key : ℕ) (old new : MapSeat) (held : Held)
           gains = holds.answered.gains;
         },
         holds.answered.marks_are,
-        some_held,
+        holds_its_slot,
         holds.answered.held_as.says,
       )
 
@@ -108,7 +113,7 @@ module _ (table : Table) (key : ℕ) (old new : MapSeat) (held : Held)
         row_set =
             subst (λ (t : Table). IsRowSet t.shape.rows (rows_held new.me.0.role))
             (sym holds.answered.held_as.holds.own ∙ finds.gains.table) holds.answered.held_as.holds.holds.row_set;
-        holds = some_held;
+        holds = holds_its_slot;
         marks =
             holds.answered.marks_are
             ∙ (λ j. acted
@@ -118,6 +123,40 @@ module _ (table : Table) (key : ℕ) (old new : MapSeat) (held : Held)
       holds.answered.held_as.says,
     )
 
+-- a hand that holds by its word went on to a key's set
+pub moves_by_hand : (table : Table) (key word : ℕ) (own : Own) (old new : MapSeat) (was kept : Kept) (held : Held)
+    → Pins old own was.set → 0 < was.set.says → kept.key ≡ key → MovesTo table key word old new (Some held)
+    → MovesByHand key word (handed old (Some was)) (handed new (Some kept)) true
+moves_by_hand table key word own old new was kept held pins loud same moves =
+    let so = moves.answered in
+    let by = finds_loud own was.set old pins loud in
+    let goes : goes_on old.me.0.says word ≡ is_filled word
+    = ap (λ (b : Bool). b && is_filled word) (lt-ltb 0 old.me.0.says (loud_by_word own was.set old pins loud)) in (
+      moves.steps,
+      moves.named,
+      subst
+          (λ (p : Bool × Bool × ℕ). HeldIn p.0 (cond {A = List ℕ} p.1 (name_number word ∷ []) [] ++ moves.named) p.2
+          moves.steps)
+          (λ j. (sym by j, sym goes j, sym so.held_as.says j)) moves.takes,
+      subst
+          (λ (b : Bool). Gains (moves.steps + cond {A = ℕ} b 0 2 - 1) (model.Find key) (token old) (token new)
+          (reply.Rows (rows_held new.me.0.role)))
+          (sym goes) so.gains,
+      record {
+        key_is = ap Some same;
+        row_set =
+            subst (λ (t : Table). IsRowSet t.shape.rows (rows_held new.me.0.role))
+            (sym so.held_as.holds.own ∙ so.gains.table) so.held_as.holds.holds.row_set;
+        holds = holds_slot table held new so.held_as;
+        marks =
+            so.marks_are
+            ∙ (λ j. acted
+            (with_loads (departed (Some was.key) old.me.0.marks) (sym (ap (λ (m : Marks). m.loads) so.marks_are) j))
+            (put_number new.me.0.seen key));
+      },
+      ap (λ (m : Marks). m.loads) so.marks_are,
+    )
+
 -- a hand that keeps its hold read the rows that it holds
 module _ {Room : Type 0} (shows : Room → List Row → Type 0) (key : ℕ) (old mid new : Handed) (before room : Room)
     (copies : CopiesHeld (2 * length mid.rows) mid new) (shown : shows room mid.rows) where
@@ -125,7 +164,12 @@ module _ {Room : Type 0} (shows : Room → List Row → Type 0) (key : ℕ) (old
   still_holds so = record {
     key_is = copies.key_is ∙ so.key_is;
     row_set = subst (IsRowSet old.reader.table.shape.rows) (sym copies.rows) so.row_set;
-    holds = ap (λ (o : Option ℕ). is_some o) copies.holds ∙ so.holds;
+    holds = record {
+      slot = so.holds.slot;
+      is = copies.holds ∙ so.holds.is;
+      inside = subst (λ (t : Table). so.holds.slot < t.shape.slots) (sym copies.rests.table) so.holds.inside;
+      said = λ loud. copies.says ∙ so.holds.said (omega (arith, loud, copies.says));
+    };
     marks =
         copies.marks ∙ so.marks
         ∙ (λ j. acted (with_loads (departed old.key old.reader.marks) (sym copies.marks j).loads)

@@ -4,7 +4,8 @@ use Rattle.nr_model.specs.declared.rows.Row.{Row}
 use Rattle.nr_model.specs.Rows.{IsRowSet}
 use Rattle.nr_model.specs.declared.calls.Call.TheVariants as model
 use Rattle.nr_model.specs.declared.calls.Reply.TheVariants as reply
-use Rattle.nr_marks.specs.Marks.{Marks, acted}
+use Rattle.nr_marks.specs.Marks.{Marks, acted, with_loads}
+use Rattle.nr_marks.specs.Puts.{put_number}
 use Rattle.nr_board.specs.declared.answers.Found.{Found}
 use Rattle.nr_board.specs.declared.answers.Found.TheVariants as found
 use Rattle.nr_map.specs.declared.answers.Asked.{Asked}
@@ -44,6 +45,11 @@ acts_of found.Hole = 1
 abbrev pub marks_found : Found → Marks → ℕ → Marks
 marks_found found.Rows marks put = acted (acted marks put) put
 marks_found found.Hole marks put = acted marks put
+
+-- of a reader that found a key, with the loads that its looks were
+abbrev pub MarksFound : ℕ → Caller → Caller → Found → Type 0
+MarksFound key old new answer =
+    new.marks ≡ marks_found answer (with_loads old.marks new.marks.loads) (put_number new.seen key)
 
 -- a request: a ticket comes with Send alone, and has the map, the key and the number of the reply
 abbrev pub AsksKey : ℕ → Caller → Caller → Asked → Type 0

@@ -4,7 +4,7 @@ use Rattle.nr_model.specs.declared.rows.Row.{Row}
 use Rattle.nr_board.specs.Callers.{Caller, token}
 use Rattle.nr_board.specs.Views.{view_of}
 use Rattle.nr_board.specs.WriterSeats.{MapSeat}
-use Rattle.nr_map.specs.Answers.{FindsIn, acts_of}
+use Rattle.nr_map.specs.Answers.{FindsIn, MarksFound}
 use Rattle.nr_map.specs.declared.wanted.Wanted.{Wanted}
 
 -- a find of one of the keys into its room, as a single find
@@ -13,7 +13,8 @@ pub record FindsWanted {Room : Type 0} (shows : Room → List Row → Type 0) (o
   pub key : found.key ≡ wanted.key
   pub finds : FindsIn shows wanted.key old wanted.rows new found.rows found.found
   pub idle : new.holds ≡ None
-  pub acts : new.marks.acts ≡ old.marks.acts + acts_of found.found
+  pub silent : new.says ≡ 0
+  pub marks : MarksFound wanted.key old new found.found
 
 -- that many loads that tell nothing
 abbrev pub with_loads : ℕ → Caller → Caller

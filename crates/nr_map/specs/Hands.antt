@@ -1,6 +1,6 @@
 -- A reader that is idle or holds the set of a key.
 use Rattle.std.specs.Prelude.{◌≡◌, ◌≢◌, ℕ, suc, ◌+◌, ◌-◌, ◌*◌, ◌<◌, ◌==◌, ◌⊎◌, ◌&&◌, ◌||◌, nat_lt, Bool, true, false}
-use Rattle.std.specs.Prelude.{if◌then◌else◌, List, [], ◌∷◌, ◌++◌, length, Option, Some, None, IsSome, Result, Ok, Err}
+use Rattle.std.specs.Prelude.{if◌then◌else◌, List, [], ◌∷◌, ◌++◌, length, Option, Some, None, Result, Ok, Err}
 use Rattle.atomic_table.specs.declared.shared.Seat.{Seat}
 use Rattle.nr_model.specs.declared.rows.Row.{Row}
 use Rattle.nr_model.specs.Rows.{IsRowSet}
@@ -19,8 +19,8 @@ use Rattle.nr_board.specs.Seats.{IdlesAt}
 use Rattle.nr_board.specs.declared.board.Own.{Own}
 use Rattle.nr_board.specs.Views.{View, rows_held, view_of}
 use Rattle.nr_map.specs.declared.hand.Kept.{Kept}
-use Rattle.nr_map.specs.Answers.{FindsIn, marks_found}
-use Rattle.nr_map.specs.Pins.{Pinned, Pins}
+use Rattle.nr_map.specs.Answers.{FindsIn, MarksFound}
+use Rattle.nr_map.specs.Pins.{HoldsSlot, Pinned, Pins}
 use Rattle.nr_machine.specs.Slots.{name_number}
 use Rattle.nr_words.specs.KeyWords.{is_filled}
 use Rattle.nr_map.specs.Tokens.{IsReader}
@@ -94,7 +94,7 @@ pub record CopiesHeld (steps : ℕ) (old new : Handed) : Type 0 where
 pub record HoldsKey (key : ℕ) (old new : Handed) : Type 0 where
   pub key_is : new.key ≡ Some key
   pub row_set : IsRowSet old.reader.table.shape.rows new.rows
-  pub holds : IsSome new.reader.holds
+  pub holds : HoldsSlot new.reader
   pub marks : new.reader.marks
       ≡ acted (with_loads (departed old.key old.reader.marks) new.reader.marks.loads) (put_number new.reader.seen key)
 
@@ -150,8 +150,7 @@ pub record FindsAndLetsGo {Room : Type 0} (shows : Room → List Row → Type 0)
   pub rests : new ≡ idle new.reader
   pub holds : new.reader.holds ≡ None
   pub silent : new.reader.says ≡ 0
-  pub marks : new.reader.marks
-      ≡ marks_found answer (with_loads reader.marks new.reader.marks.loads) (put_number new.reader.seen key)
+  pub marks : MarksFound key reader new.reader answer
 
 -- the hand asked in vain before it came to where it is: with its first look since
 abbrev pub AskedBefore : ℕ → Handed → Handed → Type 0

@@ -1,5 +1,5 @@
 -- A reader that holds a set.
-use Rattle.std.specs.Prelude.{◌≡◌, ℕ, Bool, true, false, List, [], IsSome, None, Result, Ok, Err}
+use Rattle.std.specs.Prelude.{◌≡◌, ℕ, suc, ◌<◌, Bool, true, false, List, [], Some, None, Result, Ok, Err}
 use Rattle.atomic_table.specs.declared.shared.Seat.{Seat}
 use Rattle.nr_model.specs.declared.rows.Row.{Row}
 use Rattle.nr_model.specs.declared.calls.Call.TheVariants as model
@@ -26,13 +26,21 @@ pub record Pins (seat : Seat (Unit {0}) View) (own : Own) (held : Held) : Type 0
   pub holds : HeldAs (token seat).table held seat
   pub reader : IsReader seat own
 
+-- The slot that a reader holds. By its word it is the one that this says, which the last look at the key named; by a
+-- count it is one of the map's.
+pub record HoldsSlot (reader : Caller) : Type 0 where
+  pub slot : ℕ
+  pub is : reader.holds ≡ Some slot
+  pub inside : slot < reader.table.shape.slots
+  pub said : 0 < reader.says → reader.says ≡ suc slot
+
 -- a pin is a find, in the steps of a hold: of a filled key it holds the rows of the reply, whose put number is the
 -- key's, and a hole gives the reader back
 abbrev pub PinsKey : ℕ → Caller → Result Pinned Caller → Type 0
 PinsKey key old (Ok pin) =
     (finds : FindsRows 0 key pin.rows old pin.reader)
     × (pin.reader.marks ≡ acted (looked old.marks key finds.named) (put_number pin.reader.seen key))
-    × IsSome pin.reader.holds × (pin.reader.says ≡ finds.says)
+    × HoldsSlot pin.reader × (pin.reader.says ≡ finds.says)
 PinsKey key old (Err reader) =
     (finds : FindsHole 0 key old reader)
     × (reader.marks ≡ acted (looked old.marks key finds.named) (put_number reader.seen key)) × (reader.holds ≡ None)

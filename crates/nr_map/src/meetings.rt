@@ -2,7 +2,7 @@
 ghost use Rattle.std.specs.Prelude.{◌≡◌, ◌<◌};
 ghost use Rattle.nr_board.specs.Meetings.{Gathers, Meets, StatesKey, with_step};
 
-use crate::pin::Pin;
+use crate::hand::Hand;
 use crate::reader::Reader;
 use crate::reader_map::ReaderMap;
 use crate::writer::Writer;
@@ -51,13 +51,13 @@ impl ReaderMap {
         self.board.hear(&mut reader.caller.seat, &mut writer.seat);
     }
 
-    /// The same with a reader that holds a set, which it keeps.
-    pub fn gather_pin(&self, writer: &mut Writer, pin: &mut Pin)
-        requires own { (pin.old.reader.table ≡ self.now) × (writer.old.table ≡ self.now) }
-        ensures gathers { Gathers writer.old pin.old.reader writer.new pin.new.reader }
-        ensures rows { pin.new.rows ≡ pin.old.rows }
+    /// The same with a hand's reader. What the hand holds stays held.
+    pub fn gather_hand(&self, writer: &mut Writer, hand: &mut Hand)
+        requires own { (hand.old.reader.table ≡ self.now) × (writer.old.table ≡ self.now) }
+        ensures gathers { Gathers writer.old hand.old.reader writer.new hand.new.reader }
+        ensures held { (hand.new.key ≡ hand.old.key) × (hand.new.rows ≡ hand.old.rows) }
     {
-        self.board.hear(&mut writer.seat, &mut pin.caller.seat);
-        self.board.hear(&mut pin.caller.seat, &mut writer.seat);
+        self.board.hear(&mut writer.seat, &mut hand.caller.seat);
+        self.board.hear(&mut hand.caller.seat, &mut writer.seat);
     }
 }

@@ -1,5 +1,5 @@
 //! A reader's token, and its calls.
-ghost use Rattle.std.specs.Prelude.{◌≡◌, ◌<◌, ◌+◌, None};
+ghost use Rattle.std.specs.Prelude.{◌≡◌, ◌<◌, None};
 ghost use Rattle.nr_board.specs.Callers.{token};
 
 use crate::answers::Asked;
@@ -61,7 +61,7 @@ impl Reader {
 impl ReaderMap {
     ghost use Rattle.nr_model.specs.Rows.{IsRowSet};
     ghost use Rattle.nr_board.specs.declared.answers.Found.TheVariants as found;
-    ghost use Rattle.nr_map.specs.Answers.{AsksKey, FindsIn, FindsKey, acts_of};
+    ghost use Rattle.nr_map.specs.Answers.{AsksKey, FindsIn, FindsKey, MarksFound};
 
     /// Looks a key up, and writes its rows into the caller's set, which stays as it is where the
     /// key is a hole. By the counts it takes 1 step for a hole, and 2n + 3 for n rows: it arrives,
@@ -78,7 +78,7 @@ impl ReaderMap {
         ensures row_set { result ≡ found.Rows → IsRowSet reader.old.table.shape.rows rows.new }
         ensures idle { reader.new.holds ≡ None }
         ensures silent { reader.new.says ≡ 0 }
-        ensures acts { reader.new.marks.acts ≡ reader.old.marks.acts + acts_of result }
+        ensures marks { MarksFound key reader.old reader.new result }
     {
         self.find_into(reader, key, rows)
     }
@@ -92,7 +92,7 @@ impl ReaderMap {
         ensures finds { FindsIn R.shows key reader.old rows.old reader.new rows.new result }
         ensures idle { reader.new.holds ≡ None }
         ensures silent { reader.new.says ≡ 0 }
-        ensures acts { reader.new.marks.acts ≡ reader.old.marks.acts + acts_of result }
+        ensures marks { MarksFound key reader.old reader.new result }
     {
         reader.caller.find(self, key, rows)
     }

@@ -1,14 +1,13 @@
 //! What a reader, a pin and a hand have in common: the token of a reader, whatever it holds.
 ghost use Rattle.std.specs.Prelude.{◌≡◌, ◌↔◌, ◌<◌, ◌*◌, ◌^◌, suc, length, slice_get, true, Some};
-ghost use Rattle.nr_marks.specs.Marks.{acted, with_loads};
-ghost use Rattle.nr_marks.specs.Puts.{put_number};
+ghost use Rattle.nr_marks.specs.Marks.{acted};
 ghost use Rattle.nr_board.specs.Callers.{KnowsOwn, Rests, token};
 ghost use Rattle.nr_board.specs.Holds.{HeldAs, HoldsAfter, LooksAgain, finds_by_word};
 ghost use Rattle.nr_board.specs.Meetings.{HasPut, HearsNote, known_to, with_step};
 ghost use Rattle.nr_board.specs.Notes.{IsCaller};
 ghost use Rattle.nr_board.specs.Seats.{IdlesAt};
 ghost use Rattle.nr_board.specs.Views.{rows_held, view_of};
-ghost use Rattle.nr_map.specs.Answers.{AsksKey, FindsIn, marks_found};
+ghost use Rattle.nr_map.specs.Answers.{AsksKey, FindsIn, MarksFound};
 ghost use Rattle.nr_map.specs.Pins.{FindsByPin};
 ghost use Rattle.nr_map.specs.Tokens.{IsReader};
 
@@ -112,7 +111,7 @@ impl Token {
         ensures reader { IsReader self.new.seat self.new.own }
         ensures idle { IdlesAt map.now self.new.seat }
         ensures finds { FindsIn R.shows key (token self.old.seat) rows.old (token self.new.seat) rows.new result }
-        ensures marks { (view_of self.new.seat).marks ≡ marks_found result (with_loads (view_of self.old.seat).marks (view_of self.new.seat).marks.loads) (put_number (view_of self.new.seat).seen key) }
+        ensures marks { MarksFound key (token self.old.seat) (token self.new.seat) result }
     {
         let Some(held) = self.hold(map, key) else {
             return Found::Hole;

@@ -7,7 +7,7 @@ ghost use Rattle.nr_board.specs.Rule.{StartsWith};
 use crate::calls::{ask, fill};
 use crate::opening::opened;
 use crate::page::Page;
-use nr_map::{Pin, Reader, ReaderMap, Writer};
+use nr_map::{Hand, Reader, ReaderMap, Writer};
 use nr_model::{OpenFault, RowSet};
 use std::alloc::Global;
 
@@ -41,14 +41,14 @@ fn inform(map: &ReaderMap, writer: &mut Writer, reader: &mut Reader)
     map.meet(reader, writer);
 }
 
-// A reader that holds a set is gathered through its pin, which has the same rows after it.
-fn gather_holder(map: &ReaderMap, writer: &mut Writer, pin: &mut Pin)
-    requires own { (pin.old.reader.table ≡ map.now) × (writer.old.table ≡ map.now) }
-    ensures own { (pin.new.reader.table ≡ map.now) × (writer.new.table ≡ map.now) }
-    ensures calls { entries_of writer.new.seen pin.old.reader.number ≡ pin.old.reader.mine }
-    ensures rows { pin.new.rows ≡ pin.old.rows }
+// A reader that holds a set is gathered through its hand, which has the same rows after it.
+fn gather_holder(map: &ReaderMap, writer: &mut Writer, hand: &mut Hand)
+    requires own { (hand.old.reader.table ≡ map.now) × (writer.old.table ≡ map.now) }
+    ensures own { (hand.new.reader.table ≡ map.now) × (writer.new.table ≡ map.now) }
+    ensures calls { entries_of writer.new.seen hand.old.reader.number ≡ hand.old.reader.mine }
+    ensures held { (hand.new.key ≡ hand.old.key) × (hand.new.rows ≡ hand.old.rows) }
 {
-    map.gather_pin(writer, pin);
+    map.gather_hand(writer, hand);
 }
 
 // The rows of a pin that was gathered while its key was evicted. Where the key is a hole there is
@@ -57,16 +57,15 @@ fn hold_meanwhile(map: &ReaderMap, writer: &mut Writer, reader: Reader, page: &m
     requires own { (reader.table ≡ map.now) × (writer.old.table ≡ map.now) }
     requires key { 0 < map.now.shape.keys }
 {
-    let mut pin = match map.pin(reader, 0) {
-        Ok(pin) => pin,
-        Err(_) => return,
-    };
-    map.evict(writer, 0);
-    gather_holder(map, writer, &mut pin);
-    let mut rows = RowSet::new();
-    pin.copy_to(map, &mut rows);
-    page.line("a pin that was gathered has ", &rows.as_slice());
-    pin.release(map);
+    let mut hand = Hand::of(reader);
+    if hand.pin(map, 0) {
+        map.evict(writer, 0);
+        gather_holder(map, writer, &mut hand);
+        let mut rows = RowSet::new();
+        hand.copy_to(map, &mut rows);
+        page.line("a pin that was gathered has ", &rows.as_slice());
+    }
+    hand.into_reader(map);
 }
 
 // Reader 1 asks for key 0, the writer gathers it, and it tells reader 2. A proof may then say that the

@@ -8,5 +8,5 @@ use Rattle.nr_alone.proofs.alone.Alone.keys.Goals as goal
 pub returns : goal.returns
 returns c =
     let inside = c.self.inside in
-    c.keys.ensures ∙ sym (keys_are inside.map (log_of inside.writer inside.tokens.items))
+    c.keys.ensures ∙ sym (keys_are inside.map (log_of inside.writer inside.hands.items))
     ∙ ap (λ (s : MapState). key_count s.map) c.self.view_is

@@ -10,13 +10,13 @@ pub number-requires-clause-key : goal.number-requires-clause-key
 number-requires-clause-key c =
     let inside = c.self.inside in
     let low = subst (λ (s : MapState). c.args.key < key_count s.map) (sym c.self.view_is) c.requires in
-    omega (arith, low, keys_are inside.map (log_of inside.writer inside.tokens.items))
+    omega (arith, low, keys_are inside.map (log_of inside.writer inside.hands.items))
 
 pub returns : goal.returns
 returns c =
     let inside = c.self.inside in
     let low = subst (λ (s : MapState). c.args.key < key_count s.map) (sym c.self.view_is) c.requires in
     c.number.ensures.number
-    ∙ number_is c.numbers_count_cancels.ensures c.legal_begins.ensures inside.map inside.writer inside.tokens.items
-    c.self.invariant c.args.key (omega (arith, low, keys_are inside.map (log_of inside.writer inside.tokens.items)))
+    ∙ number_is c.numbers_count_cancels.ensures c.legal_begins.ensures inside.map inside.writer inside.hands.items
+    c.self.invariant c.args.key (omega (arith, low, keys_are inside.map (log_of inside.writer inside.hands.items)))
     ∙ ap (λ (s : MapState). number_of (state_of s.map c.args.key)) c.self.view_is

@@ -7,5 +7,5 @@ use Rattle.nr_alone.proofs.alone.Alone.rows.Goals as goal
 pub returns-clause-value : goal.returns-clause-value
 returns-clause-value c =
     let inside = c.self.inside in
-    c.rows.ensures.value ∙ sym (bound_is inside.map (log_of inside.writer inside.tokens.items))
+    c.rows.ensures.value ∙ sym (bound_is inside.map (log_of inside.writer inside.hands.items))
     ∙ ap (λ (s : MapState). s.map.bound) c.self.view_is

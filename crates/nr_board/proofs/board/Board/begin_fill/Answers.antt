@@ -1,4 +1,4 @@
-use Rattle.std.proofs.Common.{ap, arith, false, subst, sym, true, ◌≡◌, refl}
+use Rattle.std.proofs.Common.{arith, false, subst, sym, true, ◌≡◌, refl}
 use Rattle.nr_model.specs.declared.calls.Reply.TheVariants as reply
 use Rattle.nr_words.specs.KeyWords.{slot_of}
 use Rattle.nr_machine.specs.Given.{IsGivenCall}

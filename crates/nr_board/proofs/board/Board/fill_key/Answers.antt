@@ -1,8 +1,5 @@
-use Rattle.std.proofs.Common.{List, ap, subst, sym, ℕ}
-use Rattle.nr_machine.specs.States.{key_of}
-use Rattle.nr_machine.specs.declared.calls.WriterCall.{WriterCall}
+use Rattle.std.proofs.Common.{List, subst, sym, ℕ}
 use Rattle.nr_board.proofs.WriterCalls.{has_lacked, has_published}
-use Rattle.nr_board.specs.WriterSeats.{Settles}
 use Rattle.nr_board.specs.Flags.{IsFlagged}
 use Rattle.nr_board.proofs.board.Board.fill_key.Goals as goal
 

@@ -1,6 +1,4 @@
-use Rattle.std.proofs.Common.{List, ap, refl, subst, sym, ℕ}
-use Rattle.nr_machine.specs.States.{key_of}
-use Rattle.nr_machine.specs.declared.calls.WriterCall.{WriterCall}
+use Rattle.std.proofs.Common.{List, subst, sym, ℕ}
 use Rattle.nr_board.proofs.Waiting.{given_out, set_later}
 use Rattle.nr_board.proofs.WriterCalls.{has_lacked, has_published}
 use Rattle.nr_board.specs.Flags.{IsFlagged}

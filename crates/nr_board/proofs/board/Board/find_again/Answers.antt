@@ -1,4 +1,4 @@
-use Rattle.std.proofs.Common.{ap, ℕ, suc, subst, sym, Bool, true, eq-eqb, ◌∙◌, ◌≡◌}
+use Rattle.std.proofs.Common.{ap, suc, subst, sym, Bool, true, eq-eqb, ◌∙◌, ◌≡◌}
 use Rattle.std.proofs.lemmas.Bool.{eqb-true}
 use Rattle.std.specs.Prelude.{◌↔◌}
 use Rattle.nr_machine.specs.Slots.{name_number, names_slot}

@@ -1,8 +1,6 @@
-use Rattle.std.proofs.Common.{ap, arith, subst, sym, ℕ, ◌<◌, ◌∙◌, ◌≡◌}
+use Rattle.std.proofs.Common.{ap, arith, subst, sym, ℕ, ◌<◌, ◌∙◌}
 use mathlib.Core.Option.{none}
 use Rattle.atomic_table.specs.Table.{Allows, step}
-use Rattle.nr_machine.specs.declared.roles.Desk.{Desk}
-use Rattle.nr_machine.specs.declared.shape.Shape.{Shape}
 use Rattle.nr_board.proofs.BoardPlaces.{said_at, said_in, stands}
 use Rattle.nr_board.proofs.Scanning.{scans_so}
 use Rattle.nr_board.specs.Announcing.{says_at}

@@ -1,4 +1,4 @@
-use Rattle.std.proofs.Common.{Bool, List, length, subst, sym, ℕ, ◌+◌, ◌∙◌, ◌≡◌}
+use Rattle.std.proofs.Common.{Bool, List, subst, sym, ℕ, ◌+◌, ◌∙◌}
 use Rattle.nr_board.proofs.WholeScans.{ScanGoes, scan_begins, scan_goes}
 use Rattle.nr_board.proofs.board.Board.scan_words.Goals as goal
 

@@ -1,4 +1,4 @@
-use Rattle.std.proofs.Common.{Bool, List, [], ap, length, subst, sym, ℕ, ◌<◌, ◌≤◌, ◌∙◌, ◌≡◌}
+use Rattle.std.proofs.Common.{ap, length, subst, ◌∙◌}
 use Rattle.nr_machine.specs.Spares.{Spare, none_spare}
 use Rattle.nr_board.proofs.RetiredSearch.{lacks_so, takes_first, takes_second}
 use Rattle.nr_board.specs.Flags.{Flagged}

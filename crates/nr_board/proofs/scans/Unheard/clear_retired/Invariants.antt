@@ -1,4 +1,4 @@
-use Rattle.nr_board.proofs.WholeScans.{ClearedTo}
+use Rattle.nr_board.proofs.ScannedWords.{ClearedTo}
 use Rattle.nr_board.proofs.scans.Unheard.clear_retired.Given as goal
 
 abbrev pub invariant-loop-place : goal.invariant-loop-place

@@ -1,0 +1,528 @@
+-- What a load of a reader's own word does in a scan: which retired slots have a flag then, and which were heard.
+use Rattle.std.proofs.Common.{◌≡◌, ◌≢◌, ℕ, suc, zero, ◌+◌, ◌-◌, ◌<◌, ◌≤◌, ◌⊎◌, ⊎_elim, inl, inr, List, [], ◌∷◌, ◌++◌}
+use Rattle.std.proofs.Common.{Bool, true, false, cond, length, get_or, set, nat_eq, eq-eqb, ne_eqb, get_or-set_other}
+use Rattle.std.proofs.Common.{get_or-set_same, length-set, refl, sym, ap, ◌∙◌, subst, arith, length-append}
+use Rattle.std.proofs.lemmas.Bool.{eqb-true, lt-ltb, ltb-true}
+use Rattle.std.specs.Prelude.{nat_lt, not, Some, None, ◌&&◌}
+use mathlib.Core.Logic.{dite}
+use mathlib.Core.Option.{some, some-injective}
+use native.Mathlib.Decide.{ℕ_discrete}
+use lib.ListN.{get_elem?}
+use Rattle.nr_core.proofs.Choices.{by_cases}
+use Rattle.nr_core.proofs.Sums.{at_snoc, only-is, only-le, only-other, only-same, some_term, total-append}
+use Rattle.nr_core.specs.Roles.{retirements}
+use Rattle.nr_machine.specs.Sums.{only, total}
+use Rattle.nr_machine.specs.declared.places.Retired.{Retired}
+use Rattle.nr_machine.specs.declared.roles.Desk.{Desk}
+use Rattle.nr_marks.specs.Marks.{Past, with_scan}
+use Rattle.nr_board.proofs.SearchSeats.{inside_list}
+use Rattle.nr_board.proofs.WordLoads.{words_more}
+use Rattle.nr_board.specs.Flags.{OthersFlagged}
+use Rattle.nr_board.specs.Scans.{heard_before, heard_from, heard_now}
+use Rattle.nr_board.specs.SearchPlays.{NotesKeeper, Scanned, keeps_unheard, scan_base}
+use Rattle.nr_board.specs.Views.{View}
+use Rattle.nr_board.specs.WordLoads.{word_load}
+use Rattle.nr_board.specs.WholeScans.{HeardTo, KeepBack, KeepsOne, NoneFlagged, ScannedTo, announced}
+use Rattle.nr_board.specs.WholeScans.{is_unheard, misses}
+
+-- what a load of a reader's word makes of no slot of the map
+heard_outside : (desk : Desk) (own found : ℕ) (heard : List ℕ) (first more at : ℕ) → more ≤ at
+    → get_or (heard_from desk own found heard first more) at 0 ≡ 0
+heard_outside desk own found heard first zero at past = refl
+heard_outside desk own found heard first (suc more) zero past = absurd (omega arith)
+heard_outside desk own found heard first (suc more) (suc at) past =
+    heard_outside desk own found heard (suc first) more at (omega arith)
+
+-- and what of one
+heard_at_slot : (desk : Desk) (own found : ℕ) (heard : List ℕ) (first more at : ℕ) → at < more
+    → get_or (heard_from desk own found heard first more) at 0
+    ≡ heard_now desk own found (first + at) (get_or heard (first + at) 0)
+heard_at_slot desk own found heard first zero at low = absurd (omega arith)
+heard_at_slot desk own found heard first (suc more) zero low =
+    let same : first ≡ first + 0 = omega arith in
+    ap (λ (s : ℕ). heard_now desk own found s (get_or heard s 0)) same
+heard_at_slot desk own found heard first (suc more) (suc at) low =
+    let same : suc first + at ≡ first + suc at = omega arith in
+    heard_at_slot desk own found heard (suc first) more at (omega arith)
+    ∙ ap (λ (s : ℕ). heard_now desk own found s (get_or heard s 0)) same
+
+-- FLAGS
+
+flag_there : (flags : List Bool) (slot : ℕ) → slot < length flags → is_unheard (set flags slot true) slot ≡ true
+flag_there flags slot low = get_or-set_same flags slot true true low
+
+pub flag_elsewhere : (flags : List Bool) (mine slot : ℕ) → slot ≢ mine
+    → is_unheard (set flags mine true) slot ≡ is_unheard flags slot
+flag_elsewhere flags mine slot apart = get_or-set_other flags mine slot true true apart
+
+-- a flag that stands is set once more
+flag_stays : (flags : List Bool) (mine slot : ℕ) → is_unheard flags slot ≡ true
+    → is_unheard (set flags mine true) slot ≡ true
+flag_stays flags mine slot is = dite (ℕ_discrete slot mine)
+    (λ e. subst (λ (n : ℕ). is_unheard (set flags mine true) n ≡ true) (sym e)
+    (again flags mine (subst (λ (n : ℕ). is_unheard flags n ≡ true) e is)))
+    (λ ne. flag_elsewhere flags mine slot ne ∙ is)
+  where
+    again : (l : List Bool) (at : ℕ) → get_or l at true ≡ true → get_or (set l at true) at true ≡ true
+    again [] at e = e
+    again (x ∷ l) zero e = refl
+    again (x ∷ l) (suc at) e = again l at e
+
+-- as many retired slots are flagged as before, where the slot isn't retired or was flagged
+misses_same : (retired : List Retired) (flags : List Bool) (mine : ℕ)
+    → (retirements mine retired ≡ 0) ⊎ (is_unheard flags mine ≡ true)
+    → total (misses (set flags mine true)) retired ≡ total (misses flags) retired
+misses_same [] flags mine none = refl
+misses_same (entry ∷ retired) flags mine none =
+    let rest
+    = misses_same retired flags mine
+    (⊎_elim (λ (z : retirements mine (entry ∷ retired) ≡ 0). inl (omega arith))
+    (λ (t : is_unheard flags mine ≡ true). inr t) none) in
+    let one : is_unheard (set flags mine true) entry.slot ≡ is_unheard flags entry.slot
+    = dite (ℕ_discrete entry.slot mine)
+    (λ e. ⊎_elim
+    (λ (z : retirements mine (entry ∷ retired) ≡ 0). absurd
+    (let one = only-same mine in let same = ap (only mine) e in omega arith))
+    (λ (t : is_unheard flags mine ≡ true).
+    let was : is_unheard flags entry.slot ≡ true = ap (is_unheard flags) e ∙ t in
+    flag_stays flags mine entry.slot was ∙ sym was)
+    none)
+    (λ ne. flag_elsewhere flags mine entry.slot ne) in
+    let first = ap (λ (b : Bool). cond {A = ℕ} b 1 0) one in omega arith
+
+-- one more is, where it was not and is retired once
+misses_more : (retired : List Retired) (flags : List Bool) (mine : ℕ) → retirements mine retired ≡ 1
+    → mine < length flags → is_unheard flags mine ≡ false
+    → total (misses (set flags mine true)) retired ≡ total (misses flags) retired + 1
+misses_more [] flags mine once low unset = absurd (omega arith)
+misses_more (entry ∷ retired) flags mine once low unset = dite (ℕ_discrete entry.slot mine)
+    (λ e.
+    let here : only mine entry.slot ≡ 1 = ap (only mine) e ∙ only-same mine in
+    let rest = misses_same retired flags mine (inl (omega arith)) in
+    let now : misses (set flags mine true) entry ≡ 1
+    = ap (λ (b : Bool). cond {A = ℕ} b 1 0) (ap (is_unheard (set flags mine true)) e ∙ flag_there flags mine low) in
+    let was : misses flags entry ≡ 0 = ap (λ (b : Bool). cond {A = ℕ} b 1 0) (ap (is_unheard flags) e ∙ unset) in
+    omega arith)
+    (λ ne.
+    let here = only-other mine entry.slot ne in let rest = misses_more retired flags mine (omega arith) low unset in
+    let first : misses (set flags mine true) entry ≡ misses flags entry
+    = ap (λ (b : Bool). cond {A = ℕ} b 1 0) (flag_elsewhere flags mine entry.slot ne) in
+    omega arith)
+
+-- where none is flagged none is missed
+pub misses_none : (retired : List Retired) (flags : List Bool)
+    → ((at : ℕ) (entry : Retired) → get_elem? retired at ≡ some entry → is_unheard flags entry.slot ≡ false)
+    → total (misses flags) retired ≡ 0
+misses_none [] flags none = refl
+misses_none (entry ∷ retired) flags none =
+    let rest = misses_none retired flags (λ at e there. none (suc at) e there) in
+    let first = ap (λ (b : Bool). cond {A = ℕ} b 1 0) (none 0 entry refl) in
+    omega arith
+
+-- what is in the list is retired
+pub is_retired : (retired : List Retired) (at : ℕ) (entry : Retired) → get_elem? retired at ≡ some entry
+    → 0 < retirements entry.slot retired
+is_retired [] at entry there = absurd (cc)
+is_retired (x ∷ retired) zero entry there =
+    let same = only-same entry.slot in
+    let one : only entry.slot x.slot ≡ 1
+    = ap (λ (e : Retired). only entry.slot e.slot) (some_is x entry there) ∙ same in
+    omega arith
+  where
+    some_is : (a b : Retired) → some a ≡ some b → a ≡ b
+    some_is a b e = some-injective a b e
+is_retired (x ∷ retired) (suc at) entry there = omega (arith, is_retired retired at entry there)
+
+-- ONE WORD
+
+-- what is noted of a scan stays so where more slots are flagged and more readers looked at
+keeps_one : (flags more : List Bool) (readers : ℕ) (note : Past)
+    → ((slot : ℕ) → is_unheard flags slot ≡ true → is_unheard more slot ≡ true) → KeepsOne flags readers note
+    → KeepsOne more (suc readers) note
+keeps_one flags more readers note on keeps = record {
+  made = keeps.made;
+  few = let few = keeps.few in omega arith;
+  holds =
+      ⊎_elim inl
+      (λ (h : (slot : ℕ) × (note.slot ≡ Some slot) × (is_unheard flags slot ≡ true)). inr (h.0, h.1, on h.0 h.2))
+      keeps.holds;
+}
+
+-- no note is of a reader that was not looked at
+none_later : (flags : List Bool) (readers : ℕ) (notes : List Past) (reader : ℕ) → readers < reader
+    → ((at : ℕ) (note : Past) → get_elem? notes at ≡ some note → KeepsOne flags readers note)
+    → total (λ (note : Past). only reader note.reader) notes ≡ 0
+none_later flags readers notes reader late each =
+    dite (ℕ_discrete (total (λ (note : Past). only reader note.reader) notes) 0) (λ none. none)
+    (λ one. absurd
+    (let t = some_term (λ (note : Past). only reader note.reader) notes (omega arith) in
+    let few = (each t.0 t.1 t.2).few in
+    let is = only-is reader t.1.reader t.3 in
+    omega arith))
+
+module _ (retired : List Retired) (flags : List Bool) (own found : ℕ) (notes now : List Past)
+    (more : (slot : ℕ) → is_unheard flags slot ≡ true → is_unheard (announced found flags) slot ≡ true)
+    (keep : KeepBack retired flags own notes) where
+  -- the word keeps nothing back
+  kept_on : total (misses (announced found flags)) retired ≡ total (misses flags) retired → now ≡ notes
+      → KeepBack retired (announced found flags) (suc own) now
+  kept_on same is = subst (KeepBack retired (announced found flags) (suc own)) (sym is) (record {
+    many = keep.many ∙ sym same;
+    each = λ at note there. keeps_one flags (announced found flags) own note more (keep.each at note there);
+    apart = keep.apart;
+  })
+
+  -- it keeps one slot back
+  kept_one : total (misses (announced found flags)) retired ≡ total (misses flags) retired + 1
+      → is_unheard (announced found flags) (found - 1) ≡ true
+      → (note : Past) → now ≡ notes ++ note ∷ [] → note.reader ≡ suc own
+      → (note.slot ≡ None) ⊎ (note.slot ≡ Some (found - 1)) → KeepBack retired (announced found flags) (suc own) now
+  kept_one one flagged note is reader slot =
+      subst (KeepBack retired (announced found flags) (suc own)) (sym is) (record {
+        many = let long = length-append notes (note ∷ []) in let many = keep.many in omega arith;
+        each = λ at other there. ⊎_elim
+            (λ (old : get_elem? notes at ≡ some other). keeps_one flags (announced found flags) own other more
+            (keep.each at other old))
+            (λ (new : note ≡ other). subst (KeepsOne (announced found flags) (suc own)) new (record {
+              made = omega arith;
+              few = omega arith;
+              holds = ⊎_elim inl (λ (s : note.slot ≡ Some (found - 1)). inr (found - 1, s, flagged)) slot;
+            })) (at_snoc notes note other at there);
+        apart = λ other.
+            let both = total-append (λ (n : Past). only other n.reader) notes (note ∷ []) in
+            dite (ℕ_discrete other (suc own))
+            (λ e.
+            let none = none_later flags own notes other (omega arith) keep.each in
+            let few = only-le other note.reader in
+            omega arith)
+            (λ ne.
+            let none = only-other other note.reader (λ e. ne (sym e ∙ reader)) in
+            let few = keep.apart other in
+            omega arith);
+      })
+
+-- where a slot is one more than that
+suc_of : (found : ℕ) → 0 < found → found ≡ suc (found - 1)
+suc_of found loud = omega arith
+
+pub more_flags : (found : ℕ) (flags : List Bool) (slot : ℕ) → is_unheard flags slot ≡ true
+    → is_unheard (announced found flags) slot ≡ true
+more_flags found flags slot is =
+    by_cases (λ (b : Bool). is_unheard (cond {A = List Bool} b flags (set flags (found - 1) true)) slot ≡ true)
+    (nat_eq found 0) (λ _. is) (λ _. flag_stays flags (found - 1) slot is)
+
+announced_loud : (found : ℕ) (flags : List Bool) → 0 < found → announced found flags ≡ set flags (found - 1) true
+announced_loud found flags loud =
+    ap (λ (b : Bool). cond {A = List Bool} b flags (set flags (found - 1) true)) (ne_eqb found 0 (λ e. omega arith))
+
+announced_none : (found : ℕ) (flags : List Bool) → found ≡ 0 → announced found flags ≡ flags
+announced_none found flags none =
+    ap (λ (b : Bool). cond {A = List Bool} b flags (set flags (found - 1) true)) (eq-eqb found 0 none)
+
+-- either a slot is as it was, or the reader was the next one and says another slot
+either : (desk : Desk) (own found slot count : ℕ)
+    → (heard_now desk own found slot count ≡ heard_before own count)
+    ⊎ ((heard_before own count ≡ own) × (found ≢ suc slot))
+either desk own found slot count = let hb : ℕ = heard_before own count in
+    by_cases
+    (λ (b : Bool). (cond {A = ℕ} (b && (nat_eq hb own && not (nat_eq found (suc slot)))) (suc own) hb ≡ hb)
+    ⊎ ((hb ≡ own) × (found ≢ suc slot)))
+    (nat_lt 0 (retirements slot desk.retired))
+    (λ _. by_cases
+    (λ (b : Bool). (nat_eq hb own ≡ b)
+    → (cond {A = ℕ} (b && not (nat_eq found (suc slot))) (suc own) hb ≡ hb) ⊎ ((hb ≡ own) × (found ≢ suc slot)))
+    (nat_eq hb own)
+    (λ _ next. by_cases
+    (λ (b : Bool). (nat_eq found (suc slot) ≡ b)
+    → (cond {A = ℕ} (not b) (suc own) hb ≡ hb) ⊎ ((hb ≡ own) × (found ≢ suc slot)))
+    (nat_eq found (suc slot))
+    (λ _ _. inl refl)
+    (λ _ other. inr (eqb-true hb own next, λ e. differ (sym (eq-eqb found (suc slot) e) ∙ other))) refl)
+    (λ _ _. inl refl) refl)
+    (λ _. inl refl)
+  where
+    differ : true ≡ false → ⊥
+    differ clash = absurd (cc)
+
+-- what a load of a reader's word makes heard, and what its flag tells of that
+module _ (desk : Desk) (now next : View) (flags : List Bool) (own found : ℕ)
+    (once : (slot : ℕ) → retirements slot desk.retired ≤ 1)
+    (inside : (slot : ℕ) → 0 < retirements slot desk.retired → slot < now.shape.slots)
+    (wide : length flags ≡ now.shape.slots)
+    (first : own ≡ 0 → NoneFlagged desk.retired flags) (heard : 0 < own → HeardTo desk.retired flags own now.heard)
+    (told : next.heard ≡ heard_from desk own found now.heard 0 now.shape.slots) where
+  abbrev said : List Bool
+  said = announced found flags
+
+  clash : true ≡ false → ⊥
+  clash e = absurd (cc)
+
+  -- a retired slot without a flag was heard of the readers before, and one with a flag of fewer
+  whole_is : (slot : ℕ) → 0 < retirements slot desk.retired → is_unheard flags slot ≡ false
+      → heard_before own (get_or now.heard slot 0) ≡ own
+  whole_is slot waits unset = dite (ℕ_discrete own 0)
+      (λ e. ap (λ (b : Bool). cond {A = ℕ} b 0 (get_or now.heard slot 0)) (eq-eqb own 0 e) ∙ sym e)
+      (λ ne. ap (λ (b : Bool). cond {A = ℕ} b 0 (get_or now.heard slot 0)) (ne_eqb own 0 ne)
+      ∙ (heard (omega arith)).whole slot waits unset)
+
+  stuck_is : (slot : ℕ) → 0 < retirements slot desk.retired → is_unheard flags slot ≡ true
+      → heard_before own (get_or now.heard slot 0) < own
+  stuck_is slot waits set_before = dite (ℕ_discrete own 0)
+      (λ e. absurd (clash (sym set_before ∙ first e slot waits)))
+      (λ ne.
+      let is = ap (λ (b : Bool). cond {A = ℕ} b 0 (get_or now.heard slot 0)) (ne_eqb own 0 ne) in
+      let few = (heard (omega arith)).stuck slot waits set_before in
+      omega arith)
+
+  heard_is : (slot : ℕ) → slot < now.shape.slots
+      → get_or next.heard slot 0 ≡ heard_now desk own found slot (get_or now.heard slot 0)
+  heard_is slot low = let same : 0 + slot ≡ slot = omega arith in
+      ap (λ (l : List ℕ). get_or l slot 0) told ∙ heard_at_slot desk own found now.heard 0 now.shape.slots slot low
+      ∙ ap (λ (s : ℕ). heard_now desk own found s (get_or now.heard s 0)) same
+
+  -- a slot that the word says is flagged
+  says_flag : (slot : ℕ) → slot < length flags → found ≡ suc slot → is_unheard said slot ≡ true
+  says_flag slot low e = let loud : 0 < found = omega arith in let mine : found - 1 ≡ slot = omega arith in
+      ap (λ (l : List Bool). is_unheard l slot) (announced_loud found flags loud)
+      ∙ subst (λ (n : ℕ). is_unheard (set flags n true) slot ≡ true) (sym mine) (flag_there flags slot low)
+
+  other_flag : (slot : ℕ) → found ≢ suc slot → is_unheard said slot ≡ is_unheard flags slot
+  other_flag slot other =
+      dite (ℕ_discrete found 0) (λ e. ap (λ (l : List Bool). is_unheard l slot) (announced_none found flags e))
+      (λ ne. ap (λ (l : List Bool). is_unheard l slot) (announced_loud found flags (omega arith))
+      ∙ flag_elsewhere flags (found - 1) slot (λ e. other (omega arith)))
+
+  pub heard_so : HeardTo desk.retired said (suc own) next.heard
+  heard_so = record {
+    whole = λ slot waits unset. let low = inside slot waits in
+        let was : is_unheard flags slot ≡ false
+        = by_cases (λ (b : Bool). is_unheard flags slot ≡ b → is_unheard flags slot ≡ false) (is_unheard flags slot)
+        (λ _ is. absurd (clash (sym (more_flags found flags slot is) ∙ unset))) (λ _ is. is) refl in
+        let apart : found ≢ suc slot = λ e. clash (sym (says_flag slot (omega arith) e) ∙ unset) in
+        let hb = whole_is slot waits was in
+        heard_is slot low
+        ∙ ap
+        (λ (b : Bool).
+        cond {A = ℕ} (b
+        && (nat_eq (heard_before own (get_or now.heard slot 0)) own && not (nat_eq found (suc slot))))
+        (suc own) (heard_before own (get_or now.heard slot 0)))
+        (lt-ltb 0 (retirements slot desk.retired) waits)
+        ∙ ap
+        (λ (b : Bool). cond {A = ℕ} (b && not (nat_eq found (suc slot))) (suc own)
+        (heard_before own (get_or now.heard slot 0)))
+        (eq-eqb (heard_before own (get_or now.heard slot 0)) own hb)
+        ∙ ap (λ (b : Bool). cond {A = ℕ} (not b) (suc own) (heard_before own (get_or now.heard slot 0)))
+        (ne_eqb found (suc slot) apart);
+    stuck = λ slot waits flagged. let low = inside slot waits in let is = heard_is slot low in
+        ⊎_elim
+        (λ (same : heard_now desk own found slot (get_or now.heard slot 0)
+        ≡ heard_before own (get_or now.heard slot 0)).
+        by_cases (λ (b : Bool). is_unheard flags slot ≡ b → get_or next.heard slot 0 < suc own) (is_unheard flags slot)
+        (λ _ was. let few = stuck_is slot waits was in omega arith)
+        (λ _ was. let full = whole_is slot waits was in omega arith) refl)
+        (λ (on : (heard_before own (get_or now.heard slot 0) ≡ own) × (found ≢ suc slot)). absurd
+        (let few = stuck_is slot waits (sym (other_flag slot on.1) ∙ flagged) in omega arith))
+        (either desk own found slot (get_or now.heard slot 0));
+  }
+
+  -- of the other slots nothing is heard from the first word on
+  pub quiet_so : (0 < own → (slot : ℕ) → retirements slot desk.retired ≡ 0 → get_or now.heard slot 0 ≡ 0) → (slot : ℕ)
+      → retirements slot desk.retired ≡ 0 → get_or next.heard slot 0 ≡ 0
+  quiet_so before slot none = dite (ℕ_discrete (min_of slot) 0)
+      (λ low. heard_is slot (omega arith) ∙ now_is ∙ count_is)
+      (λ high. ap (λ (l : List ℕ). get_or l slot 0) told
+      ∙ heard_outside desk own found now.heard 0 now.shape.slots slot (omega arith))
+    where
+      min_of : ℕ → ℕ
+      min_of n = n + 1 - now.shape.slots
+
+      count : ℕ
+      count = heard_before own (get_or now.heard slot 0)
+
+      now_is : heard_now desk own found slot (get_or now.heard slot 0) ≡ count
+      now_is =
+          ap
+          (λ (n : ℕ). cond {A = ℕ} (nat_lt 0 n && (nat_eq count own && not (nat_eq found (suc slot)))) (suc own)
+          count)
+          none
+
+      count_is : count ≡ 0
+      count_is =
+          dite (ℕ_discrete own 0) (λ e. ap (λ (b : Bool). cond {A = ℕ} b 0 (get_or now.heard slot 0)) (eq-eqb own 0 e))
+          (λ ne. ap (λ (b : Bool). cond {A = ℕ} b 0 (get_or now.heard slot 0)) (ne_eqb own 0 ne)
+          ∙ before (omega arith) slot none)
+
+-- a load of it by a search
+module _ (desk : Desk) (before now next : View) (flags : List Bool) (own found : ℕ)
+    (once : (slot : ℕ) → retirements slot desk.retired ≤ 1)
+    (inside : (slot : ℕ) → 0 < retirements slot desk.retired → slot < now.shape.slots)
+    (wide : length flags ≡ now.shape.slots)
+    (so_far : ScannedTo desk.retired before now flags own) (told : Scanned desk own found now next) where
+  abbrev said_now : List Bool
+  said_now = announced found flags
+
+  differs : true ≡ false → ⊥
+  differs e = absurd (cc)
+
+  heard_told : next.heard ≡ heard_from desk own found now.heard 0 now.shape.slots
+  heard_told = ap (λ (v : View). v.heard) told.same
+
+  whole_now : (slot : ℕ) → 0 < retirements slot desk.retired → is_unheard flags slot ≡ false
+      → heard_before own (get_or now.heard slot 0) ≡ own
+  whole_now = whole_is desk now next flags own found once inside wide so_far.first so_far.heard heard_told
+
+  stuck_now : (slot : ℕ) → 0 < retirements slot desk.retired → is_unheard flags slot ≡ true
+      → heard_before own (get_or now.heard slot 0) < own
+  stuck_now = stuck_is desk now next flags own found once inside wide so_far.first so_far.heard heard_told
+
+  base_is : scan_base (suc own) next.marks.polls ≡ next.marks.polls
+  base_is = ap (λ (b : Bool). cond {A = List Past} b [] next.marks.polls) (ne_eqb (suc own) 0 (λ e. omega arith))
+
+  abbrev keeps_it : Bool
+  keeps_it = keeps_unheard desk own found now.heard
+
+  both : (a b : Bool) → (a && b) ≡ true → (a ≡ true) × (b ≡ true)
+  both true b e = (refl, e)
+  both false b e = absurd (differs (sym e))
+
+  keep_so : KeepBack desk.retired said_now (suc own) (scan_base (suc own) next.marks.polls)
+  keep_so = subst (KeepBack desk.retired said_now (suc own)) (sym base_is)
+      (by_cases (λ (b : Bool). keeps_it ≡ b → KeepBack desk.retired said_now (suc own) next.marks.polls) keeps_it
+      (λ _ keeps.
+      let parts = both (nat_lt 0 found) _ keeps in
+      let rest = both (nat_lt 0 (retirements (found - 1) desk.retired)) _ parts.1 in
+      let loud = ltb-true 0 found parts.0 in
+      let waits = ltb-true 0 (retirements (found - 1) desk.retired) rest.0 in
+      let next_is = eqb-true (heard_before own (get_or now.heard (found - 1) 0)) own rest.1 in
+      let low = inside (found - 1) waits in
+      let unset : is_unheard flags (found - 1) ≡ false
+      = by_cases (λ (b : Bool). is_unheard flags (found - 1) ≡ b → is_unheard flags (found - 1) ≡ false)
+      (is_unheard flags (found - 1))
+      (λ _ is. absurd (let few = stuck_now (found - 1) waits is in omega arith)) (λ _ is. is) refl in
+      let told_so
+      = subst (λ (b : Bool). NotesKeeper b own found (scan_base own now.marks.polls) next.marks.polls) keeps
+      told.keeper in
+      let loudly = announced_loud found flags loud in
+      kept_one desk.retired flags own found (scan_base own now.marks.polls) next.marks.polls (more_flags found flags)
+      so_far.keep
+      (ap (λ (l : List Bool). total (misses l) desk.retired) loudly
+      ∙ misses_more desk.retired flags (found - 1) (let most = once (found - 1) in omega arith) (omega arith) unset)
+      (ap (λ (l : List Bool). is_unheard l (found - 1)) loudly ∙ flag_there flags (found - 1) (omega arith))
+      told_so.0 told_so.1 told_so.2 told_so.3)
+      (λ _ lets. kept_on desk.retired flags own found (scan_base own now.marks.polls) next.marks.polls
+      (more_flags found flags) so_far.keep
+      (dite (ℕ_discrete found 0)
+      (λ e. ap (λ (l : List Bool). total (misses l) desk.retired) (announced_none found flags e))
+      (λ ne. ap (λ (l : List Bool). total (misses l) desk.retired) (announced_loud found flags (omega arith))
+      ∙ misses_same desk.retired flags (found - 1) (idle ne lets)))
+      (subst (λ (b : Bool). NotesKeeper b own found (scan_base own now.marks.polls) next.marks.polls) lets told.keeper))
+      refl)
+    where
+      idle : found ≢ 0 → keeps_it ≡ false
+          → (retirements (found - 1) desk.retired ≡ 0) ⊎ (is_unheard flags (found - 1) ≡ true)
+      idle ne lets = dite (ℕ_discrete (retirements (found - 1) desk.retired) 0) inl
+          (λ some_there. by_cases
+          (λ (b : Bool). is_unheard flags (found - 1) ≡ b
+          → (retirements (found - 1) desk.retired ≡ 0) ⊎ (is_unheard flags (found - 1) ≡ true))
+          (is_unheard flags (found - 1))
+          (λ _ is. inr is)
+          (λ _ is. absurd
+          (differs
+          (sym
+          (ap
+          (λ (b : Bool). b
+          && (nat_lt 0 (retirements (found - 1) desk.retired)
+          && nat_eq (heard_before own (get_or now.heard (found - 1) 0)) own))
+          (lt-ltb 0 found (omega arith))
+          ∙ ap (λ (b : Bool). b && nat_eq (heard_before own (get_or now.heard (found - 1) 0)) own)
+          (lt-ltb 0 (retirements (found - 1) desk.retired) (omega arith))
+          ∙ eq-eqb (heard_before own (get_or now.heard (found - 1) 0)) own (whole_now (found - 1) (omega arith) is))
+          ∙ lets)))
+          refl)
+
+  pub scanned_more : ScannedTo desk.retired before next said_now (suc own)
+  scanned_more = record {
+    rest =
+        told.same
+        ∙ (λ j.
+        record now {
+          steps = now.steps + 1;
+          marks = same_marks j;
+          heard = sym (ap (λ (v : View). v.heard) told.same) j;
+        })
+        ∙ (λ j.
+        record (so_far.rest j) {
+          steps = (so_far.rest j).steps + 1;
+          marks = with_scan (so_far.rest j).marks next.marks.polls next.marks.loads;
+          heard = next.heard;
+        })
+        ∙ (λ j.
+        record before {
+          steps = more_steps j;
+          marks = with_scan before.marks next.marks.polls next.marks.loads;
+          heard = next.heard;
+        });
+    words =
+        words_more desk own found before.shape.slots before.marks.loads now.marks.loads next.marks.loads now.heard
+        next.heard so_far.words (ap (λ (v : View). v.marks.loads) told.same)
+        (heard_told ∙ ap (λ (v : View). heard_from desk own found now.heard 0 v.shape.slots) so_far.rest);
+    first = λ e. absurd (omega arith);
+    heard = λ _. heard_so desk now next flags own found once inside wide so_far.first so_far.heard heard_told;
+    keep = keep_so;
+  }
+    where
+      more_steps : before.steps + own + 1 ≡ before.steps + suc own
+      more_steps = omega arith
+
+      same_marks : with_scan now.marks next.marks.polls (now.marks.loads ++ word_load own found ∷ [])
+          ≡ with_scan now.marks next.marks.polls next.marks.loads
+      same_marks = ap (λ (v : View). with_scan now.marks next.marks.polls v.marks.loads) (sym told.same)
+
+pub announced_wide : (found : ℕ) (flags : List Bool) → length (announced found flags) ≡ length flags
+announced_wide found flags =
+    by_cases (λ (b : Bool). length (cond {A = List Bool} b flags (set flags (found - 1) true)) ≡ length flags)
+    (nat_eq found 0) (λ _. refl) (λ _. length-set flags (found - 1) true)
+
+-- THE FLAGS BEFORE THE FIRST WORD
+
+-- the first retired slots have no flag any more
+pub record ClearedTo (retired : List Retired) (before flags : List Bool) (place : ℕ) : Type 0 where
+  pub wide : length flags ≡ length before
+  pub clear : (at : ℕ) (entry : Retired) → at < place → get_elem? retired at ≡ some entry
+      → is_unheard flags entry.slot ≡ false
+  pub others : OthersFlagged retired before → OthersFlagged retired flags
+
+pub cleared_none : (retired : List Retired) (flags : List Bool) → ClearedTo retired flags flags 0
+cleared_none retired flags =
+    record { wide = refl; clear = λ at entry low. absurd (omega arith); others = λ flagged. flagged }
+
+pub cleared_more : (retired : List Retired) (before flags : List Bool) (place : ℕ) (entry : Retired)
+    → ClearedTo retired before flags place → get_elem? retired place ≡ some entry → entry.slot < length before
+    → ClearedTo retired before (set flags entry.slot false) (place + 1)
+cleared_more retired before flags place entry so_far here low = record {
+  wide = length-set flags entry.slot false ∙ so_far.wide;
+  clear = λ at other near there. dite (ℕ_discrete other.slot entry.slot)
+      (λ e. subst (λ (s : ℕ). is_unheard (set flags entry.slot false) s ≡ false) (sym e)
+      (get_or-set_same flags entry.slot false true (let wide = so_far.wide in omega arith)))
+      (λ ne. get_or-set_other flags entry.slot other.slot false true ne
+      ∙ so_far.clear at other (dite (ℕ_discrete at place)
+      (λ e. absurd
+      (ne
+      (ap (λ (r : Retired). r.slot)
+      (some-injective other entry (sym there ∙ ap (get_elem? retired) e ∙ here)))))
+      (λ other_place. omega arith))
+      there);
+  others = λ flagged slot none. get_or-set_other flags entry.slot slot false true
+      (λ e.
+      let waits = is_retired retired place entry here in
+      let same = ap (λ (s : ℕ). retirements s retired) e in
+      absurd (omega arith))
+      ∙ so_far.others flagged slot none;
+}
+
+pub none_flagged : (retired : List Retired) (before flags : List Bool) → ClearedTo retired before flags (length retired)
+    → NoneFlagged retired flags
+none_flagged retired before flags cleared slot waits =
+    let t = some_term (λ (x : Retired). only slot x.slot) retired waits in
+    subst (λ (s : ℕ). is_unheard flags s ≡ false) (only-is slot t.1.slot t.3)
+    (cleared.clear t.0 t.1 (inside_list retired t.0 t.1 t.2) t.2)
