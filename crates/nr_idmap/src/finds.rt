@@ -36,11 +36,11 @@ impl IdMap {
     ghost use Rattle.nr_idmap.specs.IdFindsEach.{FindsInside};
 
     /// Looks an id up, and writes its rows into the caller's room, which stays as it is unless the
-    /// answer is `Rows`. Takes 1 load of a word that lies in the line of the id's key; a step for each look
-    /// at a way's name, up to the one that has the id's, of the eight ways of its group and then the eight
-    /// of its second group; where a way has the name, 1 look at the way's mark, and the steps of the map's
-    /// find, of one row more: by the counts 1 where the way is a hole, and else 2n + 5 for n rows; and 1 to
-    /// mark a way whose rows were found, unless it is marked already.
+    /// answer is `Rows`. Takes 1 load of a word that lies in the line of the id's key; 8 looks at the names
+    /// of the id's group, and 8 more at those of its second group unless one of them was the id's; where a
+    /// way had the name, 1 look at the way's mark, and the steps of the map's find, of one row more: by the
+    /// counts 1 where the way is a hole, and else 2n + 5 for n rows; and 1 to mark a way whose rows were
+    /// found, unless it is marked already.
     pub fn find<R: RowRoom>(&self, reader: &mut IdReader, id: u64, rows: &mut R) -> FoundId
         requires own { id_table_of reader.old ≡ self.now }
         requires id { 0 < id }
@@ -102,7 +102,7 @@ impl IdMap {
     /// Requests an id that has no way. The first such request of the id's group is `Granted` a claim,
     /// whose id must go to the writer, which admits it; until then the others are `Busy` or `Outrun`.
     /// `Named`: the id has a way. Takes 18 steps where the claim is granted or another was within the
-    /// call, 2 to 17 where a way has the name, else 1.
+    /// call; where a way has the name 9, or 17 where that is of the id's second group; else 1.
     pub fn request(&self, reader: &mut IdReader, id: u64) -> Requested
         requires own { id_table_of reader.old ≡ self.now }
         requires id { 0 < id }
