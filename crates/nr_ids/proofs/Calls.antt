@@ -486,14 +486,6 @@ still_passed : (way : ℕ → ℕ) (name : ℕ) (old mid new : Token) (more : �
 still_passed way name old mid new more clerk same b passed _ at below has =
     passed clerk at below (sym (clerk_looks mid more mid.number new (way at) same b) ∙ has)
 
--- a group was scanned
-pub scanned : (id group : ℕ) (old new : Token) (found : Option ℕ) → Grows (looks 8 old.number) old new
-    → IfSome found (λ way. (group_of_way way ≡ group) × HadName way id old new)
-    → IfNone found ((at : ℕ) → at < 8 → LackedName (way_in group at) id old new)
-    → IfNone found (PassedByClerk (way_in group) id old 8 new) → ScansGroup id group old new found
-scanned id group old new (Some way) grows had lacked exact = record { of = had.0; grows = grows; named = had.1 }
-scanned id group old new None grows had lacked exact = record { grows = grows; lacked = lacked; exact = exact }
-
 -- a scan found the name in the id's group
 pub found_first : (id group way : ℕ) (old new : Token) → group ≡ group_for old id → FindsIn id group old new way
     → FindsAt id 0 old new way

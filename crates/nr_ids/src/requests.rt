@@ -123,8 +123,8 @@ impl Directory {
         }
     }
 
-    // The way of a group that has the id's name. No name ends the loop: a processor would have to guess at
-    // which place that is.
+    // The way of a group that has the id's name. No name ends the loop, and the place is a number until
+    // all are compared: a processor would have to guess at which place it is.
     #[inline(always)]
     fn scan_group(&self, seat: &mut Seat, group: u32, id: u64) -> Option<u32>
         requires caller { Sits self.now seat.old }
@@ -133,13 +133,16 @@ impl Directory {
         ensures caller { Sits self.now seat.new }
         ensures scans { ScansGroup id group (token seat.old) (token seat.new) result }
     {
-        let mut found = None;
+        let mut at = WAYS;
         for place in 0..WAYS {
-            let way = WAYS * group + place;
-            if self.look(seat, way) == id {
-                found = Some(way);
+            if self.look(seat, WAYS * group + place) == id {
+                at = place;
             }
         }
-        found
+        if at < WAYS {
+            Some(WAYS * group + at)
+        } else {
+            None
+        }
     }
 }
