@@ -1,10 +1,8 @@
 -- A get by id, put together from its tries.
-use Rattle.std.proofs.Common.{◌≡◌, ◌<◌, ◌+◌, ℕ, List, [], ◌∷◌, length, refl, arith}
-use Rattle.nr_model.specs.declared.rows.Row.{Row}
-use Rattle.nr_idserve.specs.declared.answers.GotId.TheVariants as got
+use Rattle.std.proofs.Common.{◌+◌, ℕ, [], ◌∷◌, refl, arith}
 use Rattle.nr_idserve.specs.declared.answers.Missed.{Missed}
 use Rattle.nr_idserve.specs.declared.hands.IdHands.{IdHands}
-use Rattle.nr_idserve.specs.IdGets.{FindsOnce, GetsId, MissesAll, MissesOnce, MissesTimes}
+use Rattle.nr_idserve.specs.IdGets.{MissesOnce, MissesTimes}
 
 pub missed_none : (capacity id : ℕ) (hands : IdHands) → MissesTimes capacity id 0 hands hands
 missed_none capacity id hands = record { each = []; counted = refl; all = refl }

@@ -6,7 +6,6 @@ use Rattle.nr_core.proofs.Sums.{total-append}
 use Rattle.nr_machine.specs.Sums.{total}
 use Rattle.nr_model.specs.Histories.{Entry}
 use Rattle.nr_board.specs.Callers.{Caller}
-use Rattle.nr_ids.specs.declared.admissions.Refused.{Refused}
 use Rattle.nr_ids.specs.declared.admissions.Refused.TheVariants as refused
 use Rattle.nr_idmap.specs.IdLaws.{OneUpquery}
 use Rattle.nr_idmap.specs.Keepers.{Keeper, Owed, Sent, owed_at}
@@ -19,9 +18,9 @@ use Rattle.nr_idserve.specs.declared.taking.Taken.{Taken}
 use Rattle.nr_idserve.specs.declared.taking.Taken.TheVariants as taken
 use Rattle.nr_idserve.specs.IdEnds.{FailsGroup, RaisesGroup}
 use Rattle.nr_idserve.specs.IdFlows.{IdFlowSeen}
-use Rattle.nr_idserve.specs.IdTakes.{AdmitsMakingRoom, AdmitsNext, AdmitsOne, NextsId, TakesById, TakesNext}
+use Rattle.nr_idserve.specs.IdTakes.{AdmitsMakingRoom, AdmitsNext, NextsId, TakesById, TakesNext}
 use Rattle.nr_idserve.specs.IdLedger.{Answered, AreAnswers, DoesById, EachUpqueryEndsOnce, IdEnding, IsEachOnceById}
-use Rattle.nr_idserve.specs.IdLedger.{RunById, answered_by, ended, fills_by, filled_by, id_of, ids_of, ids_refused}
+use Rattle.nr_idserve.specs.IdLedger.{RunById, answered_by, fills_by, filled_by, id_of, ids_of, ids_refused}
 use Rattle.nr_idserve.specs.IdLedger.{ids_taken, opened_by, opened_of, owed_of}
 use Rattle.nr_idserve.specs.IdLedger.DoesById.{Takes, Fills, FillLacks, Fails, FailWorn, Invalidates, InvalidateWorn}
 use Rattle.nr_idserve.specs.IdLedger.DoesById.{Keeps, Updates, Replaces, Evicts, Tells, Hears, Looks}

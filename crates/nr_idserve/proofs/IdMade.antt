@@ -1,5 +1,5 @@
 -- What a dataflow's calls leave as it is, and which fills its writer has done.
-use Rattle.std.proofs.Common.{◌≡◌, ℕ, List, [], ◌∷◌, ◌++◌, Option, None, Some, Result, Ok, Err, refl, sym, ap, ◌∙◌}
+use Rattle.std.proofs.Common.{◌≡◌, ℕ, List, [], ◌∷◌, ◌++◌, Result, Ok, Err, ap, ◌∙◌}
 use Rattle.std.proofs.Common.{append_assoc, false, inl, inr, true, ⊎_elim}
 use Rattle.nr_model.specs.declared.batches.Delta.{Delta}
 use Rattle.nr_model.specs.declared.rows.Row.{Row}
@@ -18,14 +18,13 @@ use Rattle.nr_ids.specs.declared.admissions.Refused.TheVariants as refused
 use Rattle.nr_idmap.specs.declared.writes.IdFault.{IdFault}
 use Rattle.nr_idmap.specs.declared.writes.IdFault.TheVariants as fault
 use Rattle.nr_idmap.specs.IdWrites.{CallsWay, EvictsId}
-use Rattle.nr_idmap.specs.Keepers.{Keeper, Owed, Sent}
+use Rattle.nr_idmap.specs.Keepers.{Keeper, Sent}
 use Rattle.nr_idmap.specs.Tags.{tag_of}
 use Rattle.nr_serve.specs.declared.turns.Spent.{Spent}
 use Rattle.nr_serve.specs.declared.turns.Spent.TheVariants as spent
 use Rattle.nr_serve.specs.Ledger.{Filling, fate_of, fills_done}
 use Rattle.nr_serve.proofs.Filled.{Made, cancel_made, evict_made, fill_made, fills_done-append, made_none, pass_made}
 use Rattle.nr_serve.proofs.Filled.{replace_made, update_made}
-use Rattle.nr_trigger.specs.Tokens.{TakerSeen}
 use Rattle.nr_idserve.specs.IdEnds.{FillsOneId, WithdrawsOne}
 use Rattle.nr_idserve.specs.IdFlows.{IdFlowSeen}
 use Rattle.nr_idserve.specs.IdTakes.{AdmitsMakingRoom, AdmitsOne, MakesRoom}

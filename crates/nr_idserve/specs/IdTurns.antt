@@ -1,5 +1,5 @@
 -- What a turn of a dataflow by id does: a take, a question to the source, and a fill or a failure, in a row.
-use Rattle.std.specs.Prelude.{◌≡◌, ◌⊎◌, ℕ, List, Some, Result, Ok, Err}
+use Rattle.std.specs.Prelude.{◌≡◌, ◌⊎◌, ℕ, List, Some, Ok, Err}
 use Rattle.nr_model.specs.declared.rows.Row.{Row}
 use Rattle.nr_idmap.specs.Keepers.{Sent, id_rows}
 use Rattle.nr_idmap.specs.Tags.{IsIdSet}

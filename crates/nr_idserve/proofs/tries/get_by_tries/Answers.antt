@@ -1,4 +1,4 @@
-use Rattle.std.proofs.Common.{ℕ, ◌+◌, ◌∙◌, arith, refl, subst}
+use Rattle.std.proofs.Common.{ℕ, ◌∙◌, arith, refl, subst}
 use Rattle.nr_idserve.specs.declared.answers.TriedId.{TriedId}
 use Rattle.nr_idserve.specs.declared.hands.IdHands.{IdHands}
 use Rattle.nr_idserve.specs.IdGets.{AwaitsRaise, TriesOnce}
