@@ -511,18 +511,18 @@ uint32_t nr_open_id_reader(nr_id_writer *writer, nr_id_reader *reader);
 void nr_close_id_reader(nr_id_reader *reader);
 void nr_close_id_writer(nr_id_writer *writer);
 
-/* Looks an id up. It takes 1 step, and W, one for each way's name that it looks at, up to the id's own: W is 1 to 8 in
-   the id's group, 9 to 16 in its second group, and 16 if no way has the id. NR_ROWS after 2n + 7 more for n rows, and 1
-   for the found way's use bit, or 2 if that isn't set yet, and `rows` has them; NR_ASKED after 1 more, if its upquery
-   is open or it was evicted within the call; NR_OTHER if its way became another id's within the call; NR_HOLE if it had
-   no way at a moment within the call. If the writer wrote the way meanwhile, NR_ROWS and NR_ASKED take more steps as
-   nr_find does. Any answer but NR_ROWS leaves `rows` as it was. */
+/* Looks an id up. It takes 1 step, and W for names that it looks at: 8 if one of the id's group is the id's, else 16,
+   with those of its second group. NR_HOLE then, if no name was the id's: it had no way at a moment within the call.
+   Else 1 more at the use bit of the way with that name: NR_ROWS after 2n + 7 more for n rows, and 1 if the bit wasn't
+   set, and `rows` has them; NR_ASKED after 1 more, if its upquery is open or it was evicted within the call; NR_OTHER
+   if its way became another id's within the call. If the writer wrote the way meanwhile, NR_ROWS and NR_ASKED take
+   more steps as nr_find does. Any answer but NR_ROWS leaves `rows` as it was. */
 uint32_t nr_find_id(nr_id_reader *reader, uint64_t id, nr_rows *rows);
 
 /* Finds n ids, as nr_find_id does, in the given order: NR_DONE, and each nr_wanted_id has its answer and its rows. An
-   id may be there twice. Takes the finds' steps, and for each id its W once more, 4 loads, and 1 more for each 4 rows
-   that an id may have up to 12; these are made before the finds, for 16 ids at a time. NR_NO_KEY without a step, if one
-   of the ids is 0. */
+   id may be there twice. Takes the finds' steps, and for each id its W and the look at the use bit once more, 4 loads,
+   and 1 more for each 4 rows that an id may have up to 12; these are made before the finds, for 16 ids at a time.
+   NR_NO_KEY without a step, if one of the ids is 0. */
 uint32_t nr_find_each_id(nr_id_reader *reader, nr_wanted_id *wanted, size_t n);
 
 /* Finds an id and holds its set, as nr_pin: NR_ROWS after the steps of nr_find_id but 1, and `count` is the number of
@@ -541,7 +541,7 @@ uint32_t nr_copy_id(nr_id_reader *reader, nr_rows *rows);
 uint32_t nr_again_id(nr_id_reader *reader, uint64_t id);
 
 /* As nr_find_id, but the reader holds the set for the next call. If the reader holds the id's set, and its way still
-   has that, NR_ROWS after 1 step, and 1 or 2 at the way's mark. Otherwise it finds the id as nr_find_id does:
+   has that, NR_ROWS after 1 step, and 1 or 2 at the way's use bit. Otherwise it finds the id as nr_find_id does:
    NR_ROWS after the steps of that but 1, and at most 3 more if it held a set. Any answer but NR_ROWS leaves `rows`
    as it was, and the reader holds nothing. */
 uint32_t nr_find_kept_id(nr_id_reader *reader, uint64_t id, nr_rows *rows);
@@ -550,7 +550,7 @@ uint32_t nr_find_kept_id(nr_id_reader *reader, uint64_t id, nr_rows *rows);
 uint32_t nr_release_id(nr_id_reader *reader);
 
 /* Requests an id. NR_SEND after 18 steps: the caller has the claim of its group, and passes the id to the thread that
-   writes. Until that thread admits an id of the group others get NR_WAITING, after 1 or 18. NR_NAMED after 2 to 17.
+   writes. Until that thread admits an id of the group others get NR_WAITING, after 1 or 18. NR_NAMED after W + 1.
    NR_WORN after 1, once its group has had 2^61 claims. What the reader holds stays held. */
 uint32_t nr_request_id(nr_id_reader *reader, uint64_t id);
 

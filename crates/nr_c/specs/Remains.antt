@@ -1,5 +1,5 @@
 -- A map that is taken apart by its writer's handle, and the sets that come out of what remains.
-use Rattle.std.specs.Prelude.{ℕ, ◌≡◌, ◌≢◌, ◌⊎◌, Bool, true, false, if◌then◌else◌, List, [], ◌∷◌, length, Option, Some}
+use Rattle.std.specs.Prelude.{ℕ, ◌≡◌, ◌≢◌, ◌⊎◌, Bool, false, if◌then◌else◌, List, [], ◌∷◌, length, Option, Some}
 use Rattle.std.specs.Prelude.{None}
 use Rattle.nr_map.specs.Remains.{NextOf, TakenApart}
 use Rattle.nr_c.specs.Numbers.{answer_done, answer_given, answer_nothing, answer_readers_out}

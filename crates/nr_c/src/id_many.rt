@@ -27,8 +27,8 @@ pub struct NrWantedId {
 /// Looks each of the ids up, in their order, as `nr_find_id` does one: a find of each is an entry of its
 /// own, also of an id that is wanted twice. Each has its answer beside it, and its rows in its own room,
 /// which stays as it is where that isn't `NR_ROWS`. Takes the steps of all the finds, and for each id
-/// those of its look-up once more, 4 loads, and 1 more for each 4 rows that an id may have up to 12:
-/// these are made for 16 ids at a time before these are found.
+/// those of its look-up once more, with the look at its way's mark, 4 loads, and 1 more for each 4 rows
+/// that an id may have up to 12: these are made for 16 ids at a time before these are found.
 /// Answers `NR_DONE`; or, with no step, `NR_NO_KEY` where one of them is 0, or `NR_HOLDING` where the
 /// reader holds a set.
 #[unsafe(no_mangle)]

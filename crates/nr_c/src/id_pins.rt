@@ -44,9 +44,9 @@ pub extern "C" fn nr_pin_id(reader: &mut NrIdReader, id: u64, count: &mut u32) -
 }
 
 /// Looks an id up and holds its set for the next call. Where the id's way still has the set of it that
-/// the reader holds, it takes 1 step, which writes no word, and 1 or 2 at the way's mark. Else it finds
-/// and holds anew, in the steps of a hand's `find_kept`. Answers as `nr_find_id`; where that isn't
-/// `NR_ROWS`, nothing is held and the caller's cells stay.
+/// the reader holds, it takes 1 step, which writes no word, 1 look at the way's mark, and 1 to mark it
+/// where it isn't marked. Else it finds and holds anew, in the steps of a hand's `find_kept`. Answers as
+/// `nr_find_id`; where that isn't `NR_ROWS`, nothing is held and the caller's cells stay.
 #[unsafe(no_mangle)]
 pub extern "C" fn nr_find_kept_id(reader: &mut NrIdReader, id: u64, rows: &mut NrRows) -> u32
     ensures { WhenLive (rows.new ≡ rows.old) (WithId id (rows.new ≡ rows.old) (IdHandTurns (KeepsIdByCode id rows.old rows.new))) reader.old.live reader.new.live result }

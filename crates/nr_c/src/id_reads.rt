@@ -13,9 +13,10 @@ use crate::rows::NrRows;
 /// answer: `NR_ROWS`; `NR_ASKED` where its way was a hole, since its upquery is under way or it was
 /// evicted within the call; `NR_HOLE` where within the call it had no way; `NR_OTHER` where its way
 /// became another id's; or, with no step, `NR_NO_KEY` for the id 0, and `NR_HOLDING` where the reader
-/// holds a set. Takes 1 load, and a step for each look at a way's name, up to the one that has the id's,
-/// of the eight of its group and then the eight of its second group; then 1 where that is a hole, and
-/// else 2n + 7 for n rows, more where the way is written meanwhile, and 1 or 2 at the mark of a found way.
+/// holds a set. Takes 1 load, 8 looks at the names of the id's group, and 8 more at those of its second
+/// group unless one of them was the id's; where a way had the name, 1 look at its mark, and then 1 where
+/// the way is a hole, and else 2n + 7 for n rows, more where it is written meanwhile, and 1 to mark it
+/// where rows were found and it isn't marked.
 #[unsafe(no_mangle)]
 pub extern "C" fn nr_find_id(reader: &mut NrIdReader, id: u64, rows: &mut NrRows) -> u32
     ensures { ByIdleIdReader id (rows.new ≡ rows.old) (IdReaderCalls (FindsIdByCode id rows.old rows.new)) reader.old.live reader.new.live result }
@@ -37,7 +38,8 @@ pub extern "C" fn nr_find_id(reader: &mut NrIdReader, id: u64, rows: &mut NrRows
 /// id goes to the writer; `NR_WAITING` where a claim of its group is open, or was within the call;
 /// `NR_NAMED` where the id has a way; `NR_WORN` where its group had the last of its claims; or
 /// `NR_NO_KEY` for the id 0, with no step. Takes 18 steps where the claim is granted or another was within
-/// the call, 2 to 17 where a way has the name, else 1. A set that the reader holds stays held.
+/// the call; where a way has the name 9, or 17 where that is of the id's second group; else 1. A set that
+/// the reader holds stays held.
 #[unsafe(no_mangle)]
 pub extern "C" fn nr_request_id(reader: &mut NrIdReader, id: u64) -> u32
     ensures { WhenLive ⊤ (WithId id ⊤ (IdHandTurns (RequestsByCode id))) reader.old.live reader.new.live result }

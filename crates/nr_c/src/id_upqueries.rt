@@ -43,7 +43,7 @@ pub extern "C" fn nr_admit(writer: &mut NrIdWriter, id: u64, upquery: &mut NrUpq
 /// Answers an upquery with the id's rows, in ascending order. Answers `NR_TOO_MANY`, `NR_NOT_SORTED` and
 /// `NR_BAD_ROW` for rows that aren't an id's, with no step; `NR_STALE` where the upquery isn't open,
 /// with no step; `NR_DONE`; or `NR_NO_SLOT` where readers hold slots, and else `NR_ALL_FILLED`, and it is
-/// open still. Takes 1 to 16 steps of the directory, and those of the map's fill for a row more.
+/// open still. Takes 8 or 16 steps of the directory, and those of the map's fill for a row more.
 #[unsafe(no_mangle)]
 pub extern "C" fn nr_fill_id(writer: &mut NrIdWriter, upquery: &NrUpquery, rows: &[Row]) -> u32
     ensures { WhenLive ⊤ (IdWriterTurns (FillsIdByCode upquery.now rows.now)) writer.old.live writer.new.live result }
@@ -70,7 +70,7 @@ pub extern "C" fn nr_fill_id(writer: &mut NrIdWriter, upquery: &NrUpquery, rows:
 
 /// Takes an upquery back: its id has no way then, and may be claimed again. Answers `NR_CANCELLED`;
 /// `NR_STALE` where it isn't open, with no step; or `NR_WORN` where its ticket number is the last one,
-/// and it is open still. Takes 1 to 16 steps of the directory, 2 of the map, and 1 of the directory; 1 of
+/// and it is open still. Takes 8 or 16 steps of the directory, 2 of the map, and 1 of the directory; 1 of
 /// the map and no more where it is worn.
 #[unsafe(no_mangle)]
 pub extern "C" fn nr_withdraw_id(writer: &mut NrIdWriter, upquery: &NrUpquery) -> u32

@@ -17,17 +17,19 @@ use Rattle.nr_board.specs.Callers.{Gains, Table, map_at_opening}
 use Rattle.nr_map.specs.Hands.{Handed}
 use Rattle.nr_map.specs.Written.{evicts_at}
 use Rattle.nr_ids.specs.Groups.{ways}
-use Rattle.nr_ids.specs.Answers.{LooksUp}
 use Rattle.nr_ids.specs.Laws.{FindsWhatItKnew}
 use Rattle.nr_ids.specs.Tokens.{HasName, Token}
 use Rattle.nr_idmap.specs.declared.finds.FoundId.{FoundId}
 use Rattle.nr_idmap.specs.declared.finds.FoundId.TheVariants as found
-use Rattle.nr_idmap.specs.IdHands.{AgainById, HoldsAnew, HoldsById, HoldsByName, IdHanded, KeepsWay, PinsById}
+use Rattle.nr_idmap.specs.IdHands.{AgainById, HoldsAnew, HoldsByName, IdHanded, KeepsWay, PinsById}
 use Rattle.nr_idmap.specs.IdHands.{with_line_loaded}
+use Rattle.nr_idmap.specs.declared.finds.NamedWay.{NamedWay}
+use Rattle.nr_idmap.specs.IdFinds.{LooksForWay}
 use Rattle.nr_idmap.specs.IdHeard.{IsUnnamedSince, PinsItsRows}
 use Rattle.nr_idmap.specs.Keepers.{IdTable}
 use Rattle.nr_idmap.specs.Tags.{tag_of}
 use Rattle.nr_idmap.proofs.Entries.{after_both, bound_after, count_after, legal_end}
+use Rattle.nr_idmap.proofs.LookUps.{looks_there, way_named}
 use Rattle.nr_idmap.proofs.HeardRows.{HasIds, Kept, count_both, ids_stay, kept_begins, kept_ends, kept_heard}
 
 held_or_not : (held : Option ℕ) (id : ℕ) → (held ≡ Some id) ⊎ (held ≢ Some id)
@@ -121,12 +123,11 @@ module _ (law : FindsWhatItKnew) (old new : IdHanded) (id way number : ℕ) (row
   abbrev Unnamed : Type 0
   Unnamed = IsUnnamedSince old.ids.seen way new.ids.seen
 
-  looked_there : (asked : IdHanded) (there : Option ℕ) → Asked old asked → LooksUp id asked.ids new.ids there
-      → Unnamed ⊎ (there ≡ Some way)
-  looked_there asked there first looks = ⊎_elim
-      (λ (is : there ≡ Some way). inr is)
-      (λ gone. inl gone)
-      (law id way old.ids new.ids there real named (subst (λ (t : Token). LooksUp id t new.ids there) first.ids looks))
+  looked_there : (asked : IdHanded) (there : Option NamedWay) → Asked old asked
+      → LooksForWay id asked.ids new.ids there → Unnamed ⊎ (way_named there ≡ Some way)
+  looked_there asked there first looks =
+      looks_there law id way old.ids new.ids there real named
+      (subst (λ (t : Token). LooksForWay id t new.ids there) first.ids looks)
 
   -- a find of the way had the id's rows
   told_rows : (asked : IdHanded) (mid : Handed) (told : Reply) → Asked old asked → FoundOnce way asked.hand mid told →
@@ -155,16 +156,16 @@ module _ (law : FindsWhatItKnew) (old new : IdHanded) (id way number : ℕ) (row
   named_rows asked found.Rows first anew = inr refl
   named_rows asked found.Pending first anew = ⊎_elim
       (λ gone. inl gone)
-      (λ (same : Some anew.0 ≡ Some way). let has = told_rows asked new.hand reply.Hole first
-      (at_way anew.0 asked.hand new.hand reply.Hole same (found_hole anew.0 asked.hand new.hand anew.2)) refl in
+      (λ (same : Some anew.0.way ≡ Some way). let has = told_rows asked new.hand reply.Hole first
+      (at_way anew.0.way asked.hand new.hand reply.Hole same (found_hole anew.0.way asked.hand new.hand anew.2)) refl in
       let e : reply.Hole ≡ reply.Rows (tag_of id ∷ has.0) = has.1 in
       absurd (cc (e)))
       (looked_there asked (Some anew.0) first anew.1)
   named_rows asked found.Moved first anew = let mid : Handed = anew.1 in ⊎_elim
       (λ gone. inl gone)
-      (λ (same : Some anew.0 ≡ Some way). let has = told_rows asked anew.1 (reply.Rows anew.1.rows) first
-      (at_way anew.0 asked.hand anew.1 (reply.Rows anew.1.rows) same (found_rows anew.0 asked.hand anew.1 anew.3))
-      anew.5.rests.seen in
+      (λ (same : Some anew.0.way ≡ Some way). let has = told_rows asked anew.1 (reply.Rows anew.1.rows) first
+      (at_way anew.0.way asked.hand anew.1 (reply.Rows anew.1.rows) same
+      (found_rows anew.0.way asked.hand anew.1 anew.3)) anew.5.rests.seen in
       let e : anew.1.rows ≡ tag_of id ∷ has.0 = cc (has.1) in
       absurd (anew.4 has.0 e))
       (looked_there asked (Some anew.0) first anew.2)
@@ -179,20 +180,11 @@ module _ (law : FindsWhatItKnew) (old new : IdHanded) (id way number : ℕ) (row
       named_rows (with_line_loaded asked) answer
       (record { table = first.table; more = first.more; seen = first.seen; ids = first.ids }) anew
 
-  held_rows : (answer : FoundId) → HoldsById id old new answer → Unnamed ⊎ (answer ≡ found.Rows)
-  held_rows answer holds = ⊎_elim
+  by_answer : (answer : FoundId) → PinsById id old new answer → Unnamed ⊎ (answer ≡ found.Rows)
+  by_answer answer pins = ⊎_elim
       (λ again. inr again.0)
       (λ late. anew_rows late.0 answer (asked_first id old late.0 late.1) late.2)
-      holds
-
-  by_answer : (answer : FoundId) → PinsById id old new answer → Unnamed ⊎ (answer ≡ found.Rows)
-  by_answer found.Rows pins = inr refl
-  by_answer found.Pending pins =
-      held_rows found.Pending (subst (λ (h : IdHanded). HoldsById id old h found.Pending) (sym pins.2) pins.1)
-  by_answer found.Moved pins =
-      held_rows found.Moved (subst (λ (h : IdHanded). HoldsById id old h found.Moved) (sym pins.2) pins.1)
-  by_answer found.Absent pins =
-      held_rows found.Absent (subst (λ (h : IdHanded). HoldsById id old h found.Absent) (sym pins.2) pins.1)
+      pins
 
 pub pins_its_rows : FindsWhatItKnew → PinsItsRows
 pins_its_rows law keeper old new id way number rows before since answer tied table heard real named known put none

@@ -1,6 +1,6 @@
 -- A find by id of a reader that heard of the id's fill, by the laws of the map and of the directory.
 use Rattle.std.proofs.Common.{◌≡◌, ℕ, ◌+◌, ◌*◌, ◌<◌, ◌⊎◌, ⊎_elim, inl, inr, true, List, [], ◌∷◌, ◌++◌, length, refl}
-use Rattle.std.proofs.Common.{sym, ap, ◌∙◌, subst, append_assoc, Some, None}
+use Rattle.std.proofs.Common.{subst, Some, None}
 use Rattle.nr_model.specs.declared.rows.Row.{Row}
 use Rattle.nr_model.specs.declared.calls.Call.TheVariants as model
 use Rattle.nr_model.specs.declared.calls.Reply.{Reply}
@@ -9,36 +9,18 @@ use Rattle.nr_model.specs.Histories.{Entry}
 use Rattle.nr_marks.specs.Puts.{puts_at}
 use Rattle.nr_board.specs.Callers.{Gains}
 use Rattle.nr_map.specs.Written.{FindsWhatItHeard}
-use Rattle.nr_ids.specs.Answers.{LooksUp}
-use Rattle.nr_ids.specs.Events.{Event, name_of, unnamed}
+use Rattle.nr_ids.specs.Events.{name_of}
 use Rattle.nr_ids.specs.Laws as ids
-use Rattle.nr_ids.specs.Marks.{Marks}
 use Rattle.nr_ids.specs.Tokens.{Token}
 use Rattle.nr_idmap.specs.declared.finds.FoundId.{FoundId}
 use Rattle.nr_idmap.specs.declared.finds.FoundId.TheVariants as found
-use Rattle.nr_idmap.specs.IdFinds.{FindsByName, with_line}
+use Rattle.nr_idmap.specs.declared.finds.NamedWay.{NamedWay}
+use Rattle.nr_idmap.specs.IdFinds.{FindsByName, LooksForWay, with_line}
 use Rattle.nr_idmap.specs.IdHeard.{FindsIdHeard, FindsIdPut, HeardIdBefore, IsUnnamedSince, TellsOfWay}
 use Rattle.nr_idmap.specs.IdNotes.{IdKnown}
 use Rattle.nr_idmap.specs.Keepers.{IdCaller}
 use Rattle.nr_idmap.specs.Tags.{tag_of}
-
--- and later events
-unnamed_on : (told : List Event) (way : ℕ) (seen more : List Event) → IsUnnamedSince told way seen
-    → IsUnnamedSince told way (more ++ seen)
-unnamed_on told way seen more gone = (
-  more ++ gone.0,
-  ap (λ (l : List Event). more ++ l) gone.1 ∙ sym (append_assoc more gone.0 told),
-  (
-    more ++ gone.2.0,
-    gone.2.1,
-    ap (λ (l : List Event). more ++ l) gone.2.2 ∙ sym (append_assoc more gone.2.0 (unnamed way ∷ gone.2.1)),
-  ),
-)
-
-marks_on : (told : List Event) (way : ℕ) (old new : Token) → Marks old new → IsUnnamedSince told way old.seen
-    → IsUnnamedSince told way new.seen
-marks_on told way old new marks gone =
-    subst (IsUnnamedSince told way) (sym marks.2.seen) (unnamed_on told way old.seen marks.2.rest gone)
+use Rattle.nr_idmap.proofs.LookUps.{grown_on, set_on}
 
 some_way : (a b : ℕ) → Some a ≡ Some b → a ≡ b
 some_way a b e = cc (e)
@@ -68,24 +50,25 @@ module _ {Room : Type 0} (shows : Room → List Row → Type 0) (of_map : FindsW
     written = before ++ put ∷ []
 
     -- the way that was looked up is that one, and then the map's law tells of it
-    in_way : (at : ℕ) (looked : Token) (new : IdCaller) (room : Room) (answer : FoundId) (steps : ℕ)
+    in_way : (at : NamedWay) (looked : Token) (new : IdCaller) (room : Room) (answer : FoundId) (steps : ℕ)
         (told_there : Reply)
         →
-        LooksUp id asking.ids looked (Some at) → Gains steps (model.Find at) asking.caller new.caller told_there →
+        LooksForWay id asking.ids looked (Some at) →
+        Gains steps (model.Find at.way) asking.caller new.caller told_there →
         TellsOfWay shows id room answer told_there →
         IsUnnamedSince note.ids.seen way looked.seen
         ⊎ FindsIdPut shows (record { id = id; way = way; old = old; written = written; since = since }) asking new
         room answer
     in_way at looked new room answer steps told_there looks gains tells = ⊎_elim
-        (λ (same : Some at ≡ Some way).
+        (λ (same : Some at.way ≡ Some way).
         let gains_here : Gains steps (model.Find way) asking.caller new.caller told_there = subst
-        (λ (k : ℕ). Gains steps (model.Find k) asking.caller new.caller told_there) (some_way at way same) gains in
+        (λ (k : ℕ). Gains steps (model.Find k) asking.caller new.caller told_there) (some_way at.way way same) gains in
         let law
         = of_map old.caller asking.caller new.caller note.map before since put way steps told_there near told puts
         heard.map gains_here in
         inr (record { told = told_there; tells = tells; more = law.0; seen = law.1; finds = law.2 }))
-        (λ gone. inl gone)
-        (of_ids note.ids id way asking.ids looked (Some at) real named heard.ids looks)
+        (λ gone. inl (grown_on note.ids.seen way _ looks.0 looked looks.2 gone))
+        (of_ids note.ids id way asking.ids looks.0 (Some at.way) real named heard.ids looks.1)
 
     by_answer : (new : IdCaller) (room after : Room) (answer : FoundId)
         → FindsByName shows id asking room new after answer →
@@ -94,7 +77,7 @@ module _ {Room : Type 0} (shows : Room → List Row → Type 0) (of_map : FindsW
         after answer
     by_answer new room after found.Rows finds =
         let looked : Token = finds.2 in ⊎_elim
-        (λ gone. inl (marks_on note.ids.seen way looked new.ids finds.4 gone))
+        (λ gone. inl (set_on note.ids.seen way finds.0.is_marked looked new.ids finds.4 gone))
         (λ put. inr put)
         (in_way finds.0 looked new after found.Rows (finds.3.1.steps + (2 * length (tag_of id ∷ finds.1) + 1))
         (reply.Rows (tag_of id ∷ finds.1))

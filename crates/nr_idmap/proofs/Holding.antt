@@ -5,9 +5,11 @@ use Rattle.nr_board.specs.Callers.{Caller}
 use Rattle.nr_board.specs.declared.answers.Found.{Found}
 use Rattle.nr_board.specs.declared.answers.Found.TheVariants as answer
 use Rattle.nr_map.specs.Hands.{FindsKept, Handed, LetsGo}
-use Rattle.nr_ids.specs.Answers.{LooksUp}
+use Rattle.nr_ids.specs.Marks.{SetsMark}
 use Rattle.nr_ids.specs.Tokens.{Token}
 use Rattle.nr_idmap.specs.declared.finds.FoundId.TheVariants as found
+use Rattle.nr_idmap.specs.declared.finds.NamedWay.{NamedWay}
+use Rattle.nr_idmap.specs.IdFinds.{LooksForWay}
 use Rattle.nr_idmap.specs.IdHands.{HoldsAnew, IdHanded, with_line_loaded}
 use Rattle.nr_idmap.specs.Tags.{HasTag}
 
@@ -29,25 +31,27 @@ pub kept_set : (way : ℕ) (old new : Handed) (before set : List Row) → KeepsI
     → set ≡ new.rows
 kept_set way old new before set keeps = ⊎_elim (λ again. again.1 ∙ sym again.0.rows) (λ anew. anew.1.1) keeps
 
-module _ (id way : ℕ) (old now : IdHanded) (is : old ≡ now) (ids : Token) (looks : LooksUp id old.ids ids (Some way))
-    (hand : Handed)
-    (before set : List Row) where
-  pub holds_pending : KeepsIn way (with_line_loaded old).hand before hand set answer.Hole →
+module _ (id : ℕ) (at : NamedWay) (old now : IdHanded) (is : old ≡ now) (ids : Token)
+    (looks : LooksForWay id old.ids ids (Some at)) (hand : Handed) (before set : List Row) where
+  pub holds_pending : KeepsIn at.way (with_line_loaded old).hand before hand set answer.Hole →
       HoldsAnew id now (record { hand = hand; ids = ids; id = None }) found.Pending
   holds_pending keeps =
       subst (λ (o : IdHanded). HoldsAnew id o (record { hand = hand; ids = ids; id = None }) found.Pending) is
-      (way, looks, (before, set, keeps), refl)
+      (at, looks, (before, set, keeps), refl)
 
-  module _ (keeps : KeepsIn way (with_line_loaded old).hand before hand set answer.Rows) (slice : List Row)
+  module _ (keeps : KeepsIn at.way (with_line_loaded old).hand before hand set answer.Rows) (slice : List Row)
       (same : slice ≡ set) where
-    pub holds_rows : HasTag id slice → HoldsAnew id now (record { hand = hand; ids = ids; id = Some id }) found.Rows
-    holds_rows tag =
-        subst (λ (o : IdHanded). HoldsAnew id o (record { hand = hand; ids = ids; id = Some id }) found.Rows) is (
-          way,
+    pub holds_rows : HasTag id slice → (marked : Token) → SetsMark at.is_marked ids marked →
+        HoldsAnew id now (record { hand = hand; ids = marked; id = Some id }) found.Rows
+    holds_rows tag marked marks =
+        subst (λ (o : IdHanded). HoldsAnew id o (record { hand = hand; ids = marked; id = Some id }) found.Rows) is (
+          at,
           tag.0,
+          ids,
           looks,
           (before, set, keeps),
-          sym (same ∙ kept_set way (with_line_loaded old).hand hand before set keeps) ∙ tag.1,
+          sym (same ∙ kept_set at.way (with_line_loaded old).hand hand before set keeps) ∙ tag.1,
+          marks,
           refl,
         )
 
@@ -55,11 +59,11 @@ module _ (id way : ℕ) (old now : IdHanded) (is : old ≡ now) (ids : Token) (l
         HoldsAnew id now (record { hand = left; ids = ids; id = None }) found.Moved
     holds_moved other left lets =
         subst (λ (o : IdHanded). HoldsAnew id o (record { hand = left; ids = ids; id = None }) found.Moved) is (
-          way,
+          at,
           hand,
           looks,
           (before, set, keeps),
-          λ rows e. other (rows, same ∙ kept_set way (with_line_loaded old).hand hand before set keeps ∙ e),
+          λ rows e. other (rows, same ∙ kept_set at.way (with_line_loaded old).hand hand before set keeps ∙ e),
           lets,
           refl,
         )

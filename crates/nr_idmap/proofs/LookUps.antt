@@ -1,22 +1,61 @@
--- Ids that a hand looks up in turn.
-use Rattle.std.proofs.Common.{◌≡◌, ℕ, ◌<◌, List, [], ◌∷◌, ◌++◌, ap, arith, refl, subst, IfSome, Option, Some, None}
-use Rattle.nr_ids.specs.Answers.{LooksUp}
-use Rattle.nr_ids.specs.Groups.{ways}
-use Rattle.nr_ids.specs.Tokens.{Opened, Token}
+-- Look-ups of ids and of their ways' marks.
+use Rattle.std.proofs.Common.{◌≡◌, ℕ, ◌<◌, ◌⊎◌, ⊎_elim, inl, inr, List, [], ◌∷◌, ◌++◌, refl, sym, ap, ◌∙◌, subst}
+use Rattle.std.proofs.Common.{append_assoc, Bool, true, false, Option, Some, None}
+use Rattle.nr_ids.specs.Events.{Event, unnamed}
+use Rattle.nr_ids.specs.Laws.{FindsWhatItKnew}
+use Rattle.nr_ids.specs.Marks.{SetsMark}
+use Rattle.nr_ids.specs.Tokens.{Grows, HasName, Token}
+use Rattle.nr_idmap.specs.declared.finds.NamedWay.{NamedWay}
+use Rattle.nr_idmap.specs.IdFinds.{LooksForWay}
+use Rattle.nr_idmap.specs.IdHeard.{IsUnnamedSince}
 use Rattle.nr_idmap.specs.IdLoads.{LooksUpEach}
 
-pub one_more_looked : (ids : List ℕ) (id : ℕ) (found : Option ℕ) (old mid new : Token) → LooksUpEach ids old mid
-    → LooksUp id mid new found →
+pub one_more_looked : (ids : List ℕ) (id : ℕ) (found : Option NamedWay) (old mid new : Token) → LooksUpEach ids old mid
+    → LooksForWay id mid new found →
     LooksUpEach (ids ++ id ∷ []) old new
 one_more_looked [] id found old mid new looked looks =
-    (found, new, subst (λ (t : Token). LooksUp id t new found) looked looks, refl)
+    (found, new, subst (λ (t : Token). LooksForWay id t new found) looked looks, refl)
 one_more_looked (first ∷ ids) id found old mid new looked looks =
     (looked.0, looked.1, looked.2, one_more_looked ids id found looked.1 mid new looked.3 looks)
 
--- a way that was looked up is one of the directory's
-pub looked_inside : (id keys : ℕ) (old new : Token) (directory : Opened) (found : Option ℕ) → LooksUp id old new found
-    → new.directory ≡ directory →
-    ways directory.plan ≡ keys → IfSome found (λ (key : ℕ). key < keys)
-looked_inside id keys old new directory None looks own size = tt
-looked_inside id keys old new directory (Some way) looks own size =
-    omega (arith, looks.named.inside, ap (λ (d : Opened). ways d.plan) own, size)
+-- where an id's name stands
+abbrev pub way_named : Option NamedWay → Option ℕ
+way_named None = None
+way_named (Some at) = Some at.way
+
+-- a name that was taken was taken before later events too
+pub unnamed_on : (told : List Event) (way : ℕ) (seen more : List Event) → IsUnnamedSince told way seen
+    → IsUnnamedSince told way (more ++ seen)
+unnamed_on told way seen more gone = (
+  more ++ gone.0,
+  ap (λ (l : List Event). more ++ l) gone.1 ∙ sym (append_assoc more gone.0 told),
+  (
+    more ++ gone.2.0,
+    gone.2.1,
+    ap (λ (l : List Event). more ++ l) gone.2.2 ∙ sym (append_assoc more gone.2.0 (unnamed way ∷ gone.2.1)),
+  ),
+)
+
+-- after a look or another step
+pub grown_on : (told : List Event) (way : ℕ) (acts : List Event) (old new : Token) → Grows acts old new
+    → IsUnnamedSince told way old.seen → IsUnnamedSince told way new.seen
+grown_on told way acts old new grows gone =
+    subst (IsUnnamedSince told way) (sym grows.seen) (unnamed_on told way old.seen grows.rest gone)
+
+pub set_on : (told : List Event) (way : ℕ) (marked : Bool) (old new : Token) → SetsMark marked old new
+    → IsUnnamedSince told way old.seen → IsUnnamedSince told way new.seen
+set_on told way true old new same gone = subst (λ (t : Token). IsUnnamedSince told way t.seen) (sym same) gone
+set_on told way false old new grows gone = grown_on told way _ old new grows gone
+
+-- a token that knew a way's name looks it up there, unless the name was taken since
+pub looks_there : FindsWhatItKnew → (id way : ℕ) (old new : Token) (there : Option NamedWay) → 0 < id
+    → HasName old way id → LooksForWay id old new there
+    → IsUnnamedSince old.seen way new.seen ⊎ (way_named there ≡ Some way)
+looks_there law id way old new None real named looks = ⊎_elim
+    (λ (is : None ≡ Some way). inr is)
+    (λ gone. inl gone)
+    (law id way old new None real named looks)
+looks_there law id way old new (Some at) real named looks = ⊎_elim
+    (λ (is : Some at.way ≡ Some way). inr is)
+    (λ gone. inl (grown_on old.seen way _ looks.0 new looks.2 gone))
+    (law id way old looks.0 (Some at.way) real named looks.1)

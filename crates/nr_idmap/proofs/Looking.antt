@@ -62,7 +62,7 @@ module _ (w a w' : Caller) (c c' : Token) (tied : IsTied (keeper_of w a c)) (id 
       let tag
       = found_tagged name (state_of go.mid way) set (mid_agrees w a w' c c' call (reply.Rows set) tied go same way)
       go.replied in
-      (tag.0, tag.1 ∙ ap (λ (n : ℕ). tag_of n ∷ tag.0) (sym (names way) ∙ finds.named.has))
+      (tag.0, tag.1 ∙ ap (λ (n : ℕ). tag_of n ∷ tag.0) (sym (names way) ∙ finds.1.has))
 
 -- WHAT IT SAYS
 module _ {Room : Type 0} (shows : Room → List Row → Type 0) (id way : ℕ) (old now new : Keeper) (before after : Room)

@@ -192,7 +192,7 @@ retied w a w' a' c c' acts tied rested table asker grows agrees = record {
 -- a search by the clerk changes no name
 pub found_looks : (id : ℕ) (c c' : Token) (found : Option ℕ) → FindsWay id c c' found
     → (count : ℕ) × ids.Grows (looks count c.number) c c'
-found_looks id c c' (Some way) finds = (finds.place + 1, finds.grows)
+found_looks id c c' (Some way) finds = (finds.0.count + 0, finds.0.grows)
 found_looks id c c' None finds = (places, finds.0)
 
 pub found_names : (w a : Caller) (id : ℕ) (c c' : Token) (found : Option ℕ) → IsTied (keeper_of w a c)
@@ -264,4 +264,4 @@ module _ (w a w' : Caller) (c c' : Token) (call : Call) (answer : Reply) (tied :
 pub near_of : (w a : Caller) (id way : ℕ) (c c' : Token) → IsTied (keeper_of w a c) → FindsWay id c c' (Some way)
     → way < w.table.shape.keys
 near_of w a id way c c' tied finds =
-    omega (arith, finds.named.inside, ap (λ (d : Opened). ways d.plan) finds.grows.directory, tied.ways_are)
+    omega (arith, finds.1.inside, ap (λ (d : Opened). ways d.plan) finds.0.grows.directory, tied.ways_are)

@@ -120,7 +120,7 @@ module _ (w a : Caller) (c c' : Token) (tied : IsTied (keeper_of w a c)) (id : �
       owed_at (keeper_of w a c) owed.way ≢ Some owed
   closed_by_name owed (Some way) of finds other is =
       let tells = owed_tells owed.way (name_of c.seen owed.way) (state_of (map_seen w) owed.way) owed is in
-      let here : name_of c.seen way ≡ id = sym (found_names w a id c c' (Some way) tied finds way) ∙ finds.named.has in
+      let here : name_of c.seen way ≡ id = sym (found_names w a id c c' (Some way) tied finds way) ∙ finds.1.has in
       other (ap Some (one_way c.directory.plan c.seen way owed.way id tied.legal real here (sym tells.1 ∙ of)))
   closed_by_name owed None of finds other is =
       let tells = owed_tells owed.way (name_of c.seen owed.way) (state_of (map_seen w) owed.way) owed is in
@@ -158,7 +158,7 @@ module _ (w a w' : Caller) (c c' : Token) (tied : IsTied (keeper_of w a c)) (id 
   names k = found_names w a id c c' (Some way) tied finds k
 
   has : name_of c.seen way ≡ id
-  has = sym (names way) ∙ finds.named.has
+  has = sym (names way) ∙ finds.1.has
 
   abbrev Left : Type 0
   Left = IsTied (keeper_of w' a c') × OwesSame (keeper_of w a c) (keeper_of w' a c')

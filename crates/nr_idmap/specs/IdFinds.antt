@@ -1,14 +1,15 @@
 -- What a reader's call says of its two tokens, by its answer.
-use Rattle.std.specs.Prelude.{◌≡◌, ◌≢◌, ℕ, ◌+◌, ◌*◌, List, ◌∷◌, length, Some, None}
+use Rattle.std.specs.Prelude.{◌≡◌, ◌≢◌, ℕ, ◌+◌, ◌*◌, List, ◌∷◌, length, Option, Some, None}
 use Rattle.nr_model.specs.declared.rows.Row.{Row}
 use Rattle.nr_board.specs.Holds.{FindsHole, FindsRows}
 use Rattle.nr_board.specs.Callers.{Caller}
 use Rattle.nr_map.specs.FindsEach.{with_loads}
 use Rattle.nr_ids.specs.Answers as ids
-use Rattle.nr_ids.specs.Marks.{Marks}
+use Rattle.nr_ids.specs.Marks.{LooksAtMark, SetsMark}
 use Rattle.nr_ids.specs.Tokens.{Token}
 use Rattle.nr_idmap.specs.declared.finds.FoundId.{FoundId}
 use Rattle.nr_idmap.specs.declared.finds.FoundId.TheVariants as found
+use Rattle.nr_idmap.specs.declared.finds.NamedWay.{NamedWay}
 use Rattle.nr_idmap.specs.Keepers.{IdCaller}
 use Rattle.nr_idmap.specs.Tags.{tag_of}
 
@@ -16,25 +17,31 @@ use Rattle.nr_idmap.specs.Tags.{tag_of}
 abbrev pub with_line : IdCaller → IdCaller
 with_line reader = record reader { caller = with_loads 1 reader.caller }
 
--- the set was found in the id's way: the call's entry in the map's history
-abbrev pub FindsInWay : ℕ → ℕ → List Row → IdCaller → Caller → Token → Type 0
-FindsInWay id way set old new looked =
-    ids.LooksUp id old.ids looked (Some way) × FindsRows (2 * length set + 1) way set old.caller new
+-- a look-up of an id's name, and where a way has it one look at that way's mark
+abbrev pub LooksForWay : ℕ → Token → Token → Option NamedWay → Type 0
+LooksForWay id old new (Some at) = (named : Token) × ids.LooksUp id old named (Some at.way) × LooksAtMark named new
+LooksForWay id old new None = ids.LooksUp id old new None
 
--- by the id's name: the rows behind the id's tag, and the way is marked as found; or the way that had the id's name was
--- a hole, or had another's set; or within the call there was a moment at which the id had no way
+-- the set was found in the id's way: the call's entry in the map's history
+abbrev pub FindsInWay : ℕ → NamedWay → List Row → IdCaller → Caller → Token → Type 0
+FindsInWay id at set old new looked =
+    LooksForWay id old.ids looked (Some at) × FindsRows (2 * length set + 1) at.way set old.caller new
+
+-- by the id's name: the rows behind the id's tag, and the way is marked as found unless it was; or the way that had the
+-- id's name was a hole, or had another's set; or within the call there was a moment at which the id had no way
 abbrev pub FindsByName : {Room : Type 0} → (Room → List Row → Type 0) → ℕ → IdCaller → Room → IdCaller → Room → FoundId
     → Type 0
 FindsByName shows id old before new room found.Rows =
-    (way : ℕ) × (rows : List Row) × (looked : Token) × FindsInWay id way (tag_of id ∷ rows) old new.caller looked
-    × Marks looked new.ids × shows room rows
+    (at : NamedWay) × (rows : List Row) × (looked : Token) × FindsInWay id at (tag_of id ∷ rows) old new.caller looked
+    × SetsMark at.is_marked looked new.ids × shows room rows
 FindsByName shows id old before new room found.Pending =
-    (way : ℕ) × ids.LooksUp id old.ids new.ids (Some way) × FindsHole 0 way old.caller new.caller × (room ≡ before)
+    (at : NamedWay) × LooksForWay id old.ids new.ids (Some at) × FindsHole 0 at.way old.caller new.caller
+    × (room ≡ before)
 FindsByName shows id old before new room found.Moved =
-    (way : ℕ) × (set : List Row) × FindsInWay id way set old new.caller new.ids
+    (at : NamedWay) × (set : List Row) × FindsInWay id at set old new.caller new.ids
     × ((rows : List Row) → set ≢ tag_of id ∷ rows) × (room ≡ before)
 FindsByName shows id old before new room found.Absent =
-    ids.LooksUp id old.ids new.ids None × (new.caller ≡ old.caller) × (room ≡ before)
+    LooksForWay id old.ids new.ids None × (new.caller ≡ old.caller) × (room ≡ before)
 
 -- a find by id: with the line that it will need on its way, the look-up of its name, and the find there
 abbrev pub FindsById : {Room : Type 0} → (Room → List Row → Type 0) → ℕ → IdCaller → Room → IdCaller → Room → FoundId

@@ -4,50 +4,52 @@ use Rattle.std.specs.Prelude.{Some, None, IfSome}
 use Rattle.nr_model.specs.declared.rows.Row.{Row}
 use Rattle.nr_board.specs.Holds.{FindsHole, FindsRows}
 use Rattle.nr_map.specs.FindsEach.{loads_of_key, with_loads}
-use Rattle.nr_ids.specs.Answers.{LooksUp}
 use Rattle.nr_ids.specs.Events.{looks}
-use Rattle.nr_ids.specs.Marks.{Marks}
+use Rattle.nr_ids.specs.Marks.{SetsMark}
 use Rattle.nr_ids.specs.Tokens.{Grows, Token}
 use Rattle.nr_idmap.specs.declared.finds.FoundId.{FoundId}
 use Rattle.nr_idmap.specs.declared.finds.FoundId.TheVariants as found
+use Rattle.nr_idmap.specs.declared.finds.NamedWay.{NamedWay}
 use Rattle.nr_idmap.specs.declared.wanted.WantedId.{WantedId}
+use Rattle.nr_idmap.specs.IdFinds.{LooksForWay}
 use Rattle.nr_idmap.specs.InTurn.{InTurn}
 use Rattle.nr_idmap.specs.Keepers.{IdCaller}
 use Rattle.nr_idmap.specs.Tags.{tag_of}
 
 -- a find by id in the way that was looked up: as `find` says it of that way
-abbrev pub FindsInside : {Room : Type 0} → (Room → List Row → Type 0) → ℕ → ℕ → IdCaller → Room → IdCaller → Room
-    → FoundId → Type 0
-FindsInside shows id way old before new room found.Rows =
-    (rows : List Row) × FindsRows (2 * length (tag_of id ∷ rows) + 1) way (tag_of id ∷ rows) old.caller new.caller
-    × Marks old.ids new.ids × shows room rows
-FindsInside shows id way old before new room found.Pending =
-    FindsHole 0 way old.caller new.caller × (new.ids ≡ old.ids) × (room ≡ before)
-FindsInside shows id way old before new room found.Moved =
-    (set : List Row) × FindsRows (2 * length set + 1) way set old.caller new.caller × (new.ids ≡ old.ids)
+abbrev pub FindsInside : {Room : Type 0} → (Room → List Row → Type 0) → ℕ → NamedWay → IdCaller → Room → IdCaller
+    → Room → FoundId → Type 0
+FindsInside shows id at old before new room found.Rows =
+    (rows : List Row)
+    × FindsRows (2 * length (tag_of id ∷ rows) + 1) at.way (tag_of id ∷ rows) old.caller new.caller
+    × SetsMark at.is_marked old.ids new.ids × shows room rows
+FindsInside shows id at old before new room found.Pending =
+    FindsHole 0 at.way old.caller new.caller × (new.ids ≡ old.ids) × (room ≡ before)
+FindsInside shows id at old before new room found.Moved =
+    (set : List Row) × FindsRows (2 * length set + 1) at.way set old.caller new.caller × (new.ids ≡ old.ids)
     × ((rows : List Row) → set ≢ tag_of id ∷ rows) × (room ≡ before)
-FindsInside shows id way old before new room found.Absent = ⊥
+FindsInside shows id at old before new room found.Absent = ⊥
 
-abbrev pub FindsAtWay : {Room : Type 0} → (Room → List Row → Type 0) → ℕ → Option ℕ → IdCaller → Room → IdCaller → Room
-    → FoundId → Type 0
+abbrev pub FindsAtWay : {Room : Type 0} → (Room → List Row → Type 0) → ℕ → Option NamedWay → IdCaller → Room
+    → IdCaller → Room → FoundId → Type 0
 FindsAtWay shows id None old before new room told = (told ≡ found.Absent) × (new ≡ old) × (room ≡ before)
-FindsAtWay shows id (Some way) old before new room told = FindsInside shows id way old before new room told
+FindsAtWay shows id (Some at) old before new room told = FindsInside shows id at old before new room told
 
--- the way of one of the ids was looked up
+-- the way of one of the ids was looked up, with its mark
 pub record LooksUpWanted {Room : Type 0} (old : Token) (wanted : WantedId Room) (new : Token)
     (looked : WantedId Room) : Type 0 where
   pub id_is : looked.id ≡ wanted.id
   pub rows_are : looked.rows ≡ wanted.rows
-  pub looks : LooksUp wanted.id old new looked.way
+  pub looks : LooksForWay wanted.id old new looked.at
 
 -- and then it was found there
 pub record FindsWantedId {Room : Type 0} (shows : Room → List Row → Type 0) (old : IdCaller) (wanted : WantedId Room)
     (new : IdCaller) (told : WantedId Room) : Type 0 where
   pub id_is : told.id ≡ wanted.id
-  pub finds : FindsAtWay shows wanted.id wanted.way old wanted.rows new told.rows told.found
+  pub finds : FindsAtWay shows wanted.id wanted.at old wanted.rows new told.rows told.found
 
 abbrev pub IsInside : {Room : Type 0} → ℕ → WantedId Room → Type 0
-IsInside keys wanted = IfSome wanted.way (λ way. way < keys)
+IsInside keys wanted = IfSome wanted.at (λ at. at.way < keys)
 
 -- of at most sixteen: a name of each group was loaded ahead; all were looked up in turn; the words that finds in their
 -- ways need were loaded ahead; and all were found in turn

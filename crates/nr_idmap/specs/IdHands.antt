@@ -6,12 +6,13 @@ use Rattle.nr_board.specs.declared.answers.Found.{Found}
 use Rattle.nr_board.specs.declared.answers.Found.TheVariants as answer
 use Rattle.nr_map.specs.FindsEach.{with_loads}
 use Rattle.nr_map.specs.Hands.{AsksInVain, FindsHeld, FindsKept, Handed, LetsGo, idle}
-use Rattle.nr_ids.specs.Answers.{LooksUp}
-use Rattle.nr_ids.specs.Marks.{Marks}
+use Rattle.nr_ids.specs.Marks.{Marks, SetsMark}
 use Rattle.nr_ids.specs.Tokens.{Token}
 use Rattle.nr_idmap.specs.declared.finds.FoundId.{FoundId}
 use Rattle.nr_idmap.specs.declared.finds.FoundId.TheVariants as found
+use Rattle.nr_idmap.specs.declared.finds.NamedWay.{NamedWay}
 use Rattle.nr_idmap.specs.declared.hands.Holding.{Holding}
+use Rattle.nr_idmap.specs.IdFinds.{LooksForWay}
 use Rattle.nr_idmap.specs.Keepers.{IdCaller, IdTable}
 use Rattle.nr_idmap.specs.Tags.{rows_behind, tag_of}
 
@@ -100,18 +101,22 @@ abbrev pub KeepsWay : ℕ → Handed → Handed → Found → Type 0
 KeepsWay way old new told =
     (before set : List Row) × FindsKept (λ (pile : List Row) (rows : List Row). pile ≡ rows) way old before new set told
 
--- by the id's name: the set is held that has the id's tag; else nothing is, since the way was a hole or had another's
--- set, or there was a moment at which the id had no way
+-- by the id's name: the set is held that has the id's tag, and the way is marked as found unless it was; else nothing
+-- is, since the way was a hole or had another's set, or there was a moment at which the id had no way
 abbrev pub HoldsByName : ℕ → IdHanded → IdHanded → FoundId → Type 0
 HoldsByName id old new found.Rows =
-    (way : ℕ) × (rows : List Row) × LooksUp id old.ids new.ids (Some way) × KeepsWay way old.hand new.hand answer.Rows
-    × (new.hand.rows ≡ tag_of id ∷ rows) × (new.id ≡ Some id)
+    (at : NamedWay) × (rows : List Row) × (looked : Token) × LooksForWay id old.ids looked (Some at)
+    × KeepsWay at.way old.hand new.hand answer.Rows × (new.hand.rows ≡ tag_of id ∷ rows)
+    × SetsMark at.is_marked looked new.ids × (new.id ≡ Some id)
 HoldsByName id old new found.Pending =
-    (way : ℕ) × LooksUp id old.ids new.ids (Some way) × KeepsWay way old.hand new.hand answer.Hole × (new.id ≡ None)
+    (at : NamedWay) × LooksForWay id old.ids new.ids (Some at) × KeepsWay at.way old.hand new.hand answer.Hole
+    × (new.id ≡ None)
 HoldsByName id old new found.Moved =
-    (way : ℕ) × (kept : Handed) × LooksUp id old.ids new.ids (Some way) × KeepsWay way old.hand kept answer.Rows
-    × ((rows : List Row) → kept.rows ≢ tag_of id ∷ rows) × LetsGo kept new.hand × (new.id ≡ None)
-HoldsByName id old new found.Absent = LooksUp id old.ids new.ids None × LetsGo old.hand new.hand × (new.id ≡ None)
+    (at : NamedWay) × (kept : Handed) × LooksForWay id old.ids new.ids (Some at)
+    × KeepsWay at.way old.hand kept answer.Rows × ((rows : List Row) → kept.rows ≢ tag_of id ∷ rows)
+    × LetsGo kept new.hand × (new.id ≡ None)
+HoldsByName id old new found.Absent =
+    LooksForWay id old.ids new.ids None × LetsGo old.hand new.hand × (new.id ≡ None)
 
 -- a word of the line that has the words of the id's group was loaded, as by a find
 abbrev pub with_line_loaded : IdHanded → IdHanded
@@ -120,26 +125,17 @@ with_line_loaded old = record old { hand = record old.hand { reader = with_loads
 abbrev pub HoldsAnew : ℕ → IdHanded → IdHanded → FoundId → Type 0
 HoldsAnew id old new told = HoldsByName id (with_line_loaded old) new told
 
--- by the set that is held already, where the way has it still; else by the name
-abbrev pub HoldsById : ℕ → IdHanded → IdHanded → FoundId → Type 0
-HoldsById id old new told =
-    ((told ≡ found.Rows) × FindsIdHeld id old new)
-    ⊎ ((asked : IdHanded) × AgainById id old asked false × HoldsAnew id asked new told)
-
--- the way whose set is held is marked as found
+-- the way whose set is held is marked as found unless it is
 pub record MarksHeld (old new : IdHanded) : Type 0 where
   pub marks : Marks old.ids new.ids
   pub hand : new.hand ≡ old.hand
   pub id_is : new.id ≡ old.id
 
-abbrev pub MarksFound : FoundId → IdHanded → IdHanded → Type 0
-MarksFound found.Rows held new = MarksHeld held new
-MarksFound found.Pending held new = new ≡ held
-MarksFound found.Moved held new = new ≡ held
-MarksFound found.Absent held new = new ≡ held
-
+-- by the set that is held already, where the way has it still; else by the name
 abbrev pub PinsById : ℕ → IdHanded → IdHanded → FoundId → Type 0
-PinsById id old new told = (held : IdHanded) × HoldsById id old held told × MarksFound told held new
+PinsById id old new told =
+    ((told ≡ found.Rows) × (held : IdHanded) × FindsIdHeld id old held × MarksHeld held new)
+    ⊎ ((asked : IdHanded) × AgainById id old asked false × HoldsAnew id asked new told)
 
 -- such a find into a room, which has the id's rows then; else it stays
 abbrev pub FindsIdKept : {Room : Type 0} → (Room → List Row → Type 0) → ℕ → IdHanded → Room → IdHanded → Room → FoundId

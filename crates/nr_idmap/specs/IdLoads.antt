@@ -1,16 +1,17 @@
 -- What a hand loads ahead that holds nothing.
 use Rattle.std.specs.Prelude.{◌≡◌, ℕ, ◌*◌, List, [], ◌∷◌, length, Option}
 use Rattle.nr_map.specs.FindsEach.{loads_of_key, with_loads}
-use Rattle.nr_ids.specs.Answers.{LooksUp}
 use Rattle.nr_ids.specs.Events.{looks}
 use Rattle.nr_ids.specs.Tokens.{Grows, Token}
+use Rattle.nr_idmap.specs.declared.finds.NamedWay.{NamedWay}
+use Rattle.nr_idmap.specs.IdFinds.{LooksForWay}
 use Rattle.nr_idmap.specs.Keepers.{IdCaller}
 
--- each of these ids was looked up, in turn
+-- each of these ids was looked up in turn, with the mark of its way
 abbrev pub LooksUpEach : List ℕ → Token → Token → Type 0
 LooksUpEach [] old new = new ≡ old
 LooksUpEach (id ∷ ids) old new =
-    (found : Option ℕ) × (next : Token) × LooksUp id old next found × LooksUpEach ids next new
+    (found : Option NamedWay) × (next : Token) × LooksForWay id old next found × LooksUpEach ids next new
 
 -- a name of each one's group was loaded; all were looked up; and words were loaded that finds in their ways need
 pub record LoadsAheadById (ids : List ℕ) (old new : IdCaller) : Type 0 where

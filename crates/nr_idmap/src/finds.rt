@@ -1,5 +1,5 @@
 //! What readers do: they find ids, and request those that have no way.
-ghost use Rattle.std.specs.Prelude.{◌≡◌, ◌<◌};
+ghost use Rattle.std.specs.Prelude.{◌≡◌, ◌<◌, IfSome};
 ghost use Rattle.nr_ids.specs.Answers.{Requests};
 ghost use Rattle.nr_idmap.specs.Keepers.{id_table_of};
 
@@ -24,16 +24,23 @@ pub enum FoundId {
     Absent,
 }
 
+/// The way that has an id's name, and whether that way is marked as found.
+#[derive(Clone, Copy)]
+pub(crate) struct NamedWay {
+    pub way: u32,
+    pub is_marked: bool,
+}
+
 impl IdMap {
-    ghost use Rattle.nr_idmap.specs.IdFinds.{FindsById};
+    ghost use Rattle.nr_idmap.specs.IdFinds.{FindsById, LooksForWay};
     ghost use Rattle.nr_idmap.specs.IdFindsEach.{FindsInside};
 
     /// Looks an id up, and writes its rows into the caller's room, which stays as it is unless the
-    /// answer is `Rows`. Takes 1 load of a word that lies in the line of the id's key; a step for each look
-    /// at a way's name, up to the one that has the id's, of the eight ways of its group and then the eight
-    /// of its second group; the steps of the map's find, of one row more: by the counts 1 where the way is
-    /// a hole, and else 2n + 5 for n rows; and 1 at the mark of a way whose rows were found, or 2 where it
-    /// isn't marked yet.
+    /// answer is `Rows`. Takes 1 load of a word that lies in the line of the id's key; 8 looks at the names
+    /// of the id's group, and 8 more at those of its second group unless one of them was the id's; where a
+    /// way had the name, 1 look at the way's mark, and the steps of the map's find, of one row more: by the
+    /// counts 1 where the way is a hole, and else 2n + 5 for n rows; and 1 to mark a way whose rows were
+    /// found, unless it is marked already.
     pub fn find<R: RowRoom>(&self, reader: &mut IdReader, id: u64, rows: &mut R) -> FoundId
         requires own { id_table_of reader.old ≡ self.now }
         requires id { 0 < id }
@@ -42,33 +49,48 @@ impl IdMap {
     {
         let first = self.directory.plan().first_way(id);
         self.map.load_key(&mut reader.reader, first);
-        let Some(way) = self.directory.look_up(&mut reader.ids, id) else {
+        let Some(at) = self.look_up(&mut reader.ids, id) else {
             return FoundId::Absent;
         };
-        self.find_in(reader, way, id, rows)
+        self.find_in(reader, at, id, rows)
+    }
+
+    // The way that has the id's name. Its mark is looked at here, beside the lines that the find will
+    // need: behind the find's writes its line would be waited for alone.
+    #[inline(always)]
+    pub(crate) fn look_up(&self, ids: &mut nr_ids::Reader, id: u64) -> Option<NamedWay>
+        requires own { ids.old.directory ≡ self.now.directory }
+        requires id { 0 < id }
+        ensures own { ids.new.directory ≡ self.now.directory }
+        ensures looks { LooksForWay id ids.old ids.new result }
+        ensures inside { IfSome result (λ at. at.way < self.now.map.shape.keys) }
+    {
+        let way = self.directory.look_up(ids, id)?;
+        let is_marked = self.directory.is_marked(ids, way);
+        Some(NamedWay { way, is_marked })
     }
 
     // Finds the rows of an id in its way.
     pub(crate) fn find_in<R: RowRoom>(
         &self,
         reader: &mut IdReader,
-        way: u32,
+        at: NamedWay,
         id: u64,
         rows: &mut R,
     ) -> FoundId
         requires own { id_table_of reader.old ≡ self.now }
-        requires way { way < self.now.map.shape.keys }
+        requires way { at.way < self.now.map.shape.keys }
         ensures own { id_table_of reader.new ≡ self.now }
-        ensures finds { FindsInside R.shows id way reader.old rows.old reader.new rows.new result }
+        ensures finds { FindsInside R.shows id at reader.old rows.old reader.new rows.new result }
     {
         match self
             .map
-            .find_into(&mut reader.reader, way, &mut reader.pile)
+            .find_into(&mut reader.reader, at.way, &mut reader.pile)
         {
             Found::Hole => FoundId::Pending,
             Found::Rows => {
                 if copy_behind(reader.pile.as_slice(), id, rows) {
-                    self.directory.mark(&mut reader.ids, way);
+                    self.directory.mark(&mut reader.ids, at.way, at.is_marked);
                     FoundId::Rows
                 } else {
                     FoundId::Moved
@@ -80,7 +102,7 @@ impl IdMap {
     /// Requests an id that has no way. The first such request of the id's group is `Granted` a claim,
     /// whose id must go to the writer, which admits it; until then the others are `Busy` or `Outrun`.
     /// `Named`: the id has a way. Takes 18 steps where the claim is granted or another was within the
-    /// call, 2 to 17 where a way has the name, else 1.
+    /// call; where a way has the name 9, or 17 where that is of the id's second group; else 1.
     pub fn request(&self, reader: &mut IdReader, id: u64) -> Requested
         requires own { id_table_of reader.old ≡ self.now }
         requires id { 0 < id }

@@ -3,7 +3,7 @@ ghost use Rattle.std.specs.Prelude.{◌≡◌, ◌≢◌, ◌<◌, IsSome, None}
 ghost use Rattle.nr_model.specs.Rows.{IsRowSet};
 ghost use Rattle.nr_model.specs.declared.rows.TheConstants.{MAX_ROWS};
 ghost use Rattle.nr_ids.specs.Answers.{Requests};
-ghost use Rattle.nr_idmap.specs.IdHands.{AgainById, FindsIdKept, HoldsAnew, HoldsById, LetsGoById, MarksHeld, PinsById, hand_table_of, idle_by_id, reader_of, rows_in_hand};
+ghost use Rattle.nr_idmap.specs.IdHands.{AgainById, FindsIdKept, HoldsAnew, LetsGoById, MarksHeld, PinsById, hand_table_of, idle_by_id, reader_of, rows_in_hand};
 ghost use Rattle.nr_idmap.specs.Keepers.{id_table_of};
 
 use crate::finds::FoundId;
@@ -131,20 +131,21 @@ impl IdHand {
     }
 
     /// Finds an id and holds its set, whose rows `rows` shows; nothing is held where the answer isn't
-    /// `Rows`. Where it holds the id's set already it finds it again, by `again`. Else it takes 1 load
-    /// and the looks of `find` at ways' names, and the steps of the map's `find_kept` with a row more; 1
-    /// more where the set that was found is let go, since it is another id's. At `Rows` it marks the way, as `find` does.
+    /// `Rows`. Where it holds the id's set already it finds it again, by `again`, and then looks at the
+    /// way's mark. Else it takes 1 load and the looks of `find` at ways' names and at the mark, and the
+    /// steps of the map's `find_kept` with a row more; 1 more where the set that was found is let go, since
+    /// it is another id's. At `Rows` it marks the way in 1 step, unless it is marked already.
     pub fn pin(&mut self, map: &IdMap, id: u64) -> FoundId
         requires own { hand_table_of self.old ≡ map.now }
         requires id { 0 < id }
         ensures own { hand_table_of self.new ≡ map.now }
         ensures pins { PinsById id self.old self.new result }
     {
-        let found = self.hold(map, id);
-        if let FoundId::Rows = found {
+        if self.again(map, id) {
             self.mark(map);
+            return FoundId::Rows;
         }
-        found
+        self.hold_anew(map, id)
     }
 
     /// As `pin`, and writes the rows into the caller's room, which stays as it is unless the answer is
@@ -181,24 +182,12 @@ impl IdHand {
         ensures marks { MarksHeld self.old self.new }
     {
         if let Some(held) = self.held {
-            map.directory.mark(&mut self.ids, held.way);
+            let is_marked = map.directory.is_marked(&mut self.ids, held.way);
+            map.directory.mark(&mut self.ids, held.way, is_marked);
         }
     }
 
-    // Holds an id's set: the one that is held, where the way has it still, or what a find finds.
-    fn hold(&mut self, map: &IdMap, id: u64) -> FoundId
-        requires own { hand_table_of self.old ≡ map.now }
-        requires id { 0 < id }
-        ensures own { hand_table_of self.new ≡ map.now }
-        ensures holds { HoldsById id self.old self.new result }
-    {
-        if self.again(map, id) {
-            return FoundId::Rows;
-        }
-        self.hold_anew(map, id)
-    }
-
-    // Finds an id by its name and holds its set.
+    // Finds an id by its name, holds its set and marks its way.
     fn hold_anew(&mut self, map: &IdMap, id: u64) -> FoundId
         requires own { hand_table_of self.old ≡ map.now }
         requires id { 0 < id }
@@ -207,16 +196,17 @@ impl IdHand {
     {
         let first = map.directory.plan().first_way(id);
         self.hand.load_key(&map.map, first);
-        let Some(way) = map.directory.look_up(&mut self.ids, id) else {
+        let Some(at) = map.look_up(&mut self.ids, id) else {
             self.release(map);
             return FoundId::Absent;
         };
         self.held = None;
-        match self.hand.find_kept(&map.map, way, &mut self.pile) {
+        match self.hand.find_kept(&map.map, at.way, &mut self.pile) {
             Found::Hole => FoundId::Pending,
             Found::Rows => {
                 if has_tag(self.pile.as_slice(), id) {
-                    self.held = Some(Holding { id, way });
+                    map.directory.mark(&mut self.ids, at.way, at.is_marked);
+                    self.held = Some(Holding { id, way: at.way });
                     FoundId::Rows
                 } else {
                     self.hand.release(&map.map);

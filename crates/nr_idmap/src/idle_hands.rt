@@ -24,14 +24,14 @@ impl IdHand {
     {
         let first = map.directory.plan().first_way(id);
         self.hand.load_key(&map.map, first);
-        let Some(way) = map.directory.look_up(&mut self.ids, id) else {
+        let Some(at) = map.look_up(&mut self.ids, id) else {
             return FoundId::Absent;
         };
-        match self.hand.find(&map.map, way, &mut self.pile) {
+        match self.hand.find(&map.map, at.way, &mut self.pile) {
             Found::Hole => FoundId::Pending,
             Found::Rows => {
                 if copy_behind(self.pile.as_slice(), id, rows) {
-                    map.directory.mark(&mut self.ids, way);
+                    map.directory.mark(&mut self.ids, at.way, at.is_marked);
                     FoundId::Rows
                 } else {
                     FoundId::Moved
@@ -42,7 +42,7 @@ impl IdHand {
 
     /// Loads words that finds of at most sixteen ids will need, so that the lines of memory in which they
     /// lie are near then. It tells nothing. Nothing may be held. Takes 1 step an id, the looks of `find`
-    /// at ways' names for each, and the map's `load_ahead` for as many keys.
+    /// at ways' names and at a mark for each, and the map's `load_ahead` for as many keys.
     pub fn load_ahead(&mut self, map: &IdMap, ids: &[u64])
         requires own { hand_table_of self.old ≡ map.now }
         requires idle { self.old.id ≡ None }
@@ -72,7 +72,7 @@ impl IdMap {
         // A directory has ways, so the map has keys.
         self.directory.plan();
         for place in 0..ids.len() {
-            keys[place] = key_of(self.directory.look_up(reader, ids[place]));
+            keys[place] = key_of(self.look_up(reader, ids[place]));
         }
     }
 }

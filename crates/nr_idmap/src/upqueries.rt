@@ -135,7 +135,7 @@ impl IdMap {
     }
 
     /// Answers an upquery with at most as many of the id's rows as it may have. Refused where the
-    /// upquery isn't open, and where there is no slot. Takes 1 to 16 steps of the directory, and those of
+    /// upquery isn't open, and where there is no slot. Takes 8 or 16 steps of the directory, and those of
     /// the map's `fill` for a row more.
     pub fn fill(
         &self,
@@ -171,7 +171,7 @@ impl IdMap {
     }
 
     /// Takes an upquery back: its way has the next ticket number and no name, and its answer comes too
-    /// late. Takes 1 to 16 steps of the directory, 2 of the map, and 1 of the directory.
+    /// late. Takes 8 or 16 steps of the directory, 2 of the map, and 1 of the directory.
     pub fn withdraw(&self, writer: &mut IdWriter, upquery: Upquery) -> Withdrawn
         requires own { writer.old.table ≡ self.now }
         requires upquery { upquery.table ≡ self.now }

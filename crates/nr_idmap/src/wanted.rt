@@ -9,7 +9,7 @@ ghost use Rattle.nr_idmap.specs.IdFindsEach.{FindsBatch, FindsEachId, FindsWante
 ghost use Rattle.nr_idmap.specs.InTurn.{InTurn};
 ghost use Rattle.nr_idmap.specs.Keepers.{id_table_of};
 
-use crate::finds::FoundId;
+use crate::finds::{FoundId, NamedWay};
 use crate::id_map::IdMap;
 use crate::tokens::IdReader;
 use nr_map::Reader;
@@ -25,7 +25,7 @@ pub struct WantedId<R> {
     pub rows: R,
     pub found: FoundId,
     // Where the call's look-up found its name.
-    way: Option<u32>,
+    at: Option<NamedWay>,
 }
 
 impl<R> WantedId<R> {
@@ -39,7 +39,7 @@ impl<R> WantedId<R> {
             id,
             rows,
             found: FoundId::Absent,
-            way: None,
+            at: None,
         }
     }
 }
@@ -107,7 +107,7 @@ impl IdMap {
         ensures looks { LooksUpWanted ids.old one.old ids.new one.new }
         ensures inside { IsInside self.now.map.shape.keys one.new }
     {
-        one.way = self.directory.look_up(ids, one.id);
+        one.at = self.look_up(ids, one.id);
     }
 
     fn load_ways<R>(&self, reader: &mut Reader, wanted: &[WantedId<R>])
@@ -140,8 +140,8 @@ impl IdMap {
         ensures own { id_table_of reader.new ≡ self.now }
         ensures finds { FindsWantedId R.shows reader.old one.old reader.new one.new }
     {
-        one.found = match one.way {
-            Some(way) => self.find_in(reader, way, one.id, &mut one.rows),
+        one.found = match one.at {
+            Some(at) => self.find_in(reader, at, one.id, &mut one.rows),
             None => FoundId::Absent,
         };
     }
@@ -162,16 +162,16 @@ fn copy_keys<R>(wanted: &[WantedId<R>], keys: &mut [u32; BATCH])
     ensures { (bound : ℕ) → 0 < bound → All (IsInside bound) wanted.now → All (λ key. key < bound) (take (length wanted.now) keys.new) }
 {
     for place in 0..wanted.len() {
-        keys[place] = key_of(wanted[place].way);
+        keys[place] = key_of(wanted[place].at);
     }
 }
 
 /// The key of a way, and 0 in place of none.
-pub(crate) fn key_of(way: Option<u32>) -> u32
-    ensures { (bound : ℕ) → 0 < bound → IfSome way (λ key. key < bound) → result < bound }
+pub(crate) fn key_of(at: Option<NamedWay>) -> u32
+    ensures { (bound : ℕ) → 0 < bound → IfSome at (λ at. at.way < bound) → result < bound }
 {
-    match way {
-        Some(key) => key,
+    match at {
+        Some(at) => at.way,
         None => 0,
     }
 }

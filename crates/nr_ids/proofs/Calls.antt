@@ -8,18 +8,19 @@ use mathlib.Core.Logic.{dite}
 use native.Mathlib.Decide.{dec_le, ℕ_discrete}
 use Rattle.nr_ids.specs.declared.plan.Plan.{Plan}
 use Rattle.nr_ids.specs.Groups.{IsWayOf, group_at, group_of, group_of_way, places, second_of, way_at, ways}
-use Rattle.nr_ids.specs.Events.{Event, named, unnamed, cleared, claimed, looked, own, looks, name_of, turn_of, MayName}
-use Rattle.nr_ids.specs.Events.{IsLegal, IsAbsent, IsOpen, IsClosed}
+use Rattle.nr_ids.specs.Events.{Event, named, unnamed, cleared, claimed, looked, own, looks, name_of, turn_of, May}
+use Rattle.nr_ids.specs.Events.{IsLegal, IsAbsent, IsOpen, IsClosed, MayName}
 use Rattle.nr_ids.specs.Scans.{Passed}
 use Rattle.nr_ids.specs.declared.admissions.Refused.{Refused}
 use Rattle.nr_ids.specs.declared.admissions.Refused.TheVariants as refused
 use Rattle.nr_ids.specs.declared.admissions.Room.{Room}
-use Rattle.nr_ids.specs.Looking.{WasAbsent, Ahead, FindsAt, PassedByClerk, Missed, HasRoom, LooksForRoom, Rooms}
-use Rattle.nr_ids.specs.Looking.{SeesRoom, group_for, way_for, way_in}
+use Rattle.nr_ids.specs.Looking.{WasAbsent, FindsAt, FindsIn, HadName, HasRoom, IsFoundBy, LackedName, LooksForRoom}
+use Rattle.nr_ids.specs.Looking.{MeetsAt, Missed, PassedByClerk, PassesGroup, Rooms, Scans, ScansGroup, SeesRoom}
+use Rattle.nr_ids.specs.Looking.{group_for, way_for, way_in}
 use Rattle.nr_ids.specs.Answers.{WasOpen, Admits}
 use Rattle.nr_ids.specs.Tokens.{Opened, Token, Grows, Newest, WinsClaim, Within}
 use Rattle.nr_ids.proofs.Logs.{ClearsNothing, cond_same, cond_else, exact_names, looks_clear_nothing, looks_names}
-use Rattle.nr_ids.proofs.Logs.{named_inside, one_way, own_append, quiet_turn, was_odd}
+use Rattle.nr_ids.proofs.Logs.{named_inside, own_append, quiet_turn, was_odd}
 
 pub grows_none : (old : Token) → IsLegal old.directory.plan old.seen → Grows [] old old
 grows_none old legal =
@@ -142,120 +143,86 @@ module _ (plan : Plan) (id : ℕ) (real : 0 < id) where
       let at : IsWayOf plan id way = (named_inside plan log way id legal real has).1 in
       none at.0 at.1 (ap (name_of log) at.2 ∙ has)
 
-  -- one event: a name stays in its way, or no way has it then
-  moves_off : (event : Event) (log : List Event) (way : ℕ) → IsLegal plan (event ∷ log) → name_of log way ≡ id
-      → IsAbsent (event ∷ log) id ⊎ (name_of (event ∷ log) way ≡ id)
-  moves_off (named w i) log way legal at = dite (ℕ_discrete w way)
-      (λ (e : w ≡ way).
-      let free : name_of log way ≡ 0 = ap (name_of log) (sym e) ∙ legal.0.free in absurd (omega arith))
-      (λ ne. inr (cond_else i (name_of log way) w way ne ∙ at))
-  moves_off (unnamed w) log way legal at = dite (ℕ_discrete w way)
-      (λ (e : w ≡ way). inl (λ other has. dite (ℕ_discrete w other)
-      (λ (here : w ≡ other).
-      let none : 0 ≡ id = sym (cond_same 0 (name_of log other) w other here) ∙ has in absurd (omega arith))
-      (λ ne. ne
-      (e
-      ∙ sym
-      (one_way plan log other way id legal.1 real (sym (cond_else 0 (name_of log other) w other ne) ∙ has)
-      at)))))
-      (λ ne. inr (cond_else 0 (name_of log way) w way ne ∙ at))
-  moves_off (cleared g) log way legal at = inr at
-  moves_off (claimed by i) log way legal at = inr at
-  moves_off (looked by) log way legal at = inr at
-
-  -- many events: at some moment no way had it, or it stays in its way
-  moved_off : (rest log : List Event) (way : ℕ) → IsLegal plan (rest ++ log) → name_of log way ≡ id
-      → ((moment : List Event) × (later : List Event) × (since : List Event) × (rest ++ log ≡ later ++ moment)
-      × (moment ≡ since ++ log) × IsAbsent moment id)
-      ⊎ (name_of (rest ++ log) way ≡ id)
-  moved_off [] log way legal at = inr at
-  moved_off (event ∷ rest) log way legal at = ⊎_elim
-      (λ t. inl (t.0, event ∷ t.1, t.2, ap (λ (l : List Event). event ∷ l) t.3, t.4, t.5))
-      (λ still. ⊎_elim (λ gone. inl (event ∷ (rest ++ log), [], event ∷ rest, refl, refl, gone)) (λ here. inr here)
-      (moves_off event (rest ++ log) way legal still))
-      (moved_off rest log way legal.1 at)
-
--- a scan goes on by one look, which found another name
-module _ (id : ℕ) (real : 0 < id) (old mid new : Token) (place : ℕ) (so_far : Grows (looks place old.number) old mid)
-    (look : Grows (looked mid.number ∷ []) mid new)
-    (other : name_of new.seen (way_for old id place) ≢ id) where
-  abbrev plan : Plan
-  plan = old.directory.plan
-
-  whole : Grows (looks (place + 1) old.number) old new
-  whole = looks_on old mid new place so_far look
-
-  pub passed_on : ((at : ℕ) → at < place → Passed old.seen mid.seen (way_for old id at) id) → (at : ℕ) → at < place + 1
-      → Passed old.seen new.seen (way_for old id at) id
-  passed_on passed at below = dite (ℕ_discrete at place)
-      (λ (e : at ≡ place).
-      record {
-        moment = new.seen;
-        later = [];
-        until = refl;
-        since = whole.rest;
-        from = whole.seen;
-        other = λ has. other (ap (λ (k : ℕ). name_of new.seen (way_for old id k)) (sym e) ∙ has);
-      })
-      (λ ne. let pass = passed at (omega arith) in record {
-        moment = pass.moment;
-        later = look.rest ++ pass.later;
-        until =
-            look.seen ∙ ap (λ (l : List Event). look.rest ++ l) pass.until
-            ∙ sym (append_assoc look.rest pass.later pass.moment);
-        since = pass.since;
-        from = pass.from;
-        other = pass.other;
-      })
-
-  pub ahead_on : (0 < place → Ahead id place old mid) → Ahead id (place + 1) old new
-  ahead_on ahead = dite (ℕ_discrete place 0)
-      (λ (e : place ≡ 0). begins e)
-      (λ ne. goes (omega arith))
+  -- where a way that hadn't the name got it, there was a moment at which no way had it
+  named_since : (rest log : List Event) (way : ℕ) → IsLegal plan (rest ++ log) → name_of log way ≢ id
+      → name_of (rest ++ log) way ≡ id
+      → (moment : List Event) × (later : List Event) × (since : List Event) × (rest ++ log ≡ later ++ moment)
+      × (moment ≡ since ++ log) × IsAbsent moment id
+  named_since [] log way legal other has = absurd (other has)
+  named_since (event ∷ rest) log way legal other has = dite (ℕ_discrete (name_of (rest ++ log) way) id)
+      (λ (e : name_of (rest ++ log) way ≡ id).
+      let t = named_since rest log way legal.1 other e in
+      (t.0, event ∷ t.1, t.2, ap (λ (l : List Event). event ∷ l) t.3, t.4, t.5))
+      (λ ne. (rest ++ log, event ∷ [], rest, refl, refl, first event legal.0 ne has))
     where
-      begins : place ≡ 0 → Ahead id (place + 1) old new
-      begins e = let one : place + 1 ≡ suc place = omega arith in ⊎_elim
-          (λ (t : (i : ℕ) × (i < places) × (name_of new.seen (way_at plan id i) ≡ id)).
-          let apart : t.0 ≢ place
-          = λ same. other (ap (λ (k : ℕ). name_of new.seen (way_at plan id k)) (sym same) ∙ t.2) in
-          inr (t.0, omega arith, t.1, t.2))
-          (λ none. inl (record {
-            moment = new.seen;
-            within =
-                within_between old new new _ (looks place old.number) []
-                [] new.seen (subst (λ (k : ℕ). Grows (looks k old.number) old new) one whole) refl refl;
-            absent = none_has plan id real new.seen whole.legal none;
-          })) (search_ways plan id real new.seen places)
+      first : (e : Event) → May plan (rest ++ log) e → name_of (rest ++ log) way ≢ id
+          → name_of (e ∷ rest ++ log) way ≡ id → IsAbsent (rest ++ log) id
+      first (named w i) may ne has = dite (ℕ_discrete w way)
+          (λ (e : w ≡ way).
+          subst (IsAbsent (rest ++ log)) (sym (cond_same i (name_of (rest ++ log) way) w way e) ∙ has) may.absent)
+          (λ apart. absurd (ne (sym (cond_else i (name_of (rest ++ log) way) w way apart) ∙ has)))
+      first (unnamed w) may ne has = dite (ℕ_discrete w way)
+          (λ (e : w ≡ way).
+          let none : 0 ≡ id = sym (cond_same 0 (name_of (rest ++ log) way) w way e) ∙ has in absurd (omega arith))
+          (λ apart. absurd (ne (sym (cond_else 0 (name_of (rest ++ log) way) w way apart) ∙ has)))
+      first (cleared g) may ne has = absurd (ne has)
+      first (claimed by i) may ne has = absurd (ne has)
+      first (looked by) may ne has = absurd (ne has)
 
-      goes : 0 < place → Ahead id (place + 1) old new
-      goes some =
-          let again : place ≡ suc (place - 1) = omega arith in
-          let before : Grows (looks (suc (place - 1)) old.number) old mid
-          = subst (λ (k : ℕ). Grows (looks k old.number) old mid) again so_far in
-          ⊎_elim
-          (λ (gone : WasAbsent id old mid). inl
-          (record {
-            moment = gone.moment;
-            within = within_on old mid new gone.moment look.rest gone.within look.seen;
-            absent = gone.absent;
-          }))
-          (λ (t : (at : ℕ) × (place ≤ at) × (at < places) × (name_of mid.seen (way_at plan id at) ≡ id)). ⊎_elim
-          (λ gap. inl
-          (record {
-            moment = gap.0;
-            within = within_between old mid new _ (looks (place - 1) old.number) gap.2 gap.1 gap.0 before gap.4
-                (look.seen ∙ gap.3);
-            absent = gap.5;
-          }))
-          (λ still.
-          let here : name_of new.seen (way_at plan id t.0) ≡ id
-          = ap (λ (l : List Event). name_of l (way_at plan id t.0)) look.seen ∙ still in
-          let apart : t.0 ≢ place
-          = λ same. other (ap (λ (k : ℕ). name_of new.seen (way_at plan id k)) (sym same) ∙ here) in
-          inr (t.0, (let from = t.1 in omega arith), t.2, here))
-          (moved_off plan id real look.rest mid.seen (way_at plan id t.0) (subst (IsLegal plan) look.seen whole.legal)
-          t.3))
-          (ahead some)
+ends_none : (a b : List Event) → a ++ b ≡ [] → (a ≡ []) × (b ≡ [])
+ends_none [] b e = (refl, e)
+ends_none (x ∷ a) b e = absurd (cc (e))
+
+-- a moment of a call's later steps is one of the call
+within_since : (old mid new : Token) (acts moment : List Event) → Grows acts old mid → Within mid new moment
+    → Within old new moment
+within_since old mid new acts moment grows within = record {
+  since = within.since ++ grows.rest;
+  from =
+      within.from ∙ ap (λ (l : List Event). within.since ++ l) grows.seen
+      ∙ sym (append_assoc within.since grows.rest old.seen);
+  begun = λ none. within.begun
+      (ends_none (own mid.number within.since) (own mid.number grows.rest)
+      (sym (own_append mid.number within.since grows.rest)
+      ∙ ap (λ (by : ℕ). own by (within.since ++ grows.rest)) grows.number ∙ none)).0;
+  later = within.later;
+  until = within.until;
+}
+
+-- the end of a call that has made a step
+within_last : (count : ℕ) (old new : Token) → Grows (looks (count + 1) old.number) old new → Within old new new.seen
+within_last count old new grows =
+    let more : count + 1 ≡ suc count = omega arith in
+    within_between old new new _ (looks count old.number) []
+    [] new.seen (subst (λ (k : ℕ). Grows (looks k old.number) old new) more grows) refl refl
+
+-- where each of an id's ways hadn't its name, there was a moment at which the id had none
+absent_within : (id : ℕ) → 0 < id → (old new : Token) → IsLegal old.directory.plan new.seen → Within old new new.seen
+    → ((place : ℕ) → place < places → LackedName (way_for old id place) id old new) → WasAbsent id old new
+absent_within id real old new legal last lacked = let plan = old.directory.plan in ⊎_elim
+    (λ (t : (i : ℕ) × (i < places) × (name_of new.seen (way_at plan id i) ≡ id)).
+    let way : ℕ = way_at plan id t.0 in
+    let lack = lacked t.0 t.1 in
+    let within = lack.within in
+    let gap
+    = named_since plan id real within.later lack.moment way (subst (IsLegal plan) within.until legal) lack.other
+    (ap (λ (l : List Event). name_of l way) (sym within.until) ∙ t.2) in
+    record {
+      moment = gap.0;
+      within = record {
+        since = gap.2 ++ within.since;
+        from =
+            gap.4 ∙ ap (λ (l : List Event). gap.2 ++ l) within.from ∙ sym (append_assoc gap.2 within.since old.seen);
+        begun = λ none. within.begun
+            (ends_none (own old.number gap.2) (own old.number within.since)
+            (sym (own_append old.number gap.2 within.since) ∙ none)).1;
+        later = gap.1;
+        until = within.until ∙ gap.3;
+      };
+      absent = gap.5;
+    })
+    (λ none. record { moment = new.seen; within = last; absent = none_has plan id real new.seen legal none })
+    (search_ways plan id real new.seen places)
 
 -- what the clerk knows of names: those that it knew, after its own steps
 pub clerk_names : (old : Token) (acts : List Event) (new : Token) (way : ℕ) → old.number ≡ 0 → Grows acts old new
@@ -290,19 +257,73 @@ clerk_on way name old mid new count same look other passed clerk at below = dite
     λ has. passed clerk at (omega arith)
     (sym (clerk_looks mid 1 mid.number new (way at) (same ∙ clerk) look) ∙ has))
 
--- a scan of all places
-pub missed : (id : ℕ) → 0 < id → (old new : Token) → Grows (looks places old.number) old new → Ahead id places old new
-    → ((at : ℕ) → at < places → Passed old.seen new.seen (way_for old id at) id)
-    → PassedByClerk (way_for old id) id old places new → Missed id old new
-missed id real old new grows ahead passed by_clerk = record {
-  grows = grows;
-  absent =
-      ⊎_elim (λ gone. gone)
-      (λ (t : (at : ℕ) × (places ≤ at) × (at < places) × (name_of new.seen (way_for old id at) ≡ id)).
-      let low = t.1 in let high = t.2 in absurd (omega arith))
-      ahead;
-  passed = passed;
-  exact = λ clerk. none_has old.directory.plan id real new.seen grows.legal (by_clerk clerk);
+-- what a name was, or was not, at a moment of a call it was at a moment of a longer one
+pub had_later : (way id : ℕ) (old mid new : Token) (count : ℕ) → mid.number ≡ old.number
+    → Grows (looks count mid.number) mid new → HadName way id old mid → HadName way id old new
+had_later way id old mid new count same look name = record {
+  inside = name.inside;
+  moment = name.moment;
+  within = within_on old mid new name.moment look.rest name.within look.seen;
+  had = name.had;
+  exact = λ clerk. clerk_looks mid count mid.number new way (same ∙ clerk) look ∙ name.exact clerk;
+}
+
+pub had_since : (way id : ℕ) (old mid new : Token) (acts : List Event) → Grows acts old mid → HadName way id mid new
+    → HadName way id old new
+had_since way id old mid new acts grows name = record {
+  inside = subst (λ (d : Opened). way < ways d.plan) grows.directory name.inside;
+  moment = name.moment;
+  within = within_since old mid new acts name.moment grows name.within;
+  had = name.had;
+  exact = λ clerk. name.exact (grows.number ∙ clerk);
+}
+
+pub lacked_later : (way id : ℕ) (old mid new : Token) (rest : List Event) → new.seen ≡ rest ++ mid.seen
+    → LackedName way id old mid → LackedName way id old new
+lacked_later way id old mid new rest is name = record {
+  moment = name.moment;
+  within = within_on old mid new name.moment rest name.within is;
+  other = name.other;
+}
+
+pub lacked_since : (way id : ℕ) (old mid new : Token) (acts : List Event) → Grows acts old mid
+    → LackedName way id mid new → LackedName way id old new
+lacked_since way id old mid new acts grows name = record {
+  moment = name.moment;
+  within = within_since old mid new acts name.moment grows name.within;
+  other = name.other;
+}
+
+-- a scan of a group goes on by one look
+module _ (id way : ℕ) (old mid new : Token) (place : ℕ) (so_far : Grows (looks place old.number) old mid)
+    (look : Grows (looked mid.number ∷ []) mid new) where
+  last : Within old new new.seen
+  last = within_last place old new (looks_on old mid new place so_far look)
+
+  pub had_here : way < ways old.directory.plan → name_of new.seen way ≡ id → HadName way id old new
+  had_here inside has = record { inside = inside; moment = new.seen; within = last; had = has; exact = λ _. has }
+
+  pub lacked_here : name_of new.seen way ≢ id → LackedName way id old new
+  lacked_here other = record { moment = new.seen; within = last; other = other }
+
+pub lacked_on : (way : ℕ → ℕ) (id : ℕ) (old mid new : Token) (place : ℕ) → Grows (looks place old.number) old mid
+    → Grows (looked mid.number ∷ []) mid new → name_of new.seen (way place) ≢ id
+    → ((at : ℕ) → at < place → LackedName (way at) id old mid)
+    → (at : ℕ) → at < place + 1 → LackedName (way at) id old new
+lacked_on way id old mid new place so_far look other lacked at below = dite (ℕ_discrete at place)
+    (λ (e : at ≡ place). subst (λ (k : ℕ). LackedName (way k) id old new) (sym e)
+    (lacked_here id (way place) old mid new place so_far look other))
+    (λ ne. lacked_later (way at) id old mid new look.rest look.seen (lacked at (omega arith)))
+
+-- a name that a scan lacked was passed
+pub passed_by : (way id : ℕ) (old new : Token) → LackedName way id old new → Passed old.seen new.seen way id
+passed_by way id old new lack = record {
+  moment = lack.moment;
+  later = lack.within.later;
+  until = lack.within.until;
+  since = lack.within.since;
+  from = lack.within.from;
+  other = lack.other;
 }
 
 -- the group that a call computes is the id's
@@ -330,23 +351,6 @@ module _ (plan : Plan) (id : ℕ) where
       let rest : place % 8 ≡ place - 8 = omega arith in
       ap (λ (k : ℕ). 8 * group_at plan id k + place % 8) half ∙ ap (λ (k : ℕ). 8 * second_of plan id + k) rest
 
-  -- the way that a pair of groups has at a place
-  module _ (first second : ℕ) (first_is : first ≡ group_of plan id) (second_is : second ≡ second_of plan id)
-      (place way : ℕ) (near : place < places)
-      (low : place < 8 → way ≡ 8 * first + place) (high : 8 ≤ place → way ≡ 8 * second + (place - 8)) where
-    pub pair_way : way ≡ way_at plan id place
-    pair_way = dite (dec_le 8 place)
-        (λ (far : 8 ≤ place). high far ∙ ap (λ (g : ℕ). 8 * g + (place - 8)) second_is
-        ∙ sym (way_at_second place far near))
-        (λ few.
-        let before : place < 8 = omega arith in
-        low before ∙ ap (λ (g : ℕ). 8 * g + place) first_is ∙ sym (way_at_first place before))
-
-    pub pair_inside : first < plan.groups → second < plan.groups → way < ways plan
-    pair_inside a b = dite (dec_le 8 place)
-        (λ (far : 8 ≤ place). let is = high far in omega arith)
-        (λ few. let is = low (omega arith) in omega arith)
-
   -- a way of one of the groups is at a place
   pub at_first : (way : ℕ) → group_of_way way ≡ group_of plan id → IsWayOf plan id way
   at_first way is =
@@ -360,6 +364,21 @@ module _ (plan : Plan) (id : ℕ) where
       let high : 8 ≤ place = omega arith in
       let low : place < places = omega arith in
       (place, low, way_at_second place high low ∙ omega arith)
+
+-- what holds of the ways of both groups holds at each of the id's places
+each_place : (id first second : ℕ) (old : Token) (P : ℕ → Type 0) → first ≡ group_for old id
+    → second ≡ second_of old.directory.plan id → ((at : ℕ) → at < 8 → P (way_in first at))
+    → ((at : ℕ) → at < 8 → P (way_in second at)) → (place : ℕ) → place < places → P (way_for old id place)
+each_place id first second old P first_is second_is in_first in_second place near =
+    let plan = old.directory.plan in
+    dite (dec_le 8 place)
+    (λ (far : 8 ≤ place). subst P
+    (ap (λ (g : ℕ). 8 * g + (place - 8)) second_is ∙ sym (way_at_second plan id place far near))
+    (in_second (place - 8) (omega arith)))
+    (λ few.
+    let before : place < 8 = omega arith in
+    subst P (ap (λ (g : ℕ). 8 * g + place) first_is ∙ sym (way_at_first plan id place before))
+    (in_first place before))
 
 -- an id is admitted: a look at the turn, one at each place, a name and a clearing
 module _ (id way : ℕ) (real : 0 < id) (old first second third last : Token) (clerk : old.number ≡ 0)
@@ -417,8 +436,20 @@ module _ (id way : ℕ) (real : 0 < id) (old first second third last : Token) (c
 
 -- a look at the turn, and then a scan that finds the name
 pub then_found : (id way : ℕ) (old first second : Token) → Grows (looked old.number ∷ []) old first
-    → FindsAt id 1 first second way → FindsAt id 2 old second way
-then_found id way old first second turn scan = let more : scan.place + 1 + 1 ≡ scan.place + 2 = omega arith in record {
+    → FindsAt id 0 first second way → FindsAt id 1 old second way
+then_found id way old first second turn scan = record {
+  count = scan.count;
+  of = subst (λ (d : Opened). IsFoundBy d.plan id way scan.count) turn.directory scan.of;
+  grows =
+      subst (λ (k : ℕ). Grows (looks k old.number) old second) (omega arith)
+      (then_looks old first second (scan.count + 0) turn scan.grows);
+  named = had_since way id old first second (looked old.number ∷ []) turn scan.named;
+}
+
+-- or a search for room that meets it
+then_met : (id way : ℕ) (old first second : Token) → Grows (looked old.number ∷ []) old first
+    → MeetsAt id 1 first second way → MeetsAt id 2 old second way
+then_met id way old first second turn scan = let more : scan.place + 1 + 1 ≡ scan.place + 2 = omega arith in record {
   place = scan.place;
   inside = scan.inside;
   way_is = scan.way_is ∙ ap (λ (d : Opened). way_at d.plan id scan.place) turn.directory;
@@ -432,7 +463,7 @@ then_found id way old first second turn scan = let more : scan.place + 1 + 1 ≡
 pub no_admission : (id : ℕ) (old first second : Token) (why : Refused) → Grows (looked old.number ∷ []) old first
     → Rooms id first second (Err why) → Admits id old second (Err why)
 no_admission id old first second refused.NoClaim turn none = absurd none
-no_admission id old first second (refused.Named way) turn has = then_found id way old first second turn has
+no_admission id old first second (refused.Named way) turn has = then_met id way old first second turn has
 no_admission id old first second refused.Full turn full = (then_looks old first second places turn full.0, full.1)
 
 -- the clerk sees a group, and then the other
@@ -454,6 +485,46 @@ still_passed : (way : ℕ → ℕ) (name : ℕ) (old mid new : Token) (more : �
     → Grows (looks more mid.number) mid new → PassedByClerk way name old 8 mid → PassedByClerk way name old 8 new
 still_passed way name old mid new more clerk same b passed _ at below has =
     passed clerk at below (sym (clerk_looks mid more mid.number new (way at) same b) ∙ has)
+
+-- a scan found the name in the id's group
+pub found_first : (id group way : ℕ) (old new : Token) → group ≡ group_for old id → FindsIn id group old new way
+    → FindsAt id 0 old new way
+found_first id group way old new is found =
+    record { count = 8; of = inl (found.of ∙ is, refl); grows = found.grows; named = found.named }
+
+module _ (id first second : ℕ) (old mid new : Token) (second_is : second ≡ second_of old.directory.plan id)
+    (a : PassesGroup id first old mid) where
+  -- or in its second group
+  found_second : (way : ℕ) → FindsIn id second mid new way → FindsAt id 0 old new way
+  found_second way found = record {
+    count = 16;
+    of = inr (found.of ∙ second_is, refl);
+    grows = looks_after old mid new 8 8 a.grows found.grows;
+    named = had_since way id old mid new (looks 8 old.number) a.grows found.named;
+  }
+
+  -- or in neither
+  missed_both : 0 < id → first ≡ group_for old id → PassesGroup id second mid new → Missed id old new
+  missed_both real first_is b =
+      let grows : Grows (looks places old.number) old new = looks_after old mid new 8 8 a.grows b.grows in
+      let lacked
+      = each_place id first second old (λ way. LackedName way id old new) first_is second_is
+      (λ at low. lacked_later (way_in first at) id old mid new b.grows.rest b.grows.seen (a.lacked at low))
+      (λ at low. lacked_since (way_in second at) id old mid new (looks 8 old.number) a.grows (b.lacked at low)) in
+      record {
+        grows = grows;
+        absent = absent_within id real old new grows.legal (within_last 15 old new grows) lacked;
+        passed = λ place near. passed_by (way_for old id place) id old new (lacked place near);
+        exact = λ clerk. none_has old.directory.plan id real new.seen grows.legal
+            (each_place id first second old (λ way. name_of new.seen way ≢ id) first_is second_is
+            (still_passed (way_in first) id old mid new 8 clerk (a.grows.number ∙ clerk) b.grows a.exact clerk)
+            (b.exact (a.grows.number ∙ clerk)));
+      }
+
+  pub scanned_both : 0 < id → first ≡ group_for old id → (found : Option ℕ) → ScansGroup id second mid new found
+      → Scans id old new found
+  scanned_both real first_is (Some way) b = found_second way b
+  scanned_both real first_is None b = missed_both real first_is b
 
 module _ (id first second : ℕ) (old mid new : Token) where
   -- the name was in the first group
@@ -505,17 +576,9 @@ module _ (id first second : ℕ) (real : 0 < id) (old mid new : Token) (clerk : 
     passed_both : (name : ℕ) → PassedByClerk (way_in first) name old 8 mid
         → PassedByClerk (way_in second) name mid 8 new → (place : ℕ) → place < places
         → name_of new.seen (way_for old id place) ≢ name
-    passed_both name in_first in_second place near has = dite (dec_le 8 place)
-        (λ (far : 8 ≤ place).
-        let at : way_at of id place ≡ way_in second (place - 8)
-        = way_at_second of id place far near ∙ ap (λ (g : ℕ). 8 * g + (place - 8)) (sym second_is) in
-        in_second mid_clerk (place - 8) (omega arith) (ap (name_of new.seen) (sym at) ∙ has))
-        (λ few.
-        let before : place < 8 = omega arith in
-        let at : way_at of id place ≡ way_in first place
-        = way_at_first of id place before ∙ ap (λ (g : ℕ). 8 * g + place) (sym first_is) in
-        still_passed (way_in first) name old mid new 8 clerk mid_clerk b.grows in_first clerk place before
-        (ap (name_of new.seen) (sym at) ∙ has))
+    passed_both name in_first in_second = each_place id first second old (λ way. name_of new.seen way ≢ name)
+        first_is second_is
+        (still_passed (way_in first) name old mid new 8 clerk mid_clerk b.grows in_first clerk) (in_second mid_clerk)
 
     no_way : IsAbsent new.seen id
     no_way = none_has of id real new.seen both_grow.legal (passed_both id a.passed b.passed)

@@ -8,7 +8,7 @@ use Rattle.nr_ids.specs.Groups.{group_of}
 use Rattle.nr_ids.specs.Events.{Event, named, unnamed, cleared, claimed, looked, name_of, turn_of, May, IsLegal, IsOpen}
 use Rattle.nr_ids.specs.Laws.{OneClaim, OneNaming, TurnCounts, FindsWhatItHeard, FindsWhatItKnew, Has, claims, closings}
 use Rattle.nr_ids.specs.Answers.{LooksUp}
-use Rattle.nr_ids.specs.Tokens.{Token}
+use Rattle.nr_ids.specs.Tokens.{Token, Within}
 use Rattle.nr_ids.proofs.Logs.{cond_same, cond_else, legal_end, named_inside, one_way, turn_on}
 
 has_on : (event first : Event) (rest : List Event) → Has event rest → Has event (first ∷ rest)
@@ -109,33 +109,49 @@ has_after : (event : Event) (since before : List Event) → Has event since → 
 has_after event since before has =
     (has.0, has.1 ++ before, ap (λ (l : List Event). l ++ before) has.2 ∙ append_assoc has.0 (event ∷ has.1) before)
 
+-- a moment within a call, and what came since
+module _ (plan : Plan) (old new : Token) (moment : List Event) (within : Within old new moment)
+    (legal : IsLegal plan new.seen) where
+  within_all : new.seen ≡ (within.later ++ within.since) ++ old.seen
+  within_all =
+      within.until ∙ ap (λ (l : List Event). within.later ++ l) within.from
+      ∙ sym (append_assoc within.later within.since old.seen)
+
+  legal_then : IsLegal plan (within.since ++ old.seen)
+  legal_then =
+      legal_end plan within.later (within.since ++ old.seen)
+      (subst (IsLegal plan) (append_assoc within.later within.since old.seen)
+      (subst (IsLegal plan) within_all legal))
+
+  -- at that moment a name stood there still, or it was taken since
+  stood : (way id : ℕ) → 0 < id → name_of old.seen way ≡ id
+      → (name_of moment way ≡ id) ⊎ ((rest : List Event) × (new.seen ≡ rest ++ old.seen) × Has (unnamed way) rest)
+  stood way id real at =
+      ⊎_elim
+      (λ still. inl (ap (λ (l : List Event). name_of l way) within.from ∙ still))
+      (λ gone. inr (
+        within.later ++ within.since,
+        within_all,
+        has_before (unnamed way) within.later within.since gone,
+      ))
+      (stays plan within.since old.seen way id legal_then real at)
+
 pub finds_what_it_knew : FindsWhatItKnew
 finds_what_it_knew id way old new (Some found) real knows looks =
-    let grows = looks.grows in
     let plan = old.directory.plan in
+    let name = looks.named in
+    let legal : IsLegal plan name.moment
+    = subst (IsLegal plan) (sym name.within.from) (legal_then plan old new name.moment name.within looks.grows.legal) in
     ⊎_elim
-    (λ still. inl
-    (ap Some
-    (one_way plan new.seen found way id grows.legal real looks.named.has
-    (ap (λ (l : List Event). name_of l way) grows.seen ∙ still))))
-    (λ gone. inr (grows.rest, grows.seen, gone))
-    (stays plan grows.rest old.seen way id (subst (IsLegal plan) grows.seen grows.legal) real knows.has)
+    (λ still. inl (ap Some (one_way plan name.moment found way id legal real name.had still)))
+    (λ gone. inr gone)
+    (stood plan old new name.moment name.within looks.grows.legal way id real knows.has)
 finds_what_it_knew id way old new None real knows looks =
-    let grows = looks.0 in
-    let plan = old.directory.plan in
     let absent = looks.1 in
-    let within = absent.within in
-    let whole : new.seen ≡ (within.later ++ within.since) ++ old.seen
-    = within.until ∙ ap (λ (l : List Event). within.later ++ l) within.from
-    ∙ sym (append_assoc within.later within.since old.seen) in
-    let legal : IsLegal plan (within.since ++ old.seen)
-    = legal_end plan within.later (within.since ++ old.seen)
-    (subst (IsLegal plan) (append_assoc within.later within.since old.seen)
-    (subst (IsLegal plan) whole grows.legal)) in
     ⊎_elim
-    (λ still. absurd (absent.absent way (ap (λ (l : List Event). name_of l way) within.from ∙ still)))
-    (λ gone. inr (within.later ++ within.since, whole, has_before (unnamed way) within.later within.since gone))
-    (stays plan within.since old.seen way id legal real knows.has)
+    (λ still. absurd (absent.absent way still))
+    (λ gone. inr gone)
+    (stood old.directory.plan old new absent.moment absent.within looks.0.legal way id real knows.has)
 
 -- what a look-up adds
 grown : (id : ℕ) (old new : Token) (found : Option ℕ) → LooksUp id old new found

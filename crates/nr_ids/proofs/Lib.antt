@@ -4,3 +4,4 @@ mod Scanning
 mod Seats
 pub mod Calls
 mod LawProofs
+mod Apart

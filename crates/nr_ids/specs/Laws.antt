@@ -1,7 +1,7 @@
 -- Laws of legal events, and of what tokens know.
-use Rattle.std.specs.Prelude.{◌≡◌, ℕ, ◌+◌, ◌<◌, ◌⊎◌, ◌==◌, cond, List, [], ◌∷◌, ◌++◌, Option, Some}
+use Rattle.std.specs.Prelude.{◌≡◌, ◌≢◌, ℕ, ◌+◌, ◌<◌, ◌⊎◌, ◌==◌, cond, List, [], ◌∷◌, ◌++◌, Option, Some}
 use Rattle.nr_ids.specs.declared.plan.Plan.{Plan}
-use Rattle.nr_ids.specs.Groups.{IsWayOf, group_of, ways}
+use Rattle.nr_ids.specs.Groups.{IsPlan, IsWayOf, group_of, second_of, ways}
 use Rattle.nr_ids.specs.Events.{Event, named, unnamed, cleared, claimed, looked, name_of, turn_of, IsLegal}
 use Rattle.nr_ids.specs.Answers.{LooksUp}
 use Rattle.nr_ids.specs.Rule.{BeginsWith}
@@ -17,6 +17,10 @@ abbrev pub AtItsPlaces : Type 0
 AtItsPlaces =
     (plan : Plan) (log : List Event) (way id : ℕ) → IsLegal plan log → 0 < id → name_of log way ≡ id
     → (way < ways plan) × IsWayOf plan id way
+
+-- an id's second group is another one where there are two; so a way tells by how many looks a scan found it
+abbrev pub SecondIsAnother : Type 0
+SecondIsAnother = (plan : Plan) (id : ℕ) → IsPlan plan → 1 < plan.groups → second_of plan id ≢ group_of plan id
 
 -- one of these events is this one
 abbrev pub Has : Event → List Event → Type 0

@@ -78,7 +78,8 @@ impl Directory {
         self.unname_way(&mut clerk.seat, way);
     }
 
-    /// The way that has the id's name, in 1 to 16 steps, or none has it. The clerk knows this exactly.
+    /// The way that has the id's name, or none has it. The clerk knows this exactly. Takes the steps of
+    /// `look_up`.
     pub fn way_of(&self, clerk: &mut Clerk, id: u64) -> Option<u32>
         requires own { clerk.old.directory ≡ self.now }
         requires id { 0 < id }
@@ -109,9 +110,9 @@ impl Directory {
         ensures clerk { Sits self.now seat.new }
         ensures rooms { Rooms id (token seat.old) (token seat.new) result }
     {
-        let pair = self.plan().pair_of(id);
-        let here = self.room_in(seat, pair.first, id)?;
-        let there = self.room_in(seat, pair.second, id)?;
+        let plan = self.plan();
+        let here = self.room_in(seat, plan.group_of(id), id)?;
+        let there = self.room_in(seat, plan.second_of(id), id)?;
         chosen(here, there).ok_or(Refused::Full)
     }
 

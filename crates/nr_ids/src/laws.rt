@@ -1,5 +1,5 @@
 //! Laws over the definitions alone. Nothing runs here: each function's contract is the law.
-ghost use Rattle.nr_ids.specs.Laws.{AtItsPlaces, ClerkKnows, FindsWhatItHeard, FindsWhatItKnew, OneClaim, OneNaming, OneWay, TurnCounts};
+ghost use Rattle.nr_ids.specs.Laws.{AtItsPlaces, ClerkKnows, FindsWhatItHeard, FindsWhatItKnew, OneClaim, OneNaming, OneWay, SecondIsAnother, TurnCounts};
 
 /// An id has at most one way.
 pub fn one_way()
@@ -9,6 +9,11 @@ pub fn one_way()
 /// An id's way is one of its group, or of its second group.
 pub fn at_its_places()
     ensures { AtItsPlaces }
+{}
+
+/// An id's second group is another one, where there are two.
+pub fn second_is_another()
+    ensures { SecondIsAnother }
 {}
 
 /// A group's claim is granted once between two clearings.

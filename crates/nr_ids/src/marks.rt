@@ -3,7 +3,7 @@
 ghost use Rattle.std.specs.Prelude.{◌≡◌, ◌<◌, length};
 ghost use Rattle.nr_ids.specs.Events.{looks};
 ghost use Rattle.nr_ids.specs.Groups.{group_of, group_of_way, ways};
-ghost use Rattle.nr_ids.specs.Marks.{Marks, TakesMark};
+ghost use Rattle.nr_ids.specs.Marks.{LooksAtMark, SetsMark, TakesMark};
 ghost use Rattle.nr_ids.specs.Tokens.{Grows, Sits, token};
 
 use crate::directory::{Directory, Seat};
@@ -14,15 +14,26 @@ use crate::tokens::{Clerk, Reader};
 const AT: u64 = 256;
 
 impl Directory {
-    /// Marks a way as found: in 1 step where it is marked already, and else in 2.
-    pub fn mark(&self, reader: &mut Reader, way: u32)
+    /// Whether a way is marked as found, in 1 step: what `mark` is to be told.
+    pub fn is_marked(&self, reader: &mut Reader, way: u32) -> bool
         requires own { reader.old.directory ≡ self.now }
         requires way { way < ways self.now.plan }
         ensures own { reader.new.directory ≡ self.now }
-        ensures marks { Marks reader.old reader.new }
+        ensures looks { LooksAtMark reader.old reader.new }
     {
         let (group, bit) = mark_of(way);
-        if self.marks(&mut reader.seat, group) & bit == 0 {
+        self.marks(&mut reader.seat, group) & bit != 0
+    }
+
+    /// Marks a way as found, in 1 step; in none where it is marked already.
+    pub fn mark(&self, reader: &mut Reader, way: u32, is_marked: bool)
+        requires own { reader.old.directory ≡ self.now }
+        requires way { way < ways self.now.plan }
+        ensures own { reader.new.directory ≡ self.now }
+        ensures marks { SetsMark is_marked reader.old reader.new }
+    {
+        if !is_marked {
+            let (group, bit) = mark_of(way);
             self.add_marks(&mut reader.seat, group, bit);
         }
     }

@@ -8,9 +8,6 @@ pub const MAX_GROUPS: u32 = 536_870_911;
 /// How many ways a group has: eight names are a cache line.
 pub const WAYS: u32 = 8;
 
-/// How many places an id has: the ways of its group, and then those of its second group.
-pub(crate) const PLACES: u32 = 16;
-
 /// How many groups of eight ways a directory has, and the key of its hash. The key should be drawn at
 /// random, and be told to nobody who may choose ids.
 #[derive(Clone, Copy, Debug)]
@@ -59,46 +56,6 @@ impl Plan {
         let low = mixed(self.key, id) % (1 << 32);
         let scaled = low * (self.groups as u64 - 1);
         (self.group_of(id) + 1 + (scaled >> 32) as u32) % self.groups
-    }
-
-    /// Both groups of an id.
-    pub(crate) fn pair_of(&self, id: u64) -> Pair
-        requires { IsPlan self.now }
-        ensures first { result.first ≡ group_of self.now id }
-        ensures second { result.second ≡ second_of self.now id }
-        ensures inside { (result.first < self.now.groups) × (result.second < self.now.groups) }
-    {
-        Pair {
-            first: self.group_of(id),
-            second: self.second_of(id),
-        }
-    }
-}
-
-/// The two groups of an id.
-#[derive(Clone, Copy)]
-pub(crate) struct Pair {
-    pub first: u32,
-    pub second: u32,
-}
-
-impl Pair {
-    ghost use Rattle.std.specs.Prelude.{◌+◌, ◌-◌, ◌≤◌};
-    ghost use Rattle.nr_ids.specs.Groups.{places};
-    ghost use Rattle.nr_ids.specs.declared.plan.TheConstants.{MAX_GROUPS};
-
-    /// The way at a place of the id's.
-    pub(crate) fn way_at(&self, place: u32) -> u32
-        requires place { place < places }
-        requires small { (self.now.first < MAX_GROUPS) × (self.now.second < MAX_GROUPS) }
-        ensures first { place < 8 → result ≡ 8 * self.now.first + place }
-        ensures second { 8 ≤ place → result ≡ 8 * self.now.second + (place - 8) }
-    {
-        if place < WAYS {
-            WAYS * self.first + place
-        } else {
-            WAYS * self.second + (place - WAYS)
-        }
     }
 }
 

@@ -1,12 +1,12 @@
 //! What readers do: they look ids up, and claim the group of an id that has no way.
 ghost use Rattle.std.specs.Prelude.{◌≡◌, ◌<◌, ◌+◌, ◌*◌};
 ghost use Rattle.nr_ids.specs.Answers.{LooksUp, Requests};
-ghost use Rattle.nr_ids.specs.Groups.{group_of};
-ghost use Rattle.nr_ids.specs.Looking.{Scans};
+ghost use Rattle.nr_ids.specs.Groups.{IsPlan, group_of};
+ghost use Rattle.nr_ids.specs.Looking.{Scans, ScansGroup};
 ghost use Rattle.nr_ids.specs.Tokens.{Sits, token};
 
 use crate::directory::{Directory, Seat};
-use crate::plan::PLACES;
+use crate::plan::WAYS;
 use crate::tokens::Reader;
 use std::marker::Model;
 use std::snapshot::Snapshot;
@@ -66,9 +66,9 @@ pub enum Requested {
 }
 
 impl Directory {
-    /// The way that has the id's name. Takes a step for each look at a way of the id's group and of its
-    /// second group, up to that one: 1 to 8 in its group, and else 9 to 16. `None`: within the call there
-    /// was a moment at which the id had no way.
+    /// The way that has the id's name. Takes 8 looks at the names of the id's group, and unless one of
+    /// them is the id's 8 more at those of its second group. `None`: within the call there was a moment at
+    /// which the id had no way.
     pub fn look_up(&self, reader: &mut Reader, id: u64) -> Option<u32>
         requires own { reader.old.directory ≡ self.now }
         requires id { 0 < id }
@@ -79,7 +79,8 @@ impl Directory {
     }
 
     /// Claims the id's group, where no claim of it is open and the id has no way. Takes 18 steps where
-    /// the claim is granted or another was within the call, 2 to 17 where a way has the name, else 1.
+    /// the claim is granted or another was within the call; where a way has the name 9, or 17 where that
+    /// is of the id's second group; else 1.
     pub fn request(&self, reader: &mut Reader, id: u64) -> Requested
         requires own { reader.old.directory ≡ self.now }
         requires id { 0 < id }
@@ -107,7 +108,7 @@ impl Directory {
         }
     }
 
-    /// A look at each place of the id's, up to the one whose way has its name.
+    /// The way of the id's group that has its name, or else of its second group.
     #[inline(always)]
     pub(crate) fn scan(&self, seat: &mut Seat, id: u64) -> Option<u32>
         requires caller { Sits self.now seat.old }
@@ -115,13 +116,33 @@ impl Directory {
         ensures caller { Sits self.now seat.new }
         ensures scans { Scans id (token seat.old) (token seat.new) result }
     {
-        let pair = self.plan().pair_of(id);
-        for place in 0..PLACES {
-            let way = pair.way_at(place);
-            if self.look(seat, way) == id {
-                return Some(way);
+        let plan = self.plan();
+        match self.scan_group(seat, plan.group_of(id), id) {
+            Some(way) => Some(way),
+            None => self.scan_group(seat, plan.second_of(id), id),
+        }
+    }
+
+    // The way of a group that has the id's name. No name ends the loop, and the place is a number until
+    // all are compared: a processor would have to guess at which place it is.
+    #[inline(always)]
+    fn scan_group(&self, seat: &mut Seat, group: u32, id: u64) -> Option<u32>
+        requires caller { Sits self.now seat.old }
+        requires plan { IsPlan self.now.plan }
+        requires group { group < self.now.plan.groups }
+        ensures caller { Sits self.now seat.new }
+        ensures scans { ScansGroup id group (token seat.old) (token seat.new) result }
+    {
+        let mut at = WAYS;
+        for place in 0..WAYS {
+            if self.look(seat, WAYS * group + place) == id {
+                at = place;
             }
         }
-        None
+        if at < WAYS {
+            Some(WAYS * group + at)
+        } else {
+            None
+        }
     }
 }

@@ -1,17 +1,19 @@
 -- Each claim that a client is granted is posted, or kept: try by try.
 use Rattle.std.proofs.Common.{◌≡◌, ◌+◌, ℕ, zero, suc, List, [], ◌∷◌, ◌++◌, Option, None, Some, Ok, Err}
-use Rattle.std.proofs.Common.{refl, sym, ap, ◌∙◌, subst, append_assoc, append-nil}
+use Rattle.std.proofs.Common.{refl, sym, ap, ◌∙◌, subst, append_assoc, append-nil, Bool, true, false}
 use Rattle.nr_model.specs.declared.rows.Row.{Row}
 use Rattle.nr_ids.specs.Groups.{places}
 use Rattle.nr_ids.specs.declared.requests.Requested.{Requested}
 use Rattle.nr_ids.specs.declared.requests.Requested.TheVariants as requested
 use Rattle.nr_ids.specs.Answers.{LooksUp, Requests}
+use Rattle.nr_ids.specs.Marks.{SetsMark}
 use Rattle.nr_ids.specs.Events.{Event, claimed, cleared, looked, looks, named, own, unnamed}
 use Rattle.nr_ids.specs.Tokens.{Granted, Grows, Token}
 use Rattle.nr_ids.proofs.Logs.{own_append}
 use Rattle.nr_idmap.specs.declared.finds.FoundId.{FoundId}
 use Rattle.nr_idmap.specs.declared.finds.FoundId.TheVariants as found
-use Rattle.nr_idmap.specs.IdFinds.{FindsById}
+use Rattle.nr_idmap.specs.declared.finds.NamedWay.{NamedWay}
+use Rattle.nr_idmap.specs.IdFinds.{FindsById, LooksForWay}
 use Rattle.nr_idmap.specs.Keepers.{IdCaller}
 use Rattle.nr_trigger.specs.declared.post.Upquery.{Upquery}
 use Rattle.nr_trigger.specs.Tokens.{PosterSeen}
@@ -155,8 +157,18 @@ reader_each old reader claims =
     [] claims (sym (append-nil old.poster.posted)) (append-nil (ids_kept old.kept))
 
 look_none : (id : ℕ) (old new : Token) (way : Option ℕ) → LooksUp id old new way → Claims old [] new
-look_none id old new (Some way) looks_up = claims_none old new (looks_up.place + 1) looks_up.grows
+look_none id old new (Some way) looks_up = claims_none old new (looks_up.count + 0) looks_up.grows
 look_none id old new None looks_up = claims_none old new places looks_up.0
+
+way_none : (id : ℕ) (old new : Token) (at : Option NamedWay) → LooksForWay id old new at → Claims old [] new
+way_none id old new (Some at) looks_up =
+    claims_both old looks_up.0 new []
+    [] (look_none id old looks_up.0 (Some at.way) looks_up.1) (claims_none looks_up.0 new 1 looks_up.2)
+way_none id old new None looks_up = look_none id old new None looks_up
+
+mark_none : (marked : Bool) (old new : Token) → SetsMark marked old new → Claims old [] new
+mark_none true old new same = same_token old new same
+mark_none false old new grows = claims_none old new 1 grows
 
 find_none : {Room : Type 0} (shows : Room → List Row → Type 0) (id : ℕ) (old : IdCaller) (before : Room)
     (new : IdCaller) (after : Room) (answer : FoundId)
@@ -164,10 +176,10 @@ find_none : {Room : Type 0} (shows : Room → List Row → Type 0) (id : ℕ) (o
     → Claims old.ids [] new.ids
 find_none shows id old before new after found.Rows finds =
     claims_both old.ids finds.2 new.ids []
-    [] (look_none id old.ids finds.2 (Some finds.0) finds.3.0) (claims_none finds.2 new.ids finds.4.0 finds.4.2)
-find_none shows id old before new after found.Pending finds = look_none id old.ids new.ids (Some finds.0) finds.1
-find_none shows id old before new after found.Moved finds = look_none id old.ids new.ids (Some finds.0) finds.2.0
-find_none shows id old before new after found.Absent finds = look_none id old.ids new.ids None finds.0
+    [] (way_none id old.ids finds.2 (Some finds.0) finds.3.0) (mark_none finds.0.is_marked finds.2 new.ids finds.4)
+find_none shows id old before new after found.Pending finds = way_none id old.ids new.ids (Some finds.0) finds.1
+find_none shows id old before new after found.Moved finds = way_none id old.ids new.ids (Some finds.0) finds.2.0
+find_none shows id old before new after found.Absent finds = way_none id old.ids new.ids None finds.0
 
 abbrev requested_ids : Requested → List ℕ
 requested_ids (requested.Granted claim) = claim.id ∷ []
@@ -179,7 +191,7 @@ requested_ids requested.Worn = []
 refused_none : (id : ℕ) (old new : Token) (answer : Requested) → requested_ids answer ≡ [] → Requests id old new answer
     → Claims old [] new
 refused_none id old new (requested.Granted claim) none requests = let no : claim.id ∷ [] ≡ [] = none in absurd (cc (no))
-refused_none id old new (requested.Named way) none requests = claims_none old new (requests.place + 2) requests.grows
+refused_none id old new (requested.Named way) none requests = claims_none old new (requests.count + 1) requests.grows
 refused_none id old new requested.Busy none requests = claims_none old new 1 requests.0
 refused_none id old new requested.Outrun none requests = claims_none old new (places + 2) requests.0
 refused_none id old new requested.Worn none requests = claims_none old new 1 requests.0

@@ -46,9 +46,9 @@ near : (keeper : Keeper) (clerk : Token) (id way : ℕ) → IsTied keeper → Fi
     way < keeper.writer.table.shape.keys
 near keeper clerk id way tied finds =
     let e : ways clerk.directory.plan ≡ keeper.writer.table.shape.keys =
-    ap (λ (d : Opened). ways d.plan) (finds.grows.directory ∙ tied.names.0) ∙ tied.ways_are
+    ap (λ (d : Opened). ways d.plan) (finds.0.grows.directory ∙ tied.names.0) ∙ tied.ways_are
     ∙ ap (λ (t : Table). t.shape.keys) (sym tied.writes.0) in
-    subst (λ (n : ℕ). way < n) e finds.named.inside
+    subst (λ (n : ℕ). way < n) e finds.1.inside
 
 filled_still : (was now : KeyState) (number : ℕ) (rows : List Row) → was ≡ Rows number rows → IsStill was now
     → now ≡ Rows number rows
@@ -65,13 +65,13 @@ module _ (text : Named) (old mid : Keeper) (set : List Row) (tied : IsTied mid)
   pub way_stays : (clerk : Token) → FindsWay text.id mid.clerk clerk None → ⊥
   way_stays clerk none =
       none.1 found.0
-      (clerk_looks mid.clerk places mid.clerk.number clerk found.0 tied.names.1 none.0 ∙ found.2.0.named.has)
+      (clerk_looks mid.clerk places mid.clerk.number clerk found.0 tied.names.1 none.0 ∙ found.2.0.1.has)
 
   same_way : (clerk : Token) (way : ℕ) → 0 < text.id → FindsWay text.id mid.clerk clerk (Some way) → found.0 ≡ way
   same_way clerk way real finds =
-      one_way mid.table.directory.plan mid.clerk.seen found.0 way text.id tied.legal real found.2.0.named.has
-      (sym (clerk_looks mid.clerk (finds.place + 1) mid.clerk.number clerk way tied.names.1 finds.grows)
-      ∙ finds.named.has)
+      one_way mid.table.directory.plan mid.clerk.seen found.0 way text.id tied.legal real found.2.0.1.has
+      (sym (clerk_looks mid.clerk (finds.0.count + 0) mid.clerk.number clerk way tied.names.1 finds.0.grows)
+      ∙ finds.1.has)
 
   -- and its set
   state_found : IsTied old

@@ -11,7 +11,7 @@ use Rattle.nr_machine.specs.Story.{entry}
 use Rattle.nr_board.specs.Callers.{Caller, Gains, Table, map_at_opening}
 use Rattle.nr_map.specs.Hands.{Handed}
 use Rattle.nr_idmap.specs.declared.finds.FoundId.TheVariants as of_id
-use Rattle.nr_idmap.specs.IdHands.{HoldsAnew, HoldsById, HoldsByName, IdHanded, PinsById, rows_in_hand, rows_of_id}
+use Rattle.nr_idmap.specs.IdHands.{FindsIdHeld, HoldsAnew, HoldsByName, IdHanded, PinsById, rows_in_hand, rows_of_id}
 use Rattle.nr_idmap.specs.IdHands.{with_line_loaded}
 use Rattle.nr_idmap.specs.Tags.{IsResident, rows_behind, tag_of}
 use Rattle.nr_idmap.proofs.Entries.{legal_end}
@@ -69,10 +69,10 @@ shown id rows hand is tagged = ap (λ (o : Option ℕ). rows_of_id o hand.hand.r
 by_name : (id : ℕ) (old new : IdHanded) → HoldsByName id old new of_id.Rows
     → WasResident id (rows_in_hand new) old.hand.reader new.hand.reader
 by_name id old new holds =
-    let once = found_rows holds.0 old.hand new.hand holds.3 in
+    let once = found_rows holds.0.way old.hand new.hand holds.4 in
     subst (λ (l : List Row). WasResident id l old.hand.reader new.hand.reader)
-    (sym (shown id holds.1 new holds.5 holds.4))
-    (gained once.steps id holds.0 new.hand.rows holds.1 old.hand.reader new.hand.reader holds.4 once.gains)
+    (sym (shown id holds.1 new holds.7 holds.5))
+    (gained once.steps id holds.0.way new.hand.rows holds.1 old.hand.reader new.hand.reader holds.5 once.gains)
 
 anew : (id : ℕ) (old new : IdHanded) → HoldsAnew id old new of_id.Rows
     → WasResident id (rows_in_hand new) old.hand.reader new.hand.reader
@@ -80,29 +80,28 @@ anew id old new holds =
     let was = by_name id (with_line_loaded old) new holds in
     record { since = was.since; later = was.later; known = was.known; resident = was.resident }
 
-holds_resident : (id : ℕ) (old new : IdHanded) → HoldsById id old new of_id.Rows
+held_resident : (id : ℕ) (old new : IdHanded) → FindsIdHeld id old new
     → WasResident id (rows_in_hand new) old.hand.reader new.hand.reader
-holds_resident id old new holds = ⊎_elim
-    (λ again. let it = again.1 in
+held_resident id old new it =
     subst (λ (l : List Row). WasResident id l old.hand.reader new.hand.reader)
     (sym (shown id it.rows new (it.id_is ∙ it.held) (it.finds.rows ∙ it.tagged)))
-    (gained 1 id it.way old.hand.rows it.rows old.hand.reader new.hand.reader it.tagged it.finds.gains))
-    (λ late. let first = asked_first id old late.0 late.1 in
-    begun id (rows_in_hand new) old.hand.reader late.0.hand.reader new.hand.reader first.more first.table first.seen
-    (anew id late.0 new late.2))
-    holds
+    (gained 1 id it.way old.hand.rows it.rows old.hand.reader new.hand.reader it.tagged it.finds.gains)
 
 pins_resident : (id : ℕ) (old new : IdHanded) → PinsById id old new of_id.Rows
     → WasResident id (rows_in_hand new) old.hand.reader new.hand.reader
-pins_resident id old new pins =
-    let held = pins.0 in let marks = pins.2 in
+pins_resident id old new pins = ⊎_elim
+    (λ again. let held = again.1 in let marks = again.3 in
     let same : rows_in_hand held ≡ rows_in_hand new =
     ap (λ (o : Option ℕ). rows_of_id o held.hand.rows) (sym marks.id_is)
     ∙ ap (λ (h : Handed). rows_of_id new.id h.rows) (sym marks.hand) in
     ended id (rows_in_hand new) old.hand.reader held.hand.reader new.hand.reader
     (ap (λ (h : Handed). h.reader.seen) marks.hand)
     (subst (λ (l : List Row). WasResident id l old.hand.reader held.hand.reader) same
-    (holds_resident id old held pins.1))
+    (held_resident id old held again.2)))
+    (λ late. let first = asked_first id old late.0 late.1 in
+    begun id (rows_in_hand new) old.hand.reader late.0.hand.reader new.hand.reader first.more first.table first.seen
+    (anew id late.0 new late.2))
+    pins
 
 pub finds_at_moment : FindsAtMoment
 finds_at_moment text old new found.Rows pins = (

@@ -1,4 +1,4 @@
-use Rattle.std.proofs.Common.{◌≡◌, [], ◌∷◌, ◌++◌, ap, inl, inr, refl, subst, sym, ◌∙◌}
+use Rattle.std.proofs.Common.{◌≡◌, [], ◌∷◌, ◌++◌, ap, inl, inr, refl, sym, ◌∙◌}
 use Rattle.nr_c.proofs.open.nr_return_reader.Goals as goal
 
 pub returns-then-is_err : goal.returns-then-is_err

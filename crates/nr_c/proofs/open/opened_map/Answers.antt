@@ -1,4 +1,4 @@
-use Rattle.std.proofs.Common.{◌<◌, ◌+◌, ◌≡◌, ◌⊎◌, ℕ, ⊎_elim, inl, inr, arith}
+use Rattle.std.proofs.Common.{◌<◌, ◌+◌, ℕ, ⊎_elim, inl, inr, arith}
 use Rattle.nr_model.specs.Sizes.{IsBadSize}
 use Rattle.nr_machine.specs.Sizes.{IsBadLargeShape, IsBadShape}
 use Rattle.nr_machine.specs.declared.shape.Shape.{Shape}

@@ -20,30 +20,30 @@ pub returns-in-Hole-clause-holds : goal.returns-in-Hole-clause-holds
 returns-in-Hole-clause-holds c =
     let own : IdHanded
     = record { hand = c.self.inside.hand; ids = c.self.inside.ids; id = id_held c.self.inside.held } in
-    holds_pending c.args.id c.in-Some.way own c.args.self.now c.self.view_is c.look_up.new.reader
-    c.in-Some.ensures.answer
+    holds_pending c.args.id c.in-Some.at own c.args.self.now c.self.view_is c.look_up.new.ids
+    c.in-Some.ensures.looks
     c.find_kept.new.self c.self.inside.pile c.find_kept.new.rows
-    (kept own c.load_key.new.self c.in-Some.way c.find_kept.new.self c.self.inside.pile c.find_kept.new.rows
+    (kept own c.load_key.new.self c.in-Some.at.way c.find_kept.new.self c.self.inside.pile c.find_kept.new.rows
     answer.Hole c.load_key.ensures.reader c.load_key.ensures.held c.in-Hole.ensures.finds)
 
 pub returns-then-has_tag-clause-holds : goal.returns-then-has_tag-clause-holds
 returns-then-has_tag-clause-holds c =
     let own : IdHanded
     = record { hand = c.self.inside.hand; ids = c.self.inside.ids; id = id_held c.self.inside.held } in
-    holds_rows c.args.id c.in-Some.way own c.args.self.now c.self.view_is c.look_up.new.reader c.in-Some.ensures.answer
+    holds_rows c.args.id c.in-Some.at own c.args.self.now c.self.view_is c.look_up.new.ids c.in-Some.ensures.looks
     c.find_kept.new.self c.self.inside.pile c.find_kept.new.rows
-    (kept own c.load_key.new.self c.in-Some.way c.find_kept.new.self c.self.inside.pile c.find_kept.new.rows
+    (kept own c.load_key.new.self c.in-Some.at.way c.find_kept.new.self c.self.inside.pile c.find_kept.new.rows
     answer.Rows c.load_key.ensures.reader c.load_key.ensures.held c.in-Rows.ensures.finds)
     c.as_slice.result.now c.as_slice.ensures.value
-    (c.has_tag.ensures.0 c.if-has_tag.true)
+    (c.has_tag.ensures.0 c.if-has_tag.true) c.mark.new.reader c.mark.ensures.marks
 
 pub returns-else-has_tag-clause-holds : goal.returns-else-has_tag-clause-holds
 returns-else-has_tag-clause-holds c =
     let own : IdHanded
     = record { hand = c.self.inside.hand; ids = c.self.inside.ids; id = id_held c.self.inside.held } in
-    holds_moved c.args.id c.in-Some.way own c.args.self.now c.self.view_is c.look_up.new.reader c.in-Some.ensures.answer
+    holds_moved c.args.id c.in-Some.at own c.args.self.now c.self.view_is c.look_up.new.ids c.in-Some.ensures.looks
     c.find_kept.new.self c.self.inside.pile c.find_kept.new.rows
-    (kept own c.load_key.new.self c.in-Some.way c.find_kept.new.self c.self.inside.pile c.find_kept.new.rows
+    (kept own c.load_key.new.self c.in-Some.at.way c.find_kept.new.self c.self.inside.pile c.find_kept.new.rows
     answer.Rows c.load_key.ensures.reader c.load_key.ensures.held c.in-Rows.ensures.finds)
     c.as_slice.result.now c.as_slice.ensures.value
     (λ tag.

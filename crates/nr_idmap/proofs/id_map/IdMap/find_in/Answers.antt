@@ -18,7 +18,7 @@ copy_behind-requires g c =
     record { row_set = subst (IsRowSet 255) (sym is) (set.3.0, omega (arith, set.3.1, size, c.self.invariant.2)) }
 
 pub returns-in-Hole-clause-finds : goal.returns-in-Hole-clause-finds
-returns-in-Hole-clause-finds g c = finds_pending g.R.RowRoom.shows c.args.id c.args.way
+returns-in-Hole-clause-finds g c = finds_pending g.R.RowRoom.shows c.args.id c.args.at
     (record { caller = c.reader.inside.reader; ids = c.reader.inside.ids }) c.args.reader.now c.reader.view_is
     c.find_into.new.reader
     c.args.rows.now c.args.rows.now c.in-Hole.ensures.finds.0 refl
@@ -26,7 +26,7 @@ returns-in-Hole-clause-finds g c = finds_pending g.R.RowRoom.shows c.args.id c.a
 pub returns-else-copy_behind-clause-finds : goal.returns-else-copy_behind-clause-finds
 returns-else-copy_behind-clause-finds g c =
     let set = c.in-Rows.ensures.finds in
-    finds_moved g.R.RowRoom.shows c.args.id c.args.way
+    finds_moved g.R.RowRoom.shows c.args.id c.args.at
     (record { caller = c.reader.inside.reader; ids = c.reader.inside.ids }) c.args.reader.now c.reader.view_is
     c.find_into.new.reader
     c.args.rows.now c.copy_behind.new.rows set.0 set.1
@@ -40,7 +40,7 @@ returns-else-copy_behind-clause-finds g c =
 pub returns-then-copy_behind-clause-finds : goal.returns-then-copy_behind-clause-finds
 returns-then-copy_behind-clause-finds g c =
     let set = c.in-Rows.ensures.finds in
-    finds_rows g.R.RowRoom.shows c.args.id c.args.way
+    finds_rows g.R.RowRoom.shows c.args.id c.args.at
     (record { caller = c.reader.inside.reader; ids = c.reader.inside.ids }) c.args.reader.now c.reader.view_is
     c.find_into.new.reader
     c.args.rows.now c.copy_behind.new.rows set.0 set.1 c.mark.new.reader c.mark.ensures.marks

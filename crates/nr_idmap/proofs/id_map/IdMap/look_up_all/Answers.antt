@@ -4,7 +4,7 @@ use Rattle.nr_ids.specs.declared.plan.Plan.{Plan}
 use Rattle.nr_ids.specs.Groups.{ways}
 use Rattle.nr_idmap.specs.IdLoads.{LooksUpEach}
 use Rattle.nr_idmap.specs.Keepers.{IdTable}
-use Rattle.nr_idmap.proofs.LookUps.{looked_inside, one_more_looked}
+use Rattle.nr_idmap.proofs.LookUps.{one_more_looked}
 use Rattle.nr_idmap.proofs.InTurn.{all_one_more}
 use Rattle.nr_idmap.proofs.id_map.IdMap.look_up_all.Goals as goal
 
@@ -16,22 +16,18 @@ loop-place-preserved c =
     let now = c.args.self.now in
     let low : place < length ids = omega (arith, c.loop-place-test.true) in let had = c.loop-place.invariant in
     let far : place < length c.loop-place.keys = omega (arith, low, c.requires.few, had.long) in
-    let own : c.look_up.new.reader.directory ≡ now.directory
-    = c.look_up.ensures.own ∙ ap (λ (t : IdTable). t.directory) c.self.view_is in
     let size : ways now.directory.plan ≡ now.map.shape.keys
     = subst (λ (t : IdTable). ways t.directory.plan ≡ t.map.shape.keys) c.self.view_is c.self.invariant.0 in
     let groups : c.plan.result.now.groups ≡ now.directory.plan.groups
     = ap (λ (p : Plan). p.groups) c.plan.ensures.value
     ∙ ap (λ (t : IdTable). t.directory.plan.groups) c.self.view_is in
     let some : 0 < now.map.shape.keys = omega (arith, c.plan.ensures.sizes.0, groups, size) in record {
-      own = own;
+      own = c.look_up.ensures.own;
       looks =
-          subst (λ (l : List ℕ). LooksUpEach l c.args.reader.now c.look_up.new.reader) (sym (take_more ids place 0 low))
+          subst (λ (l : List ℕ). LooksUpEach l c.args.reader.now c.look_up.new.ids) (sym (take_more ids place 0 low))
           (one_more_looked (take place ids) id c.look_up.result c.args.reader.now c.loop-place.reader
-          c.look_up.new.reader had.looks c.look_up.ensures.answer);
+          c.look_up.new.ids had.looks c.look_up.ensures.looks);
       keys = all_one_more (λ (key : ℕ). key < now.map.shape.keys) c.loop-place.keys place c.key_of.result far had.keys
-          (c.key_of.ensures now.map.shape.keys some
-          (looked_inside id now.map.shape.keys c.loop-place.reader c.look_up.new.reader now.directory
-          c.look_up.result c.look_up.ensures.answer own size));
+          (c.key_of.ensures now.map.shape.keys some c.look_up.ensures.inside);
       long = length-set c.loop-place.keys place c.key_of.result ∙ had.long;
     }

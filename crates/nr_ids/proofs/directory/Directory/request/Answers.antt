@@ -11,7 +11,7 @@ use Rattle.nr_ids.proofs.directory.Directory.request.Goals.{then-claim, else-cla
 
 pub returns-in-Some-clause-answer : goal.returns-in-Some-clause-answer
 returns-in-Some-clause-answer c = let second = token c.scan.new.seat in let way = c.in-Some.way in
-    subst (λ (t : Token). FindsAt c.args.id 2 t second way) c.reader.view_is
+    subst (λ (t : Token). FindsAt c.args.id 1 t second way) c.reader.view_is
     (then_found c.args.id way (token c.reader.inside.seat) (token c.look_at_turn-turn.new.seat) second
     c.look_at_turn-turn.ensures.grows c.in-Some.ensures.scans)
 

@@ -24,3 +24,7 @@ pub returns-in-Pending-clause-pins : goal.returns-in-Pending-clause-pins
 returns-in-Pending-clause-pins c =
     subst (λ (n : ℕ). PinsById n c.args.hand.now c.pin.new.self of_id.Pending) c.id.ensures.value
     c.in-Pending.ensures.pins
+
+pub returns-in-Moved-clause-pins : goal.returns-in-Moved-clause-pins
+returns-in-Moved-clause-pins c =
+    subst (λ (n : ℕ). PinsById n c.args.hand.now c.pin.new.self of_id.Moved) c.id.ensures.value c.in-Moved.ensures.pins

@@ -1,0 +1,48 @@
+-- An id's two groups.
+use Rattle.std.proofs.Common.{◌≡◌, ◌≢◌, ℕ, ◌+◌, ◌-◌, ◌*◌, ◌/◌, ◌%◌, ◌^◌, ◌<◌, ◌≤◌, sym, ◌∙◌, subst, arith}
+use Rattle.std.proofs.Math.Nat.{div-lt_iff_lt-mul, mod-lt, mod-eq_of_lt, mod-eq-sub-mod, mul-lt-mul_of_pos_right}
+use mathlib.Core.Logic.{dite}
+use native.Mathlib.Decide.{dec_le}
+use Rattle.nr_ids.specs.declared.plan.Plan.{Plan}
+use Rattle.nr_ids.specs.Groups.{group_of, mixed, second_of}
+use Rattle.nr_ids.specs.Laws.{SecondIsAnother}
+
+-- a number below 2^32, scaled
+scaled : (low count : ℕ) → low < 2 ^ 32 → 0 < count → low * count / 2 ^ 32 < count
+scaled low count below some =
+    let wide : low * count < 4294967296 * count = mul-lt-mul_of_pos_right below some in
+    let turned : 4294967296 * count ≡ count * 4294967296 = omega arith in
+    (div-lt_iff_lt-mul (omega arith)).1 (subst (λ (n : ℕ). low * count < n) turned wide)
+
+-- so much further on, and on from the first behind the last
+further : (at more count : ℕ) → at < count → more + 1 < count → (at + 1 + more) % count ≢ at
+further at more count inside few same = dite (dec_le count (at + 1 + more))
+    (λ (behind : count ≤ at + 1 + more).
+    let on : (at + 1 + more) % count ≡ (at + 1 + more - count) % count = mod-eq-sub-mod behind in
+    let low : at + 1 + more - count < count = omega arith in
+    let rest : (at + 1 + more - count) % count ≡ at + 1 + more - count = mod-eq_of_lt low in
+    let back : at + 1 + more - count ≡ at = sym rest ∙ sym on ∙ same in
+    absurd (omega arith))
+    (λ ahead.
+    let low : at + 1 + more < count = omega arith in
+    let stays : (at + 1 + more) % count ≡ at + 1 + more = mod-eq_of_lt low in
+    let back : at + 1 + more ≡ at = sym stays ∙ same in
+    absurd (omega arith))
+
+mixed_low : (key id : ℕ) → mixed key id < 2 ^ 64
+unfolding mixed
+mixed_low key id = mod-lt _ (omega arith)
+
+group_low : (plan : Plan) (id : ℕ) → 0 < plan.groups → group_of plan id < plan.groups
+unfolding group_of
+group_low plan id some =
+    let low = mixed_low plan.key id in
+    scaled (mixed plan.key id / 4294967296) plan.groups (omega arith) some
+
+pub second_is_another : SecondIsAnother
+unfolding second_of
+second_is_another plan id is two =
+    let low : mixed plan.key id % 4294967296 < 4294967296 = omega arith in
+    let more : ℕ = mixed plan.key id % 4294967296 * (plan.groups - 1) / 4294967296 in
+    let few : more < plan.groups - 1 = scaled (mixed plan.key id % 4294967296) (plan.groups - 1) low (omega arith) in
+    further (group_of plan id) more plan.groups (group_low plan id is.0) (omega arith)
