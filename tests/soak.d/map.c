@@ -1,16 +1,13 @@
 /* The map and the queue through C under load: rounds, each with a map and threads of its own, until SIGTERM.
      map KEYS SEED
-   A set of version v has 1 + v % ROWS rows (v, key << 32 | value). One thread is the dataflow, whose loads take a while;
-   a change of the base replaces or updates the key's set, or takes the request back and evicts the key. */
-#include "../../include/nr.h"
-#include "model.h"
-#include <pthread.h>
+   One thread is the dataflow, whose loads take a while; a change of the base replaces or updates the key's set, or takes
+   the request back and evicts the key. */
+#include "sets.h"
 #include <signal.h>
-#include <stdatomic.h>
 #include <stdlib.h>
 
-enum { KEYS = 48, READERS = 6, ROWS = 3, GETS = 2000, WRITES = 4000, MOST_LOADS = 4 };
-static const uint64_t LAST = 4194303, ARRIVALS = (uint64_t)1 << 40;
+enum { GETS = 2000, WRITES = 4000, MOST_LOADS = 4 };
+static const uint64_t ARRIVALS = (uint64_t)1 << 40;
 
 typedef struct client {
   nr_reader reader;
@@ -26,69 +23,13 @@ typedef struct load {
 } load;
 
 static nr_writer writer;
-static nr_taker taker;
 static uint64_t dice;
 static load loads[MOST_LOADS];
 static uint32_t load_count;
 /* The requests of lesser numbers were taken back. */
 static uint64_t valid[KEYS];
 static client clients[READERS];
-static atomic_uint reading;
 static volatile sig_atomic_t is_over;
-
-/* What was posted, or has ended, and how often readers were woken: who sleeps waits for one of them to change. */
-static pthread_mutex_t lock = PTHREAD_MUTEX_INITIALIZER;
-static struct signal {
-  pthread_cond_t changed;
-  uint64_t count;
-} posted = {PTHREAD_COND_INITIALIZER, 0}, filled = {PTHREAD_COND_INITIALIZER, 0};
-
-static uint64_t count_of(struct signal *signal) {
-  pthread_mutex_lock(&lock);
-  uint64_t count = signal->count;
-  pthread_mutex_unlock(&lock);
-  return count;
-}
-
-static void tell(struct signal *signal) {
-  pthread_mutex_lock(&lock);
-  signal->count++;
-  pthread_cond_broadcast(&signal->changed);
-  pthread_mutex_unlock(&lock);
-}
-
-static void sleep_while(struct signal *signal, uint64_t seen) {
-  pthread_mutex_lock(&lock);
-  while (signal->count == seen) pthread_cond_wait(&signal->changed, &lock);
-  pthread_mutex_unlock(&lock);
-}
-
-/* VALUES */
-
-static uint32_t make_rows(uint32_t key, uint64_t version, nr_row *rows) {
-  uint32_t count = 1 + (uint32_t)(version % ROWS);
-  uint32_t values[ROWS];
-  for (uint32_t i = 0; i < count; i++) values[i] = model_makes();
-  for (uint32_t i = 0; i < count; i++)
-    for (uint32_t j = i + 1; j < count; j++)
-      if (values[j] < values[i]) { uint32_t value = values[i]; values[i] = values[j]; values[j] = value; }
-  for (uint32_t i = 0; i < count; i++) rows[i] = (nr_row){version, (uint64_t)key << 32 | values[i]};
-  return count;
-}
-
-static void drop_rows(const nr_row *rows, uint64_t count) {
-  for (uint64_t i = 0; i < count; i++) model_drops((uint32_t)rows[i].b);
-}
-
-/* Rows that were found, whole and right; their values live where they are held. */
-static void look(uint32_t key, uint64_t floor, const nr_row *rows, uint64_t count, bool is_held) {
-  model_wants(count > 0 && count == 1 + rows[0].a % ROWS, "torn", "a set has other rows than its version");
-  for (uint64_t i = 0; i < count; i++) {
-    model_wants(rows[i].a == rows[0].a, "torn", "a set has rows of two versions");
-    model_answers(key, (uint32_t)(rows[i].b >> 32), rows[i].a, floor);
-    if (is_held) model_reads((uint32_t)rows[i].b);
-  }
-}
 
 /* READERS */
 
@@ -96,11 +37,7 @@ static void request(client *client, uint32_t key) {
   uint64_t number = 0;
   uint32_t answer = nr_ask(&client->reader, key, &number);
   if (answer != NR_SEND) return;
-  while ((answer = nr_post(&client->poster, key, number)) != NR_DONE) {
-    model_wants(answer == NR_FULL || answer == NR_IN_THE_WAY, "answer", "of nr_post");
-    if (answer == NR_FULL) model_counts("queue full", 1), model_sleeps(client->place, 1);
-  }
-  tell(&posted);
+  post(&client->poster, client->place, key, number);
 }
 
 static void get(client *client, uint32_t key) {
@@ -150,8 +87,8 @@ static void find_each(client *client) {
     if (wanted[i].answer == NR_ROWS) look(wanted[i].key, floors[i], wanted[i].rows.row, wanted[i].rows.count, false);
 }
 
-static void *read_all(void *given) {
-  client *client = given;
+static void *read_all(void *place) {
+  client *client = &clients[(uintptr_t)place];
   model_begins(client->place);
   for (unsigned turn = 0; turn < GETS; turn++) {
     uint32_t key = model_key(&client->dice, KEYS);
@@ -164,9 +101,7 @@ static void *read_all(void *given) {
     if (turn % 64 == 0) model_sleeps(client->place, 2);
     if (model_rolls(&client->dice) % (READERS * GETS * 4) == 0) hold(client, key, 1000 + model_rolls(&client->dice) % 2000);
   }
-  reading--;
-  tell(&posted);
-  model_ends(client->place);
+  ends_reading(client->place);
   return NULL;
 }
 
@@ -227,7 +162,7 @@ static bool take(void) {
   uint32_t key;
   uint64_t number;
   if (load_count == MOST_LOADS) return true;
-  if (nr_take(&taker, &key, &number) != NR_DONE) return false;
+  if (!take_posted(&key, &number)) return false;
   bool is_void = number < valid[key];
   if (!is_void) model_loads(key);
   loads[load_count++] = (load){key, (uint32_t)(model_rolls(&dice) % 40), number, model_newest(key), is_void};
@@ -267,8 +202,8 @@ static void reap(uint32_t wanted, const char *what) {
   if (answer != NR_NOTHING && answer != wanted) model_fails("slot leaked", "%s", what);
 }
 
-static void *write_all(void *given) {
-  (void)given;
+static void *write_all(void *place) {
+  (void)place;
   model_begins(READERS);
   for (unsigned turn = 0; reading || load_count;) {
     uint64_t seen = count_of(&posted);
@@ -291,10 +226,7 @@ static void *write_all(void *given) {
 
 /* ROUNDS */
 
-/* Where memory is refused nothing has changed, and the call is made again. */
-#define DONE_AT_LAST(call) \
-  for (uint32_t answer; (answer = (call)) != NR_DONE;) \
-    if (answer != NR_NO_MEMORY) model_fails(answer == NR_NO_READER ? "slot leaked" : "answer", "%u of " #call, answer)
+static nr_poster *poster_of(uint32_t place) { return &clients[place].poster; }
 
 static void open_all(unsigned number) {
   uint32_t few = KEYS / 2 + (uint32_t)(model_rolls(&dice) % (KEYS / 2));
@@ -309,38 +241,16 @@ static void open_all(unsigned number) {
   }
   for (uint32_t key = 0; key < KEYS; key++) valid[key] = shape.first_number;
   DONE_AT_LAST(nr_open(&shape, &writer));
-  DONE_AT_LAST(nr_open_queue(KEYS, 1 + (uint32_t)(model_rolls(&dice) % 4), READERS, &taker));
-  for (uint32_t place = 0; place < READERS; place++) {
+  for (uint32_t place = 0; place < READERS; place++)
     clients[place] = (client){.dice = model_rolls(&dice) + 1, .place = place};
-    DONE_AT_LAST(nr_open_poster(&taker, &clients[place].poster));
-  }
+  open_ring(&dice, poster_of);
 }
 
-static void *(*const WORK[])(void *) = {read_all, write_all};
-
-/* Whether a thread was made; where not, there is one less. */
-static bool is_made(pthread_t *thread, uint32_t place) {
-  model_spawns(place);
-  if (!pthread_create(thread, NULL, WORK[place == READERS], &clients[place % READERS])) return true;
-  model_ends(place);
-  return false;
-}
-
-/* Threads come, with readers that went before, and go. */
+/* Readers that went before come again. */
 static void run_threads(void) {
-  pthread_t threads[READERS + 1];
-  bool are_made[READERS + 1];
-  reading = READERS;
-  for (uint32_t place = 0; place < READERS; place++) {
-    DONE_AT_LAST(nr_open_reader(&writer, &clients[place].reader));
-    if (!(are_made[place] = is_made(&threads[place], place))) reading--;
-  }
-  while (!(are_made[READERS] = is_made(&threads[READERS], READERS))) {}
-  model_awaits(0, READERS + 1);
-  for (uint32_t place = 0; place <= READERS; place++)
-    if (are_made[place]) pthread_join(threads[place], NULL);
+  for (uint32_t place = 0; place < READERS; place++) DONE_AT_LAST(nr_open_reader(&writer, &clients[place].reader));
+  run_round(read_all, write_all);
   for (uint32_t place = 0; place < READERS; place++) DONE_AT_LAST(nr_return_reader(&writer, &clients[place].reader));
-  model_counts("rounds", 1);
 }
 
 /* At rest each set that no key has comes back, and at the end all do. */
@@ -352,8 +262,7 @@ static void close_all(void) {
   for (uint32_t key = 0; key < KEYS; key++)
     if (nr_look(&writer, key, &rows) == NR_ROWS) live += rows.count;
   model_lives(live);
-  for (uint32_t place = 0; place < READERS; place++) nr_close_poster(&clients[place].poster);
-  nr_close_taker(&taker);
+  close_ring(poster_of);
   model_wants(nr_take_apart(&writer, &remains) == NR_DONE, "slot leaked", "a reader was not returned");
   while (nr_next(&remains, &rows) == NR_GIVEN) drop_rows(rows.row, rows.count);
   nr_close_remains(&remains);

@@ -12,6 +12,7 @@ import pathlib
 import random
 import signal
 import sqlite3
+import struct
 import subprocess
 import sys
 import threading
@@ -35,6 +36,12 @@ class Server:
         self.start()
 
     def start(self):
+        """The driver finds it by its number, and so measures it."""
+        self.begin()
+        self.work_at_once()
+        (self.bed.room / f"{self.name}.pid").write_text(str(self.process.pid))
+
+    def begin(self):
         """Without memory or a thread it may end at its start, and is started once more."""
         room, port = self.bed.room, ["--port", str(self.port)] if self.port else []
         faults = {"LD_PRELOAD": str(room / "faults.so"), "SOAK_CONTROL": str(room / f"{self.bed.name}.control")}
@@ -51,8 +58,6 @@ class Server:
             self.process.wait()
             self.bed.counts["not started"] += 1
         self.port = int(line.rsplit(":")[-1])
-        self.work_at_once()
-        (room / f"{self.name}.pid").write_text(str(self.process.pid))
 
     def work_at_once(self):
         """Has each session of it work, so that its memory isn't the more the more clients once came together."""
@@ -124,6 +129,9 @@ class Bed:
         server.kill()
         self.after_kill(server)
         self.counts["server killed"] += 1
+        self.start_again(server)
+
+    def start_again(self, server):
         server.start()
 
     def rest(self):
@@ -214,6 +222,22 @@ class ViewServer(Bed):
 
     def others(self):
         return [self.checkpoint]
+
+    def start_again(self, server):
+        """It works for a while with fewer threads, and so with less memory: the driver doesn't find it."""
+        self.refuse_threads(6)
+        server.begin()
+        self.refuse_threads(0)
+        time.sleep(self.dice.random())
+        self.rest()
+        server.kill()
+        server.start()
+
+    def refuse_threads(self, among):
+        """One among so many."""
+        with open(self.room / f"{self.name}.control", "r+b") as control:
+            control.seek(8)
+            control.write(struct.pack("Q", among))
 
     def checkpoint(self):
         """The log's file is written back and begins anew."""
