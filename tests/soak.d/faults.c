@@ -56,6 +56,11 @@ void *realloc(void *block, size_t bytes) {
   return comes(MEMORY) ? NULL : next(block, bytes);
 }
 
+int posix_memalign(void **block, size_t align, size_t bytes) {
+  NEXT(int, "posix_memalign", void **, size_t, size_t);
+  return comes(MEMORY) ? ENOMEM : next(block, align, bytes);
+}
+
 int pthread_create(pthread_t *thread, const pthread_attr_t *how, void *(*work)(void *), void *given) {
   NEXT(int, "pthread_create", pthread_t *, const pthread_attr_t *, void *(*)(void *), void *);
   return comes(THREADS) ? EAGAIN : next(thread, how, work, given);

@@ -8,11 +8,11 @@ use Rattle.nr_model.specs.Histories.{Entry}
 use Rattle.nr_model.specs.Strays.{keyed, strays}
 use Rattle.nr_model.specs.Maps.{filled_count}
 use Rattle.nr_machine.specs.Story.{map_after}
-use Rattle.nr_marks.proofs.ListPlaces.{at_maps, at_unmap, before, inside}
-use Rattle.nr_marks.specs.Exact.{filled_puts, pinned_put, pins, put_numbers}
-use Rattle.nr_marks.specs.MarkLaws.{slots_in_use}
-use Rattle.nr_marks.specs.Marks.{Past}
-use Rattle.nr_marks.specs.Pasts.{AllCurrent, AllKnown, AllReaders, Current}
+use Rattle.nr_core.proofs.ListPlaces.{at_maps, at_unmap, before, inside}
+use Rattle.nr_core.specs.Exact.{filled_puts, pinned_put, pins, put_numbers}
+use Rattle.nr_core.specs.MarkLaws.{slots_in_use}
+use Rattle.nr_core.specs.Marks.{Past}
+use Rattle.nr_core.specs.Pasts.{AllCurrent, AllKnown, AllReaders, Current}
 use Rattle.nr_board.specs.Callers.{Caller, Table}
 use Rattle.nr_map.specs.Hands.{Handed}
 use Rattle.nr_alone.specs.MapState.{is_full, pinned_puts, put_of}

@@ -14,9 +14,9 @@ use Rattle.nr_model.specs.Maps.{reply_to}
 use Rattle.nr_machine.specs.declared.calls.NoSlot.{NoSlot}
 use Rattle.nr_machine.specs.Story.{entry, map_after}
 use Rattle.nr_machine.specs.declared.places.Retired.{Retired}
-use Rattle.nr_marks.specs.Marks.{Marks, Past}
-use Rattle.nr_marks.specs.MarkLaws.{slots_in_use}
-use Rattle.nr_marks.specs.Pasts.{AllCurrent, AllReaders}
+use Rattle.nr_core.specs.Marks.{Marks, Past}
+use Rattle.nr_core.specs.MarkLaws.{slots_in_use}
+use Rattle.nr_core.specs.Pasts.{AllCurrent, AllReaders}
 use Rattle.nr_board.specs.WriterAnswers.{HasNoSlot, Publishes}
 use Rattle.nr_board.specs.Callers.{Caller, Gains, Grows, Table, map_at_opening}
 use Rattle.nr_map.specs.ExactPlaces.{OnlyLearnt}

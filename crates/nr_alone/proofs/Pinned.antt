@@ -6,7 +6,7 @@ use Rattle.nr_model.specs.declared.calls.Reply.TheVariants as reply
 use Rattle.nr_model.specs.declared.rows.Row.{Row}
 use Rattle.nr_model.specs.Histories.{after, entries_of}
 use Rattle.nr_model.specs.Maps.{state_of}
-use Rattle.nr_marks.specs.Puts.{put_number}
+use Rattle.nr_core.specs.Puts.{put_number}
 use Rattle.nr_board.specs.Callers.{Caller, Gains, Rests, map_at_opening}
 use Rattle.nr_board.specs.Kinds.{kind_of}
 use Rattle.nr_board.specs.Meetings.{HasPut}

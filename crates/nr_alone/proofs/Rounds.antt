@@ -9,8 +9,8 @@ use mathlib.Core.Option.{some}
 use lib.ListN.{get_elem?}
 use Rattle.nr_model.specs.Histories.{Entry, IsLegal, entries_of}
 use Rattle.nr_machine.specs.declared.places.Retired.{Retired}
-use Rattle.nr_marks.specs.Marks.{Marks, Past}
-use Rattle.nr_marks.specs.Pasts.{Current}
+use Rattle.nr_core.specs.Marks.{Marks, Past}
+use Rattle.nr_core.specs.Pasts.{Current}
 use Rattle.nr_board.specs.Callers.{Caller, Table, map_at_opening}
 use Rattle.nr_board.specs.Entries.{AreCallers}
 use Rattle.nr_map.specs.ExactPlaces.{OnlyLearnt}

@@ -10,9 +10,9 @@ use Rattle.nr_model.specs.Laws.{LegalGoesOn}
 use Rattle.nr_model.specs.Maps.{call_key, next, reply_to}
 use Rattle.nr_machine.specs.declared.shape.Shape.{Shape}
 use Rattle.nr_machine.specs.Story.{entry, map_after}
-use Rattle.nr_marks.specs.Exact.{put_numbers}
-use Rattle.nr_marks.specs.Puts.{put_count, put_number, puts_set}
-use Rattle.nr_marks.specs.MarkLaws.{PutGoesOn}
+use Rattle.nr_core.specs.Exact.{put_numbers}
+use Rattle.nr_core.specs.Puts.{put_count, put_number, puts_set}
+use Rattle.nr_core.specs.MarkLaws.{PutGoesOn}
 use Rattle.nr_board.specs.Callers.{Table, map_at_opening}
 use Rattle.nr_alone.specs.Answers as answers
 use Rattle.nr_map.specs.Hands.{Handed}

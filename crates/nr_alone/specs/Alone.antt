@@ -7,10 +7,10 @@ use Rattle.nr_model.specs.Histories.{Entry, entries_of}
 use Rattle.nr_model.specs.Laws.{LegalBegins, LegalGoesOn}
 use Rattle.nr_machine.specs.Story.{map_after}
 use Rattle.nr_machine.specs.Sums.{total}
-use Rattle.nr_marks.specs.Exact.{put_numbers}
-use Rattle.nr_marks.specs.MarkLaws.{PutGoesOn}
-use Rattle.nr_marks.specs.Pasts.{Current}
-use Rattle.nr_marks.specs.Puts.{put_count}
+use Rattle.nr_core.specs.Exact.{put_numbers}
+use Rattle.nr_core.specs.MarkLaws.{PutGoesOn}
+use Rattle.nr_core.specs.Pasts.{Current}
+use Rattle.nr_core.specs.Puts.{put_count}
 use Rattle.nr_board.specs.Callers.{Caller, Table}
 use Rattle.nr_board.specs.Rule.{StartsWith}
 use Rattle.nr_map.specs.ExactPlaces.{DoneMeansFewerInUse, NoSlotMeansAllInUse}

@@ -3,8 +3,8 @@ use Rattle.std.specs.Prelude.{◌≡◌, ◌<◌, ℕ, List, length, map, slice_
 use mathlib.Core.Option.{some}
 use lib.ListN.{get_elem?}
 use Rattle.nr_model.specs.Histories.{Entry, IsLegal, entries_of}
-use Rattle.nr_marks.specs.Exact.{Lists}
-use Rattle.nr_marks.specs.Pasts.{Current}
+use Rattle.nr_core.specs.Exact.{Lists}
+use Rattle.nr_core.specs.Pasts.{Current}
 use Rattle.nr_board.specs.Callers.{Caller, KnowsOwn, map_at_opening}
 use Rattle.nr_board.specs.Entries.{AreCallers}
 use Rattle.nr_map.specs.ExactPlaces.{OnlyLearnt}

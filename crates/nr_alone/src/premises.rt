@@ -7,7 +7,7 @@ pub(crate) fn laws()
     nr_map::laws::entries_are_callers();
     nr_map::laws::no_slot_means_all_in_use();
     nr_map::laws::done_means_fewer_in_use();
-    nr_marks::laws::put_goes_on();
+    nr_core::laws::put_goes_on();
     nr_model::laws::legal_goes_on();
     nr_model::laws::legal_begins();
 }

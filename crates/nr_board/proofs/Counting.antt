@@ -17,7 +17,7 @@ use Rattle.nr_core.specs.Roles.{holds, is_by}
 use Rattle.nr_machine.specs.Slots.{departures, layout}
 use Rattle.nr_machine.specs.declared.shape.Shape.{Shape}
 use Rattle.nr_board.specs.Announcing.{Announces, Counted, HasNoReader, IsNoCount, lends, lent, says_at}
-use Rattle.nr_marks.proofs.ListPlaces.{at_left}
+use Rattle.nr_core.proofs.ListPlaces.{at_left}
 use Rattle.nr_board.specs.Views.{View}
 
 -- the holds by words, where one token has another view and holds by its word as before

@@ -14,7 +14,7 @@ use Rattle.nr_machine.specs.Sums.{only}
 use Rattle.nr_machine.specs.declared.places.Retired.{Retired}
 use Rattle.nr_board.proofs.Heard.{zero_at}
 use Rattle.nr_board.proofs.ScannedWords.{flag_elsewhere}
-use Rattle.nr_marks.specs.Marks.{LoggedLoad}
+use Rattle.nr_core.specs.Marks.{LoggedLoad}
 use Rattle.nr_board.specs.Callers.{Table}
 use Rattle.nr_board.specs.Flags.{Flagged, IsFlagged}
 use Rattle.nr_board.specs.Passes.{AreHeard, unflagged}

@@ -12,11 +12,11 @@ use Rattle.nr_machine.specs.declared.roles.Desk.{Desk}
 use Rattle.nr_machine.specs.declared.roles.Grip.{Grip}
 use Rattle.nr_machine.specs.declared.roles.Role.TheVariants.{Reader, Writer}
 use Rattle.nr_machine.specs.declared.shape.Shape.{Shape}
-use Rattle.nr_marks.proofs.ExactPlace.{gathered_is_known}
-use Rattle.nr_marks.proofs.ListPlaces.{at_left}
-use Rattle.nr_marks.specs.Exact.{Lists}
-use Rattle.nr_marks.specs.Marks.{Marks, Past, gripped, past, told_by}
-use Rattle.nr_marks.specs.Pasts.{Compared, Current}
+use Rattle.nr_core.proofs.ExactPlace.{gathered_is_known}
+use Rattle.nr_core.proofs.ListPlaces.{at_left}
+use Rattle.nr_core.specs.Exact.{Lists}
+use Rattle.nr_core.specs.Marks.{Marks, Past, gripped, past, told_by}
+use Rattle.nr_core.specs.Pasts.{Compared, Current}
 use Rattle.nr_board.proofs.Tokens.{MapSeat}
 use Rattle.nr_board.specs.Callers.{Caller, KnowsOwn, Table, caller_of, map_seen, token}
 use Rattle.nr_board.specs.Learning.{HearsOf, Learned, LearnsOf, has_heard}

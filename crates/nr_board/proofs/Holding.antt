@@ -13,8 +13,8 @@ use Rattle.nr_words.specs.KeyWords.{is_filled, slot_of}
 use Rattle.nr_machine.specs.declared.roles.Role.{Role}
 use Rattle.nr_machine.specs.declared.shape.Shape.{Shape}
 use Rattle.std.proofs.lemmas.Bool.{lt-ltb}
-use Rattle.nr_marks.specs.Marks.{Marks, OfKey, acted, with_loads, with_look}
-use Rattle.nr_marks.specs.Puts.{put_number}
+use Rattle.nr_core.specs.Marks.{Marks, OfKey, acted, with_loads, with_look}
+use Rattle.nr_core.specs.Puts.{put_number}
 use Rattle.nr_board.proofs.Tokens.{MapSeat, grows_both}
 use Rattle.nr_board.specs.declared.holds.Held.{Held}
 use Rattle.nr_board.specs.Callers.{Caller, Gains, Grows, Rests, Table, map_at_opening, token}

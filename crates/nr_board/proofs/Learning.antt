@@ -17,11 +17,11 @@ use Rattle.nr_machine.specs.Story.{map_after, opening_map}
 use Rattle.nr_machine.specs.declared.roles.Role.{Role}
 use Rattle.nr_machine.specs.declared.roles.Role.TheVariants.{Note, Reader, Writer}
 use Rattle.nr_machine.specs.declared.shape.Shape.{Shape}
-use Rattle.nr_marks.proofs.LearnMarks.{learns_reader, learns_writer}
-use Rattle.nr_marks.specs.Exact.{Lists}
-use Rattle.nr_marks.specs.MarkSteps.{ReaderLearns, WriterLearns}
-use Rattle.nr_marks.specs.Marked.{CanMark, MarkTelling}
-use Rattle.nr_marks.specs.Marks.{Marks, Past, gripped}
+use Rattle.nr_core.proofs.LearnMarks.{learns_reader, learns_writer}
+use Rattle.nr_core.specs.Exact.{Lists}
+use Rattle.nr_core.specs.MarkSteps.{ReaderLearns, WriterLearns}
+use Rattle.nr_core.specs.Marked.{CanMark, MarkTelling}
+use Rattle.nr_core.specs.Marks.{Marks, Past, gripped}
 use Rattle.nr_board.proofs.Lift.{Makes, allowed, key_inside, key_no_count, lends_on, makes, sees_plain}
 use Rattle.nr_board.proofs.Moves.{ActsGo, learned, learned_own, still_chosen}
 use Rattle.nr_board.specs.Entries.{AreCallers, acts_told, to_depart}

@@ -18,9 +18,9 @@ use Rattle.nr_core.specs.Steps.{CanStep, Stepped, Telling}
 use Rattle.nr_machine.specs.Sums.{total}
 use Rattle.nr_machine.specs.declared.roles.Role.{Role}
 use Rattle.nr_machine.specs.declared.shape.Shape.{Shape}
-use Rattle.nr_marks.proofs.Knowing.{knowing_step}
-use Rattle.nr_marks.specs.Marked.{AllSince, CanMark, KnowsMarks, MarkTelling, Remarked}
-use Rattle.nr_marks.specs.Marks.{Past}
+use Rattle.nr_core.proofs.Knowing.{knowing_step}
+use Rattle.nr_core.specs.Marked.{AllSince, CanMark, KnowsMarks, MarkTelling, Remarked}
+use Rattle.nr_core.specs.Marks.{Past}
 use Rattle.nr_board.proofs.Entries.{callers_both}
 use Rattle.nr_board.specs.Entries.{AreCallers}
 use Rattle.nr_board.specs.Rule.{Fits, Kept, counts, marks_of, pasts_of, role_of, told_pasts_of}

@@ -21,7 +21,7 @@ use Rattle.nr_machine.specs.declared.shape.Shape.{Shape}
 use Rattle.nr_board.specs.Callers.{Table, token}
 use Rattle.nr_machine.specs.Spares.{Spare}
 use Rattle.nr_board.specs.Spares.{desk_with}
-use Rattle.nr_marks.specs.Marks.{with_polls}
+use Rattle.nr_core.specs.Marks.{with_polls}
 use Rattle.nr_board.specs.WriterSeats.{IsBetween, LeadsIn, MapSeat, RestsAt}
 
 -- the writer rests with its slots at its own map

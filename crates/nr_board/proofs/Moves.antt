@@ -13,8 +13,8 @@ use Rattle.nr_core.specs.Steps.{Stepped, Telling}
 use Rattle.nr_machine.specs.declared.roles.Role.{Role}
 use Rattle.nr_machine.specs.declared.shape.Shape.{Shape}
 use Rattle.nr_board.specs.Plays.{Advances, Waits}
-use Rattle.nr_marks.specs.Marked.{MarkTelling, Remarked}
-use Rattle.nr_marks.specs.Marks.{Marks, Past, gripped}
+use Rattle.nr_core.specs.Marked.{MarkTelling, Remarked}
+use Rattle.nr_core.specs.Marks.{Marks, Past, gripped}
 use Rattle.nr_board.specs.Rule.{Fits, Kept, marks_of, role_of}
 use Rattle.nr_board.proofs.Lift.{Choice, Follows}
 use Rattle.nr_board.proofs.Heard.{forgets, hears_as}

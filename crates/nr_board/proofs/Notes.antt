@@ -22,11 +22,11 @@ use Rattle.nr_board.proofs.Tokens.{MapSeat}
 use Rattle.nr_board.specs.Callers.{caller_of, token}
 use Rattle.nr_board.specs.Meetings.{with_step}
 use Rattle.nr_board.specs.Notes.{has_noted, note_of, retold, spent, told_by_note, with_note}
-use Rattle.nr_marks.proofs.Knowing.{knowing_set, knowing_snoc, told_since}
-use Rattle.nr_marks.proofs.ListPlaces.{no_places}
-use Rattle.nr_marks.proofs.SeatMarks.{alike_marked, evolves_alike, seats_marked}
-use Rattle.nr_marks.specs.Marked.{AllSince, Since}
-use Rattle.nr_marks.specs.Marks.{told_by, with_loads}
+use Rattle.nr_core.proofs.Knowing.{knowing_set, knowing_snoc, told_since}
+use Rattle.nr_core.proofs.ListPlaces.{no_places}
+use Rattle.nr_core.proofs.SeatMarks.{alike_marked, evolves_alike, seats_marked}
+use Rattle.nr_core.specs.Marked.{AllSince, Since}
+use Rattle.nr_core.specs.Marks.{told_by, with_loads}
 use Rattle.nr_board.specs.Rule.{Fits, Kept, StartsWith, counts, marks_of, pasts_of, role_of, told_pasts_of}
 use Rattle.nr_board.specs.Views.{View, no_desk}
 use Rattle.std.specs.Prelude.{nat_lt}

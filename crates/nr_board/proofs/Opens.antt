@@ -15,9 +15,9 @@ use Rattle.nr_machine.specs.Slots.{departures, layout, name_number, words_at_ope
 use Rattle.nr_words.specs.Places.{total_of}
 use Rattle.nr_core.proofs.WordPlaces.{departures_inside}
 use Rattle.nr_machine.specs.declared.shape.Shape.{Shape}
-use Rattle.nr_marks.proofs.ListPlaces.{no_places}
-use Rattle.nr_marks.proofs.SeatMarks.{opens_marked}
-use Rattle.nr_marks.specs.Marked.{AllSince, Since}
+use Rattle.nr_core.proofs.ListPlaces.{no_places}
+use Rattle.nr_core.proofs.SeatMarks.{opens_marked}
+use Rattle.nr_core.specs.Marked.{AllSince, Since}
 use Rattle.nr_board.specs.Announcing.{Hears, says_at}
 use Rattle.nr_board.specs.declared.board.Plan.{Plan}
 use Rattle.nr_board.specs.Rule.{Fits, Kept, marks_of, role_of}

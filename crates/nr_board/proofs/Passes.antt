@@ -12,9 +12,9 @@ use Rattle.nr_machine.specs.Spares.{Spare}
 use Rattle.nr_machine.specs.Sums.{only, total}
 use Rattle.nr_machine.specs.declared.places.Retired.{Retired}
 use Rattle.nr_machine.specs.declared.shape.Shape.{Shape}
-use Rattle.nr_marks.proofs.Different.{few_of}
-use Rattle.nr_marks.specs.MarkSteps.{NotedNowhereElse, TryTells}
-use Rattle.nr_marks.specs.Marks.{Marks, OfSlot, Past, LoggedLoad, with_poll, with_polls, with_scan}
+use Rattle.nr_core.proofs.Different.{few_of}
+use Rattle.nr_core.specs.MarkSteps.{NotedNowhereElse, TryTells}
+use Rattle.nr_core.specs.Marks.{Marks, OfSlot, Past, LoggedLoad, with_poll, with_polls, with_scan}
 use Rattle.nr_board.proofs.PollNotes.{at_get}
 use Rattle.nr_board.proofs.SearchSeats.{there_is}
 use Rattle.nr_board.proofs.Searching.{grows_none}

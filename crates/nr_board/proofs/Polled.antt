@@ -19,10 +19,10 @@ use Rattle.nr_machine.specs.declared.places.Retired.{Retired}
 use Rattle.nr_machine.specs.declared.roles.Desk.{Desk}
 use Rattle.nr_machine.specs.declared.roles.Role.{Role}
 use Rattle.nr_machine.specs.declared.shape.Shape.{Shape}
-use Rattle.nr_marks.specs.MarkSteps.{IsNoSlot, LooksMarks, PollTells, went_marks}
-use Rattle.nr_marks.specs.Marked.{Sweeping}
-use Rattle.nr_marks.specs.Marks.{Marks, Past}
-use Rattle.nr_marks.specs.PollNotes.{AllHeld, NoRoom}
+use Rattle.nr_core.specs.MarkSteps.{IsNoSlot, LooksMarks, PollTells, went_marks}
+use Rattle.nr_core.specs.Marked.{Sweeping}
+use Rattle.nr_core.specs.Marks.{Marks, Past}
+use Rattle.nr_core.specs.PollNotes.{AllHeld, NoRoom}
 use Rattle.nr_board.specs.Rule.{marks_of, role_of}
 use Rattle.nr_board.specs.Views.{View}
 

@@ -20,8 +20,8 @@ use Rattle.nr_board.specs.Callers.{Caller, Grows, Table, map_at_opening, token, 
 use Rattle.nr_board.specs.Entries.{AreCallers}
 use Rattle.nr_machine.specs.Spares.{Spare}
 use Rattle.nr_board.specs.Spares.{AreFewSteps, TookBySearch, desk_with}
-use Rattle.nr_marks.specs.Marks.{Marks, LoggedLoad, with_name, with_scan}
-use Rattle.nr_marks.specs.MarkSteps.{PutsMarks}
+use Rattle.nr_core.specs.Marks.{Marks, LoggedLoad, with_name, with_scan}
+use Rattle.nr_core.specs.MarkSteps.{PutsMarks}
 use Rattle.nr_board.specs.Plays.{SwapsOrPuts}
 use Rattle.nr_machine.specs.States.{key_of}
 use Rattle.nr_board.specs.WriterSeats.{GoesOn, IsPutting, LeadsIn, MapSeat, PublishesSet, PutsTo, WritesAt}

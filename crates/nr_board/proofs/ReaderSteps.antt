@@ -31,9 +31,9 @@ use Rattle.nr_machine.specs.declared.roles.Grip.TheVariants.{Nothing, On}
 use Rattle.nr_machine.specs.declared.roles.Role.{Role}
 use Rattle.nr_machine.specs.declared.roles.Role.TheVariants.{Reader}
 use Rattle.nr_machine.specs.declared.shape.Shape.{Shape}
-use Rattle.nr_marks.proofs.FindAgainMarks.{finds_again_marked}
-use Rattle.nr_marks.proofs.ReaderMarks.{arrives_marked, asks_marked, departs_marked, reads_marked}
-use Rattle.nr_marks.specs.MarkSteps.{ArrivesMarks, DepartsMarks, FindsAgainMarks, KeepsMarks, found_again}
+use Rattle.nr_core.proofs.FindAgainMarks.{finds_again_marked}
+use Rattle.nr_core.proofs.ReaderMarks.{arrives_marked, asks_marked, departs_marked, reads_marked}
+use Rattle.nr_core.specs.MarkSteps.{ArrivesMarks, DepartsMarks, FindsAgainMarks, KeepsMarks, found_again}
 use Rattle.nr_board.proofs.Learning.{shows_kind}
 use Rattle.nr_board.proofs.Lift.{Choice, content_no_count, key_inside, key_no_count, knows_pasts, lends_on, lent_small}
 use Rattle.nr_board.proofs.Lift.{lifts, sees_plain, silent_lends}
@@ -42,8 +42,8 @@ use Rattle.nr_board.specs.Announcing.{lent, says_at}
 use Rattle.nr_core.proofs.WordPlaces.{content_inside, departures_inside}
 use Rattle.nr_board.proofs.Moves.{ActsGo, learned, learning, names_go, reads_only, waiting}
 use Rattle.nr_board.specs.Entries.{AreCallers, acts_told, is_reading, to_depart}
-use Rattle.nr_marks.specs.Marked.{KnowsMarks}
-use Rattle.nr_marks.specs.Marks.{Marks, gripped, with_look}
+use Rattle.nr_core.specs.Marked.{KnowsMarks}
+use Rattle.nr_core.specs.Marks.{Marks, gripped, with_look}
 use lib.ListN.{get_elem?}
 use lib.Seq.{set-get_or}
 use Rattle.nr_model.specs.declared.calls.Call.{Call}

@@ -4,7 +4,7 @@ use Rattle.std.proofs.Common.{arith, length, length-append, refl, set, subst, sy
 use Rattle.nr_machine.specs.Spares.{Spare}
 use Rattle.nr_machine.specs.declared.places.Place.TheVariants.{Idle}
 use Rattle.nr_machine.specs.declared.places.Retired.{Retired}
-use Rattle.nr_marks.specs.Marks.{Marks, OfSlot, Past, LoggedLoad, with_reaped, with_scan}
+use Rattle.nr_core.specs.Marks.{Marks, OfSlot, Past, LoggedLoad, with_reaped, with_scan}
 use Rattle.nr_board.proofs.Sweeps.{rests_after, token_after}
 use Rattle.nr_board.proofs.WordLoads.{words_many}
 use Rattle.nr_board.specs.Callers.{Table, token}

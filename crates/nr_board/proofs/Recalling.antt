@@ -10,8 +10,8 @@ use Rattle.nr_core.proofs.WordPlaces.{content_inside}
 use Rattle.nr_board.proofs.Lift.{content_no_count}
 use Rattle.nr_machine.specs.declared.roles.Role.{Role}
 use Rattle.nr_machine.specs.declared.shape.Shape.{Shape}
-use Rattle.nr_marks.specs.Marked.{KnowsMarks}
-use Rattle.nr_marks.specs.Marks.{set_in}
+use Rattle.nr_core.specs.Marked.{KnowsMarks}
+use Rattle.nr_core.specs.Marks.{set_in}
 use Rattle.nr_board.proofs.Notes.{heard_same, replaced}
 use Rattle.nr_board.proofs.Rows.{length-encode}
 use Rattle.nr_board.specs.Callers.{Table}

@@ -8,7 +8,7 @@ use Rattle.nr_core.proofs.Choices.{by_cases}
 use Rattle.nr_machine.specs.Spares.{Spare, none_spare}
 use Rattle.nr_machine.specs.Sums.{only, total}
 use Rattle.nr_machine.specs.declared.places.Retired.{Retired}
-use Rattle.nr_marks.specs.Marks.{Marks, OfSlot, Past, LoggedLoad, with_scan}
+use Rattle.nr_core.specs.Marks.{Marks, OfSlot, Past, LoggedLoad, with_scan}
 use Rattle.std.specs.Prelude.{Some}
 use Rattle.nr_model.specs.Histories.{IsLegal}
 use Rattle.nr_board.specs.Entries.{AreCallers}

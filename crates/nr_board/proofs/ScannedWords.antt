@@ -14,7 +14,7 @@ use Rattle.nr_core.specs.Roles.{retirements}
 use Rattle.nr_machine.specs.Sums.{only, total}
 use Rattle.nr_machine.specs.declared.places.Retired.{Retired}
 use Rattle.nr_machine.specs.declared.roles.Desk.{Desk}
-use Rattle.nr_marks.specs.Marks.{Past, with_scan}
+use Rattle.nr_core.specs.Marks.{Past, with_scan}
 use Rattle.nr_board.proofs.SearchSeats.{inside_list}
 use Rattle.nr_board.proofs.WordLoads.{words_more}
 use Rattle.nr_board.specs.Flags.{OthersFlagged}

@@ -19,8 +19,8 @@ use Rattle.nr_machine.specs.declared.roles.Desk.{Desk}
 use Rattle.nr_machine.specs.declared.roles.Role.{Role}
 use Rattle.nr_machine.specs.declared.roles.Role.TheVariants.{Writer}
 use Rattle.nr_machine.specs.declared.shape.Shape.{Shape}
-use Rattle.nr_marks.specs.Marked.{KnowsMarks}
-use Rattle.nr_marks.specs.Marks.{with_loads}
+use Rattle.nr_core.specs.Marked.{KnowsMarks}
+use Rattle.nr_core.specs.Marks.{with_loads}
 use Rattle.nr_board.proofs.Heard.{AllHear, hears_after, no_reader}
 use Rattle.nr_board.proofs.WriterSteps.{same_desk, writer_shape}
 use Rattle.nr_core.proofs.Counting.{named_inside, names_it}

@@ -39,10 +39,10 @@ use Rattle.nr_machine.specs.declared.roles.Role.TheVariants.{Note, Reader, Write
 use Rattle.nr_machine.specs.declared.roles.Grip.{Grip}
 use Rattle.nr_machine.specs.declared.roles.Grip.TheVariants.{Nothing, On}
 use Rattle.nr_machine.specs.declared.shape.Shape.{Shape}
-use Rattle.nr_marks.proofs.SearchMarks.{Begins, gives_up_marked, notes_marked, scans_marked, tries_marked}
-use Rattle.nr_marks.specs.Marked.{MarkTelling, Remarked}
-use Rattle.nr_marks.specs.MarkSteps.{KeepsMarks, TriesMarks, TryTells}
-use Rattle.nr_marks.specs.Marks.{Marks, Past, LoggedLoad, gripped, past, with_scan}
+use Rattle.nr_core.proofs.SearchMarks.{Begins, gives_up_marked, notes_marked, scans_marked, tries_marked}
+use Rattle.nr_core.specs.Marked.{MarkTelling, Remarked}
+use Rattle.nr_core.specs.MarkSteps.{KeepsMarks, TriesMarks, TryTells}
+use Rattle.nr_core.specs.Marks.{Marks, Past, LoggedLoad, gripped, past, with_scan}
 use Rattle.nr_board.proofs.Counting.{announces_on, counted_same, lent_same}
 use Rattle.nr_board.proofs.Lift.{Follows, keeps_core, key_inside, key_no_count, knows_pasts, lends_on, lifts}
 use Rattle.nr_board.proofs.Lift.{sees_alone, sees_plain}

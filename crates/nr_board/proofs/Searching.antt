@@ -33,11 +33,11 @@ use Rattle.nr_board.specs.Polls.{AllHeldThen, HeldThen}
 use Rattle.nr_board.specs.Rule.{StartsWith}
 use Rattle.nr_machine.specs.Spares.{Spare, none_spare}
 use Rattle.nr_board.specs.Spares.{desk_with, held_polls}
-use Rattle.nr_marks.proofs.ExactPlace.{noted_more, noted_none}
-use Rattle.nr_marks.specs.MarkSteps.{PollTells}
-use Rattle.nr_marks.proofs.ListPlaces.{at_last, inside}
-use Rattle.nr_marks.specs.Marks.{Marks, OfSlot, Past, LoggedLoad, with_poll, with_polls, with_scan}
-use Rattle.nr_marks.specs.PollNotes.{Missed, Noted}
+use Rattle.nr_core.proofs.ExactPlace.{noted_more, noted_none}
+use Rattle.nr_core.specs.MarkSteps.{PollTells}
+use Rattle.nr_core.proofs.ListPlaces.{at_last, inside}
+use Rattle.nr_core.specs.Marks.{Marks, OfSlot, Past, LoggedLoad, with_poll, with_polls, with_scan}
+use Rattle.nr_core.specs.PollNotes.{Missed, Noted}
 use Rattle.nr_board.specs.WriterSeats.{GoesOn, GoesTo, LacksSlot, LeadsIn, MapSeat, Settles, swept, TakesSlot, WritesAt}
 
 -- no step, where what is known is legal

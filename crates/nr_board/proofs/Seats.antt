@@ -19,12 +19,12 @@ use Rattle.nr_core.specs.Roles.{is_by, is_reader, is_writer}
 use Rattle.nr_machine.specs.Sums.{total}
 use Rattle.nr_machine.specs.declared.roles.Role.{Role}
 use Rattle.nr_machine.specs.declared.shape.Shape.{Shape}
-use Rattle.nr_marks.proofs.Knowing.{knowing_set, knowing_snoc}
-use Rattle.nr_marks.proofs.ListPlaces.{no_places}
-use Rattle.nr_marks.proofs.SeatMarks.{alike_marked, evolves_alike, seats_marked}
-use Rattle.nr_marks.specs.Marked.{Since}
+use Rattle.nr_core.proofs.Knowing.{knowing_set, knowing_snoc}
+use Rattle.nr_core.proofs.ListPlaces.{no_places}
+use Rattle.nr_core.proofs.SeatMarks.{alike_marked, evolves_alike, seats_marked}
+use Rattle.nr_core.specs.Marked.{Since}
 use Rattle.nr_board.specs.Rule.{Fits, Kept, counts, marks_of, pasts_of, role_of, told_pasts_of}
-use Rattle.nr_marks.specs.Marks.{gripped}
+use Rattle.nr_core.specs.Marks.{gripped}
 use Rattle.nr_board.specs.Views.{View, grip_of, next_reader, with_reader}
 use Rattle.nr_board.specs.Announcing.{HasNoReader, lent}
 use Rattle.nr_board.proofs.Heard.{hears_as, hears_more, hears_on}

@@ -36,7 +36,7 @@ use Rattle.nr_machine.specs.declared.roles.Role.TheVariants.{Writer}
 use Rattle.nr_machine.specs.declared.shape.Shape.{Shape}
 use Rattle.nr_core.specs.Roles.{retirements}
 use Rattle.nr_machine.specs.declared.places.Retired.{Retired}
-use Rattle.nr_marks.specs.PollNotes.{AllHeld}
+use Rattle.nr_core.specs.PollNotes.{AllHeld}
 use Rattle.nr_board.proofs.Polled.{PolledAll}
 use Rattle.nr_board.specs.Callers.{caller_of}
 use Rattle.nr_board.specs.Plays.{Lacks, call_at}

@@ -30,10 +30,10 @@ use Rattle.nr_machine.specs.declared.places.Retired.{Retired}
 use Rattle.nr_machine.specs.declared.roles.Desk.{Desk}
 use Rattle.nr_machine.specs.declared.roles.Role.TheVariants.{Writer}
 use Rattle.nr_machine.specs.declared.shape.Shape.{Shape}
-use Rattle.nr_marks.proofs.ListPlaces.{at_last, at_left, before as before_at, inside, some_is}
-use Rattle.nr_marks.proofs.ReapMarks.{probes_marked}
-use Rattle.nr_marks.specs.Marks.{Marks, OfSlot, Past, LoggedLoad, with_poll, with_polls, with_reaped, with_scan}
-use Rattle.nr_marks.specs.MarkSteps.{ProbeTells, ProbesMarks}
+use Rattle.nr_core.proofs.ListPlaces.{at_last, at_left, before as before_at, inside, some_is}
+use Rattle.nr_core.proofs.ReapMarks.{probes_marked}
+use Rattle.nr_core.specs.Marks.{Marks, OfSlot, Past, LoggedLoad, with_poll, with_polls, with_reaped, with_scan}
+use Rattle.nr_core.specs.MarkSteps.{ProbeTells, ProbesMarks}
 use Rattle.nr_board.proofs.HeldPolls.{held_next}
 use Rattle.nr_board.proofs.Lift.{knows_pasts, lends_on, lifts, sees_alone}
 use Rattle.nr_board.proofs.Moves.{ActsGo, waited, waiting as learns_nothing}

@@ -9,7 +9,7 @@ use Rattle.nr_machine.specs.Spares.{Spare}
 use Rattle.nr_machine.specs.declared.calls.NoSlot.{NoSlot}
 use Rattle.nr_machine.specs.declared.calls.WriterCall.{WriterCall}
 use Rattle.nr_machine.specs.declared.roles.Desk.{Desk}
-use Rattle.nr_marks.specs.Marks.{with_scan, set_in}
+use Rattle.nr_core.specs.Marks.{with_scan, set_in}
 use Rattle.nr_board.specs.Begins.{HasSet}
 use Rattle.nr_board.specs.Callers.{Caller, Grows, Table, caller_of, map_seen, token}
 use Rattle.nr_board.specs.Meetings.{with_steps}

@@ -10,7 +10,7 @@ use Rattle.nr_core.specs.Roles.{retirements}
 use Rattle.nr_machine.specs.Sums.{only}
 use Rattle.nr_machine.specs.declared.places.Retired.{Retired}
 use Rattle.nr_machine.specs.declared.roles.Desk.{Desk}
-use Rattle.nr_marks.specs.Marks.{with_loads}
+use Rattle.nr_core.specs.Marks.{with_loads}
 use Rattle.nr_board.proofs.WordLoads.{words_begin, words_many, words_more, words_told}
 use Rattle.nr_board.specs.Flags.{Flagged, OthersFlagged}
 use Rattle.nr_board.specs.Scans.{heard_from}

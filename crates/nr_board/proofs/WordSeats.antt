@@ -12,8 +12,8 @@ use Rattle.nr_core.proofs.Choices.{by_cases}
 use Rattle.std.proofs.lemmas.Bool.{eqb-true}
 use Rattle.nr_board.proofs.Tokens.{MapSeat, seat_grows, seat_rests}
 use Rattle.nr_board.specs.Callers.{Gains, Grows, Rests, Table, token}
-use Rattle.nr_marks.specs.Marks.{Marks, acted, with_look}
-use Rattle.nr_marks.specs.Puts.{put_number}
+use Rattle.nr_core.specs.Marks.{Marks, acted, with_look}
+use Rattle.nr_core.specs.Puts.{put_number}
 use Rattle.nr_board.specs.Plays.{Holds, IsIdle}
 use Rattle.nr_board.specs.Seats.{AnnouncesAt, HoldsAt, IdlesAt}
 use Rattle.nr_board.specs.Views.{caller_number, rows_held}

@@ -31,14 +31,14 @@ use Rattle.nr_machine.specs.declared.roles.Grip.TheVariants.{Nothing, On}
 use Rattle.nr_machine.specs.declared.roles.Role.{Role}
 use Rattle.nr_machine.specs.declared.roles.Role.TheVariants.{Note, Reader, Writer}
 use Rattle.nr_machine.specs.declared.shape.Shape.{Shape}
-use Rattle.nr_marks.proofs.HoldNamedMarks.{holds_named_marked, looks_up_marked}
-use Rattle.nr_marks.proofs.LearnMarks.{learns_reader}
-use Rattle.nr_marks.proofs.ListPlaces.{no_places}
-use Rattle.nr_marks.proofs.ReaderMarks.{departs_marked}
-use Rattle.nr_marks.specs.Marked.{KnowsMarks, MarkTelling, Remarked, Since}
-use Rattle.nr_marks.specs.MarkSteps.{DepartsMarks, HoldsNamedMarks, LooksUpMarks, ReaderLearns}
-use Rattle.nr_marks.specs.Marks.{Marks, acted, gripped, with_look}
-use Rattle.nr_marks.specs.Puts.{put_number}
+use Rattle.nr_core.proofs.HoldNamedMarks.{holds_named_marked, looks_up_marked}
+use Rattle.nr_core.proofs.LearnMarks.{learns_reader}
+use Rattle.nr_core.proofs.ListPlaces.{no_places}
+use Rattle.nr_core.proofs.ReaderMarks.{departs_marked}
+use Rattle.nr_core.specs.Marked.{KnowsMarks, MarkTelling, Remarked, Since}
+use Rattle.nr_core.specs.MarkSteps.{DepartsMarks, HoldsNamedMarks, LooksUpMarks, ReaderLearns}
+use Rattle.nr_core.specs.Marks.{Marks, acted, gripped, with_look}
+use Rattle.nr_core.specs.Puts.{put_number}
 use Rattle.nr_board.proofs.Counting.{counted_same}
 use Rattle.nr_board.proofs.Lift.{Choice, Follows, Makes, allowed, apart, key_inside, key_no_count, keeps_core}
 use Rattle.nr_board.proofs.Lift.{knows_pasts, lends_on, lent_small, makes, sees_plain, words_after}

@@ -31,8 +31,8 @@ use Rattle.nr_board.specs.Callers.{Gains, Grows, Table, map_at_opening, token}
 use Rattle.nr_machine.specs.Spares.{Spare}
 use Rattle.nr_machine.specs.declared.places.Retired.{Retired}
 use Rattle.nr_board.specs.Spares.{AreFewSteps, SearchedAll, TookBySearch, desk_with, spare_of}
-use Rattle.nr_marks.specs.Marks.{Marks, Past, with_loads, with_name, with_polls, with_scan, without_name}
-use Rattle.nr_marks.specs.PollNotes.{Noted}
+use Rattle.nr_core.specs.Marks.{Marks, Past, with_loads, with_name, with_polls, with_scan, without_name}
+use Rattle.nr_core.specs.PollNotes.{Noted}
 use Rattle.nr_board.proofs.Looks.{HasLooked, rests_own}
 use Rattle.nr_board.proofs.ReadingOn.{settled_quiet}
 use Rattle.nr_board.specs.NamedRows.{ReadsAll}

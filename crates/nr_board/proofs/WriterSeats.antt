@@ -11,7 +11,7 @@ use Rattle.nr_machine.specs.declared.roles.Desk.{Desk}
 use Rattle.nr_machine.specs.declared.roles.Role.{Role}
 use Rattle.nr_machine.specs.declared.roles.Role.TheVariants.{Writer}
 use Rattle.nr_machine.specs.declared.shape.Shape.{Shape}
-use Rattle.nr_marks.specs.MarkSteps.{GoesMarks}
+use Rattle.nr_core.specs.MarkSteps.{GoesMarks}
 use Rattle.nr_board.proofs.Tokens.{seat_grows}
 use Rattle.nr_board.specs.Callers.{Table, map_seen, token}
 use Rattle.nr_board.specs.Plays.{Finds, Leads, Looked, Put, Room, Went, call_at, next_put}

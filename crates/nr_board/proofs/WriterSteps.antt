@@ -45,15 +45,15 @@ use Rattle.nr_machine.specs.declared.roles.Role.{Role}
 use Rattle.nr_machine.specs.declared.calls.Refusal.TheVariants as refuse
 use Rattle.nr_machine.specs.declared.roles.Role.TheVariants.{Writer}
 use Rattle.nr_machine.specs.declared.shape.Shape.{Shape}
-use Rattle.nr_marks.proofs.GoMarks.{goes_marked}
-use Rattle.nr_marks.proofs.LookMarks.{looks_marked}
-use Rattle.nr_marks.specs.MarkSteps.{GoesMarks, LooksMarks, PollTells, PollsNext, PutsMarks, went_marks}
-use Rattle.nr_marks.specs.Marked.{IsPresent, KnowsMarks, MarkTelling, NotesPresent, Remarked}
+use Rattle.nr_core.proofs.GoMarks.{goes_marked}
+use Rattle.nr_core.proofs.LookMarks.{looks_marked}
+use Rattle.nr_core.specs.MarkSteps.{GoesMarks, LooksMarks, PollTells, PollsNext, PutsMarks, went_marks}
+use Rattle.nr_core.specs.Marked.{IsPresent, KnowsMarks, MarkTelling, NotesPresent, Remarked}
 use Rattle.nr_core.proofs.Choices.{by_cases}
 use Rattle.nr_board.proofs.Brings.{given_brings, reads_no_fill, wants_brings, writer_entries}
 use Rattle.nr_board.proofs.Learning.{shows_kind}
 use Rattle.nr_board.proofs.Polled.{PolledAll, go_polled, look_polled}
-use Rattle.nr_marks.specs.Marks.{Marks, Past, gripped}
+use Rattle.nr_core.specs.Marks.{Marks, Past, gripped}
 use Rattle.nr_board.proofs.Heard.{zero_at}
 use Rattle.nr_board.proofs.Lift.{Choice, KeepsLent, content_no_count, key_inside, key_no_count, knows_pasts, lends_on}
 use Rattle.nr_board.proofs.Lift.{lifts, sees_alone, sees_plain}

@@ -11,7 +11,7 @@ use Rattle.nr_machine.specs.Writer.{decided, step_in}
 use Rattle.nr_machine.specs.declared.calls.WriterCall.{WriterCall}
 use Rattle.nr_machine.specs.declared.calls.WriterCall.TheVariants.{Fill, Replace, Update}
 use Rattle.nr_machine.specs.declared.places.Place.TheVariants.{Reading}
-use Rattle.nr_marks.specs.Marks.{with_polls}
+use Rattle.nr_core.specs.Marks.{with_polls}
 use Rattle.nr_board.specs.declared.answers.FillFault.{FillFault}
 use Rattle.nr_board.specs.declared.answers.ReplaceFault.{ReplaceFault}
 use Rattle.nr_board.specs.declared.answers.UpdateFault.{UpdateFault}

@@ -9,7 +9,7 @@ use Rattle.nr_model.specs.Histories.{Entry, IsLegal, after, entries_of}
 use Rattle.nr_machine.specs.declared.shape.Shape.{Shape}
 use Rattle.nr_machine.specs.declared.places.Retired.{Retired}
 use Rattle.nr_machine.specs.Story.{entry, opening_map}
-use Rattle.nr_marks.specs.Marks.{Marks, Past, gripped}
+use Rattle.nr_core.specs.Marks.{Marks, Past, gripped}
 use Rattle.nr_board.specs.Entries.{AreCallers}
 use Rattle.nr_board.specs.Views.{View, desk_of, grip_of, caller_number, view_of}
 

@@ -6,9 +6,9 @@ use Rattle.nr_model.specs.declared.calls.Reply.TheVariants as reply
 use Rattle.nr_model.specs.declared.rows.Row.{Row}
 use Rattle.nr_words.specs.KeyWords.{is_filled, slot_of}
 use Rattle.nr_machine.specs.Slots.{content, name_number, names_slot}
-use Rattle.nr_marks.specs.Marks.{LoggedLoad, Marks, OfKey, acted, with_loads, with_look}
-use Rattle.nr_marks.specs.MarkSteps.{found_again}
-use Rattle.nr_marks.specs.Puts.{put_number}
+use Rattle.nr_core.specs.Marks.{LoggedLoad, Marks, OfKey, acted, with_loads, with_look}
+use Rattle.nr_core.specs.MarkSteps.{found_again}
+use Rattle.nr_core.specs.Puts.{put_number}
 use Rattle.nr_board.specs.declared.holds.Held.{Held}
 use Rattle.nr_board.specs.Callers.{Caller, Gains, Grows, Table, token}
 use Rattle.nr_board.specs.Seats.{AnnouncesAt, HoldsAt, IdlesAt}

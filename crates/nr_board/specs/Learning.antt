@@ -6,9 +6,9 @@ use Rattle.nr_core.specs.Core.{AreNumbers}
 use Rattle.nr_machine.specs.Story.{map_after}
 use Rattle.nr_machine.specs.declared.roles.Role.{Role}
 use Rattle.nr_machine.specs.declared.roles.Role.TheVariants.{Note, Reader, Writer}
-use Rattle.nr_marks.specs.Exact.{Lists}
-use Rattle.nr_marks.specs.Marks.{Past}
-use Rattle.nr_marks.specs.Pasts.{Compared, Refreshed}
+use Rattle.nr_core.specs.Exact.{Lists}
+use Rattle.nr_core.specs.Marks.{Past}
+use Rattle.nr_core.specs.Pasts.{Compared, Refreshed}
 use Rattle.nr_board.specs.Callers.{caller_of}
 use Rattle.nr_board.specs.Kinds.{kind_of, kind_shown}
 use Rattle.nr_board.specs.Meetings.{Learns}

@@ -10,10 +10,10 @@ use Rattle.nr_board.specs.Callers.{Caller, Table, map_seen, map_at_opening}
 use Rattle.nr_board.specs.Kinds.{kind_of}
 use Rattle.nr_machine.specs.declared.places.Place.TheVariants.{Idle}
 use Rattle.nr_machine.specs.declared.roles.Desk.{Desk}
-use Rattle.nr_marks.specs.Exact.{Lists}
-use Rattle.nr_marks.specs.Marks.{Past}
-use Rattle.nr_marks.specs.Pasts.{Current}
-use Rattle.nr_marks.specs.Puts.{put_number}
+use Rattle.nr_core.specs.Exact.{Lists}
+use Rattle.nr_core.specs.Marks.{Past}
+use Rattle.nr_core.specs.Pasts.{Current}
+use Rattle.nr_core.specs.Puts.{put_number}
 use Rattle.nr_board.specs.Entries.{AreCallers}
 use Rattle.nr_board.specs.Rule.{StartsWith}
 

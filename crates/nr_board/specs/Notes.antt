@@ -4,7 +4,7 @@ use Rattle.atomic_table.specs.declared.shared.Seat.{Seat}
 use Rattle.nr_machine.specs.declared.roles.Role.{Role}
 use Rattle.nr_machine.specs.declared.roles.Role.TheVariants.{Note}
 use Rattle.nr_core.specs.Roles.{is_reader, is_writer}
-use Rattle.nr_marks.specs.Marks.{no_marks, told_by}
+use Rattle.nr_core.specs.Marks.{no_marks, told_by}
 use Rattle.nr_board.specs.Views.{no_shape, View, view_of, carried_by}
 
 -- a writer or a reader, and no note

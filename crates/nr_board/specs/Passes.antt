@@ -13,7 +13,7 @@ use Rattle.nr_machine.specs.declared.places.Place.TheVariants.{Searching}
 use Rattle.nr_machine.specs.declared.places.Retired.{Retired}
 use Rattle.nr_machine.specs.declared.roles.Desk.{Desk}
 use Rattle.nr_machine.specs.declared.roles.Role.TheVariants.{Writer}
-use Rattle.nr_marks.specs.Marks.{OfSlot, Past, with_scan}
+use Rattle.nr_core.specs.Marks.{OfSlot, Past, with_scan}
 use Rattle.nr_board.specs.declared.publish.Taken.{Taken}
 use Rattle.nr_board.specs.Callers.{Grows, Table, token}
 use Rattle.nr_board.specs.SearchSeats.{SearchesIn}

@@ -36,10 +36,10 @@ use Rattle.nr_core.specs.Roles.{retirements}
 use Rattle.nr_machine.specs.Story.{call_of, ending, entry, map_after}
 use Rattle.nr_machine.specs.Writer.{desk_in, looked, moved_to, step_in, went}
 use Rattle.nr_machine.specs.Sums.{only, total}
-use Rattle.nr_marks.specs.MarkSteps.{ComparesPuts, GoesMarks, LooksMarks, found_again}
-use Rattle.nr_marks.specs.Marks.{Marks, Past, acted, with_look}
-use Rattle.nr_marks.specs.PollNotes.{AllHeld}
-use Rattle.nr_marks.specs.Puts.{put_number}
+use Rattle.nr_core.specs.MarkSteps.{ComparesPuts, GoesMarks, LooksMarks, found_again}
+use Rattle.nr_core.specs.Marks.{Marks, Past, acted, with_look}
+use Rattle.nr_core.specs.PollNotes.{AllHeld}
+use Rattle.nr_core.specs.Puts.{put_number}
 use Rattle.nr_board.specs.Announcing.{heard_at}
 use Rattle.nr_board.specs.Entries.{acts_told, to_depart}
 use Rattle.nr_board.specs.Kinds.{kind_of, kind_shown}

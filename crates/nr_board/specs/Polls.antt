@@ -3,7 +3,7 @@ use Rattle.std.specs.Prelude.{◌≡◌, ℕ, ◌+◌, List}
 use mathlib.Core.Option.{some}
 use lib.ListN.{get_elem?}
 use Rattle.nr_model.specs.Histories.{Entry, entries_of}
-use Rattle.nr_marks.specs.Marks.{Past}
+use Rattle.nr_core.specs.Marks.{Past}
 use Rattle.nr_board.specs.Entries.{acts_told}
 use Rattle.nr_board.specs.Rule.{StartsWith}
 

@@ -14,9 +14,9 @@ use Rattle.nr_machine.specs.declared.places.Retired.{Retired}
 use Rattle.nr_machine.specs.declared.roles.Desk.{Desk}
 use Rattle.nr_machine.specs.declared.roles.Role.TheVariants.{Writer}
 use Rattle.nr_machine.specs.declared.shape.Shape.{Shape}
-use Rattle.nr_marks.specs.Marks.{OfSlot, Past, LoggedLoad, set_in, with_reaped, with_scan}
-use Rattle.nr_marks.specs.MarkSteps.{ProbeTells}
-use Rattle.nr_marks.specs.PollNotes.{AllHeld}
+use Rattle.nr_core.specs.Marks.{OfSlot, Past, LoggedLoad, set_in, with_reaped, with_scan}
+use Rattle.nr_core.specs.MarkSteps.{ProbeTells}
+use Rattle.nr_core.specs.PollNotes.{AllHeld}
 use Rattle.nr_board.specs.declared.answers.Reaped.{Reaped}
 use Rattle.nr_board.specs.declared.answers.Reaped.TheVariants as reaped
 use Rattle.nr_board.specs.declared.reaping.Sweep.{Sweep}

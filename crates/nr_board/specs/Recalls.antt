@@ -7,8 +7,8 @@ use Rattle.nr_words.specs.SetWords.{encode}
 use Rattle.nr_machine.specs.Slots.{bound_of, content}
 use Rattle.nr_machine.specs.declared.roles.Desk.{Desk}
 use Rattle.nr_machine.specs.declared.roles.Role.TheVariants.{Writer}
-use Rattle.nr_marks.specs.Marked.{Untouched}
-use Rattle.nr_marks.specs.Marks.{set_in}
+use Rattle.nr_core.specs.Marked.{Untouched}
+use Rattle.nr_core.specs.Marks.{set_in}
 use Rattle.nr_board.specs.Callers.{Table, token}
 use Rattle.nr_board.specs.Notes.{has_noted}
 use Rattle.nr_board.specs.Plays.{Then}

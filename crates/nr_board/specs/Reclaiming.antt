@@ -11,7 +11,7 @@ use Rattle.nr_model.specs.declared.rows.Row.{Row}
 use Rattle.nr_machine.specs.Spares.{Spare}
 use Rattle.nr_machine.specs.declared.calls.NoSlot.{NoSlot}
 use Rattle.nr_machine.specs.declared.calls.WriterCall.{WriterCall}
-use Rattle.nr_marks.specs.Marks.{Marks, set_in}
+use Rattle.nr_core.specs.Marks.{Marks, set_in}
 use Rattle.nr_board.specs.declared.answers.FillFault.{FillFault}
 use Rattle.nr_board.specs.declared.answers.Reclaimed.{Reclaimed}
 use Rattle.nr_board.specs.declared.answers.Reclaimed.TheVariants as reclaimed

@@ -16,7 +16,7 @@ use Rattle.nr_machine.specs.declared.places.Place.TheVariants.{Idle, Searching}
 use Rattle.nr_machine.specs.declared.places.Retired.{Retired}
 use Rattle.nr_machine.specs.declared.roles.Desk.{Desk}
 use Rattle.nr_machine.specs.declared.roles.Role.TheVariants.{Writer}
-use Rattle.nr_marks.specs.Marks.{Past, LoggedLoad, with_scan}
+use Rattle.nr_core.specs.Marks.{Past, LoggedLoad, with_scan}
 use Rattle.nr_board.specs.declared.publish.Taken.{Taken}
 use Rattle.nr_board.specs.Callers.{Grows, Table, map_seen, token}
 use Rattle.nr_board.specs.Spares.{SearchedTo, heard_all, held_polls}

@@ -10,8 +10,8 @@ use Rattle.nr_machine.specs.declared.roles.Role.{Role}
 use Rattle.nr_machine.specs.Sums.{total}
 use Rattle.nr_core.specs.Core.{Core}
 use Rattle.nr_core.specs.Roles.{is_by, is_reader, is_writer}
-use Rattle.nr_marks.specs.Marked.{Knowing, Marked}
-use Rattle.nr_marks.specs.Marks.{Marks, Past, gripped}
+use Rattle.nr_core.specs.Marked.{Knowing, Marked}
+use Rattle.nr_core.specs.Marks.{Marks, Past, gripped}
 use Rattle.nr_board.specs.Entries.{AreCallers, acts_told, to_depart}
 use Rattle.nr_board.specs.Announcing.{Announces, Counted, Hears, lent}
 use Rattle.nr_board.specs.Views.{View, grip_of}

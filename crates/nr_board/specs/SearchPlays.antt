@@ -16,8 +16,8 @@ use Rattle.nr_machine.specs.declared.places.Place.TheVariants.{Idle, Searching}
 use Rattle.nr_machine.specs.declared.roles.Role.TheVariants.{Writer}
 use Rattle.nr_machine.specs.Slots.{departures}
 use Rattle.nr_machine.specs.declared.roles.Desk.{Desk}
-use Rattle.nr_marks.specs.MarkSteps.{TryTells}
-use Rattle.nr_marks.specs.Marks.{Past, with_scan}
+use Rattle.nr_core.specs.MarkSteps.{TryTells}
+use Rattle.nr_core.specs.Marks.{Past, with_scan}
 use Rattle.nr_board.specs.Plays.{Leads, NotesTell, Room, Then}
 use Rattle.nr_board.specs.Announcing.{says_at}
 use Rattle.nr_board.specs.Scans.{heard_before, heard_from}

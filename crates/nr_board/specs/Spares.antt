@@ -8,7 +8,7 @@ use Rattle.nr_machine.specs.declared.places.Place.{Place}
 use Rattle.nr_machine.specs.declared.places.Retired.{Retired}
 use Rattle.nr_machine.specs.declared.roles.Desk.{Desk}
 use Rattle.nr_machine.specs.Spares.{Spare}
-use Rattle.nr_marks.specs.Marks.{OfSlot, LoggedLoad}
+use Rattle.nr_core.specs.Marks.{OfSlot, LoggedLoad}
 use Rattle.nr_board.specs.Callers.{Caller, Table}
 use Rattle.nr_board.specs.WordLoads.{WordsTell}
 

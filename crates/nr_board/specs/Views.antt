@@ -13,7 +13,7 @@ use Rattle.nr_machine.specs.declared.roles.Role.TheVariants.{Writer, Reader, Not
 use Rattle.nr_machine.specs.declared.roles.Grip.{Grip}
 use Rattle.nr_machine.specs.declared.roles.Grip.TheVariants.{Nothing, On}
 use Rattle.nr_machine.specs.States.{opening_desk}
-use Rattle.nr_marks.specs.Marks.{Marks, Past, no_marks, opening_marks}
+use Rattle.nr_core.specs.Marks.{Marks, Past, no_marks, opening_marks}
 use Rattle.nr_board.specs.declared.board.Plan.{Plan}
 
 pub record View : Type 0 where

@@ -6,7 +6,7 @@ use mathlib.Core.Option.{some}
 use lib.ListN.{get_elem?}
 use Rattle.nr_machine.specs.Sums.{only, total}
 use Rattle.nr_machine.specs.declared.places.Retired.{Retired}
-use Rattle.nr_marks.specs.Marks.{Past, LoggedLoad, with_loads, with_scan}
+use Rattle.nr_core.specs.Marks.{Past, LoggedLoad, with_loads, with_scan}
 use Rattle.nr_core.specs.Roles.{retirements}
 use Rattle.nr_board.specs.SearchPlays.{scan_base}
 use Rattle.nr_board.specs.Views.{View}

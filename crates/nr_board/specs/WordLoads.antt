@@ -3,7 +3,7 @@
 use Rattle.std.specs.Prelude.{◌≡◌, ℕ, zero, suc, ◌<◌, ◌==◌, if◌then◌else◌, nat_lt, List, [], ◌∷◌, ◌++◌, length}
 use Rattle.nr_core.specs.Roles.{retirements}
 use Rattle.nr_machine.specs.declared.places.Retired.{Retired}
-use Rattle.nr_marks.specs.Marks.{OfWord, LoggedLoad}
+use Rattle.nr_core.specs.Marks.{OfWord, LoggedLoad}
 
 -- readers count from 1, their words from 0
 abbrev pub word_load : ℕ → ℕ → LoggedLoad

@@ -31,9 +31,9 @@ use Rattle.nr_board.specs.Callers.{Caller, Gains, Grows, map_at_opening}
 use Rattle.nr_board.specs.Plays.{Lacks}
 use Rattle.nr_machine.specs.Spares.{Spare}
 use Rattle.nr_board.specs.Spares.{AreFewSteps, SearchedAll, TookBySearch, spare_of}
-use Rattle.nr_marks.specs.Marks.{Marks, LoggedLoad, with_loads, with_name, with_polls, with_scan, without_name}
-use Rattle.nr_marks.specs.Puts.{put_count}
-use Rattle.nr_marks.specs.PollNotes.{Noted}
+use Rattle.nr_core.specs.Marks.{Marks, LoggedLoad, with_loads, with_name, with_polls, with_scan, without_name}
+use Rattle.nr_core.specs.Puts.{put_count}
+use Rattle.nr_core.specs.PollNotes.{Noted}
 use Rattle.nr_board.specs.Polls.{AllHeldThen}
 
 -- the writer's slots and numbers are as they were, and what it heard, and the call polled none

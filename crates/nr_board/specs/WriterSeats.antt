@@ -29,10 +29,10 @@ use Rattle.nr_board.specs.Announcing.{heard_at}
 use Rattle.nr_board.specs.Spares.{AreFewSteps, SearchedAll, TookBySearch, desk_with}
 use Rattle.nr_board.specs.Plays.{Finds, Lacks, NotesTell, Room, SwapsAt, call_at, next_put}
 use Rattle.nr_board.specs.Polls.{AllHeldThen}
-use Rattle.nr_marks.specs.MarkSteps.{GoesMarks}
-use Rattle.nr_marks.specs.Marks.{LoggedLoad, with_loads, with_name, with_scan}
-use Rattle.nr_marks.specs.PollNotes.{Noted}
-use Rattle.nr_marks.specs.Puts.{put_count}
+use Rattle.nr_core.specs.MarkSteps.{GoesMarks}
+use Rattle.nr_core.specs.Marks.{LoggedLoad, with_loads, with_name, with_scan}
+use Rattle.nr_core.specs.PollNotes.{Noted}
+use Rattle.nr_core.specs.Puts.{put_count}
 use Rattle.nr_board.specs.Views.{View, view_of}
 
 abbrev pub MapSeat : Type 0

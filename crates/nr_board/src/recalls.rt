@@ -1,7 +1,7 @@
 //! How the writer reads the set that was put into a slot last.
 ghost use Rattle.std.specs.Prelude.{◌≡◌, ◌<◌, ◌+◌, ◌*◌, length};
 ghost use Rattle.nr_model.specs.Rows.{IsRowSet};
-ghost use Rattle.nr_marks.specs.Marks.{set_in};
+ghost use Rattle.nr_core.specs.Marks.{set_in};
 ghost use Rattle.nr_board.specs.Recalls.{RecallsAt, waited};
 ghost use Rattle.nr_board.specs.Views.{view_of};
 
@@ -18,7 +18,7 @@ pub struct Recalled<'a> {
 }
 
 impl RowSource for Recalled<'_> {
-    ghost use Rattle.nr_marks.specs.Marks.{set_in};
+    ghost use Rattle.nr_core.specs.Marks.{set_in};
     ghost use Rattle.nr_board.specs.RecalledRows.{GaveRecalled, gives_more, gives_none};
     ghost use Rattle.nr_board.specs.Recalls.{RecallsRows};
     ghost use Rattle.nr_board.specs.Views.{view_of};

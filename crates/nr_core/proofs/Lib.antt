@@ -27,6 +27,21 @@ pub mod Counting
 pub mod Numbers
 pub mod WordPlaces
 pub mod Reach
+-- And of what tokens learn of each other.
+pub mod ListPlaces
+pub mod PutNumbers
+pub mod Knowing
+pub mod ReaderMarks
+pub mod HoldNamedMarks
+pub mod LookMarks
+pub mod Different
+pub mod ReapMarks
+pub mod SearchMarks
+pub mod GoMarks
+pub mod LearnMarks
+pub mod FindAgainMarks
+pub mod SeatMarks
+pub mod ExactPlace
 -- This crate's own.
 mod Shapes
 mod OnKey
@@ -51,3 +66,13 @@ mod Follows
 mod Runs
 mod Justified
 mod Schedules
+mod MarksSince
+mod TakenSlots
+mod DeskMarks
+mod SwapMarks
+mod PollMarks
+mod HowOften
+mod Tidy
+mod Strays
+mod PutLists
+mod ByHistory

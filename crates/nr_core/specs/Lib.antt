@@ -5,3 +5,11 @@ pub mod Accounts
 pub mod Laws
 pub mod Reach
 pub mod StepLaws
+pub mod Puts
+pub mod Marks
+pub mod PollNotes
+pub mod Pasts
+pub mod Marked
+pub mod Exact
+pub mod MarkSteps
+pub mod MarkLaws

@@ -6,6 +6,7 @@
 //! core state stands again, and this is what the operation told the caller.
 ghost use Rattle.nr_core.specs.Laws.{EverySchedule, SlotBound, RunGoesOn};
 ghost use Rattle.nr_core.specs.StepLaws.{ArriveLaw, AskLaw, LookUpLaw, HoldNamedLaw, ReadLaw, FindAgainLaw, DepartLaw, LookLaw, GoLaw, TryLaw, GiveUpLaw, LearnLaw, OpeningLaw, SeatLaw, NoteLaw};
+ghost use Rattle.nr_core.specs.MarkLaws.{NoSlotByMarks, DoneByMarks, PutGoesOn};
 
 /// Whatever the callers attempt, in any order: the history is legal, the words show its map, the
 /// writer lists each key's ticket number, each slot is accounted for, a held slot is not written, and each
@@ -99,4 +100,21 @@ pub fn seats()
 /// A note joins.
 pub fn notes()
     ensures { NoteLaw }
+{}
+
+/// Where every reader is gathered after each call, a call ends with no slot only where the filled
+/// keys and the different pinned put numbers that no key has are all the slots.
+pub fn no_slot_by_marks()
+    ensures { NoSlotByMarks }
+{}
+
+/// A fill or an update is done only where they are fewer.
+pub fn done_by_marks()
+    ensures { DoneByMarks }
+{}
+
+/// With one entry more a history has put one set more, if that entry put one, and the number of the
+/// set is then its key's.
+pub fn put_goes_on()
+    ensures { PutGoesOn }
 {}

@@ -1,5 +1,6 @@
 //! The step machine (`nr_machine`) in the states to which its callers' steps lead. The laws here speak
-//! of all orders in which these steps can fall.
+//! of all orders in which these steps can fall, and of what tokens learn of each other by them: contracts
+//! alone see those marks.
 //!
 //! `Core` (in specs/) says what stands between any two steps, `CanStep` that a caller can make a step
 //! whatever the core state is; each kind of step has one law of that form (`laws`, and StepLaws in

@@ -6,7 +6,7 @@ use Rattle.nr_model.specs.declared.calls.Call.TheVariants as model
 use Rattle.nr_model.specs.declared.calls.Reply.{Reply}
 use Rattle.nr_model.specs.declared.calls.Reply.TheVariants as reply
 use Rattle.nr_model.specs.Histories.{Entry}
-use Rattle.nr_marks.specs.Puts.{puts_at}
+use Rattle.nr_core.specs.Puts.{puts_at}
 use Rattle.nr_board.specs.Callers.{Gains}
 use Rattle.nr_map.specs.Written.{FindsWhatItHeard}
 use Rattle.nr_ids.specs.Events.{name_of}

@@ -3,7 +3,7 @@ use Rattle.std.proofs.Common.{◌≡◌, ◌<◌, ℕ, true, List, [], ◌∷◌
 use Rattle.std.proofs.Common.{append-nil, inl, inr, ⊎_elim}
 use Rattle.nr_model.specs.declared.rows.Row.{Row}
 use Rattle.nr_model.specs.Histories.{Entry}
-use Rattle.nr_marks.specs.Puts.{puts_at}
+use Rattle.nr_core.specs.Puts.{puts_at}
 use Rattle.nr_board.specs.Callers.{Caller, Grows}
 use Rattle.nr_board.specs.Rule.{StartsWith}
 use Rattle.nr_ids.specs.Events.{Event, name_of}

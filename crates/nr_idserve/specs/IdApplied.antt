@@ -2,7 +2,7 @@
 use Rattle.std.specs.Prelude.{◌≡◌, ◌⊎◌, ◌<◌, ◌≤◌, ℕ, true, List, ◌∷◌, [], ◌++◌, Option, None, Some, slice_index}
 use Rattle.nr_model.specs.declared.rows.Row.{Row}
 use Rattle.nr_model.specs.Histories.{Entry}
-use Rattle.nr_marks.specs.Puts.{puts_at}
+use Rattle.nr_core.specs.Puts.{puts_at}
 use Rattle.nr_board.specs.Meetings.{known_to}
 use Rattle.nr_board.specs.Rule.{StartsWith}
 use Rattle.nr_ids.specs.Events.{name_of}

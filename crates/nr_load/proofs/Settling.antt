@@ -7,7 +7,7 @@ use Rattle.std.proofs.lemmas.List.Elements.{All-cons, All-head, All-nil, All-tai
 use Rattle.std.proofs.lemmas.Option.{get_or_from_slice_get}
 use Rattle.nr_model.specs.Histories.{Entry}
 use Rattle.nr_machine.specs.Sums.{total}
-use Rattle.nr_marks.specs.Marks.{no_marks}
+use Rattle.nr_core.specs.Marks.{no_marks}
 use Rattle.nr_board.specs.Callers.{Caller, Table}
 use Rattle.nr_map.specs.Opened.{newcomer}
 use Rattle.nr_map.specs.Rounds.{is_cancel, is_fill, is_sent}

@@ -23,9 +23,9 @@ use Rattle.nr_model.specs.declared.calls.Call.TheVariants as model
 use Rattle.nr_model.specs.declared.calls.Reply.{Reply}
 use Rattle.nr_model.specs.declared.calls.Reply.TheVariants as reply
 use Rattle.nr_model.specs.declared.rows.Row.{Row}
-use Rattle.nr_marks.specs.Marks.{Marks, Past, LoggedLoad, is_reaped, set_in, with_scan}
-use Rattle.nr_marks.specs.Pasts.{Living}
-use Rattle.nr_marks.specs.Puts.{put_count}
+use Rattle.nr_core.specs.Marks.{Marks, Past, LoggedLoad, is_reaped, set_in, with_scan}
+use Rattle.nr_core.specs.Pasts.{Living}
+use Rattle.nr_core.specs.Puts.{put_count}
 use Rattle.nr_board.specs.declared.answers.Cancel.{Cancel}
 use Rattle.nr_board.specs.declared.answers.Cancel.TheVariants as cancel
 use Rattle.nr_board.specs.declared.answers.Evict.{Evict}

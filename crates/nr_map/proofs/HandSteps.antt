@@ -17,9 +17,9 @@ use Rattle.nr_machine.specs.declared.roles.Grip.{Grip}
 use Rattle.nr_machine.specs.declared.roles.Grip.TheVariants.{Nothing}
 use Rattle.nr_machine.specs.declared.roles.Role.{Role}
 use Rattle.nr_machine.specs.declared.roles.Role.TheVariants.{Reader}
-use Rattle.nr_marks.specs.Marks.{LoggedLoad, Marks, OfKey, acted, gripped, with_loads, with_look}
-use Rattle.nr_marks.specs.MarkSteps.{found_again}
-use Rattle.nr_marks.specs.Puts.{put_number}
+use Rattle.nr_core.specs.Marks.{LoggedLoad, Marks, OfKey, acted, gripped, with_loads, with_look}
+use Rattle.nr_core.specs.MarkSteps.{found_again}
+use Rattle.nr_core.specs.Puts.{put_number}
 use Rattle.nr_board.proofs.Holding.{grows_gains, rests_gains}
 use Rattle.nr_board.proofs.ReaderSeats.{held_says}
 use Rattle.nr_board.proofs.Tokens.{MapSeat}

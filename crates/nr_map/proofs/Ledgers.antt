@@ -26,9 +26,9 @@ use Rattle.nr_model.specs.declared.rows.Row.{Row}
 use Rattle.nr_model.specs.declared.states.KeyState.{KeyState}
 use Rattle.nr_model.specs.declared.states.KeyState.TheVariants.{Asked, Hole, Rows}
 use Rattle.nr_machine.specs.Story.{entry}
-use Rattle.nr_marks.specs.Marks.{Marks, Past, LoggedLoad, with_scan}
-use Rattle.nr_marks.specs.Pasts.{Living}
-use Rattle.nr_marks.specs.Puts.{put_count, puts_set}
+use Rattle.nr_core.specs.Marks.{Marks, Past, LoggedLoad, with_scan}
+use Rattle.nr_core.specs.Pasts.{Living}
+use Rattle.nr_core.specs.Puts.{put_count, puts_set}
 use Rattle.nr_board.specs.declared.answers.Cancel.TheVariants as cancel
 use Rattle.nr_board.specs.declared.answers.Evict.TheVariants as evict
 use Rattle.nr_board.specs.Callers.{Caller, Gains, Table, map_at_opening}

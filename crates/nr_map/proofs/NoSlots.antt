@@ -4,13 +4,13 @@ use Rattle.std.proofs.Common.{◌∙◌, subst, arith}
 use Rattle.nr_model.specs.Maps.{filled_count}
 use Rattle.nr_machine.specs.declared.places.Retired.{Retired}
 use Rattle.nr_machine.specs.declared.shape.Shape.{Shape}
-use Rattle.nr_marks.specs.MarkLaws.{DoneByMarks, NoSlotByMarks}
-use Rattle.nr_marks.specs.Exact.{TookSpare}
-use Rattle.nr_marks.specs.Marks.{Marks, Past}
-use Rattle.nr_marks.specs.Pasts.{AllReaders}
-use Rattle.nr_marks.specs.PollNotes.{AllHeld, Noted}
-use Rattle.nr_marks.proofs.PutNumbers.{count_grows, count_more}
-use Rattle.nr_marks.specs.Puts.{put_count}
+use Rattle.nr_core.specs.MarkLaws.{DoneByMarks, NoSlotByMarks}
+use Rattle.nr_core.specs.Exact.{TookSpare}
+use Rattle.nr_core.specs.Marks.{Marks, Past}
+use Rattle.nr_core.specs.Pasts.{AllReaders}
+use Rattle.nr_core.specs.PollNotes.{AllHeld, Noted}
+use Rattle.nr_core.proofs.PutNumbers.{count_grows, count_more}
+use Rattle.nr_core.specs.Puts.{put_count}
 use Rattle.nr_machine.specs.Story.{entry, map_after}
 use Rattle.nr_model.specs.declared.calls.Call.{Call}
 use Rattle.nr_model.specs.declared.calls.Reply.TheVariants as reply

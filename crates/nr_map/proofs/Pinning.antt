@@ -14,8 +14,8 @@ use Rattle.nr_model.specs.Rows.{IsRowSet}
 use Rattle.nr_machine.specs.Slots.{name_number}
 use Rattle.nr_machine.specs.Story.{entry}
 use Rattle.nr_machine.specs.declared.roles.Role.{Role}
-use Rattle.nr_marks.specs.Marks.{LoggedLoad, Marks, acted, gripped, with_loads}
-use Rattle.nr_marks.specs.Puts.{put_number}
+use Rattle.nr_core.specs.Marks.{LoggedLoad, Marks, acted, gripped, with_loads}
+use Rattle.nr_core.specs.Puts.{put_number}
 use Rattle.nr_board.proofs.Holding.{rests_gains}
 use Rattle.nr_board.proofs.Tokens.{MapSeat, grows_rests}
 use Rattle.nr_board.specs.Callers.{Caller, Gains, Rests, Table, map_at_opening, token}

@@ -8,7 +8,7 @@ use mathlib.Core.Option.{some, some-injective, some-ne-none}
 use native.Mathlib.Decide.{dec_le}
 use Rattle.nr_model.specs.Strays.{count_of_put}
 use Rattle.nr_model.specs.declared.rows.Row.{Row}
-use Rattle.nr_marks.specs.Marks.{is_reaped}
+use Rattle.nr_core.specs.Marks.{is_reaped}
 use Rattle.nr_board.specs.Callers.{Caller}
 use Rattle.nr_map.specs.Reclaims.{standing, unreaped}
 use Rattle.nr_map.specs.Remains.{AllComeOut, Given, Left, NextSlot, NoMore, OneMore, RestComesOutOnce, given_at}

@@ -7,7 +7,7 @@ use Rattle.std.proofs.lemmas.Bool.{cases_eq, cases_Bool, cases_lt, eq-eqb, ne_eq
 use Rattle.std.proofs.lemmas.List.{length-set, length-replicate}
 use Rattle.nr_core.proofs.Histories.{length-after}
 use Rattle.nr_machine.specs.Story.{entry}
-use Rattle.nr_marks.specs.Puts.{puts_at}
+use Rattle.nr_core.specs.Puts.{puts_at}
 use Rattle.nr_model.proofs.LawLemmas.{legal_begins_lem, legal_goes_on_lem}
 use Rattle.nr_board.specs.Callers.{Caller, Gains, Table, map_at_opening}
 use Rattle.nr_board.specs.Meetings.{Known}

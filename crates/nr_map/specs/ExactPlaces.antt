@@ -4,10 +4,10 @@ use Rattle.std.specs.Prelude.{◌≡◌, ℕ, ◌<◌, List}
 use Rattle.nr_model.specs.declared.calls.Call.{Call}
 use Rattle.nr_model.specs.declared.rows.Row.{Row}
 use Rattle.nr_machine.specs.declared.calls.NoSlot.{NoSlot}
-use Rattle.nr_marks.specs.Exact.{Lists}
-use Rattle.nr_marks.specs.MarkLaws.{slots_in_use}
-use Rattle.nr_marks.specs.Marks.{Past}
-use Rattle.nr_marks.specs.Pasts.{AllCurrent, AllKnown, AllReaders}
+use Rattle.nr_core.specs.Exact.{Lists}
+use Rattle.nr_core.specs.MarkLaws.{slots_in_use}
+use Rattle.nr_core.specs.Marks.{Past}
+use Rattle.nr_core.specs.Pasts.{AllCurrent, AllKnown, AllReaders}
 use Rattle.nr_board.specs.WriterAnswers.{HasNoSlot, Publishes}
 use Rattle.nr_board.specs.Callers.{Caller}
 use Rattle.nr_board.specs.Meetings.{desk_seen}

@@ -6,8 +6,8 @@ use Rattle.nr_model.specs.declared.rows.Row.{Row}
 use Rattle.nr_model.specs.Rows.{IsRowSet}
 use Rattle.nr_model.specs.declared.calls.Call.TheVariants as model
 use Rattle.nr_model.specs.declared.calls.Reply.TheVariants as reply
-use Rattle.nr_marks.specs.Marks.{LoggedLoad, Marks, acted, with_loads}
-use Rattle.nr_marks.specs.Puts.{put_number}
+use Rattle.nr_core.specs.Marks.{LoggedLoad, Marks, acted, with_loads}
+use Rattle.nr_core.specs.Puts.{put_number}
 use Rattle.nr_board.specs.declared.answers.Found.{Found}
 use Rattle.nr_board.specs.declared.answers.Found.TheVariants as found
 use Rattle.nr_board.specs.Callers.{Caller, Gains, Grows, Rests, token}

@@ -2,7 +2,7 @@
 use Rattle.std.specs.Prelude.{◌≡◌, ℕ, ◌+◌, ◌<◌, List, [], All, length, None, Some, replicate, slice_get}
 use Rattle.nr_machine.specs.declared.shape.Shape.{Shape}
 use Rattle.atomic_table.specs.declared.shared.Seat.{Seat}
-use Rattle.nr_marks.specs.Marks.{Marks, no_marks, opening_marks}
+use Rattle.nr_core.specs.Marks.{Marks, no_marks, opening_marks}
 use Rattle.nr_board.specs.Callers.{Caller, Table}
 use Rattle.nr_board.specs.Views.{View, opener, view_of}
 

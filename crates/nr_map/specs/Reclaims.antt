@@ -10,9 +10,9 @@ use Rattle.nr_model.specs.declared.calls.Reply.{Reply}
 use Rattle.nr_model.specs.Histories.{is_done}
 use Rattle.nr_model.specs.declared.rows.Row.{Row}
 use Rattle.nr_model.specs.Strays.{count_of_put}
-use Rattle.nr_marks.specs.Marks.{Past, LoggedLoad, is_reaped}
-use Rattle.nr_marks.specs.Pasts.{Current, Living}
-use Rattle.nr_marks.specs.Puts.{put_count}
+use Rattle.nr_core.specs.Marks.{Past, LoggedLoad, is_reaped}
+use Rattle.nr_core.specs.Pasts.{Current, Living}
+use Rattle.nr_core.specs.Puts.{put_count}
 use Rattle.nr_board.specs.declared.answers.Cancel.{Cancel}
 use Rattle.nr_board.specs.declared.answers.Evict.{Evict}
 use Rattle.nr_board.specs.Callers.{Caller, Gains, Table}

@@ -4,8 +4,8 @@ use Rattle.std.specs.Prelude.{Option, Some, None}
 use Rattle.nr_model.specs.Strays.{count_of_put}
 use Rattle.nr_model.specs.declared.rows.Row.{Row}
 use Rattle.nr_model.specs.Rows.{IsRowSet}
-use Rattle.nr_marks.specs.Marks.{Marks, is_reaped, set_in}
-use Rattle.nr_marks.specs.Puts.{put_count}
+use Rattle.nr_core.specs.Marks.{Marks, is_reaped, set_in}
+use Rattle.nr_core.specs.Puts.{put_count}
 use Rattle.nr_board.specs.Callers.{Caller}
 use Rattle.nr_board.specs.Meetings.{with_steps}
 use Rattle.nr_map.specs.Reclaims.{Ledger}

@@ -57,14 +57,14 @@ pub fn beginnings_meet()
 pub fn no_slot_means_all_in_use()
     ensures { NoSlotMeansAllInUse }
 {
-    nr_marks::laws::no_slot_by_marks();
+    nr_core::laws::no_slot_by_marks();
 }
 
 /// Where it gathers them before and after a fill or an update that was done, they were fewer.
 pub fn done_means_fewer_in_use()
     ensures { DoneMeansFewerInUse }
 {
-    nr_marks::laws::done_by_marks();
+    nr_core::laws::done_by_marks();
 }
 
 /// A fill or an update that is done searches in few steps: where no reader has a word of its own, it

@@ -1,7 +1,7 @@
 //! A reader that holds a set, and reads it as often as it likes.
 ghost use Rattle.std.specs.Prelude.{◌≡◌, ◌↔◌, ◌<◌, ◌≤◌, ◌*◌, length, slice_get, true, IsSome, None, Some};
 ghost use Rattle.nr_model.specs.Rows.{IsRowSet};
-ghost use Rattle.nr_marks.specs.Marks.{acted};
+ghost use Rattle.nr_core.specs.Marks.{acted};
 ghost use Rattle.nr_board.specs.Holds.{HoldsWhatItSays, LooksAgain};
 ghost use Rattle.nr_board.specs.Meetings.{HasPut};
 ghost use Rattle.nr_board.specs.Callers.{Rests};

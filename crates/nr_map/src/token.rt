@@ -1,6 +1,6 @@
 //! What a reader, a pin and a hand have in common: the token of a reader, whatever it holds.
 ghost use Rattle.std.specs.Prelude.{◌≡◌, ◌↔◌, ◌<◌, ◌*◌, ◌^◌, suc, length, slice_get, true, Some};
-ghost use Rattle.nr_marks.specs.Marks.{acted};
+ghost use Rattle.nr_core.specs.Marks.{acted};
 ghost use Rattle.nr_board.specs.Callers.{KnowsOwn, Rests, token};
 ghost use Rattle.nr_board.specs.Holds.{HeldAs, HoldsAfter, LooksAgain, finds_by_word};
 ghost use Rattle.nr_board.specs.Meetings.{HasPut, HearsNote, known_to, with_step};

@@ -5,8 +5,8 @@ use Rattle.nr_model.specs.declared.rows.Row.{Row}
 use Rattle.nr_model.specs.declared.calls.Call.TheVariants as call
 use Rattle.nr_model.specs.declared.calls.Reply.{Reply}
 use Rattle.nr_model.specs.declared.calls.Reply.TheVariants as reply
-use Rattle.nr_marks.specs.Marks.{LoggedLoad, Marks, acted, with_loads}
-use Rattle.nr_marks.specs.Puts.{put_number}
+use Rattle.nr_core.specs.Marks.{LoggedLoad, Marks, acted, with_loads}
+use Rattle.nr_core.specs.Puts.{put_number}
 use Rattle.nr_board.specs.Callers.{Caller, Gains}
 use Rattle.nr_board.specs.Holds.{FindsHole, HoleIn, looked}
 use Rattle.nr_map.specs.Hands.{Handed, PinsByHand, departed, steps_to_depart}

@@ -3,7 +3,7 @@ use Rattle.std.specs.Prelude.{◌≡◌, ◌<◌, ◌++◌, ℕ, true, List, [],
 use Rattle.nr_model.specs.declared.rows.Row.{Row}
 use Rattle.nr_model.specs.declared.calls.Reply.{Reply}
 use Rattle.nr_model.specs.Histories.{Entry}
-use Rattle.nr_marks.specs.Puts.{puts_at}
+use Rattle.nr_core.specs.Puts.{puts_at}
 use Rattle.nr_board.specs.Callers.{Caller, KnowsOwn, map_at_opening}
 use Rattle.nr_board.specs.Meetings.{Known}
 use Rattle.nr_map.specs.Written.{FindsPut, HeardBefore}

@@ -13,8 +13,8 @@ use crate::answers::Got;
 use crate::applied::{Applied, Measure};
 use crate::gate::Gate;
 use crate::hands::Hands;
-use crate::places::Places;
 use crate::service::Service;
+use crate::shared::Shared;
 use crate::sleepers::{Limit, NoLimit, TooLate};
 use crate::tries::get_by_tries;
 use crate::watched::Watched;
@@ -29,7 +29,7 @@ use std::time::{Clock, Instant};
 /// A reader of a map and a poster of its queue, in one hand. It can't be dropped, since it may keep
 /// a ticket: it must be ended.
 pub struct Client<'a, G> {
-    places: Places<'a, G>,
+    shared: Shared<'a, G>,
     lobby: Watched<'a>,
     hands: Hands,
     gets: u64,
@@ -42,17 +42,17 @@ impl<'a, G> Model for Client<'a, G> {
     ghost Value = { ClientSeen G };
 
     ghost view = { λ client. record {
-      map = client.places.map.now;
-      queue = client.places.triggers.now;
-      gate = client.places.gate.now;
-      reader = client.places.reader;
+      map = client.shared.map.now;
+      queue = client.shared.triggers.now;
+      gate = client.shared.gate.now;
+      reader = client.shared.reader;
       opened = client.opened.value;
       hands = client.hands;
       guest = client.lobby;
       gets = client.gets;
     } };
 
-    ghost invariant = { λ client. IsServing client.places.map.now client.places.triggers.now client.opened.value client.hands };
+    ghost invariant = { λ client. IsServing client.shared.map.now client.shared.triggers.now client.opened.value client.hands };
 }
 
 impl<'a, G: Gate> Client<'a, G> {
@@ -75,7 +75,7 @@ impl<'a, G: Gate> Client<'a, G> {
         let hands = Hands::of(reader, poster);
         let opened = Snapshot::of(&hands);
         Client {
-            places: Places {
+            shared: Shared {
                 map: service.map(),
                 triggers: service.triggers(),
                 gate,
@@ -166,7 +166,7 @@ impl<'a, G: Gate> Client<'a, G> {
         self.gets = self.gets.saturating_add(1);
         get_by_tries(
             rt,
-            &self.places,
+            &self.shared,
             &mut self.lobby,
             limit,
             self.gets,
@@ -184,7 +184,7 @@ impl<'a, G: Gate> Client<'a, G> {
         ensures knows { KnowsOwn self.old.hands.reader }
         ensures rest { self.new ≡ record self.old { hands = with_idle_reader self.old.hands (with_step self.old.hands.reader) } }
     {
-        self.hands.reader.note(self.places.map)
+        self.hands.reader.note(self.shared.map)
     }
 
     /// The client learns, in 1 step of its reader, all that the note's maker had seen.
@@ -193,7 +193,7 @@ impl<'a, G: Gate> Client<'a, G> {
         ensures hears { HearsNote 1 note self.old.hands.reader self.new.hands.reader }
         ensures rest { self.new ≡ record self.old { hands = with_idle_reader self.old.hands self.new.hands.reader } }
     {
-        self.hands.reader.hear(self.places.map, note)
+        self.hands.reader.hear(self.shared.map, note)
     }
 
     /// Sleeps until the dataflow told that it has applied so much at least, hears in 4 steps of its
@@ -214,7 +214,7 @@ impl<'a, G: Gate> Client<'a, G> {
     {
         applied.wait(
             rt,
-            self.places.map,
+            self.shared.map,
             &mut self.lobby,
             &mut self.hands.reader,
             least,
@@ -245,7 +245,7 @@ impl<'a, G: Gate> Client<'a, G> {
         ensures kept { let (_, _, kept) = result in kept ≡ self.entry.hands.kept }
     {
         let Client {
-            places,
+            shared,
             lobby: _,
             hands,
             gets: _,
@@ -257,6 +257,6 @@ impl<'a, G: Gate> Client<'a, G> {
             kept,
             sends: _,
         } = hands;
-        (reader.into_reader(places.map), poster, kept)
+        (reader.into_reader(shared.map), poster, kept)
     }
 }

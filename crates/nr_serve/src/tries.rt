@@ -1,6 +1,6 @@
 //! The tries of a get.
 ghost use Rattle.std.specs.Prelude.{◌≡◌, ◌<◌, ◌+◌, ◌*◌, [], IfErr, IfOk, IsSome, length, None};
-ghost use Rattle.nr_marks.specs.Marks.{acted};
+ghost use Rattle.nr_core.specs.Marks.{acted};
 ghost use Rattle.nr_board.specs.Callers.{Rests};
 ghost use Rattle.nr_serve.specs.Counts.{OnlyLooks};
 ghost use Rattle.nr_serve.specs.Gates.{AsksGate, AsksOnce};
@@ -11,7 +11,7 @@ ghost use Rattle.nr_serve.specs.Rings.{Rings};
 use crate::answers::{Got, Requested, Tried};
 use crate::gate::Gate;
 use crate::hands::Hands;
-use crate::places::Places;
+use crate::shared::Shared;
 use crate::sleepers::{Limit, TooLate};
 use crate::watched::{Counted, Watched};
 use nr_map::{Asked, Hand, ReaderMap};
@@ -89,11 +89,11 @@ fn request<R: Wait>(
 }
 
 // Asks the gate until it lets pass, but not for ever.
-fn lets_pass<G: Gate>(places: &Places<'_, G>, get: u64) -> bool
-    ensures { G.lets places.now.gate.now places.now.reader get result }
+fn lets_pass<G: Gate>(shared: &Shared<'_, G>, get: u64) -> bool
+    ensures { G.lets shared.now.gate.now shared.now.reader get result }
 {
     for asked in 0..MAX_PASSES {
-        if places.gate.pass(places.reader, get) {
+        if shared.gate.pass(shared.reader, get) {
             return true;
         }
         if asked % PASSES_A_YIELD == 0 {
@@ -105,21 +105,21 @@ fn lets_pass<G: Gate>(places: &Places<'_, G>, get: u64) -> bool
 
 // With the set of a filled key: copies its rows for the caller, if the gate lets pass, and lets it go.
 #[inline(always)]
-fn answer<G: Gate>(places: &Places<'_, G>, get: u64, reader: &mut Hand, rows: &mut RowSet) -> Got
-    requires own { reader.old.reader.table ≡ places.now.map.now }
+fn answer<G: Gate>(shared: &Shared<'_, G>, get: u64, reader: &mut Hand, rows: &mut RowSet) -> Got
+    requires own { reader.old.reader.table ≡ shared.now.map.now }
     requires holds { IsSome reader.old.key }
     ensures answers { AnswersHeld reader.old rows.old reader.new.reader rows.new result }
-    ensures asks { AsksGate G.lets G.hears places.now.gate.now places.now.reader get result }
+    ensures asks { AsksGate G.lets G.hears shared.now.gate.now shared.now.reader get result }
     ensures idle { (reader.new.key ≡ None) × (reader.new.reader.holds ≡ None) }
     ensures marks { reader.new.reader.marks ≡ acted reader.old.reader.marks reader.old.reader.marks.put }
 {
-    if !lets_pass(places, get) {
-        reader.release(places.map);
+    if !lets_pass(shared, get) {
+        reader.release(shared.map);
         return Got::Barred;
     }
-    reader.copy_to(places.map, rows);
-    reader.release(places.map);
-    places.gate.answered(places.reader, get);
+    reader.copy_to(shared.map, rows);
+    reader.release(shared.map);
+    shared.gate.answered(shared.reader, get);
     Got::Rows
 }
 
@@ -127,25 +127,25 @@ fn answer<G: Gate>(places: &Places<'_, G>, get: u64, reader: &mut Hand, rows: &m
 #[inline(always)]
 fn try_once<G: Gate, R: Wait>(
     rt: &R,
-    places: &Places<'_, G>,
+    shared: &Shared<'_, G>,
     lobby: &mut Watched<'_>,
     get: u64,
     key: u32,
     hands: &mut Hands,
     rows: &mut RowSet,
 ) -> Tried
-    requires ready { IsReady places.now.map.now places.now.triggers.now hands.old }
-    requires key { key < places.now.map.now.shape.keys }
-    ensures ready { IsReady places.now.map.now places.now.triggers.now hands.new }
+    requires ready { IsReady shared.now.map.now shared.now.triggers.now hands.old }
+    requires key { key < shared.now.map.now.shape.keys }
+    ensures ready { IsReady shared.now.map.now shared.now.triggers.now hands.new }
     ensures tries { TriesOnce key hands.old rows.old hands.new rows.new result }
     ensures rings { Rings hands.old lobby.old hands.new lobby.new }
-    ensures asks { AsksOnce G.lets G.hears places.now.gate.now places.now.reader get result }
+    ensures asks { AsksOnce G.lets G.hears shared.now.gate.now shared.now.reader get result }
 {
-    post_kept(rt, places.map, places.triggers, lobby, hands);
-    if hands.reader.pin(places.map, key) {
-        return Tried::Ended(answer(places, get, &mut hands.reader, rows));
+    post_kept(rt, shared.map, shared.triggers, lobby, hands);
+    if hands.reader.pin(shared.map, key) {
+        return Tried::Ended(answer(shared, get, &mut hands.reader, rows));
     }
-    Tried::Missed(request(rt, places.map, places.triggers, lobby, key, hands))
+    Tried::Missed(request(rt, shared.map, shared.triggers, lobby, key, hands))
 }
 
 // After a try that found a hole: sleeps until the count has gone past what it was before the try, if
@@ -176,7 +176,7 @@ fn sleep_if<L: Limit<R>, R: Wait>(
 /// that times out ends the get.
 pub(crate) fn get_by_tries<G: Gate, L: Limit<R>, R: Wait>(
     rt: &R,
-    places: &Places<'_, G>,
+    shared: &Shared<'_, G>,
     lobby: &mut Watched<'_>,
     limit: &L,
     get: u64,
@@ -185,18 +185,18 @@ pub(crate) fn get_by_tries<G: Gate, L: Limit<R>, R: Wait>(
     hands: &mut Hands,
     rows: &mut RowSet,
 ) -> Result<Got, TooLate>
-    requires ready { IsReady places.now.map.now places.now.triggers.now hands.old }
-    requires key { key < places.now.map.now.shape.keys }
-    ensures ready { IsReady places.now.map.now places.now.triggers.now hands.new }
+    requires ready { IsReady shared.now.map.now shared.now.triggers.now hands.old }
+    requires key { key < shared.now.map.now.shape.keys }
+    ensures ready { IsReady shared.now.map.now shared.now.triggers.now hands.new }
     ensures gets { GetsInTime key tries hands.old rows.old hands.new rows.new result }
     ensures late { IfErr result (λ late. L.lapses limit.now late) }
     ensures at_once { tries ≡ 0 → hands.new ≡ hands.old }
     ensures rings { Rings hands.old lobby.old hands.new lobby.new }
-    ensures asks { IfOk result (λ got. AsksGate G.lets G.hears places.now.gate.now places.now.reader get got) }
+    ensures asks { IfOk result (λ got. AsksGate G.lets G.hears shared.now.gate.now shared.now.reader get got) }
 {
     for i in 0..tries {
         let counted = lobby.count_for(key, hands);
-        let requested = match try_once(rt, places, lobby, get, key, hands, rows) {
+        let requested = match try_once(rt, shared, lobby, get, key, hands, rows) {
             Tried::Ended(got) => return Ok(got),
             Tried::Missed(requested) => requested,
         };

@@ -11,7 +11,7 @@ use Rattle.nr_machine.specs.declared.places.Retired.{Retired}
 use Rattle.nr_board.proofs.PollNotes.{at_get}
 use Rattle.nr_board.proofs.HeldPolls.{held_many, none_passed}
 use Rattle.nr_board.specs.Spares.{heard_all, held_polls, polls_to}
-use Rattle.nr_marks.specs.Marks.{OfSlot, with_scan}
+use Rattle.nr_core.specs.Marks.{OfSlot, with_scan}
 use Rattle.nr_board.proofs.Searching.{Searched, lacks_slot, searched_more, searched_none, takes_it}
 use Rattle.nr_board.specs.Callers.{Table}
 use Rattle.nr_machine.specs.Spares.{Spare, none_spare}

@@ -10,7 +10,7 @@ use Rattle.nr_machine.specs.declared.roles.Desk.{Desk}
 use Rattle.nr_board.proofs.Publishing.{published}
 use Rattle.nr_board.proofs.Tokens.{grows_both}
 use Rattle.nr_board.specs.Callers.{Table, token}
-use Rattle.nr_marks.specs.Marks.{Marks, set_in, with_scan}
+use Rattle.nr_core.specs.Marks.{Marks, set_in, with_scan}
 use Rattle.nr_board.specs.Reclaiming.{HandsOut}
 use Rattle.nr_board.specs.Recalls.{later}
 use Rattle.nr_board.specs.Views.{desk_of}

@@ -10,7 +10,7 @@ use Rattle.nr_machine.specs.declared.roles.Desk.{Desk}
 use Rattle.nr_board.proofs.Publishing.{published}
 use Rattle.nr_board.proofs.Tokens.{grows_both}
 use Rattle.nr_board.specs.Callers.{Table, token}
-use Rattle.nr_marks.specs.Marks.{Marks, with_scan}
+use Rattle.nr_core.specs.Marks.{Marks, with_scan}
 use Rattle.nr_board.specs.Views.{desk_of}
 use Rattle.nr_board.specs.WriterSeats.{GoesOn, WritesAt}
 use Rattle.nr_board.proofs.board.Board.publish_set.Goals as goal

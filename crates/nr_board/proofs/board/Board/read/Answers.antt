@@ -11,7 +11,7 @@ use Rattle.nr_board.proofs.Rows.{length-encode}
 use Rattle.nr_board.specs.Callers.{Table}
 use Rattle.nr_board.specs.Plays.{has_read_word}
 use Rattle.nr_board.specs.Rule.{Kept}
-use Rattle.nr_marks.specs.Marks.{gripped}
+use Rattle.nr_core.specs.Marks.{gripped}
 use Rattle.nr_board.specs.Views.{grip_of, rows_held, slot_held}
 use Rattle.nr_board.proofs.board.Board.read.Goals as goal
 

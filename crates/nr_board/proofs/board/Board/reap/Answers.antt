@@ -1,7 +1,7 @@
 use Rattle.std.proofs.Common.{List, ap, length, refl, subst, sym, true, [], ◌∷◌, ℕ, ◌*◌, ◌+◌, ◌++◌, ◌≡◌}
 use Rattle.nr_model.specs.Rows.{IsRowSet}
 use Rattle.nr_model.specs.declared.rows.Row.{Row}
-use Rattle.nr_marks.specs.Marks.{OfSlot, set_in}
+use Rattle.nr_core.specs.Marks.{OfSlot, set_in}
 use Rattle.nr_board.specs.Reaping.{after_polls, with_reap}
 use Rattle.nr_board.specs.Spares.{held_polls}
 use Rattle.nr_board.specs.Views.{View}

@@ -2,7 +2,7 @@ use Rattle.std.proofs.Common.{List, ap, arith, get_or, length, subst, sym, â—Œ*â
 use Rattle.std.specs.Prelude.{Some}
 use Rattle.nr_model.specs.declared.rows.Row.{Row}
 use Rattle.nr_words.specs.SetWords.{encode}
-use Rattle.nr_marks.specs.Marks.{set_in}
+use Rattle.nr_core.specs.Marks.{set_in}
 use Rattle.nr_board.proofs.Rows.{encoded_row, length-encode}
 use Rattle.nr_board.specs.Views.{View}
 use Rattle.nr_board.proofs.recalls.RecalledRowSource.give.Goals as goal

@@ -1,0 +1,119 @@
+-- The put numbers that the writer's lists give to the filled keys are those of the history.
+use Rattle.std.proofs.Common.{Bool, List, [], ap, arith, cond, get_or, length, map, nat_eq, refl, suc, sym, zero, ℕ}
+use Rattle.std.proofs.Common.{◌+◌, ◌<◌, ◌∙◌, ◌∷◌, ◌≡◌}
+use Rattle.std.specs.List.{range_with_len}
+use Rattle.nr_model.specs.Histories.{Entry}
+use Rattle.nr_model.specs.Maps.{is_filled_key, state_of}
+use Rattle.nr_model.specs.declared.states.KeyState.{KeyState}
+use Rattle.nr_model.specs.declared.states.KeyState.TheVariants as key
+use Rattle.nr_core.proofs.Choices.{by_cases}
+use Rattle.nr_core.proofs.Histories.{length-now}
+use Rattle.nr_core.proofs.Sums.{below-first, below-same}
+use Rattle.nr_machine.specs.Story.{map_after}
+use Rattle.nr_machine.specs.Sums.{below, only, total}
+use Rattle.nr_machine.specs.declared.roles.Desk.{Desk}
+use Rattle.nr_machine.specs.declared.shape.Shape.{Shape}
+use Rattle.nr_core.specs.Puts.{put_number}
+use Rattle.nr_model.specs.Strays.{keyed, strays}
+use Rattle.nr_core.specs.Marks.{Marks}
+use Rattle.nr_core.specs.Exact.{Lists, filled_puts, named_puts}
+use Rattle.nr_core.proofs.HowOften.{how_often, stray_count, strays_count}
+use Rattle.nr_core.proofs.Tidy.{name_has, named_often}
+
+below-list : (f : ℕ → ℕ) (l : List ℕ) → total f l ≡ below (λ i. f (get_or l i 0)) (length l)
+below-list f [] = refl
+below-list f (x ∷ xs) =
+    let t = below-list f xs in
+    let u = below-first (λ i. f (get_or (x ∷ xs) i 0)) (length xs) in
+    omega arith
+
+-- the put numbers of the filled keys, of the states of the keys from `at` on
+abbrev puts_from : List Entry → ℕ → List KeyState → List ℕ
+puts_from log at states = keyed states (map (put_number log) (range_with_len at (length states)))
+
+-- 1 where the key is filled and has that put number
+abbrev key_has : List Entry → ℕ → Bool → ℕ → ℕ
+key_has log number filled at = cond filled (only number (put_number log at)) 0
+
+puts_from_often : (number : ℕ) (log : List Entry) (at : ℕ) (states : List KeyState)
+    → how_often number (puts_from log at states)
+    ≡ below (λ i. key_has log number (is_filled_key (get_or states i (key.Hole 0))) (at + i)) (length states)
+puts_from_often number log at [] = refl
+puts_from_often number log at (state ∷ states) =
+    let next : at + 1 ≡ suc at = omega arith in
+    let t : how_often number (puts_from log (at + 1) states) ≡ below
+    (λ i. key_has log number (is_filled_key (get_or states i (key.Hole 0))) (suc at + i))
+    (length states) = ap (λ (y : ℕ). how_often number (puts_from log y states)) next
+    ∙ puts_from_often number log (suc at) states in
+    let f
+    = below-first (λ i. key_has log number (is_filled_key (get_or (state ∷ states) i (key.Hole 0))) (at + i))
+    (length states) in
+    let here : at + 0 ≡ at = omega arith in
+    let first : key_has log number (is_filled_key state) (at + 0) ≡ key_has log number (is_filled_key state) at
+    = ap (key_has log number (is_filled_key state)) here in
+    let later
+    = below-same (λ i. key_has log number (is_filled_key (get_or states i (key.Hole 0))) (suc at + i))
+    (λ i. key_has log number (is_filled_key (get_or states i (key.Hole 0))) (at + suc i)) (length states)
+    (λ i _.
+    let shift : suc at + i ≡ at + suc i = omega arith in
+    ap (key_has log number (is_filled_key (get_or states i (key.Hole 0)))) shift) in
+    let head : how_often number (cond (is_filled_key state) (put_number log at ∷ puts_from log (at + 1) states)
+    (puts_from log (at + 1) states))
+    ≡ key_has log number (is_filled_key state) at + how_often number (puts_from log (at + 1) states)
+    = by_cases
+    (λ b. how_often number
+    (cond b (put_number log at ∷ puts_from log (at + 1) states) (puts_from log (at + 1) states))
+    ≡ key_has log
+    number b at + how_often number (puts_from log (at + 1) states)) (is_filled_key state) (λ _. refl)
+    (λ _. omega arith) in
+    omega arith
+
+name_is_key : (desk : Desk) (marks : Marks) (shape : Shape) (log : List Entry) → Lists desk marks shape log
+    → (number at name : ℕ) → at < shape.keys
+    → get_or marks.names at 0 ≡ name
+    → name_has marks.puts number name ≡ key_has log number (is_filled_key (state_of (map_after shape log) at)) at
+name_is_key desk marks shape log lists number at zero near e =
+    sym (ap (λ b. key_has log number b at) (lists.empty at near e))
+name_is_key desk marks shape log lists number at (suc slot) near e =
+    let f = lists.full at slot near e in
+    ap (only number) f.1 ∙ sym (ap (λ b. key_has log number b at) f.0)
+
+pub named_are_filled_puts : (desk : Desk) (marks : Marks) (shape : Shape) (log : List Entry)
+    → Lists desk marks shape log → (number : ℕ)
+    → how_often number (named_puts marks.puts marks.names) ≡ how_often number (filled_puts shape log)
+named_are_filled_puts desk marks shape log lists number = named_often marks.puts marks.names number
+    ∙ below-list (name_has marks.puts number) marks.names
+    ∙ ap (λ (n : ℕ). below (λ i. name_has marks.puts number (get_or marks.names i 0)) n)
+    lists.wide
+    ∙ below-same (λ i. name_has marks.puts number (get_or marks.names i 0))
+    (λ i. key_has log number (is_filled_key (state_of (map_after shape log) i)) i) shape.keys
+    (λ i near. name_is_key desk marks shape log lists number i (get_or marks.names i 0) near refl)
+    ∙ below-same (λ i. key_has log number (is_filled_key (state_of (map_after shape log) i)) i)
+    (λ i. key_has log number (is_filled_key (get_or (map_after shape log).states i (key.Hole 0))) (0 + i)) shape.keys
+    (λ i _.
+    let shift : i ≡ 0 + i = omega arith in
+    ap (key_has log number (is_filled_key (state_of (map_after shape log) i))) shift)
+    ∙ ap
+    (λ (n : ℕ). below
+    (λ i. key_has log number (is_filled_key (get_or (map_after shape log).states i (key.Hole 0))) (0 + i)) n)
+    (sym (length-now shape log))
+    ∙ sym (puts_from_often number log 0 (map_after shape log).states)
+    ∙ ap (λ (n : ℕ). how_often number (keyed (map_after shape log).states (map (put_number log) (range_with_len 0 n))))
+    (length-now shape log)
+
+strays_same : (keys keys' qs : List ℕ) → ((q : ℕ) → how_often q keys ≡ how_often q keys')
+    → stray_count keys qs ≡ stray_count keys' qs
+strays_same keys keys' [] h = refl
+strays_same keys keys' (q ∷ qs) h = let t = strays_same keys keys' qs h in
+    let a : cond {A = ℕ} (nat_eq (how_often q qs + how_often q keys) 0) 1 0
+    ≡ cond (nat_eq (how_often q qs + how_often q keys') 0) 1
+    0 = ap (λ (n : ℕ). cond {A = ℕ} (nat_eq (how_often q qs + n) 0) 1 0) (h q) in omega arith
+
+-- the strays by the history alone: pinned put numbers that no filled key has
+pub strays_by_history : (desk : Desk) (marks : Marks) (shape : Shape) (log : List Entry) (pinned : List ℕ)
+    → Lists desk marks shape log
+    → strays (named_puts marks.puts marks.names) pinned ≡ strays (filled_puts shape log) pinned
+strays_by_history desk marks shape log pinned lists = strays_count (named_puts marks.puts marks.names) pinned
+    ∙ strays_same (named_puts marks.puts marks.names) (filled_puts shape log) pinned
+    (named_are_filled_puts desk marks shape log lists)
+    ∙ sym (strays_count (filled_puts shape log) pinned)

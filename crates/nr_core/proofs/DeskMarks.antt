@@ -1,0 +1,178 @@
+-- What a writer's step leaves of its lists: where they go along with its step, all marks do.
+use Rattle.std.proofs.Common.{List, [], ap, arith, get_or, length, map, set, subst, suc, sym, ℕ, ◌++◌, ◌<◌, ◌∙◌, ◌≡◌}
+use Rattle.std.proofs.Common.{◌≤◌, ◌*◌}
+use lib.ListN.{get_elem?}
+use mathlib.Core.Logic.{dite}
+use mathlib.Core.Option.{some}
+use native.Mathlib.Decide.{dec_le}
+use Rattle.nr_model.specs.Histories.{Entry}
+use Rattle.nr_model.specs.Maps.{reply_at, state_of}
+use Rattle.nr_core.proofs.Counting.{retired_once, slots_are}
+use Rattle.nr_core.proofs.Histories.{replies_so}
+use Rattle.nr_core.proofs.Settle.{key_same}
+use Rattle.nr_core.proofs.Sums.{below-same, only-is, some_term}
+use Rattle.nr_core.specs.Core.{Core}
+use Rattle.nr_core.specs.Roles.{held, retirements, taken}
+use Rattle.nr_machine.specs.Operations.{becomes, target_of}
+use Rattle.nr_machine.specs.declared.operation.Operation.{Operation}
+use Rattle.nr_core.proofs.Frames.{spells_more}
+use Rattle.nr_machine.specs.Slots.{bound_of, content, name_number}
+use Rattle.nr_machine.specs.States.{key_of}
+use Rattle.nr_core.specs.Steps.{Telling}
+use Rattle.nr_machine.specs.Story.{call_of, ending_at, map_after}
+use Rattle.nr_machine.specs.Sums.{only}
+use Rattle.nr_machine.specs.Writer.{went}
+use Rattle.nr_machine.specs.declared.calls.WriterCall.{WriterCall}
+use Rattle.nr_machine.specs.declared.places.Place.{Place}
+use Rattle.nr_machine.specs.declared.places.Retired.{Retired}
+use Rattle.nr_machine.specs.declared.roles.Desk.{Desk}
+use Rattle.nr_machine.specs.declared.roles.Role.{Role}
+use Rattle.nr_machine.specs.declared.roles.Role.TheVariants.{Writer}
+use Rattle.nr_machine.specs.declared.shape.Shape.{Shape}
+use Rattle.nr_model.specs.declared.calls.Reply.TheVariants as reply
+use Rattle.nr_core.specs.Puts.{put_count, put_number}
+use Rattle.nr_core.specs.Marks.{Marks, Past, set_in, with_polls}
+use Rattle.nr_core.specs.PollNotes.{AllHeld, NoRoom}
+use Rattle.nr_core.specs.Marked.{AllSince, Desked, KnowsMarks, MarkTelling, Marked, NotesPresent, Remarked, Sweeping}
+use Rattle.nr_core.specs.Marked.{Untouched, lives}
+use Rattle.nr_core.proofs.MarksSince.{evolves_writer, marked_writer}
+use Rattle.nr_core.proofs.PutNumbers.{nil_count, nil_number}
+
+-- a slot that is untouched after a step was so before it, and its content words stay
+abbrev pub Leaves : Shape → List ℕ → List ℕ → Place → Place → Type 0
+Leaves shape words words' place place' = (slot : ℕ) → slot < shape.slots → Untouched slot place' → Untouched slot place
+    × ((index : ℕ) → index ≤ 2 * bound_of shape
+    → get_or words' (content shape slot index) 0 ≡ get_or words (content shape slot index) 0)
+
+-- what the core tells of the writer's step from a place
+abbrev pub Went : Shape → Desk → Place → Telling
+Went shape desk place word after entries =
+    (after ≡ Writer (went shape desk place word).0) × (entries ≡ ending_at place (went shape desk place word).1)
+
+-- a step that puts nothing leaves the put numbers
+abbrev pub QuietEnd : List Entry → List Entry → Type 0
+QuietEnd log entries =
+    ((k : ℕ) → put_number (log ++ entries) k ≡ put_number log k) × (put_count (log ++ entries) ≡ put_count log)
+
+pub nothing_ends : (log : List Entry) → QuietEnd log []
+nothing_ends log = (nil_number log, nil_count log)
+
+-- there is no slot where every slot was taken once and none is retired
+pub no_room_left : (shape : Shape) (words : List ℕ) (roles : List Role) (log : List Entry) (id : ℕ) (desk : Desk)
+    (call : WriterCall)
+    → Core shape words roles log → get_elem? roles id ≡ some (Writer desk) → ((slot : ℕ) → taken slot desk.place ≡ 0)
+    → shape.slots ≤ desk.fresh
+    → reply_at (bound_of shape) (call_of call) (state_of (map_after shape log) (key_of call)) ≡ reply.Done
+    → (polls : List Past) → AllHeld desk.retired polls → length polls ≤ shape.readers
+    → NoRoom shape call desk.retired polls log
+no_room_left shape words roles log id desk call core there free full done polls held few = record {
+  done =
+      replies_so shape log (call_of call)
+      ∙ ap (λ (k : ℕ). reply_at (bound_of shape) (call_of call) (state_of (map_after shape log) k)) (key_same call)
+      ∙ done;
+  slots = slots_are shape words roles log core id desk there full free;
+  apart = λ slot. dite (dec_le (retirements slot desk.retired) 1) (λ l. l)
+      (λ l.
+      let near = retired_inside slot (omega arith) in
+      let o = retired_once shape words roles log core id desk there slot near in
+      absurd (omega arith));
+  held = held;
+  few = few;
+}
+  where
+    retired_inside : (slot : ℕ) → 0 < retirements slot desk.retired → slot < shape.slots
+    retired_inside slot l =
+        let t = some_term (λ (x : Retired). only slot x.slot) desk.retired l in
+        subst (λ (y : ℕ). y < shape.slots) (only-is slot t.1.slot t.3)
+        ((core.knows id (Writer desk) there).retired t.0 t.1 t.2).0
+
+module _ {A : Type 0} (role : A → Role) (marks : A → Marks) where
+  pub desk_of : (shape : Shape) (words : List ℕ) (callers : List A) (log : List Entry) (id : ℕ) (me : A) (desk : Desk)
+      → Marked role marks shape words callers log → get_elem? callers id ≡ some me → role me ≡ Writer desk
+      → Desked role marks shape words callers log desk (marks me)
+  desk_of shape words callers log id me desk m at was =
+      subst (λ r. KnowsMarks role marks shape words callers log r (marks me)) was (m.each id me at)
+
+  -- a writer's step, after which its desk and marks are these
+  pub writer_step : (shape : Shape) (id : ℕ) (me : A) (operation : Operation) (tells : MarkTelling) (words : List ℕ)
+      (callers : List A)
+      (log : List Entry) → Core shape words (map role callers) log → Marked role marks shape words callers log
+      → get_elem? callers id ≡ some me
+      → (desk desk' : Desk) → role me ≡ Writer desk
+      → (after : Role) (entries : List Entry) → after ≡ Writer desk' → (now : Marks) (news : List Past)
+      → AllSince role marks callers news → NotesPresent role marks callers (marks me).polls now.polls
+      → Desked role marks shape
+      (set words (target_of operation) (becomes operation (get_or words (target_of operation) 0))) callers
+      (log ++ entries) desk' now
+      → tells (get_or words (target_of operation) 0) after (log ++ entries) now news
+      → Remarked role marks shape words callers log id operation me after entries tells
+  writer_step shape id me operation tells words callers log core m at desk desk' was after entries is now news since
+      noted own told =
+      record {
+        now = now;
+        news = news;
+        since = since;
+        evolves = λ who _ _. evolves_writer role marks me who desk was;
+        marked = λ who is_role is_marks. marked_writer role marks shape words
+            (set words (target_of operation) (becomes operation (get_or words (target_of operation) 0))) callers log
+            (log ++ entries) id me who desk desk'
+            core at was (is_role ∙ is) m
+            (subst
+            (Desked role marks shape
+            (set words (target_of operation) (becomes operation (get_or words (target_of operation) 0))) callers
+            (log ++ entries) desk')
+            (sym is_marks) own);
+        noted = noted;
+        told = told;
+      }
+
+  -- names that follow the words, where nothing was put and no slot came to life
+  pub desk_keep : (shape : Shape) (words words' : List ℕ) (callers : List A) (log log' : List Entry) (desk desk' : Desk)
+      (mine : Marks) (names : List ℕ) (polls : List Past)
+      → Desked role marks shape words callers log desk mine
+      → length names ≡ shape.keys → ((i : ℕ) → i < shape.keys → get_or names i 0 ≡ name_number (get_or words' i 0))
+      → ((i s : ℕ) → i < shape.keys → name_number (get_or words' i 0) ≡ suc s
+      → name_number (get_or words i 0) ≡ suc s)
+      → ((i : ℕ) → put_number log' i ≡ put_number log i) → put_count log' ≡ put_count log
+      → ((s : ℕ) → s < shape.slots → 0 < lives shape words' desk' s → 0 < lives shape words desk s)
+      → AllSince role marks callers polls → Sweeping role marks callers desk' polls desk'.place
+      → Leaves shape words words' desk.place desk'.place
+      → Desked role marks shape words' callers log' desk' (record mine { names = names; polls = polls })
+  desk_keep shape words words' callers log log' desk desk' mine names polls t long named_so older numbers many live
+      noted sweep leaves =
+      record {
+        wide = (long, t.wide.1);
+        names = named_so;
+        puts = λ i s l e. let kept = t.puts i s l (older i s l e) in (kept.0 ∙ sym (numbers i), kept.1);
+        held = t.held;
+        fresh = λ s l on. let f = t.fresh s l (live s l on) in omega arith;
+        apart = λ s a l b on one e. t.apart s a l b (live s l on) (live a b one) e;
+        sets = λ s l untouched.
+            let left = leaves s l untouched in
+            spells_more shape words words' s (set_in mine s) left.1 (t.sets s l left.0);
+        many = t.many;
+        noted = noted;
+        sweep = sweep;
+      }
+
+  -- the words of the keys stay, and the retired slots are fewer or the same
+  pub desk_stay : (shape : Shape) (words words' : List ℕ) (callers : List A) (log entries : List Entry)
+      (desk desk' : Desk) (mine : Marks)
+      (polls : List Past) → Desked role marks shape words callers log desk mine
+      → ((i : ℕ) → i < shape.keys → get_or words' i 0 ≡ get_or words i 0)
+      → QuietEnd log entries → ((s : ℕ) → retirements s desk'.retired ≤ retirements s desk.retired)
+      → AllSince role marks callers polls → Sweeping role marks callers desk' polls desk'.place
+      → Leaves shape words words' desk.place desk'.place
+      → Desked role marks shape words' callers (log ++ entries) desk' (with_polls mine polls)
+  desk_stay shape words words' callers log entries desk desk' mine polls t same quiet fewer noted sweep leaves =
+      desk_keep shape words words' callers log (log ++ entries) desk desk' mine mine.names polls t t.wide.0
+      (λ i l. t.names i l ∙ sym (ap name_number (same i l))) (λ i s l e. ap name_number (sym (same i l)) ∙ e)
+      quiet.0 quiet.1
+      (λ s l on.
+      let b
+      = below-same (λ j. only (suc s) (name_number (get_or words' j 0)))
+      (λ j. only (suc s) (name_number (get_or words j 0)))
+      shape.keys (λ j near. ap (λ (y : ℕ). only (suc s) (name_number y)) (same j near)) in
+      let f = fewer s in
+      omega arith)
+      noted sweep leaves

@@ -1,0 +1,228 @@
+-- Steps that learn how readers are: the writer compares them with its lists, a reader itself with what it was told of
+-- itself.
+use Rattle.std.proofs.Common.{List, [], ap, append-nil, arith, cond, get_or, inl, inr, map, refl, set, subst, suc, sym}
+use Rattle.std.proofs.Common.{zero, ℕ, ◌++◌, ◌<◌, ◌∙◌, ◌∷◌, ◌≡◌, ◌≤◌}
+use Rattle.std.proofs.lemmas.Bool.{lt-leb}
+use Rattle.std.specs.Prelude.{Some}
+use lib.ListN.{get_elem?}
+use lib.Seq.{set-get_or}
+use mathlib.Core.Logic.{dite}
+use mathlib.Core.Option.{some, some-injective, some-ne-none}
+use native.Mathlib.Decide.{dec_le, ℕ_discrete}
+use Rattle.nr_model.specs.Histories.{Entry}
+use Rattle.nr_model.specs.Maps.{PartialMap}
+use Rattle.nr_core.proofs.Counting.{retired_once}
+use Rattle.nr_core.proofs.Sums.{only-is, some_term, term_le}
+use Rattle.nr_core.specs.Core.{AtPlace, Core, Grips}
+use Rattle.nr_core.specs.Roles.{held, holds, retirements, taken}
+use Rattle.nr_machine.specs.declared.operation.Operation.TheVariants.{Load}
+use Rattle.nr_machine.specs.Slots.{name_number, unused}
+use Rattle.nr_core.specs.Steps.{LoadsWord}
+use Rattle.nr_machine.specs.Story.{map_after}
+use Rattle.nr_machine.specs.Sums.{below, only}
+use Rattle.nr_machine.specs.declared.places.Place.{Place}
+use Rattle.nr_machine.specs.declared.places.Place.TheVariants.{Idle, Leaving, Putting, Reading, Searching, Withdrawing}
+use Rattle.nr_machine.specs.declared.places.Retired.{Retired}
+use Rattle.nr_machine.specs.declared.roles.Desk.{Desk}
+use Rattle.nr_machine.specs.declared.roles.Grip.{Grip}
+use Rattle.nr_machine.specs.declared.roles.Grip.TheVariants.{Nothing, On}
+use Rattle.nr_machine.specs.declared.roles.Role.{Role}
+use Rattle.nr_machine.specs.declared.roles.Role.TheVariants.{Reader, Writer}
+use Rattle.nr_machine.specs.declared.shape.Shape.{Shape}
+use Rattle.nr_core.specs.Puts.{put_count, put_number}
+use Rattle.nr_core.specs.Marks.{Marks, Past, gripped, past}
+use Rattle.nr_core.specs.Pasts.{Current, Living, Refreshed}
+use Rattle.nr_core.specs.Marked.{AllSince, CanMark, Desked, Once, Since}
+use Rattle.nr_core.specs.Exact.{Lists}
+use Rattle.nr_core.specs.MarkSteps.{ReaderLearns, WriterLearns}
+use Rattle.nr_core.proofs.ListPlaces.{at_maps, no_places, some_is}
+use Rattle.nr_core.proofs.PollMarks.{grip_in, same_caller}
+use Rattle.nr_core.proofs.PutNumbers.{nil_count, nil_number}
+use Rattle.nr_core.proofs.ReaderMarks.{reader_step, contents_loaded}
+use Rattle.nr_core.proofs.SwapMarks.{grips_it}
+use Rattle.nr_core.proofs.Tidy.{listed}
+use Rattle.nr_core.proofs.DeskMarks.{QuietEnd, desk_of, desk_stay, nothing_ends, writer_step}
+
+below_some : (f : ℕ → ℕ) (n : ℕ) → 0 < below f n → (k : ℕ) × (k < n) × (0 < f k)
+below_some f zero l = absurd (omega arith)
+below_some f (suc n) l =
+    dite (ℕ_discrete (f n) 0) (λ z. let t = below_some f n (omega arith) in (t.0, let l' = t.1 in omega arith, t.2))
+    (λ nz. (n, omega arith, omega arith))
+
+-- a slot that is held is not taken
+pub not_taken : (shape : Shape) (words : List ℕ) (at : PartialMap) (holders : ℕ → ℕ) (fresh : ℕ)
+    (retired : List Retired) (slot : ℕ) (p : Place)
+    → 0 < holders slot → AtPlace shape words at holders fresh retired p → taken slot p ≡ 0
+not_taken shape words at holders fresh retired slot Idle l t = refl
+not_taken shape words at holders fresh retired slot (Reading a b c) l t = refl
+not_taken shape words at holders fresh retired slot (Leaving a) l t = refl
+not_taken shape words at holders fresh retired slot (Withdrawing a) l t = refl
+not_taken shape words at holders fresh retired slot (Searching a b c) l t = refl
+not_taken shape words at holders fresh retired slot (Putting a b mine c d) l t =
+    dite (ℕ_discrete (only slot mine) 0) (λ z. z)
+    (λ nz. absurd
+    (let same = only-is slot mine (omega arith) in
+    let z : holders slot ≡ 0 = ap holders (sym same) ∙ t.nobody in
+    omega arith))
+
+pub grip_near : (shape : Shape) (words : List ℕ) (at : PartialMap) (holders : ℕ → ℕ) (x : Grip) (slot : ℕ)
+    → Grips shape words at holders x → gripped x ≡ Some slot → slot < shape.slots
+grip_near shape words at holders Nothing slot t e = absurd (cc)
+grip_near shape words at holders (On s rows sized) slot t e = subst (λ (y : ℕ). y < shape.slots) (some_is s slot e) t.0
+
+module _ {A : Type 0} (role : A → Role) (marks : A → Marks) where
+  module _ (shape : Shape) (words : List ℕ) (callers : List A) (log : List Entry)
+      (core : Core shape words (map role callers) log)
+      (once : Once role marks callers) (id : ℕ) (me : A) (desk : Desk) (at : get_elem? callers id ≡ some me)
+      (was : role me ≡ Writer desk)
+      (own : Desked role marks shape words callers log desk (marks me)) where
+    -- what the writer's lists say of a reader as it is
+    current : (place reader : ℕ) (who : A) (grip : Grip) → get_elem? callers place ≡ some who
+        → role who ≡ Reader reader grip → Current desk.retired (marks me) (past reader grip (marks who))
+    current place reader who grip there is = record {
+      placed = λ slot on. ((own.held place reader slot who grip there is on).0, living slot on);
+      kept = λ slot on. (own.held place reader slot who grip there is on).1;
+      polled = λ i y e same.
+          let w = own.noted i y e in
+          let z : w.who ≡ who
+          = same_caller role marks callers once w.place place reader w.who who w.grip grip w.there there
+          (w.is ∙ ap (λ (b : ℕ). Reader b w.grip) same) is in
+          let a : (marks w.who).acts ≡ (marks who).acts = ap (λ (b : A). (marks b).acts) z in
+          let l = w.least in (
+            omega arith,
+            λ e'. ap (λ (r : Role). gripped (grip_in r)) (sym is ∙ ap role (sym z) ∙ w.is) ∙ (w.same (a ∙ e')).0,
+          );
+    }
+      where
+        living : (slot : ℕ) → gripped grip ≡ Some slot → Living desk.retired (marks me) slot
+        living slot on =
+            let roles = map role callers in
+            let at' : get_elem? roles id ≡ some (Writer desk) = at_maps role callers id me at
+            ∙ ap some was in
+            let there' : get_elem? roles place ≡ some (Reader reader grip)
+            = at_maps role callers place who there ∙ ap some is in
+            let mine = core.knows id (Writer desk) at' in
+            let near
+            = grip_near shape words (map_after shape log) (held roles) grip slot
+            (core.knows place (Reader reader grip) there') on in
+            let part = term_le (holds slot) roles place (Reader reader grip) there' in
+            let one = grips_it grip slot on in
+            let held_so : 0 < held roles slot = omega arith in
+            let t
+            = not_taken shape words (map_after shape log) (held roles) desk.fresh desk.retired slot desk.place
+            held_so mine.place in
+            let u : unused slot desk.fresh ≡ 0
+            = dite (dec_le desk.fresh slot) (λ l. absurd (let z = (mine.free slot l near).0 in omega arith))
+            (λ l. ap (λ b. cond {A = ℕ} b 1 0) (lt-leb desk.fresh slot (omega arith))) in
+            let p = retired_once shape words roles log core id desk at' slot near in let wide = own.wide.0 in
+            dite (ℕ_discrete (retirements slot desk.retired) 0)
+            (λ z.
+            let b = below_some (λ k. only (suc slot) (name_number (get_or words k 0))) shape.keys (omega arith) in
+            let l = b.1 in
+            inl (b.0, omega arith, own.names b.0 l ∙ only-is (suc slot) (name_number (get_or words b.0 0)) b.2))
+            (λ nz.
+            let b = some_term (λ (y : Retired). only slot y.slot) desk.retired (omega arith) in
+            inr (b.0, b.1, b.2, only-is slot b.1.slot b.3))
+
+    refreshed : (told : List Past) → AllSince role marks callers told
+        → (news : List Past) × AllSince role marks callers news × Refreshed desk.retired (marks me) told news
+    refreshed [] since = (
+      [],
+      no_places (Since role marks callers),
+      record {
+        newer = λ n o e. absurd (some-ne-none o (sym e));
+        current = no_places (Current desk.retired (marks me));
+      },
+    )
+    refreshed (o ∷ told) since =
+        let w = since 0 o refl in let q : Past = past o.reader w.grip (marks w.who) in
+        let t = refreshed told (λ n p e. since (suc n) p e) in
+        let now_so : Since role marks callers q
+        = record {
+          place = w.place;
+          who = w.who;
+          there = w.there;
+          grip = w.grip;
+          is = w.is;
+          least = omega arith;
+          same = λ _. (refl, refl);
+        } in
+        let cur = current w.place o.reader w.who w.grip w.there w.is in (
+          q ∷ t.0,
+          first (Since role marks callers) q t.0 now_so t.1,
+          record {
+            newer = newer o told q t.0 refl w.least t.2.newer;
+            current = first (Current desk.retired (marks me)) q t.0 cur t.2.current;
+          },
+        )
+      where
+        first : (P : Past → Type 0) (q : Past) (l : List Past) → P q
+            → ((n : ℕ) (p : Past) → get_elem? l n ≡ some p → P p) → (n : ℕ) (p : Past) → get_elem? (q ∷ l) n ≡ some p
+            → P p
+        first P q l a b zero p e = subst P (some-injective q p e) a
+        first P q l a b (suc n) p e = b n p e
+
+        newer : (o : Past) (told : List Past) (q : Past) (l : List Past) → q.reader ≡ o.reader → o.count ≤ q.count
+            → ((n : ℕ) (o' : Past) → get_elem? told n ≡ some o'
+            → (p : Past) × (get_elem? l n ≡ some p) × (p.reader ≡ o'.reader)
+            × (o'.count ≤ p.count))
+            → (n : ℕ) (o' : Past) → get_elem? (o ∷ told) n ≡ some o'
+            → (p : Past) × (get_elem? (q ∷ l) n ≡ some p) × (p.reader ≡ o'.reader) × (o'.count ≤ p.count)
+        newer o told q l a b c zero o' e =
+            subst
+            (λ (y : Past). (p : Past) × (get_elem? (q ∷ l) 0 ≡ some p) × (p.reader ≡ y.reader)
+            × (y.count ≤ p.count))
+            (some-injective o o' e) (q, refl, a, b)
+        newer o told q l a b c (suc n) o' e = c n o' e
+
+  module _ (shape : Shape) (id : ℕ) (me : A) (told : List Past) (place : ℕ) where
+    -- the writer learns how the readers are that it was told of
+    pub learns_writer : (desk : Desk) → role me ≡ Writer desk
+        → CanMark role marks shape id me told (Load place) (LoadsWord (role me))
+        (WriterLearns shape (marks me) desk told)
+    learns_writer desk was words callers log core m once at since after entries ans =
+        let own = desk_of role marks shape words callers log id me desk m at was in
+        let words' = set words place (get_or words place 0) in
+        let t = refreshed shape words callers log core once id me desk at was own told since in
+        writer_step role marks shape id me (Load place) (WriterLearns shape (marks me) desk told) words callers log core
+        m at desk desk was after entries (ans.0 ∙ was) (marks me) t.0 t.1 (λ place note here. inl here)
+        (desk_stay role marks shape words words' callers log entries desk desk (marks me) (marks me).polls own
+        (λ j _. ap (λ l. get_or l j 0) (set-get_or words place 0)) (subst (QuietEnd log) (sym ans.1) (nothing_ends log))
+        (λ s. omega arith)
+        own.noted own.sweep (λ s _ untouched. (untouched, contents_loaded shape words place s))) (
+          refl,
+          t.2,
+          subst (λ (l : List Entry). Lists desk (marks me) shape (log ++ l)) (sym ans.1)
+              (subst (Lists desk (marks me) shape) (sym (append-nil log))
+              (listed role marks shape words callers log id me desk core at was own)),
+        )
+
+    -- a reader compares itself with what it was told of itself
+    pub learns_reader : (reader : ℕ) (grip : Grip) → role me ≡ Reader reader grip
+        → CanMark role marks shape id me told (Load place) (LoadsWord (role me))
+        (ReaderLearns reader grip (marks me) told)
+    learns_reader reader grip was words callers log core m once at since after entries ans =
+        reader_step role marks shape id me told (Load place) (LoadsWord (role me))
+        (ReaderLearns reader grip (marks me) told) words callers log m at reader grip grip was after entries
+        (ans.0 ∙ was)
+        (λ j _. ap (λ l. name_number (get_or l j 0)) (set-get_or words place 0))
+        (λ k. ap (λ l. put_number (log ++ l) k) ans.1 ∙ nil_number log k)
+        (ap (λ l. put_count (log ++ l)) ans.1 ∙ nil_count log) (marks me) refl (inl (refl, refl, refl))
+        (λ j slot u desk there writes t e. (t.held id reader slot me grip at was e, λ _. e))
+        (contents_loaded shape words place) (
+          refl,
+          refl,
+          λ n o e same.
+              let w = since n o e in
+              let z
+              = same_caller role marks callers once w.place id reader w.who me w.grip grip w.there at
+              (w.is ∙ ap (λ (b : ℕ). Reader b w.grip) same) was in
+              let a : (marks w.who).acts ≡ (marks me).acts = ap (λ (b : A). (marks b).acts) z in let l = w.least in (
+                omega arith,
+                λ e'.
+                    let s = w.same (a ∙ e') in (
+                      ap (λ (r : Role). gripped (grip_in r)) (sym was ∙ ap role (sym z) ∙ w.is) ∙ s.0,
+                      ap (λ (b : A). (marks b).put) (sym z) ∙ s.1,
+                    ),
+              ),
+        )

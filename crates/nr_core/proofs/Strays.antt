@@ -1,0 +1,267 @@
+-- The exact place of a no-slot, from what the tokens say once every reader was gathered. The strays are the retired put
+-- numbers that are pinned (strays_are): all of them where a sweep found each retired slot held and no reader moved
+-- since (all_strays), fewer where a retired slot was taken (one_not_stray).
+use Rattle.std.proofs.Common.{List, [], ap, arith, cond, eq-eqb, get_or, inr, length, nat_eq, ne_eqb, refl, subst, suc}
+use Rattle.std.proofs.Common.{sym, zero, ℕ, ⊎_elim, ◌+◌, ◌<◌, ◌∙◌, ◌∷◌, ◌≡◌, ◌≤◌}
+use Rattle.std.specs.List.{cons_option}
+use Rattle.std.specs.Prelude.{None, Option, Some, option_map}
+use lib.ListN.{get_elem?}
+use mathlib.Core.Logic.{dite}
+use mathlib.Core.Option.{some, some-injective, some-ne-none}
+use native.Mathlib.Decide.{ℕ_discrete}
+use Rattle.nr_core.proofs.Sums.{only-is, only-other, only-same, some_term, term_le}
+use Rattle.nr_machine.specs.Sums.{only, total}
+use Rattle.nr_machine.specs.declared.places.Retired.{Retired}
+use Rattle.nr_model.specs.Strays.{strays}
+use Rattle.nr_core.specs.Marks.{Marks, Past}
+use Rattle.nr_core.specs.PollNotes.{AllHeld}
+use Rattle.nr_core.specs.Pasts.{AllCurrent, Living}
+use Rattle.nr_core.specs.Exact.{Tidy, named_puts, pinned_put, pins, retired_puts}
+use Rattle.nr_core.proofs.HowOften.{count_is, how_often, stray_count, strays_count}
+use Rattle.nr_core.proofs.ListPlaces.{at_maps, at_unmap}
+
+-- 1 where the number stands in the list
+abbrev stands : List ℕ → ℕ → ℕ
+stands l r = cond (nat_eq (how_often r l) 0) 0 1
+
+stands-none : (l : List ℕ) (r : ℕ) → how_often r l ≡ 0 → stands l r ≡ 0
+stands-none l r z = ap (λ b. cond b 0 1) (eq-eqb (how_often r l) 0 z)
+
+stands-some : (l : List ℕ) (r : ℕ) → 0 < how_often r l → stands l r ≡ 1
+stands-some l r z = ap (λ b. cond b 0 1) (ne_eqb (how_often r l) 0 (λ e. omega arith))
+
+stands-le : (l : List ℕ) (r : ℕ) → stands l r ≤ 1
+stands-le l r =
+    dite (ℕ_discrete (how_often r l) 0) (λ z. let m = stands-none l r z in omega arith)
+    (λ nz. let m = stands-some l r (omega arith) in omega arith)
+
+total-nil : {A : Type 0} (l : List A) → total (λ _. 0) l ≡ 0
+total-nil [] = refl
+total-nil (x ∷ xs) = let t = total-nil xs in omega arith
+
+-- one number more that is new adds the places where it stands
+stands-new : (qs rs : List ℕ) (q : ℕ) → how_often q qs ≡ 0
+    → total (stands (q ∷ qs)) rs ≡ total (stands qs) rs + how_often q rs
+stands-new qs [] q z = refl
+stands-new qs (r ∷ rs) q z = let t = stands-new qs rs q z in dite (ℕ_discrete r q)
+    (λ e.
+    let a : stands qs r ≡ 0 = stands-none qs r (ap (λ (y : ℕ). how_often y qs) e ∙ z) in
+    let o : only q r ≡ 1 = ap (only q) e ∙ only-same q in
+    let o' : only r q ≡ 1 = ap (λ (y : ℕ). only y q) e ∙ only-same q in
+    let b = stands-some (q ∷ qs) r (omega arith) in omega arith)
+    (λ ne. let o = only-other q r ne in let o' = only-other r q (λ e. ne (sym e)) in
+    let same : how_often r (q ∷ qs) ≡ how_often r qs = omega arith in
+    let b : stands (q ∷ qs) r ≡ stands qs r = ap (λ (y : ℕ). cond {A = ℕ} (nat_eq y 0) 0 1) same in
+    omega arith)
+
+-- one that stands there already adds nothing
+stands-old : (qs rs : List ℕ) (q : ℕ) → 0 < how_often q qs → total (stands (q ∷ qs)) rs ≡ total (stands qs) rs
+stands-old qs [] q z = refl
+stands-old qs (r ∷ rs) q z = let t = stands-old qs rs q z in dite (ℕ_discrete r q)
+    (λ e.
+    let p : how_often r qs ≡ how_often q qs = ap (λ (y : ℕ). how_often y qs) e in
+    let a = stands-some qs r (omega arith) in
+    let b = stands-some (q ∷ qs) r (omega arith) in
+    omega arith)
+    (λ ne. let o' = only-other r q (λ e. ne (sym e)) in
+    let same : how_often r (q ∷ qs) ≡ how_often r qs = omega arith in
+    let b : stands (q ∷ qs) r ≡ stands qs r = ap (λ (y : ℕ). cond {A = ℕ} (nat_eq y 0) 0 1) same in
+    omega arith)
+
+-- the strays are the retired put numbers that are pinned
+strays_are : (keys rs qs : List ℕ) → ((q : ℕ) → how_often q keys + how_often q rs ≤ 1)
+    → ((i q : ℕ) → get_elem? qs i ≡ some q → 1 ≤ how_often q keys + how_often q rs)
+    → stray_count keys qs ≡ total (stands qs) rs
+strays_are keys rs [] once cover = sym (total-nil rs)
+strays_are keys rs (q ∷ qs) once cover =
+    let t = strays_are keys rs qs once (λ i r e. cover (suc i) r e) in
+    let a = once q in
+    let b = cover 0 q refl in
+    let head : (n : ℕ) → how_often q qs + how_often q keys ≡ n
+    → cond {A = ℕ} (nat_eq (how_often q qs + how_often q keys) 0) 1 0 ≡ cond (nat_eq n 0) 1 0
+    = λ n e. ap (λ (y : ℕ). cond {A = ℕ} (nat_eq y 0) 1 0) e in
+    dite (ℕ_discrete (how_often q qs) 0)
+    (λ z.
+    let m = stands-new qs rs q z in
+    dite (ℕ_discrete (how_often q keys) 0) (λ y. let c = head 0 (omega arith) in omega arith)
+    (λ ny. let c = head 1 (omega arith) in omega arith))
+    (λ nz.
+    let m = stands-old qs rs q (omega arith) in
+    let c : cond {A = ℕ} (nat_eq (how_often q qs + how_often q keys) 0) 1
+    0 ≡ 0 =
+    ap (λ d. cond {A = ℕ} d 1 0) (ne_eqb (how_often q qs + how_often q keys) 0 (λ e. omega arith)) in
+    omega arith)
+
+all_stand : (qs rs : List ℕ) → ((i r : ℕ) → get_elem? rs i ≡ some r → 0 < how_often r qs)
+    → total (stands qs) rs ≡ length rs
+all_stand qs [] h = refl
+all_stand qs (r ∷ rs) h =
+    let t = all_stand qs rs (λ i x e. h (suc i) x e) in
+    let m = stands-some qs r (h 0 r refl) in
+    omega arith
+
+some_stand : (qs rs : List ℕ) → total (stands qs) rs ≤ length rs
+some_stand qs [] = omega arith
+some_stand qs (r ∷ rs) = let t = some_stand qs rs in let m = stands-le qs r in omega arith
+
+one_less : (qs rs : List ℕ) (p r : ℕ) → get_elem? rs p ≡ some r → how_often r qs ≡ 0 → total (stands qs) rs < length rs
+one_less qs [] p r e z = absurd (some-ne-none r (sym e))
+one_less qs (x ∷ rs) zero r e z =
+    let t = some_stand qs rs in
+    let m = stands-none qs x (ap (λ (y : ℕ). how_often y qs) (some-injective x r e) ∙ z) in
+    omega arith
+one_less qs (x ∷ rs) (suc p) r e z = let t = one_less qs rs p r e z in let m = stands-le qs x in omega arith
+
+length-retired_puts : (puts : List ℕ) (l : List Retired) → length (retired_puts puts l) ≡ length l
+length-retired_puts puts [] = refl
+length-retired_puts puts (x ∷ xs) = ap suc (length-retired_puts puts xs)
+
+-- a put number that is pinned is a reader's
+abbrev PinnedBy : List Past → ℕ → Type 0
+PinnedBy readers q =
+    (n : ℕ) × (p : Past) × (slot : ℕ) × (get_elem? readers n ≡ some p) × (p.slot ≡ Some slot) × (p.put ≡ q)
+
+pinned_later : (p : Past) (ps : List Past) (q : ℕ) → PinnedBy ps q → PinnedBy (p ∷ ps) q
+pinned_later p ps q t = (suc t.0, t.1, t.2, t.3, t.4, t.5)
+
+pinned_first : (p : Past) (ps : List Past) (q slot : ℕ) → p.slot ≡ Some slot
+    → ((j : ℕ) → get_elem? (pins ps) j ≡ some q → PinnedBy ps q) → (j : ℕ) → get_elem? (p.put ∷ pins ps) j ≡ some q
+    → PinnedBy (p ∷ ps) q
+pinned_first p ps q slot is rec zero e = (0, p, slot, refl, is, some-injective p.put q e)
+pinned_first p ps q slot is rec (suc j) e = pinned_later p ps q (rec j e)
+
+pinned_go : (p : Past) (ps : List Past) (q : ℕ) → ((j : ℕ) → get_elem? (pins ps) j ≡ some q → PinnedBy ps q)
+    → (x : Option ℕ) → p.slot ≡ x → (j : ℕ)
+    → get_elem? (cons_option (option_map (λ slot. p.put) p.slot) (pins ps)) j ≡ some q → PinnedBy (p ∷ ps) q
+pinned_go p ps q rec None is j e =
+    pinned_later p ps q
+    (rec j (ap (λ b. get_elem? (cons_option (option_map (λ slot. p.put) b) (pins ps)) j) (sym is) ∙ e))
+pinned_go p ps q rec (Some slot) is j e =
+    pinned_first p ps q slot is rec j
+    (ap (λ b. get_elem? (cons_option (option_map (λ slot. p.put) b) (pins ps)) j) (sym is) ∙ e)
+
+pinned_by : (readers : List Past) (i q : ℕ) → get_elem? (pins readers) i ≡ some q → PinnedBy readers q
+pinned_by [] i q e = absurd (some-ne-none q (sym e))
+pinned_by (p ∷ ps) i q e = pinned_go p ps q (λ j e'. pinned_by ps j q e') p.slot refl i e
+
+-- a reader that holds has pinned its put number
+pins_it : (readers : List Past) (n : ℕ) (p : Past) (slot : ℕ) → get_elem? readers n ≡ some p → p.slot ≡ Some slot
+    → 0 < how_often p.put (pins readers)
+pins_it [] n p slot e is = absurd (some-ne-none p (sym e))
+pins_it (x ∷ xs) zero p slot e is = let same = some-injective x p e in let one = only-same p.put in
+    subst (λ (l : List ℕ). 0 < how_often p.put l) (sym (ap (λ b. cons_option (option_map (λ slot. x.put) b) (pins xs))
+    (ap (λ (y : Past). y.slot) same ∙ is)))
+    (let o : only p.put x.put ≡ 1 = ap (λ (y : Past). only p.put y.put) same ∙ one in omega arith)
+pins_it (x ∷ xs) (suc n) p slot e is = let t = pins_it xs n p slot e is in more (pinned_put x) t
+  where
+    more : (pin : Option ℕ) → 0 < how_often p.put (pins xs) → 0 < how_often p.put (cons_option pin (pins xs))
+    more None l = l
+    more (Some q) l = omega arith
+
+named_at : (puts names : List ℕ) (i slot : ℕ) → i < length names → get_or names i 0 ≡ suc slot
+    → 0 < how_often (get_or puts slot 0) (named_puts puts names)
+named_at puts [] i slot l e = absurd (omega arith)
+named_at puts (zero ∷ names) zero slot l e = absurd (omega arith)
+named_at puts (zero ∷ names) (suc i) slot l e = named_at puts names i slot (omega arith) e
+named_at puts (suc t ∷ names) zero slot l e = let same : t ≡ slot = omega arith in
+    let o : only (get_or puts slot 0) (get_or puts t 0) ≡ 1
+    = ap (λ (y : ℕ). only (get_or puts slot 0) (get_or puts y 0)) same
+    ∙ only-same (get_or puts slot 0) in omega arith
+named_at puts (suc t ∷ names) (suc i) slot l e = let r = named_at puts names i slot (omega arith) e in omega arith
+
+retired_put_at : (puts : List ℕ) (retired : List Retired) (i : ℕ) (entry : Retired) → get_elem? retired i ≡ some entry
+    → get_elem? (retired_puts puts retired) i ≡ some (get_or puts entry.slot 0)
+retired_put_at puts retired i entry e = at_maps (λ (x : Retired). get_or puts x.slot 0) retired i entry e
+
+-- a reader that a poll noted has made no act since
+abbrev pub Still : List Past → List Past → Type 0
+Still polls readers =
+    (i : ℕ) (poll : Past) → get_elem? polls i ≡ some poll
+    → (n : ℕ) × (p : Past) × (get_elem? readers n ≡ some p) × (p.reader ≡ poll.reader) × (p.count ≤ poll.count)
+
+module _ (retired : List Retired) (marks : Marks) (next : ℕ) (readers : List Past) (tidy : Tidy retired marks next)
+    (gathered : AllCurrent retired marks readers) where
+  covered : (i q : ℕ) → get_elem? (pins readers) i ≡ some q
+      → 1 ≤ how_often q (named_puts marks.puts marks.names) + how_often q (retired_puts marks.puts retired)
+  covered i q e = let t = pinned_by readers i q e in let has = (gathered t.0 t.1 t.3).placed t.2 t.4 in
+      let num : get_or marks.puts t.2 0 ≡ q = has.0 ∙ t.5 in
+      ⊎_elim (λ (y : (j : ℕ) × (j < length marks.names) × (get_or marks.names j 0 ≡ suc t.2)). let z = subst
+      (λ (b : ℕ). 0 < how_often b (named_puts marks.puts marks.names)) num
+      (named_at marks.puts marks.names y.0 t.2 y.1 y.2) in
+      omega arith)
+      (λ (y : (j : ℕ) × (entry : Retired) × (get_elem? retired j ≡ some entry) × (entry.slot ≡ t.2)).
+      let z = term_le (only q)
+      (retired_puts marks.puts retired) y.0 (get_or marks.puts y.1.slot 0)
+      (retired_put_at marks.puts retired y.0 y.1 y.2) in
+      let o : only q (get_or marks.puts y.1.slot 0) ≡ 1
+      = ap (only q) (ap (λ (b : ℕ). get_or marks.puts b 0) y.3 ∙ num) ∙ only-same q in
+      omega arith)
+      has.1
+
+  counted : strays (named_puts marks.puts marks.names) (pins readers)
+      ≡ total (stands (pins readers)) (retired_puts marks.puts retired)
+  counted =
+      strays_count (named_puts marks.puts marks.names) (pins readers)
+      ∙ strays_are (named_puts marks.puts marks.names) (retired_puts marks.puts retired) (pins readers)
+      (λ number.
+      let t = tidy.once number in
+      let a = count_is (named_puts marks.puts marks.names) number in
+      let b = count_is (retired_puts marks.puts retired) number in
+      omega arith)
+      covered
+
+  -- there are never more strays than retired slots
+  pub strays_most : strays (named_puts marks.puts marks.names) (pins readers) ≤ length retired
+  strays_most =
+      let a = counted in
+      let b = some_stand (pins readers) (retired_puts marks.puts retired) in
+      let c = length-retired_puts marks.puts retired in
+      omega arith
+
+  -- a sweep found every retired slot held by a reader that has not moved since: each retired set is pinned
+  pub all_strays : AllHeld retired marks.polls → Still marks.polls readers
+      → strays (named_puts marks.puts marks.names) (pins readers) ≡ length retired
+  all_strays all still =
+      counted ∙ all_stand (pins readers) (retired_puts marks.puts retired) every
+      ∙ length-retired_puts marks.puts retired
+    where
+      every : (i r : ℕ) → get_elem? (retired_puts marks.puts retired) i ≡ some r → 0 < how_often r (pins readers)
+      every i r e =
+          let t = at_unmap (λ (x : Retired). get_or marks.puts x.slot 0) retired i r e in
+          let slot : ℕ = t.0.slot in
+          let y = all.slots i t.0 t.1 in
+          let w = still i y.0 y.1 in
+          let p : Past = w.1 in
+          let cur = gathered w.0 p w.2 in
+          let c = cur.polled i y.0 y.1 (sym w.3) in
+          let le = c.0 in
+          let le' = w.4 in
+          let same : p.slot ≡ y.0.slot = c.1 (omega arith) in let on : p.slot ≡ Some slot = same ∙ y.2 in
+          subst (λ (b : ℕ). 0 < how_often b (pins readers)) (sym (cur.placed slot on).0 ∙ t.2)
+          (pins_it readers w.0 p slot w.2 on)
+
+  -- a slot that was retired has a new put number now: nobody had pinned it
+  pub one_not_stray : (retired' : List Retired) (marks' : Marks) (at : ℕ) (entry : Retired)
+      → AllCurrent retired' marks' readers
+      → get_elem? retired at ≡ some entry → next ≤ get_or marks'.puts entry.slot 0
+      → strays (named_puts marks.puts marks.names)
+      (pins readers) < length retired
+  one_not_stray desk' marks' at entry after was least =
+      let l = one_less (pins readers) (retired_puts marks.puts retired) at
+      (get_or marks.puts entry.slot 0) (retired_put_at marks.puts retired at entry was) none in let c = counted in
+      let b = length-retired_puts marks.puts retired in omega arith
+    where
+      here : Living retired marks entry.slot
+      here = inr (at, entry, was, refl)
+
+      none : how_often (get_or marks.puts entry.slot 0) (pins readers) ≡ 0
+      none = dite (ℕ_discrete (how_often (get_or marks.puts entry.slot 0) (pins readers)) 0) (λ z. z) (λ nz.
+          let f = some_term (only (get_or marks.puts entry.slot 0)) (pins readers) (omega arith) in
+          let e = only-is (get_or marks.puts entry.slot 0) f.1 f.3 in
+          let y = pinned_by readers f.0 f.1 f.2 in
+          let has = (gathered y.0 y.1 y.3).placed y.2 y.4 in
+          let has' = (after y.0 y.1 y.3).placed y.2 y.4 in
+          let same : y.2 ≡ entry.slot = tidy.apart y.2 entry.slot has.1 here (has.0 ∙ y.5 ∙ e) in
+          let old : get_or marks'.puts entry.slot 0 ≡ get_or marks.puts entry.slot 0
+          = ap (λ (b : ℕ). get_or marks'.puts b 0) (sym same) ∙ has'.0 ∙ y.5 ∙ e in
+          absurd (let g = tidy.fresh entry.slot here in omega arith))

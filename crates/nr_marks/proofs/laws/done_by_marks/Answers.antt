@@ -1,5 +1,0 @@
-use Rattle.nr_marks.proofs.ExactPlace.{done_by_marks_lem}
-use Rattle.nr_marks.proofs.laws.done_by_marks.Goals as goal
-
-pub returns : goal.returns
-returns c = done_by_marks_lem

@@ -1,5 +1,0 @@
-use Rattle.nr_marks.proofs.ExactPlace.{no_slot_by_marks_lem}
-use Rattle.nr_marks.proofs.laws.no_slot_by_marks.Goals as goal
-
-pub returns : goal.returns
-returns c = no_slot_by_marks_lem

@@ -1,5 +1,0 @@
-use Rattle.nr_marks.proofs.PutNumbers.{count_more, put_more}
-use Rattle.nr_marks.proofs.laws.put_goes_on.Goals as goal
-
-pub returns : goal.returns
-returns c = λ log entry key. (count_more log entry, put_more log entry key)
