@@ -92,7 +92,8 @@ impl Office {
         requires { 0 < id }
     {
         if let Some(way) = self.directory.look_up(&mut self.reader, id) {
-            self.directory.mark(&mut self.reader, way);
+            let is_marked = self.directory.is_marked(&mut self.reader, way);
+            self.directory.mark(&mut self.reader, way, is_marked);
         }
     }
 

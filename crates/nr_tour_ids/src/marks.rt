@@ -15,7 +15,8 @@ pub fn show_marks<R: AllocGlobal + Print>(
 {
     directory.load_ahead(reader, &[7]);
     if let Some(way) = directory.look_up(reader, 7) {
-        directory.mark(reader, way);
+        let is_marked = directory.is_marked(reader, way);
+        directory.mark(reader, way, is_marked);
     }
     let marked = match directory.way_of(clerk, 7) {
         Some(way) => directory.take_mark(clerk, way),
