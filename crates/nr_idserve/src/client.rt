@@ -161,7 +161,7 @@ impl<'a> IdClient<'a> {
         ensures hears { HearsIdNote note self.old.hands.reader self.new.hands.reader }
         ensures rest { self.new ≡ record self.old { hands = with_id_reader self.old.hands self.new.hands.reader } }
     {
-        self.service.map().hear(&mut self.hands.reader, note)
+        self.service.map().hear(&mut self.hands.reader, note);
     }
 
     /// Sleeps until the dataflow told that it has applied so much at least, hears the note that tells it, in
