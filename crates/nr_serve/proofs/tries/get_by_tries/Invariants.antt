@@ -6,7 +6,7 @@ use Rattle.nr_serve.proofs.tries.get_by_tries.Given as goal
 
 abbrev pub invariant-loop-i : goal.invariant-loop-i
 invariant-loop-i g l = record {
-  ready : IsReady l.places.map.now l.places.triggers.now l.hands;
+  ready : IsReady l.shared.map.now l.shared.triggers.now l.hands;
   missed : Missed l.key l.i l.fn.hands l.hands;
   rows : l.rows ≡ l.fn.rows;
   rings : Rings l.fn.hands l.fn.lobby l.hands l.lobby;

@@ -9,5 +9,5 @@ invariant_of-self g c =
     let called
     = called_in_time c.args.key c.args.tries fields.hands got.new.hands c.args.rows.now got.new.rows got.result
     got.ensures.gets in
-    serves_on fields.places.map.now fields.places.triggers.now fields.opened.value fields.hands got.new.hands _ _
+    serves_on fields.shared.map.now fields.shared.triggers.now fields.opened.value fields.hands got.new.hands _ _
     c.self.invariant got.ensures.ready called.moves
