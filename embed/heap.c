@@ -1,6 +1,6 @@
 /* How the library asks the C library for memory, in place of the kit's own file, which knows malloc alone. What has a page
    or more begins with a line of the cache: there eight names of ids share one, and so do the words of eight keys. What has
-   several huge pages asks Linux for these, by which a find among a million keys takes two thirds of the time. */
+   several huge pages asks Linux for these. */
 #define _DEFAULT_SOURCE
 #include <stdint.h>
 #include <stdlib.h>
