@@ -1,12 +1,19 @@
 /* The algorithm's steps in C without proof: finds that count themselves at the key and at the slot, and, with ANNOUNCES,
    finds that write the slot into their reader's own word and look again. With RELEASES the stores of rows and the clearing
-   of a reader's word are released in place of sequentially consistent. Ids stand eight to a line, and the words of their
-   keys in the next one. One thread writes. */
-#include "contestant.h"
+   of a reader's word are released in place of sequentially consistent. With TAGGED the keys are ids: an id has the number
+   of its way for a key, its set begins with a row that is its tag, and a find looks at its way's mark. With HANDLES a reader
+   is told by a handle, as in nr.h, which leads to the map. One thread writes. */
+#include "ways.h"
 #include <stdatomic.h>
 
 #ifndef ANNOUNCES
 #define ANNOUNCES 0
+#endif
+#ifndef TAGGED
+#define TAGGED 0
+#endif
+#ifndef HANDLES
+#define HANDLES 0
 #endif
 
 #if RELEASES
@@ -15,7 +22,10 @@ enum { STORES = memory_order_release };
 enum { STORES = memory_order_seq_cst };
 #endif
 
-enum { STRIDE = 2 * ROWS + 2, LINE = 8, TRIES = 2, SPARE = 64, READERS = 4 * MOST_READERS };
+enum { STRIDE = 2 * (ROWS + TAGGED) + 2, LINE = 8, TRIES = 2, SPARE = 64, READERS = 4 * MOST_READERS };
+
+/* No way has the id. */
+#define NO_WAY UINT64_MAX
 
 /* A key's word: arrivals, its slot, whether it is filled, whether it was asked for. */
 #define FILLED 2u
@@ -34,8 +44,10 @@ typedef struct {
 } retired;
 
 typedef struct {
-  bool ids;
-  uint64_t sets, slots, fresh;
+  /* Of ids. */
+  grouping groups;
+  word *name, *mark;
+  uint64_t slots, fresh;
   word *key, *slot;
   /* What each reader has announced, a slot's number and 1, a line for one find and two for sixteen. */
   word *said;
@@ -51,58 +63,94 @@ typedef struct {
   value to[GROUP];
 } reader;
 
+typedef struct {
+  map *of;
+  reader *by;
+} side;
+
+typedef struct {
+  side *at;
+} handle;
+
 static uint64_t load(word *at) { return atomic_load(at); }
 static word *block(map *m, uint32_t slot) { return &m->slot[(uint64_t)slot * STRIDE]; }
 
-/* The place of a key's word. */
-static inline uint64_t place_of(map *m, uint64_t key) {
-  if (!m->ids) return key;
-  uint64_t set = hash_of(key) & m->sets;
-  load(&m->key[set * 2 * LINE + LINE]);
-  for (;; set = (set + 1) & m->sets) {
-    unsigned found = 1u << LINE;
-    for (unsigned i = 0; i < LINE; i++) found |= (unsigned)(load(&m->key[set * 2 * LINE + i]) == key) << i;
-    unsigned at = (unsigned)__builtin_ctz(found);
-    if (at < LINE) return set * 2 * LINE + LINE + at;
-  }
+static inline uint64_t hashed(grouping g, uint64_t id) {
+  uint64_t product = id * 0xbf58476d1ce4e5b9u;
+  return (product ^ product >> 32) * (g.key | 1);
 }
 
-static void add_id(map *m, uint64_t id) {
-  for (uint64_t set = hash_of(id) & m->sets;; set = (set + 1) & m->sets)
-    for (uint64_t at = set * 2 * LINE; at < set * 2 * LINE + LINE; at++)
-      if (!load(&m->key[at])) {
-        atomic_store(&m->key[at], id);
-        return;
-      }
+static inline uint32_t own_group(grouping g, uint64_t id) { return (uint32_t)((hashed(g, id) >> 32) * g.groups >> 32); }
+
+static inline uint32_t second_group(grouping g, uint64_t id) {
+  uint64_t further = (uint64_t)(uint32_t)hashed(g, id) * (g.groups - 1) >> 32;
+  return (own_group(g, id) + 1 + (uint32_t)further) % g.groups;
+}
+
+static two_groups groups_in_form(grouping g, uint64_t id) { return (two_groups){own_group(g, id), second_group(g, id)}; }
+
+/* The way of the group that has the id's name. */
+static inline uint64_t way_in(map *m, uint32_t group, uint64_t id) {
+  uint64_t first = (uint64_t)WAYS * group;
+  unsigned found = 0;
+  for (unsigned i = 0; i < WAYS; i++) found |= (unsigned)(load(&m->name[first + i]) == id) << i;
+  return found ? first + (unsigned)__builtin_ctz(found) : NO_WAY;
+}
+
+/* The place of a key's word. */
+static inline uint64_t place_of(map *m, uint64_t key) {
+  if (!TAGGED) return key;
+  uint32_t own = own_group(m->groups, key);
+  load(&m->key[(uint64_t)WAYS * own]);
+  load(&m->mark[own]);
+  uint64_t way = way_in(m, own, key);
+  return way == NO_WAY ? way_in(m, second_group(m->groups, key), key) : way;
+}
+
+static void name_ids(map *m, const plan *p) {
+  uint8_t *given = calloc(m->groups.groups, 1);
+  if (!given) stop_for("there is no memory");
+  for (uint64_t i = 0; i < p->keys; i++) {
+    uint64_t id = key_at(p, i);
+    uint32_t group = group_given(given, groups_in_form(m->groups, id));
+    atomic_store(&m->name[WAYS * (uint64_t)group + given[group]++], id);
+  }
+  free(given);
 }
 
 static void put(map *m, uint32_t slot, uint64_t key, uint64_t version) {
   value v;
   make_value(key, version, &v);
-  word *at = block(m, slot);
-  atomic_store_explicit(&at[1], ROWS, STORES);
-  for (int i = 0; i < WORDS; i++) atomic_store_explicit(&at[2 + i], v.word[i], STORES);
+  word *at = block(m, slot) + 1;
+  atomic_store_explicit(at++, ROWS + TAGGED, STORES);
+  if (TAGGED) {
+    atomic_store_explicit(at++, 0, STORES);
+    atomic_store_explicit(at++, key, STORES);
+  }
+  for (int i = 0; i < WORDS; i++) atomic_store_explicit(at++, v.word[i], STORES);
 }
+
+static word *words(uint64_t count) { return zeros(count * sizeof(word)); }
 
 static void *opened(const plan *p) {
   map *m = zeros(sizeof *m);
-  m->ids = p->ids;
-  uint64_t sets = 1, words = (p->keys + LINE - 1) & ~(uint64_t)(LINE - 1);
-  if (p->ids) {
-    while (sets * LINE < 2 * p->keys) sets *= 2;
-    words = sets * 2 * LINE;
+  uint64_t keys = p->keys;
+  if (TAGGED) {
+    m->groups = fewest_groups(p, groups_in_form);
+    keys = (uint64_t)WAYS * m->groups.groups;
+    m->name = words(keys);
+    m->mark = words(m->groups.groups);
+    name_ids(m, p);
   }
-  m->sets = sets - 1;
   m->slots = p->keys + READERS + SPARE;
-  m->key = zeros((words + m->slots * STRIDE) * sizeof(word));
-  m->slot = m->key + words;
-  m->said = zeros(READERS * 2 * LINE * sizeof(word));
+  m->key = words(keys);
+  m->slot = words(m->slots * STRIDE);
+  m->said = words(READERS * 2 * LINE);
   m->room = m->slots + 1;
   m->queue = zeros(m->room * sizeof *m->queue);
   m->stamp = zeros(m->slots * sizeof *m->stamp);
   for (uint64_t i = 0; i < p->keys; i++) {
     uint64_t key = key_at(p, i);
-    if (p->ids) add_id(m, key);
     put(m, (uint32_t)i, key, 0);
     atomic_store(&m->key[place_of(m, key)], i << 2 | FILLED);
   }
@@ -115,25 +163,37 @@ static void *new_reader(void *of) {
   reader *r = zeros(sizeof *r);
   if (m->readers == READERS) stop_for("a reader");
   r->said = &m->said[m->readers++ * 2 * LINE];
-  return r;
+  if (!HANDLES) return r;
+  handle *h = malloc(sizeof *h);
+  side *at = malloc(sizeof *at);
+  if (!h || !at) stop_for("there is no memory");
+  *at = (side){m, r};
+  h->at = at;
+  return h;
 }
 
-static inline const uint64_t *copied(map *m, uint64_t named, value *to) {
-  word *at = block(m, SLOT(named));
-  uint64_t rows = load(&at[1]);
-  for (uint64_t i = 0; i < 2 * rows; i++) to->word[i] = load(&at[2 + i]);
+/* The rows of the slot that the word names; NULL where its tag is another id's. */
+static inline const uint64_t *copied(map *m, uint64_t named, uint64_t key, value *to) {
+  word *at = block(m, SLOT(named)) + 1;
+  uint64_t rows = load(at++);
+  if (TAGGED) {
+    uint64_t none = load(at++), id = load(at++);
+    if (none != 0 || id != key) return NULL;
+    rows--;
+  }
+  for (uint64_t i = 0; i < 2 * rows; i++) to->word[i] = load(&at[i]);
   return to->word;
 }
 
-static inline const uint64_t *find_counted(map *m, uint64_t place, value *to) {
+static inline const uint64_t *find_counted(map *m, uint64_t place, uint64_t key, value *to) {
   uint64_t named = atomic_fetch_add(&m->key[place], ARRIVE);
   if (!(named & FILLED)) return NULL;
-  copied(m, named, to);
+  const uint64_t *found = copied(m, named, key, to);
   atomic_fetch_add(block(m, SLOT(named)), 1);
-  return to->word;
+  return found;
 }
 
-static inline const uint64_t *find_at(map *m, reader *r, uint64_t place, value *to) {
+static inline const uint64_t *find_at(map *m, reader *r, uint64_t place, uint64_t key, value *to) {
 #if ANNOUNCES
   uint64_t named = load(&m->key[place]);
   for (int i = 0; i < TRIES; i++) {
@@ -141,24 +201,40 @@ static inline const uint64_t *find_at(map *m, reader *r, uint64_t place, value *
     atomic_store(r->said, SLOT(named) + (uint64_t)1);
     uint64_t now = load(&m->key[place]);
     if (__builtin_expect(NAMED(now ^ named) == 0, 1)) {
-      copied(m, named, to);
+      const uint64_t *found = copied(m, named, key, to);
       atomic_store_explicit(r->said, 0, STORES);
-      return to->word;
+      return found;
     }
     named = now;
   }
   atomic_store(r->said, 0);
 #endif
   (void)r;
-  return find_counted(m, place, to);
+  return find_counted(m, place, key, to);
+}
+
+static inline bool is_marked(map *m, uint64_t way) { return load(&m->mark[way / WAYS]) >> way % WAYS & 1; }
+
+static inline const uint64_t *find_by(map *m, reader *r, uint64_t key) {
+  uint64_t place = place_of(m, key);
+  if (!TAGGED) return find_at(m, r, place, key, r->to);
+  if (place == NO_WAY) return NULL;
+  bool marked = is_marked(m, place);
+  const uint64_t *found = find_at(m, r, place, key, r->to);
+  if (found && !marked) atomic_fetch_or(&m->mark[place / WAYS], (uint64_t)1 << place % WAYS);
+  return found;
+}
+
+/* As a library has it: its function is compiled apart. */
+__attribute__((noinline)) static const uint64_t *find_by_handle(handle *h, uint64_t key) {
+  return h->at ? find_by(h->at->of, h->at->by, key) : NULL;
 }
 
 static const uint64_t *find(void *of, void *by, uint64_t key) {
-  map *m = of;
-  reader *r = by;
-  return find_at(m, r, place_of(m, key), r->to);
+  return HANDLES ? find_by_handle(by, key) : find_by(of, by, key);
 }
 
+#if !RELEASES && !HANDLES
 /* Loads a word of each line that these keys' sets have: of two lines at once, and then of others by the rows. */
 static inline void load_ahead(map *m, const uint64_t named[GROUP]) {
   uint64_t rows[GROUP];
@@ -167,7 +243,7 @@ static inline void load_ahead(map *m, const uint64_t named[GROUP]) {
     rows[i] = load(&at[1]);
     load(&at[STRIDE > LINE + 1 ? LINE + 1 : STRIDE - 1]);
   }
-  for (int line = 2; line < 1 + (ROWS + 3) / 4; line++)
+  for (int line = 2; line < 1 + (ROWS + TAGGED + 3) / 4; line++)
     for (int i = 0; i < GROUP; i++) {
       uint64_t last = 2 * rows[i] + 1, at = (uint64_t)line * LINE + 1;
       load(&block(m, SLOT(named[i]))[at < last ? at : last]);
@@ -178,8 +254,8 @@ static void find_each(void *of, void *by, const uint64_t *key, const uint64_t **
   map *m = of;
   reader *r = by;
   uint64_t place[GROUP], named[GROUP];
-  if (m->ids)
-    for (int i = 0; i < GROUP; i++) load(&m->key[(hash_of(key[i]) & m->sets) * 2 * LINE]);
+  if (TAGGED)
+    for (int i = 0; i < GROUP; i++) load(&m->name[(uint64_t)WAYS * own_group(m->groups, key[i])]);
   for (int i = 0; i < GROUP; i++) place[i] = place_of(m, key[i]);
   for (int i = 0; i < GROUP; i++) named[i] = load(&m->key[place[i]]);
   load_ahead(m, named);
@@ -191,16 +267,17 @@ static void find_each(void *of, void *by, const uint64_t *key, const uint64_t **
   for (int i = 0; i < GROUP; i++) {
     uint64_t now = load(&m->key[place[i]]);
     if (__builtin_expect(NAMED(now ^ named[i]) != 0 || !(now & FILLED), 0)) missed |= 1u << i;
-    else found[i] = copied(m, now, &r->to[i]);
+    else found[i] = copied(m, now, key[i], &r->to[i]);
   }
   for (int i = 0; i < GROUP - 1; i++) atomic_store_explicit(&r->said[i], 0, memory_order_release);
   atomic_store(&r->said[GROUP - 1], 0);
   for (int i = 0; missed; i++, missed >>= 1)
-    if (missed & 1) found[i] = find_at(m, r, place[i], &r->to[i]);
+    if (missed & 1) found[i] = find_at(m, r, place[i], key[i], &r->to[i]);
 #else
-  for (int i = 0; i < GROUP; i++) found[i] = find_at(m, r, place[i], &r->to[i]);
+  for (int i = 0; i < GROUP; i++) found[i] = find_at(m, r, place[i], key[i], &r->to[i]);
 #endif
 }
+#endif
 
 #if ANNOUNCES
 /* Marks each slot that some reader has announced: all slots retired before are heard now. */
@@ -251,17 +328,25 @@ static void update(void *of, uint64_t key, uint64_t version) {
   retire(m, SLOT(old), old >> 24);
 }
 
-#if RELEASES
-const contestant releasing = {.name = "the same in C, stores released", .open = opened, .reader = new_reader, .begin = no_thread,
-  .end = no_thread, .find = find, .update = update};
-#elif ANNOUNCES
-const contestant announcing = {.name = "the same steps in C", .open = opened, .reader = new_reader, .begin = no_thread,
-  .end = no_thread, .find = find, .update = update};
-const contestant announcing_each = {.name = "the same steps in C, 16 at once", .map_of = &announcing, .open = opened,
-  .reader = new_reader, .begin = no_thread, .end = no_thread, .find = find, .find_each = find_each, .update = update};
+#if TAGGED
+#define KIND IDS
+#define OF_KIND(name) name##_ids
 #else
-const contestant counted = {.name = "counted in C", .open = opened, .reader = new_reader, .begin = no_thread,
-  .end = no_thread, .find = find, .update = update};
-const contestant counted_each = {.name = "counted in C, 16 at once", .map_of = &counted, .open = opened,
-  .reader = new_reader, .begin = no_thread, .end = no_thread, .find = find, .find_each = find_each, .update = update};
+#define KIND NUMBERS
+#define OF_KIND(name) name
+#endif
+#define FORM .keys = KIND, .open = opened, .reader = new_reader, .begin = no_thread, .end = no_thread, .find = find, .update = update
+
+#if HANDLES
+const contestant OF_KIND(handled) = {.name = "the same in C, by handles", FORM};
+#elif RELEASES
+const contestant OF_KIND(releasing) = {.name = "the same in C, stores released", FORM};
+#elif ANNOUNCES
+const contestant OF_KIND(announcing) = {.name = "the same steps in C", FORM};
+const contestant OF_KIND(announcing_each) = {.name = "the same steps in C, 16 at once", .map_of = &OF_KIND(announcing),
+  .find_each = find_each, FORM};
+#else
+const contestant OF_KIND(counted) = {.name = "counted in C", FORM};
+const contestant OF_KIND(counted_each) = {.name = "counted in C, 16 at once", .map_of = &OF_KIND(counted),
+  .find_each = find_each, FORM};
 #endif

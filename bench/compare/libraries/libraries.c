@@ -8,18 +8,21 @@
 #include "bursts.h"
 #include <sys/wait.h>
 
-enum { MOST = 24 };
+enum { MOST = 32 };
 
 /* Of a library that isn't there the object isn't linked. */
 #define MAYBE __attribute__((weak))
-extern const contestant this_map, this_map_kept, this_map_each, this_ids, plain, plain_each, lock_a_key, counted, counted_each,
-    announcing, announcing_each, releasing;
+extern const contestant this_map, this_map_kept, this_map_each, plain, plain_each, lock_a_key, counted, counted_each, announcing,
+    announcing_each, handled, releasing;
+extern const contestant this_ids, this_ids_each, counted_ids, counted_each_ids, announcing_ids, announcing_each_ids, handled_ids,
+    releasing_ids;
 extern const contestant this_map_behind MAYBE, qsbr_array MAYBE, qsbr_table MAYBE, memb_array MAYBE, memb_table MAYBE,
     arc_swaps MAYBE, dashmaps MAYBE, tbb_map MAYBE, cuckoo MAYBE, michael MAYBE;
 
-static const contestant *const all[] = {&this_map, &this_map_kept, &this_map_each, &this_ids, &counted, &counted_each, &announcing,
-    &announcing_each, &releasing, &qsbr_array, &memb_array, &arc_swaps, &lock_a_key, &plain, &plain_each, &qsbr_table, &memb_table,
-    &dashmaps, &tbb_map, &cuckoo, &michael, &this_map_behind};
+static const contestant *const all[] = {&this_map, &this_map_kept, &this_map_each, &counted, &counted_each, &announcing,
+    &announcing_each, &handled, &releasing, &this_ids, &this_ids_each, &counted_ids, &counted_each_ids, &announcing_ids,
+    &announcing_each_ids, &handled_ids, &releasing_ids, &qsbr_array, &memb_array, &arc_swaps, &lock_a_key, &plain, &plain_each,
+    &qsbr_table, &memb_table, &dashmaps, &tbb_map, &cuckoo, &michael, &this_map_behind};
 
 typedef enum { EVEN, ZIPF, HOT, DRAWS } draw;
 static const char *const drawn_so[DRAWS] = {"even", "zipf", "hot"};

@@ -2,7 +2,7 @@
 #include "cache.h"
 #include "nr.h"
 
-enum { SPARE = 64 };
+enum { SPARE = 64, AGAIN = 64 };
 
 typedef struct {
   nr_writer writer;
@@ -19,6 +19,8 @@ typedef struct {
   bool kept;
   uint32_t kept_key;
   uint64_t kept_number;
+  /* The key that was asked for last, and how often it was looked for since. */
+  uint64_t asked, looks;
 } reader;
 
 static void *opened(const cache_plan *p) {
@@ -36,6 +38,7 @@ static void *new_reader(void *of) {
   reader *r = zeros(sizeof *r);
   if (nr_open_reader(&m->writer, &r->handle) != NR_DONE) stop_for("a reader");
   if (nr_open_poster(&m->taker, &r->poster) != NR_DONE) stop_for("a poster");
+  r->asked = UINT64_MAX;
   return r;
 }
 
@@ -43,15 +46,21 @@ static void post(reader *r) {
   if (r->kept && nr_post(&r->poster, r->kept_key, r->kept_number) == NR_DONE) r->kept = false;
 }
 
+static void ask(reader *r, uint64_t key) {
+  if (nr_ask(&r->handle, (uint32_t)key, &r->kept_number) == NR_SEND) {
+    r->kept = true, r->kept_key = (uint32_t)key;
+    post(r);
+  }
+  r->asked = key, r->looks = 0;
+}
+
 static const uint64_t *find(void *of, void *by, uint64_t key) {
   (void)of;
   reader *r = by;
   if (nr_find(&r->handle, (uint32_t)key, &r->rows) == NR_ROWS) return &r->rows.row[0].a;
   post(r);
-  if (!r->kept && nr_ask(&r->handle, (uint32_t)key, &r->kept_number) == NR_SEND) {
-    r->kept = true, r->kept_key = (uint32_t)key;
-    post(r);
-  }
+  /* What was asked for is only looked for, and asked for again now and then, since it may have come and gone. */
+  if (!r->kept && (key != r->asked || ++r->looks == AGAIN)) ask(r, key);
   return NULL;
 }
 

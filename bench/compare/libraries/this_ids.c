@@ -1,9 +1,8 @@
-/* This map over ids, by the calls of include/nr.h. It is opened with as few groups as leave no id without a way, from
-   five ids a group on. */
-#include "contestant.h"
+/* This map over ids, by the calls of include/nr.h. */
 #include "nr.h"
+#include "ways.h"
 
-enum { SPARE = 64, WAYS = 8, AMPLE = 3, TRIES = 16 };
+enum { SPARE = 64 };
 
 typedef struct {
   nr_id_writer writer;
@@ -12,6 +11,7 @@ typedef struct {
 typedef struct {
   nr_id_reader handle;
   nr_rows rows;
+  nr_wanted_id wanted[GROUP];
 } reader;
 
 static void rows_of(uint64_t id, uint64_t version, nr_row row[ROWS]) {
@@ -20,31 +20,19 @@ static void rows_of(uint64_t id, uint64_t version, nr_row row[ROWS]) {
   memcpy(row, &v, sizeof v);
 }
 
-/* Whether each id finds a way, as nr_admit looks for one. */
-static bool has_room(const plan *p, const nr_id_shape *shape) {
-  uint8_t *ids = calloc(shape->groups, 1);
-  if (!ids) stop_for("there is no memory");
-  bool fits = true;
-  for (uint64_t i = 0; i < p->keys && fits; i++) {
-    uint8_t *here = &ids[nr_id_group(shape, key_at(p, i))], *there = &ids[nr_id_second_group(shape, key_at(p, i))];
-    uint8_t *at = *here <= WAYS - AMPLE || *here <= *there ? here : there;
-    fits = ++*at <= WAYS;
-  }
-  free(ids);
-  return fits;
+static nr_id_shape shape_of(grouping g, uint32_t keys) {
+  uint32_t readers = 4 * MOST_READERS;
+  return (nr_id_shape){g.groups, keys + readers + SPARE, readers, ROWS, g.key, 0};
 }
 
-static nr_id_shape shape_for(const plan *p) {
-  uint32_t readers = 4 * MOST_READERS, keys = (uint32_t)p->keys;
-  nr_id_shape shape = {keys / 5 + 1, keys + readers + SPARE, readers, ROWS, 0, 0};
-  for (;; shape.groups += keys / 32 + 1)
-    for (shape.key = 1; shape.key <= TRIES; shape.key++)
-      if (has_room(p, &shape)) return shape;
+static two_groups groups_here(grouping g, uint64_t id) {
+  nr_id_shape shape = shape_of(g, 0);
+  return (two_groups){nr_id_group(&shape, id), nr_id_second_group(&shape, id)};
 }
 
 static void *opened(const plan *p) {
   map *m = zeros(sizeof *m);
-  nr_id_shape shape = shape_for(p);
+  nr_id_shape shape = shape_of(fewest_groups(p, groups_here), (uint32_t)p->keys);
   nr_id_reader first = {0};
   if (nr_open_ids(&shape, &m->writer) != NR_DONE || nr_open_id_reader(&m->writer, &first) != NR_DONE)
     stop_for("no map over ids");
@@ -75,6 +63,14 @@ static const uint64_t *find(void *of, void *by, uint64_t id) {
   return &r->rows.row[0].a;
 }
 
+static void find_each(void *of, void *by, const uint64_t *id, const uint64_t **found) {
+  (void)of;
+  reader *r = by;
+  for (int i = 0; i < GROUP; i++) r->wanted[i].id = id[i];
+  if (nr_find_each_id(&r->handle, r->wanted, GROUP) != NR_DONE) stop_for("finds of ids");
+  for (int i = 0; i < GROUP; i++) found[i] = r->wanted[i].answer == NR_ROWS ? &r->wanted[i].rows.row[0].a : NULL;
+}
+
 static void update(void *of, uint64_t id, uint64_t version) {
   map *m = of;
   nr_row row[ROWS];
@@ -84,3 +80,5 @@ static void update(void *of, uint64_t id, uint64_t version) {
 
 const contestant this_ids = {.name = "this map", .keys = IDS, .open = opened, .reader = new_reader,
   .begin = no_thread, .end = no_thread, .find = find, .update = update};
+const contestant this_ids_each = {.name = "this map, 16 at once", .keys = IDS, .map_of = &this_ids, .open = opened,
+  .reader = new_reader, .begin = no_thread, .end = no_thread, .find = find, .find_each = find_each, .update = update};
