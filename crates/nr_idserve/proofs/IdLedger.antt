@@ -18,7 +18,8 @@ use Rattle.nr_idserve.specs.declared.taking.Taken.{Taken}
 use Rattle.nr_idserve.specs.declared.taking.Taken.TheVariants as taken
 use Rattle.nr_idserve.specs.IdEnds.{FailsGroup, RaisesGroup}
 use Rattle.nr_idserve.specs.IdFlows.{IdFlowSeen}
-use Rattle.nr_idserve.specs.IdTakes.{AdmitsMakingRoom, AdmitsNext, NextsId, TakesById, TakesNext}
+use Rattle.nr_idserve.specs.IdTakes.{AdmitsAsking, AdmitsMakingRoom, AdmitsNext, NextsId, Say, TakesById}
+use Rattle.nr_idserve.specs.IdTakes.{TakesNext}
 use Rattle.nr_idserve.specs.IdLedger.{Answered, AreAnswers, DoesById, EachUpqueryEndsOnce, IdEnding, IsEachOnceById}
 use Rattle.nr_idserve.specs.IdLedger.{RunById, answered_by, fills_by, filled_by, id_of, ids_of, ids_refused}
 use Rattle.nr_idserve.specs.IdLedger.{ids_taken, opened_by, opened_of, owed_of}
@@ -127,41 +128,44 @@ record Answers (old : IdFlowSeen) (id : ℕ) (answer : Taken) (new : IdFlowSeen)
   pub claims : id ∷ [] ≡ ids_of (answered_by None answer) ++ ids_refused new.refused
   pub made : Made old.writer.writer new.writer.writer []
 
-admitted_id : (old new : IdFlowSeen) (id : ℕ) (sent : Sent) → AdmitsMakingRoom id old new (Ok sent) → sent.owed.id ≡ id
-admitted_id old new id sent admits = ⊎_elim
-    (λ once. once.1.id_is)
-    (λ full. ⊎_elim
-    (λ kept. let no : Ok sent ≡ Err refused.Full = kept.0 in absurd (cc (no)))
-    (λ room. room.2.1.id_is)
-    full.2)
-    admits
+asked_id : (said : Option Say) (old new : IdFlowSeen) (id : ℕ) (sent : Sent) → AdmitsAsking id said old new (Ok sent)
+    → sent.owed.id ≡ id
+asked_id None old new id sent admits = absurd admits
+asked_id (Some say) old new id sent (inl kept) = let no : Ok sent ≡ Err refused.Full = kept.0 in absurd (cc (no))
+asked_id (Some say) old new id sent (inr room) = room.2.0.1.id_is
 
-answers : (old new : IdFlowSeen) (id : ℕ) (answer : Taken) → old.refused ≡ None → AdmitsNext id old new answer
-    → Answers old id answer new
-answers old new id (taken.Asked sent) none admits =
-    let leaves = making_room_leaves old new id (Ok sent) admits in record {
-      taker = leaves.taker;
-      claims =
-          ap (λ (at : ℕ). at ∷ []) (sym (admitted_id old new id sent admits))
-          ∙ ap (λ (at : Option ℕ). sent.owed.id ∷ ids_refused at) (sym (leaves.refused ∙ none));
-      made = leaves.made;
-    }
-answers old new id (taken.Passed other) none admits =
-    let leaves = making_room_leaves old new id (Err admits.1) admits.3 in record {
-      taker = leaves.taker;
-      claims =
-          ap (λ (at : ℕ). at ∷ []) (sym admits.0)
-          ∙ ap (λ (at : Option ℕ). other ∷ ids_refused at) (sym (leaves.refused ∙ none));
-      made = leaves.made;
-    }
-answers old new id (taken.Full other) none admits =
-    let mid = admits.1 in
-    let leaves = making_room_leaves old mid id (Err refused.Full) admits.2 in record {
-      taker = ap (λ (flow : IdFlowSeen). flow.taker) admits.3 ∙ leaves.taker;
-      claims = ap (λ (flow : IdFlowSeen). ids_refused flow.refused) (sym admits.3);
-      made = subst (λ (flow : IdFlowSeen). Made old.writer.writer flow.writer.writer []) (sym admits.3) leaves.made;
-    }
-answers old new id taken.Idle none admits = absurd admits
+module _ (said : Option Say) where
+  admitted_id : (old new : IdFlowSeen) (id : ℕ) (sent : Sent) → AdmitsMakingRoom id said old new (Ok sent)
+      → sent.owed.id ≡ id
+  admitted_id old new id sent admits =
+      ⊎_elim (λ once. once.0.0.1.id_is) (λ full. asked_id said full.0 new id sent full.2) admits
+
+  answers : (old new : IdFlowSeen) (id : ℕ) (answer : Taken) → old.refused ≡ None → AdmitsNext id said old new answer
+      → Answers old id answer new
+  answers old new id (taken.Asked sent) none admits =
+      let leaves = making_room_leaves old new id said (Ok sent) admits in record {
+        taker = leaves.taker;
+        claims =
+            ap (λ (at : ℕ). at ∷ []) (sym (admitted_id old new id sent admits))
+            ∙ ap (λ (at : Option ℕ). sent.owed.id ∷ ids_refused at) (sym (leaves.refused ∙ none));
+        made = leaves.made;
+      }
+  answers old new id (taken.Passed other) none admits =
+      let leaves = making_room_leaves old new id said (Err admits.1) admits.3 in record {
+        taker = leaves.taker;
+        claims =
+            ap (λ (at : ℕ). at ∷ []) (sym admits.0)
+            ∙ ap (λ (at : Option ℕ). other ∷ ids_refused at) (sym (leaves.refused ∙ none));
+        made = leaves.made;
+      }
+  answers old new id (taken.Full other) none admits =
+      let mid = admits.1 in
+      let leaves = making_room_leaves old mid id said (Err refused.Full) admits.2 in record {
+        taker = ap (λ (flow : IdFlowSeen). flow.taker) admits.3 ∙ leaves.taker;
+        claims = ap (λ (flow : IdFlowSeen). ids_refused flow.refused) (sym admits.3);
+        made = subst (λ (flow : IdFlowSeen). Made old.writer.writer flow.writer.writer []) (sym admits.3) leaves.made;
+      }
+  answers old new id taken.Idle none admits = absurd admits
 
 -- an id of 0 is passed
 passes : (old new : IdFlowSeen) (id : ℕ) (answer : Taken) → old.refused ≡ None → id ≡ 0 → answer ≡ taken.Passed 0
@@ -205,40 +209,42 @@ idle old new held none = record {
       };
 }
 
-takes_next : (old new : IdFlowSeen) (answer : Taken) (held : List Owed) → TakesNext old new answer
-    → Books old new held (opened_by (answered_by None answer) ++ held) (answered_by None answer) []
-takes_next old new answer held next =
-    let came = comes old next.1 next.0 next.2 in
-    next_answers old next.1 new next.0 answer held came (⊎_elim
-    (λ none. passes next.1 new next.0 answer came.none none.0 none.1 none.2)
-    (λ admits. answers next.1 new next.0 answer came.none admits)
-    next.3)
+module _ (said : Option Say) where
+  takes_next : (old new : IdFlowSeen) (answer : Taken) (held : List Owed) → TakesNext said old new answer
+      → Books old new held (opened_by (answered_by None answer) ++ held) (answered_by None answer) []
+  takes_next old new answer held next =
+      let came = comes old next.1 next.0 next.2 in
+      next_answers old next.1 new next.0 answer held came (⊎_elim
+      (λ none. passes next.1 new next.0 answer came.none none.0 none.1 none.2)
+      (λ admits. answers said next.1 new next.0 answer came.none admits)
+      next.3)
 
--- none was kept
-takes_free : (old new : IdFlowSeen) (answer : Taken) (held : List Owed) → old.kept ≡ None → TakesById old new answer
-    → Books old new held (opened_by (answered_by None answer) ++ held) (answered_by None answer) []
-takes_free old new (taken.Asked sent) held none takes = ⊎_elim
-    (λ kept. let both : None ≡ Some sent = sym none ∙ kept.0 in absurd (cc (both)))
-    (λ free. takes_next old new (taken.Asked sent) held free.1)
-    takes
-takes_free old new (taken.Passed id) held none takes = takes_next old new (taken.Passed id) held takes.1
-takes_free old new (taken.Full id) held none takes = takes_next old new (taken.Full id) held takes.1
-takes_free old new taken.Idle held none takes = idle old new held takes.1
+  -- none was kept
+  takes_free : (old new : IdFlowSeen) (answer : Taken) (held : List Owed) → old.kept ≡ None
+      → TakesById said old new answer
+      → Books old new held (opened_by (answered_by None answer) ++ held) (answered_by None answer) []
+  takes_free old new (taken.Asked sent) held none takes = ⊎_elim
+      (λ kept. let both : None ≡ Some sent = sym none ∙ kept.0 in absurd (cc (both)))
+      (λ free. takes_next old new (taken.Asked sent) held free.1)
+      takes
+  takes_free old new (taken.Passed id) held none takes = takes_next old new (taken.Passed id) held takes.1
+  takes_free old new (taken.Full id) held none takes = takes_next old new (taken.Full id) held takes.1
+  takes_free old new taken.Idle held none takes = idle old new held takes.1
 
-takes : (old new : IdFlowSeen) (answer : Taken) (held : List Owed) (kept : Option Sent) → old.kept ≡ kept
-    → TakesById old new answer
-    → Books old new held (opened_by (answered_by kept answer) ++ held) (answered_by kept answer) []
-takes old new answer held None is does = takes_free old new answer held is does
-takes old new answer held (Some sent) is does =
-    let first = kept_first old new answer sent is does in
-    quiet old new held
-    (rest_leaves old new (ap (λ (flow : IdFlowSeen). flow.taker) first)
-    (ap (λ (flow : IdFlowSeen). flow.refused) first) (ap (λ (flow : IdFlowSeen). flow.writer) first))
+  takes : (old new : IdFlowSeen) (answer : Taken) (held : List Owed) (kept : Option Sent) → old.kept ≡ kept
+      → TakesById said old new answer
+      → Books old new held (opened_by (answered_by kept answer) ++ held) (answered_by kept answer) []
+  takes old new answer held None is does = takes_free old new answer held is does
+  takes old new answer held (Some sent) is does =
+      let first = kept_first said old new answer sent is does in
+      quiet old new held
+      (rest_leaves old new (ap (λ (flow : IdFlowSeen). flow.taker) first)
+      (ap (λ (flow : IdFlowSeen). flow.refused) first) (ap (λ (flow : IdFlowSeen). flow.writer) first))
 
 -- ANY CALL
 books : {old new : IdFlowSeen} {held left : List Owed} {answers : List Answered} {ends : List IdEnding}
     → DoesById old held answers ends new left → Books old new held left answers ends
-books (Takes old new answer held does) = takes old new answer held old.kept refl does
+books (Takes old new said answer held does) = takes said old new answer held old.kept refl does
 books (Fills old new sent rows said before after does) =
     spends old new sent.owed before after _ refl (fill_leaves old new sent rows said does)
 books (FillLacks old new sent rows back held does) = quiet old new held (lack_leaves old new sent rows back does)

@@ -1,5 +1,5 @@
 -- What a dataflow's calls leave as it is, and which fills its writer has done.
-use Rattle.std.proofs.Common.{◌≡◌, ℕ, List, [], ◌∷◌, ◌++◌, Result, Ok, Err, ap, ◌∙◌}
+use Rattle.std.proofs.Common.{◌≡◌, ℕ, Bool, List, [], ◌∷◌, ◌++◌, Option, None, Some, Result, Ok, Err, ap, ◌∙◌}
 use Rattle.std.proofs.Common.{append_assoc, false, inl, inr, true, ⊎_elim}
 use Rattle.nr_model.specs.declared.batches.Delta.{Delta}
 use Rattle.nr_model.specs.declared.rows.Row.{Row}
@@ -27,7 +27,8 @@ use Rattle.nr_serve.proofs.Filled.{Made, cancel_made, evict_made, fill_made, fil
 use Rattle.nr_serve.proofs.Filled.{replace_made, update_made}
 use Rattle.nr_idserve.specs.IdEnds.{FillsOneId, WithdrawsOne}
 use Rattle.nr_idserve.specs.IdFlows.{IdFlowSeen}
-use Rattle.nr_idserve.specs.IdTakes.{AdmitsMakingRoom, AdmitsOne, MakesRoom}
+use Rattle.nr_idserve.specs.IdTakes.{AdmitsAsking, AdmitsMakingRoom, AdmitsOne, ChoosesFor, EvictsIf, EvictsOneId}
+use Rattle.nr_idserve.specs.IdTakes.{MakesRoom, Say}
 use Rattle.nr_idserve.specs.IdLedger.{ended, fills_by}
 
 pub made_both : (a b c : Caller) (one two : List Filling) → Made a b one → Made b c two → Made a c (one ++ two)
@@ -95,27 +96,46 @@ admits_leaves old new id (Err why) admits =
     leaves_writing old new admits.1
     (made_none old.writer.writer new.writer.writer (ap (λ (writer : Caller). writer.mine) admits.0.writer))
 
-keeps_room_leaves : (old new : IdFlowSeen) (id : ℕ) → MakesRoom id old new false → Leaves old new []
-keeps_room_leaves old new id (inl same) = record {
+choice_leaves : (old new : IdFlowSeen) (id chosen : ℕ) → ChoosesFor id old new chosen → Leaves old new []
+choice_leaves old new id chosen chooses =
+    leaves_writing old new chooses.rest
+    (made_none old.writer.writer new.writer.writer (ap (λ (writer : Caller). writer.mine) chooses.stays.writer))
+
+eviction_leaves : (old new : IdFlowSeen) (id : ℕ) (answer : Evict) → EvictsOneId id old new answer → Leaves old new []
+eviction_leaves old new id answer evicts =
+    leaves old new [] evicts.rest (evict_id_made id old.writer new.writer answer evicts.evicts)
+
+may_go_leaves : (old new : IdFlowSeen) (id : ℕ) (may_go made : Bool) → EvictsIf may_go id old new made
+    → Leaves old new []
+may_go_leaves old new id true true evicts = eviction_leaves old new id evict.Evicted evicts
+may_go_leaves old new id true false evicts = eviction_leaves old new id evict.Nothing evicts
+may_go_leaves old new id false true evicts = absurd evicts
+may_go_leaves old new id false false same = record {
   taker = ap (λ (flow : IdFlowSeen). flow.taker) same;
   refused = ap (λ (flow : IdFlowSeen). flow.refused) same;
   made = same_made old new (ap (λ (flow : IdFlowSeen). flow.writer) same);
 }
-keeps_room_leaves old new id (inr tried) =
-    leaves_writing old new tried.4 (evict_id_made tried.0 old.writer new.writer evict.Nothing tried.2)
 
-room_leaves : (old new : IdFlowSeen) (id : ℕ) → MakesRoom id old new true → Leaves old new []
-room_leaves old new id room = leaves old new [] room.5 (evict_id_made room.0 old.writer new.writer evict.Evicted room.2)
+room_leaves : (old new : IdFlowSeen) (id : ℕ) (say : Say) (made : Bool) → MakesRoom id say old new made
+    → Leaves old new []
+room_leaves old new id say made makes =
+    leaves_both old makes.0 new [] (choice_leaves old makes.0 id say.id makes.1)
+    (may_go_leaves makes.0 new say.id say.may_go made makes.2)
 
-pub making_room_leaves : (old new : IdFlowSeen) (id : ℕ) (answer : Result Sent Refused)
-    → AdmitsMakingRoom id old new answer → Leaves old new []
-making_room_leaves old new id answer (inl once) = admits_leaves old new id answer once
-making_room_leaves old new id answer (inr full) =
-    leaves_both old full.0 new [] (admits_leaves old full.0 id (Err refused.Full) full.1) (⊎_elim
-    (λ kept. keeps_room_leaves full.0 new id kept.1)
-    (λ room. leaves_both full.0 room.0 new
-    [] (room_leaves full.0 room.0 id room.1) (admits_leaves room.0 new id answer room.2))
-    full.2)
+asking_leaves : (old new : IdFlowSeen) (id : ℕ) (said : Option Say) (answer : Result Sent Refused)
+    → AdmitsAsking id said old new answer → Leaves old new []
+asking_leaves old new id None answer admits = absurd admits
+asking_leaves old new id (Some say) answer (inl kept) = room_leaves old new id say false kept.1
+asking_leaves old new id (Some say) answer (inr room) =
+    leaves_both old room.0 new [] (room_leaves old room.0 id say true room.1)
+    (admits_leaves room.0 new id answer room.2.0)
+
+pub making_room_leaves : (old new : IdFlowSeen) (id : ℕ) (said : Option Say) (answer : Result Sent Refused)
+    → AdmitsMakingRoom id said old new answer → Leaves old new []
+making_room_leaves old new id said answer (inl once) = admits_leaves old new id answer once.0.0
+making_room_leaves old new id said answer (inr full) =
+    leaves_both old full.0 new [] (admits_leaves old full.0 id (Err refused.Full) full.1)
+    (asking_leaves full.0 new id said answer full.2)
 
 -- FILLS AND WITHDRAWALS
 pub fill_leaves : (old new : IdFlowSeen) (sent : Sent) (rows : List Row) (said : Spent)

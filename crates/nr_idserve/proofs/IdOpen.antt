@@ -1,6 +1,6 @@
 -- The upqueries in hand are those that are open.
 use Rattle.std.proofs.Common.{◌≡◌, ◌≢◌, ◌+◌, ◌<◌, ◌≤◌, ℕ, zero, suc, List, [], ◌∷◌, ◌++◌, Option, None, Some, refl, sym}
-use Rattle.std.proofs.Common.{ap, ◌∙◌, subst, arith, false, Ok, Err, Result, ◌⊎◌, inl, inr, ⊎_elim}
+use Rattle.std.proofs.Common.{ap, ◌∙◌, subst, arith, Bool, false, true, Ok, Err, Result, ◌⊎◌, inl, inr, ⊎_elim}
 use Rattle.nr_machine.specs.Sums.{only}
 use Rattle.nr_core.proofs.Sums.{only-is, only-le, only-same}
 use Rattle.nr_idmap.specs.IdLaws.{OneUpquery}
@@ -14,7 +14,8 @@ use Rattle.nr_idserve.specs.declared.taking.Taken.{Taken}
 use Rattle.nr_idserve.specs.declared.taking.Taken.TheVariants as taken
 use Rattle.nr_idserve.specs.IdEnds.{FailsGroup, FillsOneId, RaisesGroup, WithdrawsOne}
 use Rattle.nr_idserve.specs.IdFlows.{IdFlowSeen}
-use Rattle.nr_idserve.specs.IdTakes.{AdmitsMakingRoom, AdmitsNext, AdmitsOne, MakesRoom, NextsId, TakesById, TakesNext}
+use Rattle.nr_idserve.specs.IdTakes.{AdmitsAsking, AdmitsMakingRoom, AdmitsNext, AdmitsOne, EvictsIf, MakesRoom}
+use Rattle.nr_idserve.specs.IdTakes.{NextsId, Say, TakesById, TakesNext}
 use Rattle.nr_idserve.specs.IdLedger.{AllOpen, Answered, AreAnswers, AreTheOpen, DoesById, IdEnding, answered_by, ended}
 use Rattle.nr_idserve.specs.IdLedger.{held_for, held_for_id, one_if_open, opened_by}
 use Rattle.nr_idserve.specs.IdLedger.DoesById.{Takes, Fills, FillLacks, Fails, FailWorn, Invalidates, InvalidateWorn}
@@ -150,23 +151,36 @@ admits_open : (old new : IdFlowSeen) (id : ℕ) (answer : Result Sent Refused) (
 admits_open old new id (Ok sent) held admits was = opens_one old.writer new.writer sent.owed held admits.1.opens was
 admits_open old new id (Err why) held admits was = stays_open old.writer new.writer held admits.0.owes was
 
-keeps_room_open : (old new : IdFlowSeen) (id : ℕ) (held : List Owed) → MakesRoom id old new false
+may_go_open : (old new : IdFlowSeen) (id : ℕ) (may_go made : Bool) (held : List Owed) → EvictsIf may_go id old new made
     → AreTheOpen old.writer held → AreTheOpen new.writer held
-keeps_room_open old new id held makes was = ⊎_elim
-    (λ same. rests_open old.writer new.writer held (ap (λ (flow : IdFlowSeen). flow.writer) same) was)
-    (λ tried. stays_open old.writer new.writer held tried.3 was)
-    makes
+may_go_open old new id true true held evicts was = stays_open old.writer new.writer held evicts.owes was
+may_go_open old new id true false held evicts was = stays_open old.writer new.writer held evicts.owes was
+may_go_open old new id false true held evicts was = absurd evicts
+may_go_open old new id false false held same was =
+    rests_open old.writer new.writer held (ap (λ (flow : IdFlowSeen). flow.writer) same) was
 
-makes_room_open : (old new : IdFlowSeen) (id : ℕ) (answer : Result Sent Refused) (held : List Owed)
-    → AdmitsMakingRoom id old new answer → AreTheOpen old.writer held
+room_open : (old new : IdFlowSeen) (id : ℕ) (say : Say) (made : Bool) (held : List Owed)
+    → MakesRoom id say old new made → AreTheOpen old.writer held → AreTheOpen new.writer held
+room_open old new id say made held makes was =
+    may_go_open makes.0 new say.id say.may_go made held makes.2
+    (stays_open old.writer makes.0.writer held makes.1.stays.owes was)
+
+asking_open : (old new : IdFlowSeen) (id : ℕ) (said : Option Say) (answer : Result Sent Refused) (held : List Owed)
+    → AdmitsAsking id said old new answer → AreTheOpen old.writer held → AreTheOpen new.writer (admitted answer ++ held)
+asking_open old new id None answer held admits was = absurd admits
+asking_open old new id (Some say) answer held (inl kept) was =
+    subst (λ (answer : Result Sent Refused). AreTheOpen new.writer (admitted answer ++ held)) (sym kept.0)
+    (room_open old new id say false held kept.1 was)
+asking_open old new id (Some say) answer held (inr room) was =
+    admits_open room.0 new id answer held room.2.0 (room_open old room.0 id say true held room.1 was)
+
+makes_room_open : (old new : IdFlowSeen) (id : ℕ) (said : Option Say) (answer : Result Sent Refused) (held : List Owed)
+    → AdmitsMakingRoom id said old new answer → AreTheOpen old.writer held
     → AreTheOpen new.writer (admitted answer ++ held)
-makes_room_open old new id answer held admits was = ⊎_elim
-    (λ once. admits_open old new id answer held once was)
-    (λ full. let mid = stays_open old.writer full.0.writer held full.1.0.owes was in ⊎_elim
-    (λ refused. subst (λ (said : Result Sent Refused). AreTheOpen new.writer (admitted said ++ held)) (sym refused.0)
-    (keeps_room_open full.0 new id held refused.1 mid))
-    (λ room. admits_open room.0 new id answer held room.2 (stays_open full.0.writer room.0.writer held room.1.3 mid))
-    full.2)
+makes_room_open old new id said answer held admits was = ⊎_elim
+    (λ once. admits_open old new id answer held once.0.0 was)
+    (λ full. asking_open full.0 new id said answer held full.2
+    (stays_open old.writer full.0.writer held full.1.0.owes was))
     admits
 
 -- what a take gave
@@ -176,14 +190,17 @@ asked (taken.Passed id) = []
 asked (taken.Full id) = []
 asked taken.Idle = []
 
-next_open : (old new : IdFlowSeen) (id : ℕ) (answer : Taken) (held : List Owed) → AdmitsNext id old new answer
+next_open : (old new : IdFlowSeen) (id : ℕ) (said : Option Say) (answer : Taken) (held : List Owed)
+    → AdmitsNext id said old new answer
     → AreTheOpen old.writer held → AreTheOpen new.writer (asked answer ++ held)
-next_open old new id (taken.Asked sent) held admits was = makes_room_open old new id (Ok sent) held admits was
-next_open old new id (taken.Passed other) held admits was = makes_room_open old new id (Err admits.1) held admits.3 was
-next_open old new id (taken.Full other) held admits was =
+next_open old new id said (taken.Asked sent) held admits was =
+    makes_room_open old new id said (Ok sent) held admits was
+next_open old new id said (taken.Passed other) held admits was =
+    makes_room_open old new id said (Err admits.1) held admits.3 was
+next_open old new id said (taken.Full other) held admits was =
     rests_open admits.1.writer new.writer held (ap (λ (flow : IdFlowSeen). flow.writer) admits.3)
-    (makes_room_open old admits.1 id _ held admits.2 was)
-next_open old new id taken.Idle held admits was = absurd admits
+    (makes_room_open old admits.1 id said _ held admits.2 was)
+next_open old new id said taken.Idle held admits was = absurd admits
 
 -- the claim was found without the writer
 claim_rests : (old new : IdFlowSeen) (id : ℕ) → NextsId old new (Some id) → new.writer ≡ old.writer
@@ -192,37 +209,39 @@ claim_rests old new id nexts = ⊎_elim
     (λ came. ap (λ (flow : IdFlowSeen). flow.writer) came.rest)
     nexts
 
-comes_open : (old new : IdFlowSeen) (answer : Taken) (held : List Owed) → TakesNext old new answer
-    → AreTheOpen old.writer held → AreTheOpen new.writer (asked answer ++ held)
-comes_open old new answer held comes was =
-    let mid = rests_open old.writer comes.1.writer held (claim_rests old comes.1 comes.0 comes.2) was in ⊎_elim
-    (λ none. subst (λ (said : Taken). AreTheOpen new.writer (asked said ++ held)) (sym none.1)
-    (rests_open comes.1.writer new.writer held (ap (λ (flow : IdFlowSeen). flow.writer) none.2) mid))
-    (λ admits. next_open comes.1 new comes.0 answer held admits mid)
-    comes.3
+module _ (said : Option Say) where
+  comes_open : (old new : IdFlowSeen) (answer : Taken) (held : List Owed) → TakesNext said old new answer
+      → AreTheOpen old.writer held → AreTheOpen new.writer (asked answer ++ held)
+  comes_open old new answer held comes was =
+      let mid = rests_open old.writer comes.1.writer held (claim_rests old comes.1 comes.0 comes.2) was in ⊎_elim
+      (λ none. subst (λ (answer : Taken). AreTheOpen new.writer (asked answer ++ held)) (sym none.1)
+      (rests_open comes.1.writer new.writer held (ap (λ (flow : IdFlowSeen). flow.writer) none.2) mid))
+      (λ admits. next_open comes.1 new comes.0 said answer held admits mid)
+      comes.3
 
--- none was kept
-takes_open : (old new : IdFlowSeen) (answer : Taken) (held : List Owed) → old.kept ≡ None → TakesById old new answer
-    → AreTheOpen old.writer held → AreTheOpen new.writer (asked answer ++ held)
-takes_open old new (taken.Asked sent) held none takes was = ⊎_elim
-    (λ kept. let both : None ≡ Some sent = sym none ∙ kept.0 in absurd (cc (both)))
-    (λ free. comes_open old new (taken.Asked sent) held free.1 was)
-    takes
-takes_open old new (taken.Passed id) held none takes was = comes_open old new (taken.Passed id) held takes.1 was
-takes_open old new (taken.Full id) held none takes was = comes_open old new (taken.Full id) held takes.1 was
-takes_open old new taken.Idle held none takes was =
-    rests_open old.writer new.writer held (ap (λ (flow : IdFlowSeen). flow.writer) takes.1.2) was
+  -- none was kept
+  takes_open : (old new : IdFlowSeen) (answer : Taken) (held : List Owed) → old.kept ≡ None
+      → TakesById said old new answer
+      → AreTheOpen old.writer held → AreTheOpen new.writer (asked answer ++ held)
+  takes_open old new (taken.Asked sent) held none takes was = ⊎_elim
+      (λ kept. let both : None ≡ Some sent = sym none ∙ kept.0 in absurd (cc (both)))
+      (λ free. comes_open old new (taken.Asked sent) held free.1 was)
+      takes
+  takes_open old new (taken.Passed id) held none takes was = comes_open old new (taken.Passed id) held takes.1 was
+  takes_open old new (taken.Full id) held none takes was = comes_open old new (taken.Full id) held takes.1 was
+  takes_open old new taken.Idle held none takes was =
+      rests_open old.writer new.writer held (ap (λ (flow : IdFlowSeen). flow.writer) takes.1.2) was
 
--- one was kept, and comes first
-pub kept_first : (old new : IdFlowSeen) (answer : Taken) (sent : Sent) → old.kept ≡ Some sent → TakesById old new answer
-    → new ≡ record old { kept = None }
-kept_first old new (taken.Asked other) sent is takes =
-    ⊎_elim (λ kept. kept.1) (λ free. let both : None ≡ Some sent = sym free.0 ∙ is in absurd (cc (both))) takes
-kept_first old new (taken.Passed id) sent is takes =
-    let both : None ≡ Some sent = sym takes.0 ∙ is in
-    absurd (cc (both))
-kept_first old new (taken.Full id) sent is takes = let both : None ≡ Some sent = sym takes.0 ∙ is in absurd (cc (both))
-kept_first old new taken.Idle sent is takes = let both : None ≡ Some sent = sym takes.0 ∙ is in absurd (cc (both))
+  -- one was kept, and comes first
+  pub kept_first : (old new : IdFlowSeen) (answer : Taken) (sent : Sent) → old.kept ≡ Some sent
+      → TakesById said old new answer → new ≡ record old { kept = None }
+  kept_first old new (taken.Asked other) sent is takes =
+      ⊎_elim (λ kept. kept.1) (λ free. let both : None ≡ Some sent = sym free.0 ∙ is in absurd (cc (both))) takes
+  kept_first old new (taken.Passed id) sent is takes =
+      let both : None ≡ Some sent = sym takes.0 ∙ is in absurd (cc (both))
+  kept_first old new (taken.Full id) sent is takes =
+      let both : None ≡ Some sent = sym takes.0 ∙ is in absurd (cc (both))
+  kept_first old new taken.Idle sent is takes = let both : None ≡ Some sent = sym takes.0 ∙ is in absurd (cc (both))
 
 opened_asked : (answer : Taken) → opened_by (answered_by None answer) ≡ asked answer
 opened_asked (taken.Asked sent) = refl
@@ -230,15 +249,15 @@ opened_asked (taken.Passed id) = refl
 opened_asked (taken.Full id) = refl
 opened_asked taken.Idle = refl
 
-take_open : (old new : IdFlowSeen) (answer : Taken) (held : List Owed) (kept : Option Sent) → old.kept ≡ kept
-    → TakesById old new answer → AreTheOpen old.writer held
+take_open : (old new : IdFlowSeen) (said : Option Say) (answer : Taken) (held : List Owed) (kept : Option Sent)
+    → old.kept ≡ kept → TakesById said old new answer → AreTheOpen old.writer held
     → AreTheOpen new.writer (opened_by (answered_by kept answer) ++ held)
-take_open old new answer held None is takes was =
+take_open old new said answer held None is takes was =
     subst (λ (more : List Owed). AreTheOpen new.writer (more ++ held)) (sym (opened_asked answer))
-    (takes_open old new answer held is takes was)
-take_open old new answer held (Some sent) is takes was =
+    (takes_open said old new answer held is takes was)
+take_open old new said answer held (Some sent) is takes was =
     rests_open old.writer new.writer held
-    (ap (λ (flow : IdFlowSeen). flow.writer) (kept_first old new answer sent is takes)) was
+    (ap (λ (flow : IdFlowSeen). flow.writer) (kept_first said old new answer sent is takes)) was
 
 -- and those that were spent didn't pass
 abbrev pub LeavesOpen : Keeper → List Owed → List IdEnding → Type 0
@@ -267,7 +286,7 @@ withdraw_open raises old new sent spent.Failed before after ends was =
 pub does_open : {old new : IdFlowSeen} {held left : List Owed} {answers : List Answered} {ends : List IdEnding}
     → DoesById old held answers ends new left → AreTheOpen old.writer held
     → LeavesOpen new.writer left ends
-does_open (Takes old new answer held takes) was = (take_open old new answer held old.kept refl takes was, tt)
+does_open (Takes old new said answer held takes) was = (take_open old new said answer held old.kept refl takes was, tt)
 does_open (Fills old new sent rows said before after fills) was =
     fill_open old new sent rows said before after fills was
 does_open (FillLacks old new sent rows back held fills) was =

@@ -6,3 +6,4 @@ pub mod IdTurning
 pub mod IdLedger
 pub mod IdClaims
 pub mod IdTelling
+pub mod IdRoom

@@ -23,7 +23,7 @@ use Rattle.nr_idserve.specs.declared.taking.Taken.{Taken}
 use Rattle.nr_idserve.specs.declared.taking.Taken.TheVariants as taken
 use Rattle.nr_idserve.specs.IdEnds.{FailsOneId, FillsOneId, InvalidatesOneId}
 use Rattle.nr_idserve.specs.IdFlows.{IdFlowSeen}
-use Rattle.nr_idserve.specs.IdTakes.{TakesById}
+use Rattle.nr_idserve.specs.IdTakes.{Say, TakesById}
 
 -- THE BOOKS
 -- what a claim came to that was taken: it opened an upquery, or its id needed none
@@ -125,7 +125,8 @@ answered_by (Some kept) answer = []
 -- before it, which are those that it keeps and those that are under way, as nobody can drop or copy one; the claims
 -- that it answered; the upqueries that ended; and those in hand after it.
 pub data DoesById : IdFlowSeen → List Owed → List Answered → List IdEnding → IdFlowSeen → List Owed → Type 0 where
-  Takes : (old new : IdFlowSeen) (answer : Taken) (held : List Owed) → TakesById old new answer
+  Takes : (old new : IdFlowSeen) (said : Option Say) (answer : Taken) (held : List Owed)
+      → TakesById said old new answer
       → DoesById old held (answered_by old.kept answer) [] new (opened_by (answered_by old.kept answer) ++ held)
   Fills : (old new : IdFlowSeen) (sent : Sent) (rows : List Row) (spent : Spent) (before after : List Owed)
       → FillsOneId sent rows old new (Ok spent)

@@ -1,5 +1,5 @@
 -- What a turn of a dataflow by id does: a take, a question to the source, and a fill or a failure, in a row.
-use Rattle.std.specs.Prelude.{◌≡◌, ◌⊎◌, ℕ, List, Some, Ok, Err}
+use Rattle.std.specs.Prelude.{◌≡◌, ◌⊎◌, ℕ, List, Option, Some, Ok, Err}
 use Rattle.nr_model.specs.declared.rows.Row.{Row}
 use Rattle.nr_idmap.specs.Keepers.{Sent, id_rows}
 use Rattle.nr_idmap.specs.Tags.{IsIdSet}
@@ -12,7 +12,7 @@ use Rattle.nr_idserve.specs.declared.turns.IdTurn.{IdTurn}
 use Rattle.nr_idserve.specs.declared.turns.IdTurn.TheVariants as turn
 use Rattle.nr_idserve.specs.IdEnds.{FailsOneId, FillsOneId}
 use Rattle.nr_idserve.specs.IdFlows.{IdFlowSeen}
-use Rattle.nr_idserve.specs.IdTakes.{TakesById}
+use Rattle.nr_idserve.specs.IdTakes.{Say, TakesById}
 
 -- an upquery that comes back is kept
 abbrev pub Keeps : Sent → IdFlowSeen → IdFlowSeen → Type 0
@@ -62,12 +62,13 @@ module _ {S : Type 0} (gives : S → (id bound : ℕ) → List Row → S → Typ
   AnswersTaken (taken.Full id) old before new after turned = (turned ≡ turn.Full id) × (new ≡ old) × (after ≡ before)
   AnswersTaken taken.Idle old before new after turned = (turned ≡ turn.Idle) × (new ≡ old) × (after ≡ before)
 
-  abbrev pub TurnsById : IdFlowSeen → S → IdFlowSeen → S → IdTurn → Type 0
-  TurnsById old before new after turned =
-      (found : Taken) × (mid : IdFlowSeen) × TakesById old mid found × AnswersTaken found mid before new after turned
+  abbrev pub TurnsById : Option Say → IdFlowSeen → S → IdFlowSeen → S → IdTurn → Type 0
+  TurnsById said old before new after turned =
+      (found : Taken) × (mid : IdFlowSeen) × TakesById said old mid found
+      × AnswersTaken found mid before new after turned
 
   -- the bell is read before the turn
-  abbrev pub TurnsOrSleeps : IdFlowSeen → S → IdFlowSeen → S → IdTurn → Type 0
-  TurnsOrSleeps old before new after turned =
+  abbrev pub TurnsOrSleeps : Option Say → IdFlowSeen → S → IdFlowSeen → S → IdTurn → Type 0
+  TurnsOrSleeps said old before new after turned =
       (rung mid : IdFlowSeen) × OnlyLooks old.guest rung.guest × (rung ≡ record old { guest = rung.guest })
-      × TurnsById rung before mid after turned × SleepsIfIdle turned mid new
+      × TurnsById said rung before mid after turned × SleepsIfIdle turned mid new

@@ -25,4 +25,4 @@ pub use service::IdService;
 pub use source::IdSource;
 pub use taking::Taken;
 pub use turns::IdTurn;
-pub use victims::{NoVictims, Victims};
+pub use victims::{AnyVictim, NoVictims, Victims};

@@ -1,8 +1,11 @@
 //! How a dataflow by id comes by upqueries: from the claims that were posted.
 ghost use Rattle.std.specs.Prelude.{◌≡◌, ◌<◌, IfOk, None, slice_index};
+ghost use Rattle.nr_ids.specs.Looking.{IsFull};
+ghost use Rattle.nr_idmap.specs.Keepers.{IsTied};
 ghost use Rattle.nr_serve.specs.Counts.{OnlyLooks, rung_at};
 ghost use Rattle.nr_serve.specs.Turns.{AwaitsPost};
-ghost use Rattle.nr_idserve.specs.IdTakes.{AdmitsMakingRoom, AdmitsNext, AdmitsOne, IsAskedOf, MakesRoom, NextsId, TakesById};
+ghost use Rattle.nr_idserve.specs.IdTakes.{AdmitsMakingRoom, AdmitsNext, AdmitsOne, Asking, ChoosesFor, IsAskedOf};
+ghost use Rattle.nr_idserve.specs.IdTakes.{MakesRoom, NextsId, Say, TakesById};
 
 use crate::flow::IdDataflow;
 use crate::victims::Victims;
@@ -16,8 +19,8 @@ pub enum Taken {
     Asked(Upquery),
     /// A claim of this id needs no upquery: it isn't open, or the id has a way.
     Passed(u64),
-    /// Each way of this id's group has a name, and none was evicted. The claim is kept, and tried first in
-    /// the next take.
+    /// Each way of this id's two groups has a name, and the id that was chosen may not go, or its upquery is
+    /// open. The claim is kept, and tried first in the next take, which chooses the next id.
     Full(u64),
     /// No claim was kept, and none had been posted.
     Idle,
@@ -26,11 +29,12 @@ pub enum Taken {
 impl<'a> IdDataflow<'a> {
     /// Takes the upquery that is kept; or else admits the claim that is kept, or the next one of the queue,
     /// which opens an upquery, and raises the lobby for the id's group, which can be claimed again. Where
-    /// each way of the id's two groups has a name, one id that `victims` chooses is evicted before. The upquery can't
-    /// be dropped: `fill`, `fail`, `invalidate` or `keep` has it back, and any other may come and go before.
-    /// May wait for a thread that is within a call of its own.
+    /// each way of the id's two groups has a name, an id that has a way of its first group is chosen as
+    /// `IdMap::choose` does, in 3 steps; if `victims` let it go, it is evicted as `evict` does, which always
+    /// makes room. The upquery can't be dropped: `fill`, `fail`, `invalidate` or `keep` has it back, and any
+    /// other may come and go before. May wait for a thread that is within a call of its own.
     pub fn take<V: Victims, R: Wait>(&mut self, rt: &R, victims: &mut V) -> Taken
-        ensures takes { TakesById self.old self.new result }
+        ensures takes { Asking V.lets victims.old victims.new (λ said. TakesById said self.old self.new result) }
         ensures own { IsAskedOf self.old.map result }
         ensures free { self.new.kept ≡ None }
         ensures places { (self.new.map ≡ self.old.map) × (self.new.queue ≡ self.old.queue) × (self.new.lobby ≡ self.old.lobby) }
@@ -64,7 +68,7 @@ impl<'a> IdDataflow<'a> {
 
     fn admit_next<V: Victims, R: Wait>(&mut self, rt: &R, victims: &mut V, id: u64) -> Taken
         requires { 0 < id }
-        ensures admits { AdmitsNext id self.old self.new result }
+        ensures admits { Asking V.lets victims.old victims.new (λ said. AdmitsNext id said self.old self.new result) }
         ensures kept { self.new.kept ≡ self.old.kept }
         ensures own { IsAskedOf self.old.map result }
         ensures places { (self.new.map ≡ self.old.map) × (self.new.queue ≡ self.old.queue) × (self.new.lobby ≡ self.old.lobby) }
@@ -88,7 +92,7 @@ impl<'a> IdDataflow<'a> {
         id: u64,
     ) -> Result<Upquery, Refused>
         requires { 0 < id }
-        ensures admits { AdmitsMakingRoom id self.old self.new result }
+        ensures admits { Asking V.lets victims.old victims.new (λ said. AdmitsMakingRoom id said self.old self.new result) }
         ensures kept { self.new.kept ≡ self.old.kept }
         ensures own { IfOk result (λ upquery. upquery.table ≡ self.old.map) }
         ensures places { (self.new.map ≡ self.old.map) × (self.new.queue ≡ self.old.queue) × (self.new.lobby ≡ self.old.lobby) }
@@ -99,6 +103,7 @@ impl<'a> IdDataflow<'a> {
             Err(Refused::Named(way)) => return Err(Refused::Named(way)),
             Err(Refused::Full) => {}
         }
+        self.writer.is_tied();
         if !self.make_room(rt, victims, id) {
             return Err(Refused::Full);
         }
@@ -119,23 +124,34 @@ impl<'a> IdDataflow<'a> {
         Ok(upquery)
     }
 
-    // Evicts an id of that one's group: whether it had rows.
+    // Evicts the id that is chosen in favour of that one, if it may go: whether it did.
     fn make_room<V: Victims, R: Wait>(&mut self, rt: &R, victims: &mut V, id: u64) -> bool
-        ensures makes { MakesRoom id self.old self.new result }
+        requires tied { IsTied self.old.writer }
+        requires full { IsFull id self.old.writer.clerk }
+        ensures makes { (say : Say) × MakesRoom id say self.old self.new result × V.lets victims.old say.id say.may_go victims.new }
         ensures kept { self.new.kept ≡ self.old.kept }
         ensures places { (self.new.map ≡ self.old.map) × (self.new.queue ≡ self.old.queue) × (self.new.lobby ≡ self.old.lobby) }
     {
-        let map = self.service.map();
-        let group = map.group_of(id);
-        let Some(victim) = victims.choose(map, group) else {
+        let victim = self.choose(id);
+        if !victims.may_go(victim) {
             return false;
-        };
-        match map.evict(&mut self.writer, victim) {
-            Evict::Evicted => {
-                self.raiser.raise_for(rt, group);
-                true
-            }
+        }
+        match self.evict(rt, victim) {
+            Evict::Evicted => true,
             Evict::Nothing => false,
+        }
+    }
+
+    // The id that may be evicted in favour of that one, whose groups are full.
+    fn choose(&mut self, id: u64) -> u64
+        requires tied { IsTied self.old.writer }
+        requires full { IsFull id self.old.writer.clerk }
+        ensures chooses { ChoosesFor id self.old self.new result }
+        ensures real { 0 < result }
+    {
+        match self.service.map().choose(&mut self.writer, id) {
+            Some(victim) => victim,
+            None => unreachable!(),
         }
     }
 

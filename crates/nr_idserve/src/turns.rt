@@ -2,6 +2,7 @@
 ghost use Rattle.std.specs.Prelude.{◌≡◌, None, Some};
 ghost use Rattle.nr_idmap.specs.Keepers.{id_rows};
 ghost use Rattle.nr_idmap.specs.Tags.{IsIdSet};
+ghost use Rattle.nr_idserve.specs.IdTakes.{Asking};
 ghost use Rattle.nr_idserve.specs.IdTurns.{AnswersAsked, FailsOrKeeps, FillsOrKeeps, TurnsById, TurnsOrSleeps};
 
 use crate::flow::IdDataflow;
@@ -24,8 +25,8 @@ pub enum IdTurn {
     Passed(u64),
     /// The source failed for the id. Its upquery was withdrawn, if it was open.
     Failed(u64),
-    /// Each way of this id's group has a name, and none was evicted. The claim is kept, and tried first in
-    /// the next turn.
+    /// Each way of this id's two groups has a name, and none was evicted. The claim is kept, and tried first
+    /// in the next turn.
     Full(u64),
     /// There was no slot for the rows. The upquery is kept, and comes first in the next turn.
     Kept(NoSlot),
@@ -44,7 +45,7 @@ impl<'a> IdDataflow<'a> {
         victims: &mut V,
         source: &mut S,
     ) -> IdTurn
-        ensures turns { TurnsById S.gives S.fails self.old source.old self.new source.new result }
+        ensures turns { Asking V.lets victims.old victims.new (λ said. TurnsById S.gives S.fails said self.old source.old self.new source.new result) }
         ensures places { (self.new.map ≡ self.old.map) × (self.new.queue ≡ self.old.queue) × (self.new.lobby ≡ self.old.lobby) }
     {
         match self.take(rt, victims) {
@@ -64,7 +65,7 @@ impl<'a> IdDataflow<'a> {
         victims: &mut V,
         source: &mut S,
     ) -> IdTurn
-        ensures turns { TurnsOrSleeps S.gives S.fails self.old source.old self.new source.new result }
+        ensures turns { Asking V.lets victims.old victims.new (λ said. TurnsOrSleeps S.gives S.fails said self.old source.old self.new source.new result) }
         ensures places { (self.new.map ≡ self.old.map) × (self.new.queue ≡ self.old.queue) × (self.new.lobby ≡ self.old.lobby) }
     {
         let rung = self.rings();

@@ -1,23 +1,40 @@
 //! Whose rows go where a group is full.
-ghost use Rattle.std.specs.Prelude.{◌≡◌, ◌<◌, IfSome};
-ghost use Rattle.nr_ids.specs.Groups.{group_of};
+ghost use Rattle.std.specs.Prelude.{◌≡◌, ◌<◌, false, true};
 
-use nr_idmap::IdMap;
-
-/// Chooses whom to evict.
+/// Says which ids may be evicted.
 pub trait Victims {
-    /// An id of that group whose rows may go, or none. The group of an id is `map.group_of(id)`. Where it
-    /// has a way of its second group, its eviction makes no room in the first.
-    fn choose(&mut self, map: &IdMap, group: u32) -> Option<u64>
-        ensures { IfSome result (λ id. (0 < id) × (group_of map.now.directory.plan id ≡ group)) };
+    ghost use Rattle.std.specs.Prelude.{ℕ, Bool};
+
+    /// What they say when they were asked: of themselves before, the id, whether it may go, and themselves
+    /// after. Nothing, unless they say so.
+    ghost lets: { Self → ℕ → Bool → Self → Type 0 } = { λ _ _ _ _. Unit {0} };
+
+    /// Whether this id may be evicted, so that another gets its way. It was chosen as `IdMap::choose` does.
+    fn may_go(&mut self, id: u64) -> bool
+        requires { 0 < id }
+        ensures { lets self.old id result self.new };
 }
 
-/// Evicts nobody.
+/// Nobody may go.
 #[derive(Clone, Copy, Debug)]
 pub struct NoVictims;
 
 impl Victims for NoVictims {
-    fn choose(&mut self, _map: &IdMap, _group: u32) -> Option<u64> {
-        None
+    ghost lets = { λ _ _ may_go _. may_go ≡ false };
+
+    fn may_go(&mut self, _id: u64) -> bool {
+        false
+    }
+}
+
+/// Any id may go.
+#[derive(Clone, Copy, Debug)]
+pub struct AnyVictim;
+
+impl Victims for AnyVictim {
+    ghost lets = { λ _ _ may_go _. may_go ≡ true };
+
+    fn may_go(&mut self, _id: u64) -> bool {
+        true
     }
 }

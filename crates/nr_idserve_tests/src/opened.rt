@@ -53,7 +53,7 @@ fn map_of<R: Abort + AllocGlobal>(rt: &R, groups: u32) -> (IdMap, IdWriter, IdRe
     let shape = IdShape {
         groups,
         key: 5,
-        slots: 12,
+        slots: 20,
         readers: 2,
         rows: 4,
         first_number: 0,

@@ -13,5 +13,5 @@ sleep-requires-clause-idle g c =
     subst (λ (taker : TakerSeen). AwaitsPost taker turned.new.self.taker)
     (ap (λ (flow : IdFlowSeen). flow.taker) rung.ensures.rest
     ∙ sym (ap (λ (read : RungSeen). read.taker) rung.ensures.rung))
-    (idle_awaits g.S.IdSource.gives g.S.IdSource.fails rung.new.self turned.new.self c.args.source.now turned.new.source
-    c.in-Idle.ensures.turns)
+    (idle_awaits g.S.IdSource.gives g.S.IdSource.fails c.in-Idle.ensures.turns.0 rung.new.self turned.new.self
+    c.args.source.now turned.new.source c.in-Idle.ensures.turns.1)

@@ -1,0 +1,105 @@
+-- Where each way of an id's groups has a name, an id is chosen; and its eviction makes room.
+use Rattle.std.proofs.Common.{◌≡◌, ℕ, Bool, false, true, List, None, Some, Err, sym, ap, ◌∙◌}
+use Rattle.nr_board.specs.declared.answers.Evict.TheVariants as evict
+use Rattle.nr_ids.specs.declared.admissions.Refused.TheVariants as refused
+use Rattle.nr_ids.specs.Events.{Event, looks, name_of}
+use Rattle.nr_ids.specs.Groups.{group_of, group_of_way}
+use Rattle.nr_ids.specs.Looking.{IsFull}
+use Rattle.nr_ids.specs.Tokens.{Grows, Opened, Token}
+use Rattle.nr_ids.proofs.Calls.{at_first, clerk_looks}
+use Rattle.nr_ids.proofs.Logs.{cond_same, one_way}
+use Rattle.nr_idmap.specs.IdChoices.{ChoosesId}
+use Rattle.nr_idmap.specs.IdWrites.{EvictsId}
+use Rattle.nr_idmap.specs.Keepers.{Keeper}
+use Rattle.nr_idserve.specs.IdFlows.{IdFlowSeen}
+use Rattle.nr_idserve.specs.IdTakes.{AdmitsOne, EvictsIf, EvictsOneId, MakesRoom, Say}
+
+-- a way of the id's group has no name
+record HasFree (id : ℕ) (clerk : Token) : Type 0 where
+  number : clerk.number ≡ 0
+  way : ℕ
+  group : group_of_way way ≡ group_of clerk.directory.plan id
+  free : name_of clerk.seen way ≡ 0
+
+has_free_not_full : (id : ℕ) (clerk : Token) → HasFree id clerk → IsFull id clerk → ⊥
+has_free_not_full id clerk has full =
+    let place = at_first clerk.directory.plan id has.way has.group in
+    full place.0 place.1 (ap (λ (way : ℕ). name_of clerk.seen way) place.2 ∙ has.free)
+
+-- looks change nothing of it
+free_later : (id count : ℕ) (old new : Token) → Grows (looks count old.number) old new → HasFree id old → HasFree id new
+free_later id count old new grows has =
+    record {
+      number = grows.number ∙ has.number;
+      way = has.way;
+      group = has.group ∙ ap (λ (directory : Opened). group_of directory.plan id) (sym grows.directory);
+      free = clerk_looks old count old.number new has.way has.number grows ∙ has.free;
+    }
+
+free_before : (id count : ℕ) (old new : Token) → old.number ≡ 0 → Grows (looks count old.number) old new
+    → HasFree id new → HasFree id old
+free_before id count old new number grows has =
+    record {
+      number = number;
+      way = has.way;
+      group = has.group ∙ ap (λ (directory : Opened). group_of directory.plan id) grows.directory;
+      free = sym (clerk_looks old count old.number new has.way number grows) ∙ has.free;
+    }
+
+-- a choice for an id whose groups are full comes to an id
+pub chooses_some : (id : ℕ) (old new : Token) → old.number ≡ 0 → IsFull id old → ChoosesId id old new None → ⊥
+chooses_some id old new number full chooses =
+    has_free_not_full id old
+    (free_before id 2 old chooses.mid number chooses.chooses
+    (free_before id 1 chooses.mid new (chooses.chooses.number ∙ number) chooses.names.0
+    (record {
+      number = chooses.names.0.number ∙ chooses.chooses.number ∙ number;
+      way = chooses.way;
+      group =
+          chooses.group
+          ∙ ap (λ (directory : Opened). group_of directory.plan id)
+          (sym (chooses.names.0.directory ∙ chooses.chooses.directory));
+      free = chooses.names.1;
+    })))
+    full
+
+-- an eviction of the id that was chosen leaves its way free
+evicts_chosen : (id victim : ℕ) (old chosen new : Keeper) → old.clerk.number ≡ 0
+    → ChoosesId id old.clerk chosen.clerk (Some victim) → EvictsId victim chosen new evict.Evicted
+    → HasFree id new.clerk
+evicts_chosen id victim old chosen new number chooses evicts =
+    let gone = evicts.1.unnames in
+    let found = evicts.1.finds.0.grows in
+    let here = chooses.names.0.number ∙ chooses.chooses.number ∙ number in
+    let named
+    = clerk_looks chosen.clerk _ chosen.clerk.number evicts.1.mid chooses.way here found ∙ chooses.names.1.has in
+    let same
+    = one_way chosen.clerk.directory.plan evicts.1.mid.seen evicts.0 chooses.way victim found.legal chooses.names.2
+    evicts.1.finds.1.has named in
+    record {
+      number = gone.number ∙ found.number ∙ here;
+      way = chooses.way;
+      group =
+          chooses.group
+          ∙ ap (λ (directory : Opened). group_of directory.plan id)
+          (sym (gone.directory ∙ found.directory ∙ chooses.names.0.directory ∙ chooses.chooses.directory));
+      free =
+          ap (λ (log : List Event). name_of log chooses.way) gone.newest.1
+          ∙ cond_same 0 (name_of gone.newest.0 chooses.way) evicts.0 chooses.way same;
+    }
+
+was_evicted : (may_go : Bool) (id : ℕ) (old new : IdFlowSeen) → EvictsIf may_go id old new true
+    → EvictsOneId id old new evict.Evicted
+was_evicted true id old new evicts = evicts
+was_evicted false id old new evicts = absurd evicts
+
+-- and so no admission finds the groups full then
+pub room_is_made : (id : ℕ) (say : Say) (old room new : IdFlowSeen) → old.writer.clerk.number ≡ 0
+    → MakesRoom id say old room true → AdmitsOne id room new (Err refused.Full) → ⊥
+room_is_made id say old room new number makes admits =
+    let seen = admits.0.refused in
+    has_free_not_full id new.writer.clerk
+    (free_later id 17 room.writer.clerk new.writer.clerk seen.0
+    (evicts_chosen id say.id old.writer makes.0.writer room.writer number makes.1.chooses
+    (was_evicted say.may_go say.id makes.0 room makes.2).evicts))
+    seen.1
