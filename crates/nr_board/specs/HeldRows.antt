@@ -3,13 +3,16 @@ use Rattle.std.specs.Prelude.{◌≡◌, ℕ, ◌+◌, ◌*◌}
 use Rattle.std.proofs.Common.{◌∙◌, refl, arith}
 use Rattle.nr_board.specs.declared.held_rows.HeldRows.{HeldRows}
 use Rattle.nr_board.specs.Callers.{Rests, token}
-use Rattle.nr_board.specs.Views.{view_of}
+use Rattle.nr_board.specs.Views.{rows_held, view_of}
 
 -- that many rows were read by the same seat
 pub record Gave (first : HeldRows) (count : ℕ) (last : HeldRows) : Type 0 where
   pub name : last.seat.ghost_name ≡ first.seat.ghost_name
   pub board : last.board.now ≡ first.board.now
   pub begin : last.begin ≡ first.begin
+  pub from : last.from ≡ first.from
+  pub rows : rows_held (view_of last.seat.now).role ≡ rows_held (view_of first.seat.now).role
+  pub hold : (token last.seat.now).holds ≡ (token first.seat.now).holds
   pub marks : (view_of last.seat.now).marks ≡ (view_of first.seat.now).marks
   pub says : (view_of last.seat.now).says ≡ (view_of first.seat.now).says
   pub rests : Rests (2 * count) (token first.seat.now) (token last.seat.now)
@@ -20,6 +23,9 @@ gives_none source =
       name = refl;
       board = refl;
       begin = refl;
+      from = refl;
+      rows = refl;
+      hold = refl;
       marks = refl;
       says = refl;
       rests = record {
@@ -38,6 +44,9 @@ gives_more first mid last count a b = record {
   name = b.name ∙ a.name;
   board = b.board ∙ a.board;
   begin = b.begin ∙ a.begin;
+  from = b.from ∙ a.from;
+  rows = b.rows ∙ a.rows;
+  hold = b.hold ∙ a.hold;
   marks = b.marks ∙ a.marks;
   says = b.says ∙ a.says;
   rests = record {

@@ -1,5 +1,5 @@
 //! The rows of the slot that a reader holds, as a set takes them.
-ghost use Rattle.std.specs.Prelude.{◌≡◌, ◌<◌, ◌*◌, length, slice_get, Some};
+ghost use Rattle.std.specs.Prelude.{◌≡◌, ◌<◌, ◌≤◌, ◌-◌, ◌*◌, length, drop, slice_get, Some};
 ghost use Rattle.nr_board.specs.Callers.{Rests, token};
 ghost use Rattle.nr_board.specs.Holds.{HeldAs};
 ghost use Rattle.nr_board.specs.Seats.{HoldsAt};
@@ -10,20 +10,22 @@ use crate::holds::Held;
 use crate::only_proved::only_proved;
 use nr_model::{Row, RowRoom, RowSource};
 
-/// A reader's seat, and where the first content word of its slot stands.
+/// A reader's seat, where the first content word of its slot stands, and the row that it begins with.
 #[derive(Drop)]
 pub struct HeldRows<'a> {
     pub board: &'a Board,
     pub seat: &'a mut Seat,
     pub begin: u64,
+    pub from: usize,
 }
 
 impl RowSource for HeldRows<'_> {
+    ghost use Rattle.std.specs.Prelude.{drop};
     ghost use Rattle.nr_board.specs.HeldRows.{Gave, gives_more, gives_none};
     ghost use Rattle.nr_board.specs.Seats.{HoldsAt};
     ghost use Rattle.nr_board.specs.Views.{rows_held, view_of};
 
-    ghost rows = { λ source. rows_held (view_of source.seat.now).role };
+    ghost rows = { λ source. drop source.from (rows_held (view_of source.seat.now).role) };
 
     ghost is_ready = { λ source _. HoldsAt source.board.now source.begin source.seat.now };
 
@@ -32,7 +34,7 @@ impl RowSource for HeldRows<'_> {
     fn give(&mut self, place: usize) -> Row {
         let board = self.board;
         only_proved(board.rows());
-        board.read_row(self.seat, self.begin, place as u64)
+        board.read_row(self.seat, self.begin, (self.from + place) as u64)
     }
 
     ghost gave_none = { gives_none };
@@ -52,29 +54,44 @@ impl Board {
         ensures hold { (token seat.new).holds ≡ (token seat.old).holds }
         ensures marks { (view_of seat.new).marks ≡ (view_of seat.old).marks }
     {
-        self.copy_rows(seat, held.begin, held.count, rows);
+        self.copy_from(seat, held, 0, rows);
     }
 
-    // Writes the rows, that many, of the slot whose first content word stands at `begin`.
+    /// Writes the rows that a reader holds behind the first one.
     #[inline(always)]
-    fn copy_rows<R: RowRoom>(&self, seat: &mut Seat, begin: u64, count: u32, rows: &mut R)
-        requires reader { HoldsAt self.now begin seat.old }
-        requires count { count ≡ length (rows_held (view_of seat.old).role) }
-        ensures reader { HoldsAt self.now begin seat.new }
-        ensures rows { R.shows rows.new (rows_held (view_of seat.old).role) }
-        ensures held { rows_held (view_of seat.new).role ≡ rows_held (view_of seat.old).role }
-        ensures rests { Rests (2 * length (rows_held (view_of seat.old).role)) (token seat.old) (token seat.new) }
+    pub fn copy_behind<R: RowRoom>(&self, seat: &mut Seat, held: Held, rows: &mut R)
+        requires held { HeldAs self.now held seat.old }
+        requires some { 0 < length (rows_held (view_of seat.old).role) }
+        ensures held { HeldAs self.now held seat.new }
+        ensures rows { R.shows rows.new (drop 1 (rows_held (view_of seat.old).role)) }
+        ensures same { rows_held (view_of seat.new).role ≡ rows_held (view_of seat.old).role }
+        ensures rests { Rests (2 * (length (rows_held (view_of seat.old).role) - 1)) (token seat.old) (token seat.new) }
         ensures hold { (token seat.new).holds ≡ (token seat.old).holds }
         ensures marks { (view_of seat.new).marks ≡ (view_of seat.old).marks }
-        ensures says { (view_of seat.new).says ≡ (view_of seat.old).says }
+    {
+        self.copy_from(seat, held, 1, rows);
+    }
+
+    // Writes the rows that a reader holds from that one on.
+    #[inline(always)]
+    fn copy_from<R: RowRoom>(&self, seat: &mut Seat, held: Held, from: usize, rows: &mut R)
+        requires held { HeldAs self.now held seat.old }
+        requires from { from ≤ length (rows_held (view_of seat.old).role) }
+        ensures held { HeldAs self.now held seat.new }
+        ensures rows { R.shows rows.new (drop from (rows_held (view_of seat.old).role)) }
+        ensures same { rows_held (view_of seat.new).role ≡ rows_held (view_of seat.old).role }
+        ensures rests { Rests (2 * (length (rows_held (view_of seat.old).role) - from)) (token seat.old) (token seat.new) }
+        ensures hold { (token seat.new).holds ≡ (token seat.old).holds }
+        ensures marks { (view_of seat.new).marks ≡ (view_of seat.old).marks }
     {
         only_proved(self.rows());
         let mut source = HeldRows {
             board: self,
             seat,
-            begin,
+            begin: held.begin,
+            from,
         };
-        rows.refill(count as usize, &mut source);
+        rows.refill(held.count as usize - from, &mut source);
     }
 
     /// A row of that set.
