@@ -28,9 +28,8 @@ pub enum Tagged {
 
 impl ReaderMap {
     /// As `find_into`, of a set that begins with a tag: the rows behind it go to the caller's room, which
-    /// stays as it is unless the answer is `Rows`. Takes the steps of `find_into`, the tag being one of
-    /// the n rows; of another set it reads only the first row, which takes the steps for one row, or for
-    /// none where the set is empty.
+    /// stays as it is unless the answer is `Rows`. Takes the steps of `find_into`, where the tag is one of
+    /// the n rows. Of another set it reads no row but the first: n is 1 then, or 0 where the set is empty.
     pub fn find_tagged<R: RowRoom>(
         &self,
         reader: &mut Reader,
