@@ -79,10 +79,11 @@ module _ (table : Table) (key : ℕ) (old found read left last : MapSeat) (held 
       steps = omega (arith, length_is, length_read)
 
   -- another set: nothing more
-  pub has_no_tag : {Room : Type 0} (shows : Room → List Row → Type 0) (tag : Row) (before after : Room) (answer : Tagged)
-      → (BeginsWith tag (rows_held found.me.0.role) → ⊥) → left ≡ read → after ≡ before → answer ≡ tagged.Other
-      → FindsTagged shows tag key (token old) before (token last) after answer
-  has_no_tag shows tag before after answer other is stays answer_is = let some = min 1 (length (rows_held found.me.0.role)) in
+  pub has_no_tag : {Room : Type 0} (shows : Room → List Row → Type 0) (tag : Row) (before after : Room)
+      (answer : Tagged) → (BeginsWith tag (rows_held found.me.0.role) → ⊥) → left ≡ read → after ≡ before
+      → answer ≡ tagged.Other → FindsTagged shows tag key (token old) before (token last) after answer
+  has_no_tag shows tag before after answer other is stays answer_is =
+      let some = min 1 (length (rows_held found.me.0.role)) in
       subst (λ (a : Tagged). FindsTagged shows tag key (token old) before (token last) after a) (sym answer_is) (
         rows_held found.me.0.role,
         finds_rows (2 * some) (2 * some + 1) refl (ap (λ (s : MapSeat). s.me.0.marks) is ∙ kept)

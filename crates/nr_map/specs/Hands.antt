@@ -141,7 +141,8 @@ AgainByHand key old new true = FindsHeld 1 key old new
 AgainByHand key old new false = (old.key ≡ Some key → AsksInVain key old new) × (old.key ≢ Some key → new ≡ old)
 
 -- what is held is let go, and then a find is made after which nothing is held
-pub record LetsGoAndFinds (Finds : Caller → Caller → Type 0) (key : ℕ) (answer : Found) (old new : Handed) : Type 0 where
+pub record LetsGoAndFinds (Finds : Caller → Caller → Type 0) (key : ℕ) (answer : Found)
+    (old new : Handed) : Type 0 where
   pub reader : Caller
   pub lets_go : LetsGo old (idle reader)
   pub was_idle : old.key ≡ None → reader ≡ old.reader

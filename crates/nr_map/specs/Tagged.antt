@@ -36,4 +36,5 @@ found_of tagged.Hole = found.Hole
 abbrev pub LetsGoAndFindsTagged : {Room : Type 0} → (Room → List Row → Type 0) → Row → ℕ → Handed → Room → Handed → Room
     → Tagged → Type 0
 LetsGoAndFindsTagged shows tag key old before new room answer =
-    LetsGoAndFinds (λ reader next. FindsTagged shows tag key reader before next room answer) key (found_of answer) old new
+    LetsGoAndFinds (λ reader next. FindsTagged shows tag key reader before next room answer) key (found_of answer)
+    old new
