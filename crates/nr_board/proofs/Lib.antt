@@ -16,6 +16,7 @@ pub mod Gathering
 pub mod Opens
 pub mod Tokens
 pub mod Rows
+pub mod LaterRows
 pub mod BoardPlaces
 pub mod ReaderSeats
 pub mod WordSeats

@@ -1,5 +1,5 @@
 //! The rows of the slot that a reader holds, as a set takes them.
-ghost use Rattle.std.specs.Prelude.{◌≡◌, ◌<◌, ◌*◌, length, slice_get, Some};
+ghost use Rattle.std.specs.Prelude.{◌≡◌, ◌<◌, ◌≤◌, ◌-◌, ◌*◌, length, drop, slice_get, Some};
 ghost use Rattle.nr_board.specs.Callers.{Rests, token};
 ghost use Rattle.nr_board.specs.Holds.{HeldAs};
 ghost use Rattle.nr_board.specs.Seats.{HoldsAt};
@@ -10,20 +10,22 @@ use crate::holds::Held;
 use crate::only_proved::only_proved;
 use nr_model::{Row, RowRoom, RowSource};
 
-/// A reader's seat, and where the first content word of its slot stands.
+/// A reader's seat, and where the first content word of its slot stands: a source of the slot's rows from
+/// `FROM` on. That is part of the type, so that a source of all rows adds nothing to their places.
 #[derive(Drop)]
-pub struct HeldRows<'a> {
+pub struct HeldRows<'a, const FROM: usize> {
     pub board: &'a Board,
     pub seat: &'a mut Seat,
     pub begin: u64,
 }
 
-impl RowSource for HeldRows<'_> {
+impl<const FROM: usize> RowSource for HeldRows<'_, FROM> {
+    ghost use Rattle.std.specs.Prelude.{drop};
     ghost use Rattle.nr_board.specs.HeldRows.{Gave, gives_more, gives_none};
     ghost use Rattle.nr_board.specs.Seats.{HoldsAt};
     ghost use Rattle.nr_board.specs.Views.{rows_held, view_of};
 
-    ghost rows = { λ source. rows_held (view_of source.seat.now).role };
+    ghost rows = { λ source. drop FROM (rows_held (view_of source.seat.now).role) };
 
     ghost is_ready = { λ source _. HoldsAt source.board.now source.begin source.seat.now };
 
@@ -32,7 +34,7 @@ impl RowSource for HeldRows<'_> {
     fn give(&mut self, place: usize) -> Row {
         let board = self.board;
         only_proved(board.rows());
-        board.read_row(self.seat, self.begin, place as u64)
+        board.read_row(self.seat, self.begin, (FROM + place) as u64)
     }
 
     ghost gave_none = { gives_none };
@@ -52,29 +54,43 @@ impl Board {
         ensures hold { (token seat.new).holds ≡ (token seat.old).holds }
         ensures marks { (view_of seat.new).marks ≡ (view_of seat.old).marks }
     {
-        self.copy_rows(seat, held.begin, held.count, rows);
+        self.copy_from::<0, R>(seat, held, rows);
     }
 
-    // Writes the rows, that many, of the slot whose first content word stands at `begin`.
+    /// Writes the rows that a reader holds behind the first one.
     #[inline(always)]
-    fn copy_rows<R: RowRoom>(&self, seat: &mut Seat, begin: u64, count: u32, rows: &mut R)
-        requires reader { HoldsAt self.now begin seat.old }
-        requires count { count ≡ length (rows_held (view_of seat.old).role) }
-        ensures reader { HoldsAt self.now begin seat.new }
-        ensures rows { R.shows rows.new (rows_held (view_of seat.old).role) }
-        ensures held { rows_held (view_of seat.new).role ≡ rows_held (view_of seat.old).role }
-        ensures rests { Rests (2 * length (rows_held (view_of seat.old).role)) (token seat.old) (token seat.new) }
+    pub fn copy_behind<R: RowRoom>(&self, seat: &mut Seat, held: Held, rows: &mut R)
+        requires held { HeldAs self.now held seat.old }
+        requires some { 0 < length (rows_held (view_of seat.old).role) }
+        ensures held { HeldAs self.now held seat.new }
+        ensures rows { R.shows rows.new (drop 1 (rows_held (view_of seat.old).role)) }
+        ensures same { rows_held (view_of seat.new).role ≡ rows_held (view_of seat.old).role }
+        ensures rests { Rests (2 * (length (rows_held (view_of seat.old).role) - 1)) (token seat.old) (token seat.new) }
         ensures hold { (token seat.new).holds ≡ (token seat.old).holds }
         ensures marks { (view_of seat.new).marks ≡ (view_of seat.old).marks }
-        ensures says { (view_of seat.new).says ≡ (view_of seat.old).says }
+    {
+        self.copy_from::<1, R>(seat, held, rows);
+    }
+
+    // Writes the rows that a reader holds from that one on.
+    #[inline(always)]
+    fn copy_from<const FROM: usize, R: RowRoom>(&self, seat: &mut Seat, held: Held, rows: &mut R)
+        requires held { HeldAs self.now held seat.old }
+        requires from { FROM ≤ length (rows_held (view_of seat.old).role) }
+        ensures held { HeldAs self.now held seat.new }
+        ensures rows { R.shows rows.new (drop FROM (rows_held (view_of seat.old).role)) }
+        ensures same { rows_held (view_of seat.new).role ≡ rows_held (view_of seat.old).role }
+        ensures rests { Rests (2 * (length (rows_held (view_of seat.old).role) - FROM)) (token seat.old) (token seat.new) }
+        ensures hold { (token seat.new).holds ≡ (token seat.old).holds }
+        ensures marks { (view_of seat.new).marks ≡ (view_of seat.old).marks }
     {
         only_proved(self.rows());
-        let mut source = HeldRows {
+        let mut source = HeldRows::<FROM> {
             board: self,
             seat,
-            begin,
+            begin: held.begin,
         };
-        rows.refill(count as usize, &mut source);
+        rows.refill(held.count as usize - FROM, &mut source);
     }
 
     /// A row of that set.

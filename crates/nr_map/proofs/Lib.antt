@@ -7,6 +7,7 @@ pub mod NoSlots
 pub mod SlotBounds
 pub mod HandSteps
 pub mod Pinning
+pub mod Tagging
 pub mod CountedFinds
 pub mod FindsEach
 pub mod FindsGroups

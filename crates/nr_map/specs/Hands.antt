@@ -141,16 +141,21 @@ AgainByHand key old new true = FindsHeld 1 key old new
 AgainByHand key old new false = (old.key ≡ Some key → AsksInVain key old new) × (old.key ≢ Some key → new ≡ old)
 
 -- what is held is let go, and then a find is made after which nothing is held
-pub record FindsAndLetsGo {Room : Type 0} (shows : Room → List Row → Type 0) (key : ℕ) (old : Handed) (before : Room)
-    (new : Handed) (room : Room) (answer : Found) : Type 0 where
+pub record LetsGoAndFinds (Finds : Caller → Caller → Type 0) (key : ℕ) (answer : Found)
+    (old new : Handed) : Type 0 where
   pub reader : Caller
   pub lets_go : LetsGo old (idle reader)
   pub was_idle : old.key ≡ None → reader ≡ old.reader
-  pub finds : FindsIn shows key reader before new.reader room answer
+  pub finds : Finds reader new.reader
   pub rests : new ≡ idle new.reader
   pub holds : new.reader.holds ≡ None
   pub silent : new.reader.says ≡ 0
   pub marks : MarksFound key reader new.reader answer
+
+abbrev pub FindsAndLetsGo : {Room : Type 0} → (Room → List Row → Type 0) → ℕ → Handed → Room → Handed → Room → Found
+    → Type 0
+FindsAndLetsGo shows key old before new room answer =
+    LetsGoAndFinds (λ reader next. FindsIn shows key reader before next room answer) key answer old new
 
 -- the hand asked in vain before it came to where it is: with its first look since
 abbrev pub AskedBefore : ℕ → Handed → Handed → Type 0

@@ -2,6 +2,7 @@ pub mod Rounds
 pub mod Tokens
 pub mod Pins
 pub mod Hands
+pub mod Tagged
 pub mod Written
 pub mod Opened
 pub mod Tickets

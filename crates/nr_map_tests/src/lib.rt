@@ -18,6 +18,8 @@ mod same;
 #[cfg(test)]
 mod slots;
 #[cfg(test)]
+mod tagged;
+#[cfg(test)]
 mod threads;
 #[cfg(test)]
 mod worked;

@@ -4,7 +4,7 @@ ghost use Rattle.std.specs.Prelude.{◌≡◌, ◌<◌, None};
 use crate::opening::opened_filled;
 use crate::page::Page;
 use nr_map::{Asked, Hand, Reader, ReaderMap, Writer};
-use nr_model::{Batch, OpenFault, RowSet};
+use nr_model::{Batch, OpenFault, Row, RowSet};
 use std::alloc::Global;
 
 // The second find is one load and writes nothing, since the key has the set that the hand holds.
@@ -137,6 +137,9 @@ fn find_and_ask(map: &ReaderMap, mut hand: Hand, page: &mut Page)
     let once = hand.find(map, 0, &mut RowSet::new());
     page.line("a find that keeps nothing: ", &once);
     page.more(", ", &hand.key());
+    let tag = Row { a: 0, b: 1 };
+    let other = hand.find_tagged(map, 0, tag, &mut RowSet::new());
+    page.line("a find by the tag 0:1: ", &other);
     page.line(
         "a request finds the key filled: ",
         &is_filled(map, &mut hand),

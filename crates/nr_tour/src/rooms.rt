@@ -66,12 +66,26 @@ fn copy_rows(map: &ReaderMap, writer: &mut Writer, reader: &mut Reader, page: &m
     page.line("the first key gets them too: ", &replaced);
 }
 
+// A set may begin with a tag, a row that says whose rows the others are: a find by the tag writes those
+// alone, and of another's set nothing.
+fn find_behind(map: &ReaderMap, reader: &mut Reader, page: &mut Page)
+    requires own { reader.old.table ≡ map.now }
+    requires keys { 0 < map.now.shape.keys }
+    ensures own { reader.new.table ≡ map.now }
+{
+    let mut rows = Pile::new();
+    let found = map.find_tagged(reader, 0, Row { a: 3, b: 9 }, &mut rows);
+    page.line("by the tag 3:9 reader 1 finds ", &found);
+    page.more(": ", &rows.as_slice());
+}
+
 /// Key 0 is filled, and key 1 gets the same rows, of which one goes and another comes. Then key 0's
 /// set is replaced by key 1's.
 pub fn chapter(alloc: Global) -> Result<Page, OpenFault> {
     let (map, mut writer, mut one, _two) = opened_filled(alloc, 2, 5)?;
     let mut page = Page::titled(alloc, "Another room");
     ask(&map, &mut one, 1);
+    find_behind(&map, &mut one, &mut page);
     copy_rows(&map, &mut writer, &mut one, &mut page);
     Ok(page)
 }
