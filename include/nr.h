@@ -511,12 +511,12 @@ uint32_t nr_open_id_reader(nr_id_writer *writer, nr_id_reader *reader);
 void nr_close_id_reader(nr_id_reader *reader);
 void nr_close_id_writer(nr_id_writer *writer);
 
-/* Looks an id up. It takes 1 step, and W for names that it looks at: 8 if one of the id's group is the id's, else 16,
+/* Looks an id up. It takes 2 steps, and W for names that it looks at: 8 if one of the id's group is the id's, else 16,
    with those of its second group. NR_HOLE then, if no name was the id's: it had no way at a moment within the call.
    Else 1 more at the use bit of the way with that name: NR_ROWS after 2n + 7 more for n rows, and 1 if the bit wasn't
    set, and `rows` has them; NR_ASKED after 1 more, if its upquery is open or it was evicted within the call; NR_OTHER
-   if its way became another id's within the call. If the writer wrote the way meanwhile, NR_ROWS and NR_ASKED take
-   more steps as nr_find does. Any answer but NR_ROWS leaves `rows` as it was. */
+   after 7 more, if its way became another id's within the call. If the writer wrote the way meanwhile, these take more
+   steps as nr_find does. Any answer but NR_ROWS leaves `rows` as it was. */
 uint32_t nr_find_id(nr_id_reader *reader, uint64_t id, nr_rows *rows);
 
 /* Finds n ids, as nr_find_id does, in the given order: NR_DONE, and each nr_wanted_id has its answer and its rows. An

@@ -13,10 +13,10 @@ use crate::rows::NrRows;
 /// answer: `NR_ROWS`; `NR_ASKED` where its way was a hole, since its upquery is under way or it was
 /// evicted within the call; `NR_HOLE` where within the call it had no way; `NR_OTHER` where its way
 /// became another id's; or, with no step, `NR_NO_KEY` for the id 0, and `NR_HOLDING` where the reader
-/// holds a set. Takes 1 load, 8 looks at the names of the id's group, and 8 more at those of its second
+/// holds a set. Takes 2 loads, 8 looks at the names of the id's group, and 8 more at those of its second
 /// group unless one of them was the id's; where a way had the name, 1 look at its mark, and then 1 where
-/// the way is a hole, and else 2n + 7 for n rows, more where it is written meanwhile, and 1 to mark it
-/// where rows were found and it isn't marked.
+/// the way is a hole, 2n + 7 for n rows, and 7 where it has another id's, more where it is written
+/// meanwhile, and 1 to mark it where rows were found and it isn't marked.
 #[unsafe(no_mangle)]
 pub extern "C" fn nr_find_id(reader: &mut NrIdReader, id: u64, rows: &mut NrRows) -> u32
     ensures { ByIdleIdReader id (rows.new ≡ rows.old) (IdReaderCalls (FindsIdByCode id rows.old rows.new)) reader.old.live reader.new.live result }

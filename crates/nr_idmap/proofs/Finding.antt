@@ -1,67 +1,71 @@
 -- What a find by id says, by what the map's find found in the id's way.
-use Rattle.std.proofs.Common.{◌≡◌, ℕ, ◌+◌, ◌*◌, true, false, List, length, refl, sym, subst, Some}
+use Rattle.std.proofs.Common.{◌≡◌, ℕ, List, sym, subst, Some}
 use Rattle.nr_model.specs.declared.rows.Row.{Row}
 use Rattle.nr_board.specs.Callers.{Caller}
-use Rattle.nr_board.specs.Holds.{FindsHole, FindsRows}
-use Rattle.nr_ids.specs.Marks.{SetsMark}
+use Rattle.nr_map.specs.FindsEach.{with_loads}
+use Rattle.nr_map.specs.Tagged.{FindsTagged}
+use Rattle.nr_map.specs.declared.tagged.Tagged.{Tagged}
+use Rattle.nr_map.specs.declared.tagged.Tagged.TheVariants as tagged
 use Rattle.nr_ids.specs.Tokens.{Token}
 use Rattle.nr_idmap.specs.declared.finds.FoundId.{FoundId}
 use Rattle.nr_idmap.specs.declared.finds.FoundId.TheVariants as found
 use Rattle.nr_idmap.specs.declared.finds.NamedWay.{NamedWay}
-use Rattle.nr_idmap.specs.IdFinds.{FindsByName, LooksForWay}
-use Rattle.nr_idmap.specs.IdFindsEach.{FindsInside}
+use Rattle.nr_idmap.specs.IdFinds.{FindsById, FindsByName, LooksAlone, with_line}
+use Rattle.nr_idmap.specs.IdFindsEach.{FindsInside, MarksTold, answer_told}
 use Rattle.nr_idmap.specs.Keepers.{IdCaller}
-use Rattle.nr_idmap.specs.Tags.{CopiesBehind}
+use Rattle.nr_idmap.specs.Tags.{tag_of}
 
 -- with the look-up before it
 pub finds_by_way : {Room : Type 0} (shows : Room → List Row → Type 0) (id : ℕ) (at : NamedWay) (old new : IdCaller)
-    (looked : Token) (before after : Room) (result : FoundId) → LooksForWay id old.ids looked (Some at) →
+    (looked : Token) (before after : Room) (result : FoundId) → LooksAlone id old.ids looked (Some at) →
     FindsInside shows id at (record { caller = old.caller; ids = looked }) before new after result
     → FindsByName shows id old before new after result
 finds_by_way shows id at old new looked before after found.Rows looks finds =
     (at, finds.0, looked, (looks, finds.1), finds.2, finds.3)
 finds_by_way shows id at old new looked before after found.Pending looks finds =
-    (at, subst (λ (t : Token). LooksForWay id old.ids t (Some at)) (sym finds.1) looks, finds.0, finds.2)
+    (at, subst (λ (t : Token). LooksAlone id old.ids t (Some at)) (sym finds.1) looks, finds.0, finds.2)
 finds_by_way shows id at old new looked before after found.Moved looks finds = (
   at,
   finds.0,
-  (subst (λ (t : Token). LooksForWay id old.ids t (Some at)) (sym finds.2) looks, finds.1),
+  (subst (λ (t : Token). LooksAlone id old.ids t (Some at)) (sym finds.2) looks, finds.1),
   finds.3,
   finds.4,
 )
 finds_by_way shows id at old new looked before after found.Absent looks finds = absurd finds
 
-module _ {Room : Type 0} (shows : Room → List Row → Type 0) (id : ℕ) (at : NamedWay) (old now : IdCaller)
-    (is : old ≡ now) (caller : Caller) (before after : Room) where
-  pub finds_pending : FindsHole 0 at.way old.caller caller → after ≡ before →
-      FindsInside shows id at now before (record { caller = caller; ids = old.ids }) after found.Pending
-  finds_pending gains same =
-      subst
-      (λ (o : IdCaller). FindsInside shows id at o before (record { caller = caller; ids = old.ids }) after
-      found.Pending)
-      is
-      (gains, refl, same)
+-- and with the line of the id's key loaded before that
+pub finds_by_id : {Room : Type 0} (shows : Room → List Row → Type 0) (id : ℕ) (at : NamedWay) (old now new : IdCaller)
+    (near : Caller) (looked : Token) (before after : Room) (result : FoundId) → old ≡ now
+    → near ≡ with_loads 1 old.caller → LooksAlone id old.ids looked (Some at)
+    → FindsInside shows id at (record { caller = near; ids = looked }) before new after result
+    → FindsById shows id now before new after result
+finds_by_id shows id at old now new near looked before after result is loaded looks finds =
+    subst (λ (o : IdCaller). FindsById shows id o before new after result) is
+    (finds_by_way shows id at (with_line old) new looked before after result looks
+    (subst (λ (c : Caller). FindsInside shows id at (record { caller = c; ids = looked }) before new after result)
+    loaded finds))
 
-  module _ (set : List Row) (gains : FindsRows (2 * length set + 1) at.way set old.caller caller) where
-    pub finds_moved : CopiesBehind shows id set before after false →
-        FindsInside shows id at now before (record { caller = caller; ids = old.ids }) after found.Moved
-    finds_moved copies =
-        subst
-        (λ (o : IdCaller). FindsInside shows id at o before (record { caller = caller; ids = old.ids }) after
-        found.Moved)
-        is
-        (set, gains, refl, copies.0, copies.1)
+-- by what the map found there
+by_told : {Room : Type 0} (shows : Room → List Row → Type 0) (id : ℕ) (at : NamedWay) (old : IdCaller) (caller : Caller)
+    (marked : Token) (before after : Room) (told : Tagged)
+    → FindsTagged shows (tag_of id) at.way old.caller before caller after told → MarksTold told at old.ids marked
+    → FindsInside shows id at old before (record { caller = caller; ids = marked }) after (answer_told told)
+by_told shows id at old caller marked before after tagged.Rows finds marks = (finds.0, finds.1, marks, finds.2)
+by_told shows id at old caller marked before after tagged.Other finds marks =
+    (finds.0, finds.1, marks, finds.2, finds.3)
+by_told shows id at old caller marked before after tagged.Hole finds marks = (finds.0, marks, finds.1)
 
-    pub finds_rows : (marked : Token) → SetsMark at.is_marked old.ids marked →
-        CopiesBehind shows id set before after true →
-        FindsInside shows id at now before (record { caller = caller; ids = marked }) after found.Rows
-    finds_rows marked marks copies =
-        subst
-        (λ (o : IdCaller). FindsInside shows id at o before (record { caller = caller; ids = marked }) after
-        found.Rows)
-        is (
-          copies.0,
-          subst (λ (s : List Row). FindsRows (2 * length s + 1) at.way s old.caller caller) copies.1 gains,
-          marks,
-          copies.2,
-        )
+pub finds_inside : {Room : Type 0} (shows : Room → List Row → Type 0) (id : ℕ) (at : NamedWay) (old now : IdCaller)
+    (caller : Caller) (marked : Token) (before after : Room) (tag : Row) (told : Tagged) (result : FoundId) → old ≡ now
+    → tag ≡ tag_of id → FindsTagged shows tag at.way old.caller before caller after told
+    → MarksTold told at old.ids marked → result ≡ answer_told told
+    → FindsInside shows id at now before (record { caller = caller; ids = marked }) after result
+finds_inside shows id at old now caller marked before after tag told result is tagged_so finds marks answer =
+    subst (λ (r : FoundId). FindsInside shows id at now before (record { caller = caller; ids = marked }) after r)
+    (sym answer)
+    (subst
+    (λ (o : IdCaller).
+    FindsInside shows id at o before (record { caller = caller; ids = marked }) after (answer_told told))
+    is
+    (by_told shows id at old caller marked before after told
+    (subst (λ (t : Row). FindsTagged shows t at.way old.caller before caller after told) tagged_so finds) marks))

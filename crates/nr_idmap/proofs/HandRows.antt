@@ -17,14 +17,14 @@ use Rattle.nr_board.specs.Callers.{Gains, Table, map_at_opening}
 use Rattle.nr_map.specs.Hands.{Handed}
 use Rattle.nr_map.specs.Written.{evicts_at}
 use Rattle.nr_ids.specs.Groups.{ways}
-use Rattle.nr_ids.specs.Laws.{FindsWhatItKnew}
-use Rattle.nr_ids.specs.Tokens.{HasName, Token}
+use Rattle.nr_ids.specs.Laws.{FindsWhatItHeard}
+use Rattle.nr_ids.specs.Tokens.{HasName, Token, known_to}
 use Rattle.nr_idmap.specs.declared.finds.FoundId.{FoundId}
 use Rattle.nr_idmap.specs.declared.finds.FoundId.TheVariants as found
 use Rattle.nr_idmap.specs.IdHands.{AgainById, HoldsAnew, HoldsByName, IdHanded, KeepsWay, PinsById}
 use Rattle.nr_idmap.specs.IdHands.{with_line_loaded}
 use Rattle.nr_idmap.specs.declared.finds.NamedWay.{NamedWay}
-use Rattle.nr_idmap.specs.IdFinds.{LooksForWay}
+use Rattle.nr_idmap.specs.IdFinds.{LooksAlone}
 use Rattle.nr_idmap.specs.IdHeard.{IsUnnamedSince, PinsItsRows}
 use Rattle.nr_idmap.specs.Keepers.{IdTable}
 use Rattle.nr_idmap.specs.Tags.{tag_of}
@@ -112,7 +112,7 @@ module _ (open_map : PartialMap) (id way number : ℕ) (rows : List Row) (before
 some_way : (a b : ℕ) → Some a ≡ Some b → a ≡ b
 some_way a b e = cc (e)
 
-module _ (law : FindsWhatItKnew) (old new : IdHanded) (id way number : ℕ) (rows : List Row) (before since : List Entry)
+module _ (law : FindsWhatItHeard) (old new : IdHanded) (id way number : ℕ) (rows : List Row) (before since : List Entry)
     (real : 0 < id)
     (named : HasName old.ids way id) (near : way < key_count (map_at_opening old.hand.reader.table))
     (some : 0 < (map_at_opening old.hand.reader.table).bound)
@@ -124,10 +124,10 @@ module _ (law : FindsWhatItKnew) (old new : IdHanded) (id way number : ℕ) (row
   Unnamed = IsUnnamedSince old.ids.seen way new.ids.seen
 
   looked_there : (asked : IdHanded) (there : Option NamedWay) → Asked old asked
-      → LooksForWay id asked.ids new.ids there → Unnamed ⊎ (way_named there ≡ Some way)
+      → LooksAlone id asked.ids new.ids there → Unnamed ⊎ (way_named there ≡ Some way)
   looked_there asked there first looks =
-      looks_there law id way old.ids new.ids there real named
-      (subst (λ (t : Token). LooksForWay id t new.ids there) first.ids looks)
+      looks_there law (known_to old.ids) id way old.ids new.ids there real named.has ([], refl)
+      (subst (λ (t : Token). LooksAlone id t new.ids there) first.ids looks)
 
   -- a find of the way had the id's rows
   told_rows : (asked : IdHanded) (mid : Handed) (told : Reply) → Asked old asked → FoundOnce way asked.hand mid told →
@@ -186,7 +186,7 @@ module _ (law : FindsWhatItKnew) (old new : IdHanded) (id way number : ℕ) (row
       (λ late. anew_rows late.0 answer (asked_first id old late.0 late.1) late.2)
       pins
 
-pub pins_its_rows : FindsWhatItKnew → PinsItsRows
+pub pins_its_rows : FindsWhatItHeard → PinsItsRows
 pins_its_rows law keeper old new id way number rows before since answer tied table heard real named known put none
     pins =
     let map_same : old.hand.reader.table ≡ keeper.table.map = ap (λ (t : IdTable). t.map) table in

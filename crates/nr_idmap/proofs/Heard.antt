@@ -1,6 +1,6 @@
 -- A find by id of a reader that heard of the id's fill, by the laws of the map and of the directory.
 use Rattle.std.proofs.Common.{◌≡◌, ℕ, ◌+◌, ◌*◌, ◌<◌, ◌⊎◌, ⊎_elim, inl, inr, true, List, [], ◌∷◌, ◌++◌, length, refl}
-use Rattle.std.proofs.Common.{subst, Some, None}
+use Rattle.std.proofs.Common.{min, subst, Some, None}
 use Rattle.nr_model.specs.declared.rows.Row.{Row}
 use Rattle.nr_model.specs.declared.calls.Call.TheVariants as model
 use Rattle.nr_model.specs.declared.calls.Reply.{Reply}
@@ -15,12 +15,12 @@ use Rattle.nr_ids.specs.Tokens.{Token}
 use Rattle.nr_idmap.specs.declared.finds.FoundId.{FoundId}
 use Rattle.nr_idmap.specs.declared.finds.FoundId.TheVariants as found
 use Rattle.nr_idmap.specs.declared.finds.NamedWay.{NamedWay}
-use Rattle.nr_idmap.specs.IdFinds.{FindsByName, LooksForWay, with_line}
+use Rattle.nr_idmap.specs.IdFinds.{FindsByName, LooksAlone, with_line}
 use Rattle.nr_idmap.specs.IdHeard.{FindsIdHeard, FindsIdPut, HeardIdBefore, IsUnnamedSince, TellsOfWay}
 use Rattle.nr_idmap.specs.IdNotes.{IdKnown}
 use Rattle.nr_idmap.specs.Keepers.{IdCaller}
 use Rattle.nr_idmap.specs.Tags.{tag_of}
-use Rattle.nr_idmap.proofs.LookUps.{grown_on, set_on}
+use Rattle.nr_idmap.proofs.LookUps.{looks_there, set_on}
 
 some_way : (a b : ℕ) → Some a ≡ Some b → a ≡ b
 some_way a b e = cc (e)
@@ -53,13 +53,14 @@ module _ {Room : Type 0} (shows : Room → List Row → Type 0) (of_map : FindsW
     in_way : (at : NamedWay) (looked : Token) (new : IdCaller) (room : Room) (answer : FoundId) (steps : ℕ)
         (told_there : Reply)
         →
-        LooksForWay id asking.ids looked (Some at) →
+        LooksAlone id asking.ids looked (Some at) →
         Gains steps (model.Find at.way) asking.caller new.caller told_there →
         TellsOfWay shows id room answer told_there →
         IsUnnamedSince note.ids.seen way looked.seen
         ⊎ FindsIdPut shows (record { id = id; way = way; old = old; written = written; since = since }) asking new
         room answer
     in_way at looked new room answer steps told_there looks gains tells = ⊎_elim
+        (λ gone. inl gone)
         (λ (same : Some at.way ≡ Some way).
         let gains_here : Gains steps (model.Find way) asking.caller new.caller told_there = subst
         (λ (k : ℕ). Gains steps (model.Find k) asking.caller new.caller told_there) (some_way at.way way same) gains in
@@ -67,8 +68,7 @@ module _ {Room : Type 0} (shows : Room → List Row → Type 0) (of_map : FindsW
         = of_map old.caller asking.caller new.caller note.map before since put way steps told_there near told puts
         heard.map gains_here in
         inr (record { told = told_there; tells = tells; more = law.0; seen = law.1; finds = law.2 }))
-        (λ gone. inl (grown_on note.ids.seen way _ looks.0 looked looks.2 gone))
-        (of_ids note.ids id way asking.ids looks.0 (Some at.way) real named heard.ids looks.1)
+        (looks_there of_ids note.ids id way asking.ids looked (Some at) real named heard.ids looks)
 
     by_answer : (new : IdCaller) (room after : Room) (answer : FoundId)
         → FindsByName shows id asking room new after answer →
@@ -85,12 +85,13 @@ module _ {Room : Type 0} (shows : Room → List Row → Type 0) (of_map : FindsW
     by_answer new room after found.Pending finds =
         in_way finds.0 new.ids new after found.Pending (finds.2.steps + 0) reply.Hole finds.1 finds.2.gains refl
     by_answer new room after found.Moved finds =
-        in_way finds.0 new.ids new after found.Moved (finds.2.1.steps + (2 * length finds.1 + 1)) (reply.Rows finds.1)
+        in_way finds.0 new.ids new after found.Moved (finds.2.1.steps + (2 * min 1 (length finds.1) + 1))
+        (reply.Rows finds.1)
         finds.2.0 finds.2.1.gains (finds.1, refl, finds.3)
     by_answer new room after found.Absent finds = ⊎_elim
-        (λ (there : None ≡ Some way). absurd (cc (there)))
         (λ gone. inl gone)
-        (of_ids note.ids id way asking.ids new.ids None real named heard.ids finds.0)
+        (λ (there : None ≡ Some way). absurd (cc (there)))
+        (looks_there of_ids note.ids id way asking.ids new.ids None real named heard.ids finds.0)
 
   pub finds_id_heard : FindsIdHeard shows
   finds_id_heard old asking new note id way before since put room after answer near real named told puts heard finds =

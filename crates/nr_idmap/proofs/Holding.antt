@@ -9,7 +9,7 @@ use Rattle.nr_ids.specs.Marks.{SetsMark}
 use Rattle.nr_ids.specs.Tokens.{Token}
 use Rattle.nr_idmap.specs.declared.finds.FoundId.TheVariants as found
 use Rattle.nr_idmap.specs.declared.finds.NamedWay.{NamedWay}
-use Rattle.nr_idmap.specs.IdFinds.{LooksForWay}
+use Rattle.nr_idmap.specs.IdFinds.{LooksAlone}
 use Rattle.nr_idmap.specs.IdHands.{HoldsAnew, IdHanded, with_line_loaded}
 use Rattle.nr_idmap.specs.Tags.{HasTag}
 
@@ -32,7 +32,7 @@ pub kept_set : (way : ℕ) (old new : Handed) (before set : List Row) → KeepsI
 kept_set way old new before set keeps = ⊎_elim (λ again. again.1 ∙ sym again.0.rows) (λ anew. anew.1.1) keeps
 
 module _ (id : ℕ) (at : NamedWay) (old now : IdHanded) (is : old ≡ now) (ids : Token)
-    (looks : LooksForWay id old.ids ids (Some at)) (hand : Handed) (before set : List Row) where
+    (looks : LooksAlone id old.ids ids (Some at)) (hand : Handed) (before set : List Row) where
   pub holds_pending : KeepsIn at.way (with_line_loaded old).hand before hand set answer.Hole →
       HoldsAnew id now (record { hand = hand; ids = ids; id = None }) found.Pending
   holds_pending keeps =

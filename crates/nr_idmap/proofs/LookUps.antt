@@ -1,12 +1,13 @@
 -- Look-ups of ids and of their ways' marks.
 use Rattle.std.proofs.Common.{◌≡◌, ℕ, ◌<◌, ◌⊎◌, ⊎_elim, inl, inr, List, [], ◌∷◌, ◌++◌, refl, sym, ap, ◌∙◌, subst}
 use Rattle.std.proofs.Common.{append_assoc, Bool, true, false, Option, Some, None}
-use Rattle.nr_ids.specs.Events.{Event, unnamed}
-use Rattle.nr_ids.specs.Laws.{FindsWhatItKnew}
+use Rattle.nr_ids.specs.Events.{Event, name_of, unnamed}
+use Rattle.nr_ids.specs.Laws.{FindsWhatItHeard}
 use Rattle.nr_ids.specs.Marks.{SetsMark}
-use Rattle.nr_ids.specs.Tokens.{Grows, HasName, Token}
+use Rattle.nr_ids.specs.Rule.{BeginsWith}
+use Rattle.nr_ids.specs.Tokens.{Grows, Known, Token}
 use Rattle.nr_idmap.specs.declared.finds.NamedWay.{NamedWay}
-use Rattle.nr_idmap.specs.IdFinds.{LooksForWay}
+use Rattle.nr_idmap.specs.IdFinds.{LooksAlone, LooksForWay}
 use Rattle.nr_idmap.specs.IdHeard.{IsUnnamedSince}
 use Rattle.nr_idmap.specs.IdLoads.{LooksUpEach}
 
@@ -47,15 +48,29 @@ pub set_on : (told : List Event) (way : ℕ) (marked : Bool) (old new : Token) �
 set_on told way true old new same gone = subst (λ (t : Token). IsUnnamedSince told way t.seen) (sym same) gone
 set_on told way false old new grows gone = grown_on told way _ old new grows gone
 
--- a token that knew a way's name looks it up there, unless the name was taken since
-pub looks_there : FindsWhatItKnew → (id way : ℕ) (old new : Token) (there : Option NamedWay) → 0 < id
-    → HasName old way id → LooksForWay id old new there
-    → IsUnnamedSince old.seen way new.seen ⊎ (way_named there ≡ Some way)
-looks_there law id way old new None real named looks = ⊎_elim
-    (λ (is : None ≡ Some way). inr is)
-    (λ gone. inl gone)
-    (law id way old new None real named looks)
-looks_there law id way old new (Some at) real named looks = ⊎_elim
-    (λ (is : Some at.way ≡ Some way). inr is)
-    (λ gone. inl (grown_on old.seen way _ looks.0 new looks.2 gone))
-    (law id way old looks.0 (Some at.way) real named looks.1)
+-- a token that heard of a way's name looks it up there, unless the name was taken since
+pub looks_there : FindsWhatItHeard → (note : Known) (id way : ℕ) (old new : Token) (there : Option NamedWay) → 0 < id
+    → name_of note.seen way ≡ id → BeginsWith old.seen note.seen → LooksAlone id old new there
+    → IsUnnamedSince note.seen way new.seen ⊎ (way_named there ≡ Some way)
+looks_there law note id way old new there real named heard looks = in_way there looks.2
+  where
+    near : Token
+    near = looks.0
+
+    begun : BeginsWith near.seen note.seen
+    begun = (
+      looks.1.rest ++ heard.0,
+      looks.1.seen ∙ ap (λ (l : List Event). looks.1.rest ++ l) heard.1
+          ∙ sym (append_assoc looks.1.rest heard.0 note.seen),
+    )
+
+    in_way : (at : Option NamedWay) → LooksForWay id near new at
+        → IsUnnamedSince note.seen way new.seen ⊎ (way_named at ≡ Some way)
+    in_way None looked = ⊎_elim
+        (λ (is : None ≡ Some way). inr is)
+        (λ gone. inl gone)
+        (law note id way near new None real named begun looked)
+    in_way (Some at) looked = ⊎_elim
+        (λ (is : Some at.way ≡ Some way). inr is)
+        (λ gone. inl (grown_on note.seen way _ looked.0 new looked.2 gone))
+        (law note id way near looked.0 (Some at.way) real named begun looked.1)

@@ -1,12 +1,13 @@
 -- What a reader's call says of its two tokens, by its answer.
-use Rattle.std.specs.Prelude.{◌≡◌, ◌≢◌, ℕ, ◌+◌, ◌*◌, List, ◌∷◌, length, Option, Some, None}
+use Rattle.std.specs.Prelude.{◌≡◌, ◌≢◌, ℕ, ◌+◌, ◌*◌, min, List, ◌∷◌, length, Option, Some, None}
 use Rattle.nr_model.specs.declared.rows.Row.{Row}
 use Rattle.nr_board.specs.Holds.{FindsHole, FindsRows}
 use Rattle.nr_board.specs.Callers.{Caller}
 use Rattle.nr_map.specs.FindsEach.{with_loads}
 use Rattle.nr_ids.specs.Answers as ids
+use Rattle.nr_ids.specs.Events.{looks}
 use Rattle.nr_ids.specs.Marks.{LooksAtMark, SetsMark}
-use Rattle.nr_ids.specs.Tokens.{Token}
+use Rattle.nr_ids.specs.Tokens.{Grows, Token}
 use Rattle.nr_idmap.specs.declared.finds.FoundId.{FoundId}
 use Rattle.nr_idmap.specs.declared.finds.FoundId.TheVariants as found
 use Rattle.nr_idmap.specs.declared.finds.NamedWay.{NamedWay}
@@ -22,26 +23,33 @@ abbrev pub LooksForWay : ℕ → Token → Token → Option NamedWay → Type 0
 LooksForWay id old new (Some at) = (named : Token) × ids.LooksUp id old named (Some at.way) × LooksAtMark named new
 LooksForWay id old new None = ids.LooksUp id old new None
 
--- the set was found in the id's way: the call's entry in the map's history
-abbrev pub FindsInWay : ℕ → NamedWay → List Row → IdCaller → Caller → Token → Type 0
-FindsInWay id at set old new looked =
-    LooksForWay id old.ids looked (Some at) × FindsRows (2 * length set + 1) at.way set old.caller new
+-- such a look-up of one id alone: the word of its group's marks was loaded before, which tells nothing
+abbrev pub LooksAlone : ℕ → Token → Token → Option NamedWay → Type 0
+LooksAlone id old new named =
+    (near : Token) × Grows (looks 1 old.number) old near × LooksForWay id near new named
+
+-- the set was found in the id's way, and so many of its rows were read: the call's entry in the map's history
+abbrev pub FindsInWay : ℕ → NamedWay → ℕ → List Row → IdCaller → Caller → Token → Type 0
+FindsInWay id at read set old new looked =
+    LooksAlone id old.ids looked (Some at) × FindsRows (2 * read + 1) at.way set old.caller new
 
 -- by the id's name: the rows behind the id's tag, and the way is marked as found unless it was; or the way that had the
--- id's name was a hole, or had another's set; or within the call there was a moment at which the id had no way
+-- id's name was a hole, or had another's set, of which the first row alone was read; or within the call there was a
+-- moment at which the id had no way
 abbrev pub FindsByName : {Room : Type 0} → (Room → List Row → Type 0) → ℕ → IdCaller → Room → IdCaller → Room → FoundId
     → Type 0
 FindsByName shows id old before new room found.Rows =
-    (at : NamedWay) × (rows : List Row) × (looked : Token) × FindsInWay id at (tag_of id ∷ rows) old new.caller looked
+    (at : NamedWay) × (rows : List Row) × (looked : Token)
+    × FindsInWay id at (length (tag_of id ∷ rows)) (tag_of id ∷ rows) old new.caller looked
     × SetsMark at.is_marked looked new.ids × shows room rows
 FindsByName shows id old before new room found.Pending =
-    (at : NamedWay) × LooksForWay id old.ids new.ids (Some at) × FindsHole 0 at.way old.caller new.caller
+    (at : NamedWay) × LooksAlone id old.ids new.ids (Some at) × FindsHole 0 at.way old.caller new.caller
     × (room ≡ before)
 FindsByName shows id old before new room found.Moved =
-    (at : NamedWay) × (set : List Row) × FindsInWay id at set old new.caller new.ids
+    (at : NamedWay) × (set : List Row) × FindsInWay id at (min 1 (length set)) set old new.caller new.ids
     × ((rows : List Row) → set ≢ tag_of id ∷ rows) × (room ≡ before)
 FindsByName shows id old before new room found.Absent =
-    LooksForWay id old.ids new.ids None × (new.caller ≡ old.caller) × (room ≡ before)
+    LooksAlone id old.ids new.ids None × (new.caller ≡ old.caller) × (room ≡ before)
 
 -- a find by id: with the line that it will need on its way, the look-up of its name, and the find there
 abbrev pub FindsById : {Room : Type 0} → (Room → List Row → Type 0) → ℕ → IdCaller → Room → IdCaller → Room → FoundId

@@ -1,9 +1,11 @@
 -- Finds by id of many ids.
-use Rattle.std.specs.Prelude.{◌≡◌, ◌≢◌, ℕ, zero, suc, ◌+◌, ◌*◌, ◌/◌, ◌<◌, List, [], ◌∷◌, length, take, drop, Option}
-use Rattle.std.specs.Prelude.{Some, None, IfSome}
+use Rattle.std.specs.Prelude.{◌≡◌, ◌≢◌, ℕ, zero, suc, ◌+◌, ◌*◌, ◌/◌, ◌<◌, min, List, [], ◌∷◌, length, take, drop}
+use Rattle.std.specs.Prelude.{Option, Some, None, IfSome}
 use Rattle.nr_model.specs.declared.rows.Row.{Row}
 use Rattle.nr_board.specs.Holds.{FindsHole, FindsRows}
 use Rattle.nr_map.specs.FindsEach.{loads_of_key, with_loads}
+use Rattle.nr_map.specs.declared.tagged.Tagged.{Tagged}
+use Rattle.nr_map.specs.declared.tagged.Tagged.TheVariants as tagged
 use Rattle.nr_ids.specs.Events.{looks}
 use Rattle.nr_ids.specs.Marks.{SetsMark}
 use Rattle.nr_ids.specs.Tokens.{Grows, Token}
@@ -16,6 +18,17 @@ use Rattle.nr_idmap.specs.InTurn.{InTurn}
 use Rattle.nr_idmap.specs.Keepers.{IdCaller}
 use Rattle.nr_idmap.specs.Tags.{tag_of}
 
+-- what a find of the id's tag tells of the id, and that rows mark their way
+abbrev pub answer_told : Tagged → FoundId
+answer_told tagged.Rows = found.Rows
+answer_told tagged.Other = found.Moved
+answer_told tagged.Hole = found.Pending
+
+abbrev pub MarksTold : Tagged → NamedWay → Token → Token → Type 0
+MarksTold tagged.Rows at old new = SetsMark at.is_marked old new
+MarksTold tagged.Other at old new = new ≡ old
+MarksTold tagged.Hole at old new = new ≡ old
+
 -- a find by id in the way that was looked up: as `find` says it of that way
 abbrev pub FindsInside : {Room : Type 0} → (Room → List Row → Type 0) → ℕ → NamedWay → IdCaller → Room → IdCaller
     → Room → FoundId → Type 0
@@ -26,7 +39,7 @@ FindsInside shows id at old before new room found.Rows =
 FindsInside shows id at old before new room found.Pending =
     FindsHole 0 at.way old.caller new.caller × (new.ids ≡ old.ids) × (room ≡ before)
 FindsInside shows id at old before new room found.Moved =
-    (set : List Row) × FindsRows (2 * length set + 1) at.way set old.caller new.caller × (new.ids ≡ old.ids)
+    (set : List Row) × FindsRows (2 * min 1 (length set) + 1) at.way set old.caller new.caller × (new.ids ≡ old.ids)
     × ((rows : List Row) → set ≢ tag_of id ∷ rows) × (room ≡ before)
 FindsInside shows id at old before new room found.Absent = ⊥
 

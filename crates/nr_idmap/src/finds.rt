@@ -4,10 +4,10 @@ ghost use Rattle.nr_ids.specs.Answers.{Requests};
 ghost use Rattle.nr_idmap.specs.Keepers.{id_table_of};
 
 use crate::id_map::IdMap;
-use crate::rows::copy_behind;
+use crate::rows::tag_of;
 use crate::tokens::IdReader;
 use nr_ids::Requested;
-use nr_map::Found;
+use nr_map::Tagged;
 use nr_model::RowRoom;
 
 /// The answer to a find by id.
@@ -32,15 +32,16 @@ pub(crate) struct NamedWay {
 }
 
 impl IdMap {
-    ghost use Rattle.nr_idmap.specs.IdFinds.{FindsById, LooksForWay};
-    ghost use Rattle.nr_idmap.specs.IdFindsEach.{FindsInside};
+    ghost use Rattle.nr_idmap.specs.IdFinds.{FindsById, LooksAlone, LooksForWay};
+    ghost use Rattle.nr_idmap.specs.IdFindsEach.{FindsInside, MarksTold, answer_told};
 
     /// Looks an id up, and writes its rows into the caller's room, which stays as it is unless the
-    /// answer is `Rows`. Takes 1 load of a word that lies in the line of the id's key; 8 looks at the names
-    /// of the id's group, and 8 more at those of its second group unless one of them was the id's; where a
-    /// way had the name, 1 look at the way's mark, and the steps of the map's find, of one row more: by the
-    /// counts 1 where the way is a hole, and else 2n + 5 for n rows; and 1 to mark a way whose rows were
-    /// found, unless it is marked already.
+    /// answer is `Rows`. Takes 2 loads of words that lie in the lines of the id's key and of its group's
+    /// marks; 8 looks at the names of the id's group, and 8 more at those of its second group unless one of
+    /// them was the id's; where a way had the name, 1 look at the way's mark, and the steps of the map's
+    /// find, of one row more: by the counts 1 where the way is a hole, 2n + 5 for n rows, and 5 where it has
+    /// another id's, of which only the first row is read; and 1 to mark a way whose rows were found, unless
+    /// it is marked already.
     pub fn find<R: RowRoom>(&self, reader: &mut IdReader, id: u64, rows: &mut R) -> FoundId
         requires own { id_table_of reader.old ≡ self.now }
         requires id { 0 < id }
@@ -49,10 +50,24 @@ impl IdMap {
     {
         let first = self.directory.plan().first_way(id);
         self.map.load_key(&mut reader.reader, first);
-        let Some(at) = self.look_up(&mut reader.ids, id) else {
+        let Some(at) = self.look_up_alone(&mut reader.ids, id) else {
             return FoundId::Absent;
         };
         self.find_in(reader, at, id, rows)
+    }
+
+    // The look-up of one id, with the word of its group's marks on its way: else that line would be waited
+    // for behind the names.
+    #[inline(always)]
+    pub(crate) fn look_up_alone(&self, ids: &mut nr_ids::Reader, id: u64) -> Option<NamedWay>
+        requires own { ids.old.directory ≡ self.now.directory }
+        requires id { 0 < id }
+        ensures own { ids.new.directory ≡ self.now.directory }
+        ensures looks { LooksAlone id ids.old ids.new result }
+        ensures inside { IfSome result (λ at. at.way < self.now.map.shape.keys) }
+    {
+        self.directory.load_marks(ids, id);
+        self.look_up(ids, id)
     }
 
     // The way that has the id's name. Its mark is looked at here, beside the lines that the find will
@@ -83,19 +98,28 @@ impl IdMap {
         ensures own { id_table_of reader.new ≡ self.now }
         ensures finds { FindsInside R.shows id at reader.old rows.old reader.new rows.new result }
     {
-        match self
+        let found = self
             .map
-            .find_into(&mut reader.reader, at.way, &mut reader.pile)
-        {
-            Found::Hole => FoundId::Pending,
-            Found::Rows => {
-                if copy_behind(reader.pile.as_slice(), id, rows) {
-                    self.directory.mark(&mut reader.ids, at.way, at.is_marked);
-                    FoundId::Rows
-                } else {
-                    FoundId::Moved
-                }
+            .find_tagged(&mut reader.reader, at.way, tag_of(id), rows);
+        self.tell(&mut reader.ids, at, found)
+    }
+
+    // What the map's find in that way tells of the id. Rows mark their way.
+    #[inline(always)]
+    pub(crate) fn tell(&self, ids: &mut nr_ids::Reader, at: NamedWay, found: Tagged) -> FoundId
+        requires own { ids.old.directory ≡ self.now.directory }
+        requires way { at.way < self.now.map.shape.keys }
+        ensures own { ids.new.directory ≡ self.now.directory }
+        ensures marks { MarksTold found at ids.old ids.new }
+        ensures answer { result ≡ answer_told found }
+    {
+        match found {
+            Tagged::Rows => {
+                self.directory.mark(ids, at.way, at.is_marked);
+                FoundId::Rows
             }
+            Tagged::Other => FoundId::Moved,
+            Tagged::Hole => FoundId::Pending,
         }
     }
 

@@ -7,9 +7,8 @@ ghost use Rattle.nr_idmap.specs.IdLoads.{LoadsAheadById, LooksUpEach};
 use crate::finds::FoundId;
 use crate::hands::IdHand;
 use crate::id_map::IdMap;
-use crate::rows::copy_behind;
+use crate::rows::tag_of;
 use crate::wanted::{BATCH, key_of};
-use nr_map::Found;
 use nr_model::RowRoom;
 
 impl IdHand {
@@ -24,20 +23,11 @@ impl IdHand {
     {
         let first = map.directory.plan().first_way(id);
         self.hand.load_key(&map.map, first);
-        let Some(at) = map.look_up(&mut self.ids, id) else {
+        let Some(at) = map.look_up_alone(&mut self.ids, id) else {
             return FoundId::Absent;
         };
-        match self.hand.find(&map.map, at.way, &mut self.pile) {
-            Found::Hole => FoundId::Pending,
-            Found::Rows => {
-                if copy_behind(self.pile.as_slice(), id, rows) {
-                    map.directory.mark(&mut self.ids, at.way, at.is_marked);
-                    FoundId::Rows
-                } else {
-                    FoundId::Moved
-                }
-            }
-        }
+        let found = self.hand.find_tagged(&map.map, at.way, tag_of(id), rows);
+        map.tell(&mut self.ids, at, found)
     }
 
     /// Loads words that finds of at most sixteen ids will need, so that the lines of memory in which they

@@ -55,7 +55,7 @@ pub fn finds_its_rows<R: RowRoom>()
 pub fn pins_its_rows()
     ensures { PinsItsRows }
 {
-    nr_ids::laws::finds_what_it_knew();
+    nr_ids::laws::finds_what_it_heard();
 }
 
 /// An open upquery is for the id that is its way's name.

@@ -66,7 +66,6 @@ fn pair_readers(
         paired.push_reserved(IdReader {
             reader,
             ids: directory.reader(clerk),
-            pile: Pile::new(),
         });
     }
     Ok(paired)

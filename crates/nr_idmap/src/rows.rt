@@ -65,7 +65,7 @@ impl RowSource for TaggedRows<'_> {
 
     fn give(&mut self, place: usize) -> Row {
         if place == 0 {
-            Row { a: 0, b: self.id }
+            tag_of(self.id)
         } else {
             self.rows[place - 1]
         }
@@ -74,6 +74,13 @@ impl RowSource for TaggedRows<'_> {
     ghost gave_none = { λ _. (refl, refl) };
 
     ghost gave_more = { λ _ _ _ _ a b. (b.0 ∙ a.0, b.1 ∙ a.1) };
+}
+
+/// The first row of an id's set.
+pub(crate) fn tag_of(id: u64) -> Row
+    ensures { result ≡ tag_of id }
+{
+    Row { a: 0, b: id }
 }
 
 /// Puts the rows behind the id's tag into the pile.

@@ -9,8 +9,6 @@ use std::marker::Model;
 pub struct IdReader {
     pub(crate) reader: Reader,
     pub(crate) ids: nr_ids::Reader,
-    /// The set that was found last, with its tag.
-    pub(crate) pile: Pile,
 }
 
 impl Model for IdReader {

@@ -80,6 +80,17 @@ impl Directory {
         self.look_at_groups(&mut reader.seat, ids);
     }
 
+    /// Loads the marks of an id's group, so that their line of memory is near when the mark of its way is
+    /// looked at. It tells nothing. Takes 1 step.
+    pub fn load_marks(&self, reader: &mut Reader, id: u64)
+        requires own { reader.old.directory ≡ self.now }
+        ensures own { reader.new.directory ≡ self.now }
+        ensures steps { Grows (looks 1 reader.old.number) reader.old reader.new }
+    {
+        let group = self.plan().group_of(id);
+        self.marks(&mut reader.seat, group);
+    }
+
     fn look_at_groups(&self, seat: &mut Seat, ids: &[u64])
         requires caller { Sits self.now seat.old }
         ensures caller { Sits self.now seat.new }

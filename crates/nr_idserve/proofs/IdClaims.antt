@@ -13,7 +13,7 @@ use Rattle.nr_ids.proofs.Logs.{own_append}
 use Rattle.nr_idmap.specs.declared.finds.FoundId.{FoundId}
 use Rattle.nr_idmap.specs.declared.finds.FoundId.TheVariants as found
 use Rattle.nr_idmap.specs.declared.finds.NamedWay.{NamedWay}
-use Rattle.nr_idmap.specs.IdFinds.{FindsById, LooksForWay}
+use Rattle.nr_idmap.specs.IdFinds.{FindsById, LooksAlone, LooksForWay}
 use Rattle.nr_idmap.specs.Keepers.{IdCaller}
 use Rattle.nr_trigger.specs.declared.post.Upquery.{Upquery}
 use Rattle.nr_trigger.specs.Tokens.{PosterSeen}
@@ -166,6 +166,11 @@ way_none id old new (Some at) looks_up =
     [] (look_none id old looks_up.0 (Some at.way) looks_up.1) (claims_none looks_up.0 new 1 looks_up.2)
 way_none id old new None looks_up = look_none id old new None looks_up
 
+alone_none : (id : ℕ) (old new : Token) (at : Option NamedWay) → LooksAlone id old new at → Claims old [] new
+alone_none id old new at looks_up =
+    claims_both old looks_up.0 new []
+    [] (claims_none old looks_up.0 1 looks_up.1) (way_none id looks_up.0 new at looks_up.2)
+
 mark_none : (marked : Bool) (old new : Token) → SetsMark marked old new → Claims old [] new
 mark_none true old new same = same_token old new same
 mark_none false old new grows = claims_none old new 1 grows
@@ -176,10 +181,10 @@ find_none : {Room : Type 0} (shows : Room → List Row → Type 0) (id : ℕ) (o
     → Claims old.ids [] new.ids
 find_none shows id old before new after found.Rows finds =
     claims_both old.ids finds.2 new.ids []
-    [] (way_none id old.ids finds.2 (Some finds.0) finds.3.0) (mark_none finds.0.is_marked finds.2 new.ids finds.4)
-find_none shows id old before new after found.Pending finds = way_none id old.ids new.ids (Some finds.0) finds.1
-find_none shows id old before new after found.Moved finds = way_none id old.ids new.ids (Some finds.0) finds.2.0
-find_none shows id old before new after found.Absent finds = way_none id old.ids new.ids None finds.0
+    [] (alone_none id old.ids finds.2 (Some finds.0) finds.3.0) (mark_none finds.0.is_marked finds.2 new.ids finds.4)
+find_none shows id old before new after found.Pending finds = alone_none id old.ids new.ids (Some finds.0) finds.1
+find_none shows id old before new after found.Moved finds = alone_none id old.ids new.ids (Some finds.0) finds.2.0
+find_none shows id old before new after found.Absent finds = alone_none id old.ids new.ids None finds.0
 
 abbrev requested_ids : Requested → List ℕ
 requested_ids (requested.Granted claim) = claim.id ∷ []

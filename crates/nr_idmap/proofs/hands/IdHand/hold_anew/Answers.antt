@@ -20,7 +20,7 @@ pub returns-in-Hole-clause-holds : goal.returns-in-Hole-clause-holds
 returns-in-Hole-clause-holds c =
     let own : IdHanded
     = record { hand = c.self.inside.hand; ids = c.self.inside.ids; id = id_held c.self.inside.held } in
-    holds_pending c.args.id c.in-Some.at own c.args.self.now c.self.view_is c.look_up.new.ids
+    holds_pending c.args.id c.in-Some.at own c.args.self.now c.self.view_is c.look_up_alone.new.ids
     c.in-Some.ensures.looks
     c.find_kept.new.self c.self.inside.pile c.find_kept.new.rows
     (kept own c.load_key.new.self c.in-Some.at.way c.find_kept.new.self c.self.inside.pile c.find_kept.new.rows
@@ -30,7 +30,8 @@ pub returns-then-has_tag-clause-holds : goal.returns-then-has_tag-clause-holds
 returns-then-has_tag-clause-holds c =
     let own : IdHanded
     = record { hand = c.self.inside.hand; ids = c.self.inside.ids; id = id_held c.self.inside.held } in
-    holds_rows c.args.id c.in-Some.at own c.args.self.now c.self.view_is c.look_up.new.ids c.in-Some.ensures.looks
+    holds_rows c.args.id c.in-Some.at own c.args.self.now c.self.view_is c.look_up_alone.new.ids
+    c.in-Some.ensures.looks
     c.find_kept.new.self c.self.inside.pile c.find_kept.new.rows
     (kept own c.load_key.new.self c.in-Some.at.way c.find_kept.new.self c.self.inside.pile c.find_kept.new.rows
     answer.Rows c.load_key.ensures.reader c.load_key.ensures.held c.in-Rows.ensures.finds)
@@ -41,7 +42,8 @@ pub returns-else-has_tag-clause-holds : goal.returns-else-has_tag-clause-holds
 returns-else-has_tag-clause-holds c =
     let own : IdHanded
     = record { hand = c.self.inside.hand; ids = c.self.inside.ids; id = id_held c.self.inside.held } in
-    holds_moved c.args.id c.in-Some.at own c.args.self.now c.self.view_is c.look_up.new.ids c.in-Some.ensures.looks
+    holds_moved c.args.id c.in-Some.at own c.args.self.now c.self.view_is c.look_up_alone.new.ids
+    c.in-Some.ensures.looks
     c.find_kept.new.self c.self.inside.pile c.find_kept.new.rows
     (kept own c.load_key.new.self c.in-Some.at.way c.find_kept.new.self c.self.inside.pile c.find_kept.new.rows
     answer.Rows c.load_key.ensures.reader c.load_key.ensures.held c.in-Rows.ensures.finds)

@@ -1,0 +1,30 @@
+use Rattle.std.proofs.Common.{◌≡◌, refl, ap, ◌∙◌, List, Option, Some, None}
+use Rattle.nr_model.specs.declared.rows.Row.{Row}
+use Rattle.nr_map.specs.Hands.{Handed}
+use Rattle.nr_idmap.specs.declared.hands.Holding.{Holding}
+use Rattle.nr_idmap.specs.IdHands.{IdHanded, IsIdHand, id_held, reader_of}
+use Rattle.nr_idmap.proofs.Finding.{finds_by_id, finds_inside}
+use Rattle.nr_idmap.proofs.hands.IdHand.find.Goals as goal
+
+-- a hand that holds no id's set holds none of the map
+holds_none : (hand : Handed) (pile : List Row) (held : Option Holding) → IsIdHand hand pile held
+    → id_held held ≡ None → hand.key ≡ None
+holds_none hand pile None holds idle = holds
+holds_none hand pile (Some held) holds idle = absurd (cc (idle))
+
+pub returns-clause-finds : goal.returns-clause-finds
+returns-clause-finds g c =
+    let own : IdHanded
+    = record { hand = c.self.inside.hand; ids = c.self.inside.ids; id = id_held c.self.inside.held } in
+    let there = c.find_tagged-found.ensures.finds in
+    let none = holds_none own.hand c.self.inside.pile c.self.inside.held c.self.invariant
+    (ap (λ (h : IdHanded). h.id) c.self.view_is ∙ c.requires.idle) in
+    finds_by_id g.R.RowRoom.shows c.args.id c.in-Some.at (reader_of own) (reader_of c.args.self.now)
+    (record { caller = c.find_tagged-found.new.self.reader; ids = c.tell.new.ids }) there.reader
+    c.look_up_alone.new.ids c.args.rows.now c.find_tagged-found.new.rows c.tell.result (ap reader_of c.self.view_is)
+    (there.was_idle (c.load_key.ensures.held.0 ∙ none) ∙ c.load_key.ensures.reader) c.in-Some.ensures.looks
+    (finds_inside g.R.RowRoom.shows c.args.id c.in-Some.at
+    (record { caller = there.reader; ids = c.look_up_alone.new.ids })
+    (record { caller = there.reader; ids = c.look_up_alone.new.ids }) c.find_tagged-found.new.self.reader c.tell.new.ids
+    c.args.rows.now c.find_tagged-found.new.rows c.tag_of.result c.find_tagged-found.result c.tell.result refl
+    c.tag_of.ensures there.finds c.tell.ensures.marks c.tell.ensures.answer)
