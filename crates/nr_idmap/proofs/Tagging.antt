@@ -4,7 +4,7 @@ use Rattle.std.proofs.Common.{◌≡◌, ◌∙◌, ⊎_elim, ℕ, suc, ◌+◌,
 use Rattle.std.proofs.Common.{ap, refl, sym, arith, Result, Ok, Err}
 use Rattle.std.specs.List.{list_any, filter}
 use Rattle.std.specs.Prelude.{All, nat_lt, map}
-use Rattle.std.proofs.lemmas.Bool.{and_parts, cases_Bool, cases_lt}
+use Rattle.std.proofs.lemmas.Bool.{cases_Bool, cases_lt}
 use Rattle.std.proofs.lemmas.Bool.Decides.{nat_tests}
 use Rattle.nr_model.specs.declared.rows.Row.{Row}
 use Rattle.nr_model.specs.declared.batches.Delta.{Delta}
@@ -138,7 +138,3 @@ pub tagged_set : (bound id : ℕ) (rows : List Row) → IsIdSet bound rows → I
 tagged_set bound id [] fits = (refl, omega arith)
 tagged_set bound id (row ∷ rows) fits = let above : 0 < row.a = fits.1 0 row (omega arith) in
     (rw (not_below row (tag_of id) above) fits.0.0, omega (arith, fits.0.1))
-
-pub set_behind : (bound : ℕ) (row : Row) (rows : List Row) → IsRowSet bound (row ∷ rows) → IsRowSet bound rows
-set_behind bound row [] fits = (refl, omega arith)
-set_behind bound row (next ∷ rows) fits = ((and_parts _ _ fits.0).1, omega (arith, fits.1))

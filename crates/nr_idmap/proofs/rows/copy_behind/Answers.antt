@@ -2,7 +2,7 @@ use Rattle.std.proofs.Common.{◌≡◌, ℕ, ◌-◌, List, [], ◌∷◌, leng
 use Rattle.nr_model.specs.declared.rows.Row.{Row}
 use Rattle.nr_model.specs.Rows.{IsRowSet}
 use Rattle.nr_idmap.specs.Tags.{tag_of}
-use Rattle.nr_idmap.proofs.Tagging.{set_behind}
+use Rattle.nr_board.proofs.LaterRows.{set_behind}
 use Rattle.nr_idmap.proofs.rows.copy_behind.Goals as goal
 
 take_all : (rows : List Row) → take (length rows) rows ≡ rows
