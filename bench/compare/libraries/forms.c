@@ -338,9 +338,9 @@ static void update(void *of, uint64_t key, uint64_t version) {
 #define FORM .keys = KIND, .open = opened, .reader = new_reader, .begin = no_thread, .end = no_thread, .find = find, .update = update
 
 #if HANDLES
-const contestant OF_KIND(handled) = {.name = "the same in C, by handles", FORM};
+const contestant OF_KIND(handled) = {.name = "C by handles", FORM};
 #elif RELEASES
-const contestant OF_KIND(releasing) = {.name = "the same in C, stores released", FORM};
+const contestant OF_KIND(releasing) = {.name = "C, stores released", FORM};
 #elif ANNOUNCES
 const contestant OF_KIND(announcing) = {.name = "the same steps in C", FORM};
 const contestant OF_KIND(announcing_each) = {.name = "the same steps in C, 16 at once", .map_of = &OF_KIND(announcing),
