@@ -21,7 +21,7 @@ const MAX_THREADS: u32 = 65_533;
 
 const MAX_PARTS: usize = 16;
 
-/// How many readers the maps of all parts may have where there is more than one: of 10 kB each.
+/// How many readers the maps of all parts may have where there is more than one: of 6 kB each.
 const MAX_READERS: usize = 512;
 
 /// How many slots a part's map has besides those that it cannot do without, so that a fill rarely looks at all readers.
@@ -55,7 +55,7 @@ impl<K, V, S> CacheBuilder<K, V, S> {
     }
 
     /// How many readers there can be at a time: 1 to 65,533; 16 where nothing is said. There are as many parts, each with
-    /// a lock for misses and writes, but 16 at most, and fewer where readers take 5 MB. A reader takes 11 kB a part.
+    /// a lock for misses and writes, but 16 at most, and fewer where readers take 3 MB. A reader takes 6 kB a part.
     pub fn threads(self, threads: u32) -> CacheBuilder<K, V, S> {
         CacheBuilder { threads, ..self }
     }
