@@ -3,7 +3,7 @@
    how they are drawn, reading threads, the writer's updates a second (0: none, -1: as many as it can), the map, the
    median, and the quartiles.
    Usage: libraries reads|bytes|checks keys=N [ids] [rounds=N] [burst=MS] [threads=1,2,3,4] [writer=0|-1|N]
-     [drawn=even,zipf,hot] [timed] [fifo] [cpus=0,2,1,3] [NAME ..] */
+     [drawn=even,zipf,hot,absent] [timed] [fifo] [cpus=0,2,1,3] [NAME ..] */
 #define _GNU_SOURCE
 #include "bursts.h"
 #include <sys/wait.h>
@@ -24,8 +24,8 @@ static const contestant *const all[] = {&this_map, &this_map_kept, &this_map_eac
     &announcing_each_ids, &handled_ids, &releasing_ids, &qsbr_array, &memb_array, &arc_swaps, &lock_a_key, &plain, &plain_each,
     &qsbr_table, &memb_table, &dashmaps, &tbb_map, &cuckoo, &michael, &this_map_behind};
 
-typedef enum { EVEN, ZIPF, HOT, DRAWS } draw;
-static const char *const drawn_so[DRAWS] = {"even", "zipf", "hot"};
+typedef enum { EVEN, ZIPF, HOT, ABSENT, DRAWS } draw;
+static const char *const drawn_so[DRAWS] = {"even", "zipf", "hot", "absent"};
 
 typedef struct {
   const contestant *is;
@@ -39,13 +39,21 @@ static int count;
 static plan keys;
 static uint64_t *order[DRAWS][MOST_READERS + 1];
 
+static uint64_t drawn_at(draw how) {
+  switch (how) {
+    case ZIPF: return scattered(zipf_drawn(keys.keys), keys.keys);
+    case HOT: return scattered(17, keys.keys);
+    case ABSENT: return keys.keys + chance(keys.keys);
+    default: return chance(keys.keys);
+  }
+}
+
 static void draw_keys(draw how) {
   for (int t = 0; t <= MOST_READERS; t++) {
     if (order[how][t]) return;
     order[how][t] = malloc(DRAWN * sizeof(uint64_t));
     for (int i = 0; i < DRAWN; i++) {
-      uint64_t at = how == EVEN ? chance(keys.keys) : scattered(how == ZIPF ? zipf_drawn(keys.keys) : 17, keys.keys);
-      order[how][t][i] = key_at(&keys, at);
+      order[how][t][i] = key_at(&keys, drawn_at(how));
     }
   }
 }
@@ -60,13 +68,14 @@ typedef struct {
   uint64_t made, wrong, samples;
 } job;
 
-static bool timed, checked;
+static bool timed, checked, absent;
 static double per_second;
 static uint32_t *sample[MOST_READERS];
 
-/* Whether a find was wrong: by its first and its last row, and by all of them where that is what is measured. */
+/* Whether a find was wrong: of an absent id by finding it, and else by its first and its last row, and by all of them where
+   that is what is measured. */
 static inline uint64_t is_wrong(uint64_t key, const uint64_t *word) {
-  if (!word) return 1;
+  if (absent || !word) return absent == !word ? 0 : 1;
   if (checked) return !is_whole(key, word);
   return (word[0] ^ key) | (word[WORDS - 2] ^ key) | ((word[1] ^ word[WORDS - 1]) >> 8) ? 1 : 0;
 }
@@ -172,7 +181,7 @@ static bool burst(int m, int round, draw how, int threads) {
   return all_ran;
 }
 
-static bool is_measured(const contestant *c) { return !(c->reads_only && per_second) && !(timed && c->find_each); }
+static bool is_measured(const contestant *c) { return !(c->reads_only && per_second) && !((timed || absent) && c->find_each); }
 
 static void tell(measure what, draw how, int threads, int m, int rounds) {
   double *of = told[what][m], middle = at_part(of, rounds, 0.5);
@@ -190,6 +199,7 @@ static bool is_told(measure what, int threads) {
 }
 
 static void measure_all(draw how, int threads, int rounds) {
+  absent = how == ABSENT;
   for (int r = 0; r < rounds; r++) {
     int place[MOST];
     in_chance_order(place, count);
@@ -287,6 +297,7 @@ int main(int words, char **word) {
     }
   }
   if (!keys.keys || rounds < 1 || rounds > MOST_ROUNDS) stop_for("usage: libraries reads|bytes|checks keys=N ..");
+  if (is_drawn[ABSENT] && (!keys.ids || per_second)) stop_for("absent keys are ids, and nobody writes");
   if (!strcmp(mode, "bytes")) {
     tell_bytes(name);
     return 0;
