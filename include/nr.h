@@ -526,7 +526,8 @@ uint32_t nr_find_id(nr_id_reader *reader, uint64_t id, nr_rows *rows);
 uint32_t nr_find_each_id(nr_id_reader *reader, nr_wanted_id *wanted, size_t n);
 
 /* Finds an id and holds its set, as nr_pin: NR_ROWS after the steps of nr_find_id but 1, and `count` is the number of
-   rows. Else as nr_find_id, and the reader holds nothing and `count` stays as it was. */
+   rows. Else as nr_find_id, but NR_OTHER after 2n + 7 in place of 7, for the other id's n rows; the reader holds nothing
+   then, and `count` stays as it was. */
 uint32_t nr_pin_id(nr_id_reader *reader, uint64_t id, uint32_t *count);
 
 /* The row at index `place` of the held set, from 0: NR_ROWS. NR_NO_ROW if the set has no such row, and `row` stays
