@@ -526,8 +526,8 @@ uint32_t nr_find_id(nr_id_reader *reader, uint64_t id, nr_rows *rows);
 uint32_t nr_find_each_id(nr_id_reader *reader, nr_wanted_id *wanted, size_t n);
 
 /* Finds an id and holds its set, as nr_pin: NR_ROWS after the steps of nr_find_id but 1, and `count` is the number of
-   rows. Else as nr_find_id, but NR_OTHER after 2n + 7 in place of 7, for the other id's n rows; the reader holds nothing
-   then, and `count` stays as it was. */
+   rows. Else as nr_find_id, but NR_OTHER after 2n + 7 in place of 7, for the other id's n rows; the reader holds
+   nothing then, and `count` stays as it was. */
 uint32_t nr_pin_id(nr_id_reader *reader, uint64_t id, uint32_t *count);
 
 /* The row at index `place` of the held set, from 0: NR_ROWS. NR_NO_ROW if the set has no such row, and `row` stays
@@ -542,9 +542,8 @@ uint32_t nr_copy_id(nr_id_reader *reader, nr_rows *rows);
 uint32_t nr_again_id(nr_id_reader *reader, uint64_t id);
 
 /* As nr_find_id, but the reader holds the set for the next call. If the reader holds the id's set, and its way still
-   has that, NR_ROWS after 1 step, and 1 or 2 at the way's use bit. Otherwise it finds the id as nr_find_id does:
-   NR_ROWS after the steps of that but 1, and at most 3 more if it held a set. Any answer but NR_ROWS leaves `rows`
-   as it was, and the reader holds nothing. */
+   has that, NR_ROWS after 1 step, and 1 or 2 at the way's use bit. Otherwise it finds the id as nr_pin_id does, in at
+   most 3 steps more if it held a set. Any answer but NR_ROWS leaves `rows` as it was, and the reader holds nothing. */
 uint32_t nr_find_kept_id(nr_id_reader *reader, uint64_t id, nr_rows *rows);
 
 /* Ends the hold, in 1 step: NR_DONE. */
