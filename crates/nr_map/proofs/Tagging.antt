@@ -12,13 +12,13 @@ use Rattle.nr_board.specs.Callers.{Rests, Table, token}
 use Rattle.nr_board.specs.Holds.{FindsRows, HoldsAfter, finds_by_word}
 use Rattle.nr_board.specs.Views.{rows_held}
 use Rattle.nr_board.specs.declared.holds.Held.{Held}
-use Rattle.nr_map.specs.Tagged.{BeginsWith, FindsTagged}
+use Rattle.nr_map.specs.Tagged.{IsTagged, FindsTagged}
 use Rattle.nr_map.specs.declared.tagged.Tagged.{Tagged}
 use Rattle.nr_map.specs.declared.tagged.Tagged.TheVariants as tagged
 
 -- a set whose first row has the tag's first number begins with the tag where it has the second one, too
 pub begins : (rows : List Row) (first tag : Row) → slice_get rows 0 ≡ Some first → first.a ≡ tag.a
-    → IsTrue (nat_eq first.b tag.b) ↔ BeginsWith tag rows
+    → IsTrue (nat_eq first.b tag.b) ↔ IsTagged tag rows
 begins [] first tag is same = absurd (cc)
 begins (row ∷ rows) first tag is same = (
   (λ also. (rows, λ j. (row_is ∙ (λ i. record { a = same i; b = eqb-true first.b tag.b also i })) j ∷ rows)),
@@ -49,7 +49,7 @@ module _ (table : Table) (key : ℕ) (old found read left last : MapSeat) (held 
 
   -- the tag's set: then those behind it
   pub has_tag : {Room : Type 0} (shows : Room → List Row → Type 0) (tag : Row) (copied : MapSeat) (before after : Room)
-      (answer : Tagged) → BeginsWith tag (rows_held found.me.0.role)
+      (answer : Tagged) → IsTagged tag (rows_held found.me.0.role)
       → rows_held read.me.0.role ≡ rows_held found.me.0.role → shows after (drop 1 (rows_held read.me.0.role))
       → Rests (2 * (length (rows_held read.me.0.role) - 1)) (token read) (token copied)
       → copied.me.0.marks ≡ read.me.0.marks → left ≡ copied → answer ≡ tagged.Rows
@@ -80,7 +80,7 @@ module _ (table : Table) (key : ℕ) (old found read left last : MapSeat) (held 
 
   -- another set: nothing more
   pub has_no_tag : {Room : Type 0} (shows : Room → List Row → Type 0) (tag : Row) (before after : Room)
-      (answer : Tagged) → (BeginsWith tag (rows_held found.me.0.role) → ⊥) → left ≡ read → after ≡ before
+      (answer : Tagged) → (IsTagged tag (rows_held found.me.0.role) → ⊥) → left ≡ read → after ≡ before
       → answer ≡ tagged.Other → FindsTagged shows tag key (token old) before (token last) after answer
   has_no_tag shows tag before after answer other is stays answer_is =
       let some = min 1 (length (rows_held found.me.0.role)) in

@@ -11,8 +11,8 @@ use Rattle.nr_map.specs.declared.tagged.Tagged.{Tagged}
 use Rattle.nr_map.specs.declared.tagged.Tagged.TheVariants as tagged
 
 -- the set begins with the tag
-abbrev pub BeginsWith : Row → List Row → Type 0
-BeginsWith tag set = (rows : List Row) × (set ≡ tag ∷ rows)
+abbrev pub IsTagged : Row → List Row → Type 0
+IsTagged tag set = (rows : List Row) × (set ≡ tag ∷ rows)
 
 -- with the tag's set it reads every row, and the room shows those behind the tag; of another set it reads no row but
 -- the first, and the room stays

@@ -5,7 +5,7 @@ ghost use Rattle.nr_board.specs.Holds.{HeldAs};
 ghost use Rattle.nr_board.specs.Seats.{IdlesAt};
 ghost use Rattle.nr_board.specs.Views.{rows_held, view_of};
 ghost use Rattle.nr_map.specs.Answers.{MarksFound};
-ghost use Rattle.nr_map.specs.Tagged.{BeginsWith, FindsTagged, LetsGoAndFindsTagged, found_of};
+ghost use Rattle.nr_map.specs.Tagged.{IsTagged, FindsTagged, LetsGoAndFindsTagged, found_of};
 ghost use Rattle.nr_map.specs.Tokens.{IsReader};
 
 use crate::hand::Hand;
@@ -107,7 +107,7 @@ impl Token {
         requires held { HeldAs map.now held self.old.seat }
         ensures own { self.new.own ≡ self.old.own }
         ensures held { HeldAs map.now held self.new.seat }
-        ensures begins { IsTrue result ↔ BeginsWith tag (rows_held (view_of self.old.seat).role) }
+        ensures begins { IsTrue result ↔ IsTagged tag (rows_held (view_of self.old.seat).role) }
         ensures same { rows_held (view_of self.new.seat).role ≡ rows_held (view_of self.old.seat).role }
         ensures rests { Rests (2 * min 1 (length (rows_held (view_of self.old.seat).role))) (token self.old.seat) (token self.new.seat) }
         ensures hold { (token self.new.seat).holds ≡ (token self.old.seat).holds }
