@@ -7,6 +7,7 @@ use Rattle.nr_model.specs.declared.states.KeyState.{KeyState}
 use Rattle.nr_model.specs.declared.states.KeyState.TheVariants.{Hole, Asked, Rows}
 use Rattle.nr_model.specs.Maps.{PartialMap, state_of}
 use Rattle.nr_model.specs.Rows.{IsRowSet}
+use Rattle.nr_map.specs.Tagged.{IsTagged}
 
 abbrev pub tag_of : ℕ → Row
 tag_of id = record { a = 0; b = id }
@@ -40,7 +41,7 @@ IsResident map id rows = (key : ℕ) × KeepsId map key id rows
 
 -- the set begins with the id's tag
 abbrev pub HasTag : ℕ → List Row → Type 0
-HasTag id set = (rows : List Row) × (set ≡ tag_of id ∷ rows)
+HasTag id set = IsTagged (tag_of id) set
 
 -- the rows behind a set's tag
 abbrev pub rows_behind : List Row → List Row
