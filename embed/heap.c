@@ -1,12 +1,12 @@
-/* How the library asks the C library for memory, in place of the kit's own file, which knows malloc alone. What has a page
-   or more begins with a line of the cache: there eight names of ids share one, and so do the words of eight keys. What has
-   several huge pages asks Linux for these. */
+/* How the library asks the C library for memory, in place of the kit's own file, which knows malloc alone. What has several
+   lines of the cache begins with one: so eight names of ids share a line, and so do the words of eight keys, and what a
+   reader has beside its handle takes as few as it can. What has several huge pages asks Linux for these. */
 #define _DEFAULT_SOURCE
 #include <stdint.h>
 #include <stdlib.h>
 #include <sys/mman.h>
 
-enum { PAGE = 4096, LINE = 64, HUGE_PAGE = 2 << 20, FEW = 4 };
+enum { LINE = 64, HUGE_PAGE = 2 << 20, FEW = 4 };
 
 /* Whether there was memory, and where it is. */
 typedef struct {
@@ -29,7 +29,7 @@ static block aligned(size_t size, size_t align) {
 }
 
 block rattle_alloc(size_t size, size_t align) {
-  if (size < PAGE) return block_at(malloc(size ? size : align));
+  if (size < FEW * LINE) return block_at(malloc(size ? size : align));
   if (size < FEW * HUGE_PAGE) return aligned(size, LINE);
   block made = aligned(size, HUGE_PAGE);
   /* Linux may have none to give. */

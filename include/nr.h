@@ -339,11 +339,12 @@ void nr_close_remains(nr_remains *remains);
    it was. If the writer wrote the key meanwhile, NR_ROWS comes after 2 or 4 steps more, and NR_HOLE after 4, 6 or 7. */
 uint32_t nr_find(nr_reader *reader, uint32_t key, nr_rows *rows);
 
-/* Looks n keys up in their order, as nr_find does one; a key may occur twice. NR_DONE, and each key has its answer
-   beside it: NR_ROWS, and its own `rows` has its rows; or NR_HOLE, and that stays as it was. NR_NO_KEY, and no look-up,
-   if the map lacks one of the keys. Besides the finds' steps it makes 3 loads a key, and 1 more for each 4 rows, or
-   part of 4, that a key may have above 4 and up to 16. It makes these for 16 keys before it finds them, so that the
-   caches fetch what 16 finds need at once. In large maps this is faster than single finds. */
+/* Looks n keys up in their order, as nr_find_kept does one, and then holds nothing; a key may occur twice. NR_DONE, and
+   each key has its answer beside it: NR_ROWS, and its own `rows` has its rows; or NR_HOLE, and that stays as it was.
+   NR_NO_KEY, and no look-up, if the map lacks one of the keys. Besides the finds' steps it makes 1 at the end if the
+   last key had rows, and 3 loads a key, and 1 more for each 4 rows, or part of 4, that a key may have above 4 and up to
+   16. It makes these for 16 keys before it finds them, so that the caches fetch what 16 finds need at once. In large
+   maps this is faster than single finds. */
 uint32_t nr_find_each(nr_reader *reader, nr_wanted *wanted, size_t n);
 
 /* Requests a key, in 1 step. The first request since the key became a hole gets NR_SEND, and `number` is its ticket

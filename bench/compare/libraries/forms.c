@@ -1,8 +1,8 @@
 /* The algorithm's steps in C without proof: finds that count themselves at the key and at the slot, and, with ANNOUNCES,
    finds that write the slot into their reader's own word and look again. With RELEASES the stores of rows and the clearing
    of a reader's word are released in place of sequentially consistent. With TAGGED the keys are ids: an id has the number
-   of its way for a key, its set begins with a row that is its tag, and a find looks at its way's mark. With HANDLES a reader
-   is told by a handle, as in nr.h, which leads to the map. One thread writes. */
+   of its way for a key, its set begins with a row that is its tag, and a find looks at its way's mark. With HANDLES a find is
+   a function of a library, as in nr.h: it takes a handle that leads to the map. One thread writes. */
 #include "ways.h"
 #include <stdatomic.h>
 
@@ -47,7 +47,7 @@ typedef struct {
   /* Of ids. */
   grouping groups;
   word *name, *mark;
-  uint64_t slots, fresh;
+  uint64_t keys, slots, fresh;
   word *key, *slot;
   /* What each reader has announced, a slot's number and 1, a line for one find and two for sixteen. */
   word *said;
@@ -63,14 +63,26 @@ typedef struct {
   value to[GROUP];
 } reader;
 
+/* By handles. What one thread writes shares no line with what others do. */
 typedef struct {
   map *of;
   reader *by;
+  bool holds;
+  char apart[256];
 } side;
 
 typedef struct {
+  uint64_t count;
+  value rows;
+} room;
+
+typedef struct {
   side *at;
+  room found;
+  char apart[256];
 } handle;
+
+typedef enum { ROWS_THERE, HOLE, CLOSED, NO_KEY, HOLDING } answer;
 
 static uint64_t load(word *at) { return atomic_load(at); }
 static word *block(map *m, uint32_t slot) { return &m->slot[(uint64_t)slot * STRIDE]; }
@@ -142,6 +154,7 @@ static void *opened(const plan *p) {
     m->mark = words(m->groups.groups);
     name_ids(m, p);
   }
+  m->keys = keys;
   m->slots = p->keys + READERS + SPARE;
   m->key = words(keys);
   m->slot = words(m->slots * STRIDE);
@@ -164,10 +177,10 @@ static void *new_reader(void *of) {
   if (m->readers == READERS) stop_for("a reader");
   r->said = &m->said[m->readers++ * 2 * LINE];
   if (!HANDLES) return r;
-  handle *h = malloc(sizeof *h);
-  side *at = malloc(sizeof *at);
+  handle *h = calloc(1, sizeof *h);
+  side *at = calloc(1, sizeof *at);
   if (!h || !at) stop_for("there is no memory");
-  *at = (side){m, r};
+  at->of = m, at->by = r;
   h->at = at;
   return h;
 }
@@ -215,23 +228,34 @@ static inline const uint64_t *find_at(map *m, reader *r, uint64_t place, uint64_
 
 static inline bool is_marked(map *m, uint64_t way) { return load(&m->mark[way / WAYS]) >> way % WAYS & 1; }
 
-static inline const uint64_t *find_by(map *m, reader *r, uint64_t key) {
+static inline const uint64_t *find_into(map *m, reader *r, uint64_t key, value *to) {
   uint64_t place = place_of(m, key);
-  if (!TAGGED) return find_at(m, r, place, key, r->to);
+  if (!TAGGED) return find_at(m, r, place, key, to);
   if (place == NO_WAY) return NULL;
   bool marked = is_marked(m, place);
-  const uint64_t *found = find_at(m, r, place, key, r->to);
+  const uint64_t *found = find_at(m, r, place, key, to);
   if (found && !marked) atomic_fetch_or(&m->mark[place / WAYS], (uint64_t)1 << place % WAYS);
   return found;
 }
 
-/* As a library has it: its function is compiled apart. */
-__attribute__((noinline)) static const uint64_t *find_by_handle(handle *h, uint64_t key) {
-  return h->at ? find_by(h->at->of, h->at->by, key) : NULL;
+/* As a library has it: its function is compiled apart, looks at what it is given, and answers by a number. */
+__attribute__((noinline)) static answer find_by_handle(handle *h, uint64_t key, room *to) {
+  if (!h || !h->at) return CLOSED;
+  map *m = h->at->of;
+  if (!TAGGED && key >= m->keys) return NO_KEY;
+  if (h->at->holds) return HOLDING;
+  if (!find_into(m, h->at->by, key, &to->rows)) return HOLE;
+  to->count = ROWS;
+  return ROWS_THERE;
 }
 
 static const uint64_t *find(void *of, void *by, uint64_t key) {
-  return HANDLES ? find_by_handle(by, key) : find_by(of, by, key);
+  if (!HANDLES) {
+    reader *r = by;
+    return find_into(of, r, key, r->to);
+  }
+  handle *h = by;
+  return find_by_handle(h, key, &h->found) == ROWS_THERE ? h->found.rows.word : NULL;
 }
 
 #if !RELEASES && !HANDLES

@@ -1,16 +1,25 @@
 -- Finds of many keys by one call from C.
 use Rattle.std.specs.Prelude.{ℕ, ◌≡◌, ◌<◌, ◌+◌, ◌⊎◌, All, List, [], ◌∷◌, length}
-use Rattle.nr_board.specs.Callers.{Caller}
+use Rattle.nr_board.specs.declared.answers.Found.{Found}
 use Rattle.nr_map.specs.FindsEach.{loads_at, with_loads}
+use Rattle.nr_map.specs.Hands.{FindsKept, Handed, LetsGo}
+use Rattle.nr_c.specs.Codes.{found_code}
+use Rattle.nr_c.specs.Hands.{HoldsNone}
+use Rattle.nr_c.specs.RowCells.{ShowsSet}
 use Rattle.nr_c.specs.declared.many.NrWanted.{NrWanted}
 use Rattle.nr_c.specs.declared.reader_side.ReaderSide.{ReaderSide}
-use Rattle.nr_c.specs.Live.{FindsByCode, ReaderCalls, reader_keys}
+use Rattle.nr_c.specs.Live.{TurnsHand, reader_keys}
 use Rattle.nr_c.specs.Numbers.{answer_done, answer_no_key}
 
--- a find of one of the keys, by the answer beside it
-abbrev pub FindsOneByCode : NrWanted → NrWanted → Caller → Caller → Type 0
-FindsOneByCode wanted found old new =
-    (found.key ≡ wanted.key) × FindsByCode wanted.key wanted.rows found.rows old new found.answer
+-- a find of one of the keys by a hand that keeps what it finds, by the answer beside the key
+abbrev pub FindsOneByCode : NrWanted → NrWanted → Handed → Handed → Type 0
+FindsOneByCode wanted told old new =
+    (told.key ≡ wanted.key) × (answer : Found) × (told.answer ≡ found_code answer)
+    × FindsKept ShowsSet wanted.key old wanted.rows new told.rows answer
+
+-- a hand after that many loads that tell nothing: it holds what it held
+abbrev pub hand_with_loads : ℕ → Handed → Handed
+hand_with_loads loads hand = record hand { reader = with_loads loads hand.reader }
 
 -- calls for those of a list from that index on, one after another: each is told what is left of the list, and makes of
 -- its first one another
@@ -23,18 +32,19 @@ InOrder call place [] (done ∷ rest) old new = ⊥
 InOrder call place (one ∷ others) [] old new = ⊥
 
 -- the find of the key at an index, before it the loads for each of sixteen where sixteen begin there
-abbrev pub FindsAtByCode : ℕ → List NrWanted → NrWanted → NrWanted → Caller → Caller → Type 0
-FindsAtByCode place left wanted found old new =
-    FindsOneByCode wanted found (with_loads (loads_at old.table.shape.rows place (length left)) old) new
+abbrev pub FindsAtByCode : ℕ → List NrWanted → NrWanted → NrWanted → Handed → Handed → Type 0
+FindsAtByCode place left wanted told old new =
+    FindsOneByCode wanted told (hand_with_loads (loads_at old.reader.table.shape.rows place (length left)) old) new
 
--- from the first key on
-abbrev pub FindsEachByCode : List NrWanted → List NrWanted → Caller → Caller → Type 0
-FindsEachByCode wanted found old new = InOrder FindsAtByCode 0 wanted found old new
+-- from the first key on, and then what the last find holds is let go
+abbrev pub FindsEachByCode : List NrWanted → List NrWanted → Handed → Handed → Type 0
+FindsEachByCode wanted told old new = (last : Handed) × InOrder FindsAtByCode 0 wanted told old last × LetsGo last new
 
 -- by a reader's handle
 abbrev pub FindsSome : List NrWanted → List NrWanted → List ReaderSide → List ReaderSide → ℕ → Type 0
-FindsSome wanted found before after code =
-    (code ≡ answer_done) × ReaderCalls (λ old new said. FindsEachByCode wanted found old new) before after code
+FindsSome wanted told before after code =
+    (code ≡ answer_done) × (old new : Handed) × TurnsHand before after old new × HoldsNone old
+    × FindsEachByCode wanted told old new
 
 -- the map of the handle's reader has each of the keys
 abbrev pub AreKeysOf : ReaderSide → List NrWanted → Type 0

@@ -1,10 +1,9 @@
 //! Finds of many keys by one call.
 ghost use Rattle.std.specs.Prelude.{◌≡◌, ◌<◌, ◌≤◌, ◌*◌, ℕ, All, length, take};
 ghost use Rattle.std.specs.Bool.{OnFalse, OnTrue};
-ghost use Rattle.nr_map.specs.FindsEach.{loads_at, with_loads};
-ghost use Rattle.nr_c.specs.Hands.{HoldsNone};
+ghost use Rattle.nr_map.specs.FindsEach.{loads_at};
 ghost use Rattle.nr_c.specs.Live.{WhenIdle, WhenLive};
-ghost use Rattle.nr_c.specs.Many.{AreKeysOf, FindsEachByCode, FindsOneByCode, FindsSome, WithKeys};
+ghost use Rattle.nr_c.specs.Many.{AreKeysOf, FindsAtByCode, FindsOneByCode, FindsSome, InOrder, WithKeys, hand_with_loads};
 
 use crate::codes::{NR_CLOSED, NR_DONE, NR_HOLDING, NR_NO_KEY, of_found};
 use crate::reader_handle::NrReader;
@@ -23,11 +22,12 @@ pub struct NrWanted {
     pub rows: NrRows,
 }
 
-/// Looks each of the keys up, in their order, as `nr_find` does one: a find of each is an entry of its
-/// own, also of a key that is wanted twice. Each has its answer beside it, `NR_ROWS` or `NR_HOLE`, and
-/// its rows in its own room, which stays as it is where the key is a hole. Takes the steps of all the
-/// finds, and for each key 3 loads, and 1 more for each 4 rows, or part of 4, that a key may have above 4
-/// and up to 16: these are made for 16 keys at a time before these are found.
+/// Looks each of the keys up, in their order, as a hand's `find_kept` does one, which lets go what it
+/// holds by the next announcement, and lets the last one's set go. A find of each is an entry of its own,
+/// also of a key that is wanted twice. Each has its answer beside it, `NR_ROWS` or `NR_HOLE`, and its rows
+/// in its own room, which stays as it is where the key is a hole. Takes the steps of all the finds; 1 if
+/// the last one found rows; and for each key 3 loads, and 1 more for each 4 rows, or part of 4, that a key
+/// may have above 4 and up to 16: these are made for 16 keys at a time before these are found.
 /// Answers `NR_DONE`; or, with no step, `NR_NO_KEY` where there is no such key as one of them, or
 /// `NR_HOLDING` where the reader holds a set.
 #[unsafe(no_mangle)]
@@ -45,6 +45,7 @@ pub extern "C" fn nr_find_each(reader: &mut NrReader, wanted: &mut [NrWanted]) -
         return NR_HOLDING;
     }
     find_all(&side.map, &mut side.hand, wanted);
+    side.hand.release(&side.map);
     NR_DONE
 }
 
@@ -66,11 +67,9 @@ impl ReaderSide {
 
 fn find_all(map: &ReaderMap, hand: &mut Hand, wanted: &mut [NrWanted])
     requires own { hand.old.reader.table ≡ map.now }
-    requires idle { HoldsNone hand.old }
     requires keys { All (λ one. one.key < map.now.shape.keys) wanted.old }
     ensures own { hand.new.reader.table ≡ map.now }
-    ensures idle { HoldsNone hand.new }
-    ensures finds { FindsEachByCode wanted.old wanted.new hand.old.reader hand.new.reader }
+    ensures finds { InOrder FindsAtByCode 0 wanted.old wanted.new hand.old hand.new }
 {
     for place in 0..wanted.len() {
         load_from(map, hand, place, &wanted[place..]);
@@ -81,10 +80,8 @@ fn find_all(map: &ReaderMap, hand: &mut Hand, wanted: &mut [NrWanted])
 // Before the first of sixteen keys, the loads for all of them. These are the keys from that place on.
 fn load_from(map: &ReaderMap, hand: &mut Hand, place: usize, left: &[NrWanted])
     requires own { hand.old.reader.table ≡ map.now }
-    requires idle { HoldsNone hand.old }
     requires keys { All (λ one. one.key < map.now.shape.keys) left.now }
-    ensures reader { hand.new.reader ≡ with_loads (loads_at map.now.shape.rows place (length left.now)) hand.old.reader }
-    ensures idle { HoldsNone hand.new }
+    ensures { hand.new ≡ hand_with_loads (loads_at map.now.shape.rows place (length left.now)) hand.old }
 {
     if place % GROUP == 0 {
         let group = &left[..left.len().min(GROUP)];
@@ -106,11 +103,9 @@ fn copy_keys(group: &[NrWanted], keys: &mut [u32; GROUP])
 
 fn find_one(map: &ReaderMap, hand: &mut Hand, one: &mut NrWanted)
     requires own { hand.old.reader.table ≡ map.now }
-    requires idle { HoldsNone hand.old }
     requires key { one.old.key < map.now.shape.keys }
     ensures own { hand.new.reader.table ≡ map.now }
-    ensures idle { HoldsNone hand.new }
-    ensures finds { FindsOneByCode one.old one.new hand.old.reader hand.new.reader }
+    ensures finds { FindsOneByCode one.old one.new hand.old hand.new }
 {
-    one.answer = of_found(hand.find(map, one.key, &mut one.rows));
+    one.answer = of_found(hand.find_kept(map, one.key, &mut one.rows));
 }

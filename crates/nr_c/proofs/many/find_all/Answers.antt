@@ -1,8 +1,11 @@
-use Rattle.std.proofs.Common.{◌<◌, [], arith, get_or, length, subst, sym}
-use Rattle.std.proofs.lemmas.List.{get_or_default}
+use Rattle.std.proofs.Common.{◌≡◌, ◌<◌, ◌-◌, List, [], ap, arith, drop, get_or, length, subst, sym, take, ◌∙◌}
+use Rattle.std.proofs.lemmas.List.{get_or_default, length-drop, take_all}
 use Rattle.nr_c.specs.declared.many.NrWanted.{NrWanted}
-use Rattle.nr_c.specs.Many.{FindsAtByCode}
-use Rattle.nr_c.proofs.FindsMade.{all_made, as_wanted}
+use Rattle.nr_board.specs.Callers.{Table}
+use Rattle.nr_map.specs.FindsEach.{loads_at}
+use Rattle.nr_map.specs.Hands.{Handed}
+use Rattle.nr_c.specs.Many.{FindsAtByCode, FindsOneByCode, hand_with_loads}
+use Rattle.nr_c.proofs.FindsMade.{all_made, as_wanted, one_more}
 use Rattle.nr_c.proofs.many.find_all.Goals as goal
 
 abbrev blank : NrWanted
@@ -16,12 +19,36 @@ find_one-requires-clause-key c =
     let one = get_or keys place blank in
     let low : place < length keys = omega (arith, c.loop-place-test.true, had.long) in
     let was
-    = as_wanted FindsAtByCode c.args.hand.now.reader c.args.wanted.now place c.loop-place.hand.reader keys had one
+    = as_wanted FindsAtByCode c.args.hand.now c.args.wanted.now place c.loop-place.hand keys had one
     low (get_or_default keys place blank one low) in
     subst (λ (w : NrWanted). w.key < c.args.map.now.shape.keys) (sym was)
     (c.requires.keys place one (omega (arith, low, had.long)))
 
 pub returns-clause-finds : goal.returns-clause-finds
 returns-clause-finds c = let had = c.loop-place.invariant.made in
-    all_made FindsAtByCode c.args.hand.now.reader c.args.wanted.now c.loop-place.place c.loop-place.hand.reader
+    all_made FindsAtByCode c.args.hand.now c.args.wanted.now c.loop-place.place c.loop-place.hand
     c.loop-place.wanted had (omega (arith, had.long, c.loop-place-test.false))
+
+pub loop-place-preserved : goal.loop-place-preserved
+loop-place-preserved c =
+    let place = c.loop-place.place in
+    let keys = c.loop-place.wanted in
+    let had = c.loop-place.invariant.made in
+    let one = get_or keys place blank in
+    let low : place < length keys = omega (arith, c.loop-place-test.true, had.long) in
+    let left = drop place keys in
+    let whole : take (length keys - place) left ≡ left
+    = take_all (length keys - place) left (omega (arith, length-drop place keys)) in
+    let loaded
+    = c.load_from.ensures
+    ∙ ap (λ (l : List NrWanted). hand_with_loads (loads_at c.args.map.now.shape.rows place (length l)) c.loop-place.hand)
+    whole
+    ∙ ap (λ (t : Table). hand_with_loads (loads_at t.shape.rows place (length left)) c.loop-place.hand)
+    (sym c.loop-place.invariant.own) in
+    record {
+      own = c.find_one.ensures.own;
+      made = one_more FindsAtByCode c.args.hand.now c.args.wanted.now place c.loop-place.hand keys had one low
+          (get_or_default keys place blank one low) c.find_one.new.hand c.find_one.new.one
+          (subst (λ (h : Handed). FindsOneByCode one c.find_one.new.one h c.find_one.new.hand) loaded
+          c.find_one.ensures.finds);
+    }

@@ -1,5 +1,4 @@
 use Rattle.std.specs.Prelude.{◌≡◌}
-use Rattle.nr_c.specs.Hands.{HoldsNone}
 use Rattle.nr_c.specs.Many.{FindsAtByCode}
 use Rattle.nr_c.proofs.FindsMade.{Made}
 use Rattle.nr_c.proofs.many.find_all.Given as goal
@@ -7,6 +6,5 @@ use Rattle.nr_c.proofs.many.find_all.Given as goal
 abbrev pub invariant-loop-place : goal.invariant-loop-place
 invariant-loop-place l = record {
   own : l.hand.reader.table ≡ l.map;
-  idle : HoldsNone l.hand;
-  made : Made FindsAtByCode l.fn.hand.reader l.fn.wanted l.place l.hand.reader l.wanted;
+  made : Made FindsAtByCode l.fn.hand l.fn.wanted l.place l.hand l.wanted;
 }

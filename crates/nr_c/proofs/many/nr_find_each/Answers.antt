@@ -34,26 +34,22 @@ returns-then-holds c =
 pub returns : goal.returns
 returns c =
     let was = ap (λ handle. handle.live) (sym c.is_live.ensures.same) ∙ c.side-side.ensures.value in
-    let none = c.if-holds.ensures.none in
     inr (inr (
       record { held = c.side-side.result.now; was = was; has = c.if-not-has_keys.ensures.all },
       inr (
         refl,
-        (
-          c.side-side.result.now.hand,
-          c.find_all.new.hand,
-          record {
-            old = c.side-side.result.now;
-            new = _;
-            led = was;
-            leads = refl;
-            map = refl;
-            old_hand = refl;
-            new_hand = refl;
-          },
-          none,
-          c.find_all.ensures.idle,
-          c.find_all.ensures.finds,
-        ),
+        c.side-side.result.now.hand,
+        c.release.new.self,
+        record {
+          old = c.side-side.result.now;
+          new = _;
+          led = was;
+          leads = refl;
+          map = refl;
+          old_hand = refl;
+          new_hand = refl;
+        },
+        c.if-holds.ensures.none,
+        (c.find_all.new.hand, c.find_all.ensures.finds, c.release.ensures.lets_go),
       ),
     ))
