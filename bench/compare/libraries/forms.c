@@ -1,6 +1,8 @@
 /* The algorithm's steps in C without proof: finds that count themselves at the key and at the slot, and, with ANNOUNCES,
    finds that write the slot into their reader's own word and look again. With RELEASES the stores of rows and the clearing
-   of a reader's word are released in place of sequentially consistent. With TAGGED the keys are ids: an id has the number
+   of a reader's word are released in place of sequentially consistent, and finds of sixteen keys announce in sixteen words.
+   With VERSIONED a find reads the set without an announcement, and looks afterwards whether the key was written meanwhile.
+   With TAGGED the keys are ids: an id has the number
    of its way for a key, its set begins with a row that is its tag, and a find looks at its way's mark. With HANDLES a find is
    a function of a library, as in nr.h: it takes a handle that leads to the map. One thread writes. */
 #include "ways.h"
@@ -14,6 +16,9 @@
 #endif
 #ifndef HANDLES
 #define HANDLES 0
+#endif
+#ifndef VERSIONED
+#define VERSIONED 0
 #endif
 
 #if RELEASES
@@ -49,7 +54,7 @@ typedef struct {
   word *name, *mark;
   uint64_t keys, slots, fresh;
   word *key, *slot;
-  /* What each reader has announced, a slot's number and 1, a line for one find and two for sixteen. */
+  /* What each reader has announced, a slot's number and 1: a word of a line, or sixteen of two. */
   word *said;
   uint32_t readers;
   /* Retired slots, oldest first; those before `heard` were retired before the last scan of what is announced. */
@@ -85,6 +90,9 @@ typedef struct {
 typedef enum { ROWS_THERE, HOLE, CLOSED, NO_KEY, HOLDING } answer;
 
 static uint64_t load(word *at) { return atomic_load(at); }
+/* The word of a key. Behind it lies its version, if keys have one, which is odd while the word is being changed. */
+static word *word_of(map *m, uint64_t place) { return &m->key[VERSIONED ? 2 * place : place]; }
+
 static word *block(map *m, uint32_t slot) { return &m->slot[(uint64_t)slot * STRIDE]; }
 
 static inline uint64_t hashed(grouping g, uint64_t id) {
@@ -113,7 +121,7 @@ static inline uint64_t way_in(map *m, uint32_t group, uint64_t id) {
 static inline uint64_t place_of(map *m, uint64_t key) {
   if (!TAGGED) return key;
   uint32_t own = own_group(m->groups, key);
-  load(&m->key[(uint64_t)WAYS * own]);
+  load(word_of(m, (uint64_t)WAYS * own));
   load(&m->mark[own]);
   uint64_t way = way_in(m, own, key);
   return way == NO_WAY ? way_in(m, second_group(m->groups, key), key) : way;
@@ -156,7 +164,7 @@ static void *opened(const plan *p) {
   }
   m->keys = keys;
   m->slots = p->keys + READERS + SPARE;
-  m->key = words(keys);
+  m->key = words(VERSIONED ? 2 * keys : keys);
   m->slot = words(m->slots * STRIDE);
   m->said = words(READERS * 2 * LINE);
   m->room = m->slots + 1;
@@ -165,7 +173,7 @@ static void *opened(const plan *p) {
   for (uint64_t i = 0; i < p->keys; i++) {
     uint64_t key = key_at(p, i);
     put(m, (uint32_t)i, key, 0);
-    atomic_store(&m->key[place_of(m, key)], i << 2 | FILLED);
+    atomic_store(word_of(m, place_of(m, key)), i << 2 | FILLED);
   }
   m->fresh = p->keys;
   return m;
@@ -199,20 +207,30 @@ static inline const uint64_t *copied(map *m, uint64_t named, uint64_t key, value
 }
 
 static inline const uint64_t *find_counted(map *m, uint64_t place, uint64_t key, value *to) {
-  uint64_t named = atomic_fetch_add(&m->key[place], ARRIVE);
+  uint64_t named = atomic_fetch_add(word_of(m, place), ARRIVE);
   if (!(named & FILLED)) return NULL;
   const uint64_t *found = copied(m, named, key, to);
   atomic_fetch_add(block(m, SLOT(named)), 1);
   return found;
 }
 
+/* Whether what was found is what the key had at one moment. */
+static inline bool found_unheld(map *m, uint64_t place, uint64_t key, value *to, const uint64_t **found) {
+  word *at = word_of(m, place);
+  uint64_t version = load(at + 1), named = load(at);
+  *found = named & FILLED ? copied(m, named, key, to) : NULL;
+  return !(version & 1) && load(at + 1) == version;
+}
+
 static inline const uint64_t *find_at(map *m, reader *r, uint64_t place, uint64_t key, value *to) {
+  const uint64_t *unheld;
+  if (VERSIONED && __builtin_expect(found_unheld(m, place, key, to, &unheld), 1)) return unheld;
 #if ANNOUNCES
-  uint64_t named = load(&m->key[place]);
+  uint64_t named = load(word_of(m, place));
   for (int i = 0; i < TRIES; i++) {
     if (!(named & FILLED)) return NULL;
     atomic_store(r->said, SLOT(named) + (uint64_t)1);
-    uint64_t now = load(&m->key[place]);
+    uint64_t now = load(word_of(m, place));
     if (__builtin_expect(NAMED(now ^ named) == 0, 1)) {
       const uint64_t *found = copied(m, named, key, to);
       atomic_store_explicit(r->said, 0, STORES);
@@ -258,7 +276,7 @@ static const uint64_t *find(void *of, void *by, uint64_t key) {
   return find_by_handle(h, key, &h->found) == ROWS_THERE ? h->found.rows.word : NULL;
 }
 
-#if !RELEASES && !HANDLES
+#if !HANDLES && !VERSIONED
 /* Loads a word of each line that these keys' sets have: of two lines at once, and then of others by the rows. */
 static inline void load_ahead(map *m, const uint64_t named[GROUP]) {
   uint64_t rows[GROUP];
@@ -274,6 +292,41 @@ static inline void load_ahead(map *m, const uint64_t named[GROUP]) {
     }
 }
 
+#if ANNOUNCES
+/* Announces them all at once. */
+static inline void find_together(map *m, reader *r, const uint64_t *place, const uint64_t *named, const uint64_t *key,
+    const uint64_t **found) {
+  for (int i = 0; i < GROUP - 1; i++)
+    atomic_store_explicit(&r->said[i], named[i] & FILLED ? SLOT(named[i]) + (uint64_t)1 : 0, memory_order_relaxed);
+  atomic_store(&r->said[GROUP - 1], named[GROUP - 1] & FILLED ? SLOT(named[GROUP - 1]) + (uint64_t)1 : 0);
+  uint32_t missed = 0;
+  for (int i = 0; i < GROUP; i++) {
+    uint64_t now = load(word_of(m, place[i]));
+    if (__builtin_expect(NAMED(now ^ named[i]) != 0 || !(now & FILLED), 0)) missed |= 1u << i;
+    else found[i] = copied(m, now, key[i], &r->to[i]);
+  }
+  for (int i = 0; i < GROUP; i++) atomic_store_explicit(&r->said[i], 0, memory_order_release);
+  for (int i = 0; missed; i++, missed >>= 1)
+    if (missed & 1) found[i] = find_at(m, r, place[i], key[i], &r->to[i]);
+}
+
+/* Announces each over the last one. */
+static inline void find_in_turn(map *m, reader *r, const uint64_t *place, const uint64_t *key, const uint64_t **found) {
+  for (int i = 0; i < GROUP; i++) {
+    uint64_t named = load(word_of(m, place[i]));
+    if (named & FILLED) {
+      atomic_store(r->said, SLOT(named) + (uint64_t)1);
+      if (__builtin_expect(NAMED(load(word_of(m, place[i])) ^ named) == 0, 1)) {
+        found[i] = copied(m, named, key[i], &r->to[i]);
+        continue;
+      }
+    }
+    found[i] = find_at(m, r, place[i], key[i], &r->to[i]);
+  }
+  atomic_store(r->said, 0);
+}
+#endif
+
 static void find_each(void *of, void *by, const uint64_t *key, const uint64_t **found) {
   map *m = of;
   reader *r = by;
@@ -281,22 +334,12 @@ static void find_each(void *of, void *by, const uint64_t *key, const uint64_t **
   if (TAGGED)
     for (int i = 0; i < GROUP; i++) load(&m->name[(uint64_t)WAYS * own_group(m->groups, key[i])]);
   for (int i = 0; i < GROUP; i++) place[i] = place_of(m, key[i]);
-  for (int i = 0; i < GROUP; i++) named[i] = load(&m->key[place[i]]);
+  for (int i = 0; i < GROUP; i++) named[i] = load(word_of(m, place[i]));
   load_ahead(m, named);
-#if ANNOUNCES
-  for (int i = 0; i < GROUP - 1; i++)
-    atomic_store_explicit(&r->said[i], named[i] & FILLED ? SLOT(named[i]) + (uint64_t)1 : 0, memory_order_relaxed);
-  atomic_store(&r->said[GROUP - 1], named[GROUP - 1] & FILLED ? SLOT(named[GROUP - 1]) + (uint64_t)1 : 0);
-  uint32_t missed = 0;
-  for (int i = 0; i < GROUP; i++) {
-    uint64_t now = load(&m->key[place[i]]);
-    if (__builtin_expect(NAMED(now ^ named[i]) != 0 || !(now & FILLED), 0)) missed |= 1u << i;
-    else found[i] = copied(m, now, key[i], &r->to[i]);
-  }
-  for (int i = 0; i < GROUP - 1; i++) atomic_store_explicit(&r->said[i], 0, memory_order_release);
-  atomic_store(&r->said[GROUP - 1], 0);
-  for (int i = 0; missed; i++, missed >>= 1)
-    if (missed & 1) found[i] = find_at(m, r, place[i], key[i], &r->to[i]);
+#if RELEASES
+  find_together(m, r, place, named, key, found);
+#elif ANNOUNCES && !TAGGED
+  find_in_turn(m, r, place, key, found);
 #else
   for (int i = 0; i < GROUP; i++) found[i] = find_at(m, r, place[i], key[i], &r->to[i]);
 #endif
@@ -345,10 +388,14 @@ static uint32_t take_slot(map *m, uint64_t *departures) {
 static void update(void *of, uint64_t key, uint64_t version) {
   map *m = of;
   uint64_t place = place_of(m, key), departures;
-  load(&m->key[place]);
+  word *at = word_of(m, place);
+  load(at);
   uint32_t slot = take_slot(m, &departures);
   put(m, slot, key, version);
-  uint64_t old = atomic_exchange(&m->key[place], (departures & COUNTS) << 24 | (uint64_t)slot << 2 | FILLED);
+  uint64_t had = VERSIONED ? load(at + 1) : 0;
+  if (VERSIONED) atomic_store_explicit(at + 1, had + 1, STORES);
+  uint64_t old = atomic_exchange(at, (departures & COUNTS) << 24 | (uint64_t)slot << 2 | FILLED);
+  if (VERSIONED) atomic_store(at + 1, had + 2);
   retire(m, SLOT(old), old >> 24);
 }
 
@@ -361,16 +408,19 @@ static void update(void *of, uint64_t key, uint64_t version) {
 #endif
 #define FORM .keys = KIND, .open = opened, .reader = new_reader, .begin = no_thread, .end = no_thread, .find = find, .update = update
 
+#define FORM_EACH .find_each = find_each, FORM
+
 #if HANDLES
 const contestant OF_KIND(handled) = {.name = "C by handles", FORM};
+#elif VERSIONED
+const contestant OF_KIND(versioned) = {.name = "C, unheld reads", FORM};
 #elif RELEASES
 const contestant OF_KIND(releasing) = {.name = "C, stores released", FORM};
+const contestant OF_KIND(releasing_each) = {.name = "C, stores released, 16 at once", .map_of = &OF_KIND(releasing), FORM_EACH};
 #elif ANNOUNCES
 const contestant OF_KIND(announcing) = {.name = "the same steps in C", FORM};
-const contestant OF_KIND(announcing_each) = {.name = "the same steps in C, 16 at once", .map_of = &OF_KIND(announcing),
-  .find_each = find_each, FORM};
+const contestant OF_KIND(announcing_each) = {.name = "the same steps in C, 16 at once", .map_of = &OF_KIND(announcing), FORM_EACH};
 #else
 const contestant OF_KIND(counted) = {.name = "counted in C", FORM};
-const contestant OF_KIND(counted_each) = {.name = "counted in C, 16 at once", .map_of = &OF_KIND(counted),
-  .find_each = find_each, FORM};
+const contestant OF_KIND(counted_each) = {.name = "counted in C, 16 at once", .map_of = &OF_KIND(counted), FORM_EACH};
 #endif

@@ -13,16 +13,16 @@ enum { MOST = 32 };
 /* Of a library that isn't there the object isn't linked. */
 #define MAYBE __attribute__((weak))
 extern const contestant this_map, this_map_kept, this_map_each, plain, plain_each, lock_a_key, counted, counted_each, announcing,
-    announcing_each, handled, releasing;
+    announcing_each, handled, releasing, releasing_each, versioned;
 extern const contestant this_ids, this_ids_each, counted_ids, counted_each_ids, announcing_ids, announcing_each_ids, handled_ids,
-    releasing_ids;
+    releasing_ids, releasing_each_ids;
 extern const contestant this_map_behind MAYBE, qsbr_array MAYBE, qsbr_table MAYBE, memb_array MAYBE, memb_table MAYBE,
     arc_swaps MAYBE, dashmaps MAYBE, tbb_map MAYBE, cuckoo MAYBE, michael MAYBE;
 
 static const contestant *const all[] = {&this_map, &this_map_kept, &this_map_each, &counted, &counted_each, &announcing,
-    &announcing_each, &handled, &releasing, &this_ids, &this_ids_each, &counted_ids, &counted_each_ids, &announcing_ids,
-    &announcing_each_ids, &handled_ids, &releasing_ids, &qsbr_array, &memb_array, &arc_swaps, &lock_a_key, &plain, &plain_each,
-    &qsbr_table, &memb_table, &dashmaps, &tbb_map, &cuckoo, &michael, &this_map_behind};
+    &announcing_each, &handled, &releasing, &releasing_each, &versioned, &this_ids, &this_ids_each, &counted_ids, &counted_each_ids,
+    &announcing_ids, &announcing_each_ids, &handled_ids, &releasing_ids, &releasing_each_ids, &qsbr_array, &memb_array, &arc_swaps,
+    &lock_a_key, &plain, &plain_each, &qsbr_table, &memb_table, &dashmaps, &tbb_map, &cuckoo, &michael, &this_map_behind};
 
 typedef enum { EVEN, ZIPF, HOT, ABSENT, DRAWS } draw;
 static const char *const drawn_so[DRAWS] = {"even", "zipf", "hot", "absent"};
