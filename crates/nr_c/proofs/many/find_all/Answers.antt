@@ -41,8 +41,8 @@ loop-place-preserved c =
     = take_all (length keys - place) left (omega (arith, length-drop place keys)) in
     let loaded
     = c.load_from.ensures
-    ∙ ap (λ (l : List NrWanted). hand_with_loads (loads_at c.args.map.now.shape.rows place (length l)) c.loop-place.hand)
-    whole
+    ∙ ap (λ (l : List NrWanted). hand_with_loads (loads_at c.args.map.now.shape.rows place (length l))
+    c.loop-place.hand) whole
     ∙ ap (λ (t : Table). hand_with_loads (loads_at t.shape.rows place (length left)) c.loop-place.hand)
     (sym c.loop-place.invariant.own) in
     record {
