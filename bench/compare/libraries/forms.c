@@ -2,9 +2,9 @@
    finds that write the slot into their reader's own word and look again. With RELEASES the stores of rows and the clearing
    of a reader's word are released in place of sequentially consistent, and finds of sixteen keys announce in sixteen words.
    With VERSIONED a find reads the set without an announcement, and looks afterwards whether the key was written meanwhile.
-   With TAGGED the keys are ids: an id has the number
-   of its way for a key, its set begins with a row that is its tag, and a find looks at its way's mark. With HANDLES a find is
-   a function of a library, as in nr.h: it takes a handle that leads to the map. One thread writes. */
+   With TAGGED the keys are ids: an id has the number of its way for a key, its set begins with a row that is its tag, and a
+   find looks at its way's mark. With HANDLES a find is a function of a library, as in nr.h: it takes a handle that leads to
+   the map. One thread writes. */
 #include "ways.h"
 #include <stdatomic.h>
 
@@ -90,6 +90,7 @@ typedef struct {
 typedef enum { ROWS_THERE, HOLE, CLOSED, NO_KEY, HOLDING } answer;
 
 static uint64_t load(word *at) { return atomic_load(at); }
+
 /* The word of a key. Behind it lies its version, if keys have one, which is odd while the word is being changed. */
 static word *word_of(map *m, uint64_t place) { return &m->key[VERSIONED ? 2 * place : place]; }
 
