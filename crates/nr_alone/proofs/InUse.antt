@@ -7,7 +7,7 @@ use Rattle.std.specs.List.{cons_option}
 use Rattle.nr_model.specs.Histories.{Entry}
 use Rattle.nr_model.specs.Strays.{keyed, strays}
 use Rattle.nr_model.specs.Maps.{filled_count}
-use Rattle.nr_machine.specs.Story.{map_after}
+use Rattle.nr_core.specs.Story.{map_after}
 use Rattle.nr_core.proofs.ListPlaces.{at_maps, at_unmap, before, inside}
 use Rattle.nr_core.specs.Exact.{filled_puts, pinned_put, pins, put_numbers}
 use Rattle.nr_core.specs.MarkLaws.{slots_in_use}

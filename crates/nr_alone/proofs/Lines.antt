@@ -11,9 +11,9 @@ use Rattle.nr_model.specs.declared.calls.Reply.TheVariants as reply
 use Rattle.nr_model.specs.declared.rows.Row.{Row}
 use Rattle.nr_model.specs.Histories.{Entry, IsLegal, entries_of, is_done}
 use Rattle.nr_model.specs.Maps.{reply_to}
-use Rattle.nr_machine.specs.declared.calls.NoSlot.{NoSlot}
-use Rattle.nr_machine.specs.Story.{entry, map_after}
-use Rattle.nr_machine.specs.declared.places.Retired.{Retired}
+use Rattle.nr_core.specs.declared.calls.NoSlot.{NoSlot}
+use Rattle.nr_core.specs.Story.{entry, map_after}
+use Rattle.nr_core.specs.declared.places.Retired.{Retired}
 use Rattle.nr_core.specs.Marks.{Marks, Past}
 use Rattle.nr_core.specs.MarkLaws.{slots_in_use}
 use Rattle.nr_core.specs.Pasts.{AllCurrent, AllReaders}

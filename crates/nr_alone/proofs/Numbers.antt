@@ -11,8 +11,8 @@ use Rattle.nr_model.specs.declared.calls.Reply.{Reply}
 use Rattle.nr_model.specs.Histories.{Entry, IsLegal, cancels, cancels_key, entries_of, is_cancelled}
 use Rattle.nr_model.specs.Laws.{LegalBegins, NumbersCountCancels}
 use Rattle.nr_model.specs.Maps.{number_of, state_of}
-use Rattle.nr_machine.specs.declared.shape.Shape.{Shape}
-use Rattle.nr_machine.specs.Story.{map_after}
+use Rattle.nr_core.specs.declared.shape.Shape.{Shape}
+use Rattle.nr_core.specs.Story.{map_after}
 use Rattle.nr_board.specs.Callers.{Caller, Table, map_seen, map_at_opening}
 use Rattle.nr_board.specs.Entries.{AreCallers, is_reading}
 use Rattle.nr_map.specs.Hands.{Handed}

@@ -16,7 +16,7 @@ use Rattle.nr_model.specs.declared.states.KeyState.{KeyState}
 use Rattle.nr_model.specs.declared.states.KeyState.TheVariants as states
 use Rattle.nr_model.specs.Histories.{Entry, entries_of}
 use Rattle.nr_model.specs.Maps.{PartialMap, find_reply, next, state_of}
-use Rattle.nr_machine.specs.Story.{entry, map_after}
+use Rattle.nr_core.specs.Story.{entry, map_after}
 use Rattle.nr_core.specs.Puts.{put_number}
 use Rattle.nr_board.specs.Callers.{Caller, Table, map_at_opening}
 use Rattle.nr_board.specs.Kinds.{kind_of}

@@ -8,8 +8,8 @@ use Rattle.nr_model.specs.declared.calls.Reply.TheVariants as reply
 use Rattle.nr_model.specs.Histories.{Entry, is_done}
 use Rattle.nr_model.specs.Laws.{LegalGoesOn}
 use Rattle.nr_model.specs.Maps.{call_key, next, reply_to}
-use Rattle.nr_machine.specs.declared.shape.Shape.{Shape}
-use Rattle.nr_machine.specs.Story.{entry, map_after}
+use Rattle.nr_core.specs.declared.shape.Shape.{Shape}
+use Rattle.nr_core.specs.Story.{entry, map_after}
 use Rattle.nr_core.specs.Exact.{put_numbers}
 use Rattle.nr_core.specs.Puts.{put_count, put_number, puts_set}
 use Rattle.nr_core.specs.MarkLaws.{PutGoesOn}

@@ -4,7 +4,7 @@ use Rattle.std.proofs.lemmas.List.{length-replicate, length-set}
 use Rattle.nr_model.specs.Histories.{Entry, after}
 use Rattle.nr_model.specs.Maps.{PartialMap, key_count, call_key, next, state_after, state_of}
 use Rattle.nr_model.specs.declared.states.KeyState.TheVariants.{Hole}
-use Rattle.nr_machine.specs.Story.{map_after}
+use Rattle.nr_core.specs.Story.{map_after}
 use Rattle.nr_board.specs.Callers.{Table, map_at_opening}
 
 keys_after : (log : List Entry) (m : PartialMap) → key_count (after m log) ≡ key_count m

@@ -5,8 +5,8 @@ use mathlib.Core.Option.{some}
 use lib.ListN.{get_elem?}
 use Rattle.nr_model.specs.Histories.{Entry, entries_of}
 use Rattle.nr_model.specs.Laws.{LegalBegins, LegalGoesOn}
-use Rattle.nr_machine.specs.Story.{map_after}
-use Rattle.nr_machine.specs.Sums.{total}
+use Rattle.nr_core.specs.Story.{map_after}
+use Rattle.nr_core.specs.Sums.{total}
 use Rattle.nr_core.specs.Exact.{put_numbers}
 use Rattle.nr_core.specs.MarkLaws.{PutGoesOn}
 use Rattle.nr_core.specs.Pasts.{Current}

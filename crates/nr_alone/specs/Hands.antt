@@ -7,7 +7,7 @@ use Rattle.nr_model.specs.declared.calls.Call.TheVariants as model
 use Rattle.nr_model.specs.declared.calls.Reply.{Reply}
 use Rattle.nr_model.specs.declared.calls.Reply.TheVariants as reply
 use Rattle.nr_model.specs.Histories.{Entry, is_done}
-use Rattle.nr_machine.specs.Story.{entry}
+use Rattle.nr_core.specs.Story.{entry}
 use Rattle.nr_core.specs.Marks.{Past}
 use Rattle.nr_core.specs.Puts.{put_number}
 use Rattle.nr_board.specs.Callers.{Caller, Grows, KnowsOwn, Rests, Table}

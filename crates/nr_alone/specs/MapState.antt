@@ -11,7 +11,7 @@ use Rattle.nr_model.specs.declared.calls.Reply.TheVariants as reply
 use Rattle.nr_model.specs.Maps.{PartialMap, opening, call_key, reply_to, next, state_of, filled_count}
 use Rattle.nr_model.specs.Histories.{is_done}
 use Rattle.nr_model.specs.Strays.{keyed, strays}
-use Rattle.nr_machine.specs.declared.shape.Shape.{Shape}
+use Rattle.nr_core.specs.declared.shape.Shape.{Shape}
 use Rattle.nr_alone.specs.Answers.{Answer}
 use Rattle.nr_alone.specs.Answers as answers
 use Rattle.nr_alone.specs.declared.answer.PinRefusal.{PinRefusal}

@@ -5,7 +5,7 @@ use Rattle.nr_model.specs.declared.calls.Call.{Call}
 use Rattle.nr_model.specs.declared.calls.Reply.{Reply}
 use Rattle.nr_model.specs.declared.calls.Reply.TheVariants as reply
 use Rattle.nr_model.specs.Histories.{is_done}
-use Rattle.nr_machine.specs.declared.calls.NoSlot.{NoSlot}
+use Rattle.nr_core.specs.declared.calls.NoSlot.{NoSlot}
 use Rattle.nr_board.specs.WriterAnswers.{HasNoSlot, Publishes}
 use Rattle.nr_board.specs.Callers.{Caller, Gains}
 use Rattle.nr_alone.specs.Answers.{Answer}

@@ -1,6 +1,6 @@
 //! A running map whose tokens all have one owner.
 ghost use Rattle.std.specs.Prelude.{◌≡◌, ◌≤◌, ◌<◌, ◌↔◌, All, length, Ok, Err, IfOk, map as each_of};
-ghost use Rattle.nr_machine.specs.Sizes.{IsBadShape};
+ghost use Rattle.nr_core.specs.Sizes.{IsBadShape};
 ghost use Rattle.nr_model.specs.declared.rows.TheConstants.{MAX_ROWS};
 ghost use Rattle.nr_alone.specs.WriterCalls.{model_call, writer_key};
 ghost use Rattle.nr_map.specs.Hands.{idle};

@@ -14,14 +14,14 @@ use Rattle.nr_core.proofs.KeyWords.{name-asked, names_none, names_one}
 use Rattle.nr_core.proofs.OnKey.{on_key}
 use Rattle.nr_core.proofs.Sums.{total-set}
 use Rattle.nr_core.specs.Core.{ShowsState}
-use Rattle.nr_machine.specs.declared.operation.Operation.TheVariants.{Or}
+use Rattle.nr_core.specs.declared.operation.Operation.TheVariants.{Or}
 use Rattle.nr_core.specs.Roles.{holds}
-use Rattle.nr_machine.specs.Slots.{name_number}
+use Rattle.nr_core.specs.Slots.{name_number}
 use Rattle.nr_core.specs.Steps.{Asks, CanStep, ask_word}
-use Rattle.nr_machine.specs.Story.{entry, map_after}
-use Rattle.nr_machine.specs.declared.roles.Grip.TheVariants.{Nothing}
-use Rattle.nr_machine.specs.declared.roles.Role.TheVariants.{Reader}
-use Rattle.nr_machine.specs.declared.shape.Shape.{Shape}
+use Rattle.nr_core.specs.Story.{entry, map_after}
+use Rattle.nr_core.specs.declared.roles.Grip.TheVariants.{Nothing}
+use Rattle.nr_core.specs.declared.roles.Role.TheVariants.{Reader}
+use Rattle.nr_core.specs.declared.shape.Shape.{Shape}
 use Rattle.nr_model.specs.declared.states.KeyState.TheVariants as key
 use Rattle.nr_model.specs.declared.calls.Call.TheVariants as model
 use Rattle.nr_model.specs.declared.calls.Reply.TheVariants as reply

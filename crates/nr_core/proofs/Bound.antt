@@ -8,7 +8,7 @@ use native.Mathlib.Decide.{ℕ_discrete}
 use Rattle.nr_core.proofs.Seat.{notes}
 use Rattle.nr_core.proofs.Sums.{at_snoc, below-few, below-only, exchanged, only-is, only-le, only-other, some_term}
 use Rattle.nr_core.proofs.Sums.{total-append}
-use Rattle.nr_machine.specs.Sums.{below, only, total}
+use Rattle.nr_core.specs.Sums.{below, only, total}
 
 all-below : (l : List (ℕ × ℕ)) (n : ℕ) → ((i s c : ℕ) → get_elem? l i ≡ some (s, c) → c < n)
     → total (λ (x : ℕ × ℕ). below (λ c. only c x.1) n) l ≡ length l

@@ -9,10 +9,10 @@ use Rattle.nr_model.specs.declared.states.KeyState.TheVariants as key
 use Rattle.nr_core.proofs.Choices.{by_cases}
 use Rattle.nr_core.proofs.Histories.{length-now}
 use Rattle.nr_core.proofs.Sums.{below-first, below-same}
-use Rattle.nr_machine.specs.Story.{map_after}
-use Rattle.nr_machine.specs.Sums.{below, only, total}
-use Rattle.nr_machine.specs.declared.roles.Desk.{Desk}
-use Rattle.nr_machine.specs.declared.shape.Shape.{Shape}
+use Rattle.nr_core.specs.Story.{map_after}
+use Rattle.nr_core.specs.Sums.{below, only, total}
+use Rattle.nr_core.specs.declared.roles.Desk.{Desk}
+use Rattle.nr_core.specs.declared.shape.Shape.{Shape}
 use Rattle.nr_core.specs.Puts.{put_number}
 use Rattle.nr_model.specs.Strays.{keyed, strays}
 use Rattle.nr_core.specs.Marks.{Marks}

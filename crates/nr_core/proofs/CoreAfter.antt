@@ -2,11 +2,11 @@
 use Rattle.std.proofs.Common.{List, get_or, set, subst, ℕ, ◌++◌, ◌≡◌}
 use Rattle.nr_model.specs.Histories.{Entry, after}
 use Rattle.nr_core.specs.Core.{Core}
-use Rattle.nr_machine.specs.Operations.{becomes, operation, target_of}
-use Rattle.nr_machine.specs.declared.operation.Operation.{Operation}
+use Rattle.nr_core.specs.Operations.{becomes, operation, target_of}
+use Rattle.nr_core.specs.declared.operation.Operation.{Operation}
 use Rattle.nr_core.specs.Steps.{Stepped, Telling}
-use Rattle.nr_machine.specs.declared.roles.Role.{Role}
-use Rattle.nr_machine.specs.declared.shape.Shape.{Shape}
+use Rattle.nr_core.specs.declared.roles.Role.{Role}
+use Rattle.nr_core.specs.declared.shape.Shape.{Shape}
 
 pub core_after : (shape : Shape) (words : List ℕ) (roles : List Role) (log : List Entry) (id : ℕ) (role : Role)
     (operation : Operation) (tells : Telling) (step : Stepped shape words roles log id role operation tells)

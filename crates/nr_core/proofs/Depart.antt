@@ -11,16 +11,16 @@ use Rattle.nr_core.proofs.OffKeys.{none_of, off_keys}
 use Rattle.nr_core.proofs.Sums.{only-other, only-same, total-set}
 use Rattle.nr_core.proofs.WordPlaces.{content_apart, departures_inside, same_departures}
 use Rattle.nr_core.specs.Core.{Knows}
-use Rattle.nr_machine.specs.declared.operation.Operation.TheVariants.{Add}
+use Rattle.nr_core.specs.declared.operation.Operation.TheVariants.{Add}
 use Rattle.nr_core.specs.Roles.{held, holds, is_by}
-use Rattle.nr_machine.specs.Slots.{bound_of, content, departures, name_number}
+use Rattle.nr_core.specs.Slots.{bound_of, content, departures, name_number}
 use Rattle.nr_core.specs.Steps.{CanStep, Departs}
-use Rattle.nr_machine.specs.Story.{map_after}
-use Rattle.nr_machine.specs.Sums.{only}
-use Rattle.nr_machine.specs.declared.roles.Grip.TheVariants.{Nothing, On}
-use Rattle.nr_machine.specs.declared.roles.Role.{Role}
-use Rattle.nr_machine.specs.declared.roles.Role.TheVariants.{Note, Reader, Writer}
-use Rattle.nr_machine.specs.declared.shape.Shape.{Shape}
+use Rattle.nr_core.specs.Story.{map_after}
+use Rattle.nr_core.specs.Sums.{only}
+use Rattle.nr_core.specs.declared.roles.Grip.TheVariants.{Nothing, On}
+use Rattle.nr_core.specs.declared.roles.Role.{Role}
+use Rattle.nr_core.specs.declared.roles.Role.TheVariants.{Note, Reader, Writer}
+use Rattle.nr_core.specs.declared.shape.Shape.{Shape}
 
 pub departs : (shape : Shape) (id reader slot : ℕ) (rows : List Row) (sized : Bool)
     → CanStep shape id (Reader reader (On slot rows sized)) (Add (departures shape slot) 1) (Departs reader)

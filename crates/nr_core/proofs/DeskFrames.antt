@@ -14,13 +14,13 @@ use Rattle.nr_core.proofs.OffKeys.{no_writer}
 use Rattle.nr_core.proofs.Sums.{at_set, below-change, total-set}
 use Rattle.nr_core.specs.Core.{AtDesk, Core, Knows, ShowsState}
 use Rattle.nr_core.specs.Roles.{held, holds, is_reader, is_writer, keeps}
-use Rattle.nr_machine.specs.Slots.{content, departures, name_number}
-use Rattle.nr_machine.specs.Story.{map_after, opening_map, shown}
-use Rattle.nr_machine.specs.Sums.{only}
-use Rattle.nr_machine.specs.declared.roles.Desk.{Desk}
-use Rattle.nr_machine.specs.declared.roles.Role.{Role}
-use Rattle.nr_machine.specs.declared.roles.Role.TheVariants.{Writer}
-use Rattle.nr_machine.specs.declared.shape.Shape.{Shape}
+use Rattle.nr_core.specs.Slots.{content, departures, name_number}
+use Rattle.nr_core.specs.Story.{map_after, opening_map, shown}
+use Rattle.nr_core.specs.Sums.{only}
+use Rattle.nr_core.specs.declared.roles.Desk.{Desk}
+use Rattle.nr_core.specs.declared.roles.Role.{Role}
+use Rattle.nr_core.specs.declared.roles.Role.TheVariants.{Writer}
+use Rattle.nr_core.specs.declared.shape.Shape.{Shape}
 
 -- a writer's step that changes no word: it learns, or decides
 pub desk_step : (shape : Shape) (words : List ℕ) (roles : List Role) (log es : List Entry)

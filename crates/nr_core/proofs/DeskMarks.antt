@@ -13,22 +13,22 @@ use Rattle.nr_core.proofs.Settle.{key_same}
 use Rattle.nr_core.proofs.Sums.{below-same, only-is, some_term}
 use Rattle.nr_core.specs.Core.{Core}
 use Rattle.nr_core.specs.Roles.{held, retirements, taken}
-use Rattle.nr_machine.specs.Operations.{becomes, target_of}
-use Rattle.nr_machine.specs.declared.operation.Operation.{Operation}
+use Rattle.nr_core.specs.Operations.{becomes, target_of}
+use Rattle.nr_core.specs.declared.operation.Operation.{Operation}
 use Rattle.nr_core.proofs.Frames.{spells_more}
-use Rattle.nr_machine.specs.Slots.{bound_of, content, name_number}
-use Rattle.nr_machine.specs.States.{key_of}
+use Rattle.nr_core.specs.Slots.{bound_of, content, name_number}
+use Rattle.nr_core.specs.States.{key_of}
 use Rattle.nr_core.specs.Steps.{Telling}
-use Rattle.nr_machine.specs.Story.{call_of, ending_at, map_after}
-use Rattle.nr_machine.specs.Sums.{only}
-use Rattle.nr_machine.specs.Writer.{went}
-use Rattle.nr_machine.specs.declared.calls.WriterCall.{WriterCall}
-use Rattle.nr_machine.specs.declared.places.Place.{Place}
-use Rattle.nr_machine.specs.declared.places.Retired.{Retired}
-use Rattle.nr_machine.specs.declared.roles.Desk.{Desk}
-use Rattle.nr_machine.specs.declared.roles.Role.{Role}
-use Rattle.nr_machine.specs.declared.roles.Role.TheVariants.{Writer}
-use Rattle.nr_machine.specs.declared.shape.Shape.{Shape}
+use Rattle.nr_core.specs.Story.{call_of, ending_at, map_after}
+use Rattle.nr_core.specs.Sums.{only}
+use Rattle.nr_core.specs.Writer.{went}
+use Rattle.nr_core.specs.declared.calls.WriterCall.{WriterCall}
+use Rattle.nr_core.specs.declared.places.Place.{Place}
+use Rattle.nr_core.specs.declared.places.Retired.{Retired}
+use Rattle.nr_core.specs.declared.roles.Desk.{Desk}
+use Rattle.nr_core.specs.declared.roles.Role.{Role}
+use Rattle.nr_core.specs.declared.roles.Role.TheVariants.{Writer}
+use Rattle.nr_core.specs.declared.shape.Shape.{Shape}
 use Rattle.nr_model.specs.declared.calls.Reply.TheVariants as reply
 use Rattle.nr_core.specs.Puts.{put_count, put_number}
 use Rattle.nr_core.specs.Marks.{Marks, Past, set_in, with_polls}

@@ -3,7 +3,7 @@ use Rattle.std.proofs.Common.{List, [], arith, length, refl, suc, zero, ℕ, ◌
 use lib.ListN.{get_elem?}
 use mathlib.Core.Option.{some}
 use Rattle.nr_core.proofs.Sums.{below-few, below-only, below-same, exchanged, only-suc}
-use Rattle.nr_machine.specs.Sums.{below, only, total}
+use Rattle.nr_core.specs.Sums.{below, only, total}
 
 module _ {A : Type 0} (f : A → ℕ) where
   -- each number stands once among those up to n

@@ -7,14 +7,14 @@ use Rattle.nr_core.proofs.ReaderEvents.{after_arrive, after_ask, after_depart, a
 use Rattle.nr_core.proofs.StateRoles.{IsCoreState}
 use Rattle.nr_core.proofs.WriterEvents.{after_go, after_start}
 use Rattle.nr_core.specs.Laws.{AllGiven, IsGiven}
-use Rattle.nr_machine.specs.Machine.{moved, unless}
-use Rattle.nr_machine.specs.Refusals.{refusal}
-use Rattle.nr_machine.specs.Sizes.{IsShape}
-use Rattle.nr_machine.specs.Slots.{bound_of}
-use Rattle.nr_machine.specs.States.{Arrive, Ask, Depart, Event, FindAgain, Go, Read, Start, State}
-use Rattle.nr_machine.specs.Story.{Story, beginning, story_of, tell, told}
-use Rattle.nr_machine.specs.declared.calls.Refusal.{Refusal}
-use Rattle.nr_machine.specs.declared.shape.Shape.{Shape}
+use Rattle.nr_core.specs.Machine.{moved, unless}
+use Rattle.nr_core.specs.Refusals.{refusal}
+use Rattle.nr_core.specs.Sizes.{IsShape}
+use Rattle.nr_core.specs.Slots.{bound_of}
+use Rattle.nr_core.specs.States.{Arrive, Ask, Depart, Event, FindAgain, Go, Read, Start, State}
+use Rattle.nr_core.specs.Story.{Story, beginning, story_of, tell, told}
+use Rattle.nr_core.specs.declared.calls.Refusal.{Refusal}
+use Rattle.nr_core.specs.declared.shape.Shape.{Shape}
 
 pub after_event : (state : State) (log : List Entry) (event : Event) → IsGiven (bound_of state.shape) event
     → IsCoreState state log → refusal state event ≡ None → IsCoreState (moved state event) (log ++ told state event)

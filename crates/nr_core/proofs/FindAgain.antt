@@ -21,13 +21,13 @@ use Rattle.nr_core.proofs.Shown.{spelt_set}
 use Rattle.nr_core.specs.Core.{Core, Knows, ShowsState}
 use Rattle.nr_core.specs.Roles.{held, is_by}
 use Rattle.nr_core.specs.Steps.{CanStep, FindsAgain, Stepped}
-use Rattle.nr_machine.specs.Slots.{SlotSpells, name_number, names_slot}
-use Rattle.nr_machine.specs.Story.{entry, map_after}
-use Rattle.nr_machine.specs.declared.operation.Operation.TheVariants.{Load}
-use Rattle.nr_machine.specs.declared.roles.Grip.TheVariants.{On}
-use Rattle.nr_machine.specs.declared.roles.Role.{Role}
-use Rattle.nr_machine.specs.declared.roles.Role.TheVariants.{Reader}
-use Rattle.nr_machine.specs.declared.shape.Shape.{Shape}
+use Rattle.nr_core.specs.Slots.{SlotSpells, name_number, names_slot}
+use Rattle.nr_core.specs.Story.{entry, map_after}
+use Rattle.nr_core.specs.declared.operation.Operation.TheVariants.{Load}
+use Rattle.nr_core.specs.declared.roles.Grip.TheVariants.{On}
+use Rattle.nr_core.specs.declared.roles.Role.{Role}
+use Rattle.nr_core.specs.declared.roles.Role.TheVariants.{Reader}
+use Rattle.nr_core.specs.declared.shape.Shape.{Shape}
 
 abbrev set_in : Option (List Row) → List Row
 set_in None = []

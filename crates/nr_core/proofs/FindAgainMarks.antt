@@ -17,15 +17,15 @@ use Rattle.nr_core.proofs.Sums.{below-term, only-same, term_le}
 use Rattle.nr_core.specs.Core.{Core}
 use Rattle.nr_core.specs.Roles.{held, holds}
 use Rattle.nr_core.specs.Steps.{FindsAgain}
-use Rattle.nr_machine.specs.Slots.{name_number, unused, names_slot}
-use Rattle.nr_machine.specs.Story.{entry, map_after}
-use Rattle.nr_machine.specs.Sums.{only}
-use Rattle.nr_machine.specs.declared.operation.Operation.TheVariants.{Load}
-use Rattle.nr_machine.specs.declared.roles.Desk.{Desk}
-use Rattle.nr_machine.specs.declared.roles.Grip.TheVariants.{On}
-use Rattle.nr_machine.specs.declared.roles.Role.{Role}
-use Rattle.nr_machine.specs.declared.roles.Role.TheVariants.{Reader, Writer}
-use Rattle.nr_machine.specs.declared.shape.Shape.{Shape}
+use Rattle.nr_core.specs.Slots.{name_number, unused, names_slot}
+use Rattle.nr_core.specs.Story.{entry, map_after}
+use Rattle.nr_core.specs.Sums.{only}
+use Rattle.nr_core.specs.declared.operation.Operation.TheVariants.{Load}
+use Rattle.nr_core.specs.declared.roles.Desk.{Desk}
+use Rattle.nr_core.specs.declared.roles.Grip.TheVariants.{On}
+use Rattle.nr_core.specs.declared.roles.Role.{Role}
+use Rattle.nr_core.specs.declared.roles.Role.TheVariants.{Reader, Writer}
+use Rattle.nr_core.specs.declared.shape.Shape.{Shape}
 use Rattle.nr_core.specs.Puts.{put_count, put_number}
 use Rattle.nr_core.specs.Marks.{Marks, Past, with_look}
 use Rattle.nr_core.specs.Marked.{CanMark, Remarked, lives}

@@ -23,30 +23,30 @@ use Rattle.nr_core.proofs.StateRoles.{IsCoreState}
 use Rattle.nr_core.proofs.WordPlaces.{content_apart, content_inside, departures_inside, same_content}
 use Rattle.nr_core.specs.Core.{AtDesk, AtPlace, Puts}
 use Rattle.nr_core.specs.Laws.{EndsWithout, Follows, IsJustified, caller_of_event}
-use Rattle.nr_machine.specs.Machine.{found_by, moved, names_held, unless}
-use Rattle.nr_machine.specs.Operations.{going, operation, target_of}
-use Rattle.nr_machine.specs.declared.operation.Operation.{Operation}
-use Rattle.nr_machine.specs.declared.operation.Operation.TheVariants.{Load, Store, Swap}
-use Rattle.nr_machine.specs.Room.{RoomForStep, RoomOf}
-use Rattle.nr_machine.specs.Refusals.{has_key, has_reader, if_busy, if_holding, if_not_busy, if_not_holding}
-use Rattle.nr_machine.specs.Refusals.{if_unreadable, refusal}
+use Rattle.nr_core.specs.Machine.{found_by, moved, names_held, unless}
+use Rattle.nr_core.specs.Operations.{going, operation, target_of}
+use Rattle.nr_core.specs.declared.operation.Operation.{Operation}
+use Rattle.nr_core.specs.declared.operation.Operation.TheVariants.{Load, Store, Swap}
+use Rattle.nr_core.specs.Room.{RoomForStep, RoomOf}
+use Rattle.nr_core.specs.Refusals.{has_key, has_reader, if_busy, if_holding, if_not_busy, if_not_holding}
+use Rattle.nr_core.specs.Refusals.{if_unreadable, refusal}
 use Rattle.nr_core.specs.Roles.{held}
 use Rattle.nr_words.specs.KeyWords.{naming}
-use Rattle.nr_machine.specs.Slots.{bound_of, content, slot_room}
-use Rattle.nr_machine.specs.States.{retired_at, Arrive, Ask, Depart, Event, FindAgain, Go, Read, Start, State, hold_of}
-use Rattle.nr_machine.specs.States.{key_of, slot_in}
-use Rattle.nr_machine.specs.Story.{Story, answering, call_of, map_after, polls_after, shown, told}
-use Rattle.nr_machine.specs.Writer.{looked, went}
-use Rattle.nr_machine.specs.declared.calls.NoSlot.{NoSlot}
-use Rattle.nr_machine.specs.declared.calls.Refusal.{Refusal}
-use Rattle.nr_machine.specs.declared.calls.WriterCall.{WriterCall}
-use Rattle.nr_machine.specs.declared.places.Hold.{Hold}
-use Rattle.nr_machine.specs.declared.places.Place.{Place}
-use Rattle.nr_machine.specs.declared.places.Place.TheVariants.{Idle, Leaving, Putting, Reading, Searching, Withdrawing}
-use Rattle.nr_machine.specs.declared.roles.Role.TheVariants.{Writer}
-use Rattle.nr_machine.specs.declared.shape.Shape.{Shape}
-use Rattle.nr_machine.specs.declared.places.Hold.TheVariants as hold
-use Rattle.nr_machine.specs.declared.calls.Refusal.TheVariants as refuse
+use Rattle.nr_core.specs.Slots.{bound_of, content, slot_room}
+use Rattle.nr_core.specs.States.{retired_at, Arrive, Ask, Depart, Event, FindAgain, Go, Read, Start, State, hold_of}
+use Rattle.nr_core.specs.States.{key_of, slot_in}
+use Rattle.nr_core.specs.Story.{Story, answering, call_of, map_after, polls_after, shown, told}
+use Rattle.nr_core.specs.Writer.{looked, went}
+use Rattle.nr_core.specs.declared.calls.NoSlot.{NoSlot}
+use Rattle.nr_core.specs.declared.calls.Refusal.{Refusal}
+use Rattle.nr_core.specs.declared.calls.WriterCall.{WriterCall}
+use Rattle.nr_core.specs.declared.places.Hold.{Hold}
+use Rattle.nr_core.specs.declared.places.Place.{Place}
+use Rattle.nr_core.specs.declared.places.Place.TheVariants.{Idle, Leaving, Putting, Reading, Searching, Withdrawing}
+use Rattle.nr_core.specs.declared.roles.Role.TheVariants.{Writer}
+use Rattle.nr_core.specs.declared.shape.Shape.{Shape}
+use Rattle.nr_core.specs.declared.places.Hold.TheVariants as hold
+use Rattle.nr_core.specs.declared.calls.Refusal.TheVariants as refuse
 use Rattle.nr_model.specs.declared.calls.Call.TheVariants as model
 
 own_answering : (caller : ℕ) (call : Call) (reply : KeyState → Reply) (shows : Option KeyState) (c : ℕ)

@@ -10,19 +10,19 @@ use Rattle.nr_words.proofs.SetWordLemmas.{length-row_words}
 use Rattle.nr_core.proofs.Sums.{only-same, term_le}
 use Rattle.nr_core.specs.Core.{AreNumbers, AtDesk, AtPlace, Grips, Reads, ShowsState, Wants}
 use Rattle.nr_core.specs.Roles.{grips, keeps, taken}
-use Rattle.nr_machine.specs.Slots.{SlotSpells, bound_of, content, departures, name_number, unused}
-use Rattle.nr_machine.specs.States.{key_of}
-use Rattle.nr_machine.specs.Story.{call_of}
-use Rattle.nr_machine.specs.Sums.{only, total}
-use Rattle.nr_machine.specs.declared.calls.WriterCall.{WriterCall}
-use Rattle.nr_machine.specs.declared.places.Place.{Place}
-use Rattle.nr_machine.specs.declared.places.Place.TheVariants.{Idle, Leaving, Putting, Reading, Searching, Withdrawing}
-use Rattle.nr_machine.specs.declared.places.Retired.{Retired}
-use Rattle.nr_machine.specs.declared.roles.Desk.{Desk}
-use Rattle.nr_machine.specs.declared.roles.Grip.{Grip}
-use Rattle.nr_machine.specs.declared.roles.Grip.TheVariants.{Nothing, On}
-use Rattle.nr_machine.specs.declared.roles.Role.TheVariants.{Writer}
-use Rattle.nr_machine.specs.declared.shape.Shape.{Shape}
+use Rattle.nr_core.specs.Slots.{SlotSpells, bound_of, content, departures, name_number, unused}
+use Rattle.nr_core.specs.States.{key_of}
+use Rattle.nr_core.specs.Story.{call_of}
+use Rattle.nr_core.specs.Sums.{only, total}
+use Rattle.nr_core.specs.declared.calls.WriterCall.{WriterCall}
+use Rattle.nr_core.specs.declared.places.Place.{Place}
+use Rattle.nr_core.specs.declared.places.Place.TheVariants.{Idle, Leaving, Putting, Reading, Searching, Withdrawing}
+use Rattle.nr_core.specs.declared.places.Retired.{Retired}
+use Rattle.nr_core.specs.declared.roles.Desk.{Desk}
+use Rattle.nr_core.specs.declared.roles.Grip.{Grip}
+use Rattle.nr_core.specs.declared.roles.Grip.TheVariants.{Nothing, On}
+use Rattle.nr_core.specs.declared.roles.Role.TheVariants.{Writer}
+use Rattle.nr_core.specs.declared.shape.Shape.{Shape}
 use Rattle.nr_model.specs.declared.states.KeyState.TheVariants as key
 
 pub unused-free : (s f : ℕ) → f ≤ s → unused s f ≡ 1

@@ -17,26 +17,26 @@ use Rattle.nr_core.proofs.Unpublish.{unpublishes}
 use Rattle.nr_core.proofs.Withdraw.{withdraws}
 use Rattle.nr_core.proofs.WriterRead.{reads_on}
 use Rattle.nr_core.specs.Core.{Core}
-use Rattle.nr_machine.specs.Operations.{becomes, going, target_of}
-use Rattle.nr_machine.specs.declared.operation.Operation.{Operation}
-use Rattle.nr_machine.specs.declared.operation.Operation.TheVariants.{Store, Swap}
-use Rattle.nr_machine.specs.Refusals.{if_not_busy}
+use Rattle.nr_core.specs.Operations.{becomes, going, target_of}
+use Rattle.nr_core.specs.declared.operation.Operation.{Operation}
+use Rattle.nr_core.specs.declared.operation.Operation.TheVariants.{Store, Swap}
+use Rattle.nr_core.specs.Refusals.{if_not_busy}
 use Rattle.nr_words.specs.KeyWords.{naming}
-use Rattle.nr_machine.specs.Slots.{content}
-use Rattle.nr_machine.specs.States.{key_of}
+use Rattle.nr_core.specs.Slots.{content}
+use Rattle.nr_core.specs.States.{key_of}
 use Rattle.nr_core.specs.Steps.{CanStep, Goes}
-use Rattle.nr_machine.specs.Story.{call_of, ending, ending_at}
-use Rattle.nr_machine.specs.Writer.{ended, moved_to, swapped, went}
-use Rattle.nr_machine.specs.declared.calls.Step.{Step}
-use Rattle.nr_machine.specs.declared.calls.Step.TheVariants.{Going}
-use Rattle.nr_machine.specs.declared.places.Place.{Place}
-use Rattle.nr_machine.specs.declared.places.Place.TheVariants.{Idle, Leaving, Putting, Reading, Searching, Withdrawing}
-use Rattle.nr_machine.specs.declared.roles.Desk.{Desk}
-use Rattle.nr_machine.specs.declared.roles.Role.{Role}
-use Rattle.nr_machine.specs.declared.roles.Role.TheVariants.{Writer}
-use Rattle.nr_machine.specs.declared.shape.Shape.{Shape}
+use Rattle.nr_core.specs.Story.{call_of, ending, ending_at}
+use Rattle.nr_core.specs.Writer.{ended, moved_to, swapped, went}
+use Rattle.nr_core.specs.declared.calls.Step.{Step}
+use Rattle.nr_core.specs.declared.calls.Step.TheVariants.{Going}
+use Rattle.nr_core.specs.declared.places.Place.{Place}
+use Rattle.nr_core.specs.declared.places.Place.TheVariants.{Idle, Leaving, Putting, Reading, Searching, Withdrawing}
+use Rattle.nr_core.specs.declared.roles.Desk.{Desk}
+use Rattle.nr_core.specs.declared.roles.Role.{Role}
+use Rattle.nr_core.specs.declared.roles.Role.TheVariants.{Writer}
+use Rattle.nr_core.specs.declared.shape.Shape.{Shape}
 use Rattle.nr_model.specs.declared.calls.Call.TheVariants as model
-use Rattle.nr_machine.specs.declared.calls.Refusal.TheVariants as refuse
+use Rattle.nr_core.specs.declared.calls.Refusal.TheVariants as refuse
 use Rattle.nr_model.specs.declared.calls.Reply.TheVariants as reply
 
 goes_at : (shape : Shape) (words : List ℕ) (roles : List Role) (log : List Entry) → Core shape words roles log

@@ -3,12 +3,12 @@ use Rattle.std.proofs.Common.{Bool, ap, arith, cond, refl, true, ℕ, ◌<◌, �
 use Rattle.std.proofs.lemmas.Bool.{leb-true, ltb-true}
 use Rattle.std.specs.Prelude.{None, Option, Some, nat_le, nat_lt, ◌&&◌}
 use Rattle.nr_core.proofs.Choices.{by_cases}
-use Rattle.nr_machine.specs.Refusals.{has_reader, if_busy}
-use Rattle.nr_machine.specs.declared.calls.Refusal.{Refusal}
-use Rattle.nr_machine.specs.declared.places.Place.{Place}
-use Rattle.nr_machine.specs.declared.places.Place.TheVariants.{Idle, Leaving, Putting, Reading, Searching, Withdrawing}
-use Rattle.nr_machine.specs.declared.shape.Shape.{Shape}
-use Rattle.nr_machine.specs.declared.calls.Refusal.TheVariants as refuse
+use Rattle.nr_core.specs.Refusals.{has_reader, if_busy}
+use Rattle.nr_core.specs.declared.calls.Refusal.{Refusal}
+use Rattle.nr_core.specs.declared.places.Place.{Place}
+use Rattle.nr_core.specs.declared.places.Place.TheVariants.{Idle, Leaving, Putting, Reading, Searching, Withdrawing}
+use Rattle.nr_core.specs.declared.shape.Shape.{Shape}
+use Rattle.nr_core.specs.declared.calls.Refusal.TheVariants as refuse
 
 tag : Option Refusal → ℕ
 tag None = 0

@@ -29,14 +29,14 @@ use Rattle.nr_core.specs.Core.{Core, Knows, ShowsState}
 use Rattle.nr_core.specs.Roles.{held, holds, is_by, keeps}
 use Rattle.nr_core.specs.StepLaws.{HoldNamedLaw, LookUpLaw}
 use Rattle.nr_core.specs.Steps.{HoldsNamed, LooksUp, Stepped}
-use Rattle.nr_machine.specs.Slots.{SlotSpells, bound_of, content, departures, name_number}
-use Rattle.nr_machine.specs.Story.{entry, map_after}
-use Rattle.nr_machine.specs.Sums.{only}
-use Rattle.nr_machine.specs.declared.operation.Operation.TheVariants.{Add, Load}
-use Rattle.nr_machine.specs.declared.roles.Grip.TheVariants.{Nothing, On}
-use Rattle.nr_machine.specs.declared.roles.Role.{Role}
-use Rattle.nr_machine.specs.declared.roles.Role.TheVariants.{Note, Reader, Writer}
-use Rattle.nr_machine.specs.declared.shape.Shape.{Shape}
+use Rattle.nr_core.specs.Slots.{SlotSpells, bound_of, content, departures, name_number}
+use Rattle.nr_core.specs.Story.{entry, map_after}
+use Rattle.nr_core.specs.Sums.{only}
+use Rattle.nr_core.specs.declared.operation.Operation.TheVariants.{Add, Load}
+use Rattle.nr_core.specs.declared.roles.Grip.TheVariants.{Nothing, On}
+use Rattle.nr_core.specs.declared.roles.Role.{Role}
+use Rattle.nr_core.specs.declared.roles.Role.TheVariants.{Note, Reader, Writer}
+use Rattle.nr_core.specs.declared.shape.Shape.{Shape}
 
 -- a find that the map answers so, by a load at which the caller's role stays
 loads_find : (shape : Shape) (words : List ℕ) (roles : List Role) (log : List Entry) → Core shape words roles log

@@ -12,14 +12,14 @@ use Rattle.nr_words.specs.KeyWords.{is_filled}
 use Rattle.nr_core.proofs.Choices.{by_cases}
 use Rattle.nr_core.proofs.Sums.{below-term, only-same}
 use Rattle.nr_core.specs.Steps.{HoldsNamed, LooksUp}
-use Rattle.nr_machine.specs.declared.operation.Operation.TheVariants.{Add, Load}
-use Rattle.nr_machine.specs.Slots.{departures, name_number}
-use Rattle.nr_machine.specs.Story.{entry}
-use Rattle.nr_machine.specs.Sums.{only}
-use Rattle.nr_machine.specs.declared.roles.Grip.TheVariants.{Nothing, On}
-use Rattle.nr_machine.specs.declared.roles.Role.{Role}
-use Rattle.nr_machine.specs.declared.roles.Role.TheVariants.{Reader}
-use Rattle.nr_machine.specs.declared.shape.Shape.{Shape}
+use Rattle.nr_core.specs.declared.operation.Operation.TheVariants.{Add, Load}
+use Rattle.nr_core.specs.Slots.{departures, name_number}
+use Rattle.nr_core.specs.Story.{entry}
+use Rattle.nr_core.specs.Sums.{only}
+use Rattle.nr_core.specs.declared.roles.Grip.TheVariants.{Nothing, On}
+use Rattle.nr_core.specs.declared.roles.Role.{Role}
+use Rattle.nr_core.specs.declared.roles.Role.TheVariants.{Reader}
+use Rattle.nr_core.specs.declared.shape.Shape.{Shape}
 use Rattle.nr_core.specs.Puts.{put_count, put_number}
 use Rattle.nr_core.specs.Marks.{Marks, Past, acted, with_look}
 use Rattle.nr_core.specs.Marked.{CanMark, CanMarkWhere, Remarked}

@@ -1,7 +1,7 @@
 -- Counts in lists of put numbers as sums, and the strays by such counts.
 use Rattle.std.proofs.Common.{List, [], ap, arith, cond, nat_eq, refl, ℕ, ◌+◌, ◌∷◌, ◌≡◌}
 use Rattle.nr_model.proofs.HistoryLemmas.{count_by-cons}
-use Rattle.nr_machine.specs.Sums.{only, total}
+use Rattle.nr_core.specs.Sums.{only, total}
 use Rattle.nr_model.specs.Strays.{count_of_put, strays}
 
 abbrev pub how_often : ℕ → List ℕ → ℕ

@@ -20,27 +20,27 @@ use Rattle.nr_core.proofs.Sweeps.{AtSweep, Notes, Swept, polled_slots}
 use Rattle.nr_core.proofs.Without.{IsWithout, NoneLeft, decided_none, look_none, not_going, not_reply, polled_none}
 use Rattle.nr_core.specs.Core.{AtPlace, Reads}
 use Rattle.nr_core.specs.Laws.{EndsWithout, IsJustified, call_of_event, call_in}
-use Rattle.nr_machine.specs.Machine.{or_refusal, found_by, moved, unless}
-use Rattle.nr_machine.specs.Operations.{going, target_of}
-use Rattle.nr_machine.specs.Refusals.{has_key, if_busy, refusal}
+use Rattle.nr_core.specs.Machine.{or_refusal, found_by, moved, unless}
+use Rattle.nr_core.specs.Operations.{going, target_of}
+use Rattle.nr_core.specs.Refusals.{has_key, if_busy, refusal}
 use Rattle.nr_core.specs.Roles.{held, taken}
-use Rattle.nr_machine.specs.Slots.{bound_of, content, departures}
-use Rattle.nr_machine.specs.States.{Arrive, Ask, Depart, Event, FindAgain, Go, Read, Start, State, key_of, retired_at}
-use Rattle.nr_machine.specs.Story.{Poll, Story, call_of, ending, map_after, poll_at, polls_after, polls_at, tell, told}
-use Rattle.nr_machine.specs.Writer.{decoded, ended, looked, moved_to, put_on, swapped, went}
-use Rattle.nr_machine.specs.declared.calls.NoSlot.{NoSlot}
-use Rattle.nr_machine.specs.declared.calls.Refusal.{Refusal}
-use Rattle.nr_machine.specs.declared.calls.Step.{Step}
-use Rattle.nr_machine.specs.declared.calls.Step.TheVariants.{Ended, Going}
-use Rattle.nr_machine.specs.declared.calls.WriterCall.{WriterCall}
-use Rattle.nr_machine.specs.declared.places.Place.{Place}
-use Rattle.nr_machine.specs.declared.places.Place.TheVariants.{Idle, Leaving, Putting, Reading, Searching, Withdrawing}
-use Rattle.nr_machine.specs.declared.places.Retired.{Retired}
-use Rattle.nr_machine.specs.declared.roles.Desk.{Desk}
-use Rattle.nr_machine.specs.declared.roles.Role.TheVariants.{Writer}
-use Rattle.nr_machine.specs.declared.calls.Refusal.TheVariants as refuse
+use Rattle.nr_core.specs.Slots.{bound_of, content, departures}
+use Rattle.nr_core.specs.States.{Arrive, Ask, Depart, Event, FindAgain, Go, Read, Start, State, key_of, retired_at}
+use Rattle.nr_core.specs.Story.{Poll, Story, call_of, ending, map_after, poll_at, polls_after, polls_at, tell, told}
+use Rattle.nr_core.specs.Writer.{decoded, ended, looked, moved_to, put_on, swapped, went}
+use Rattle.nr_core.specs.declared.calls.NoSlot.{NoSlot}
+use Rattle.nr_core.specs.declared.calls.Refusal.{Refusal}
+use Rattle.nr_core.specs.declared.calls.Step.{Step}
+use Rattle.nr_core.specs.declared.calls.Step.TheVariants.{Ended, Going}
+use Rattle.nr_core.specs.declared.calls.WriterCall.{WriterCall}
+use Rattle.nr_core.specs.declared.places.Place.{Place}
+use Rattle.nr_core.specs.declared.places.Place.TheVariants.{Idle, Leaving, Putting, Reading, Searching, Withdrawing}
+use Rattle.nr_core.specs.declared.places.Retired.{Retired}
+use Rattle.nr_core.specs.declared.roles.Desk.{Desk}
+use Rattle.nr_core.specs.declared.roles.Role.TheVariants.{Writer}
+use Rattle.nr_core.specs.declared.calls.Refusal.TheVariants as refuse
 use Rattle.nr_model.specs.declared.calls.Reply.TheVariants as reply
-use Rattle.nr_machine.specs.declared.calls.WReply.TheVariants as writer
+use Rattle.nr_core.specs.declared.calls.WReply.TheVariants as writer
 
 abbrev result_number : Result Step Refusal → ℕ
 result_number (Ok step) = 0

@@ -4,7 +4,7 @@ use Rattle.std.proofs.Common.{◌∙◌, ◌≡◌, ◌≢◌}
 use mathlib.Core.Logic.{dite}
 use native.Mathlib.Decide.{ℕ_discrete}
 use Rattle.nr_words.specs.KeyWords.{arrivals_of, hole_word, is_filled, naming, slot_of}
-use Rattle.nr_machine.specs.Slots.{name_number}
+use Rattle.nr_core.specs.Slots.{name_number}
 
 -- an arrival leaves what the word names and asks, and counts one
 pub bumped : (w : ℕ) → ((w + 2 ^ 24) % 2 ^ 64 % 2 ^ 24 ≡ w % 2 ^ 24) × ((w + 2 ^ 24) % 2 ^ 64 % 4 ≡ w % 4)

@@ -6,10 +6,10 @@ use lib.ListN.{get_elem?}
 use mathlib.Core.Option.{some, some-injective, some-ne-none}
 use Rattle.nr_core.proofs.Sums.{at_set, at_snoc}
 use Rattle.nr_model.specs.Histories.{Entry}
-use Rattle.nr_machine.specs.declared.operation.Operation.{Operation}
-use Rattle.nr_machine.specs.declared.shape.Shape.{Shape}
-use Rattle.nr_machine.specs.declared.roles.Role.{Role}
-use Rattle.nr_machine.specs.declared.roles.Role.TheVariants.{Note, Reader, Writer}
+use Rattle.nr_core.specs.declared.operation.Operation.{Operation}
+use Rattle.nr_core.specs.declared.shape.Shape.{Shape}
+use Rattle.nr_core.specs.declared.roles.Role.{Role}
+use Rattle.nr_core.specs.declared.roles.Role.TheVariants.{Note, Reader, Writer}
 use Rattle.nr_core.specs.Marks.{Marks, Past, past, told_by}
 use Rattle.nr_core.specs.Marked.{AllSince, Evolves, Knowing, MarkTelling, Remarked, Since}
 use Rattle.nr_core.proofs.ListPlaces.{no_places}

@@ -7,11 +7,11 @@ use Rattle.nr_model.specs.Histories.{Entry}
 use Rattle.nr_core.proofs.OffKeys.{none_of}
 use Rattle.nr_core.proofs.Sums.{set_again}
 use Rattle.nr_core.specs.Core.{Core}
-use Rattle.nr_machine.specs.declared.operation.Operation.TheVariants.{Load}
+use Rattle.nr_core.specs.declared.operation.Operation.TheVariants.{Load}
 use Rattle.nr_core.specs.Roles.{is_by}
 use Rattle.nr_core.specs.Steps.{CanStep, LoadsWord}
-use Rattle.nr_machine.specs.declared.roles.Role.{Role}
-use Rattle.nr_machine.specs.declared.shape.Shape.{Shape}
+use Rattle.nr_core.specs.declared.roles.Role.{Role}
+use Rattle.nr_core.specs.declared.shape.Shape.{Shape}
 
 -- a load changes no word, and leaves the roles
 pub nothing : (shape : Shape) (words : List ℕ) (roles : List Role) (log : List Entry) (id i : ℕ) (r : Role)

@@ -43,6 +43,7 @@ pub mod FindAgainMarks
 pub mod SeatMarks
 pub mod ExactPlace
 -- This crate's own.
+mod Walks
 mod Shapes
 mod OnKey
 mod OffKeys

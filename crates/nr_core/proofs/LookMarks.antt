@@ -21,25 +21,25 @@ use Rattle.nr_core.proofs.ReadThrough.{read_whole}
 use Rattle.nr_core.proofs.Without.{decided_none, look_none}
 use Rattle.nr_core.specs.Core.{AtPlace, Reads}
 use Rattle.nr_core.specs.Roles.{held, retirements, taken}
-use Rattle.nr_machine.specs.declared.operation.Operation.TheVariants.{Load}
-use Rattle.nr_machine.specs.Slots.{content, bound_of}
-use Rattle.nr_machine.specs.States.{key_of}
+use Rattle.nr_core.specs.declared.operation.Operation.TheVariants.{Load}
+use Rattle.nr_core.specs.Slots.{content, bound_of}
+use Rattle.nr_core.specs.States.{key_of}
 use Rattle.nr_core.specs.Steps.{Looks}
-use Rattle.nr_machine.specs.Story.{call_of, ending, entry, map_after}
-use Rattle.nr_machine.specs.Writer.{decided, decoded, ended, looked, moved_to, no_slot, read_on, renewed, settled}
-use Rattle.nr_machine.specs.Writer.{taking_fresh, cancel_asked, fill_asked}
-use Rattle.nr_machine.specs.declared.calls.NoSlot.{NoSlot}
-use Rattle.nr_machine.specs.declared.calls.Step.{Step}
-use Rattle.nr_machine.specs.declared.calls.Step.TheVariants.{Ended, Going}
-use Rattle.nr_machine.specs.declared.calls.WriterCall.{WriterCall}
-use Rattle.nr_machine.specs.declared.calls.WriterCall.TheVariants.{Cancel, Evict, Fill, Find, Replace, Update}
-use Rattle.nr_machine.specs.declared.places.Place.TheVariants.{Idle, Leaving, Reading, Searching, Withdrawing}
-use Rattle.nr_machine.specs.declared.places.Retired.{Retired}
-use Rattle.nr_machine.specs.declared.roles.Desk.{Desk}
-use Rattle.nr_machine.specs.declared.roles.Role.{Role}
-use Rattle.nr_machine.specs.declared.roles.Role.TheVariants.{Writer}
-use Rattle.nr_machine.specs.declared.shape.Shape.{Shape}
-use Rattle.nr_machine.specs.declared.calls.WReply.TheVariants as writer
+use Rattle.nr_core.specs.Story.{call_of, ending, entry, map_after}
+use Rattle.nr_core.specs.Writer.{decided, decoded, ended, looked, moved_to, no_slot, read_on, renewed, settled}
+use Rattle.nr_core.specs.Writer.{taking_fresh, cancel_asked, fill_asked}
+use Rattle.nr_core.specs.declared.calls.NoSlot.{NoSlot}
+use Rattle.nr_core.specs.declared.calls.Step.{Step}
+use Rattle.nr_core.specs.declared.calls.Step.TheVariants.{Ended, Going}
+use Rattle.nr_core.specs.declared.calls.WriterCall.{WriterCall}
+use Rattle.nr_core.specs.declared.calls.WriterCall.TheVariants.{Cancel, Evict, Fill, Find, Replace, Update}
+use Rattle.nr_core.specs.declared.places.Place.TheVariants.{Idle, Leaving, Reading, Searching, Withdrawing}
+use Rattle.nr_core.specs.declared.places.Retired.{Retired}
+use Rattle.nr_core.specs.declared.roles.Desk.{Desk}
+use Rattle.nr_core.specs.declared.roles.Role.{Role}
+use Rattle.nr_core.specs.declared.roles.Role.TheVariants.{Writer}
+use Rattle.nr_core.specs.declared.shape.Shape.{Shape}
+use Rattle.nr_core.specs.declared.calls.WReply.TheVariants as writer
 use Rattle.nr_model.specs.declared.calls.Reply.TheVariants as reply
 use Rattle.nr_core.specs.Marks.{Marks, Past, with_polls}
 use Rattle.nr_core.specs.PollNotes.{AllHeld, NoRoom}

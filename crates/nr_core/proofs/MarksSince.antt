@@ -12,16 +12,16 @@ use Rattle.nr_core.proofs.Sums.{at_set, below-same, here_after, only-is, some_te
 use Rattle.nr_core.specs.Core.{Core}
 use Rattle.nr_core.specs.Roles.{is_reader, is_writer, keeps, retirements}
 use Rattle.nr_core.proofs.Frames.{spells_more}
-use Rattle.nr_machine.specs.Slots.{bound_of, content, name_number, named}
-use Rattle.nr_machine.specs.Sums.{only}
-use Rattle.nr_machine.specs.declared.places.Place.{Place}
-use Rattle.nr_machine.specs.declared.places.Place.TheVariants.{Idle, Leaving, Putting, Reading, Searching, Withdrawing}
-use Rattle.nr_machine.specs.declared.places.Retired.{Retired}
-use Rattle.nr_machine.specs.declared.roles.Desk.{Desk}
-use Rattle.nr_machine.specs.declared.roles.Grip.{Grip}
-use Rattle.nr_machine.specs.declared.roles.Role.{Role}
-use Rattle.nr_machine.specs.declared.roles.Role.TheVariants.{Note, Reader, Writer}
-use Rattle.nr_machine.specs.declared.shape.Shape.{Shape}
+use Rattle.nr_core.specs.Slots.{bound_of, content, name_number, named}
+use Rattle.nr_core.specs.Sums.{only}
+use Rattle.nr_core.specs.declared.places.Place.{Place}
+use Rattle.nr_core.specs.declared.places.Place.TheVariants.{Idle, Leaving, Putting, Reading, Searching, Withdrawing}
+use Rattle.nr_core.specs.declared.places.Retired.{Retired}
+use Rattle.nr_core.specs.declared.roles.Desk.{Desk}
+use Rattle.nr_core.specs.declared.roles.Grip.{Grip}
+use Rattle.nr_core.specs.declared.roles.Role.{Role}
+use Rattle.nr_core.specs.declared.roles.Role.TheVariants.{Note, Reader, Writer}
+use Rattle.nr_core.specs.declared.shape.Shape.{Shape}
 use Rattle.nr_core.specs.Puts.{put_count, put_number}
 use Rattle.nr_core.specs.Marks.{Marks, Past, LoggedLoad, gripped, set_in, with_loads}
 use Rattle.nr_core.specs.Marked.{Keeps, Desked, Evolves, HasWriter, HoldNoOthers, KnowsMarks, Marked, Since, Sweeping}

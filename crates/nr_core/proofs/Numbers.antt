@@ -9,10 +9,10 @@ use Rattle.nr_model.specs.Maps.{call_key, last_number, number_of, state_after, s
 use Rattle.nr_core.proofs.Frames.{numbers_more}
 use Rattle.nr_core.proofs.Histories.{state_other, state_same}
 use Rattle.nr_core.specs.Core.{AreNumbers}
-use Rattle.nr_machine.specs.Sizes.{IsShape}
-use Rattle.nr_machine.specs.Slots.{bound_of}
-use Rattle.nr_machine.specs.Story.{map_after, opening_map}
-use Rattle.nr_machine.specs.declared.shape.Shape.{Shape}
+use Rattle.nr_core.specs.Sizes.{IsShape}
+use Rattle.nr_core.specs.Slots.{bound_of}
+use Rattle.nr_core.specs.Story.{map_after, opening_map}
+use Rattle.nr_core.specs.declared.shape.Shape.{Shape}
 
 -- an entry that keeps its key's ticket number
 pub numbers_kept : (shape : Shape) (log : List Entry) (e : Entry) (numbers : List ℕ) → call_key e.call < shape.keys

@@ -14,17 +14,17 @@ use Rattle.nr_core.proofs.StateRoles.{IsCoreState, no_grip, same_grip}
 use Rattle.nr_core.proofs.Sums.{only-other}
 use Rattle.nr_core.specs.Core.{AreNumbers, Core, Knows, ShowsState}
 use Rattle.nr_core.specs.Roles.{held, holds, is_reader, is_writer, keeps, readers_from}
-use Rattle.nr_machine.specs.Sizes.{IsShape}
+use Rattle.nr_core.specs.Sizes.{IsShape}
 use Rattle.nr_words.specs.Opening.{repeated}
-use Rattle.nr_machine.specs.Slots.{departures, layout, name_number, words_at_opening, slot_room, bound_of, content}
-use Rattle.nr_machine.specs.States.{opening_state, opening_desk}
-use Rattle.nr_machine.specs.Story.{map_after, opening_map}
-use Rattle.nr_machine.specs.Sums.{below, only, total}
-use Rattle.nr_machine.specs.declared.roles.Grip.TheVariants.{Nothing, On}
-use Rattle.nr_machine.specs.declared.roles.Role.{Role}
-use Rattle.nr_machine.specs.declared.roles.Role.TheVariants.{Reader, Writer}
-use Rattle.nr_machine.specs.declared.shape.Shape.{Shape}
-use Rattle.nr_machine.specs.declared.places.Hold.TheVariants as hold
+use Rattle.nr_core.specs.Slots.{departures, layout, name_number, words_at_opening, slot_room, bound_of, content}
+use Rattle.nr_core.specs.States.{opening_state, opening_desk}
+use Rattle.nr_core.specs.Story.{map_after, opening_map}
+use Rattle.nr_core.specs.Sums.{below, only, total}
+use Rattle.nr_core.specs.declared.roles.Grip.TheVariants.{Nothing, On}
+use Rattle.nr_core.specs.declared.roles.Role.{Role}
+use Rattle.nr_core.specs.declared.roles.Role.TheVariants.{Reader, Writer}
+use Rattle.nr_core.specs.declared.shape.Shape.{Shape}
+use Rattle.nr_core.specs.declared.places.Hold.TheVariants as hold
 use Rattle.nr_model.specs.declared.states.KeyState.TheVariants as key
 
 no_weight : (g : Role → ℕ) → ((c : ℕ) → g (Reader c Nothing) ≡ 0) → (n i : ℕ) → total g (readers_from i n) ≡ 0

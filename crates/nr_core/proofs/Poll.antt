@@ -17,22 +17,22 @@ use Rattle.nr_core.proofs.Settle.{goes_on, idle_desk}
 use Rattle.nr_core.proofs.Sums.{at_remove, got_at, only-le, total-le, total-remove}
 use Rattle.nr_core.specs.Core.{AtPlace, Core}
 use Rattle.nr_core.specs.Roles.{held, holds, is_by, is_reader, keeps, taken}
-use Rattle.nr_machine.specs.Slots.{departures, unused}
-use Rattle.nr_machine.specs.States.{no_retired, retired_at}
-use Rattle.nr_machine.specs.Story.{call_of, ending, map_after}
-use Rattle.nr_machine.specs.Sums.{only, total}
-use Rattle.nr_machine.specs.Writer.{moved_to, no_slot, polled, taking_retired}
-use Rattle.nr_machine.specs.declared.calls.Step.{Step}
-use Rattle.nr_machine.specs.declared.calls.Step.TheVariants.{Going}
-use Rattle.nr_machine.specs.declared.calls.WriterCall.{WriterCall}
-use Rattle.nr_machine.specs.declared.places.Place.{Place}
-use Rattle.nr_machine.specs.declared.places.Place.TheVariants.{Idle, Searching}
-use Rattle.nr_machine.specs.declared.places.Retired.{Retired}
-use Rattle.nr_machine.specs.declared.roles.Desk.{Desk}
-use Rattle.nr_machine.specs.declared.roles.Grip.TheVariants.{Nothing, On}
-use Rattle.nr_machine.specs.declared.roles.Role.{Role}
-use Rattle.nr_machine.specs.declared.roles.Role.TheVariants.{Note, Reader, Writer}
-use Rattle.nr_machine.specs.declared.shape.Shape.{Shape}
+use Rattle.nr_core.specs.Slots.{departures, unused}
+use Rattle.nr_core.specs.States.{no_retired, retired_at}
+use Rattle.nr_core.specs.Story.{call_of, ending, map_after}
+use Rattle.nr_core.specs.Sums.{only, total}
+use Rattle.nr_core.specs.Writer.{moved_to, no_slot, polled, taking_retired}
+use Rattle.nr_core.specs.declared.calls.Step.{Step}
+use Rattle.nr_core.specs.declared.calls.Step.TheVariants.{Going}
+use Rattle.nr_core.specs.declared.calls.WriterCall.{WriterCall}
+use Rattle.nr_core.specs.declared.places.Place.{Place}
+use Rattle.nr_core.specs.declared.places.Place.TheVariants.{Idle, Searching}
+use Rattle.nr_core.specs.declared.places.Retired.{Retired}
+use Rattle.nr_core.specs.declared.roles.Desk.{Desk}
+use Rattle.nr_core.specs.declared.roles.Grip.TheVariants.{Nothing, On}
+use Rattle.nr_core.specs.declared.roles.Role.{Role}
+use Rattle.nr_core.specs.declared.roles.Role.TheVariants.{Note, Reader, Writer}
+use Rattle.nr_core.specs.declared.shape.Shape.{Shape}
 
 holds-le : (s : ℕ) (r : Role) → holds s r ≤ is_reader r
 holds-le s (Writer desk) = omega arith

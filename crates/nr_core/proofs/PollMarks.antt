@@ -18,23 +18,23 @@ use Rattle.nr_core.proofs.Sums.{got_at, only-is, only-le, only-other, only-same,
 use Rattle.nr_core.proofs.Sums.{total-append, total-remove}
 use Rattle.nr_core.specs.Core.{AtPlace, Core}
 use Rattle.nr_core.specs.Roles.{held, holds, retirements, taken}
-use Rattle.nr_machine.specs.declared.operation.Operation.TheVariants.{Load}
-use Rattle.nr_machine.specs.Slots.{departures}
-use Rattle.nr_machine.specs.States.{no_retired, retired_at}
-use Rattle.nr_machine.specs.Story.{call_of, ending, map_after}
-use Rattle.nr_machine.specs.Sums.{only, total}
-use Rattle.nr_machine.specs.Writer.{moved_to, no_slot, polls_on, taking_retired}
-use Rattle.nr_machine.specs.declared.calls.Step.{Step}
-use Rattle.nr_machine.specs.declared.calls.Step.TheVariants.{Going}
-use Rattle.nr_machine.specs.declared.calls.WriterCall.{WriterCall}
-use Rattle.nr_machine.specs.declared.places.Place.TheVariants.{Idle, Searching}
-use Rattle.nr_machine.specs.declared.places.Retired.{Retired}
-use Rattle.nr_machine.specs.declared.roles.Desk.{Desk}
-use Rattle.nr_machine.specs.declared.roles.Grip.{Grip}
-use Rattle.nr_machine.specs.declared.roles.Grip.TheVariants.{Nothing, On}
-use Rattle.nr_machine.specs.declared.roles.Role.{Role}
-use Rattle.nr_machine.specs.declared.roles.Role.TheVariants.{Note, Reader, Writer}
-use Rattle.nr_machine.specs.declared.shape.Shape.{Shape}
+use Rattle.nr_core.specs.declared.operation.Operation.TheVariants.{Load}
+use Rattle.nr_core.specs.Slots.{departures}
+use Rattle.nr_core.specs.States.{no_retired, retired_at}
+use Rattle.nr_core.specs.Story.{call_of, ending, map_after}
+use Rattle.nr_core.specs.Sums.{only, total}
+use Rattle.nr_core.specs.Writer.{moved_to, no_slot, polls_on, taking_retired}
+use Rattle.nr_core.specs.declared.calls.Step.{Step}
+use Rattle.nr_core.specs.declared.calls.Step.TheVariants.{Going}
+use Rattle.nr_core.specs.declared.calls.WriterCall.{WriterCall}
+use Rattle.nr_core.specs.declared.places.Place.TheVariants.{Idle, Searching}
+use Rattle.nr_core.specs.declared.places.Retired.{Retired}
+use Rattle.nr_core.specs.declared.roles.Desk.{Desk}
+use Rattle.nr_core.specs.declared.roles.Grip.{Grip}
+use Rattle.nr_core.specs.declared.roles.Grip.TheVariants.{Nothing, On}
+use Rattle.nr_core.specs.declared.roles.Role.{Role}
+use Rattle.nr_core.specs.declared.roles.Role.TheVariants.{Note, Reader, Writer}
+use Rattle.nr_core.specs.declared.shape.Shape.{Shape}
 use Rattle.nr_core.specs.Marks.{Marks, Past, LoggedLoad, gripped, past, with_poll, with_polls, with_scan}
 use Rattle.nr_core.specs.PollNotes.{Missed, NoRoom}
 use Rattle.nr_core.specs.Marked.{AllSince, CanMark, IsPresent, KnowsMarks, NotesPresent, Once, Remarked, Since}

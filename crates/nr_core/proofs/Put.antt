@@ -15,18 +15,18 @@ use Rattle.nr_core.proofs.Sums.{only-same, term_le, total-set}
 use Rattle.nr_core.proofs.WordPlaces.{content_apart, content_inside, same_content}
 use Rattle.nr_core.specs.Core.{AtDesk, AtPlace, Core, Puts}
 use Rattle.nr_core.specs.Roles.{held, holds, keeps, taken}
-use Rattle.nr_machine.specs.Slots.{bound_of, content, departures, named, unused}
-use Rattle.nr_machine.specs.Story.{map_after}
-use Rattle.nr_machine.specs.Sums.{only, total}
-use Rattle.nr_machine.specs.Writer.{moved_to}
-use Rattle.nr_machine.specs.declared.calls.WriterCall.{WriterCall}
-use Rattle.nr_machine.specs.declared.places.Place.{Place}
-use Rattle.nr_machine.specs.declared.places.Place.TheVariants.{Putting}
-use Rattle.nr_machine.specs.declared.places.Retired.{Retired}
-use Rattle.nr_machine.specs.declared.roles.Desk.{Desk}
-use Rattle.nr_machine.specs.declared.roles.Role.{Role}
-use Rattle.nr_machine.specs.declared.roles.Role.TheVariants.{Writer}
-use Rattle.nr_machine.specs.declared.shape.Shape.{Shape}
+use Rattle.nr_core.specs.Slots.{bound_of, content, departures, named, unused}
+use Rattle.nr_core.specs.Story.{map_after}
+use Rattle.nr_core.specs.Sums.{only, total}
+use Rattle.nr_core.specs.Writer.{moved_to}
+use Rattle.nr_core.specs.declared.calls.WriterCall.{WriterCall}
+use Rattle.nr_core.specs.declared.places.Place.{Place}
+use Rattle.nr_core.specs.declared.places.Place.TheVariants.{Putting}
+use Rattle.nr_core.specs.declared.places.Retired.{Retired}
+use Rattle.nr_core.specs.declared.roles.Desk.{Desk}
+use Rattle.nr_core.specs.declared.roles.Role.{Role}
+use Rattle.nr_core.specs.declared.roles.Role.TheVariants.{Writer}
+use Rattle.nr_core.specs.declared.shape.Shape.{Shape}
 
 pub puts : (shape : Shape) (words : List ℕ) (roles : List Role) (log : List Entry) (core : Core shape words roles log)
     (id : ℕ) (desk : Desk)

@@ -5,7 +5,7 @@ use Rattle.std.specs.List.{range_with_len}
 use Rattle.std.specs.Prelude.{replicate, ◌&&◌}
 use Rattle.nr_model.specs.Histories.{Entry, is_done}
 use Rattle.nr_model.specs.Maps.{call_key}
-use Rattle.nr_machine.specs.declared.shape.Shape.{Shape}
+use Rattle.nr_core.specs.declared.shape.Shape.{Shape}
 use Rattle.nr_core.specs.Exact.{put_numbers}
 use Rattle.nr_core.specs.Puts.{put_count, put_number}
 use Rattle.nr_core.proofs.PutNumbers.{put_more, quiet_number}

@@ -17,24 +17,24 @@ use Rattle.nr_core.proofs.StateRoles.{IsCoreState, erased}
 use Rattle.nr_core.proofs.Sums.{got_at, only-same}
 use Rattle.nr_core.specs.Core.{AtDesk, AtPlace, Grips, ShowsState}
 use Rattle.nr_core.specs.Laws.{AllGiven, IsGiven}
-use Rattle.nr_machine.specs.Machine.{moved, next_state, run, unless}
-use Rattle.nr_machine.specs.Room.{HasRoom, RoomForStep, RoomOf}
+use Rattle.nr_core.specs.Machine.{moved, next_state, run, unless}
+use Rattle.nr_core.specs.Room.{HasRoom, RoomForStep, RoomOf}
 use Rattle.nr_core.specs.Reach.{Reached}
-use Rattle.nr_machine.specs.Refusals.{refusal}
+use Rattle.nr_core.specs.Refusals.{refusal}
 use Rattle.nr_core.specs.Roles.{held, taken}
-use Rattle.nr_machine.specs.Sizes.{IsShape}
-use Rattle.nr_machine.specs.Slots.{bound_of, name_number, named, slot_room}
-use Rattle.nr_machine.specs.States.{Event, State, hold_of, key_of, no_retired, number_at, opening_state, retired_at}
-use Rattle.nr_machine.specs.Story.{holders, map_after, shown, story_of}
-use Rattle.nr_machine.specs.declared.calls.Refusal.{Refusal}
-use Rattle.nr_machine.specs.declared.places.Hold.{Hold}
-use Rattle.nr_machine.specs.declared.places.Place.{Place}
-use Rattle.nr_machine.specs.declared.places.Place.TheVariants.{Idle, Leaving, Putting, Reading, Searching, Withdrawing}
-use Rattle.nr_machine.specs.declared.roles.Grip.{Grip}
-use Rattle.nr_machine.specs.declared.roles.Grip.TheVariants.{Nothing, On}
-use Rattle.nr_machine.specs.declared.roles.Role.TheVariants.{Reader, Writer}
-use Rattle.nr_machine.specs.declared.shape.Shape.{Shape}
-use Rattle.nr_machine.specs.declared.places.Hold.TheVariants as hold
+use Rattle.nr_core.specs.Sizes.{IsShape}
+use Rattle.nr_core.specs.Slots.{bound_of, name_number, named, slot_room}
+use Rattle.nr_core.specs.States.{Event, State, hold_of, key_of, no_retired, number_at, opening_state, retired_at}
+use Rattle.nr_core.specs.Story.{holders, map_after, shown, story_of}
+use Rattle.nr_core.specs.declared.calls.Refusal.{Refusal}
+use Rattle.nr_core.specs.declared.places.Hold.{Hold}
+use Rattle.nr_core.specs.declared.places.Place.{Place}
+use Rattle.nr_core.specs.declared.places.Place.TheVariants.{Idle, Leaving, Putting, Reading, Searching, Withdrawing}
+use Rattle.nr_core.specs.declared.roles.Grip.{Grip}
+use Rattle.nr_core.specs.declared.roles.Grip.TheVariants.{Nothing, On}
+use Rattle.nr_core.specs.declared.roles.Role.TheVariants.{Reader, Writer}
+use Rattle.nr_core.specs.declared.shape.Shape.{Shape}
+use Rattle.nr_core.specs.declared.places.Hold.TheVariants as hold
 use Rattle.nr_model.specs.declared.states.KeyState.{KeyState}
 use Rattle.nr_model.specs.declared.states.KeyState.TheVariants as key
 

@@ -10,15 +10,15 @@ use Rattle.nr_core.proofs.Frames.{Left, desk_more, holding_more}
 use Rattle.nr_core.proofs.OffKeys.{none_of, off_keys}
 use Rattle.nr_core.proofs.Sums.{total-set}
 use Rattle.nr_core.specs.Core.{Knows}
-use Rattle.nr_machine.specs.declared.operation.Operation.TheVariants.{Load}
+use Rattle.nr_core.specs.declared.operation.Operation.TheVariants.{Load}
 use Rattle.nr_core.specs.Roles.{held, holds, is_by}
-use Rattle.nr_machine.specs.Slots.{content, departures, name_number}
+use Rattle.nr_core.specs.Slots.{content, departures, name_number}
 use Rattle.nr_core.specs.Steps.{CanStep, ReadsHeld}
-use Rattle.nr_machine.specs.Story.{map_after}
-use Rattle.nr_machine.specs.declared.roles.Grip.TheVariants.{On}
-use Rattle.nr_machine.specs.declared.roles.Role.{Role}
-use Rattle.nr_machine.specs.declared.roles.Role.TheVariants.{Note, Reader, Writer}
-use Rattle.nr_machine.specs.declared.shape.Shape.{Shape}
+use Rattle.nr_core.specs.Story.{map_after}
+use Rattle.nr_core.specs.declared.roles.Grip.TheVariants.{On}
+use Rattle.nr_core.specs.declared.roles.Role.{Role}
+use Rattle.nr_core.specs.declared.roles.Role.TheVariants.{Note, Reader, Writer}
+use Rattle.nr_core.specs.declared.shape.Shape.{Shape}
 
 pub reads : (shape : Shape) (id reader slot : ℕ) (rows : List Row) (sized : Bool) (index : ℕ)
     → index < length (encode rows)

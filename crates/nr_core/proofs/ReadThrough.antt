@@ -11,10 +11,10 @@ use Rattle.nr_words.specs.SetWords.{decode, encode}
 use Rattle.nr_core.proofs.Sets.{set_back}
 use Rattle.nr_core.specs.Core.{Core, Reads, ShowsState}
 use Rattle.nr_core.specs.Roles.{held}
-use Rattle.nr_machine.specs.Slots.{SlotSpells, bound_of, content, name_number}
-use Rattle.nr_machine.specs.Story.{map_after}
-use Rattle.nr_machine.specs.declared.roles.Role.{Role}
-use Rattle.nr_machine.specs.declared.shape.Shape.{Shape}
+use Rattle.nr_core.specs.Slots.{SlotSpells, bound_of, content, name_number}
+use Rattle.nr_core.specs.Story.{map_after}
+use Rattle.nr_core.specs.declared.roles.Role.{Role}
+use Rattle.nr_core.specs.declared.shape.Shape.{Shape}
 
 module _ (shape : Shape) (words : List ℕ) (roles : List Role) (log : List Entry) (core : Core shape words roles log)
     (k s : ℕ) (got : List ℕ) (reads : Reads shape words (map_after shape log) (held roles) k s got) where

@@ -30,24 +30,24 @@ use Rattle.nr_core.proofs.StateRoles.{AllFound, Found, IsCoreState, erased, fit_
 use Rattle.nr_core.proofs.StateRoles.{one_other, one_same, same_rows}
 use Rattle.nr_core.proofs.Sums.{set_again}
 use Rattle.nr_core.specs.Core.{Core}
-use Rattle.nr_machine.specs.Machine.{moved, names_held, read_hold}
-use Rattle.nr_machine.specs.declared.operation.Operation.TheVariants.{Load, Add}
-use Rattle.nr_machine.specs.Refusals.{has_key, has_reader, if_beyond, if_holding, if_not_holding, if_unreadable}
-use Rattle.nr_machine.specs.Refusals.{refusal}
-use Rattle.nr_machine.specs.Slots.{bound_of, content, departures, name_number, names_slot}
-use Rattle.nr_machine.specs.States.{Arrive, Ask, Depart, FindAgain, Read, State, slot_in}
+use Rattle.nr_core.specs.Machine.{moved, names_held, read_hold}
+use Rattle.nr_core.specs.declared.operation.Operation.TheVariants.{Load, Add}
+use Rattle.nr_core.specs.Refusals.{has_key, has_reader, if_beyond, if_holding, if_not_holding, if_unreadable}
+use Rattle.nr_core.specs.Refusals.{refusal}
+use Rattle.nr_core.specs.Slots.{bound_of, content, departures, name_number, names_slot}
+use Rattle.nr_core.specs.States.{Arrive, Ask, Depart, FindAgain, Read, State, slot_in}
 use Rattle.nr_core.specs.Steps.{ask_word}
-use Rattle.nr_machine.specs.Story.{answering, entry, map_after, opening_map, told}
-use Rattle.nr_machine.specs.declared.places.Hold.{Hold}
-use Rattle.nr_machine.specs.declared.roles.Grip.{Grip}
-use Rattle.nr_machine.specs.declared.roles.Grip.TheVariants.{Nothing, On}
-use Rattle.nr_machine.specs.declared.roles.Role.{Role}
+use Rattle.nr_core.specs.Story.{answering, entry, map_after, opening_map, told}
+use Rattle.nr_core.specs.declared.places.Hold.{Hold}
+use Rattle.nr_core.specs.declared.roles.Grip.{Grip}
+use Rattle.nr_core.specs.declared.roles.Grip.TheVariants.{Nothing, On}
+use Rattle.nr_core.specs.declared.roles.Role.{Role}
 use Rattle.nr_model.specs.declared.states.KeyState.{KeyState}
-use Rattle.nr_machine.specs.declared.roles.Role.TheVariants.{Reader}
-use Rattle.nr_machine.specs.declared.shape.Shape.{Shape}
-use Rattle.nr_machine.specs.declared.places.Hold.TheVariants as hold
+use Rattle.nr_core.specs.declared.roles.Role.TheVariants.{Reader}
+use Rattle.nr_core.specs.declared.shape.Shape.{Shape}
+use Rattle.nr_core.specs.declared.places.Hold.TheVariants as hold
 use Rattle.nr_model.specs.declared.calls.Call.TheVariants as model
-use Rattle.nr_machine.specs.declared.calls.Refusal.TheVariants as refuse
+use Rattle.nr_core.specs.declared.calls.Refusal.TheVariants as refuse
 use Rattle.nr_model.specs.declared.calls.Reply.TheVariants as reply
 
 is_free : (x : Grip) → if_holding (erased x) ≡ None → x ≡ Nothing

@@ -20,19 +20,19 @@ use Rattle.nr_core.proofs.Sums.{below-term, only-same}
 use Rattle.nr_core.proofs.WordPlaces.{content_apart}
 use Rattle.nr_core.specs.Core.{Core}
 use Rattle.nr_core.specs.Roles.{retirements}
-use Rattle.nr_machine.specs.Operations.{becomes, target_of}
-use Rattle.nr_machine.specs.declared.operation.Operation.{Operation}
-use Rattle.nr_machine.specs.declared.operation.Operation.TheVariants.{Add, Load, Or}
-use Rattle.nr_machine.specs.Slots.{content, departures, name_number, bound_of}
+use Rattle.nr_core.specs.Operations.{becomes, target_of}
+use Rattle.nr_core.specs.declared.operation.Operation.{Operation}
+use Rattle.nr_core.specs.declared.operation.Operation.TheVariants.{Add, Load, Or}
+use Rattle.nr_core.specs.Slots.{content, departures, name_number, bound_of}
 use Rattle.nr_core.specs.Steps.{Arrives, Asks, Departs, ReadsHeld, Telling, ask_word}
-use Rattle.nr_machine.specs.Story.{entry}
-use Rattle.nr_machine.specs.Sums.{only}
-use Rattle.nr_machine.specs.declared.roles.Desk.{Desk}
-use Rattle.nr_machine.specs.declared.roles.Grip.{Grip}
-use Rattle.nr_machine.specs.declared.roles.Grip.TheVariants.{Nothing, On}
-use Rattle.nr_machine.specs.declared.roles.Role.{Role}
-use Rattle.nr_machine.specs.declared.roles.Role.TheVariants.{Note, Reader, Writer}
-use Rattle.nr_machine.specs.declared.shape.Shape.{Shape}
+use Rattle.nr_core.specs.Story.{entry}
+use Rattle.nr_core.specs.Sums.{only}
+use Rattle.nr_core.specs.declared.roles.Desk.{Desk}
+use Rattle.nr_core.specs.declared.roles.Grip.{Grip}
+use Rattle.nr_core.specs.declared.roles.Grip.TheVariants.{Nothing, On}
+use Rattle.nr_core.specs.declared.roles.Role.{Role}
+use Rattle.nr_core.specs.declared.roles.Role.TheVariants.{Note, Reader, Writer}
+use Rattle.nr_core.specs.declared.shape.Shape.{Shape}
 use Rattle.nr_model.specs.declared.calls.Call.TheVariants as model
 use Rattle.nr_model.specs.declared.calls.Reply.TheVariants as reply
 use Rattle.nr_core.specs.Puts.{put_count, put_number}

@@ -15,17 +15,17 @@ use Rattle.nr_core.proofs.Choices.{by_cases}
 use Rattle.nr_core.proofs.Sums.{below-term, only-le, only-same, some_term, term_le, total-le}
 use Rattle.nr_core.specs.Roles.{held, holds, is_reader}
 use Rattle.nr_core.specs.Steps.{LoadsWord}
-use Rattle.nr_machine.specs.declared.operation.Operation.TheVariants.{Load}
-use Rattle.nr_machine.specs.Slots.{departures, name_number}
-use Rattle.nr_machine.specs.Sums.{only}
-use Rattle.nr_machine.specs.declared.places.Place.TheVariants.{Idle}
-use Rattle.nr_machine.specs.declared.places.Retired.{Retired}
-use Rattle.nr_machine.specs.declared.roles.Desk.{Desk}
-use Rattle.nr_machine.specs.declared.roles.Grip.{Grip}
-use Rattle.nr_machine.specs.declared.roles.Grip.TheVariants.{Nothing, On}
-use Rattle.nr_machine.specs.declared.roles.Role.{Role}
-use Rattle.nr_machine.specs.declared.roles.Role.TheVariants.{Note, Reader, Writer}
-use Rattle.nr_machine.specs.declared.shape.Shape.{Shape}
+use Rattle.nr_core.specs.declared.operation.Operation.TheVariants.{Load}
+use Rattle.nr_core.specs.Slots.{departures, name_number}
+use Rattle.nr_core.specs.Sums.{only}
+use Rattle.nr_core.specs.declared.places.Place.TheVariants.{Idle}
+use Rattle.nr_core.specs.declared.places.Retired.{Retired}
+use Rattle.nr_core.specs.declared.roles.Desk.{Desk}
+use Rattle.nr_core.specs.declared.roles.Grip.{Grip}
+use Rattle.nr_core.specs.declared.roles.Grip.TheVariants.{Nothing, On}
+use Rattle.nr_core.specs.declared.roles.Role.{Role}
+use Rattle.nr_core.specs.declared.roles.Role.TheVariants.{Note, Reader, Writer}
+use Rattle.nr_core.specs.declared.shape.Shape.{Shape}
 use Rattle.nr_core.specs.Marks.{Marks, Past, LoggedLoad, gripped, past, with_poll, with_polls, with_reaped, with_scan}
 use Rattle.nr_core.specs.Marked.{AllSince, CanMark, Desked, HoldNoOthers, IsPresent, KnowsMarks, NotesPresent}
 use Rattle.nr_core.specs.Marked.{Remarked, Since, Sweeping}

@@ -2,10 +2,10 @@
 use Rattle.std.proofs.Common.{List, [], refl, ◌++◌, ◌∷◌, ◌≡◌}
 use Rattle.std.proofs.lemmas.List.Sums.{fold-append}
 use Rattle.std.specs.Prelude.{fold}
-use Rattle.nr_machine.specs.Machine.{next_state, run}
-use Rattle.nr_machine.specs.States.{Event, opening_state}
-use Rattle.nr_machine.specs.Story.{Story, beginning, story_of, tell}
-use Rattle.nr_machine.specs.declared.shape.Shape.{Shape}
+use Rattle.nr_core.specs.Machine.{next_state, run}
+use Rattle.nr_core.specs.States.{Event, opening_state}
+use Rattle.nr_core.specs.Story.{Story, beginning, story_of, tell}
+use Rattle.nr_core.specs.declared.shape.Shape.{Shape}
 
 told_state : (events : List Event) (story : Story) → (fold tell story events).state ≡ fold next_state story.state events
 told_state [] story = refl

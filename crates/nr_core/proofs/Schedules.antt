@@ -20,16 +20,16 @@ use Rattle.nr_core.proofs.Stands.{stands}
 use Rattle.nr_core.proofs.StateRoles.{IsCoreState}
 use Rattle.nr_core.proofs.Sweeps.{Swept, swept_event}
 use Rattle.nr_core.specs.Laws.{AllGiven, EndsWithout, EverySchedule, IsGiven, SlotBound, map_of}
-use Rattle.nr_machine.specs.Machine.{moved, unless}
-use Rattle.nr_machine.specs.Refusals.{refusal}
-use Rattle.nr_machine.specs.Sizes.{IsShape}
-use Rattle.nr_machine.specs.Slots.{bound_of}
-use Rattle.nr_machine.specs.States.{Event, State}
-use Rattle.nr_machine.specs.Story.{Poll, Story, beginning, polls_after, story_of, tell}
-use Rattle.nr_machine.specs.declared.calls.NoSlot.{NoSlot}
-use Rattle.nr_machine.specs.declared.calls.Refusal.{Refusal}
-use Rattle.nr_machine.specs.declared.places.Retired.{Retired}
-use Rattle.nr_machine.specs.declared.shape.Shape.{Shape}
+use Rattle.nr_core.specs.Machine.{moved, unless}
+use Rattle.nr_core.specs.Refusals.{refusal}
+use Rattle.nr_core.specs.Sizes.{IsShape}
+use Rattle.nr_core.specs.Slots.{bound_of}
+use Rattle.nr_core.specs.States.{Event, State}
+use Rattle.nr_core.specs.Story.{Poll, Story, beginning, polls_after, story_of, tell}
+use Rattle.nr_core.specs.declared.calls.NoSlot.{NoSlot}
+use Rattle.nr_core.specs.declared.calls.Refusal.{Refusal}
+use Rattle.nr_core.specs.declared.places.Retired.{Retired}
+use Rattle.nr_core.specs.declared.shape.Shape.{Shape}
 
 swept_tell : (story : Story) (event : Event) → IsCoreState story.state story.history → Swept story.state story.polls
     → Swept (tell story event).state (tell story event).polls

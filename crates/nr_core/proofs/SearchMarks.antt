@@ -16,19 +16,19 @@ use Rattle.nr_core.proofs.Sums.{got_at, only-same, some_term, term_le, total-rem
 use Rattle.nr_core.specs.Roles.{held, holds}
 use Rattle.nr_core.specs.Core.{Core}
 use Rattle.nr_core.specs.Steps.{GivesUp, LoadsWord, Telling, Tries}
-use Rattle.nr_machine.specs.declared.operation.Operation.TheVariants.{Load}
-use Rattle.nr_machine.specs.Slots.{departures}
-use Rattle.nr_machine.specs.States.{no_retired, retired_at}
-use Rattle.nr_machine.specs.Sums.{only}
-use Rattle.nr_machine.specs.Writer.{moved_to, taking_retired}
-use Rattle.nr_machine.specs.declared.calls.WriterCall.{WriterCall}
-use Rattle.nr_machine.specs.declared.places.Place.TheVariants.{Idle, Searching}
-use Rattle.nr_machine.specs.declared.places.Retired.{Retired}
-use Rattle.nr_machine.specs.declared.roles.Desk.{Desk}
-use Rattle.nr_machine.specs.declared.roles.Grip.{Grip}
-use Rattle.nr_machine.specs.declared.roles.Role.{Role}
-use Rattle.nr_machine.specs.declared.roles.Role.TheVariants.{Reader, Writer}
-use Rattle.nr_machine.specs.declared.shape.Shape.{Shape}
+use Rattle.nr_core.specs.declared.operation.Operation.TheVariants.{Load}
+use Rattle.nr_core.specs.Slots.{departures}
+use Rattle.nr_core.specs.States.{no_retired, retired_at}
+use Rattle.nr_core.specs.Sums.{only}
+use Rattle.nr_core.specs.Writer.{moved_to, taking_retired}
+use Rattle.nr_core.specs.declared.calls.WriterCall.{WriterCall}
+use Rattle.nr_core.specs.declared.places.Place.TheVariants.{Idle, Searching}
+use Rattle.nr_core.specs.declared.places.Retired.{Retired}
+use Rattle.nr_core.specs.declared.roles.Desk.{Desk}
+use Rattle.nr_core.specs.declared.roles.Grip.{Grip}
+use Rattle.nr_core.specs.declared.roles.Role.{Role}
+use Rattle.nr_core.specs.declared.roles.Role.TheVariants.{Reader, Writer}
+use Rattle.nr_core.specs.declared.shape.Shape.{Shape}
 use Rattle.nr_core.specs.Marks.{Marks, Past, LoggedLoad, gripped, past, with_poll, with_polls, with_scan}
 use Rattle.nr_core.specs.Marked.{AllSince, CanMark, HoldNoOthers, IsPresent, KnowsMarks, MarkTelling, Marked}
 use Rattle.nr_core.specs.Marked.{NotesPresent, Once, Remarked, Since, Sweeping, Sweeps, Untouched}

@@ -9,13 +9,13 @@ use Rattle.nr_core.proofs.OffKeys.{no_writer}
 use Rattle.nr_core.proofs.Sums.{at_snoc, total-append}
 use Rattle.nr_core.specs.Core.{Core, Knows}
 use Rattle.nr_core.specs.Roles.{held, holds, is_reader, is_writer, keeps}
-use Rattle.nr_machine.specs.Slots.{departures}
-use Rattle.nr_machine.specs.Story.{map_after}
-use Rattle.nr_machine.specs.Sums.{total}
-use Rattle.nr_machine.specs.declared.roles.Grip.TheVariants.{Nothing}
-use Rattle.nr_machine.specs.declared.roles.Role.{Role}
-use Rattle.nr_machine.specs.declared.roles.Role.TheVariants.{Note, Reader, Writer}
-use Rattle.nr_machine.specs.declared.shape.Shape.{Shape}
+use Rattle.nr_core.specs.Slots.{departures}
+use Rattle.nr_core.specs.Story.{map_after}
+use Rattle.nr_core.specs.Sums.{total}
+use Rattle.nr_core.specs.declared.roles.Grip.TheVariants.{Nothing}
+use Rattle.nr_core.specs.declared.roles.Role.{Role}
+use Rattle.nr_core.specs.declared.roles.Role.TheVariants.{Note, Reader, Writer}
+use Rattle.nr_core.specs.declared.shape.Shape.{Shape}
 
 seated : (shape : Shape) (words : List ℕ) (roles : List Role) (log : List Entry) (role : Role)
     → Core shape words roles log → is_writer role ≡ 0

@@ -10,14 +10,14 @@ use mathlib.Core.Option.{some, some-injective, some-ne-none}
 use Rattle.nr_model.specs.Histories.{Entry}
 use Rattle.nr_core.proofs.Sums.{at_set, at_snoc, here_after, below-same, below-zero, only-zero}
 use Rattle.nr_core.specs.Roles.{is_reader}
-use Rattle.nr_machine.specs.Slots.{name_number, named, content, SlotSpells}
-use Rattle.nr_machine.specs.States.{opening_desk}
-use Rattle.nr_machine.specs.Sums.{only}
-use Rattle.nr_machine.specs.declared.roles.Desk.{Desk}
-use Rattle.nr_machine.specs.declared.roles.Grip.{Grip}
-use Rattle.nr_machine.specs.declared.roles.Role.{Role}
-use Rattle.nr_machine.specs.declared.roles.Role.TheVariants.{Note, Reader, Writer}
-use Rattle.nr_machine.specs.declared.shape.Shape.{Shape}
+use Rattle.nr_core.specs.Slots.{name_number, named, content, SlotSpells}
+use Rattle.nr_core.specs.States.{opening_desk}
+use Rattle.nr_core.specs.Sums.{only}
+use Rattle.nr_core.specs.declared.roles.Desk.{Desk}
+use Rattle.nr_core.specs.declared.roles.Grip.{Grip}
+use Rattle.nr_core.specs.declared.roles.Role.{Role}
+use Rattle.nr_core.specs.declared.roles.Role.TheVariants.{Note, Reader, Writer}
+use Rattle.nr_core.specs.declared.shape.Shape.{Shape}
 use Rattle.nr_core.specs.Marks.{Marks, gripped, opening_marks, with_loads}
 use Rattle.nr_core.specs.Marked.{Desked, Evolves, KnowsMarks, Marked, Since}
 use Rattle.nr_core.proofs.ListPlaces.{at_left, no_places, set_other}

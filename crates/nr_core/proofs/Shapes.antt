@@ -3,9 +3,9 @@ use Rattle.std.proofs.Common.{ℕ, [], ◌≡◌, ◌<◌, ◌≤◌, ◌⊎◌,
 use Rattle.std.proofs.lemmas.Bool.{cases_lt}
 use Rattle.nr_model.specs.Sizes.{IsBadSize}
 use Rattle.nr_core.specs.Reach.{Reached}
-use Rattle.nr_machine.specs.Sizes.{IsBadShape, IsShape}
-use Rattle.nr_machine.specs.States.{opening_state}
-use Rattle.nr_machine.specs.declared.shape.Shape.{Shape}
+use Rattle.nr_core.specs.Sizes.{IsBadShape, IsShape}
+use Rattle.nr_core.specs.States.{opening_state}
+use Rattle.nr_core.specs.declared.shape.Shape.{Shape}
 
 good_size : (limit size : ℕ) → (IsBadSize limit size → ⊥) → (0 < size) × (size ≤ limit)
 good_size limit size good = (

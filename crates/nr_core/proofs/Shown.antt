@@ -17,12 +17,12 @@ use Rattle.nr_words.specs.SetWords.{decode, encode}
 use Rattle.nr_core.proofs.KeyWords.{names_none, names_one}
 use Rattle.nr_core.proofs.Sets.{decodes_begins}
 use Rattle.nr_core.specs.Core.{Core, ShowsState}
-use Rattle.nr_machine.specs.Slots.{SlotSpells, bound_of, content, slot_content, layout, slot_room}
-use Rattle.nr_machine.specs.States.{State, number_at}
-use Rattle.nr_machine.specs.Story.{map_after, shown}
-use Rattle.nr_machine.specs.declared.roles.Role.{Role}
-use Rattle.nr_machine.specs.declared.roles.Role.TheVariants.{Writer}
-use Rattle.nr_machine.specs.declared.shape.Shape.{Shape}
+use Rattle.nr_core.specs.Slots.{SlotSpells, bound_of, content, slot_content, layout, slot_room}
+use Rattle.nr_core.specs.States.{State, number_at}
+use Rattle.nr_core.specs.Story.{map_after, shown}
+use Rattle.nr_core.specs.declared.roles.Role.{Role}
+use Rattle.nr_core.specs.declared.roles.Role.TheVariants.{Writer}
+use Rattle.nr_core.specs.declared.shape.Shape.{Shape}
 use Rattle.nr_model.specs.declared.states.KeyState.TheVariants as key
 
 begins_with : (m l : List ℕ) → length m ≤ length l → ((i : ℕ) → i < length m → get_or l i 0 ≡ get_or m i 0)

@@ -20,23 +20,23 @@ use Rattle.nr_core.proofs.StateRoles.{Found, IsCoreState, erased, state_sums}
 use Rattle.nr_core.proofs.Sums.{got_at, only-is, only-same, term_le}
 use Rattle.nr_core.specs.Core.{AtPlace}
 use Rattle.nr_core.specs.Laws.{HoldsFound, Stands, map_of}
-use Rattle.nr_machine.specs.Machine.{or_refusal, found_by, read_answer}
-use Rattle.nr_machine.specs.Refusals.{has_reader, if_beyond, if_unreadable, refusal}
+use Rattle.nr_core.specs.Machine.{or_refusal, found_by, read_answer}
+use Rattle.nr_core.specs.Refusals.{has_reader, if_beyond, if_unreadable, refusal}
 use Rattle.nr_core.specs.Roles.{held, holds, taken}
-use Rattle.nr_machine.specs.Slots.{bound_of, content, departures, unused}
-use Rattle.nr_machine.specs.States.{Read, State, hold_of, no_retired, slot_in}
-use Rattle.nr_machine.specs.Story.{Story}
-use Rattle.nr_machine.specs.declared.calls.Refusal.{Refusal}
-use Rattle.nr_machine.specs.declared.places.Hold.{Hold}
-use Rattle.nr_machine.specs.declared.places.Place.{Place}
-use Rattle.nr_machine.specs.declared.places.Place.TheVariants.{Idle, Leaving, Putting, Reading, Searching, Withdrawing}
-use Rattle.nr_machine.specs.declared.places.Retired.{Retired}
-use Rattle.nr_machine.specs.declared.roles.Grip.{Grip}
-use Rattle.nr_machine.specs.declared.roles.Grip.TheVariants.{Nothing, On}
-use Rattle.nr_machine.specs.declared.roles.Role.TheVariants.{Reader, Writer}
-use Rattle.nr_machine.specs.declared.shape.Shape.{Shape}
-use Rattle.nr_machine.specs.declared.places.Hold.TheVariants as hold
-use Rattle.nr_machine.specs.declared.calls.Refusal.TheVariants as refuse
+use Rattle.nr_core.specs.Slots.{bound_of, content, departures, unused}
+use Rattle.nr_core.specs.States.{Read, State, hold_of, no_retired, slot_in}
+use Rattle.nr_core.specs.Story.{Story}
+use Rattle.nr_core.specs.declared.calls.Refusal.{Refusal}
+use Rattle.nr_core.specs.declared.places.Hold.{Hold}
+use Rattle.nr_core.specs.declared.places.Place.{Place}
+use Rattle.nr_core.specs.declared.places.Place.TheVariants.{Idle, Leaving, Putting, Reading, Searching, Withdrawing}
+use Rattle.nr_core.specs.declared.places.Retired.{Retired}
+use Rattle.nr_core.specs.declared.roles.Grip.{Grip}
+use Rattle.nr_core.specs.declared.roles.Grip.TheVariants.{Nothing, On}
+use Rattle.nr_core.specs.declared.roles.Role.TheVariants.{Reader, Writer}
+use Rattle.nr_core.specs.declared.shape.Shape.{Shape}
+use Rattle.nr_core.specs.declared.places.Hold.TheVariants as hold
+use Rattle.nr_core.specs.declared.calls.Refusal.TheVariants as refuse
 
 taken_nobody : (shape : Shape) (words : List ℕ) (map : PartialMap) (hold : ℕ → ℕ) (fresh : ℕ) (l : List Retired) (s : ℕ)
     (p : Place)

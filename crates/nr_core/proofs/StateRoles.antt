@@ -17,23 +17,23 @@ use Rattle.nr_core.proofs.Sums.{at_set}
 use Rattle.nr_core.specs.Accounts.{on}
 use Rattle.nr_core.specs.Core.{Core}
 use Rattle.nr_core.specs.Roles.{grips, held, holds, keeps}
-use Rattle.nr_machine.specs.States.{State}
-use Rattle.nr_machine.specs.Story.{call_of, ending, ending_at, entry}
-use Rattle.nr_machine.specs.Sums.{total}
-use Rattle.nr_machine.specs.declared.calls.Step.{Step}
-use Rattle.nr_machine.specs.declared.calls.Step.TheVariants.{Ended, Going}
-use Rattle.nr_machine.specs.declared.places.Hold.{Hold}
-use Rattle.nr_machine.specs.declared.places.Place.{Place}
-use Rattle.nr_machine.specs.declared.places.Place.TheVariants.{Idle, Leaving, Putting, Reading, Searching, Withdrawing}
-use Rattle.nr_machine.specs.declared.roles.Desk.{Desk}
-use Rattle.nr_machine.specs.declared.roles.Grip.{Grip}
-use Rattle.nr_machine.specs.declared.roles.Grip.TheVariants.{Nothing, On}
-use Rattle.nr_machine.specs.declared.roles.Role.{Role}
-use Rattle.nr_machine.specs.declared.roles.Role.TheVariants.{Note, Reader, Writer}
-use Rattle.nr_machine.specs.declared.places.Hold.TheVariants as hold
+use Rattle.nr_core.specs.States.{State}
+use Rattle.nr_core.specs.Story.{call_of, ending, ending_at, entry}
+use Rattle.nr_core.specs.Sums.{total}
+use Rattle.nr_core.specs.declared.calls.Step.{Step}
+use Rattle.nr_core.specs.declared.calls.Step.TheVariants.{Ended, Going}
+use Rattle.nr_core.specs.declared.places.Hold.{Hold}
+use Rattle.nr_core.specs.declared.places.Place.{Place}
+use Rattle.nr_core.specs.declared.places.Place.TheVariants.{Idle, Leaving, Putting, Reading, Searching, Withdrawing}
+use Rattle.nr_core.specs.declared.roles.Desk.{Desk}
+use Rattle.nr_core.specs.declared.roles.Grip.{Grip}
+use Rattle.nr_core.specs.declared.roles.Grip.TheVariants.{Nothing, On}
+use Rattle.nr_core.specs.declared.roles.Role.{Role}
+use Rattle.nr_core.specs.declared.roles.Role.TheVariants.{Note, Reader, Writer}
+use Rattle.nr_core.specs.declared.places.Hold.TheVariants as hold
 use Rattle.nr_model.specs.declared.calls.Call.TheVariants as model
 use Rattle.nr_model.specs.declared.calls.Reply.TheVariants as reply
-use Rattle.nr_machine.specs.declared.calls.WReply.TheVariants as writer
+use Rattle.nr_core.specs.declared.calls.WReply.TheVariants as writer
 
 abbrev pub erased : Grip → Hold
 erased Nothing = hold.Nothing

@@ -10,8 +10,8 @@ use mathlib.Core.Logic.{dite}
 use mathlib.Core.Option.{some, some-injective, some-ne-none}
 use native.Mathlib.Decide.{ℕ_discrete}
 use Rattle.nr_core.proofs.Sums.{only-is, only-other, only-same, some_term, term_le}
-use Rattle.nr_machine.specs.Sums.{only, total}
-use Rattle.nr_machine.specs.declared.places.Retired.{Retired}
+use Rattle.nr_core.specs.Sums.{only, total}
+use Rattle.nr_core.specs.declared.places.Retired.{Retired}
 use Rattle.nr_model.specs.Strays.{strays}
 use Rattle.nr_core.specs.Marks.{Marks, Past}
 use Rattle.nr_core.specs.PollNotes.{AllHeld}

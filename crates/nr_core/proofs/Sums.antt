@@ -5,7 +5,7 @@ use lib.ListN.{get_elem?}
 use mathlib.Core.Logic.{dite}
 use mathlib.Core.Option.{some, some-injective, some-ne-none}
 use native.Mathlib.Decide.{ℕ_discrete}
-use Rattle.nr_machine.specs.Sums.{below, only, total}
+use Rattle.nr_core.specs.Sums.{below, only, total}
 
 module _ {A : Type 0} where
   pub here_after : (l : List A) (i : ℕ) (a b : A) → get_elem? l i ≡ some a → get_elem? (set l i b) i ≡ some b

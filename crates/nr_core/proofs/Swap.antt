@@ -16,15 +16,15 @@ use Rattle.nr_core.proofs.OnKey.{in_range}
 use Rattle.nr_core.proofs.Sums.{at_snoc, only-suc, only-zero, total-append, total-set}
 use Rattle.nr_core.specs.Core.{AreNumbers, AtDesk, Core, ShowsState}
 use Rattle.nr_core.specs.Roles.{held, holds, taken}
-use Rattle.nr_machine.specs.Slots.{bound_of, content, departures, name_number}
-use Rattle.nr_machine.specs.Story.{entry, map_after, shown}
-use Rattle.nr_machine.specs.Sums.{only, total}
-use Rattle.nr_machine.specs.Writer.{swapped, unnamed}
-use Rattle.nr_machine.specs.declared.places.Retired.{Retired}
-use Rattle.nr_machine.specs.declared.roles.Desk.{Desk}
-use Rattle.nr_machine.specs.declared.roles.Role.{Role}
-use Rattle.nr_machine.specs.declared.roles.Role.TheVariants.{Writer}
-use Rattle.nr_machine.specs.declared.shape.Shape.{Shape}
+use Rattle.nr_core.specs.Slots.{bound_of, content, departures, name_number}
+use Rattle.nr_core.specs.Story.{entry, map_after, shown}
+use Rattle.nr_core.specs.Sums.{only, total}
+use Rattle.nr_core.specs.Writer.{swapped, unnamed}
+use Rattle.nr_core.specs.declared.places.Retired.{Retired}
+use Rattle.nr_core.specs.declared.roles.Desk.{Desk}
+use Rattle.nr_core.specs.declared.roles.Role.{Role}
+use Rattle.nr_core.specs.declared.roles.Role.TheVariants.{Writer}
+use Rattle.nr_core.specs.declared.shape.Shape.{Shape}
 
 unnamed_sum : (s w : ℕ) → total (λ (x : Retired). only s x.slot) (unnamed w) ≡ only (suc s) (name_number w)
 unnamed_sum s w =

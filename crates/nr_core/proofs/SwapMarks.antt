@@ -20,22 +20,22 @@ use Rattle.nr_core.proofs.Sums.{below-change, below-same, below-term, only-other
 use Rattle.nr_core.proofs.Sums.{term_le, total-append}
 use Rattle.nr_core.specs.Core.{AtPlace, Puts, ShowsState, Withdraws}
 use Rattle.nr_core.specs.Roles.{grips, held, holds, retirements, taken}
-use Rattle.nr_machine.specs.declared.operation.Operation.TheVariants.{Store, Swap}
+use Rattle.nr_core.specs.declared.operation.Operation.TheVariants.{Store, Swap}
 use Rattle.nr_words.specs.KeyWords.{naming}
-use Rattle.nr_machine.specs.Slots.{content, name_number, SlotSpells}
-use Rattle.nr_machine.specs.States.{key_of, number_at}
-use Rattle.nr_machine.specs.Story.{call_of, entry, map_after}
-use Rattle.nr_machine.specs.Sums.{only, total}
-use Rattle.nr_machine.specs.Writer.{moved_to, swapped, unnamed, withdrawn}
-use Rattle.nr_machine.specs.declared.calls.WriterCall.{WriterCall}
-use Rattle.nr_machine.specs.declared.places.Place.TheVariants.{Leaving, Putting, Withdrawing}
-use Rattle.nr_machine.specs.declared.places.Retired.{Retired}
-use Rattle.nr_machine.specs.declared.roles.Desk.{Desk}
-use Rattle.nr_machine.specs.declared.roles.Grip.{Grip}
-use Rattle.nr_machine.specs.declared.roles.Grip.TheVariants.{Nothing, On}
-use Rattle.nr_machine.specs.declared.roles.Role.{Role}
-use Rattle.nr_machine.specs.declared.roles.Role.TheVariants.{Reader, Writer}
-use Rattle.nr_machine.specs.declared.shape.Shape.{Shape}
+use Rattle.nr_core.specs.Slots.{content, name_number, SlotSpells}
+use Rattle.nr_core.specs.States.{key_of, number_at}
+use Rattle.nr_core.specs.Story.{call_of, entry, map_after}
+use Rattle.nr_core.specs.Sums.{only, total}
+use Rattle.nr_core.specs.Writer.{moved_to, swapped, unnamed, withdrawn}
+use Rattle.nr_core.specs.declared.calls.WriterCall.{WriterCall}
+use Rattle.nr_core.specs.declared.places.Place.TheVariants.{Leaving, Putting, Withdrawing}
+use Rattle.nr_core.specs.declared.places.Retired.{Retired}
+use Rattle.nr_core.specs.declared.roles.Desk.{Desk}
+use Rattle.nr_core.specs.declared.roles.Grip.{Grip}
+use Rattle.nr_core.specs.declared.roles.Grip.TheVariants.{Nothing, On}
+use Rattle.nr_core.specs.declared.roles.Role.{Role}
+use Rattle.nr_core.specs.declared.roles.Role.TheVariants.{Reader, Writer}
+use Rattle.nr_core.specs.declared.shape.Shape.{Shape}
 use Rattle.nr_model.specs.declared.calls.Call.TheVariants as model
 use Rattle.nr_model.specs.declared.states.KeyState.TheVariants as key
 use Rattle.nr_model.specs.declared.calls.Reply.TheVariants as reply

@@ -30,32 +30,32 @@ use Rattle.nr_core.proofs.StateRoles.{IsCoreState, state_sums}
 use Rattle.nr_core.proofs.Sums.{below-term, got_at, only-is, only-same, some_term, term_le, terms_le}
 use Rattle.nr_core.specs.Accounts.{on}
 use Rattle.nr_core.specs.Core.{AtPlace}
-use Rattle.nr_machine.specs.Machine.{moved, read_hold}
-use Rattle.nr_machine.specs.Operations.{going, target_of}
-use Rattle.nr_machine.specs.Refusals.{has_key, has_reader, if_holding, if_not_holding, if_unreadable, refusal}
+use Rattle.nr_core.specs.Machine.{moved, read_hold}
+use Rattle.nr_core.specs.Operations.{going, target_of}
+use Rattle.nr_core.specs.Refusals.{has_key, has_reader, if_holding, if_not_holding, if_unreadable, refusal}
 use Rattle.nr_core.specs.Roles.{held}
-use Rattle.nr_machine.specs.Slots.{bound_of, content, name_number}
-use Rattle.nr_machine.specs.States.{Arrive, Ask, Depart, Event, FindAgain, Go, Read, Start, State, hold_of, key_of}
-use Rattle.nr_machine.specs.States.{no_retired, retired_at, slot_in}
-use Rattle.nr_machine.specs.Story.{Poll, holders_from, is_on, map_after, poll_at, polls_after}
-use Rattle.nr_machine.specs.Sums.{only, total}
-use Rattle.nr_machine.specs.Writer.{cancel_asked, decided, decoded, ended, fill_asked, looked, moved_to, no_slot}
-use Rattle.nr_machine.specs.Writer.{read_on, renewed, settled, swapped, taking_fresh, taking_retired, went}
+use Rattle.nr_core.specs.Slots.{bound_of, content, name_number}
+use Rattle.nr_core.specs.States.{Arrive, Ask, Depart, Event, FindAgain, Go, Read, Start, State, hold_of, key_of}
+use Rattle.nr_core.specs.States.{no_retired, retired_at, slot_in}
+use Rattle.nr_core.specs.Story.{Poll, holders_from, is_on, map_after, poll_at, polls_after}
+use Rattle.nr_core.specs.Sums.{only, total}
+use Rattle.nr_core.specs.Writer.{cancel_asked, decided, decoded, ended, fill_asked, looked, moved_to, no_slot}
+use Rattle.nr_core.specs.Writer.{read_on, renewed, settled, swapped, taking_fresh, taking_retired, went}
 use Rattle.nr_words.specs.SetWords.{decode}
-use Rattle.nr_machine.specs.declared.operation.Operation.{Operation}
-use Rattle.nr_machine.specs.declared.calls.Step.{Step}
-use Rattle.nr_machine.specs.declared.calls.Step.TheVariants.{Going}
-use Rattle.nr_machine.specs.declared.calls.WriterCall.{WriterCall}
-use Rattle.nr_machine.specs.declared.calls.WriterCall.TheVariants.{Cancel, Evict, Fill, Find, Replace, Update}
-use Rattle.nr_machine.specs.declared.places.Hold.{Hold}
-use Rattle.nr_machine.specs.declared.places.Place.{Place}
-use Rattle.nr_machine.specs.declared.places.Place.TheVariants.{Idle, Leaving, Putting, Reading, Searching, Withdrawing}
-use Rattle.nr_machine.specs.declared.places.Retired.{Retired}
-use Rattle.nr_machine.specs.declared.roles.Desk.{Desk}
-use Rattle.nr_machine.specs.declared.roles.Role.TheVariants.{Writer}
-use Rattle.nr_machine.specs.declared.shape.Shape.{Shape}
-use Rattle.nr_machine.specs.declared.places.Hold.TheVariants as hold
-use Rattle.nr_machine.specs.declared.calls.Refusal.TheVariants as refuse
+use Rattle.nr_core.specs.declared.operation.Operation.{Operation}
+use Rattle.nr_core.specs.declared.calls.Step.{Step}
+use Rattle.nr_core.specs.declared.calls.Step.TheVariants.{Going}
+use Rattle.nr_core.specs.declared.calls.WriterCall.{WriterCall}
+use Rattle.nr_core.specs.declared.calls.WriterCall.TheVariants.{Cancel, Evict, Fill, Find, Replace, Update}
+use Rattle.nr_core.specs.declared.places.Hold.{Hold}
+use Rattle.nr_core.specs.declared.places.Place.{Place}
+use Rattle.nr_core.specs.declared.places.Place.TheVariants.{Idle, Leaving, Putting, Reading, Searching, Withdrawing}
+use Rattle.nr_core.specs.declared.places.Retired.{Retired}
+use Rattle.nr_core.specs.declared.roles.Desk.{Desk}
+use Rattle.nr_core.specs.declared.roles.Role.TheVariants.{Writer}
+use Rattle.nr_core.specs.declared.shape.Shape.{Shape}
+use Rattle.nr_core.specs.declared.places.Hold.TheVariants as hold
+use Rattle.nr_core.specs.declared.calls.Refusal.TheVariants as refuse
 use Rattle.nr_model.specs.declared.calls.Reply.TheVariants as reply
 
 -- how often reader c, counted from 0, holds slot u, and how often u is retired

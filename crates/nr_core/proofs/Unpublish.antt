@@ -12,16 +12,16 @@ use Rattle.nr_core.proofs.Sums.{only-zero}
 use Rattle.nr_core.proofs.Swap.{swap_step}
 use Rattle.nr_core.specs.Core.{AtPlace, Core, ShowsState}
 use Rattle.nr_core.specs.Roles.{held, taken}
-use Rattle.nr_machine.specs.Slots.{bound_of}
-use Rattle.nr_machine.specs.States.{number_at}
-use Rattle.nr_machine.specs.Story.{entry, map_after}
-use Rattle.nr_machine.specs.Sums.{only}
-use Rattle.nr_machine.specs.Writer.{swapped}
-use Rattle.nr_machine.specs.declared.places.Place.TheVariants.{Leaving}
-use Rattle.nr_machine.specs.declared.roles.Desk.{Desk}
-use Rattle.nr_machine.specs.declared.roles.Role.{Role}
-use Rattle.nr_machine.specs.declared.roles.Role.TheVariants.{Writer}
-use Rattle.nr_machine.specs.declared.shape.Shape.{Shape}
+use Rattle.nr_core.specs.Slots.{bound_of}
+use Rattle.nr_core.specs.States.{number_at}
+use Rattle.nr_core.specs.Story.{entry, map_after}
+use Rattle.nr_core.specs.Sums.{only}
+use Rattle.nr_core.specs.Writer.{swapped}
+use Rattle.nr_core.specs.declared.places.Place.TheVariants.{Leaving}
+use Rattle.nr_core.specs.declared.roles.Desk.{Desk}
+use Rattle.nr_core.specs.declared.roles.Role.{Role}
+use Rattle.nr_core.specs.declared.roles.Role.TheVariants.{Writer}
+use Rattle.nr_core.specs.declared.shape.Shape.{Shape}
 use Rattle.nr_model.specs.declared.calls.Call.TheVariants as model
 use Rattle.nr_model.specs.declared.calls.Reply.TheVariants as reply
 

@@ -16,17 +16,17 @@ use Rattle.nr_core.proofs.Sums.{only-zero}
 use Rattle.nr_core.proofs.Swap.{swap_step}
 use Rattle.nr_core.specs.Core.{AtPlace, Core, ShowsState, Withdraws}
 use Rattle.nr_core.specs.Roles.{held, taken}
-use Rattle.nr_machine.specs.Slots.{bound_of}
-use Rattle.nr_machine.specs.States.{number_at}
-use Rattle.nr_machine.specs.Story.{entry, map_after}
-use Rattle.nr_machine.specs.Sums.{only}
-use Rattle.nr_machine.specs.Writer.{unnamed, withdrawn}
-use Rattle.nr_machine.specs.declared.places.Place.TheVariants.{Idle, Withdrawing}
-use Rattle.nr_machine.specs.declared.places.Retired.{Retired}
-use Rattle.nr_machine.specs.declared.roles.Desk.{Desk}
-use Rattle.nr_machine.specs.declared.roles.Role.{Role}
-use Rattle.nr_machine.specs.declared.roles.Role.TheVariants.{Writer}
-use Rattle.nr_machine.specs.declared.shape.Shape.{Shape}
+use Rattle.nr_core.specs.Slots.{bound_of}
+use Rattle.nr_core.specs.States.{number_at}
+use Rattle.nr_core.specs.Story.{entry, map_after}
+use Rattle.nr_core.specs.Sums.{only}
+use Rattle.nr_core.specs.Writer.{unnamed, withdrawn}
+use Rattle.nr_core.specs.declared.places.Place.TheVariants.{Idle, Withdrawing}
+use Rattle.nr_core.specs.declared.places.Retired.{Retired}
+use Rattle.nr_core.specs.declared.roles.Desk.{Desk}
+use Rattle.nr_core.specs.declared.roles.Role.{Role}
+use Rattle.nr_core.specs.declared.roles.Role.TheVariants.{Writer}
+use Rattle.nr_core.specs.declared.shape.Shape.{Shape}
 use Rattle.nr_model.specs.declared.states.KeyState.TheVariants as key
 use Rattle.nr_model.specs.declared.calls.Call.TheVariants as model
 use Rattle.nr_model.specs.declared.calls.Reply.TheVariants as reply

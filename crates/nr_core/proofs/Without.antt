@@ -14,24 +14,24 @@ use Rattle.nr_words.specs.KeyWords.{has_ask, is_filled, same_count, slot_of}
 use Rattle.nr_core.proofs.Choices.{by_cases}
 use Rattle.nr_core.proofs.KeyWords.{names_none, names_one}
 use Rattle.nr_core.specs.Core.{ShowsState}
-use Rattle.nr_machine.specs.Machine.{or_refusal}
-use Rattle.nr_machine.specs.Slots.{bound_of}
-use Rattle.nr_machine.specs.States.{retired_at}
-use Rattle.nr_machine.specs.Story.{call_of}
-use Rattle.nr_machine.specs.Writer.{cancel_asked, decided, ended, fill_asked, looked, moved_to, no_slot, polled}
-use Rattle.nr_machine.specs.Writer.{polls_on, renewed, settled, taking_fresh, taking_retired}
-use Rattle.nr_machine.specs.declared.calls.NoSlot.{NoSlot}
-use Rattle.nr_machine.specs.declared.calls.Step.{Step}
-use Rattle.nr_machine.specs.declared.calls.Step.TheVariants.{Ended, Going}
-use Rattle.nr_machine.specs.declared.calls.WriterCall.{WriterCall}
-use Rattle.nr_machine.specs.declared.calls.WriterCall.TheVariants.{Cancel, Evict, Fill, Find, Replace, Update}
-use Rattle.nr_machine.specs.declared.places.Place.TheVariants.{Idle, Leaving, Reading, Searching, Withdrawing}
-use Rattle.nr_machine.specs.declared.roles.Desk.{Desk}
-use Rattle.nr_machine.specs.declared.shape.Shape.{Shape}
+use Rattle.nr_core.specs.Machine.{or_refusal}
+use Rattle.nr_core.specs.Slots.{bound_of}
+use Rattle.nr_core.specs.States.{retired_at}
+use Rattle.nr_core.specs.Story.{call_of}
+use Rattle.nr_core.specs.Writer.{cancel_asked, decided, ended, fill_asked, looked, moved_to, no_slot, polled}
+use Rattle.nr_core.specs.Writer.{polls_on, renewed, settled, taking_fresh, taking_retired}
+use Rattle.nr_core.specs.declared.calls.NoSlot.{NoSlot}
+use Rattle.nr_core.specs.declared.calls.Step.{Step}
+use Rattle.nr_core.specs.declared.calls.Step.TheVariants.{Ended, Going}
+use Rattle.nr_core.specs.declared.calls.WriterCall.{WriterCall}
+use Rattle.nr_core.specs.declared.calls.WriterCall.TheVariants.{Cancel, Evict, Fill, Find, Replace, Update}
+use Rattle.nr_core.specs.declared.places.Place.TheVariants.{Idle, Leaving, Reading, Searching, Withdrawing}
+use Rattle.nr_core.specs.declared.roles.Desk.{Desk}
+use Rattle.nr_core.specs.declared.shape.Shape.{Shape}
 use Rattle.nr_model.specs.declared.states.KeyState.TheVariants as key
 use Rattle.nr_model.specs.declared.calls.Call.TheVariants as model
 use Rattle.nr_model.specs.declared.calls.Reply.TheVariants as reply
-use Rattle.nr_machine.specs.declared.calls.WReply.TheVariants as writer
+use Rattle.nr_core.specs.declared.calls.WReply.TheVariants as writer
 
 abbrev step_number : Step → ℕ
 step_number Going = 0

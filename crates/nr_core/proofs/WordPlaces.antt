@@ -2,8 +2,8 @@
 use Rattle.std.proofs.Common.{ℕ, ◌≡◌, ◌+◌, ◌<◌, arith}
 use Rattle.nr_words.proofs.PlaceLemmas.{in_block_below, same_in_block}
 use Rattle.nr_words.specs.Places.{total_of}
-use Rattle.nr_machine.specs.Slots.{content, departures, layout, slot_room}
-use Rattle.nr_machine.specs.declared.shape.Shape.{Shape}
+use Rattle.nr_core.specs.Slots.{content, departures, layout, slot_room}
+use Rattle.nr_core.specs.declared.shape.Shape.{Shape}
 
 pub content_inside : (shape : Shape) (slot index : ℕ) → slot < shape.slots → index < slot_room shape
     → content shape slot index < total_of (layout shape)

@@ -8,19 +8,19 @@ use Rattle.nr_core.proofs.Go.{goes}
 use Rattle.nr_core.proofs.Guards.{guard, is_idle}
 use Rattle.nr_core.proofs.Look.{looks}
 use Rattle.nr_core.proofs.StateRoles.{IsCoreState, ending_at_other, ending_other, fit_writer, found_writer}
-use Rattle.nr_machine.specs.Given.{IsGivenCall}
-use Rattle.nr_machine.specs.Machine.{moved}
-use Rattle.nr_machine.specs.Operations.{going, target_of}
-use Rattle.nr_machine.specs.declared.operation.Operation.TheVariants.{Load}
-use Rattle.nr_machine.specs.Refusals.{has_key, if_busy, refusal}
-use Rattle.nr_machine.specs.Slots.{bound_of}
-use Rattle.nr_machine.specs.States.{Go, Start, State, key_of}
+use Rattle.nr_core.specs.Given.{IsGivenCall}
+use Rattle.nr_core.specs.Machine.{moved}
+use Rattle.nr_core.specs.Operations.{going, target_of}
+use Rattle.nr_core.specs.declared.operation.Operation.TheVariants.{Load}
+use Rattle.nr_core.specs.Refusals.{has_key, if_busy, refusal}
+use Rattle.nr_core.specs.Slots.{bound_of}
+use Rattle.nr_core.specs.States.{Go, Start, State, key_of}
 use Rattle.nr_core.specs.Steps.{Goes, Looks}
-use Rattle.nr_machine.specs.Story.{call_of, ending, ending_at, told}
-use Rattle.nr_machine.specs.Writer.{looked, went}
-use Rattle.nr_machine.specs.declared.calls.WriterCall.{WriterCall}
-use Rattle.nr_machine.specs.declared.roles.Role.TheVariants.{Writer}
-use Rattle.nr_machine.specs.declared.calls.Refusal.TheVariants as refuse
+use Rattle.nr_core.specs.Story.{call_of, ending, ending_at, told}
+use Rattle.nr_core.specs.Writer.{looked, went}
+use Rattle.nr_core.specs.declared.calls.WriterCall.{WriterCall}
+use Rattle.nr_core.specs.declared.roles.Role.TheVariants.{Writer}
+use Rattle.nr_core.specs.declared.calls.Refusal.TheVariants as refuse
 
 pub after_start : (state : State) (log : List Entry) (call : WriterCall) → IsGivenCall (bound_of state.shape) call
     → IsCoreState state log

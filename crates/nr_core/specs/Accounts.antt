@@ -1,11 +1,11 @@
 -- Slot accounting: the one state that each slot is in, and its counts.
 use Rattle.std.specs.Prelude.{◌≡◌, ℕ, suc, ◌+◌, ◌<◌}
-use Rattle.nr_machine.specs.declared.places.Hold.{Hold}
-use Rattle.nr_machine.specs.declared.places.Hold.TheVariants.{Nothing, On}
-use Rattle.nr_machine.specs.Sums.{total, only}
+use Rattle.nr_core.specs.declared.places.Hold.{Hold}
+use Rattle.nr_core.specs.declared.places.Hold.TheVariants.{Nothing, On}
+use Rattle.nr_core.specs.Sums.{total, only}
 use Rattle.nr_words.specs.KeyWords.{arrivals_of}
-use Rattle.nr_machine.specs.Slots.{name_number, named, unused}
-use Rattle.nr_machine.specs.States.{State, word, retired_at}
+use Rattle.nr_core.specs.Slots.{name_number, named, unused}
+use Rattle.nr_core.specs.States.{State, word, retired_at}
 use Rattle.nr_core.specs.Roles.{retirements, taken}
 use Rattle.nr_core.specs.Core.{Counts}
 use Rattle.std.specs.Prelude.{length}

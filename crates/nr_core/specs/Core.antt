@@ -10,25 +10,25 @@ use Rattle.nr_model.specs.declared.states.KeyState.TheVariants as key
 use Rattle.nr_model.specs.Rows.{IsRowSet}
 use Rattle.nr_model.specs.Maps.{PartialMap, state_of, number_of, reply_at, state_after, last_number}
 use Rattle.nr_model.specs.Histories.{Entry, IsLegal}
-use Rattle.nr_machine.specs.declared.shape.Shape.{Shape}
-use Rattle.nr_machine.specs.declared.calls.WriterCall.{WriterCall}
-use Rattle.nr_machine.specs.declared.roles.Role.{Role}
-use Rattle.nr_machine.specs.declared.roles.Role.TheVariants.{Writer, Reader, Note}
-use Rattle.nr_machine.specs.declared.roles.Grip.{Grip}
-use Rattle.nr_machine.specs.declared.roles.Grip.TheVariants.{Nothing, On}
-use Rattle.nr_machine.specs.declared.roles.Desk.{Desk}
-use Rattle.nr_machine.specs.declared.places.Retired.{Retired}
-use Rattle.nr_machine.specs.declared.places.Place.{Place}
-use Rattle.nr_machine.specs.declared.places.Place.TheVariants.{Idle, Reading, Leaving, Withdrawing, Searching, Putting}
-use Rattle.nr_machine.specs.Sums.{total}
-use Rattle.nr_machine.specs.Sizes.{IsShape}
+use Rattle.nr_core.specs.declared.shape.Shape.{Shape}
+use Rattle.nr_core.specs.declared.calls.WriterCall.{WriterCall}
+use Rattle.nr_core.specs.declared.roles.Role.{Role}
+use Rattle.nr_core.specs.declared.roles.Role.TheVariants.{Writer, Reader, Note}
+use Rattle.nr_core.specs.declared.roles.Grip.{Grip}
+use Rattle.nr_core.specs.declared.roles.Grip.TheVariants.{Nothing, On}
+use Rattle.nr_core.specs.declared.roles.Desk.{Desk}
+use Rattle.nr_core.specs.declared.places.Retired.{Retired}
+use Rattle.nr_core.specs.declared.places.Place.{Place}
+use Rattle.nr_core.specs.declared.places.Place.TheVariants.{Idle, Reading, Leaving, Withdrawing, Searching, Putting}
+use Rattle.nr_core.specs.Sums.{total}
+use Rattle.nr_core.specs.Sizes.{IsShape}
 use Rattle.nr_core.specs.Roles.{is_writer, is_reader, held, keeps}
 use Rattle.nr_words.specs.KeyWords.{slot_of, arrivals_of}
 use Rattle.nr_words.specs.SetWords.{encode}
 use Rattle.nr_words.specs.Places.{total_of}
-use Rattle.nr_machine.specs.Slots.{bound_of, layout, departures, content, name_number, named, SlotSpells}
-use Rattle.nr_machine.specs.States.{key_of}
-use Rattle.nr_machine.specs.Story.{call_of, map_after, opening_map}
+use Rattle.nr_core.specs.Slots.{bound_of, layout, departures, content, name_number, named, SlotSpells}
+use Rattle.nr_core.specs.States.{key_of}
+use Rattle.nr_core.specs.Story.{call_of, map_after, opening_map}
 
 -- a count of arrivals is the departures and the callers that hold the slot, as far as counts go
 abbrev pub Counts : Shape → List ℕ → (ℕ → ℕ) → ℕ → ℕ → Type 0

@@ -5,11 +5,11 @@ use mathlib.Core.Option.{some}
 use lib.ListN.{get_elem?}
 use Rattle.nr_model.specs.Maps.{filled_count, state_of, is_filled_key}
 use Rattle.nr_model.specs.Histories.{Entry}
-use Rattle.nr_machine.specs.declared.shape.Shape.{Shape}
-use Rattle.nr_machine.specs.declared.roles.Desk.{Desk}
-use Rattle.nr_machine.specs.declared.places.Retired.{Retired}
+use Rattle.nr_core.specs.declared.shape.Shape.{Shape}
+use Rattle.nr_core.specs.declared.roles.Desk.{Desk}
+use Rattle.nr_core.specs.declared.places.Retired.{Retired}
 use Rattle.nr_core.specs.Roles.{taken}
-use Rattle.nr_machine.specs.Story.{map_after}
+use Rattle.nr_core.specs.Story.{map_after}
 use Rattle.std.specs.List.{filter_map, range_with_len}
 use Rattle.nr_core.specs.Puts.{put_count, put_number}
 use Rattle.nr_model.specs.Strays.{keyed, count_of_put}

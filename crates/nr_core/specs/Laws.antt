@@ -8,28 +8,28 @@ use Rattle.nr_model.specs.Rows.{IsRowSet}
 use Rattle.nr_model.specs.Maps.{PartialMap, state_of, number_of, reply_to, filled_count}
 use Rattle.nr_model.specs.Histories.{Entry, IsLegal, entries_of, sends, fills, cancels}
 use Rattle.nr_model.specs.Laws.{pending}
-use Rattle.nr_machine.specs.declared.shape.Shape.{Shape}
-use Rattle.nr_machine.specs.declared.calls.NoSlot.{NoSlot}
-use Rattle.nr_machine.specs.declared.calls.WriterCall.{WriterCall}
-use Rattle.nr_machine.specs.declared.calls.WriterCall.TheVariants.{Evict, Cancel}
-use Rattle.nr_machine.specs.declared.calls.WReply.TheVariants as writer
-use Rattle.nr_machine.specs.declared.calls.Step.TheVariants.{Ended}
-use Rattle.nr_machine.specs.declared.places.Hold.TheVariants.{On}
-use Rattle.nr_machine.specs.declared.places.Retired.{Retired}
-use Rattle.nr_machine.specs.declared.places.Place.{Place}
-use Rattle.nr_machine.specs.declared.places.Place.TheVariants.{Idle, Reading, Leaving, Withdrawing, Searching, Putting}
+use Rattle.nr_core.specs.declared.shape.Shape.{Shape}
+use Rattle.nr_core.specs.declared.calls.NoSlot.{NoSlot}
+use Rattle.nr_core.specs.declared.calls.WriterCall.{WriterCall}
+use Rattle.nr_core.specs.declared.calls.WriterCall.TheVariants.{Evict, Cancel}
+use Rattle.nr_core.specs.declared.calls.WReply.TheVariants as writer
+use Rattle.nr_core.specs.declared.calls.Step.TheVariants.{Ended}
+use Rattle.nr_core.specs.declared.places.Hold.TheVariants.{On}
+use Rattle.nr_core.specs.declared.places.Retired.{Retired}
+use Rattle.nr_core.specs.declared.places.Place.{Place}
+use Rattle.nr_core.specs.declared.places.Place.TheVariants.{Idle, Reading, Leaving, Withdrawing, Searching, Putting}
 use Rattle.nr_words.specs.SetWords.{encode}
-use Rattle.nr_machine.specs.Slots.{bound_of, content, slot_room}
-use Rattle.nr_machine.specs.States.{State, Event, Arrive, Read, Depart, Ask, FindAgain, Start, Go, word, hold_of}
-use Rattle.nr_machine.specs.States.{number_at}
-use Rattle.nr_machine.specs.Refusals.{refusal}
-use Rattle.nr_machine.specs.Operations.{target_of, becomes, operation}
-use Rattle.nr_machine.specs.declared.operation.Operation.{Operation}
-use Rattle.nr_machine.specs.declared.operation.Operation.TheVariants.{Load}
-use Rattle.nr_machine.specs.Machine.{next_state, run, unless, read_answer, start_answer, go_answer}
-use Rattle.nr_machine.specs.Story.{Story, Poll, story_of, tell, told, shown, entry, call_of, map_after, opening_map}
-use Rattle.nr_machine.specs.Sizes.{IsShape}
-use Rattle.nr_machine.specs.Given.{IsGivenCall}
+use Rattle.nr_core.specs.Slots.{bound_of, content, slot_room}
+use Rattle.nr_core.specs.States.{State, Event, Arrive, Read, Depart, Ask, FindAgain, Start, Go, word, hold_of}
+use Rattle.nr_core.specs.States.{number_at}
+use Rattle.nr_core.specs.Refusals.{refusal}
+use Rattle.nr_core.specs.Operations.{target_of, becomes, operation}
+use Rattle.nr_core.specs.declared.operation.Operation.{Operation}
+use Rattle.nr_core.specs.declared.operation.Operation.TheVariants.{Load}
+use Rattle.nr_core.specs.Machine.{next_state, run, unless, read_answer, start_answer, go_answer}
+use Rattle.nr_core.specs.Story.{Story, Poll, story_of, tell, told, shown, entry, call_of, map_after, opening_map}
+use Rattle.nr_core.specs.Sizes.{IsShape}
+use Rattle.nr_core.specs.Given.{IsGivenCall}
 use Rattle.nr_core.specs.Accounts.{Accounted}
 
 -- the sets that calls bring are row sets

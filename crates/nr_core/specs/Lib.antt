@@ -1,3 +1,17 @@
+pub mod Sums
+pub mod Slots
+pub mod Sizes
+pub mod States
+pub mod Spares
+pub mod Refusals
+pub mod Operations
+pub mod Writer
+pub mod Parts
+pub mod Outcomes
+pub mod Machine
+pub mod Story
+pub mod Given
+pub mod Room
 pub mod Roles
 pub mod Core
 pub mod Steps

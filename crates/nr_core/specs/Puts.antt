@@ -3,7 +3,7 @@
 use Rattle.std.specs.Prelude.{ℕ, ◌+◌, ◌==◌, ◌&&◌, Bool, if◌then◌else◌, List, [], ◌∷◌}
 use Rattle.nr_model.specs.Maps.{call_key}
 use Rattle.nr_model.specs.Histories.{Entry, is_done}
-use Rattle.nr_machine.specs.Sums.{total}
+use Rattle.nr_core.specs.Sums.{total}
 
 -- 1 where the entry put a set
 abbrev pub puts_set : Entry → ℕ

@@ -1,9 +1,9 @@
 -- The states that events lead to.
 use Rattle.std.specs.Prelude.{◌≡◌, List}
-use Rattle.nr_machine.specs.Slots.{bound_of}
-use Rattle.nr_machine.specs.States.{State, Event}
-use Rattle.nr_machine.specs.Machine.{run}
-use Rattle.nr_machine.specs.Sizes.{IsShape}
+use Rattle.nr_core.specs.Slots.{bound_of}
+use Rattle.nr_core.specs.States.{State, Event}
+use Rattle.nr_core.specs.Machine.{run}
+use Rattle.nr_core.specs.Sizes.{IsShape}
 use Rattle.nr_core.specs.Laws.{AllGiven}
 
 -- some events lead from the opening to the state

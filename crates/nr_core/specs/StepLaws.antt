@@ -4,23 +4,23 @@
 use Rattle.std.specs.Prelude.{◌≡◌, ℕ, suc, ◌-◌, ◌^◌, ◌<◌, ◌≤◌, List, [], ◌∷◌, ◌++◌, length, slice_index, Bool, None}
 use Rattle.nr_model.specs.declared.rows.Row.{Row}
 use Rattle.nr_model.specs.Histories.{Entry}
-use Rattle.nr_machine.specs.declared.shape.Shape.{Shape}
-use Rattle.nr_machine.specs.declared.calls.WriterCall.{WriterCall}
-use Rattle.nr_machine.specs.declared.operation.Operation.TheVariants.{Load, Add, Or}
-use Rattle.nr_machine.specs.declared.places.Place.TheVariants.{Idle, Searching}
-use Rattle.nr_machine.specs.declared.roles.Desk.{Desk}
-use Rattle.nr_machine.specs.declared.roles.Role.{Role}
-use Rattle.nr_machine.specs.declared.roles.Role.TheVariants.{Writer, Reader, Note}
-use Rattle.nr_machine.specs.declared.roles.Grip.TheVariants.{Nothing, On}
+use Rattle.nr_core.specs.declared.shape.Shape.{Shape}
+use Rattle.nr_core.specs.declared.calls.WriterCall.{WriterCall}
+use Rattle.nr_core.specs.declared.operation.Operation.TheVariants.{Load, Add, Or}
+use Rattle.nr_core.specs.declared.places.Place.TheVariants.{Idle, Searching}
+use Rattle.nr_core.specs.declared.roles.Desk.{Desk}
+use Rattle.nr_core.specs.declared.roles.Role.{Role}
+use Rattle.nr_core.specs.declared.roles.Role.TheVariants.{Writer, Reader, Note}
+use Rattle.nr_core.specs.declared.roles.Grip.TheVariants.{Nothing, On}
 use Rattle.nr_words.specs.declared.key_words.TheConstants.{ARRIVE}
 use Rattle.nr_words.specs.SetWords.{encode}
-use Rattle.nr_machine.specs.Sums.{total}
-use Rattle.nr_machine.specs.Sizes.{IsShape}
-use Rattle.nr_machine.specs.Slots.{bound_of, departures, content, name_number, words_at_opening}
-use Rattle.nr_machine.specs.States.{key_of, opening_desk, retired_at}
-use Rattle.nr_machine.specs.Operations.{going}
-use Rattle.nr_machine.specs.Refusals.{if_not_busy}
-use Rattle.nr_machine.specs.Given.{IsGivenCall}
+use Rattle.nr_core.specs.Sums.{total}
+use Rattle.nr_core.specs.Sizes.{IsShape}
+use Rattle.nr_core.specs.Slots.{bound_of, departures, content, name_number, words_at_opening}
+use Rattle.nr_core.specs.States.{key_of, opening_desk, retired_at}
+use Rattle.nr_core.specs.Operations.{going}
+use Rattle.nr_core.specs.Refusals.{if_not_busy}
+use Rattle.nr_core.specs.Given.{IsGivenCall}
 use Rattle.nr_core.specs.Roles.{is_reader, readers_from}
 use Rattle.nr_core.specs.Core.{Core}
 use Rattle.nr_core.specs.Steps.{CanStep, CanStepWhere, Arrives, Asks, LooksUp, HoldsNamed, ReadsHeld, FindsAgain}

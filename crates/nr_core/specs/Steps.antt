@@ -10,21 +10,21 @@ use Rattle.nr_model.specs.declared.calls.Reply.{Reply}
 use Rattle.nr_model.specs.declared.calls.Reply.TheVariants as reply
 use Rattle.nr_model.specs.Rows.{IsRowSet}
 use Rattle.nr_model.specs.Histories.{Entry, entries_of}
-use Rattle.nr_machine.specs.declared.shape.Shape.{Shape}
-use Rattle.nr_machine.specs.declared.calls.WriterCall.{WriterCall}
-use Rattle.nr_machine.specs.declared.roles.Role.{Role}
-use Rattle.nr_machine.specs.declared.roles.Role.TheVariants.{Writer, Reader}
-use Rattle.nr_machine.specs.declared.roles.Grip.TheVariants.{Nothing, On}
-use Rattle.nr_machine.specs.declared.roles.Desk.{Desk}
+use Rattle.nr_core.specs.declared.shape.Shape.{Shape}
+use Rattle.nr_core.specs.declared.calls.WriterCall.{WriterCall}
+use Rattle.nr_core.specs.declared.roles.Role.{Role}
+use Rattle.nr_core.specs.declared.roles.Role.TheVariants.{Writer, Reader}
+use Rattle.nr_core.specs.declared.roles.Grip.TheVariants.{Nothing, On}
+use Rattle.nr_core.specs.declared.roles.Desk.{Desk}
 use Rattle.nr_words.specs.KeyWords.{is_filled, has_ask, same_count, slot_of}
 use Rattle.nr_words.specs.SetWords.{encode}
-use Rattle.nr_machine.specs.Slots.{bound_of, name_number, names_slot}
-use Rattle.nr_machine.specs.Operations.{target_of, becomes}
-use Rattle.nr_machine.specs.declared.operation.Operation.{Operation}
-use Rattle.nr_machine.specs.States.{retired_at}
-use Rattle.nr_machine.specs.Writer.{desk_in, looked, moved_to, step_in, taking_retired, went}
-use Rattle.nr_machine.specs.declared.places.Place.TheVariants.{Idle}
-use Rattle.nr_machine.specs.Story.{entry, call_of, ending, ending_at}
+use Rattle.nr_core.specs.Slots.{bound_of, name_number, names_slot}
+use Rattle.nr_core.specs.Operations.{target_of, becomes}
+use Rattle.nr_core.specs.declared.operation.Operation.{Operation}
+use Rattle.nr_core.specs.States.{retired_at}
+use Rattle.nr_core.specs.Writer.{desk_in, looked, moved_to, step_in, taking_retired, went}
+use Rattle.nr_core.specs.declared.places.Place.TheVariants.{Idle}
+use Rattle.nr_core.specs.Story.{entry, call_of, ending, ending_at}
 use Rattle.nr_core.specs.Roles.{is_by, is_writer, is_reader}
 use Rattle.nr_core.specs.Core.{Core}
 

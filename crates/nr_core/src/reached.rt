@@ -3,14 +3,17 @@ ghost use Rattle.std.specs.Prelude.{◌≡◌, ◌≤◌, ◌<◌, ◌↔◌, �
 ghost use Rattle.nr_model.specs.Maps.{SetFits, number_of};
 ghost use Rattle.nr_model.specs.declared.rows.TheConstants.{DEFAULT_ROWS, MAX_ROWS};
 ghost use Rattle.nr_model.specs.declared.seq_map.TheConstants.{MAX_KEYS};
-ghost use Rattle.nr_machine.specs.Sizes.{IsBadShape};
-ghost use Rattle.nr_machine.specs.declared.shape.TheConstants.{MAX_READERS, MAX_SLOTS};
-ghost use Rattle.nr_machine.specs.Story.{call_of, shown};
-ghost use Rattle.nr_machine.specs.States.{opening_state, number_at, Arrive, Read, Depart, Ask, FindAgain, Start, Go};
-ghost use Rattle.nr_machine.specs.Machine.{next_state, arrive_answer, read_answer, depart_answer, ask_answer, find_again_answer, start_answer, go_answer};
+ghost use Rattle.nr_core.specs.Sizes.{IsBadShape};
+ghost use Rattle.nr_core.specs.declared.shape.TheConstants.{MAX_READERS, MAX_SLOTS};
+ghost use Rattle.nr_core.specs.Story.{call_of, shown};
+ghost use Rattle.nr_core.specs.States.{opening_state, number_at, Arrive, Read, Depart, Ask, FindAgain, Start, Go};
+ghost use Rattle.nr_core.specs.Machine.{next_state, arrive_answer, read_answer, depart_answer, ask_answer, find_again_answer, start_answer, go_answer};
 ghost use Rattle.nr_model.specs.Sizes.{IsBadSize};
 
-use nr_machine::{Arrived, AskReply, Machine, Outcome, Refusal, Shape, Step, WriterCall};
+use crate::calls::{Arrived, AskReply, Refusal, Step, WriterCall};
+use crate::machine::Machine;
+use crate::outcome::Outcome;
+use crate::shape::Shape;
 use nr_model::{DEFAULT_ROWS, OpenFault, RowSet};
 use std::alloc::Global;
 use std::marker::Model;
@@ -26,8 +29,8 @@ pub struct Core {
 }
 
 impl Model for Core {
-    ghost use Rattle.nr_machine.specs.States.{State};
-    ghost use Rattle.nr_machine.specs.Parts.{machine_state};
+    ghost use Rattle.nr_core.specs.States.{State};
+    ghost use Rattle.nr_core.specs.Parts.{machine_state};
     ghost use Rattle.nr_core.specs.Reach.{Reached};
 
     ghost Value = { State };

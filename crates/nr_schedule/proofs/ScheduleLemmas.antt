@@ -10,14 +10,14 @@ use Rattle.nr_model.specs.declared.rows.TheConstants.{MAX_ROWS}
 use Rattle.nr_model.specs.declared.rows.TooMany.{TooMany}
 use Rattle.nr_model.specs.Rows.{IsRowSet, in_order}
 use Rattle.nr_model.proofs.LawLemmas.{order_keeps_rows_lem}
-use Rattle.nr_machine.specs.declared.calls.WriterCall.{WriterCall}
-use Rattle.nr_machine.specs.declared.calls.WriterCall.TheVariants as calls
-use Rattle.nr_machine.specs.Given.{IsGivenCall}
-use Rattle.nr_machine.specs.States as machine
-use Rattle.nr_machine.specs.Machine.{next_state}
+use Rattle.nr_core.specs.declared.calls.WriterCall.{WriterCall}
+use Rattle.nr_core.specs.declared.calls.WriterCall.TheVariants as calls
+use Rattle.nr_core.specs.Given.{IsGivenCall}
+use Rattle.nr_core.specs.States as machine
+use Rattle.nr_core.specs.Machine.{next_state}
 use Rattle.nr_core.proofs.Reach.{all_keep_shape}
 use Rattle.nr_core.specs.Laws.{AllGiven}
-use Rattle.nr_machine.specs.Slots.{bound_of}
+use Rattle.nr_core.specs.Slots.{bound_of}
 use Rattle.nr_schedule.specs.declared.command.Command.{Command}
 use Rattle.nr_schedule.specs.declared.command.Command.TheVariants as commands
 use Rattle.nr_schedule.specs.Commands.{schedule_command, one_number, two_numbers, alone, by_writer}
@@ -25,7 +25,7 @@ use Rattle.nr_text.specs.Grammar.{within, words, number, row, delta, each, set_o
 use Rattle.nr_text.specs.Grammar.{updating}
 use Rattle.nr_text.specs.Opening.{opening_of_words, is_in_limits, shape_of_opening}
 use Rattle.nr_text.specs.declared.opening.Opening.{Opening}
-use Rattle.nr_machine.specs.Sizes.{IsShape}
+use Rattle.nr_core.specs.Sizes.{IsShape}
 use Rattle.nr_schedule.specs.Machine.{schedule_reply, answer_schedule_command}
 use Rattle.nr_schedule.specs.Opened.{number_now, opened_schedule, start_with}
 use Rattle.nr_schedule.specs.ScheduleRuns.{event_with, event_of, event_if, line_event, events, ScheduleRuns}

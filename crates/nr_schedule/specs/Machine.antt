@@ -1,6 +1,6 @@
 -- A schedule from its first line on: closed until it is opened; its reply to each line, and its text.
 use Rattle.std.specs.Prelude.{ℕ, if◌then◌else◌, Bool, false, List, Option, None, Some, Result, Ok, Err}
-use Rattle.nr_machine.specs.States as machine
+use Rattle.nr_core.specs.States as machine
 use Rattle.nr_lines.specs.Dialogue.{answer_command, in_words}
 use Rattle.nr_lines.specs.Plain.{or_bad}
 use Rattle.nr_lines.specs.Text.{text}

@@ -1,15 +1,15 @@
 -- An opened schedule: what each command does to the step machine, and what it is answered.
 use Rattle.std.specs.Prelude.{ℕ, ◌≤◌, if◌then◌else◌, List, Option, None, Some, Result, Ok, Err}
 use Rattle.nr_model.specs.declared.rows.Row.{Row}
-use Rattle.nr_machine.specs.declared.shape.Shape.{Shape}
-use Rattle.nr_machine.specs.declared.calls.Refusal.{Refusal}
-use Rattle.nr_machine.specs.declared.calls.WriterCall.{WriterCall}
-use Rattle.nr_machine.specs.declared.calls.WriterCall.TheVariants as calls
-use Rattle.nr_machine.specs.Refusals.{has_key}
-use Rattle.nr_machine.specs.States as machine
-use Rattle.nr_machine.specs.States.{number_at}
-use Rattle.nr_machine.specs.Machine.{next_state, arrive_answer, read_answer, depart_answer, ask_answer}
-use Rattle.nr_machine.specs.Machine.{find_again_answer, start_answer, go_answer}
+use Rattle.nr_core.specs.declared.shape.Shape.{Shape}
+use Rattle.nr_core.specs.declared.calls.Refusal.{Refusal}
+use Rattle.nr_core.specs.declared.calls.WriterCall.{WriterCall}
+use Rattle.nr_core.specs.declared.calls.WriterCall.TheVariants as calls
+use Rattle.nr_core.specs.Refusals.{has_key}
+use Rattle.nr_core.specs.States as machine
+use Rattle.nr_core.specs.States.{number_at}
+use Rattle.nr_core.specs.Machine.{next_state, arrive_answer, read_answer, depart_answer, ask_answer}
+use Rattle.nr_core.specs.Machine.{find_again_answer, start_answer, go_answer}
 use Rattle.nr_text.specs.Opening.{shape_of_opening}
 use Rattle.nr_text.specs.Grammar.{within}
 use Rattle.nr_text.specs.declared.limits.TheConstants.{MAX_KEYS, MAX_READERS}

@@ -1,12 +1,12 @@
 -- Schedules as runs of the step machine: the events that their lines spell, and the law that ties the two.
 use Rattle.std.specs.Prelude.{ℕ, ◌≡◌, true, if◌then◌else◌, fold, List, [], ◌∷◌, ◌++◌, Option, None, Some}
 use Rattle.nr_model.specs.declared.rows.Row.{Row}
-use Rattle.nr_machine.specs.declared.calls.WriterCall.{WriterCall}
-use Rattle.nr_machine.specs.declared.calls.WriterCall.TheVariants as calls
-use Rattle.nr_machine.specs.States.{State, Event, Arrive, Read, Depart, Ask, FindAgain, Start, Go}
-use Rattle.nr_machine.specs.Machine.{next_state, run}
-use Rattle.nr_machine.specs.Slots.{bound_of}
-use Rattle.nr_machine.specs.Sizes.{IsShape}
+use Rattle.nr_core.specs.declared.calls.WriterCall.{WriterCall}
+use Rattle.nr_core.specs.declared.calls.WriterCall.TheVariants as calls
+use Rattle.nr_core.specs.States.{State, Event, Arrive, Read, Depart, Ask, FindAgain, Start, Go}
+use Rattle.nr_core.specs.Machine.{next_state, run}
+use Rattle.nr_core.specs.Slots.{bound_of}
+use Rattle.nr_core.specs.Sizes.{IsShape}
 use Rattle.nr_core.specs.Laws.{AllGiven}
 use Rattle.nr_text.specs.declared.opening.Opening.{Opening}
 use Rattle.nr_schedule.specs.declared.command.Command.{Command}

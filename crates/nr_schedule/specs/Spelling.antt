@@ -1,15 +1,15 @@
 -- How the answers to a schedule's lines are spelled.
 use Rattle.std.specs.Prelude.{ℕ, Bool, true, false, List, ◌∷◌, ◌++◌, codes, Result, Ok, Err}
 use Rattle.std.specs.Fmt.{decimal}
-use Rattle.nr_machine.specs.declared.calls.Arrived.{Arrived}
-use Rattle.nr_machine.specs.declared.calls.Arrived.TheVariants as arrived
-use Rattle.nr_machine.specs.declared.calls.AskReply.{AskReply}
-use Rattle.nr_machine.specs.declared.calls.AskReply.TheVariants as asked
-use Rattle.nr_machine.specs.declared.calls.Step.{Step}
-use Rattle.nr_machine.specs.declared.calls.Step.TheVariants.{Going, Ended}
-use Rattle.nr_machine.specs.declared.calls.WReply.TheVariants as ended
-use Rattle.nr_machine.specs.declared.calls.Refusal.{Refusal}
-use Rattle.nr_machine.specs.declared.calls.Refusal.TheVariants.{Holding, NotHolding, Busy, NotBusy, OutOfRange}
+use Rattle.nr_core.specs.declared.calls.Arrived.{Arrived}
+use Rattle.nr_core.specs.declared.calls.Arrived.TheVariants as arrived
+use Rattle.nr_core.specs.declared.calls.AskReply.{AskReply}
+use Rattle.nr_core.specs.declared.calls.AskReply.TheVariants as asked
+use Rattle.nr_core.specs.declared.calls.Step.{Step}
+use Rattle.nr_core.specs.declared.calls.Step.TheVariants.{Going, Ended}
+use Rattle.nr_core.specs.declared.calls.WReply.TheVariants as ended
+use Rattle.nr_core.specs.declared.calls.Refusal.{Refusal}
+use Rattle.nr_core.specs.declared.calls.Refusal.TheVariants.{Holding, NotHolding, Busy, NotBusy, OutOfRange}
 use Rattle.nr_schedule.specs.declared.answer.StepAnswer.{StepAnswer}
 use Rattle.nr_schedule.specs.declared.answer.StepAnswer.TheVariants as answer
 use Rattle.nr_schedule.specs.declared.answer.StepRefusal.{StepRefusal}

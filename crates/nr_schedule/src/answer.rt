@@ -13,7 +13,7 @@ pub(crate) struct WriterStep<'a> {
 }
 
 impl<'a> Model for WriterStep<'a> {
-    ghost use Rattle.nr_machine.specs.declared.calls.Step.{Step};
+    ghost use Rattle.nr_core.specs.declared.calls.Step.{Step};
 
     ghost Value = { Step };
 

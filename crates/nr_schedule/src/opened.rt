@@ -1,10 +1,10 @@
 //! A schedule's machine once it is opened: the step machine, for numbers of any size.
 ghost use Rattle.std.specs.Prelude.{◌≡◌, true, false, IfOk, IfErr, MatchOption};
 ghost use Rattle.nr_model.specs.Maps.{SetFits};
-ghost use Rattle.nr_machine.specs.Story.{call_of};
-ghost use Rattle.nr_machine.specs.Machine.{next_state, arrive_answer, read_answer, depart_answer, ask_answer, find_again_answer, go_answer};
-ghost use Rattle.nr_machine.specs.declared.calls.WriterCall.TheVariants as calls;
-ghost use Rattle.nr_machine.specs.Refusals.{has_reader, has_key};
+ghost use Rattle.nr_core.specs.Story.{call_of};
+ghost use Rattle.nr_core.specs.Machine.{next_state, arrive_answer, read_answer, depart_answer, ask_answer, find_again_answer, go_answer};
+ghost use Rattle.nr_core.specs.declared.calls.WriterCall.TheVariants as calls;
+ghost use Rattle.nr_core.specs.Refusals.{has_reader, has_key};
 ghost use Rattle.nr_text.specs.Grammar.{within};
 ghost use Rattle.nr_text.specs.Opening.{is_in_limits};
 ghost use Rattle.nr_schedule.specs.Opened.{answer_opened_schedule, by_machine, number_now, start, start_with, opened_schedule};
@@ -26,7 +26,7 @@ pub(crate) struct Opened {
 }
 
 impl Model for Opened {
-    ghost use Rattle.nr_machine.specs.States.{State};
+    ghost use Rattle.nr_core.specs.States.{State};
     ghost use Rattle.std.specs.Prelude.{◌≡◌};
     ghost use Rattle.nr_schedule.specs.Opened.{IsLimited};
 
@@ -38,7 +38,7 @@ impl Model for Opened {
 }
 
 impl Opened {
-    ghost use Rattle.nr_machine.specs.States as machine;
+    ghost use Rattle.nr_core.specs.States as machine;
 
     /// The machine that an opening within the limits opens.
     pub(crate) fn open(alloc: Global, opening: &Opening) -> Result<Opened, AllocError>

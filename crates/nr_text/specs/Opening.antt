@@ -2,7 +2,7 @@
 use Rattle.std.specs.Prelude.{ℕ, ◌&&◌, nat_lt, nat_le, Bool, List, [], ◌∷◌, Option, Some, None, option_and_then}
 use Rattle.std.specs.Prelude.{option_map}
 use Rattle.nr_model.specs.declared.rows.TheConstants.{DEFAULT_ROWS}
-use Rattle.nr_machine.specs.declared.shape.Shape.{Shape}
+use Rattle.nr_core.specs.declared.shape.Shape.{Shape}
 use Rattle.nr_text.specs.declared.limits.TheConstants.{MAX_KEYS, MAX_NUMBER, MAX_READERS, MAX_ROWS, MAX_SLOTS}
 use Rattle.nr_text.specs.declared.opening.Opening.{Opening}
 use Rattle.nr_text.specs.Grammar.{number}

@@ -1,10 +1,10 @@
 //! What an opening line asks for.
 ghost use Rattle.std.specs.Prelude.{◌≡◌, true};
-ghost use Rattle.nr_machine.specs.Sizes.{IsBadShape};
+ghost use Rattle.nr_core.specs.Sizes.{IsBadShape};
 
 use crate::limits::{MAX_KEYS, MAX_NUMBER, MAX_READERS, MAX_ROWS, MAX_SLOTS};
 use crate::words::{Words, number};
-use nr_machine::Shape;
+use nr_core::Shape;
 use nr_model::DEFAULT_ROWS;
 
 /// How many keys, slots and readers a map is to have, the count at which each slot starts, the

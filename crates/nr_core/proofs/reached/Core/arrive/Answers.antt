@@ -1,6 +1,6 @@
-use Rattle.nr_machine.specs.States.{Arrive}
+use Rattle.nr_core.specs.States.{Arrive}
 use Rattle.nr_core.proofs.Reach.{has_room, leads_on}
-use Rattle.nr_machine.specs.Parts.{machine_state}
+use Rattle.nr_core.specs.Parts.{machine_state}
 use Rattle.nr_core.proofs.reached.Core.arrive.Goals as goal
 
 pub arrive-requires : goal.arrive-requires

@@ -1,6 +1,6 @@
-use Rattle.nr_machine.specs.States.{Ask}
+use Rattle.nr_core.specs.States.{Ask}
 use Rattle.nr_core.proofs.Reach.{has_room, leads_on}
-use Rattle.nr_machine.specs.Parts.{machine_state}
+use Rattle.nr_core.specs.Parts.{machine_state}
 use Rattle.nr_core.proofs.reached.Core.ask.Goals as goal
 
 pub ask-requires : goal.ask-requires

@@ -1,6 +1,6 @@
-use Rattle.nr_machine.specs.States.{Depart}
+use Rattle.nr_core.specs.States.{Depart}
 use Rattle.nr_core.proofs.Reach.{has_room, leads_on}
-use Rattle.nr_machine.specs.Parts.{machine_state}
+use Rattle.nr_core.specs.Parts.{machine_state}
 use Rattle.nr_core.proofs.reached.Core.depart.Goals as goal
 
 pub depart-requires : goal.depart-requires

@@ -1,6 +1,6 @@
-use Rattle.nr_machine.specs.States.{FindAgain}
+use Rattle.nr_core.specs.States.{FindAgain}
 use Rattle.nr_core.proofs.Reach.{has_room, leads_on}
-use Rattle.nr_machine.specs.Parts.{machine_state}
+use Rattle.nr_core.specs.Parts.{machine_state}
 use Rattle.nr_core.proofs.reached.Core.find_again.Goals as goal
 
 pub find_again-requires : goal.find_again-requires

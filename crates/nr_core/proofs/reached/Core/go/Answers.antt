@@ -1,5 +1,5 @@
-use Rattle.nr_machine.specs.Parts.{machine_state}
-use Rattle.nr_machine.specs.States.{Go}
+use Rattle.nr_core.specs.Parts.{machine_state}
+use Rattle.nr_core.specs.States.{Go}
 use Rattle.nr_core.proofs.Reach.{has_room, leads_on}
 use Rattle.nr_core.proofs.reached.Core.go.Goals as goal
 

@@ -3,9 +3,9 @@ use Rattle.std.specs.Prelude.{Some, option_map}
 use Rattle.nr_model.specs.Maps.{number_of}
 use Rattle.nr_model.specs.declared.states.KeyState.{KeyState}
 use Rattle.nr_core.proofs.Reach.{has_room, number_shown}
-use Rattle.nr_machine.specs.States.{State}
-use Rattle.nr_machine.specs.Story.{shown}
-use Rattle.nr_machine.specs.Parts.{machine_state}
+use Rattle.nr_core.specs.States.{State}
+use Rattle.nr_core.specs.Story.{shown}
+use Rattle.nr_core.specs.Parts.{machine_state}
 use Rattle.nr_core.proofs.reached.Core.number.Goals as goal
 
 pub number-requires-clause-listed : goal.number-requires-clause-listed

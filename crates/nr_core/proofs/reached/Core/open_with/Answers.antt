@@ -1,9 +1,9 @@
 use Rattle.std.proofs.Common.{◌≡◌, rules, subst, sym}
 use Rattle.nr_core.proofs.Shapes.{opening_reached}
-use Rattle.nr_machine.specs.Parts.{machine_state}
+use Rattle.nr_core.specs.Parts.{machine_state}
 use Rattle.nr_core.specs.Reach.{Reached}
-use Rattle.nr_machine.specs.Sizes.{IsBadShape}
-use Rattle.nr_machine.specs.States.{State, opening_state}
+use Rattle.nr_core.specs.Sizes.{IsBadShape}
+use Rattle.nr_core.specs.States.{State, opening_state}
 use Rattle.nr_core.proofs.reached.Core.open_with.Goals as goal
 
 pub invariant_of-result : goal.invariant_of-result

@@ -1,6 +1,6 @@
-use Rattle.nr_machine.specs.States.{Read}
+use Rattle.nr_core.specs.States.{Read}
 use Rattle.nr_core.proofs.Reach.{has_room, leads_on}
-use Rattle.nr_machine.specs.Parts.{machine_state}
+use Rattle.nr_core.specs.Parts.{machine_state}
 use Rattle.nr_core.proofs.reached.Core.read.Goals as goal
 
 pub read-requires : goal.read-requires

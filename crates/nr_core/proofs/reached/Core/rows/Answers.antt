@@ -1,4 +1,4 @@
-use Rattle.nr_machine.specs.Parts.{machine_state}
+use Rattle.nr_core.specs.Parts.{machine_state}
 use Rattle.nr_core.proofs.Reach.{has_room}
 use Rattle.nr_core.proofs.reached.Core.rows.Goals as goal
 

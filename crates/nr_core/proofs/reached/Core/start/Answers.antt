@@ -1,6 +1,6 @@
 use Rattle.std.proofs.Common.{[], rules}
-use Rattle.nr_machine.specs.Parts.{machine_state}
-use Rattle.nr_machine.specs.States.{Start}
+use Rattle.nr_core.specs.Parts.{machine_state}
+use Rattle.nr_core.specs.States.{Start}
 use Rattle.nr_core.proofs.Reach.{has_room, leads_on}
 use Rattle.nr_core.proofs.reached.Core.start.Goals as goal
 

@@ -1,0 +1,30 @@
+-- What the writer keeps beside the words: the slots that no key names, those that were never taken and the retired
+-- ones, the number of each key, and which slots were reaped.
+use Rattle.std.specs.Prelude.{◌≡◌, ℕ, ◌+◌, ◌-◌, ◌<◌, ◌≤◌, Bool, List, [], ◌∷◌, length, Option, Some, None}
+use Rattle.nr_core.specs.declared.calls.NoSlot.{NoSlot}
+use Rattle.nr_core.specs.declared.places.Retired.{Retired}
+
+-- of that many slots those from `fresh` on were never taken; the retired ones, oldest first
+pub record Spare : Type 0 where
+  pub slots : ℕ
+  pub fresh : ℕ
+  pub retired : List Retired
+  -- the number of each key
+  pub numbers : List ℕ
+  -- for each slot whether the set in it was given out already
+  pub reaped : List Bool
+
+-- every slot is retired, or named by a key
+abbrev pub none_spare : Spare → NoSlot
+none_spare spare = record { live = spare.slots - length spare.retired; held = length spare.retired }
+
+-- the next slot that was never taken, if there is one
+abbrev pub TakesFresh : Spare → Spare → Option ℕ → Type 0
+TakesFresh old new (Some slot) =
+    (old.fresh < old.slots) × (slot ≡ old.fresh) × (new ≡ record old { fresh = old.fresh + 1 })
+TakesFresh old new None = (old.slots ≤ old.fresh) × (new ≡ old)
+
+-- the oldest retired slot, if there is one
+abbrev pub TakesOldest : Spare → Spare → Option Retired → Type 0
+TakesOldest old new (Some oldest) = old ≡ record new { retired = oldest ∷ new.retired }
+TakesOldest old new None = (old.retired ≡ []) × (new ≡ old)
