@@ -3,9 +3,9 @@ use Rattle.std.proofs.Common.{◌≡◌, ◌∙◌, ℕ, ◌+◌, ◌*◌, ◌^�
 use Rattle.std.proofs.lemmas.Nat.{mul-le}
 use Rattle.nr_words.specs.Places.{slot_words, total_of}
 use Rattle.nr_core.proofs.WordPlaces.{content_inside, departures_inside}
-use Rattle.nr_machine.specs.Sizes.{IsShape}
-use Rattle.nr_machine.specs.Slots.{content, departures, layout, slot_room}
-use Rattle.nr_machine.specs.declared.shape.Shape.{Shape}
+use Rattle.nr_core.specs.Sizes.{IsShape}
+use Rattle.nr_core.specs.Slots.{content, departures, layout, slot_room}
+use Rattle.nr_core.specs.declared.shape.Shape.{Shape}
 use Rattle.nr_board.specs.Announcing.{says_at}
 use Rattle.nr_board.specs.Callers.{Table}
 

@@ -14,18 +14,18 @@ use Rattle.nr_model.specs.Maps.{PartialMap, call_key, number_of, replace_reply, 
 use Rattle.nr_model.specs.Maps.{state_of}
 use Rattle.nr_model.specs.Rows.{IsRowSet}
 use Rattle.nr_words.specs.SetWords.{decode}
-use Rattle.nr_machine.specs.declared.calls.Step.{Step}
-use Rattle.nr_machine.specs.declared.calls.Step.TheVariants.{Ended, Going}
-use Rattle.nr_machine.specs.declared.calls.WReply.TheVariants as writer
-use Rattle.nr_machine.specs.declared.calls.WriterCall.{WriterCall}
-use Rattle.nr_machine.specs.declared.calls.WriterCall.TheVariants.{Find, Fill, Update, Replace, Evict, Cancel}
-use Rattle.nr_machine.specs.declared.places.Place.TheVariants.{Reading}
-use Rattle.nr_machine.specs.declared.roles.Desk.{Desk}
-use Rattle.nr_machine.specs.declared.shape.Shape.{Shape}
-use Rattle.nr_machine.specs.Given.{IsGivenCall}
-use Rattle.nr_machine.specs.Slots.{bound_of}
-use Rattle.nr_machine.specs.Story.{call_of, ending}
-use Rattle.nr_machine.specs.Writer.{decided, decoded, moved_to, read_on}
+use Rattle.nr_core.specs.declared.calls.Step.{Step}
+use Rattle.nr_core.specs.declared.calls.Step.TheVariants.{Ended, Going}
+use Rattle.nr_core.specs.declared.calls.WReply.TheVariants as writer
+use Rattle.nr_core.specs.declared.calls.WriterCall.{WriterCall}
+use Rattle.nr_core.specs.declared.calls.WriterCall.TheVariants.{Find, Fill, Update, Replace, Evict, Cancel}
+use Rattle.nr_core.specs.declared.places.Place.TheVariants.{Reading}
+use Rattle.nr_core.specs.declared.roles.Desk.{Desk}
+use Rattle.nr_core.specs.declared.shape.Shape.{Shape}
+use Rattle.nr_core.specs.Given.{IsGivenCall}
+use Rattle.nr_core.specs.Slots.{bound_of}
+use Rattle.nr_core.specs.Story.{call_of, ending}
+use Rattle.nr_core.specs.Writer.{decided, decoded, moved_to, read_on}
 use Rattle.nr_core.specs.Core.{Wants}
 use Rattle.nr_board.specs.Entries.{AreCallers}
 use Rattle.nr_board.specs.NamedRows.{rows_of_state}

@@ -14,8 +14,8 @@ use Rattle.atomic_table.proofs.Lists.{set_else}
 use Rattle.nr_core.proofs.Sums.{at_set, at_snoc, here_after, total-append, total-set}
 use Rattle.nr_core.proofs.WordPlaces.{departures_inside, same_departures}
 use Rattle.nr_core.specs.Roles.{holds, is_by}
-use Rattle.nr_machine.specs.Slots.{departures, layout}
-use Rattle.nr_machine.specs.declared.shape.Shape.{Shape}
+use Rattle.nr_core.specs.Slots.{departures, layout}
+use Rattle.nr_core.specs.declared.shape.Shape.{Shape}
 use Rattle.nr_board.specs.Announcing.{Announces, Counted, HasNoReader, IsNoCount, lends, lent, says_at}
 use Rattle.nr_core.proofs.ListPlaces.{at_left}
 use Rattle.nr_board.specs.Views.{View}

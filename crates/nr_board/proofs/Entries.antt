@@ -1,7 +1,7 @@
 -- Whose entries a history has.
 use Rattle.std.proofs.Common.{◌≡◌, ◌≢◌, ℕ, ◌<◌, Bool, cond, List, [], ◌∷◌, ◌++◌, ⊎_elim, ap, refl, arith, ne_eqb, ◌∙◌}
 use Rattle.nr_model.specs.Histories.{Entry, entries_of}
-use Rattle.nr_machine.specs.declared.shape.Shape.{Shape}
+use Rattle.nr_core.specs.declared.shape.Shape.{Shape}
 use Rattle.nr_board.specs.Entries.{AreCallers}
 
 pub callers_both : (shape : Shape) (log entries : List Entry) → AreCallers shape log → AreCallers shape entries

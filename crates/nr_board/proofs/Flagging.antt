@@ -9,9 +9,9 @@ use native.Mathlib.Decide.{ℕ_discrete}
 use Rattle.nr_core.proofs.Choices.{by_cases}
 use Rattle.nr_core.proofs.Sums.{only-other, total-append, total-remove}
 use Rattle.nr_core.specs.Roles.{retirements}
-use Rattle.nr_machine.specs.Spares.{Spare}
-use Rattle.nr_machine.specs.Sums.{only}
-use Rattle.nr_machine.specs.declared.places.Retired.{Retired}
+use Rattle.nr_core.specs.Spares.{Spare}
+use Rattle.nr_core.specs.Sums.{only}
+use Rattle.nr_core.specs.declared.places.Retired.{Retired}
 use Rattle.nr_board.proofs.Heard.{zero_at}
 use Rattle.nr_board.proofs.ScannedWords.{flag_elsewhere}
 use Rattle.nr_core.specs.Marks.{LoggedLoad}

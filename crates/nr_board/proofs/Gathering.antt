@@ -6,12 +6,12 @@ use lib.ListN.{get_elem?}
 use Rattle.atomic_table.specs.Seated.{TableId}
 use Rattle.nr_model.specs.Histories.{Entry, entries_of}
 use Rattle.nr_core.proofs.Histories.{of-append}
-use Rattle.nr_machine.specs.declared.places.Place.TheVariants.{Idle}
-use Rattle.nr_machine.specs.declared.places.Retired.{Retired}
-use Rattle.nr_machine.specs.declared.roles.Desk.{Desk}
-use Rattle.nr_machine.specs.declared.roles.Grip.{Grip}
-use Rattle.nr_machine.specs.declared.roles.Role.TheVariants.{Reader, Writer}
-use Rattle.nr_machine.specs.declared.shape.Shape.{Shape}
+use Rattle.nr_core.specs.declared.places.Place.TheVariants.{Idle}
+use Rattle.nr_core.specs.declared.places.Retired.{Retired}
+use Rattle.nr_core.specs.declared.roles.Desk.{Desk}
+use Rattle.nr_core.specs.declared.roles.Grip.{Grip}
+use Rattle.nr_core.specs.declared.roles.Role.TheVariants.{Reader, Writer}
+use Rattle.nr_core.specs.declared.shape.Shape.{Shape}
 use Rattle.nr_core.proofs.ExactPlace.{gathered_is_known}
 use Rattle.nr_core.proofs.ListPlaces.{at_left}
 use Rattle.nr_core.specs.Exact.{Lists}
@@ -25,7 +25,7 @@ use Rattle.nr_board.specs.Notes.{has_noted, note_of, told_by_note}
 use Rattle.nr_board.specs.Rule.{StartsWith}
 use Rattle.nr_board.specs.Views.{View, desk_of, grip_of, caller_number}
 use Rattle.nr_core.specs.Core.{AreNumbers}
-use Rattle.nr_machine.specs.Story.{map_after}
+use Rattle.nr_core.specs.Story.{map_after}
 
 -- a history that begins with what a caller has seen has that caller's calls
 pub begins_with_calls : (log : List Entry) (caller : Caller) → KnowsOwn caller → StartsWith log caller.seen

@@ -3,8 +3,8 @@ use Rattle.std.proofs.Common.{List, [], ap, get_or, set, subst, sym, ℕ, ◌<�
 use lib.Seq.{set-get_or, set-set, set_comm}
 use Rattle.atomic_table.proofs.Lists.{set_else}
 use Rattle.nr_core.proofs.Sums.{here_after}
-use Rattle.nr_machine.specs.declared.roles.Role.TheVariants.{Note}
-use Rattle.nr_machine.specs.declared.shape.Shape.{Shape}
+use Rattle.nr_core.specs.declared.roles.Role.TheVariants.{Note}
+use Rattle.nr_core.specs.declared.shape.Shape.{Shape}
 use Rattle.nr_board.proofs.Learning.{can_learn}
 use Rattle.nr_board.proofs.Notes.{takes_so}
 use Rattle.nr_board.specs.Learning.{has_heard}

@@ -7,11 +7,11 @@ use Rattle.nr_model.specs.declared.calls.Call.{Call}
 use Rattle.nr_model.specs.declared.calls.Call.TheVariants as model
 use Rattle.nr_model.specs.declared.calls.Reply.{Reply}
 use Rattle.nr_model.specs.declared.calls.Reply.TheVariants as reply
-use Rattle.nr_machine.specs.Slots.{name_number, names_slot}
-use Rattle.nr_machine.specs.Story.{entry}
+use Rattle.nr_core.specs.Slots.{name_number, names_slot}
+use Rattle.nr_core.specs.Story.{entry}
 use Rattle.nr_words.specs.KeyWords.{is_filled, slot_of}
-use Rattle.nr_machine.specs.declared.roles.Role.{Role}
-use Rattle.nr_machine.specs.declared.shape.Shape.{Shape}
+use Rattle.nr_core.specs.declared.roles.Role.{Role}
+use Rattle.nr_core.specs.declared.shape.Shape.{Shape}
 use Rattle.std.proofs.lemmas.Bool.{lt-ltb}
 use Rattle.nr_core.specs.Marks.{Marks, OfKey, acted, with_loads, with_look}
 use Rattle.nr_core.specs.Puts.{put_number}

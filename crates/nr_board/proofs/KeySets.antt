@@ -11,13 +11,13 @@ use Rattle.nr_model.specs.declared.states.KeyState.TheVariants as states
 use Rattle.nr_model.specs.Histories.{Entry, after, entries_of}
 use Rattle.nr_model.specs.Maps.{call_key, state_after, state_of}
 use Rattle.nr_core.proofs.Histories.{of-append, state_other, state_same}
-use Rattle.nr_machine.specs.Story.{map_after}
-use Rattle.nr_machine.specs.declared.shape.Shape.{Shape}
+use Rattle.nr_core.specs.Story.{map_after}
+use Rattle.nr_core.specs.declared.shape.Shape.{Shape}
 use Rattle.nr_board.proofs.Entries.{callers_before, callers_of_more}
 use Rattle.nr_board.specs.WriterAnswers.{KeyHad}
 use Rattle.nr_board.specs.Callers.{Caller, Grows, KnowsOwn, Table, map_at_opening}
 use Rattle.nr_board.specs.Entries.{AreCallers, IsCallers, is_reading}
-use Rattle.nr_machine.specs.Slots.{bound_of}
+use Rattle.nr_core.specs.Slots.{bound_of}
 
 -- a find or a request leaves a filled key
 reading_leaves : (bound : ℕ) (call : Call) (number : ℕ) (rows : List Row) → is_reading call ≡ true

@@ -10,13 +10,13 @@ use Rattle.nr_words.specs.KeyWords.{has_ask, is_filled}
 use Rattle.nr_core.proofs.KeyWords.{names_none, names_one}
 use Rattle.nr_core.proofs.Learn.{learns}
 use Rattle.nr_core.specs.Core.{ShowsState, AreNumbers}
-use Rattle.nr_machine.specs.declared.operation.Operation.TheVariants.{Load}
+use Rattle.nr_core.specs.declared.operation.Operation.TheVariants.{Load}
 use Rattle.nr_core.specs.Roles.{holds, is_by, is_reader, is_writer}
 use Rattle.nr_core.specs.Steps.{LoadsWord}
-use Rattle.nr_machine.specs.Story.{map_after, opening_map}
-use Rattle.nr_machine.specs.declared.roles.Role.{Role}
-use Rattle.nr_machine.specs.declared.roles.Role.TheVariants.{Note, Reader, Writer}
-use Rattle.nr_machine.specs.declared.shape.Shape.{Shape}
+use Rattle.nr_core.specs.Story.{map_after, opening_map}
+use Rattle.nr_core.specs.declared.roles.Role.{Role}
+use Rattle.nr_core.specs.declared.roles.Role.TheVariants.{Note, Reader, Writer}
+use Rattle.nr_core.specs.declared.shape.Shape.{Shape}
 use Rattle.nr_core.proofs.LearnMarks.{learns_reader, learns_writer}
 use Rattle.nr_core.specs.Exact.{Lists}
 use Rattle.nr_core.specs.MarkSteps.{ReaderLearns, WriterLearns}
@@ -35,7 +35,7 @@ use Rattle.nr_board.specs.declared.answers.KeyKind.TheVariants as kind
 use Rattle.nr_core.proofs.Sums.{here_after}
 use Rattle.atomic_table.proofs.Lists.{at_map}
 use mathlib.Core.Option.{some}
-use Rattle.nr_machine.specs.declared.roles.Desk.{Desk}
+use Rattle.nr_core.specs.declared.roles.Desk.{Desk}
 
 -- a caller's own entries are told by its number
 pub caller_is : (role : Role) → IsCaller role → is_by (caller_number role) role ≡ true

@@ -26,6 +26,8 @@ pub mod Shortage
 pub mod Brings
 pub mod WriterSteps
 pub mod Scanning
+pub mod PollNotes
+pub mod Keepers
 pub mod SearchSeats
 pub mod WordLoads
 pub mod ScannedWords
@@ -34,7 +36,6 @@ pub mod Passes
 pub mod Flagging
 pub mod RetiredSearch
 pub mod SearchSteps
-pub mod PollNotes
 pub mod Polled
 pub mod WriterSeats
 pub mod Searching

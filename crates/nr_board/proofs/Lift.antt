@@ -12,12 +12,12 @@ use Rattle.nr_core.proofs.Histories.{of-append}
 use Rattle.nr_core.proofs.Sums.{total-set, term_le, terms_le, at_set}
 use Rattle.nr_core.specs.Core.{Core}
 use Rattle.nr_core.specs.Roles.{holds, is_by, is_reader, is_writer}
-use Rattle.nr_machine.specs.Operations.{becomes, target_of}
-use Rattle.nr_machine.specs.declared.operation.Operation.{Operation}
+use Rattle.nr_core.specs.Operations.{becomes, target_of}
+use Rattle.nr_core.specs.declared.operation.Operation.{Operation}
 use Rattle.nr_core.specs.Steps.{CanStep, Stepped, Telling}
-use Rattle.nr_machine.specs.Sums.{total}
-use Rattle.nr_machine.specs.declared.roles.Role.{Role}
-use Rattle.nr_machine.specs.declared.shape.Shape.{Shape}
+use Rattle.nr_core.specs.Sums.{total}
+use Rattle.nr_core.specs.declared.roles.Role.{Role}
+use Rattle.nr_core.specs.declared.shape.Shape.{Shape}
 use Rattle.nr_core.proofs.Knowing.{knowing_step}
 use Rattle.nr_core.specs.Marked.{AllSince, CanMark, KnowsMarks, MarkTelling, Remarked}
 use Rattle.nr_core.specs.Marks.{Past}
@@ -27,10 +27,10 @@ use Rattle.nr_board.specs.Rule.{Fits, Kept, counts, marks_of, pasts_of, role_of,
 use Rattle.nr_board.specs.Views.{View}
 use Rattle.std.specs.Prelude.{nat_lt}
 use Rattle.nr_words.specs.Places.{total_of}
-use Rattle.nr_machine.specs.Slots.{content, departures, layout, slot_room}
+use Rattle.nr_core.specs.Slots.{content, departures, layout, slot_room}
 use Rattle.nr_core.proofs.WordPlaces.{content_apart}
 use Rattle.nr_board.specs.Announcing.{Announces, Counted, IsNoCount, lends, lent, says_at}
-use Rattle.nr_machine.specs.declared.roles.Role.TheVariants.{Note, Reader, Writer}
+use Rattle.nr_core.specs.declared.roles.Role.TheVariants.{Note, Reader, Writer}
 use Rattle.std.proofs.lemmas.Bool.{eqb-true}
 use Rattle.nr_board.proofs.Heard.{AllHear, HearsOn, hears_on, lent_heard}
 use Rattle.nr_board.proofs.Saying.{lent_few}

@@ -8,18 +8,18 @@ use Rattle.nr_model.specs.declared.rows.Row.{Row}
 use Rattle.nr_model.specs.Maps.{last_number}
 use Rattle.nr_words.specs.declared.key_words.KeyParts.{KeyParts}
 use Rattle.nr_words.specs.KeyWords.{has_ask, is_filled, parts_of, slot_of}
-use Rattle.nr_machine.specs.Story.{call_of}
-use Rattle.nr_machine.specs.Writer.{cancel_asked, ended, fill_asked, looked, moved_to, settled}
-use Rattle.nr_machine.specs.declared.calls.Step.{Step}
-use Rattle.nr_machine.specs.declared.calls.Step.TheVariants.{Going}
-use Rattle.nr_machine.specs.declared.calls.WriterCall.{WriterCall}
-use Rattle.nr_machine.specs.declared.calls.WriterCall.TheVariants.{Cancel, Evict, Fill, Find, Replace, Update}
-use Rattle.nr_machine.specs.declared.places.Place.TheVariants.{Idle, Leaving, Reading, Withdrawing}
-use Rattle.nr_machine.specs.declared.roles.Desk.{Desk}
-use Rattle.nr_machine.specs.declared.roles.Role.TheVariants.{Writer}
-use Rattle.nr_machine.specs.declared.shape.Shape.{Shape}
+use Rattle.nr_core.specs.Story.{call_of}
+use Rattle.nr_core.specs.Writer.{cancel_asked, ended, fill_asked, looked, moved_to, settled}
+use Rattle.nr_core.specs.declared.calls.Step.{Step}
+use Rattle.nr_core.specs.declared.calls.Step.TheVariants.{Going}
+use Rattle.nr_core.specs.declared.calls.WriterCall.{WriterCall}
+use Rattle.nr_core.specs.declared.calls.WriterCall.TheVariants.{Cancel, Evict, Fill, Find, Replace, Update}
+use Rattle.nr_core.specs.declared.places.Place.TheVariants.{Idle, Leaving, Reading, Withdrawing}
+use Rattle.nr_core.specs.declared.roles.Desk.{Desk}
+use Rattle.nr_core.specs.declared.roles.Role.TheVariants.{Writer}
+use Rattle.nr_core.specs.declared.shape.Shape.{Shape}
 use Rattle.nr_board.specs.Callers.{Table, token}
-use Rattle.nr_machine.specs.Spares.{Spare}
+use Rattle.nr_core.specs.Spares.{Spare}
 use Rattle.nr_board.specs.Spares.{desk_with}
 use Rattle.nr_core.specs.Marks.{with_polls}
 use Rattle.nr_board.specs.WriterSeats.{IsBetween, LeadsIn, MapSeat, RestsAt}

@@ -8,10 +8,10 @@ use Rattle.nr_model.specs.Histories.{Entry, IsLegal, entries_of}
 use Rattle.nr_core.proofs.Histories.{of-append}
 use Rattle.nr_core.proofs.Sums.{total-append}
 use Rattle.nr_core.specs.Roles.{is_by, is_reader, is_writer}
-use Rattle.nr_machine.specs.declared.operation.Operation.{Operation}
+use Rattle.nr_core.specs.declared.operation.Operation.{Operation}
 use Rattle.nr_core.specs.Steps.{Stepped, Telling}
-use Rattle.nr_machine.specs.declared.roles.Role.{Role}
-use Rattle.nr_machine.specs.declared.shape.Shape.{Shape}
+use Rattle.nr_core.specs.declared.roles.Role.{Role}
+use Rattle.nr_core.specs.declared.shape.Shape.{Shape}
 use Rattle.nr_board.specs.Plays.{Advances, Waits}
 use Rattle.nr_core.specs.Marked.{MarkTelling, Remarked}
 use Rattle.nr_core.specs.Marks.{Marks, Past, gripped}
@@ -22,7 +22,7 @@ use Rattle.nr_board.proofs.Entries.{callers_both}
 use Rattle.nr_board.specs.Entries.{AreCallers, acts_at, acts_told, to_depart}
 use Rattle.nr_board.specs.Announcing.{heard_after}
 use Rattle.nr_board.specs.Views.{View, grip_of, caller_number}
-use Rattle.nr_machine.specs.Story.{opening_map}
+use Rattle.nr_core.specs.Story.{opening_map}
 
 -- the view after a step that learns the history so far and adds entries; after one that learns nothing
 abbrev pub learned : View → Role → List Entry → List Entry → Marks → List Past → View

@@ -12,11 +12,11 @@ use Rattle.nr_core.proofs.Seat.{notes}
 use Rattle.nr_core.proofs.Sums.{at_set, at_snoc, here_after, set_again, total-append}
 use Rattle.nr_core.specs.Core.{Core}
 use Rattle.nr_core.specs.Roles.{holds, is_by, is_reader, is_writer}
-use Rattle.nr_machine.specs.Sums.{total}
-use Rattle.nr_machine.specs.declared.roles.Role.{Role}
-use Rattle.nr_machine.specs.declared.roles.Role.TheVariants.{Note, Writer}
-use Rattle.nr_machine.specs.declared.shape.Shape.{Shape}
-use Rattle.nr_machine.specs.Slots.{name_number}
+use Rattle.nr_core.specs.Sums.{total}
+use Rattle.nr_core.specs.declared.roles.Role.{Role}
+use Rattle.nr_core.specs.declared.roles.Role.TheVariants.{Note, Writer}
+use Rattle.nr_core.specs.declared.shape.Shape.{Shape}
+use Rattle.nr_core.specs.Slots.{name_number}
 use Rattle.nr_board.specs.Ahead.{after_look, ahead, has_loaded, has_looked_ahead}
 use Rattle.nr_board.proofs.Tokens.{MapSeat}
 use Rattle.nr_board.specs.Callers.{caller_of, token}

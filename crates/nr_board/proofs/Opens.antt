@@ -10,11 +10,11 @@ use Rattle.std.proofs.lemmas.List.{get_or-replicate}
 use Rattle.nr_core.proofs.Opening.{blank_at_opening, core_opens}
 use Rattle.nr_core.specs.Core.{AreNumbers, ShowsState}
 use Rattle.nr_core.specs.Roles.{is_by}
-use Rattle.nr_machine.specs.Sizes.{IsShape}
-use Rattle.nr_machine.specs.Slots.{departures, layout, name_number, words_at_opening}
+use Rattle.nr_core.specs.Sizes.{IsShape}
+use Rattle.nr_core.specs.Slots.{departures, layout, name_number, words_at_opening}
 use Rattle.nr_words.specs.Places.{total_of}
 use Rattle.nr_core.proofs.WordPlaces.{departures_inside}
-use Rattle.nr_machine.specs.declared.shape.Shape.{Shape}
+use Rattle.nr_core.specs.declared.shape.Shape.{Shape}
 use Rattle.nr_core.proofs.ListPlaces.{no_places}
 use Rattle.nr_core.proofs.SeatMarks.{opens_marked}
 use Rattle.nr_core.specs.Marked.{AllSince, Since}
@@ -22,9 +22,9 @@ use Rattle.nr_board.specs.Announcing.{Hears, says_at}
 use Rattle.nr_board.specs.declared.board.Plan.{Plan}
 use Rattle.nr_board.specs.Rule.{Fits, Kept, marks_of, role_of}
 use Rattle.nr_board.specs.Views.{View, opener}
-use Rattle.nr_machine.specs.States.{opening_desk}
-use Rattle.nr_machine.specs.Story.{map_after}
-use Rattle.nr_machine.specs.declared.roles.Role.TheVariants.{Writer}
+use Rattle.nr_core.specs.States.{opening_desk}
+use Rattle.nr_core.specs.Story.{map_after}
+use Rattle.nr_core.specs.declared.roles.Role.TheVariants.{Writer}
 
 only_one : {A : Type 0} (a : A) (j : ℕ) (b : A) → get_elem? (a ∷ []) j ≡ some b → a ≡ b
 only_one a zero b e = some-injective a b e

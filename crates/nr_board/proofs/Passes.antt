@@ -8,34 +8,36 @@ use mathlib.Core.Option.{some}
 use native.Mathlib.Decide.{ℕ_discrete}
 use lib.ListN.{get_elem?}
 use Rattle.nr_core.proofs.Sums.{at_snoc, only-is, only-le, only-other, some_term, total-append}
-use Rattle.nr_machine.specs.Spares.{Spare}
-use Rattle.nr_machine.specs.Sums.{only, total}
-use Rattle.nr_machine.specs.declared.places.Retired.{Retired}
-use Rattle.nr_machine.specs.declared.shape.Shape.{Shape}
+use Rattle.nr_core.specs.Spares.{Spare}
+use Rattle.nr_core.specs.Sums.{only, total}
+use Rattle.nr_core.specs.declared.places.Retired.{Retired}
+use Rattle.nr_core.specs.declared.shape.Shape.{Shape}
 use Rattle.nr_core.proofs.Different.{few_of}
 use Rattle.nr_core.specs.MarkSteps.{NotedNowhereElse, TryTells}
 use Rattle.nr_core.specs.Marks.{Marks, OfSlot, Past, LoggedLoad, with_poll, with_polls, with_scan}
-use Rattle.nr_board.proofs.PollNotes.{at_get}
+use Rattle.nr_board.proofs.Keepers.{adds_more, adds_none, adds_on, held_noted, held_within, starts_itself}
+use Rattle.nr_board.proofs.PollNotes.{at_get, is_retired, reached_here, reached_more, reached_none, reached_on}
 use Rattle.nr_board.proofs.SearchSeats.{there_is}
-use Rattle.nr_board.proofs.Searching.{grows_none}
+use Rattle.nr_board.proofs.Searching.{grows_from, grows_none}
 use Rattle.nr_board.proofs.Tokens.{grows_both, seat_grows}
-use Rattle.nr_board.proofs.ScannedWords.{is_retired}
 use Rattle.nr_board.proofs.WriterSteps.{same_desk}
 use Rattle.nr_board.specs.declared.publish.Taken.{Taken}
 use Rattle.nr_board.specs.Callers.{Grows, IsSound, Table, map_seen, token}
-use Rattle.nr_board.specs.Passes.{AreHeard, NotesOne, NotesTo, PassTakes, PassedTo, polls_before, unflagged}
+use Rattle.nr_board.specs.Passes.{AreHeard, NotesOne, NotesTo, PassTakes, PassedTo, PolledTo, polls_before, unflagged}
+use Rattle.nr_board.specs.Noting.{Adds}
+use Rattle.nr_board.specs.Polls.{HeldThen}
 use Rattle.nr_board.specs.Plays.{Room}
 use Rattle.nr_board.specs.SearchPlays.{Tried, tried}
 use Rattle.nr_board.specs.SearchSeats.{IsSearching, SearchesIn, TriesAt, TriesTo}
 use Rattle.nr_core.specs.Core.{AreNumbers}
 use Rattle.nr_board.proofs.WriterSeats.{numbers_seat}
 use Rattle.nr_board.specs.WriterSeats.{MapSeat, WritesAt}
-use Rattle.nr_machine.specs.States.{no_retired, retired_at}
-use Rattle.nr_machine.specs.Writer.{taking_retired}
-use Rattle.nr_machine.specs.declared.calls.WriterCall.{WriterCall}
-use Rattle.nr_machine.specs.declared.places.Place.TheVariants.{Searching}
-use Rattle.nr_machine.specs.declared.roles.Desk.{Desk}
-use Rattle.nr_machine.specs.declared.roles.Role.TheVariants.{Writer}
+use Rattle.nr_core.specs.States.{no_retired, retired_at}
+use Rattle.nr_core.specs.Writer.{taking_retired}
+use Rattle.nr_core.specs.declared.calls.WriterCall.{WriterCall}
+use Rattle.nr_core.specs.declared.places.Place.TheVariants.{Searching}
+use Rattle.nr_core.specs.declared.roles.Desk.{Desk}
+use Rattle.nr_core.specs.declared.roles.Role.TheVariants.{Writer}
 use Rattle.nr_model.specs.declared.rows.Row.{Row}
 use Rattle.nr_words.specs.KeyWords.{same_count}
 use Rattle.nr_board.specs.WholeScans.{is_unheard}
@@ -206,6 +208,9 @@ passed_none table spare flags seat search knows notes =
       search = search;
       grows = grows_none (token seat) knows;
       notes = notes;
+      kept =
+          adds_none (PolledTo spare.retired flags 0) (HeldThen seat.me.0.seen seat.me.0.seen) seat.me.0.marks.polls
+          (λ slot polled. reached_none spare.retired slot polled.0);
       heard = refl;
       marks = no_loads seat.me.0.marks seat.me.0.marks.polls;
     }
@@ -226,6 +231,9 @@ module _ (table : Table) (spare : Spare) (flags : List Bool) (before now : MapSe
   here_now : get_elem? so_far.search.search.desk.retired place ≡ some entry
   here_now = there_too so_far.search.search.desk spare place entry so_far.search.retired here
 
+  differ : true ≡ false → ⊥
+  differ e = absurd (cc)
+
   pub entry_inside : entry.slot < table.shape.slots
   entry_inside = so_far.search.search.room.inside place entry here_now
 
@@ -238,6 +246,15 @@ module _ (table : Table) (spare : Spare) (flags : List Bool) (before now : MapSe
     notes =
         notes_past spare.retired flags table.shape.readers place (length before.me.0.marks.polls) now.me.0.marks.polls
         low flagged so_far.notes;
+    kept =
+        adds_on (PolledTo spare.retired flags place) (PolledTo spare.retired flags (place + 1))
+        (HeldThen before.me.0.seen now.me.0.seen) (HeldThen before.me.0.seen now.me.0.seen) before.me.0.marks.polls
+        now.me.0.marks.polls
+        (λ slot polled. ⊎_elim (λ r. (r, polled.1))
+        (λ (e : slot ≡ entry.slot). absurd
+        (differ (sym flagged ∙ ap (is_unheard flags) (sym e) ∙ polled.1)))
+        (reached_more spare.retired place entry here slot polled.0))
+        (λ slot polled. (reached_on spare.retired place slot polled.0, polled.1)) (λ _ _ held. held) so_far.kept;
     heard = so_far.heard;
     marks =
         so_far.marks
@@ -266,6 +283,9 @@ module _ (table : Table) (spare : Spare) (flags : List Bool) (before now : MapSe
 
     told : Tried search_now.desk search_now.call search_now.rows place found now.me.0 next.me.0
     told = tells search_now.desk search_now.call search_now.rows place search_now.role search_now.place here_now
+
+    abbrev held_now : ℕ → Past → Type 0
+    held_now = HeldThen before.me.0.seen next.me.0.seen
 
     entry_is : entry ≡ retired_at search_now.desk place
     entry_is = there_is search_now.desk.retired place entry here_now
@@ -331,6 +351,24 @@ module _ (table : Table) (spare : Spare) (flags : List Bool) (before now : MapSe
               (there_too search_now.desk spare other b so_far.search.retired at_b))
               here so_far.notes
               noted.0 noted.2 noted.3 (let few = noted.4 in omega arith) noted.5);
+          kept =
+              subst (Adds (PolledTo spare.retired flags (place + 1)) held_now before.me.0.marks.polls) (sym polls)
+              (adds_more (PolledTo spare.retired flags place) (PolledTo spare.retired flags (place + 1)) held_now
+              before.me.0.marks.polls now.me.0.marks.polls entry.slot noted.0
+              (λ slot polled. ⊎_elim (λ r. inl (r, polled.1)) inr
+              (reached_more spare.retired place entry here slot polled.0))
+              (λ slot polled. (reached_on spare.retired place slot polled.0, polled.1))
+              (reached_here spare.retired place entry here, free)
+              (held_noted before.me.0.seen next.me.0.seen now.me.0.marks.polls next.me.0.marks.polls entry.slot
+              noted.0
+              (grows_from (polls_before spare.retired flags place + 1) (token before) [] (token next) grown)
+              told.notes polls noted.2)
+              (adds_on (PolledTo spare.retired flags place) (PolledTo spare.retired flags place)
+              (HeldThen before.me.0.seen now.me.0.seen) held_now before.me.0.marks.polls now.me.0.marks.polls
+              (λ _ polled. polled) (λ _ polled. polled)
+              (λ _ _ held. held_within starts_itself
+              (grows_from 1 (token now) [] (token next) (seat_grows now next [] same told.leads.advances)) held)
+              so_far.kept));
           heard = told.heard ∙ so_far.heard;
           marks =
               marks_are next.me.0.marks false

@@ -7,25 +7,25 @@ use Rattle.std.proofs.lemmas.List.{set-set}
 use Rattle.nr_model.specs.declared.calls.Reply.TheVariants as reply
 use Rattle.nr_model.specs.declared.rows.Row.{Row}
 use Rattle.nr_model.specs.Histories.{Entry, IsLegal}
-use Rattle.nr_machine.specs.Story.{call_of, ending}
-use Rattle.nr_machine.specs.Writer.{ended, moved_to, put_on, swapped, unnamed}
-use Rattle.nr_machine.specs.declared.calls.Step.{Step}
-use Rattle.nr_machine.specs.declared.calls.Step.TheVariants.{Going}
-use Rattle.nr_machine.specs.declared.calls.WriterCall.{WriterCall}
-use Rattle.nr_machine.specs.declared.places.Place.TheVariants.{Idle, Putting}
-use Rattle.nr_machine.specs.declared.roles.Desk.{Desk}
+use Rattle.nr_core.specs.Story.{call_of, ending}
+use Rattle.nr_core.specs.Writer.{ended, moved_to, put_on, swapped, unnamed}
+use Rattle.nr_core.specs.declared.calls.Step.{Step}
+use Rattle.nr_core.specs.declared.calls.Step.TheVariants.{Going}
+use Rattle.nr_core.specs.declared.calls.WriterCall.{WriterCall}
+use Rattle.nr_core.specs.declared.places.Place.TheVariants.{Idle, Putting}
+use Rattle.nr_core.specs.declared.roles.Desk.{Desk}
 use Rattle.nr_board.proofs.Tokens.{grows_both}
-use Rattle.nr_machine.specs.declared.roles.Role.TheVariants.{Writer}
+use Rattle.nr_core.specs.declared.roles.Role.TheVariants.{Writer}
 use Rattle.nr_board.specs.Callers.{Caller, Grows, Table, map_at_opening, token, IsSound}
 use Rattle.nr_board.specs.Entries.{AreCallers}
-use Rattle.nr_machine.specs.Spares.{Spare}
+use Rattle.nr_core.specs.Spares.{Spare}
 use Rattle.nr_board.specs.Spares.{AreFewSteps, TookBySearch, desk_with}
 use Rattle.nr_core.specs.Marks.{Marks, LoggedLoad, with_name, with_scan}
 use Rattle.nr_core.specs.MarkSteps.{PutsMarks}
 use Rattle.nr_board.specs.Plays.{SwapsOrPuts}
-use Rattle.nr_machine.specs.States.{key_of}
+use Rattle.nr_core.specs.States.{key_of}
 use Rattle.nr_board.specs.WriterSeats.{GoesOn, IsPutting, LeadsIn, MapSeat, PublishesSet, PutsTo, WritesAt}
-use Rattle.nr_machine.specs.Slots.{content}
+use Rattle.nr_core.specs.Slots.{content}
 use Rattle.nr_words.specs.SetWords.{encode}
 
 -- what the writer knows after a step is legal

@@ -14,15 +14,15 @@ use Rattle.nr_core.proofs.Choices.{by_cases}
 use Rattle.nr_core.proofs.KeyWords.{names_one}
 use Rattle.nr_core.proofs.WordPlaces.{same_content}
 use Rattle.nr_core.specs.Marks.{gripped, with_look}
-use Rattle.nr_machine.specs.Slots.{bound_of, content, name_number, names_slot}
+use Rattle.nr_core.specs.Slots.{bound_of, content, name_number, names_slot}
 use Rattle.nr_core.specs.Steps.{ask_word}
-use Rattle.nr_machine.specs.Story.{map_after}
+use Rattle.nr_core.specs.Story.{map_after}
 use Rattle.nr_core.specs.MarkSteps.{ComparesPuts, found_again}
 use Rattle.nr_core.specs.Puts.{put_number}
-use Rattle.nr_machine.specs.declared.roles.Grip.TheVariants.{Nothing, On}
-use Rattle.nr_machine.specs.declared.roles.Role.{Role}
-use Rattle.nr_machine.specs.declared.roles.Role.TheVariants.{Reader}
-use Rattle.nr_machine.specs.declared.shape.Shape.{Shape}
+use Rattle.nr_core.specs.declared.roles.Grip.TheVariants.{Nothing, On}
+use Rattle.nr_core.specs.declared.roles.Role.{Role}
+use Rattle.nr_core.specs.declared.roles.Role.TheVariants.{Reader}
+use Rattle.nr_core.specs.declared.shape.Shape.{Shape}
 use Rattle.nr_board.proofs.Tokens.{MapSeat, seat_grows, seat_rests}
 use Rattle.nr_board.specs.Callers.{Gains, Grows, Rests, Table, map_seen, token}
 use Rattle.nr_board.specs.Holds.{HeldAs, HoldsWhatItSays, slot_in}

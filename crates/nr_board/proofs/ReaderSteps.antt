@@ -22,15 +22,15 @@ use Rattle.nr_core.proofs.FindAgain.{finds_again}
 use Rattle.nr_core.proofs.KeyWords.{names_none, names_one}
 use Rattle.nr_core.proofs.Read.{reads}
 use Rattle.nr_core.specs.Roles.{holds, is_by, is_reader, is_writer}
-use Rattle.nr_machine.specs.declared.operation.Operation.TheVariants.{Add, Load, Or}
-use Rattle.nr_machine.specs.Slots.{content, departures, name_number, bound_of, names_slot, slot_room}
+use Rattle.nr_core.specs.declared.operation.Operation.TheVariants.{Add, Load, Or}
+use Rattle.nr_core.specs.Slots.{content, departures, name_number, bound_of, names_slot, slot_room}
 use Rattle.nr_core.specs.Steps.{Arrives, Asks, CanStep, Departs, FindsAgain, ReadsHeld, ask_word}
-use Rattle.nr_machine.specs.Story.{entry, map_after}
-use Rattle.nr_machine.specs.declared.roles.Grip.{Grip}
-use Rattle.nr_machine.specs.declared.roles.Grip.TheVariants.{Nothing, On}
-use Rattle.nr_machine.specs.declared.roles.Role.{Role}
-use Rattle.nr_machine.specs.declared.roles.Role.TheVariants.{Reader}
-use Rattle.nr_machine.specs.declared.shape.Shape.{Shape}
+use Rattle.nr_core.specs.Story.{entry, map_after}
+use Rattle.nr_core.specs.declared.roles.Grip.{Grip}
+use Rattle.nr_core.specs.declared.roles.Grip.TheVariants.{Nothing, On}
+use Rattle.nr_core.specs.declared.roles.Role.{Role}
+use Rattle.nr_core.specs.declared.roles.Role.TheVariants.{Reader}
+use Rattle.nr_core.specs.declared.shape.Shape.{Shape}
 use Rattle.nr_core.proofs.FindAgainMarks.{finds_again_marked}
 use Rattle.nr_core.proofs.ReaderMarks.{arrives_marked, asks_marked, departs_marked, reads_marked}
 use Rattle.nr_core.specs.MarkSteps.{ArrivesMarks, DepartsMarks, FindsAgainMarks, KeepsMarks, found_again}

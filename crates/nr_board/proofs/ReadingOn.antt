@@ -22,18 +22,18 @@ use Rattle.nr_words.specs.SetWords.{decode, encode}
 use Rattle.nr_core.proofs.Choices.{by_cases}
 use Rattle.nr_core.proofs.Histories.{state_same}
 use Rattle.nr_core.proofs.Sets.{set_back}
-use Rattle.nr_machine.specs.Slots.{content, bound_of}
-use Rattle.nr_machine.specs.States.{key_of}
-use Rattle.nr_machine.specs.Story.{call_of, ending, entry, map_after}
-use Rattle.nr_machine.specs.Writer.{decided, decoded, moved_to, no_slot, read_on, renewed, settled, taking_fresh, went}
-use Rattle.nr_machine.specs.declared.calls.Step.{Step}
-use Rattle.nr_machine.specs.declared.calls.Step.TheVariants.{Ended, Going}
-use Rattle.nr_machine.specs.declared.calls.WReply.TheVariants as writer
-use Rattle.nr_machine.specs.declared.calls.WriterCall.{WriterCall}
-use Rattle.nr_machine.specs.declared.calls.WriterCall.TheVariants.{Cancel, Evict, Fill, Find, Replace, Update}
-use Rattle.nr_machine.specs.declared.places.Place.TheVariants.{Idle, Reading, Searching}
-use Rattle.nr_machine.specs.declared.roles.Desk.{Desk}
-use Rattle.nr_machine.specs.declared.shape.Shape.{Shape}
+use Rattle.nr_core.specs.Slots.{content, bound_of}
+use Rattle.nr_core.specs.States.{key_of}
+use Rattle.nr_core.specs.Story.{call_of, ending, entry, map_after}
+use Rattle.nr_core.specs.Writer.{decided, decoded, moved_to, no_slot, read_on, renewed, settled, taking_fresh, went}
+use Rattle.nr_core.specs.declared.calls.Step.{Step}
+use Rattle.nr_core.specs.declared.calls.Step.TheVariants.{Ended, Going}
+use Rattle.nr_core.specs.declared.calls.WReply.TheVariants as writer
+use Rattle.nr_core.specs.declared.calls.WriterCall.{WriterCall}
+use Rattle.nr_core.specs.declared.calls.WriterCall.TheVariants.{Cancel, Evict, Fill, Find, Replace, Update}
+use Rattle.nr_core.specs.declared.places.Place.TheVariants.{Idle, Reading, Searching}
+use Rattle.nr_core.specs.declared.roles.Desk.{Desk}
+use Rattle.nr_core.specs.declared.shape.Shape.{Shape}
 use Rattle.nr_board.proofs.KeySets.{stays_between}
 use Rattle.nr_board.proofs.Rows.{encoded_row, length-encode}
 use Rattle.nr_board.proofs.Tokens.{grows_both}

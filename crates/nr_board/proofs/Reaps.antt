@@ -1,9 +1,9 @@
 -- A reap: its sweeps and the scan between them, put together.
 use Rattle.std.proofs.Common.{◌≡◌, ℕ, ◌+◌, ◌*◌, ◌<◌, ⊎_elim, inl, inr, true, List, [], ◌∷◌, ◌++◌, ap, append_assoc}
 use Rattle.std.proofs.Common.{arith, length, length-append, refl, set, subst, sym, ◌∙◌}
-use Rattle.nr_machine.specs.Spares.{Spare}
-use Rattle.nr_machine.specs.declared.places.Place.TheVariants.{Idle}
-use Rattle.nr_machine.specs.declared.places.Retired.{Retired}
+use Rattle.nr_core.specs.Spares.{Spare}
+use Rattle.nr_core.specs.declared.places.Place.TheVariants.{Idle}
+use Rattle.nr_core.specs.declared.places.Retired.{Retired}
 use Rattle.nr_core.specs.Marks.{Marks, OfSlot, Past, LoggedLoad, with_reaped, with_scan}
 use Rattle.nr_board.proofs.Sweeps.{rests_after, token_after}
 use Rattle.nr_board.proofs.WordLoads.{words_many}

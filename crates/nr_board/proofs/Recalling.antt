@@ -5,11 +5,11 @@ use mathlib.Core.Option.{none}
 use Rattle.atomic_table.specs.Table.{Allows, Me, keeps, step}
 use Rattle.nr_model.specs.Rows.{IsRowSet}
 use Rattle.nr_core.specs.Roles.{is_writer}
-use Rattle.nr_machine.specs.Slots.{bound_of, content, slot_room}
+use Rattle.nr_core.specs.Slots.{bound_of, content, slot_room}
 use Rattle.nr_core.proofs.WordPlaces.{content_inside}
 use Rattle.nr_board.proofs.Lift.{content_no_count}
-use Rattle.nr_machine.specs.declared.roles.Role.{Role}
-use Rattle.nr_machine.specs.declared.shape.Shape.{Shape}
+use Rattle.nr_core.specs.declared.roles.Role.{Role}
+use Rattle.nr_core.specs.declared.shape.Shape.{Shape}
 use Rattle.nr_core.specs.Marked.{KnowsMarks}
 use Rattle.nr_core.specs.Marks.{set_in}
 use Rattle.nr_board.proofs.Notes.{heard_same, replaced}

@@ -1,22 +1,29 @@
 -- The two passes of a search and the scan between them, put together.
-use Rattle.std.proofs.Common.{◌≡◌, ℕ, suc, ◌+◌, ◌<◌, ◌≤◌, ⊎_elim, inl, inr, List, [], ◌∷◌, ◌++◌, Bool, true, cond}
+use Rattle.std.proofs.Common.{◌≡◌, ℕ, suc, ◌+◌, ◌<◌, ◌≤◌, ◌⊎◌, ⊎_elim, inl, inr, List, [], ◌∷◌, ◌++◌, Bool, true, cond}
 use Rattle.std.proofs.Common.{ne_eqb, get_or, append_assoc, length, length-append, take, take_all, refl, sym, ap, ◌∙◌}
 use Rattle.std.proofs.Common.{subst, arith}
-use mathlib.Core.Option.{some-ne-none}
+use mathlib.Core.Option.{some, some-ne-none}
 use lib.ListN.{get_elem?}
 use Rattle.nr_core.proofs.Choices.{by_cases}
-use Rattle.nr_machine.specs.Spares.{Spare, none_spare}
-use Rattle.nr_machine.specs.Sums.{only, total}
-use Rattle.nr_machine.specs.declared.places.Retired.{Retired}
-use Rattle.nr_core.specs.Marks.{Marks, OfSlot, Past, LoggedLoad, with_scan}
+use Rattle.nr_core.specs.Spares.{Spare, none_spare}
+use Rattle.nr_core.specs.Sums.{only, total}
+use Rattle.nr_core.specs.declared.places.Retired.{Retired}
+use Rattle.nr_core.proofs.ListPlaces.{at_left}
+use Rattle.nr_core.specs.Marks.{Marks, OfSlot, OfWord, Past, LoggedLoad, with_scan}
+use Rattle.nr_core.specs.Roles.{retirements}
 use Rattle.std.specs.Prelude.{Some}
 use Rattle.nr_model.specs.Histories.{IsLegal}
 use Rattle.nr_board.specs.Entries.{AreCallers}
+use Rattle.nr_board.proofs.Keepers.{adds_both, at_behind, held_within, kept_back}
 use Rattle.nr_board.proofs.Passes.{notes_few}
+use Rattle.nr_board.proofs.PollNotes.{reached_all, reached_waits}
+use Rattle.nr_board.proofs.Searching.{grows_from}
 use Rattle.nr_board.proofs.Tokens.{grows_both, grows_rests, seat_grows}
 use Rattle.nr_board.specs.Callers.{Grows, IsSound, Rests, Table, map_at_opening, token}
 use Rattle.nr_board.specs.Flags.{Flagged}
-use Rattle.nr_board.specs.Passes.{NotesTo, PassTakes, PassedTo, polls_before, unflagged}
+use Rattle.nr_board.specs.Passes.{NotesTo, PassTakes, PassedTo, PolledTo, polls_before, unflagged}
+use Rattle.nr_board.specs.Noting.{Adds}
+use Rattle.nr_board.specs.Polls.{HeldThen, KeptThen, SaidThen}
 use Rattle.nr_board.specs.Spares.{heard_all, held_polls, not_passed}
 use Rattle.nr_board.proofs.Flagging.{polls_are}
 use Rattle.nr_board.proofs.HeldPolls.{held_many}
@@ -24,13 +31,13 @@ use Rattle.nr_board.proofs.WriterSeats.{numbers_seat}
 use Rattle.nr_board.specs.RetiredSearch.{SearchLacks, SearchTakes}
 use Rattle.nr_board.specs.declared.publish.Taken.{Taken}
 use Rattle.nr_board.proofs.WriterSteps.{same_desk}
-use Rattle.nr_machine.specs.Story.{call_of, map_after}
-use Rattle.nr_machine.specs.Writer.{moved_to}
-use Rattle.nr_machine.specs.declared.places.Place.TheVariants.{Idle}
+use Rattle.nr_core.specs.Story.{call_of, map_after}
+use Rattle.nr_core.specs.Writer.{moved_to}
+use Rattle.nr_core.specs.declared.places.Place.TheVariants.{Idle}
 use Rattle.nr_board.specs.Plays.{Room}
-use Rattle.nr_machine.specs.declared.calls.NoSlot.{NoSlot}
-use Rattle.nr_machine.specs.declared.roles.Desk.{Desk}
-use Rattle.nr_machine.specs.declared.shape.Shape.{Shape}
+use Rattle.nr_core.specs.declared.calls.NoSlot.{NoSlot}
+use Rattle.nr_core.specs.declared.roles.Desk.{Desk}
+use Rattle.nr_core.specs.declared.shape.Shape.{Shape}
 use Rattle.nr_model.specs.Maps.{filled_count, reply_to}
 use Rattle.nr_model.specs.declared.calls.Reply.TheVariants as reply
 use Rattle.nr_board.specs.SearchPlays.{scan_base}
@@ -38,7 +45,7 @@ use Rattle.nr_board.specs.SearchSeats.{Ends}
 use Rattle.nr_board.proofs.WordLoads.{words_many, words_told}
 use Rattle.nr_board.specs.WordLoads.{WordsTell}
 use Rattle.nr_board.specs.Views.{View}
-use Rattle.nr_board.specs.WholeScans.{KeepBack, ScannedTo, is_unheard, misses}
+use Rattle.nr_board.specs.WholeScans.{FlaggedIn, KeepBack, SaidBehind, ScannedTo, is_unheard, misses}
 use Rattle.nr_board.specs.WriterSeats.{MapSeat}
 
 -- no notes, before the first pass
@@ -301,6 +308,18 @@ module _ (table : Table) (spare : Spare) (flags scanned : List Bool) (before mid
       [] (token last) refl up_to second.grows in
       let heard_now = gave.heard ∙ second.heard in
       let more : List LoggedLoad = held_polls (unflagged spare.retired scanned (length spare.retired)) in
+      let kept_then = KeptThen before.me.0.seen now.me.0.seen (all_loads more) in
+      -- what a word said is among the loads
+      let said_among : (slot : ℕ) (note : Past)
+      → SaidBehind mid.me.0.marks.loads swept.me.0.marks.loads slot note → SaidThen (all_loads more) slot note
+      = λ slot note said. (
+        length first_polls + said.0,
+        at_behind first_polls (scan_loads ++ more) said.0
+            ∙ at_left scan_loads more said.0 (OfWord note.reader (suc slot))
+            (sym (at_behind mid.me.0.marks.loads scan_loads said.0)
+            ∙ ap (λ (l : List LoggedLoad). get_elem? l (length mid.me.0.marks.loads + said.0)) (sym words_are.2)
+            ∙ said.1),
+      ) in
       let steps : polls + table.announcers + second_count + 1 ≡ length (all_loads more) + 1
       = omega (arith, all_many more, held_many (unflagged spare.retired scanned (length spare.retired))) in
       record {
@@ -335,9 +354,39 @@ module _ (table : Table) (spare : Spare) (flags scanned : List Bool) (before mid
             = notes_few spare.retired scanned table.shape.readers (length spare.retired)
             (length swept.me.0.marks.polls) last.me.0.marks.polls second.notes in
             omega (arith, missed, all);
+        loads = all_loads more;
+        kept =
+            kept_back table.shape.readers before.me.0.seen now.me.0.seen (all_loads more) spare.retired
+            now.me.0.marks.polls (λ slot. 0 < retirements slot spare.retired) kept_then (λ _ waits. waits)
+            (λ _ waits. waits) (λ _ _ kept. kept)
+            (subst
+            (λ (l : List Past). (at : ℕ) (note : Past) → get_elem? l at ≡ some note
+            → (0 < note.reader) × (note.reader ≤ table.shape.readers))
+            (sym polls_now)
+            (λ at note there. let noted = second.notes.each at note there in (noted.made, noted.few)))
+            (subst (Adds (λ slot. 0 < retirements slot spare.retired) kept_then []) (sym polls_now)
+            (adds_both (FlaggedIn spare.retired scanned) (PolledTo spare.retired scanned (length spare.retired))
+            (λ slot. 0 < retirements slot spare.retired)
+            (SaidBehind mid.me.0.marks.loads swept.me.0.marks.loads) (HeldThen swept.me.0.seen last.me.0.seen)
+            kept_then []
+            swept.me.0.marks.polls last.me.0.marks.polls
+            (λ slot waits. by_cases
+            (λ (b : Bool). is_unheard scanned slot ≡ b
+            → FlaggedIn spare.retired scanned slot ⊎ PolledTo spare.retired scanned (length spare.retired) slot)
+            (is_unheard scanned slot) (λ _ is. inl (waits, is))
+            (λ _ is. inr (reached_all spare.retired slot waits, is)) refl)
+            (λ slot flagged. flagged.0)
+            (λ slot polled. reached_waits spare.retired slot (length spare.retired) polled.0)
+            (λ slot note said. inr (said_among slot note said))
+            (λ slot note held. inl
+            (held_within (grows_from (polls + table.announcers) (token before) [] (token swept) up_to)
+            (grows_from 1 (token last) [] (token now) one) held))
+            (subst
+            (Adds (FlaggedIn spare.retired scanned) (SaidBehind mid.me.0.marks.loads swept.me.0.marks.loads) [])
+            (base_is table spare scanned mid swept same sized some_words scan) scan.said)
+            second.kept));
         scan = scan_loads;
         words = tells now heard_now;
-        loads = all_loads more;
         loads_are = λ j. first_are j
             ++ (scan_loads
             ++ (second_are now (length spare.retired) heard_now

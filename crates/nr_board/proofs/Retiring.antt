@@ -9,13 +9,13 @@ use Rattle.nr_model.specs.Maps.{PartialMap, cancel_reply, evict_reply, fill_repl
 use Rattle.nr_model.specs.Maps.{replace_reply, reply_to, state_of, update_reply}
 use Rattle.nr_words.specs.KeyWords.{arrivals_of, has_ask, is_filled, slot_of}
 use Rattle.nr_core.proofs.Choices.{by_cases}
-use Rattle.nr_machine.specs.declared.calls.WriterCall.{WriterCall}
-use Rattle.nr_machine.specs.declared.calls.WriterCall.TheVariants.{Cancel, Evict, Fill, Find, Replace, Update}
-use Rattle.nr_machine.specs.declared.places.Retired.{Retired}
-use Rattle.nr_machine.specs.Slots.{name_number}
-use Rattle.nr_machine.specs.States.{key_of}
-use Rattle.nr_machine.specs.Story.{call_of}
-use Rattle.nr_machine.specs.Writer.{unnamed}
+use Rattle.nr_core.specs.declared.calls.WriterCall.{WriterCall}
+use Rattle.nr_core.specs.declared.calls.WriterCall.TheVariants.{Cancel, Evict, Fill, Find, Replace, Update}
+use Rattle.nr_core.specs.declared.places.Retired.{Retired}
+use Rattle.nr_core.specs.Slots.{name_number}
+use Rattle.nr_core.specs.States.{key_of}
+use Rattle.nr_core.specs.Story.{call_of}
+use Rattle.nr_core.specs.Writer.{unnamed}
 use Rattle.nr_board.specs.WriterAnswers.{Retires, RetiresOne}
 use Rattle.nr_board.specs.Callers.{Caller}
 use Rattle.nr_board.specs.Kinds.{kind_of, kind_shown}

@@ -13,13 +13,13 @@ use Rattle.nr_board.proofs.Counting.{no_reader_before}
 use Rattle.nr_core.proofs.Sums.{at_set, here_after, only-le, total-le}
 use Rattle.nr_core.proofs.WordPlaces.{departures_inside, same_departures}
 use Rattle.nr_core.specs.Roles.{holds, is_by, is_reader}
-use Rattle.nr_machine.specs.Slots.{departures, layout}
-use Rattle.nr_machine.specs.Sums.{total}
-use Rattle.nr_machine.specs.declared.roles.Grip.{Grip}
-use Rattle.nr_machine.specs.declared.roles.Grip.TheVariants.{Nothing, On}
-use Rattle.nr_machine.specs.declared.roles.Role.{Role}
-use Rattle.nr_machine.specs.declared.roles.Role.TheVariants.{Note, Reader, Writer}
-use Rattle.nr_machine.specs.declared.shape.Shape.{Shape}
+use Rattle.nr_core.specs.Slots.{departures, layout}
+use Rattle.nr_core.specs.Sums.{total}
+use Rattle.nr_core.specs.declared.roles.Grip.{Grip}
+use Rattle.nr_core.specs.declared.roles.Grip.TheVariants.{Nothing, On}
+use Rattle.nr_core.specs.declared.roles.Role.{Role}
+use Rattle.nr_core.specs.declared.roles.Role.TheVariants.{Note, Reader, Writer}
+use Rattle.nr_core.specs.declared.shape.Shape.{Shape}
 use Rattle.nr_board.specs.Announcing.{Announces, Counted, lends, lent, says_at}
 use Rattle.nr_board.specs.Rule.{role_of}
 use Rattle.nr_board.specs.Views.{View}

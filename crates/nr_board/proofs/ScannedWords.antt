@@ -11,18 +11,23 @@ use lib.ListN.{get_elem?}
 use Rattle.nr_core.proofs.Choices.{by_cases}
 use Rattle.nr_core.proofs.Sums.{at_snoc, only-is, only-le, only-other, only-same, some_term, total-append}
 use Rattle.nr_core.specs.Roles.{retirements}
-use Rattle.nr_machine.specs.Sums.{only, total}
-use Rattle.nr_machine.specs.declared.places.Retired.{Retired}
-use Rattle.nr_machine.specs.declared.roles.Desk.{Desk}
-use Rattle.nr_core.specs.Marks.{Past, with_scan}
+use Rattle.nr_core.specs.Sums.{only, total}
+use Rattle.nr_core.specs.declared.places.Retired.{Retired}
+use Rattle.nr_core.specs.declared.roles.Desk.{Desk}
+use Rattle.nr_core.proofs.ListPlaces.{at_left}
+use Rattle.nr_core.specs.Marks.{LoggedLoad, OfWord, Past, with_scan}
+use Rattle.nr_board.proofs.Keepers.{adds_more, adds_on, at_end}
+use Rattle.nr_board.proofs.PollNotes.{is_retired}
 use Rattle.nr_board.proofs.SearchSeats.{inside_list}
-use Rattle.nr_board.proofs.WordLoads.{words_more}
+use Rattle.nr_board.proofs.WordLoads.{loads_length, words_more}
 use Rattle.nr_board.specs.Flags.{OthersFlagged}
 use Rattle.nr_board.specs.Scans.{heard_before, heard_from, heard_now}
 use Rattle.nr_board.specs.SearchPlays.{NotesKeeper, Scanned, keeps_unheard, scan_base}
 use Rattle.nr_board.specs.Views.{View}
-use Rattle.nr_board.specs.WordLoads.{word_load}
-use Rattle.nr_board.specs.WholeScans.{HeardTo, KeepBack, KeepsOne, NoneFlagged, ScannedTo, announced}
+use Rattle.nr_board.specs.Noting.{Adds}
+use Rattle.nr_board.specs.WordLoads.{loads_of, word_load}
+use Rattle.nr_board.specs.WholeScans.{FlaggedIn, HeardTo, KeepBack, KeepsOne, NoneFlagged, SaidBehind, ScannedTo}
+use Rattle.nr_board.specs.WholeScans.{announced}
 use Rattle.nr_board.specs.WholeScans.{is_unheard, misses}
 
 -- what a load of a reader's word makes of no slot of the map
@@ -118,20 +123,6 @@ misses_none (entry ∷ retired) flags none =
     let rest = misses_none retired flags (λ at e there. none (suc at) e there) in
     let first = ap (λ (b : Bool). cond {A = ℕ} b 1 0) (none 0 entry refl) in
     omega arith
-
--- what is in the list is retired
-pub is_retired : (retired : List Retired) (at : ℕ) (entry : Retired) → get_elem? retired at ≡ some entry
-    → 0 < retirements entry.slot retired
-is_retired [] at entry there = absurd (cc)
-is_retired (x ∷ retired) zero entry there =
-    let same = only-same entry.slot in
-    let one : only entry.slot x.slot ≡ 1
-    = ap (λ (e : Retired). only entry.slot e.slot) (some_is x entry there) ∙ same in
-    omega arith
-  where
-    some_is : (a b : Retired) → some a ≡ some b → a ≡ b
-    some_is a b e = some-injective a b e
-is_retired (x ∷ retired) (suc at) entry there = omega (arith, is_retired retired at entry there)
 
 -- ONE WORD
 
@@ -385,6 +376,29 @@ module _ (desk : Desk) (before now next : View) (flags : List Bool) (own found :
   both true b e = (refl, e)
   both false b e = absurd (differs (sym e))
 
+  -- a word that keeps no slot from being heard says none that is retired, or one that has a flag
+  kept_by_none : found ≢ 0 → keeps_it ≡ false
+      → (retirements (found - 1) desk.retired ≡ 0) ⊎ (is_unheard flags (found - 1) ≡ true)
+  kept_by_none ne lets = dite (ℕ_discrete (retirements (found - 1) desk.retired) 0) inl
+      (λ some_there. by_cases
+      (λ (b : Bool). is_unheard flags (found - 1) ≡ b
+      → (retirements (found - 1) desk.retired ≡ 0) ⊎ (is_unheard flags (found - 1) ≡ true))
+      (is_unheard flags (found - 1))
+      (λ _ is. inr is)
+      (λ _ is. absurd
+      (differs
+      (sym
+      (ap
+      (λ (b : Bool). b
+      && (nat_lt 0 (retirements (found - 1) desk.retired)
+      && nat_eq (heard_before own (get_or now.heard (found - 1) 0)) own))
+      (lt-ltb 0 found (omega arith))
+      ∙ ap (λ (b : Bool). b && nat_eq (heard_before own (get_or now.heard (found - 1) 0)) own)
+      (lt-ltb 0 (retirements (found - 1) desk.retired) (omega arith))
+      ∙ eq-eqb (heard_before own (get_or now.heard (found - 1) 0)) own (whole_now (found - 1) (omega arith) is))
+      ∙ lets)))
+      refl)
+
   keep_so : KeepBack desk.retired said_now (suc own) (scan_base (suc own) next.marks.polls)
   keep_so = subst (KeepBack desk.retired said_now (suc own)) (sym base_is)
       (by_cases (λ (b : Bool). keeps_it ≡ b → KeepBack desk.retired said_now (suc own) next.marks.polls) keeps_it
@@ -414,31 +428,112 @@ module _ (desk : Desk) (before now next : View) (flags : List Bool) (own found :
       (dite (ℕ_discrete found 0)
       (λ e. ap (λ (l : List Bool). total (misses l) desk.retired) (announced_none found flags e))
       (λ ne. ap (λ (l : List Bool). total (misses l) desk.retired) (announced_loud found flags (omega arith))
-      ∙ misses_same desk.retired flags (found - 1) (idle ne lets)))
+      ∙ misses_same desk.retired flags (found - 1) (kept_by_none ne lets)))
       (subst (λ (b : Bool). NotesKeeper b own found (scan_base own now.marks.polls) next.marks.polls) lets told.keeper))
       refl)
+
+  -- the loads so far
+  many_loads : length now.marks.loads ≡ length before.marks.loads + own
+  many_loads =
+      ap length so_far.words.loads_are
+      ∙ omega (
+        arith,
+        length-append before.marks.loads (loads_of 0 so_far.words.words),
+        loads_length 0 so_far.words.words,
+        so_far.words.each,
+      )
+
+  more_loads : next.marks.loads ≡ now.marks.loads ++ word_load own found ∷ []
+  more_loads = ap (λ (v : View). v.marks.loads) told.same
+
+  abbrev said_then : ℕ → Past → Type 0
+  said_then = SaidBehind before.marks.loads next.marks.loads
+
+  -- what a word said before it said still
+  said_on : (slot : ℕ) (note : Past) → SaidBehind before.marks.loads now.marks.loads slot note → said_then slot note
+  said_on slot note said = (
+    said.0,
+    ap (λ (l : List LoggedLoad). get_elem? l (length before.marks.loads + said.0)) more_loads
+        ∙ at_left now.marks.loads (word_load own found ∷ []) (length before.marks.loads + said.0)
+        (OfWord note.reader (suc slot)) said.1,
+  )
+
+  -- this one says its slot
+  says_it : (note : Past) → note.reader ≡ suc own → 0 < found → said_then (found - 1) note
+  says_it note reader loud = let is : found ≡ suc (found - 1) = suc_of found loud in (
+    own,
+    ap (λ (l : List LoggedLoad). get_elem? l (length before.marks.loads + own)) more_loads
+        ∙ at_end now.marks.loads (word_load own found) (length before.marks.loads + own) (sym many_loads)
+        ∙ (λ j. some (OfWord (sym reader j) (is j))),
+  )
+
+  -- a retired slot that has a flag had it before, unless the word says it
+  flagged_before : (slot : ℕ) → FlaggedIn desk.retired said_now slot → FlaggedIn desk.retired flags slot ⊎
+      (found ≡ suc slot)
+  flagged_before slot flagged = dite (ℕ_discrete found (suc slot)) inr
+      (λ ne. inl (
+        flagged.0,
+        sym (other_flag desk now next flags own found once inside wide so_far.first so_far.heard
+            heard_told slot ne)
+            ∙ flagged.1,
+      ))
+
+  flagged_on : (slot : ℕ) → FlaggedIn desk.retired flags slot → FlaggedIn desk.retired said_now slot
+  flagged_on slot flagged = (flagged.0, more_flags found flags slot flagged.1)
+
+  said_so : Adds (FlaggedIn desk.retired said_now) said_then [] (scan_base (suc own) next.marks.polls)
+  said_so = subst (Adds (FlaggedIn desk.retired said_now) said_then []) (sym base_is)
+      (by_cases
+      (λ (b : Bool). keeps_it ≡ b → Adds (FlaggedIn desk.retired said_now) said_then [] next.marks.polls) keeps_it
+      (λ _ keeps.
+      let parts = both (nat_lt 0 found) _ keeps in
+      let rest = both (nat_lt 0 (retirements (found - 1) desk.retired)) _ parts.1 in
+      let loud = ltb-true 0 found parts.0 in
+      let waits = ltb-true 0 (retirements (found - 1) desk.retired) rest.0 in
+      let low = inside (found - 1) waits in
+      let told_so
+      = subst (λ (b : Bool). NotesKeeper b own found (scan_base own now.marks.polls) next.marks.polls) keeps
+      told.keeper in
+      subst (Adds (FlaggedIn desk.retired said_now) said_then []) (sym told_so.1)
+      (adds_more (FlaggedIn desk.retired flags) (FlaggedIn desk.retired said_now) said_then []
+      (scan_base own now.marks.polls) (found - 1) told_so.0
+      (λ slot flagged. ⊎_elim inl (λ (e : found ≡ suc slot). inr (omega arith)) (flagged_before slot flagged))
+      flagged_on (
+        waits,
+        ap (λ (l : List Bool). is_unheard l (found - 1)) (announced_loud found flags loud)
+            ∙ flag_there flags (found - 1) (omega arith),
+      )
+      (says_it told_so.0 told_so.2 loud) (said_before (scan_base own now.marks.polls) so_far.said)))
+      (λ _ lets.
+      subst (Adds (FlaggedIn desk.retired said_now) said_then [])
+      (sym
+      (subst (λ (b : Bool). NotesKeeper b own found (scan_base own now.marks.polls) next.marks.polls) lets
+      told.keeper))
+      (adds_on (FlaggedIn desk.retired flags) (FlaggedIn desk.retired said_now) said_then said_then []
+      (scan_base own now.marks.polls)
+      (λ slot flagged. ⊎_elim (λ was. was)
+      (λ (e : found ≡ suc slot). (flagged.0, was_flagged slot e flagged.0 lets))
+      (flagged_before slot flagged))
+      flagged_on (λ _ _ said. said) (said_before (scan_base own now.marks.polls) so_far.said)))
+      refl)
     where
-      idle : found ≢ 0 → keeps_it ≡ false
-          → (retirements (found - 1) desk.retired ≡ 0) ⊎ (is_unheard flags (found - 1) ≡ true)
-      idle ne lets = dite (ℕ_discrete (retirements (found - 1) desk.retired) 0) inl
-          (λ some_there. by_cases
-          (λ (b : Bool). is_unheard flags (found - 1) ≡ b
-          → (retirements (found - 1) desk.retired ≡ 0) ⊎ (is_unheard flags (found - 1) ≡ true))
-          (is_unheard flags (found - 1))
-          (λ _ is. inr is)
-          (λ _ is. absurd
-          (differs
-          (sym
-          (ap
-          (λ (b : Bool). b
-          && (nat_lt 0 (retirements (found - 1) desk.retired)
-          && nat_eq (heard_before own (get_or now.heard (found - 1) 0)) own))
-          (lt-ltb 0 found (omega arith))
-          ∙ ap (λ (b : Bool). b && nat_eq (heard_before own (get_or now.heard (found - 1) 0)) own)
-          (lt-ltb 0 (retirements (found - 1) desk.retired) (omega arith))
-          ∙ eq-eqb (heard_before own (get_or now.heard (found - 1) 0)) own (whole_now (found - 1) (omega arith) is))
-          ∙ lets)))
-          refl)
+      said_before : (notes : List Past)
+          → Adds (FlaggedIn desk.retired flags) (SaidBehind before.marks.loads now.marks.loads) [] notes
+          → Adds (FlaggedIn desk.retired flags) said_then [] notes
+      said_before notes = adds_on (FlaggedIn desk.retired flags) (FlaggedIn desk.retired flags)
+          (SaidBehind before.marks.loads now.marks.loads) said_then []
+          notes
+          (λ _ flagged. flagged) (λ _ flagged. flagged) said_on
+
+      was_flagged : (slot : ℕ) → found ≡ suc slot → 0 < retirements slot desk.retired → keeps_it ≡ false
+          → is_unheard flags slot ≡ true
+      was_flagged slot e waits lets =
+          let mine : found - 1 ≡ slot = omega arith in
+          ⊎_elim
+          (λ (none : retirements (found - 1) desk.retired ≡ 0). absurd
+          (let same = ap (λ (s : ℕ). retirements s desk.retired) mine in omega arith))
+          (λ (is : is_unheard flags (found - 1) ≡ true). subst (λ (s : ℕ). is_unheard flags s ≡ true) mine is)
+          (kept_by_none (λ none. absurd (omega arith)) lets)
 
   pub scanned_more : ScannedTo desk.retired before next said_now (suc own)
   scanned_more = record {
@@ -469,6 +564,7 @@ module _ (desk : Desk) (before now next : View) (flags : List Bool) (own found :
     first = λ e. absurd (omega arith);
     heard = λ _. heard_so desk now next flags own found once inside wide so_far.first so_far.heard heard_told;
     keep = keep_so;
+    said = said_so;
   }
     where
       more_steps : before.steps + own + 1 ≡ before.steps + suc own

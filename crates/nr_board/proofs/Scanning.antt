@@ -13,12 +13,12 @@ use Rattle.atomic_table.specs.Table.{Allows, Me, State, keeps, step}
 use Rattle.nr_core.proofs.Choices.{by_cases}
 use Rattle.nr_core.proofs.Sums.{at_set, term_le}
 use Rattle.nr_core.specs.Roles.{holds, is_by, is_writer, keeps as kept_slots, retirements}
-use Rattle.nr_machine.specs.Slots.{layout, name_number}
+use Rattle.nr_core.specs.Slots.{layout, name_number}
 use Rattle.nr_words.specs.Places.{total_of}
-use Rattle.nr_machine.specs.declared.roles.Desk.{Desk}
-use Rattle.nr_machine.specs.declared.roles.Role.{Role}
-use Rattle.nr_machine.specs.declared.roles.Role.TheVariants.{Writer}
-use Rattle.nr_machine.specs.declared.shape.Shape.{Shape}
+use Rattle.nr_core.specs.declared.roles.Desk.{Desk}
+use Rattle.nr_core.specs.declared.roles.Role.{Role}
+use Rattle.nr_core.specs.declared.roles.Role.TheVariants.{Writer}
+use Rattle.nr_core.specs.declared.shape.Shape.{Shape}
 use Rattle.nr_core.specs.Marked.{KnowsMarks}
 use Rattle.nr_core.specs.Marks.{with_loads}
 use Rattle.nr_board.proofs.Heard.{AllHear, hears_after, no_reader}

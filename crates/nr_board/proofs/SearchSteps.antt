@@ -23,22 +23,22 @@ use Rattle.nr_core.proofs.Sums.{got_at}
 use Rattle.nr_core.specs.Core.{AtPlace}
 use Rattle.nr_core.specs.Roles.{grips, held, holds, is_by, is_reader, is_writer, taken}
 use Rattle.nr_core.specs.Steps.{CanStep, GivesUp, LoadsWord, Stepped, Tries}
-use Rattle.nr_machine.specs.Slots.{departures}
-use Rattle.nr_machine.specs.States.{no_retired, retired_at}
-use Rattle.nr_machine.specs.Story.{call_of, map_after}
-use Rattle.nr_machine.specs.Writer.{moved_to}
-use Rattle.nr_machine.specs.declared.calls.Step.{Step}
-use Rattle.nr_machine.specs.declared.calls.Step.TheVariants.{Going}
-use Rattle.nr_machine.specs.declared.calls.WriterCall.{WriterCall}
-use Rattle.nr_machine.specs.declared.operation.Operation.TheVariants.{Load}
-use Rattle.nr_machine.specs.declared.places.Place.{Place}
-use Rattle.nr_machine.specs.declared.places.Place.TheVariants.{Idle, Searching}
-use Rattle.nr_machine.specs.declared.roles.Desk.{Desk}
-use Rattle.nr_machine.specs.declared.roles.Role.{Role}
-use Rattle.nr_machine.specs.declared.roles.Role.TheVariants.{Note, Reader, Writer}
-use Rattle.nr_machine.specs.declared.roles.Grip.{Grip}
-use Rattle.nr_machine.specs.declared.roles.Grip.TheVariants.{Nothing, On}
-use Rattle.nr_machine.specs.declared.shape.Shape.{Shape}
+use Rattle.nr_core.specs.Slots.{departures}
+use Rattle.nr_core.specs.States.{no_retired, retired_at}
+use Rattle.nr_core.specs.Story.{call_of, map_after}
+use Rattle.nr_core.specs.Writer.{moved_to}
+use Rattle.nr_core.specs.declared.calls.Step.{Step}
+use Rattle.nr_core.specs.declared.calls.Step.TheVariants.{Going}
+use Rattle.nr_core.specs.declared.calls.WriterCall.{WriterCall}
+use Rattle.nr_core.specs.declared.operation.Operation.TheVariants.{Load}
+use Rattle.nr_core.specs.declared.places.Place.{Place}
+use Rattle.nr_core.specs.declared.places.Place.TheVariants.{Idle, Searching}
+use Rattle.nr_core.specs.declared.roles.Desk.{Desk}
+use Rattle.nr_core.specs.declared.roles.Role.{Role}
+use Rattle.nr_core.specs.declared.roles.Role.TheVariants.{Note, Reader, Writer}
+use Rattle.nr_core.specs.declared.roles.Grip.{Grip}
+use Rattle.nr_core.specs.declared.roles.Grip.TheVariants.{Nothing, On}
+use Rattle.nr_core.specs.declared.shape.Shape.{Shape}
 use Rattle.nr_core.proofs.SearchMarks.{Begins, gives_up_marked, notes_marked, scans_marked, tries_marked}
 use Rattle.nr_core.specs.Marked.{MarkTelling, Remarked}
 use Rattle.nr_core.specs.MarkSteps.{KeepsMarks, TriesMarks, TryTells}

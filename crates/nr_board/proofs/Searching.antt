@@ -1,41 +1,42 @@
 -- The search for a slot: each retired one is polled in order, until one is not held.
 use Rattle.std.proofs.Common.{◌≡◌, ℕ, ◌+◌, ◌-◌, ◌<◌, ◌≤◌, List, [], ◌∷◌, ◌++◌, length-append, Bool, true, false, cond}
-use Rattle.std.proofs.Common.{length, nat_eq, refl, sym, ap, ◌∙◌, subst, arith, append-nil, append_assoc, ⊎_elim, ◌⊎◌}
+use Rattle.std.proofs.Common.{length, nat_eq, refl, sym, ap, ◌∙◌, subst, arith, append-nil, append_assoc, ◌⊎◌}
 use Rattle.std.proofs.Common.{inl, suc, take, take_all, take-suc}
 use Rattle.std.proofs.lemmas.Bool.{eq-eqb, lt-ltb, le-ltb, ne_eqb}
-use Rattle.std.specs.Prelude.{Some, nat_lt}
-use mathlib.Core.Option.{some, some-ne-none}
-use lib.ListN.{get_elem?}
+use Rattle.std.specs.Prelude.{nat_lt}
 use mathlib.Core.Logic.{dite}
 use native.Mathlib.Decide.{ℕ_discrete}
 use Rattle.nr_words.specs.KeyWords.{same_count}
 use Rattle.nr_core.proofs.Choices.{by_cases}
-use Rattle.nr_machine.specs.States.{no_retired, retired_at}
-use Rattle.nr_model.specs.Histories.{Entry, entries_of}
+use Rattle.nr_core.specs.States.{no_retired, retired_at}
+use Rattle.nr_model.specs.Histories.{Entry}
 use Rattle.nr_model.specs.declared.calls.Call.{Call}
 use Rattle.nr_model.specs.declared.rows.Row.{Row}
-use Rattle.nr_machine.specs.Story.{call_of, ending}
-use Rattle.nr_machine.specs.Writer.{moved_to, no_slot, polled, polls_on, settled, taking_fresh, taking_retired}
-use Rattle.nr_machine.specs.declared.calls.Step.{Step}
-use Rattle.nr_machine.specs.declared.calls.Step.TheVariants.{Ended, Going}
-use Rattle.nr_machine.specs.declared.calls.WReply.TheVariants as writer
-use Rattle.nr_machine.specs.declared.calls.WriterCall.{WriterCall}
-use Rattle.nr_machine.specs.declared.places.Place.TheVariants.{Idle, Putting, Searching}
-use Rattle.nr_machine.specs.declared.places.Retired.{Retired}
-use Rattle.nr_machine.specs.declared.roles.Desk.{Desk}
-use Rattle.nr_machine.specs.declared.shape.Shape.{Shape}
+use Rattle.nr_core.specs.Story.{call_of, ending}
+use Rattle.nr_core.specs.Writer.{moved_to, no_slot, polled, polls_on, settled, taking_fresh, taking_retired}
+use Rattle.nr_core.specs.declared.calls.Step.{Step}
+use Rattle.nr_core.specs.declared.calls.Step.TheVariants.{Ended, Going}
+use Rattle.nr_core.specs.declared.calls.WReply.TheVariants as writer
+use Rattle.nr_core.specs.declared.calls.WriterCall.{WriterCall}
+use Rattle.nr_core.specs.declared.places.Place.TheVariants.{Idle, Putting, Searching}
+use Rattle.nr_core.specs.declared.places.Retired.{Retired}
+use Rattle.nr_core.specs.declared.roles.Desk.{Desk}
+use Rattle.nr_core.specs.declared.shape.Shape.{Shape}
 use Rattle.nr_board.proofs.HeldPolls.{held_many, held_next}
+use Rattle.nr_board.proofs.Keepers.{adds_more, adds_none, adds_on, held_noted, held_within, kept_back, starts_itself}
+use Rattle.nr_board.proofs.PollNotes.{at_get, reached_all, reached_here, reached_more, reached_none, reached_on}
+use Rattle.nr_board.proofs.PollNotes.{reached_waits}
 use Rattle.nr_board.proofs.WordLoads.{no_loads}
 use Rattle.nr_board.proofs.Tokens.{grows_both}
 use Rattle.nr_board.specs.Callers.{Caller, Grows, Table, token, IsSound}
-use Rattle.nr_board.specs.Entries.{acts_told, to_depart}
-use Rattle.nr_board.specs.Polls.{AllHeldThen, HeldThen}
+use Rattle.nr_board.specs.Plays.{NotesTell}
+use Rattle.nr_board.specs.Noting.{Adds, Reached}
+use Rattle.nr_board.specs.Polls.{HeldThen}
 use Rattle.nr_board.specs.Rule.{StartsWith}
-use Rattle.nr_machine.specs.Spares.{Spare, none_spare}
+use Rattle.nr_core.specs.Spares.{Spare, none_spare}
 use Rattle.nr_board.specs.Spares.{desk_with, held_polls}
 use Rattle.nr_core.proofs.ExactPlace.{noted_more, noted_none}
 use Rattle.nr_core.specs.MarkSteps.{PollTells}
-use Rattle.nr_core.proofs.ListPlaces.{at_last, inside}
 use Rattle.nr_core.specs.Marks.{Marks, OfSlot, Past, LoggedLoad, with_poll, with_polls, with_scan}
 use Rattle.nr_core.specs.PollNotes.{Missed, Noted}
 use Rattle.nr_board.specs.WriterSeats.{GoesOn, GoesTo, LacksSlot, LeadsIn, MapSeat, Settles, swept, TakesSlot, WritesAt}
@@ -63,7 +64,7 @@ pub record Searched (table : Table) (call : WriterCall) (rows : List Row) (spare
   pub noted : Noted table.shape before.me.0.pasts after.me.0.marks.polls
   pub many : length after.me.0.marks.polls ≡ polls
   pub few : polls ≤ table.shape.readers
-  pub held : AllHeldThen before.me.0.seen after.me.0.seen after.me.0.marks.polls
+  pub kept : Adds (Reached spare.retired polls) (HeldThen before.me.0.seen after.me.0.seen) [] after.me.0.marks.polls
   pub marks : after.me.0.marks
       ≡ with_scan before.me.0.marks after.me.0.marks.polls
       (before.me.0.marks.loads ++ held_polls (take polls spare.retired))
@@ -120,26 +121,13 @@ searched_none table call rows spare seat settles full =
       noted = subst (Noted table.shape seat.me.0.pasts) (sym settles.polls) (noted_none table.shape seat.me.0.pasts);
       many = ap length settles.polls;
       few = omega arith;
-      held = λ at note there. absurd
-          (some-ne-none note (sym there ∙ ap (λ (l : List Past). get_elem? l at) settles.polls));
+      kept =
+          subst (Adds (Reached spare.retired 0) (HeldThen seat.me.0.seen seat.me.0.seen) []) (sym settles.polls)
+          (adds_none (Reached spare.retired 0) (HeldThen seat.me.0.seen seat.me.0.seen) []
+          (λ slot reached. reached_none spare.retired slot reached));
       marks = no_loads seat.me.0.marks seat.me.0.marks.polls;
       heard = refl;
     }
-
--- what was held at a poll was so, as the history goes on
-held_on : (before mid after : List Entry) (note : Past) → StartsWith after mid → HeldThen before mid note
-    → HeldThen before after note
-held_on before mid after note more held = record {
-  log = held.log;
-  since = held.since;
-  until =
-      record {
-        rest = held.until.rest ++ more.rest;
-        is = more.is ∙ ap (λ (l : List Entry). l ++ more.rest) held.until.is
-            ∙ append_assoc held.log held.until.rest more.rest;
-      };
-  count = held.count;
-}
 
 -- what grew begins with what it was
 pub grows_from : (steps : ℕ) (old : Caller) (entries : List Entry) (new : Caller) → Grows steps entries old new
@@ -259,14 +247,28 @@ module _ (table : Table) (call : WriterCall) (rows : List Row) (spare : Spare) (
               let more : length after.me.0.marks.polls ≡ length mid.me.0.marks.polls + 1
               = ap length missed.more ∙ length-append mid.me.0.marks.polls
               (missed.note ∷ []) in let many = so_far.many in omega arith;
-          held = λ at note there. ⊎_elim
-              (λ (old : get_elem? mid.me.0.marks.polls at ≡ some note). held_on before.me.0.seen mid.me.0.seen
-              after.me.0.seen note (grows_from 1 (token mid) _ (token after) leads.grows) (so_far.held at note old))
-              (λ (new : (at ≡ length mid.me.0.marks.polls) × (polled_so.1.note ≡ note)). held_now at note there new.0
-              (ap (λ (n : Past). n.slot) (sym new.1) ∙ polled_so.1.holds) seen_is
-              (grows_from (polls + 1) (token before) _ (token after) now_grown))
-              (at_last mid.me.0.marks.polls polled_so.1.note note at
-              (ap (λ (l : List Past). get_elem? l at) (sym polled_so.1.more) ∙ there));
+          kept =
+              let begun = grows_from (polls + 1) (token before) _ (token after) now_grown in
+              let on = grows_from 1 (token mid) _ (token after) leads.grows in
+              let entry = retired_at desk_now polls in
+              let here = at_get spare.retired polls low in
+              let held = HeldThen before.me.0.seen after.me.0.seen in
+              subst (Adds (Reached spare.retired (polls + 1)) held []) (sym polled_so.1.more)
+              (adds_more (Reached spare.retired polls) (Reached spare.retired (polls + 1)) held []
+              mid.me.0.marks.polls entry.slot polled_so.1.note
+              (λ slot reached. reached_more spare.retired polls entry here slot reached)
+              (λ slot reached. reached_on spare.retired polls slot reached)
+              (reached_here spare.retired polls entry here)
+              (held_noted before.me.0.seen after.me.0.seen mid.me.0.marks.polls after.me.0.marks.polls entry.slot
+              polled_so.1.note begun
+              (subst (λ (l : List Entry). NotesTell l mid.me.0.marks.polls after.me.0.marks.polls) (sym seen_is)
+              told.notes)
+              polled_so.1.more polled_so.1.holds)
+              (adds_on (Reached spare.retired polls) (Reached spare.retired polls)
+              (HeldThen before.me.0.seen mid.me.0.seen) held []
+              mid.me.0.marks.polls
+              (λ _ reached. reached) (λ _ reached. reached) (λ _ _ was. held_within starts_itself on was)
+              so_far.kept));
           marks =
               polled_marks false after.me.0.marks polled_so.0
               ∙ ap
@@ -275,22 +277,6 @@ module _ (table : Table) (call : WriterCall) (rows : List Row) (spare : Spare) (
               (sym one_more);
           heard = told.heard ∙ so_far.heard;
         }
-      where
-        held_now : (at : ℕ) (note : Past) → get_elem? after.me.0.marks.polls at ≡ some note
-            → at ≡ length mid.me.0.marks.polls
-            → note.slot ≡ Some (retired_at desk_now polls).slot → after.me.0.seen ≡ told.log
-            → StartsWith after.me.0.seen before.me.0.seen
-            → HeldThen before.me.0.seen after.me.0.seen note
-        held_now at note there last holds seen_is begins = ⊎_elim
-            (λ (old : get_elem? mid.me.0.marks.polls at ≡ some note). absurd
-            (let low = inside mid.me.0.marks.polls at note old in omega arith))
-            (λ (now : note.count + to_depart note.slot ≡ acts_told (entries_of told.log note.reader)).
-            let one : to_depart note.slot ≡ 1 = ap to_depart holds in record {
-              log = told.log;
-              since = subst (λ (l : List Entry). StartsWith l before.me.0.seen) seen_is begins;
-              until = record { rest = []; is = seen_is ∙ sym (append-nil told.log) };
-              count = omega arith;
-            }) (told.notes at note there)
 
 -- every retired slot was found held
 pub lacks_slot : (table : Table) (call : WriterCall) (rows : List Row) (spare : Spare) (before after : MapSeat)
@@ -319,7 +305,13 @@ lacks_slot table call rows spare before after polls so_far counted all =
           (writer.NoSlot (record { live = n - length spare.retired; held = length spare.retired })))
           (sym so_far.slots));
       noted = λ _. so_far.noted;
-      held = λ _. so_far.held;
+      kept =
+          kept_back table.shape.readers before.me.0.seen after.me.0.seen (held_polls spare.retired) spare.retired
+          after.me.0.marks.polls (Reached spare.retired polls) (HeldThen before.me.0.seen after.me.0.seen)
+          (λ slot waits. subst (λ (n : ℕ). Reached spare.retired n slot) (sym all)
+          (reached_all spare.retired slot waits))
+          (λ slot reached. reached_waits spare.retired slot polls reached) (λ _ _ held. inl held) so_far.noted.range
+          so_far.kept;
       marks =
           so_far.marks
           ∙ ap

@@ -16,9 +16,9 @@ use Rattle.nr_core.proofs.Choices.{by_cases}
 use Rattle.nr_core.proofs.Sums.{at_set, at_snoc, set_again, term_le, terms_le, total-append}
 use Rattle.nr_core.specs.Core.{Core}
 use Rattle.nr_core.specs.Roles.{is_by, is_reader, is_writer}
-use Rattle.nr_machine.specs.Sums.{total}
-use Rattle.nr_machine.specs.declared.roles.Role.{Role}
-use Rattle.nr_machine.specs.declared.shape.Shape.{Shape}
+use Rattle.nr_core.specs.Sums.{total}
+use Rattle.nr_core.specs.declared.roles.Role.{Role}
+use Rattle.nr_core.specs.declared.shape.Shape.{Shape}
 use Rattle.nr_core.proofs.Knowing.{knowing_set, knowing_snoc}
 use Rattle.nr_core.proofs.ListPlaces.{no_places}
 use Rattle.nr_core.proofs.SeatMarks.{alike_marked, evolves_alike, seats_marked}

@@ -1,7 +1,7 @@
 -- A room that is a set: the rows that it shows are its value.
 use Rattle.std.proofs.Common.{◌≡◌, List, subst, sym}
 use Rattle.nr_model.specs.declared.rows.Row.{Row}
-use Rattle.nr_machine.specs.declared.calls.WriterCall.{WriterCall}
+use Rattle.nr_core.specs.declared.calls.WriterCall.{WriterCall}
 use Rattle.nr_board.specs.Callers.{Table}
 use Rattle.nr_board.specs.NamedRows.{ReadsAll}
 use Rattle.nr_board.specs.WriterSeats.{MapSeat}

@@ -18,24 +18,24 @@ use Rattle.nr_core.proofs.ReadThrough.{read_whole}
 use Rattle.nr_core.proofs.Settle.{key_same}
 use Rattle.nr_core.proofs.Without.{IsWithout, NoneLeft, decided_none, look_none, not_going, not_reply, polled_none}
 use Rattle.nr_core.specs.Core.{AtPlace, Core, Reads}
-use Rattle.nr_machine.specs.Operations.{going, target_of}
+use Rattle.nr_core.specs.Operations.{going, target_of}
 use Rattle.nr_core.specs.Roles.{held, taken}
-use Rattle.nr_machine.specs.Slots.{content, departures, bound_of}
-use Rattle.nr_machine.specs.States.{key_of, retired_at}
-use Rattle.nr_machine.specs.Story.{call_of, map_after}
-use Rattle.nr_machine.specs.Writer.{decoded, ended, looked, moved_to, swapped, went}
-use Rattle.nr_machine.specs.declared.calls.NoSlot.{NoSlot}
-use Rattle.nr_machine.specs.declared.calls.Step.{Step}
-use Rattle.nr_machine.specs.declared.calls.Step.TheVariants.{Going}
-use Rattle.nr_machine.specs.declared.calls.WriterCall.{WriterCall}
-use Rattle.nr_machine.specs.declared.places.Place.{Place}
-use Rattle.nr_machine.specs.declared.places.Place.TheVariants.{Idle, Leaving, Putting, Reading, Searching, Withdrawing}
-use Rattle.nr_machine.specs.declared.roles.Desk.{Desk}
-use Rattle.nr_machine.specs.declared.roles.Role.{Role}
-use Rattle.nr_machine.specs.declared.roles.Role.TheVariants.{Writer}
-use Rattle.nr_machine.specs.declared.shape.Shape.{Shape}
+use Rattle.nr_core.specs.Slots.{content, departures, bound_of}
+use Rattle.nr_core.specs.States.{key_of, retired_at}
+use Rattle.nr_core.specs.Story.{call_of, map_after}
+use Rattle.nr_core.specs.Writer.{decoded, ended, looked, moved_to, swapped, went}
+use Rattle.nr_core.specs.declared.calls.NoSlot.{NoSlot}
+use Rattle.nr_core.specs.declared.calls.Step.{Step}
+use Rattle.nr_core.specs.declared.calls.Step.TheVariants.{Going}
+use Rattle.nr_core.specs.declared.calls.WriterCall.{WriterCall}
+use Rattle.nr_core.specs.declared.places.Place.{Place}
+use Rattle.nr_core.specs.declared.places.Place.TheVariants.{Idle, Leaving, Putting, Reading, Searching, Withdrawing}
+use Rattle.nr_core.specs.declared.roles.Desk.{Desk}
+use Rattle.nr_core.specs.declared.roles.Role.{Role}
+use Rattle.nr_core.specs.declared.roles.Role.TheVariants.{Writer}
+use Rattle.nr_core.specs.declared.shape.Shape.{Shape}
 use Rattle.nr_core.specs.Roles.{retirements}
-use Rattle.nr_machine.specs.declared.places.Retired.{Retired}
+use Rattle.nr_core.specs.declared.places.Retired.{Retired}
 use Rattle.nr_core.specs.PollNotes.{AllHeld}
 use Rattle.nr_board.proofs.Polled.{PolledAll}
 use Rattle.nr_board.specs.Callers.{caller_of}

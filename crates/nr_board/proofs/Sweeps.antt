@@ -20,21 +20,22 @@ use Rattle.nr_core.specs.Core.{AreNumbers}
 use Rattle.nr_core.specs.Roles.{holds, is_reader, is_writer}
 use Rattle.atomic_table.proofs.Lists.{at_map}
 use Rattle.nr_core.specs.Steps.{LoadsWord}
-use Rattle.nr_machine.specs.Slots.{departures}
-use Rattle.nr_machine.specs.Sums.{only, total}
-use Rattle.nr_machine.specs.Spares.{Spare}
-use Rattle.nr_machine.specs.States.{no_retired}
-use Rattle.nr_machine.specs.declared.operation.Operation.TheVariants.{Load}
-use Rattle.nr_machine.specs.declared.places.Place.TheVariants.{Idle}
-use Rattle.nr_machine.specs.declared.places.Retired.{Retired}
-use Rattle.nr_machine.specs.declared.roles.Desk.{Desk}
-use Rattle.nr_machine.specs.declared.roles.Role.TheVariants.{Writer}
-use Rattle.nr_machine.specs.declared.shape.Shape.{Shape}
+use Rattle.nr_core.specs.Slots.{departures}
+use Rattle.nr_core.specs.Sums.{only, total}
+use Rattle.nr_core.specs.Spares.{Spare}
+use Rattle.nr_core.specs.States.{no_retired}
+use Rattle.nr_core.specs.declared.operation.Operation.TheVariants.{Load}
+use Rattle.nr_core.specs.declared.places.Place.TheVariants.{Idle}
+use Rattle.nr_core.specs.declared.places.Retired.{Retired}
+use Rattle.nr_core.specs.declared.roles.Desk.{Desk}
+use Rattle.nr_core.specs.declared.roles.Role.TheVariants.{Writer}
+use Rattle.nr_core.specs.declared.shape.Shape.{Shape}
 use Rattle.nr_core.proofs.ListPlaces.{at_last, at_left, before as before_at, inside, some_is}
 use Rattle.nr_core.proofs.ReapMarks.{probes_marked}
 use Rattle.nr_core.specs.Marks.{Marks, OfSlot, Past, LoggedLoad, with_poll, with_polls, with_reaped, with_scan}
 use Rattle.nr_core.specs.MarkSteps.{ProbeTells, ProbesMarks}
 use Rattle.nr_board.proofs.HeldPolls.{held_next}
+use Rattle.nr_board.proofs.Keepers.{at_behind, at_end}
 use Rattle.nr_board.proofs.Lift.{knows_pasts, lends_on, lifts, sees_alone}
 use Rattle.nr_board.proofs.Moves.{ActsGo, waited, waiting as learns_nothing}
 use Rattle.nr_board.proofs.PollNotes.{at_get}
@@ -176,20 +177,6 @@ some_waits passes (x ∷ l) zero low stays =
 some_waits passes (x ∷ l) (suc place) low stays = let rest = some_waits passes l place (omega arith) stays in
     by_cases (λ (b : Bool). 0 < length (cond {A = List Retired} b (not_passed passes l) (x ∷ not_passed passes l)))
     (passes x.slot) (λ _. rest) (λ _. omega arith)
-
--- the element at the end of a list
-at_end : {A : Type 0} (l : List A) (x : A) (at : ℕ) → at ≡ length l → get_elem? (l ++ x ∷ []) at ≡ some x
-at_end [] x zero e = refl
-at_end [] x (suc at) e = absurd (omega arith)
-at_end (y ∷ l) x zero e = absurd (omega arith)
-at_end (y ∷ l) x (suc at) e = at_end l x at (omega arith)
-
--- one behind another list
-at_behind : {A : Type 0} (l m : List A) (at : ℕ) → get_elem? (l ++ m) (length l + at) ≡ get_elem? m at
-at_behind [] m at = ap (get_elem? m) (omega arith)
-at_behind (x ∷ l) m at =
-    let next : length (x ∷ l) + at ≡ suc (length l + at) = omega arith in
-    ap (get_elem? (x ∷ l ++ m)) next ∙ at_behind l m at
 
 none_held : (readers : ℕ) → HeldEach readers [] []
 none_held readers = record {

@@ -5,10 +5,10 @@ use Rattle.nr_model.specs.Histories.{Entry}
 use Rattle.nr_model.specs.declared.calls.Call.{Call}
 use Rattle.nr_model.specs.declared.rows.Row.{Row}
 use Rattle.nr_core.specs.Core.{AreNumbers}
-use Rattle.nr_machine.specs.Spares.{Spare}
-use Rattle.nr_machine.specs.declared.calls.NoSlot.{NoSlot}
-use Rattle.nr_machine.specs.declared.calls.WriterCall.{WriterCall}
-use Rattle.nr_machine.specs.declared.roles.Desk.{Desk}
+use Rattle.nr_core.specs.Spares.{Spare}
+use Rattle.nr_core.specs.declared.calls.NoSlot.{NoSlot}
+use Rattle.nr_core.specs.declared.calls.WriterCall.{WriterCall}
+use Rattle.nr_core.specs.declared.roles.Desk.{Desk}
 use Rattle.nr_core.specs.Marks.{with_scan, set_in}
 use Rattle.nr_board.specs.Begins.{HasSet}
 use Rattle.nr_board.specs.Callers.{Caller, Grows, Table, caller_of, map_seen, token}

@@ -7,25 +7,27 @@ use native.Mathlib.Decide.{ℕ_discrete}
 use lib.ListN.{get_elem?}
 use Rattle.nr_core.proofs.Sums.{only-is, only-le, only-other, some_term}
 use Rattle.nr_core.specs.Roles.{retirements}
-use Rattle.nr_machine.specs.Sums.{only}
-use Rattle.nr_machine.specs.declared.places.Retired.{Retired}
-use Rattle.nr_machine.specs.declared.roles.Desk.{Desk}
+use Rattle.nr_core.specs.Sums.{only}
+use Rattle.nr_core.specs.declared.places.Retired.{Retired}
+use Rattle.nr_core.specs.declared.roles.Desk.{Desk}
 use Rattle.nr_core.specs.Marks.{with_loads}
 use Rattle.nr_board.proofs.WordLoads.{words_begin, words_many, words_more, words_told}
 use Rattle.nr_board.specs.Flags.{Flagged, OthersFlagged}
 use Rattle.nr_board.specs.Scans.{heard_from}
 use Rattle.nr_board.specs.Callers.{Table}
 use Rattle.nr_board.specs.Plays.{Room}
-use Rattle.nr_machine.specs.declared.places.Place.TheVariants.{Idle}
+use Rattle.nr_core.specs.declared.places.Place.TheVariants.{Idle}
 use Rattle.nr_board.specs.SearchSeats.{HearsWord, ScansAt, SearchesIn, SearchesOn}
 use Rattle.nr_board.specs.Spares.{desk_with}
 use Rattle.nr_board.specs.Views.{View}
 use Rattle.nr_board.specs.WordLoads.{WordsSoFar}
 use Rattle.nr_board.specs.WriterSeats.{MapSeat, RestsAt}
-use Rattle.nr_machine.specs.Spares.{Spare}
-use Rattle.nr_machine.specs.declared.shape.Shape.{Shape}
-use Rattle.nr_board.specs.WholeScans.{HeardTo, NoneFlagged, RestsHearing, ScannedTo, announced}
-use Rattle.nr_board.proofs.ScannedWords.{announced_wide, heard_so, is_retired, misses_none, more_flags, quiet_so}
+use Rattle.nr_core.specs.Spares.{Spare}
+use Rattle.nr_core.specs.declared.shape.Shape.{Shape}
+use Rattle.nr_board.specs.WholeScans.{FlaggedIn, HeardTo, NoneFlagged, RestsHearing, SaidBehind, ScannedTo, announced}
+use Rattle.nr_board.proofs.Keepers.{adds_none}
+use Rattle.nr_board.proofs.PollNotes.{is_retired}
+use Rattle.nr_board.proofs.ScannedWords.{announced_wide, heard_so, misses_none, more_flags, quiet_so}
 use Rattle.nr_board.proofs.ScannedWords.{scanned_more}
 
 -- BY A SEARCH
@@ -73,6 +75,7 @@ pub scan_begins : (table : Table) (spare : Spare) (seat : MapSeat) (flags : List
     → NoneFlagged spare.retired flags → length flags ≡ table.shape.slots → OthersFlagged spare.retired flags
     → ScanGoes table spare seat seat flags 0
 scan_begins table spare seat flags search none wide others =
+    let clash : true ≡ false → ⊥ = λ e. absurd (cc) in
     let view = seat.me.0 in
     let more : view.steps ≡ view.steps + 0 = omega arith in
     record {
@@ -91,6 +94,9 @@ scan_begins table spare seat flags search none wide others =
           each = λ at note there. absurd (some-ne-none note (sym there));
           apart = λ reader. omega arith;
         };
+        said =
+            adds_none (FlaggedIn spare.retired flags) (SaidBehind view.marks.loads view.marks.loads) []
+            (λ slot flagged. clash (sym flagged.1 ∙ none slot flagged.0));
       };
       wide = wide;
       others = others;

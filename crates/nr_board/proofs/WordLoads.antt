@@ -7,8 +7,8 @@ use mathlib.Core.Logic.{dite}
 use native.Mathlib.Decide.{ℕ_discrete}
 use Rattle.nr_core.proofs.Choices.{by_cases}
 use Rattle.nr_core.specs.Roles.{retirements}
-use Rattle.nr_machine.specs.declared.places.Retired.{Retired}
-use Rattle.nr_machine.specs.declared.roles.Desk.{Desk}
+use Rattle.nr_core.specs.declared.places.Retired.{Retired}
+use Rattle.nr_core.specs.declared.roles.Desk.{Desk}
 use Rattle.nr_core.specs.Marks.{Marks, Past, LoggedLoad, with_polls, with_scan}
 use Rattle.nr_board.specs.Scans.{heard_before, heard_from, heard_now}
 use Rattle.nr_board.specs.WordLoads.{WordsSoFar, WordsTell, heard_by, heard_of, loads_of, unsaid, word_load}

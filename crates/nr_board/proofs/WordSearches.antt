@@ -1,15 +1,15 @@
 -- What a search gives where readers have words, as every search tells it.
 use Rattle.std.proofs.Common.{◌≡◌, ℕ, ◌<◌, ◌≤◌, inr, List, [], length, refl, sym, ap, ◌∙◌, subst, arith}
 use Rattle.nr_model.specs.declared.rows.Row.{Row}
-use Rattle.nr_machine.specs.Spares.{Spare, none_spare}
-use Rattle.nr_machine.specs.States.{retired_at}
-use Rattle.nr_machine.specs.declared.calls.NoSlot.{NoSlot}
-use Rattle.nr_machine.specs.declared.calls.WriterCall.{WriterCall}
-use Rattle.nr_machine.specs.declared.places.Place.TheVariants.{Idle, Putting, Searching}
+use Rattle.nr_core.specs.Spares.{Spare, none_spare}
+use Rattle.nr_core.specs.States.{retired_at}
+use Rattle.nr_core.specs.declared.calls.NoSlot.{NoSlot}
+use Rattle.nr_core.specs.declared.calls.WriterCall.{WriterCall}
+use Rattle.nr_core.specs.declared.places.Place.TheVariants.{Idle, Putting, Searching}
 use Rattle.nr_core.specs.Roles.{retirements}
-use Rattle.nr_machine.specs.declared.places.Retired.{Retired}
-use Rattle.nr_machine.specs.declared.roles.Desk.{Desk}
-use Rattle.nr_machine.specs.declared.roles.Role.{Role}
+use Rattle.nr_core.specs.declared.places.Retired.{Retired}
+use Rattle.nr_core.specs.declared.roles.Desk.{Desk}
+use Rattle.nr_core.specs.declared.roles.Role.{Role}
 use Rattle.nr_board.proofs.SearchSeats.{there_is}
 use Rattle.nr_board.proofs.Searching.{lacks_slot, searched_none, searching_at}
 use Rattle.nr_board.proofs.WholeScans.{retired_once}
@@ -122,6 +122,6 @@ module _ (table : Table) (call : WriterCall) (rows : List Row) (spare : Spare) (
             polled = λ none. absurd (let same = ap (λ (t : Table). t.announcers) writes.own in omega arith);
           };
           noted = λ none. absurd (omega arith);
-          held = λ none. absurd (omega arith);
+          kept = lacks.kept;
           marks = lacks.marks;
         }

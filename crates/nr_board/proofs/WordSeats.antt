@@ -4,10 +4,10 @@ use Rattle.std.proofs.Common.{arith, ◌∙◌}
 use Rattle.nr_model.specs.declared.calls.Call.TheVariants as model
 use Rattle.nr_model.specs.declared.calls.Reply.TheVariants as reply
 use Rattle.nr_words.specs.KeyWords.{is_filled, slot_of}
-use Rattle.nr_machine.specs.Slots.{content, name_number, names_slot}
-use Rattle.nr_machine.specs.declared.roles.Grip.TheVariants.{Nothing}
-use Rattle.nr_machine.specs.declared.roles.Role.TheVariants.{Reader}
-use Rattle.nr_machine.specs.declared.shape.Shape.{Shape}
+use Rattle.nr_core.specs.Slots.{content, name_number, names_slot}
+use Rattle.nr_core.specs.declared.roles.Grip.TheVariants.{Nothing}
+use Rattle.nr_core.specs.declared.roles.Role.TheVariants.{Reader}
+use Rattle.nr_core.specs.declared.shape.Shape.{Shape}
 use Rattle.nr_core.proofs.Choices.{by_cases}
 use Rattle.std.proofs.lemmas.Bool.{eqb-true}
 use Rattle.nr_board.proofs.Tokens.{MapSeat, seat_grows, seat_rests}

@@ -22,15 +22,15 @@ use Rattle.nr_core.proofs.Learn.{learns}
 use Rattle.nr_core.proofs.Sums.{only-is, only-other, only-same, total-set}
 use Rattle.nr_core.specs.Roles.{holds, is_by, is_reader, is_writer}
 use Rattle.nr_core.specs.Steps.{CanStep, CanStepWhere, Departs, HoldsNamed, LoadsWord, LooksUp, Stepped, Telling}
-use Rattle.nr_machine.specs.Slots.{bound_of, departures, name_number, names_slot}
-use Rattle.nr_machine.specs.Story.{entry}
-use Rattle.nr_machine.specs.Sums.{only}
-use Rattle.nr_machine.specs.declared.operation.Operation.{Operation}
-use Rattle.nr_machine.specs.declared.operation.Operation.TheVariants.{Add, Load}
-use Rattle.nr_machine.specs.declared.roles.Grip.TheVariants.{Nothing, On}
-use Rattle.nr_machine.specs.declared.roles.Role.{Role}
-use Rattle.nr_machine.specs.declared.roles.Role.TheVariants.{Note, Reader, Writer}
-use Rattle.nr_machine.specs.declared.shape.Shape.{Shape}
+use Rattle.nr_core.specs.Slots.{bound_of, departures, name_number, names_slot}
+use Rattle.nr_core.specs.Story.{entry}
+use Rattle.nr_core.specs.Sums.{only}
+use Rattle.nr_core.specs.declared.operation.Operation.{Operation}
+use Rattle.nr_core.specs.declared.operation.Operation.TheVariants.{Add, Load}
+use Rattle.nr_core.specs.declared.roles.Grip.TheVariants.{Nothing, On}
+use Rattle.nr_core.specs.declared.roles.Role.{Role}
+use Rattle.nr_core.specs.declared.roles.Role.TheVariants.{Note, Reader, Writer}
+use Rattle.nr_core.specs.declared.shape.Shape.{Shape}
 use Rattle.nr_core.proofs.HoldNamedMarks.{holds_named_marked, looks_up_marked}
 use Rattle.nr_core.proofs.LearnMarks.{learns_reader}
 use Rattle.nr_core.proofs.ListPlaces.{no_places}

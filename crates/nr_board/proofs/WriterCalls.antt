@@ -1,5 +1,5 @@
 -- The writer's calls, put together of their steps.
-use Rattle.std.proofs.Common.{Bool, false, List, [], ap, append-nil, append_assoc, arith, get_or, length, refl}
+use Rattle.std.proofs.Common.{Bool, false, List, [], ap, append-nil, arith, get_or, length, refl}
 use Rattle.std.proofs.Common.{slice_index, subst, sym, ℕ, ◌*◌, ◌++◌, ◌+◌, ◌<◌, ◌∙◌, ◌∷◌, ◌≡◌}
 use Rattle.std.specs.Prelude.{Result, Ok, Err, slice_set}
 use Rattle.nr_model.specs.declared.calls.Call.{Call}
@@ -15,21 +15,21 @@ use Rattle.nr_model.specs.declared.states.KeyState.TheVariants as states
 use Rattle.nr_model.specs.Histories.{Entry, IsLegal, entries_of}
 use Rattle.nr_words.specs.KeyWords.{slot_of}
 use Rattle.nr_core.proofs.Without.{not_reply}
-use Rattle.nr_machine.specs.Story.{call_of, ending, entry, map_after}
-use Rattle.nr_machine.specs.Writer.{decided, ended, looked, moved_to, renewed, settled, unnamed}
-use Rattle.nr_machine.specs.declared.calls.NoSlot.{NoSlot}
-use Rattle.nr_machine.specs.declared.calls.Step.{Step}
-use Rattle.nr_machine.specs.declared.calls.Step.TheVariants.{Going}
-use Rattle.nr_machine.specs.declared.calls.WriterCall.{WriterCall}
-use Rattle.nr_machine.specs.declared.calls.WriterCall.TheVariants.{Cancel, Evict, Find, Update}
-use Rattle.nr_machine.specs.declared.places.Place.TheVariants.{Idle, Leaving, Reading, Withdrawing}
-use Rattle.nr_machine.specs.declared.roles.Desk.{Desk}
+use Rattle.nr_core.specs.Story.{call_of, ending, entry, map_after}
+use Rattle.nr_core.specs.Writer.{decided, ended, looked, moved_to, renewed, settled, unnamed}
+use Rattle.nr_core.specs.declared.calls.NoSlot.{NoSlot}
+use Rattle.nr_core.specs.declared.calls.Step.{Step}
+use Rattle.nr_core.specs.declared.calls.Step.TheVariants.{Going}
+use Rattle.nr_core.specs.declared.calls.WriterCall.{WriterCall}
+use Rattle.nr_core.specs.declared.calls.WriterCall.TheVariants.{Cancel, Evict, Find, Update}
+use Rattle.nr_core.specs.declared.places.Place.TheVariants.{Idle, Leaving, Reading, Withdrawing}
+use Rattle.nr_core.specs.declared.roles.Desk.{Desk}
 use Rattle.nr_board.proofs.Publishing.{knows_after}
 use Rattle.nr_board.proofs.Tokens.{grows_both}
 use Rattle.nr_board.specs.WriterAnswers.{HasNoSlot, KeyHad, Publishes, RetiresOne, SlotsStay}
 use Rattle.nr_board.specs.Callers.{Gains, Grows, Table, map_at_opening, token}
-use Rattle.nr_machine.specs.Spares.{Spare}
-use Rattle.nr_machine.specs.declared.places.Retired.{Retired}
+use Rattle.nr_core.specs.Spares.{Spare}
+use Rattle.nr_core.specs.declared.places.Retired.{Retired}
 use Rattle.nr_board.specs.Spares.{AreFewSteps, SearchedAll, TookBySearch, desk_with, spare_of}
 use Rattle.nr_core.specs.Marks.{Marks, Past, with_loads, with_name, with_polls, with_scan, without_name}
 use Rattle.nr_core.specs.PollNotes.{Noted}
@@ -42,15 +42,16 @@ use Rattle.nr_board.proofs.Searching.{grows_from}
 use Rattle.nr_board.proofs.Waiting.{grows_with, set_later, spare_shown}
 use Rattle.nr_board.specs.Recalls.{later}
 use Rattle.nr_board.specs.Kinds.{kind_of}
-use Rattle.nr_board.specs.Polls.{HeldThen}
+use Rattle.nr_board.proofs.Keepers.{kept_since}
+use Rattle.nr_board.specs.Polls.{KeptBack}
 use Rattle.nr_model.proofs.LawLemmas.{legal_goes_on_lem}
 use Rattle.nr_core.proofs.Settle.{key_same}
-use Rattle.nr_machine.specs.States.{key_of}
+use Rattle.nr_core.specs.States.{key_of}
 use Rattle.nr_board.specs.Views.{desk_of, caller_number}
 use Rattle.nr_board.specs.Begins.{HasRead, HasSet}
 use Rattle.nr_board.specs.WriterSeats.{GoesOn, LacksSlot, LeadsIn, MapSeat, PublishesSet, RestsAt, Settles, WritesAt}
 use Rattle.nr_board.specs.WriterSeats.{KeyHas}
-use Rattle.nr_machine.specs.Slots.{bound_of}
+use Rattle.nr_core.specs.Slots.{bound_of}
 
 module _ (table : Table) (spare : Spare) (before : MapSeat) (rests : RestsAt table spare before) where
   writer_number : (token before).number ≡ 0
@@ -204,27 +205,19 @@ module _ (table : Table) (spare : Spare) (before : MapSeat) (rests : RestsAt tab
             lacks = lacking.lacks;
             noted = λ counted. subst (λ (p : Table × List Past). Noted p.0.shape p.1 after.me.0.marks.polls)
                 (λ j. (sym rests.writes.own j, grows.pasts j)) (lacking.noted (counts_so counted));
-            held = λ counted at note there. held_since (lacking.held (counts_so counted) at note there);
+            kept =
+                subst
+                (λ (p : Table × List Retired). KeptBack p.0.shape.readers before.me.0.seen after.me.0.seen
+                lacking.loads p.1
+                after.me.0.marks.polls)
+                (λ j. (sym rests.writes.own j, sym retired_is j))
+                (kept_since (grows_from steps (token before) [] (token mid) grows) lacking.kept);
             slots = same_slots after rests_spare;
             marks =
                 lacking.marks
                 ∙ ap (λ (m : Marks). with_scan m after.me.0.marks.polls (m.loads ++ lacking.loads)) only_polls;
           },
         )
-      where
-        held_since : {note : Past} → HeldThen mid.me.0.seen after.me.0.seen note
-            → HeldThen before.me.0.seen after.me.0.seen note
-        held_since held = let begun = grows_from steps (token before) [] (token mid) grows in record {
-          log = held.log;
-          since =
-              record {
-                rest = begun.rest ++ held.since.rest;
-                is = held.since.is ∙ ap (λ (l : List Entry). l ++ held.since.rest) begun.is
-                    ∙ append_assoc before.me.0.seen begun.rest held.since.rest;
-              };
-          until = held.until;
-          count = held.count;
-        }
 
 -- the call ends with its look
 pub look_ends : {table : Table} {spare : Spare} {call : WriterCall} {found : ℕ} {before after : MapSeat}

@@ -21,30 +21,30 @@ use Rattle.nr_core.proofs.Guards.{no_some}
 use Rattle.nr_core.proofs.Settle.{key_same}
 use Rattle.nr_core.proofs.Sums.{here_after}
 use Rattle.nr_core.specs.Core.{AreNumbers, AtPlace, Core, Wants}
-use Rattle.nr_machine.specs.Given.{IsGivenCall}
-use Rattle.nr_machine.specs.Operations.{becomes, going, target_of}
-use Rattle.nr_machine.specs.declared.operation.Operation.{Operation}
-use Rattle.nr_machine.specs.declared.operation.Operation.TheVariants.{Load, Store, Swap}
-use Rattle.nr_machine.specs.Refusals.{if_not_busy}
+use Rattle.nr_core.specs.Given.{IsGivenCall}
+use Rattle.nr_core.specs.Operations.{becomes, going, target_of}
+use Rattle.nr_core.specs.declared.operation.Operation.{Operation}
+use Rattle.nr_core.specs.declared.operation.Operation.TheVariants.{Load, Store, Swap}
+use Rattle.nr_core.specs.Refusals.{if_not_busy}
 use Rattle.nr_core.specs.Roles.{held, holds, is_by, is_writer, taken, is_reader}
 use Rattle.nr_words.specs.KeyWords.{naming, same_count}
-use Rattle.nr_machine.specs.Slots.{content, departures, bound_of, layout, name_number, slot_room}
-use Rattle.nr_machine.specs.States.{key_of, retired_at}
+use Rattle.nr_core.specs.Slots.{content, departures, bound_of, layout, name_number, slot_room}
+use Rattle.nr_core.specs.States.{key_of, retired_at}
 use Rattle.nr_core.specs.Steps.{CanStep, Goes, Looks, Stepped, Telling}
-use Rattle.nr_machine.specs.Story.{call_of, ending, ending_at, map_after}
-use Rattle.nr_machine.specs.Writer.{ended, looked, moved_to, swapped, went}
-use Rattle.nr_machine.specs.declared.calls.NoSlot.{NoSlot}
-use Rattle.nr_machine.specs.declared.calls.Step.{Step}
-use Rattle.nr_machine.specs.declared.calls.Step.TheVariants.{Ended, Going}
-use Rattle.nr_machine.specs.declared.calls.WReply.TheVariants as writer
-use Rattle.nr_machine.specs.declared.calls.WriterCall.{WriterCall}
-use Rattle.nr_machine.specs.declared.places.Place.{Place}
-use Rattle.nr_machine.specs.declared.places.Place.TheVariants.{Idle, Leaving, Putting, Reading, Searching, Withdrawing}
-use Rattle.nr_machine.specs.declared.roles.Desk.{Desk}
-use Rattle.nr_machine.specs.declared.roles.Role.{Role}
-use Rattle.nr_machine.specs.declared.calls.Refusal.TheVariants as refuse
-use Rattle.nr_machine.specs.declared.roles.Role.TheVariants.{Writer}
-use Rattle.nr_machine.specs.declared.shape.Shape.{Shape}
+use Rattle.nr_core.specs.Story.{call_of, ending, ending_at, map_after}
+use Rattle.nr_core.specs.Writer.{ended, looked, moved_to, swapped, went}
+use Rattle.nr_core.specs.declared.calls.NoSlot.{NoSlot}
+use Rattle.nr_core.specs.declared.calls.Step.{Step}
+use Rattle.nr_core.specs.declared.calls.Step.TheVariants.{Ended, Going}
+use Rattle.nr_core.specs.declared.calls.WReply.TheVariants as writer
+use Rattle.nr_core.specs.declared.calls.WriterCall.{WriterCall}
+use Rattle.nr_core.specs.declared.places.Place.{Place}
+use Rattle.nr_core.specs.declared.places.Place.TheVariants.{Idle, Leaving, Putting, Reading, Searching, Withdrawing}
+use Rattle.nr_core.specs.declared.roles.Desk.{Desk}
+use Rattle.nr_core.specs.declared.roles.Role.{Role}
+use Rattle.nr_core.specs.declared.calls.Refusal.TheVariants as refuse
+use Rattle.nr_core.specs.declared.roles.Role.TheVariants.{Writer}
+use Rattle.nr_core.specs.declared.shape.Shape.{Shape}
 use Rattle.nr_core.proofs.GoMarks.{goes_marked}
 use Rattle.nr_core.proofs.LookMarks.{looks_marked}
 use Rattle.nr_core.specs.MarkSteps.{GoesMarks, LooksMarks, PollTells, PollsNext, PutsMarks, went_marks}

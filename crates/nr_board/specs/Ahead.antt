@@ -1,6 +1,6 @@
 -- A load that tells its token nothing, by which a word is near when it is needed.
 use Rattle.std.specs.Prelude.{◌≡◌, ℕ, ◌+◌}
-use Rattle.nr_machine.specs.Slots.{name_number}
+use Rattle.nr_core.specs.Slots.{name_number}
 use Rattle.nr_core.specs.Marks.{with_look}
 use Rattle.nr_board.specs.Callers.{Caller}
 use Rattle.nr_board.specs.Notes.{has_noted}

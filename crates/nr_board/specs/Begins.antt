@@ -4,13 +4,13 @@ use Rattle.nr_model.specs.Batches.{applied}
 use Rattle.nr_model.specs.Rows.{IsRowSet}
 use Rattle.nr_model.specs.declared.batches.Delta.{Delta}
 use Rattle.nr_model.specs.declared.rows.Row.{Row}
-use Rattle.nr_machine.specs.Slots.{bound_of}
-use Rattle.nr_machine.specs.Spares.{Spare}
-use Rattle.nr_machine.specs.Story.{call_of}
-use Rattle.nr_machine.specs.Writer.{decided, step_in}
-use Rattle.nr_machine.specs.declared.calls.WriterCall.{WriterCall}
-use Rattle.nr_machine.specs.declared.calls.WriterCall.TheVariants.{Fill, Replace, Update}
-use Rattle.nr_machine.specs.declared.places.Place.TheVariants.{Reading}
+use Rattle.nr_core.specs.Slots.{bound_of}
+use Rattle.nr_core.specs.Spares.{Spare}
+use Rattle.nr_core.specs.Story.{call_of}
+use Rattle.nr_core.specs.Writer.{decided, step_in}
+use Rattle.nr_core.specs.declared.calls.WriterCall.{WriterCall}
+use Rattle.nr_core.specs.declared.calls.WriterCall.TheVariants.{Fill, Replace, Update}
+use Rattle.nr_core.specs.declared.places.Place.TheVariants.{Reading}
 use Rattle.nr_core.specs.Marks.{with_polls}
 use Rattle.nr_board.specs.declared.answers.FillFault.{FillFault}
 use Rattle.nr_board.specs.declared.answers.ReplaceFault.{ReplaceFault}

@@ -6,9 +6,9 @@ use Rattle.nr_model.specs.declared.calls.Call.{Call}
 use Rattle.nr_model.specs.declared.calls.Reply.{Reply}
 use Rattle.nr_model.specs.Maps.{PartialMap}
 use Rattle.nr_model.specs.Histories.{Entry, IsLegal, after, entries_of}
-use Rattle.nr_machine.specs.declared.shape.Shape.{Shape}
-use Rattle.nr_machine.specs.declared.places.Retired.{Retired}
-use Rattle.nr_machine.specs.Story.{entry, opening_map}
+use Rattle.nr_core.specs.declared.shape.Shape.{Shape}
+use Rattle.nr_core.specs.declared.places.Retired.{Retired}
+use Rattle.nr_core.specs.Story.{entry, opening_map}
 use Rattle.nr_core.specs.Marks.{Marks, Past, gripped}
 use Rattle.nr_board.specs.Entries.{AreCallers}
 use Rattle.nr_board.specs.Views.{View, desk_of, grip_of, caller_number, view_of}

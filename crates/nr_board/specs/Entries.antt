@@ -7,8 +7,8 @@ use Rattle.nr_model.specs.declared.calls.Reply.TheVariants as reply
 use Rattle.nr_model.specs.Histories.{Entry}
 use Rattle.nr_model.specs.Laws.{BringsRowSet}
 use Rattle.nr_model.specs.Maps.{call_key}
-use Rattle.nr_machine.specs.declared.shape.Shape.{Shape}
-use Rattle.nr_machine.specs.Sums.{total}
+use Rattle.nr_core.specs.declared.shape.Shape.{Shape}
+use Rattle.nr_core.specs.Sums.{total}
 
 -- a find or a request
 abbrev pub is_reading : Call → Bool

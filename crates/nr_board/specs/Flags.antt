@@ -1,7 +1,7 @@
 -- The writer's flags: a slot has none just where all readers that have a word were heard of it.
 use Rattle.std.specs.Prelude.{◌≡◌, ℕ, ◌<◌, ◌≤◌, Bool, true, false, List, length, slice_index}
 use Rattle.nr_core.specs.Roles.{retirements}
-use Rattle.nr_machine.specs.declared.places.Retired.{Retired}
+use Rattle.nr_core.specs.declared.places.Retired.{Retired}
 use Rattle.nr_board.specs.Callers.{Table}
 use Rattle.nr_board.specs.WholeScans.{is_unheard}
 

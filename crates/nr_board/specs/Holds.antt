@@ -5,7 +5,7 @@ use Rattle.nr_model.specs.declared.calls.Call.TheVariants as model
 use Rattle.nr_model.specs.declared.calls.Reply.TheVariants as reply
 use Rattle.nr_model.specs.declared.rows.Row.{Row}
 use Rattle.nr_words.specs.KeyWords.{is_filled, slot_of}
-use Rattle.nr_machine.specs.Slots.{content, name_number, names_slot}
+use Rattle.nr_core.specs.Slots.{content, name_number, names_slot}
 use Rattle.nr_core.specs.Marks.{LoggedLoad, Marks, OfKey, acted, with_loads, with_look}
 use Rattle.nr_core.specs.MarkSteps.{found_again}
 use Rattle.nr_core.specs.Puts.{put_number}

@@ -3,9 +3,9 @@ use Rattle.std.specs.Prelude.{◌≡◌, ℕ, List, [], ◌++◌}
 use Rattle.atomic_table.specs.Seated.{TableId}
 use Rattle.nr_model.specs.Maps.{state_of}
 use Rattle.nr_core.specs.Core.{AreNumbers}
-use Rattle.nr_machine.specs.Story.{map_after}
-use Rattle.nr_machine.specs.declared.roles.Role.{Role}
-use Rattle.nr_machine.specs.declared.roles.Role.TheVariants.{Note, Reader, Writer}
+use Rattle.nr_core.specs.Story.{map_after}
+use Rattle.nr_core.specs.declared.roles.Role.{Role}
+use Rattle.nr_core.specs.declared.roles.Role.TheVariants.{Note, Reader, Writer}
 use Rattle.nr_core.specs.Exact.{Lists}
 use Rattle.nr_core.specs.Marks.{Past}
 use Rattle.nr_core.specs.Pasts.{Compared, Refreshed}

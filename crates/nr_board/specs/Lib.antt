@@ -15,6 +15,7 @@ pub mod Learning
 pub mod WordLoads
 pub mod Spares
 pub mod Polls
+pub mod Noting
 pub mod WriterSeats
 pub mod Searches
 pub mod WriterAnswers

@@ -8,8 +8,8 @@ use Rattle.nr_board.specs.declared.answers.KeyKind.{KeyKind}
 use Rattle.nr_board.specs.declared.answers.KeyKind.TheVariants as kind
 use Rattle.nr_board.specs.Callers.{Caller, Table, map_seen, map_at_opening}
 use Rattle.nr_board.specs.Kinds.{kind_of}
-use Rattle.nr_machine.specs.declared.places.Place.TheVariants.{Idle}
-use Rattle.nr_machine.specs.declared.roles.Desk.{Desk}
+use Rattle.nr_core.specs.declared.places.Place.TheVariants.{Idle}
+use Rattle.nr_core.specs.declared.roles.Desk.{Desk}
 use Rattle.nr_core.specs.Exact.{Lists}
 use Rattle.nr_core.specs.Marks.{Past}
 use Rattle.nr_core.specs.Pasts.{Current}

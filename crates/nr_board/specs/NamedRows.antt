@@ -6,13 +6,13 @@ use Rattle.nr_model.specs.declared.rows.Row.{Row}
 use Rattle.nr_model.specs.declared.states.KeyState.{KeyState}
 use Rattle.nr_model.specs.declared.states.KeyState.TheVariants.{Asked, Hole, Rows}
 use Rattle.nr_words.specs.SetWords.{encode}
-use Rattle.nr_machine.specs.Slots.{bound_of, content}
-use Rattle.nr_machine.specs.States.{key_of}
-use Rattle.nr_machine.specs.Story.{call_of, map_after}
-use Rattle.nr_machine.specs.Writer.{decided, read_on, step_in}
-use Rattle.nr_machine.specs.declared.calls.Step.{Step}
-use Rattle.nr_machine.specs.declared.calls.WriterCall.{WriterCall}
-use Rattle.nr_machine.specs.declared.roles.Desk.{Desk}
+use Rattle.nr_core.specs.Slots.{bound_of, content}
+use Rattle.nr_core.specs.States.{key_of}
+use Rattle.nr_core.specs.Story.{call_of, map_after}
+use Rattle.nr_core.specs.Writer.{decided, read_on, step_in}
+use Rattle.nr_core.specs.declared.calls.Step.{Step}
+use Rattle.nr_core.specs.declared.calls.WriterCall.{WriterCall}
+use Rattle.nr_core.specs.declared.roles.Desk.{Desk}
 use Rattle.nr_board.specs.Callers.{Table}
 use Rattle.nr_board.specs.Views.{desk_of, view_of}
 use Rattle.nr_board.specs.WriterSeats.{KeyHas, LeadsIn, MapSeat}

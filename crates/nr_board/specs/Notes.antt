@@ -1,8 +1,8 @@
 -- Notes: a token makes one of what it has seen, and another takes it in.
 use Rattle.std.specs.Prelude.{◌≡◌, ◌+◌, ◌<◌, []}
 use Rattle.atomic_table.specs.declared.shared.Seat.{Seat}
-use Rattle.nr_machine.specs.declared.roles.Role.{Role}
-use Rattle.nr_machine.specs.declared.roles.Role.TheVariants.{Note}
+use Rattle.nr_core.specs.declared.roles.Role.{Role}
+use Rattle.nr_core.specs.declared.roles.Role.TheVariants.{Note}
 use Rattle.nr_core.specs.Roles.{is_reader, is_writer}
 use Rattle.nr_core.specs.Marks.{no_marks, told_by}
 use Rattle.nr_board.specs.Views.{no_shape, View, view_of, carried_by}

@@ -5,17 +5,19 @@ use mathlib.Core.Option.{some}
 use lib.ListN.{get_elem?}
 use Rattle.nr_model.specs.declared.rows.Row.{Row}
 use Rattle.nr_core.specs.Roles.{retirements}
-use Rattle.nr_machine.specs.Spares.{Spare}
-use Rattle.nr_machine.specs.Sums.{only, total}
-use Rattle.nr_machine.specs.Writer.{taking_retired}
-use Rattle.nr_machine.specs.declared.calls.WriterCall.{WriterCall}
-use Rattle.nr_machine.specs.declared.places.Place.TheVariants.{Searching}
-use Rattle.nr_machine.specs.declared.places.Retired.{Retired}
-use Rattle.nr_machine.specs.declared.roles.Desk.{Desk}
-use Rattle.nr_machine.specs.declared.roles.Role.TheVariants.{Writer}
+use Rattle.nr_core.specs.Spares.{Spare}
+use Rattle.nr_core.specs.Sums.{only, total}
+use Rattle.nr_core.specs.Writer.{taking_retired}
+use Rattle.nr_core.specs.declared.calls.WriterCall.{WriterCall}
+use Rattle.nr_core.specs.declared.places.Place.TheVariants.{Searching}
+use Rattle.nr_core.specs.declared.places.Retired.{Retired}
+use Rattle.nr_core.specs.declared.roles.Desk.{Desk}
+use Rattle.nr_core.specs.declared.roles.Role.TheVariants.{Writer}
 use Rattle.nr_core.specs.Marks.{OfSlot, Past, with_scan}
 use Rattle.nr_board.specs.declared.publish.Taken.{Taken}
 use Rattle.nr_board.specs.Callers.{Grows, Table, token}
+use Rattle.nr_board.specs.Noting.{Adds, Reached}
+use Rattle.nr_board.specs.Polls.{HeldThen}
 use Rattle.nr_board.specs.SearchSeats.{SearchesIn}
 use Rattle.nr_board.specs.Spares.{held_polls, not_passed}
 use Rattle.nr_board.specs.Views.{view_of}
@@ -51,6 +53,10 @@ pub record NotesTo (retired : List Retired) (flags : List Bool) (readers place f
   pub each : (at : ℕ) (note : Past) → get_elem? notes at ≡ some note → NotesOne retired flags readers place note
   pub apart : (reader : ℕ) → total (λ (note : Past). only reader note.reader) notes ≤ 1
 
+-- the slot stands before that place and has no flag
+abbrev pub PolledTo : List Retired → List Bool → ℕ → ℕ → Type 0
+PolledTo retired flags place slot = Reached retired place slot × (is_unheard flags slot ≡ false)
+
 -- the pass before that place: each slot that it polled was held
 pub record PassedTo (table : Table) (spare : Spare) (flags : List Bool) (before now : MapSeat) (place : ℕ) : Type
     0 where
@@ -59,6 +65,9 @@ pub record PassedTo (table : Table) (spare : Spare) (flags : List Bool) (before 
   pub search : SearchesIn table spare now
   pub grows : Grows (polls_before spare.retired flags place) [] (token before) (token now)
   pub notes : NotesTo spare.retired flags table.shape.readers place (length (view_of before).marks.polls)
+      (view_of now).marks.polls
+  pub kept : Adds (PolledTo spare.retired flags place) (HeldThen (view_of before).seen (view_of now).seen)
+      (view_of before).marks.polls
       (view_of now).marks.polls
   pub heard : (view_of now).heard ≡ (view_of before).heard
   pub marks : (view_of now).marks

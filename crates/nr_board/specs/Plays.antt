@@ -15,27 +15,27 @@ use Rattle.nr_model.specs.Maps.{filled_count, last_number, reply_to, state_of}
 use Rattle.nr_model.specs.declared.states.KeyState.TheVariants as states
 use Rattle.nr_words.specs.KeyWords.{is_filled, slot_of}
 use Rattle.nr_words.specs.SetWords.{encode}
-use Rattle.nr_machine.specs.declared.roles.Role.{Role}
-use Rattle.nr_machine.specs.declared.roles.Role.TheVariants.{Reader, Writer}
-use Rattle.nr_machine.specs.declared.roles.Desk.{Desk}
-use Rattle.nr_machine.specs.declared.calls.NoSlot.{NoSlot}
-use Rattle.nr_machine.specs.declared.calls.Step.{Step as CallStep}
-use Rattle.nr_machine.specs.declared.calls.Step.TheVariants.{Ended}
-use Rattle.nr_machine.specs.declared.calls.WReply.TheVariants as writer
-use Rattle.nr_machine.specs.declared.calls.WriterCall.{WriterCall}
-use Rattle.nr_machine.specs.declared.places.Place.{Place}
-use Rattle.nr_machine.specs.declared.places.Place.TheVariants.{Idle, Leaving, Putting, Reading, Searching, Withdrawing}
-use Rattle.nr_machine.specs.declared.places.Retired.{Retired}
-use Rattle.nr_machine.specs.declared.roles.Grip.TheVariants.{Nothing, On}
-use Rattle.nr_machine.specs.declared.shape.Shape.{Shape}
-use Rattle.nr_machine.specs.Slots.{bound_of, content, name_number, names_slot}
-use Rattle.nr_machine.specs.States.{key_of, number_at}
+use Rattle.nr_core.specs.declared.roles.Role.{Role}
+use Rattle.nr_core.specs.declared.roles.Role.TheVariants.{Reader, Writer}
+use Rattle.nr_core.specs.declared.roles.Desk.{Desk}
+use Rattle.nr_core.specs.declared.calls.NoSlot.{NoSlot}
+use Rattle.nr_core.specs.declared.calls.Step.{Step as CallStep}
+use Rattle.nr_core.specs.declared.calls.Step.TheVariants.{Ended}
+use Rattle.nr_core.specs.declared.calls.WReply.TheVariants as writer
+use Rattle.nr_core.specs.declared.calls.WriterCall.{WriterCall}
+use Rattle.nr_core.specs.declared.places.Place.{Place}
+use Rattle.nr_core.specs.declared.places.Place.TheVariants.{Idle, Leaving, Putting, Reading, Searching, Withdrawing}
+use Rattle.nr_core.specs.declared.places.Retired.{Retired}
+use Rattle.nr_core.specs.declared.roles.Grip.TheVariants.{Nothing, On}
+use Rattle.nr_core.specs.declared.shape.Shape.{Shape}
+use Rattle.nr_core.specs.Slots.{bound_of, content, name_number, names_slot}
+use Rattle.nr_core.specs.States.{key_of, number_at}
 use Rattle.nr_core.specs.Core.{AreNumbers}
 use Rattle.nr_core.specs.Steps.{ask_word}
 use Rattle.nr_core.specs.Roles.{retirements}
-use Rattle.nr_machine.specs.Story.{call_of, ending, entry, map_after}
-use Rattle.nr_machine.specs.Writer.{desk_in, looked, moved_to, step_in, went}
-use Rattle.nr_machine.specs.Sums.{only, total}
+use Rattle.nr_core.specs.Story.{call_of, ending, entry, map_after}
+use Rattle.nr_core.specs.Writer.{desk_in, looked, moved_to, step_in, went}
+use Rattle.nr_core.specs.Sums.{only, total}
 use Rattle.nr_core.specs.MarkSteps.{ComparesPuts, GoesMarks, LooksMarks, found_again}
 use Rattle.nr_core.specs.Marks.{Marks, Past, acted, with_look}
 use Rattle.nr_core.specs.PollNotes.{AllHeld}

@@ -8,9 +8,9 @@ use Rattle.nr_model.specs.declared.batches.Delta.{Delta}
 use Rattle.nr_model.specs.declared.calls.Call.{Call}
 use Rattle.nr_model.specs.declared.calls.Call.TheVariants as model
 use Rattle.nr_model.specs.declared.rows.Row.{Row}
-use Rattle.nr_machine.specs.Spares.{Spare}
-use Rattle.nr_machine.specs.declared.calls.NoSlot.{NoSlot}
-use Rattle.nr_machine.specs.declared.calls.WriterCall.{WriterCall}
+use Rattle.nr_core.specs.Spares.{Spare}
+use Rattle.nr_core.specs.declared.calls.NoSlot.{NoSlot}
+use Rattle.nr_core.specs.declared.calls.WriterCall.{WriterCall}
 use Rattle.nr_core.specs.Marks.{Marks, set_in}
 use Rattle.nr_board.specs.declared.answers.FillFault.{FillFault}
 use Rattle.nr_board.specs.declared.answers.Reclaimed.{Reclaimed}

@@ -6,19 +6,20 @@ use lib.ListN.{get_elem?}
 use Rattle.nr_model.specs.declared.rows.Row.{Row}
 use Rattle.nr_model.specs.declared.calls.Reply.TheVariants as reply
 use Rattle.nr_model.specs.Maps.{filled_count, reply_to}
-use Rattle.nr_machine.specs.Spares.{Spare, none_spare}
-use Rattle.nr_machine.specs.Story.{call_of}
-use Rattle.nr_machine.specs.Sums.{only, total}
-use Rattle.nr_machine.specs.Writer.{moved_to, taking_retired}
-use Rattle.nr_machine.specs.declared.calls.NoSlot.{NoSlot}
-use Rattle.nr_machine.specs.declared.calls.WriterCall.{WriterCall}
-use Rattle.nr_machine.specs.declared.places.Place.TheVariants.{Idle, Searching}
-use Rattle.nr_machine.specs.declared.places.Retired.{Retired}
-use Rattle.nr_machine.specs.declared.roles.Desk.{Desk}
-use Rattle.nr_machine.specs.declared.roles.Role.TheVariants.{Writer}
+use Rattle.nr_core.specs.Spares.{Spare, none_spare}
+use Rattle.nr_core.specs.Story.{call_of}
+use Rattle.nr_core.specs.Sums.{only, total}
+use Rattle.nr_core.specs.Writer.{moved_to, taking_retired}
+use Rattle.nr_core.specs.declared.calls.NoSlot.{NoSlot}
+use Rattle.nr_core.specs.declared.calls.WriterCall.{WriterCall}
+use Rattle.nr_core.specs.declared.places.Place.TheVariants.{Idle, Searching}
+use Rattle.nr_core.specs.declared.places.Retired.{Retired}
+use Rattle.nr_core.specs.declared.roles.Desk.{Desk}
+use Rattle.nr_core.specs.declared.roles.Role.TheVariants.{Writer}
 use Rattle.nr_core.specs.Marks.{Past, LoggedLoad, with_scan}
 use Rattle.nr_board.specs.declared.publish.Taken.{Taken}
 use Rattle.nr_board.specs.Callers.{Grows, Table, map_seen, token}
+use Rattle.nr_board.specs.Polls.{KeptBack}
 use Rattle.nr_board.specs.Spares.{SearchedTo, heard_all, held_polls}
 use Rattle.nr_board.specs.Views.{view_of}
 use Rattle.nr_board.specs.WordLoads.{WordsTell}
@@ -53,9 +54,11 @@ pub record SearchLacks (table : Table) (before : MapSeat) (spare : Spare) (now :
   pub many : length (view_of now).marks.polls ≡ length spare.retired
   pub apart : (reader : ℕ) → total (λ (note : Past). only reader note.reader) (view_of now).marks.polls ≤ 1
   pub few : length spare.retired ≤ table.shape.readers
+  pub loads : List LoggedLoad
+  pub kept : KeptBack table.shape.readers (view_of before).seen (view_of now).seen loads spare.retired
+      (view_of now).marks.polls
   pub scan : List LoggedLoad
   pub words : WordsTell table.announcers spare.retired table.shape.slots scan (view_of now).heard
-  pub loads : List LoggedLoad
   pub loads_are : loads
       ≡ held_polls (heard_all table.announcers (view_of before).heard spare.retired)
       ++ (scan ++ held_polls (heard_all table.announcers (view_of now).heard spare.retired))

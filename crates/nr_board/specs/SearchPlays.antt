@@ -7,15 +7,15 @@ use Rattle.nr_model.specs.declared.rows.Row.{Row}
 use Rattle.nr_model.specs.Maps.{filled_count, reply_to}
 use Rattle.nr_words.specs.KeyWords.{same_count}
 use Rattle.nr_core.specs.Roles.{retirements}
-use Rattle.nr_machine.specs.States.{retired_at}
-use Rattle.nr_machine.specs.Story.{call_of, map_after}
-use Rattle.nr_machine.specs.Writer.{moved_to, taking_retired}
-use Rattle.nr_machine.specs.declared.calls.Step.TheVariants.{Going}
-use Rattle.nr_machine.specs.declared.calls.WriterCall.{WriterCall}
-use Rattle.nr_machine.specs.declared.places.Place.TheVariants.{Idle, Searching}
-use Rattle.nr_machine.specs.declared.roles.Role.TheVariants.{Writer}
-use Rattle.nr_machine.specs.Slots.{departures}
-use Rattle.nr_machine.specs.declared.roles.Desk.{Desk}
+use Rattle.nr_core.specs.States.{retired_at}
+use Rattle.nr_core.specs.Story.{call_of, map_after}
+use Rattle.nr_core.specs.Writer.{moved_to, taking_retired}
+use Rattle.nr_core.specs.declared.calls.Step.TheVariants.{Going}
+use Rattle.nr_core.specs.declared.calls.WriterCall.{WriterCall}
+use Rattle.nr_core.specs.declared.places.Place.TheVariants.{Idle, Searching}
+use Rattle.nr_core.specs.declared.roles.Role.TheVariants.{Writer}
+use Rattle.nr_core.specs.Slots.{departures}
+use Rattle.nr_core.specs.declared.roles.Desk.{Desk}
 use Rattle.nr_core.specs.MarkSteps.{TryTells}
 use Rattle.nr_core.specs.Marks.{Past, with_scan}
 use Rattle.nr_board.specs.Plays.{Leads, NotesTell, Room, Then}

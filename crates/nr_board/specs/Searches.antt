@@ -1,11 +1,11 @@
 -- What the search for a slot gives, and a call that publishes its set there.
 use Rattle.std.specs.Prelude.{List, Result, Ok, Err}
 use Rattle.nr_model.specs.declared.rows.Row.{Row}
-use Rattle.nr_machine.specs.declared.calls.NoSlot.{NoSlot}
-use Rattle.nr_machine.specs.declared.calls.WriterCall.{WriterCall}
+use Rattle.nr_core.specs.declared.calls.NoSlot.{NoSlot}
+use Rattle.nr_core.specs.declared.calls.WriterCall.{WriterCall}
 use Rattle.nr_board.specs.declared.publish.Taken.{Taken}
 use Rattle.nr_board.specs.Callers.{Table}
-use Rattle.nr_machine.specs.Spares.{Spare}
+use Rattle.nr_core.specs.Spares.{Spare}
 use Rattle.nr_board.specs.WriterSeats.{LacksSlot, MapSeat, PublishesSet, TakesSlot}
 
 abbrev pub TakesFor : Table → WriterCall → List Row → MapSeat → Spare → MapSeat → Spare → Result Taken NoSlot → Type 0

@@ -1,7 +1,7 @@
 -- Where a seat stands between two steps: whose it is, of which map, and what it holds.
 use Rattle.std.specs.Prelude.{◌≡◌, ℕ, suc}
 use Rattle.atomic_table.specs.declared.shared.Seat.{Seat}
-use Rattle.nr_machine.specs.Slots.{content}
+use Rattle.nr_core.specs.Slots.{content}
 use Rattle.nr_board.specs.Views.{View, slot_held, view_of}
 use Rattle.nr_board.specs.Callers.{Table, token}
 use Rattle.nr_board.specs.Plays.{Holds, IsIdle}

@@ -4,10 +4,10 @@ use Rattle.std.specs.Prelude.{◌≡◌, ℕ, ◌+◌, ◌<◌, ◌≤◌, ◌�
 use Rattle.std.specs.Prelude.{length, map, remove, slice_index, take}
 use mathlib.Core.Option.{some}
 use lib.ListN.{get_elem?}
-use Rattle.nr_machine.specs.declared.places.Place.{Place}
-use Rattle.nr_machine.specs.declared.places.Retired.{Retired}
-use Rattle.nr_machine.specs.declared.roles.Desk.{Desk}
-use Rattle.nr_machine.specs.Spares.{Spare}
+use Rattle.nr_core.specs.declared.places.Place.{Place}
+use Rattle.nr_core.specs.declared.places.Retired.{Retired}
+use Rattle.nr_core.specs.declared.roles.Desk.{Desk}
+use Rattle.nr_core.specs.Spares.{Spare}
 use Rattle.nr_core.specs.Marks.{OfSlot, LoggedLoad}
 use Rattle.nr_board.specs.Callers.{Caller, Table}
 use Rattle.nr_board.specs.WordLoads.{WordsTell}

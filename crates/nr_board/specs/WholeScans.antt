@@ -1,13 +1,14 @@
 -- A whole scan by a search: each reader's word is loaded once, in order, and the writer flags the slots that it doesn't
 -- know to be heard.
 use Rattle.std.specs.Prelude.{◌≡◌, ℕ, ◌+◌, ◌-◌, ◌<◌, ◌≤◌, ◌==◌, ◌⊎◌, if◌then◌else◌, Bool, true, false, List, ◌++◌}
-use Rattle.std.specs.Prelude.{length, slice_index, slice_index_or, slice_set, Some, None}
+use Rattle.std.specs.Prelude.{[], suc, length, slice_index, slice_index_or, slice_set, Some, None}
 use mathlib.Core.Option.{some}
 use lib.ListN.{get_elem?}
-use Rattle.nr_machine.specs.Sums.{only, total}
-use Rattle.nr_machine.specs.declared.places.Retired.{Retired}
-use Rattle.nr_core.specs.Marks.{Past, LoggedLoad, with_loads, with_scan}
+use Rattle.nr_core.specs.Sums.{only, total}
+use Rattle.nr_core.specs.declared.places.Retired.{Retired}
+use Rattle.nr_core.specs.Marks.{OfWord, Past, LoggedLoad, with_loads, with_scan}
 use Rattle.nr_core.specs.Roles.{retirements}
+use Rattle.nr_board.specs.Noting.{Adds}
 use Rattle.nr_board.specs.SearchPlays.{scan_base}
 use Rattle.nr_board.specs.Views.{View}
 use Rattle.nr_board.specs.WordLoads.{WordsSoFar, WordsTell}
@@ -50,6 +51,15 @@ pub record HeardTo (retired : List Retired) (flags : List Bool) (readers : ℕ) 
   pub stuck : (slot : ℕ) → 0 < retirements slot retired → is_unheard flags slot ≡ true
       → slice_index counts slot < readers
 
+-- the slot is retired, and flagged
+abbrev pub FlaggedIn : List Retired → List Bool → ℕ → Type 0
+FlaggedIn retired flags slot = (0 < retirements slot retired) × (is_unheard flags slot ≡ true)
+
+-- the noted reader's word said the slot, by a load behind those that were made before
+abbrev pub SaidBehind : List LoggedLoad → List LoggedLoad → ℕ → Past → Type 0
+SaidBehind before now slot note =
+    (at : ℕ) × (get_elem? now (length before + at) ≡ some (OfWord note.reader (suc slot)))
+
 -- the scan after the words of the first readers
 pub record ScannedTo (retired : List Retired) (before now : View) (flags : List Bool) (own : ℕ) : Type 0 where
   pub rest : now
@@ -62,6 +72,8 @@ pub record ScannedTo (retired : List Retired) (before now : View) (flags : List 
   pub first : own ≡ 0 → NoneFlagged retired flags
   pub heard : 0 < own → HeardTo retired flags own now.heard
   pub keep : KeepBack retired flags own (scan_base own now.marks.polls)
+  pub said : Adds (FlaggedIn retired flags) (SaidBehind before.marks.loads now.marks.loads) []
+      (scan_base own now.marks.polls)
 
 -- the view after those loads between two calls
 abbrev pub scanned_to : List LoggedLoad → List ℕ → View → View

@@ -4,12 +4,12 @@ use Rattle.std.specs.Prelude.{◌≡◌, ℕ, suc, ◌-◌, ◌<◌, if◌then�
 use Rattle.nr_model.specs.declared.calls.Call.TheVariants as model
 use Rattle.nr_model.specs.declared.calls.Reply.TheVariants as reply
 use Rattle.nr_words.specs.KeyWords.{is_filled}
-use Rattle.nr_machine.specs.declared.roles.Grip.{Grip}
-use Rattle.nr_machine.specs.declared.roles.Grip.TheVariants.{Nothing, On}
-use Rattle.nr_machine.specs.declared.roles.Role.TheVariants.{Reader}
-use Rattle.nr_machine.specs.declared.shape.Shape.{Shape}
-use Rattle.nr_machine.specs.Slots.{name_number, names_slot}
-use Rattle.nr_machine.specs.Story.{entry}
+use Rattle.nr_core.specs.declared.roles.Grip.{Grip}
+use Rattle.nr_core.specs.declared.roles.Grip.TheVariants.{Nothing, On}
+use Rattle.nr_core.specs.declared.roles.Role.TheVariants.{Reader}
+use Rattle.nr_core.specs.declared.shape.Shape.{Shape}
+use Rattle.nr_core.specs.Slots.{name_number, names_slot}
+use Rattle.nr_core.specs.Story.{entry}
 use Rattle.nr_core.specs.Marks.{Marks, acted, with_look}
 use Rattle.nr_core.specs.Puts.{put_number}
 use Rattle.nr_board.specs.declared.board.Own.{Own}

@@ -13,8 +13,8 @@ use Rattle.nr_model.specs.Batches.{applied}
 use Rattle.nr_model.specs.Histories.{Entry, after, entries_of}
 use Rattle.nr_model.specs.Maps.{call_key, state_of}
 use Rattle.nr_model.specs.declared.states.KeyState.TheVariants as states
-use Rattle.nr_machine.specs.declared.places.Retired.{Retired}
-use Rattle.nr_machine.specs.declared.calls.NoSlot.{NoSlot}
+use Rattle.nr_core.specs.declared.places.Retired.{Retired}
+use Rattle.nr_core.specs.declared.calls.NoSlot.{NoSlot}
 use Rattle.nr_board.specs.declared.answers.Cancel.{Cancel}
 use Rattle.nr_board.specs.declared.answers.Cancel.TheVariants as cancel
 use Rattle.nr_board.specs.declared.answers.Evict.{Evict}
@@ -29,12 +29,12 @@ use Rattle.nr_board.specs.declared.answers.Found.{Found}
 use Rattle.nr_board.specs.declared.answers.Found.TheVariants as found
 use Rattle.nr_board.specs.Callers.{Caller, Gains, Grows, map_at_opening}
 use Rattle.nr_board.specs.Plays.{Lacks}
-use Rattle.nr_machine.specs.Spares.{Spare}
+use Rattle.nr_core.specs.Spares.{Spare}
 use Rattle.nr_board.specs.Spares.{AreFewSteps, SearchedAll, TookBySearch, spare_of}
 use Rattle.nr_core.specs.Marks.{Marks, LoggedLoad, with_loads, with_name, with_polls, with_scan, without_name}
 use Rattle.nr_core.specs.Puts.{put_count}
 use Rattle.nr_core.specs.PollNotes.{Noted}
-use Rattle.nr_board.specs.Polls.{AllHeldThen}
+use Rattle.nr_board.specs.Polls.{KeptBack}
 
 -- the writer's slots and numbers are as they were, and what it heard, and the call polled none
 abbrev pub SlotsStay : Caller → Caller → Type 0
@@ -109,9 +109,10 @@ pub record HasNoSlot (steps : ℕ) (call : Call) (old new : Caller) (counts : No
   pub readers : entries_of grows.between old.number ≡ []
   -- it would be done now, and each slot is a filled key's or was kept back by a reader
   pub lacks : Lacks call counts new
-  -- where no reader has a word, at its poll the noted reader held the slot and had made that many acts, no fewer than
-  -- the writer knew of
-  pub held : old.table.announcers ≡ 0 → AllHeldThen old.seen new.seen new.marks.polls
+  -- each retired slot was kept back by a noted reader, which held it at its poll, or whose word said it; as many were
+  -- noted as slots are retired, each another one
+  pub kept : KeptBack old.table.shape.readers old.seen new.seen loads old.retired new.marks.polls
+  -- where no reader has a word, the noted one had made no fewer acts than the writer knew of
   pub noted : old.table.announcers ≡ 0 → Noted old.table.shape old.pasts new.marks.polls
   pub slots : spare_of new ≡ spare_of old
   pub marks : new.marks ≡ with_scan old.marks new.marks.polls (old.marks.loads ++ loads)

@@ -10,25 +10,25 @@ use Rattle.nr_model.specs.Maps.{state_of}
 use Rattle.nr_model.specs.declared.states.KeyState.TheVariants as states
 use Rattle.nr_words.specs.SetWords.{encode}
 use Rattle.nr_core.specs.Core.{AreNumbers}
-use Rattle.nr_machine.specs.Slots.{content}
-use Rattle.nr_machine.specs.States.{key_of, number_at, retired_at}
-use Rattle.nr_machine.specs.Story.{call_of, ending, entry, map_after}
-use Rattle.nr_machine.specs.Writer.{desk_in, moved_to, no_slot, settled, step_in, unnamed, went}
-use Rattle.nr_machine.specs.declared.calls.NoSlot.{NoSlot}
-use Rattle.nr_machine.specs.declared.calls.Step.{Step}
-use Rattle.nr_machine.specs.declared.calls.Step.TheVariants.{Ended, Going}
-use Rattle.nr_machine.specs.declared.shape.Shape.{Shape}
-use Rattle.nr_machine.specs.declared.calls.WReply.TheVariants as writer
-use Rattle.nr_machine.specs.declared.calls.WriterCall.{WriterCall}
-use Rattle.nr_machine.specs.declared.places.Place.TheVariants.{Idle, Leaving, Putting, Reading, Searching, Withdrawing}
-use Rattle.nr_machine.specs.declared.roles.Desk.{Desk}
-use Rattle.nr_machine.specs.declared.roles.Role.TheVariants.{Writer}
+use Rattle.nr_core.specs.Slots.{content}
+use Rattle.nr_core.specs.States.{key_of, number_at, retired_at}
+use Rattle.nr_core.specs.Story.{call_of, ending, entry, map_after}
+use Rattle.nr_core.specs.Writer.{desk_in, moved_to, no_slot, settled, step_in, unnamed, went}
+use Rattle.nr_core.specs.declared.calls.NoSlot.{NoSlot}
+use Rattle.nr_core.specs.declared.calls.Step.{Step}
+use Rattle.nr_core.specs.declared.calls.Step.TheVariants.{Ended, Going}
+use Rattle.nr_core.specs.declared.shape.Shape.{Shape}
+use Rattle.nr_core.specs.declared.calls.WReply.TheVariants as writer
+use Rattle.nr_core.specs.declared.calls.WriterCall.{WriterCall}
+use Rattle.nr_core.specs.declared.places.Place.TheVariants.{Idle, Leaving, Putting, Reading, Searching, Withdrawing}
+use Rattle.nr_core.specs.declared.roles.Desk.{Desk}
+use Rattle.nr_core.specs.declared.roles.Role.TheVariants.{Writer}
 use Rattle.nr_board.specs.Callers.{Grows, KnowsOwn, Table, map_seen, token, IsSound}
-use Rattle.nr_machine.specs.Spares.{Spare}
+use Rattle.nr_core.specs.Spares.{Spare}
 use Rattle.nr_board.specs.Announcing.{heard_at}
 use Rattle.nr_board.specs.Spares.{AreFewSteps, SearchedAll, TookBySearch, desk_with}
 use Rattle.nr_board.specs.Plays.{Finds, Lacks, NotesTell, Room, SwapsAt, call_at, next_put}
-use Rattle.nr_board.specs.Polls.{AllHeldThen}
+use Rattle.nr_board.specs.Polls.{KeptBack}
 use Rattle.nr_core.specs.MarkSteps.{GoesMarks}
 use Rattle.nr_core.specs.Marks.{LoggedLoad, with_loads, with_name, with_scan}
 use Rattle.nr_core.specs.PollNotes.{Noted}
@@ -191,7 +191,8 @@ pub record LacksSlot (table : Table) (call : WriterCall) (old : MapSeat) (spare 
   pub grows : Grows steps [] (token old) (token new)
   pub lacks : Lacks (call_of call) counts (token new)
   pub noted : table.announcers ≡ 0 → Noted table.shape (view_of old).pasts (view_of new).marks.polls
-  pub held : table.announcers ≡ 0 → AllHeldThen (view_of old).seen (view_of new).seen (view_of new).marks.polls
+  pub kept : KeptBack table.shape.readers (view_of old).seen (view_of new).seen loads spare.retired
+      (view_of new).marks.polls
   pub marks : (view_of new).marks
       ≡ with_scan (view_of old).marks (view_of new).marks.polls ((view_of old).marks.loads ++ loads)
 

@@ -7,17 +7,17 @@ ghost use Rattle.nr_model.specs.declared.calls.Reply.TheVariants as reply;
 ghost use Rattle.nr_words.specs.KeyWords.{is_filled, slot_of};
 ghost use Rattle.nr_words.specs.Places.{total_of};
 ghost use Rattle.nr_words.specs.SetWords.{encode};
-ghost use Rattle.nr_machine.specs.declared.roles.Desk.{Desk};
-ghost use Rattle.nr_machine.specs.declared.roles.Role.TheVariants.{Writer};
+ghost use Rattle.nr_core.specs.declared.roles.Desk.{Desk};
+ghost use Rattle.nr_core.specs.declared.roles.Role.TheVariants.{Writer};
 ghost use Rattle.nr_core.specs.Core.{AreNumbers};
-ghost use Rattle.nr_machine.specs.Given.{IsGivenCall};
-ghost use Rattle.nr_machine.specs.States.{key_of};
+ghost use Rattle.nr_core.specs.Given.{IsGivenCall};
+ghost use Rattle.nr_core.specs.States.{key_of};
 ghost use Rattle.nr_core.specs.Steps.{ask_word};
-ghost use Rattle.nr_machine.specs.Story.{call_of};
-ghost use Rattle.nr_machine.specs.Writer.{looked};
-ghost use Rattle.nr_machine.specs.Slots.{bound_of, content, layout, name_number, names_slot, slot_room, words_at_opening};
+ghost use Rattle.nr_core.specs.Story.{call_of};
+ghost use Rattle.nr_core.specs.Writer.{looked};
+ghost use Rattle.nr_core.specs.Slots.{bound_of, content, layout, name_number, names_slot, slot_room, words_at_opening};
 ghost use Rattle.nr_core.specs.Roles.{is_writer};
-ghost use Rattle.nr_machine.specs.Sizes.{IsShape};
+ghost use Rattle.nr_core.specs.Sizes.{IsShape};
 ghost use Rattle.nr_board.specs.Views.{grip_of, rows_held, with_reader, next_reader, opener, view_of, carried_by};
 ghost use Rattle.nr_board.specs.Callers.{Gains, Grows, Rests, map_seen, token};
 ghost use Rattle.nr_core.specs.Exact.{Lists};
@@ -78,8 +78,8 @@ impl Model for Board {
     ghost Value = { MapTable };
 
     ghost use Rattle.nr_words.specs.Places.{total_of};
-    ghost use Rattle.nr_machine.specs.Slots.{layout};
-    ghost use Rattle.nr_machine.specs.Sizes.{IsShape};
+    ghost use Rattle.nr_core.specs.Slots.{layout};
+    ghost use Rattle.nr_core.specs.Sizes.{IsShape};
 
     ghost view = { λ board. record { id = board.table.shared.table_id; shape = board.plan.shape; announcers = board.plan.announcers } };
 

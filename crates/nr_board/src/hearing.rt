@@ -1,8 +1,8 @@
 //! What one token learns of another.
 ghost use Rattle.std.specs.Prelude.{◌≡◌};
 ghost use Rattle.nr_core.specs.Core.{AreNumbers};
-ghost use Rattle.nr_machine.specs.declared.roles.Desk.{Desk};
-ghost use Rattle.nr_machine.specs.declared.roles.Role.TheVariants.{Writer as writer_role};
+ghost use Rattle.nr_core.specs.declared.roles.Desk.{Desk};
+ghost use Rattle.nr_core.specs.declared.roles.Role.TheVariants.{Writer as writer_role};
 ghost use Rattle.nr_board.specs.Callers.{KnowsOwn, map_seen, token};
 ghost use Rattle.nr_board.specs.Meetings.{HearsNote, Meets, known_to, with_steps};
 ghost use Rattle.nr_board.specs.Learning.{HearsOf};

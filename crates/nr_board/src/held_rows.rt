@@ -43,38 +43,14 @@ impl<const FROM: usize> RowSource for HeldRows<'_, FROM> {
 }
 
 impl Board {
-    /// Writes the rows that a reader holds.
+    /// Writes the rows that a reader holds, from that one on.
     #[inline(always)]
-    pub fn copy_held<R: RowRoom>(&self, seat: &mut Seat, held: Held, rows: &mut R)
-        requires held { HeldAs self.now held seat.old }
-        ensures held { HeldAs self.now held seat.new }
-        ensures rows { R.shows rows.new (rows_held (view_of seat.old).role) }
-        ensures same { rows_held (view_of seat.new).role ≡ rows_held (view_of seat.old).role }
-        ensures rests { Rests (2 * length (rows_held (view_of seat.old).role)) (token seat.old) (token seat.new) }
-        ensures hold { (token seat.new).holds ≡ (token seat.old).holds }
-        ensures marks { (view_of seat.new).marks ≡ (view_of seat.old).marks }
-    {
-        self.copy_from::<0, R>(seat, held, rows);
-    }
-
-    /// Writes the rows that a reader holds behind the first one.
-    #[inline(always)]
-    pub fn copy_behind<R: RowRoom>(&self, seat: &mut Seat, held: Held, rows: &mut R)
-        requires held { HeldAs self.now held seat.old }
-        requires some { 0 < length (rows_held (view_of seat.old).role) }
-        ensures held { HeldAs self.now held seat.new }
-        ensures rows { R.shows rows.new (drop 1 (rows_held (view_of seat.old).role)) }
-        ensures same { rows_held (view_of seat.new).role ≡ rows_held (view_of seat.old).role }
-        ensures rests { Rests (2 * (length (rows_held (view_of seat.old).role) - 1)) (token seat.old) (token seat.new) }
-        ensures hold { (token seat.new).holds ≡ (token seat.old).holds }
-        ensures marks { (view_of seat.new).marks ≡ (view_of seat.old).marks }
-    {
-        self.copy_from::<1, R>(seat, held, rows);
-    }
-
-    // Writes the rows that a reader holds from that one on.
-    #[inline(always)]
-    fn copy_from<const FROM: usize, R: RowRoom>(&self, seat: &mut Seat, held: Held, rows: &mut R)
+    pub fn copy_from<const FROM: usize, R: RowRoom>(
+        &self,
+        seat: &mut Seat,
+        held: Held,
+        rows: &mut R,
+    )
         requires held { HeldAs self.now held seat.old }
         requires from { FROM ≤ length (rows_held (view_of seat.old).role) }
         ensures held { HeldAs self.now held seat.new }

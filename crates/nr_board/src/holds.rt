@@ -2,7 +2,7 @@
 //! counts.
 ghost use Rattle.std.specs.Prelude.{ℕ, ◌≡◌, ◌≢◌, ◌<◌, ◌≤◌, ◌⊎◌, [], ◌∷◌, suc, false};
 ghost use Rattle.nr_words.specs.KeyWords.{is_filled, slot_of};
-ghost use Rattle.nr_machine.specs.Slots.{content};
+ghost use Rattle.nr_core.specs.Slots.{content};
 ghost use Rattle.nr_core.specs.Marks.{acted};
 ghost use Rattle.nr_board.specs.Callers.{Rests, token};
 ghost use Rattle.nr_board.specs.Holds.{HeldAs, HoldsAfter, HoldsOn, MovesTo, TriesWord, finds_by_word};

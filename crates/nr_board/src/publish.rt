@@ -1,8 +1,8 @@
 //! How a call takes a slot that nobody holds, puts its set there and names the slot at its key.
 ghost use Rattle.std.specs.Prelude.{◌≡◌, ◌<◌, ◌≤◌, ◌+◌, ◌*◌, [], length, slice_set};
-ghost use Rattle.nr_machine.specs.States.{key_of};
-ghost use Rattle.nr_machine.specs.Writer.{moved_to};
-ghost use Rattle.nr_machine.specs.declared.places.Place.TheVariants.{Putting};
+ghost use Rattle.nr_core.specs.States.{key_of};
+ghost use Rattle.nr_core.specs.Writer.{moved_to};
+ghost use Rattle.nr_core.specs.declared.places.Place.TheVariants.{Putting};
 ghost use Rattle.nr_board.specs.Views.{desk_of, view_of};
 ghost use Rattle.nr_board.specs.Callers.{Grows, token, IsSound};
 ghost use Rattle.nr_board.specs.WriterSeats.{Settles, WritesAt};

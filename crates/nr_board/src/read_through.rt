@@ -1,9 +1,9 @@
 //! How the writer reads the set of a key.
 ghost use Rattle.std.specs.Prelude.{◌≡◌, ◌+◌, ◌*◌, ◌<◌, List, [], length};
 ghost use Rattle.nr_model.specs.declared.rows.Row.{Row as SetRow};
-ghost use Rattle.nr_machine.specs.States.{key_of};
-ghost use Rattle.nr_machine.specs.declared.places.Place.TheVariants.{Reading};
-ghost use Rattle.nr_machine.specs.Writer.{moved_to};
+ghost use Rattle.nr_core.specs.States.{key_of};
+ghost use Rattle.nr_core.specs.declared.places.Place.TheVariants.{Reading};
+ghost use Rattle.nr_core.specs.Writer.{moved_to};
 ghost use Rattle.nr_board.specs.NamedRows.{ReadsAll};
 ghost use Rattle.nr_board.specs.Views.{desk_of, view_of};
 ghost use Rattle.nr_board.specs.WriterSeats.{WritesAt};

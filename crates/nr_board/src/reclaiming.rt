@@ -2,7 +2,7 @@
 ghost use Rattle.std.specs.Prelude.{◌≡◌, ◌<◌};
 ghost use Rattle.nr_model.specs.Batches.{IsBatch};
 ghost use Rattle.nr_model.specs.Rows.{IsRowSet};
-ghost use Rattle.nr_machine.specs.declared.calls.WriterCall.TheVariants as writer;
+ghost use Rattle.nr_core.specs.declared.calls.WriterCall.TheVariants as writer;
 ghost use Rattle.nr_board.specs.Callers.{token};
 ghost use Rattle.nr_board.specs.Reclaiming.{FillsReclaiming, ReplacesReclaiming, UpdatesReclaiming};
 ghost use Rattle.nr_board.specs.Flags.{IsFlagged};

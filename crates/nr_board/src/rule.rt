@@ -1,6 +1,6 @@
 //! The rule of the table, and what each kind of step tells.
-ghost use Rattle.nr_machine.specs.declared.calls.WriterCall.{WriterCall};
-ghost use Rattle.nr_machine.specs.declared.calls.WriterCall.TheVariants.{Evict};
+ghost use Rattle.nr_core.specs.declared.calls.WriterCall.{WriterCall};
+ghost use Rattle.nr_core.specs.declared.calls.WriterCall.TheVariants.{Evict};
 
 use crate::board::Plan;
 use crate::two_seats::TakingIn;

@@ -1,10 +1,10 @@
 use Rattle.std.proofs.Common.{arith, false, subst, sym, true, ◌≡◌, refl}
 use Rattle.nr_model.specs.declared.calls.Reply.TheVariants as reply
 use Rattle.nr_words.specs.KeyWords.{slot_of}
-use Rattle.nr_machine.specs.Given.{IsGivenCall}
-use Rattle.nr_machine.specs.Slots.{bound_of}
-use Rattle.nr_machine.specs.declared.calls.WriterCall.{WriterCall}
-use Rattle.nr_machine.specs.declared.places.Place.TheVariants.{Idle}
+use Rattle.nr_core.specs.Given.{IsGivenCall}
+use Rattle.nr_core.specs.Slots.{bound_of}
+use Rattle.nr_core.specs.declared.calls.WriterCall.{WriterCall}
+use Rattle.nr_core.specs.declared.places.Place.TheVariants.{Idle}
 use Rattle.nr_board.proofs.Looks.{asked_so, fill_already, fill_not_asked, fill_settles, fill_stale, filled_so}
 use Rattle.nr_board.proofs.Looks.{has_looked, slot_so, unasked_so}
 use Rattle.nr_board.proofs.WriterCalls.{look_ends, look_settles}

@@ -1,9 +1,9 @@
 use Rattle.std.proofs.Common.{subst, sym, refl}
 use Rattle.nr_model.specs.declared.calls.Reply.TheVariants as reply
-use Rattle.nr_machine.specs.Given.{IsGivenCall}
-use Rattle.nr_machine.specs.Slots.{bound_of}
-use Rattle.nr_machine.specs.declared.calls.WriterCall.{WriterCall}
-use Rattle.nr_machine.specs.declared.places.Place.TheVariants.{Idle}
+use Rattle.nr_core.specs.Given.{IsGivenCall}
+use Rattle.nr_core.specs.Slots.{bound_of}
+use Rattle.nr_core.specs.declared.calls.WriterCall.{WriterCall}
+use Rattle.nr_core.specs.declared.places.Place.TheVariants.{Idle}
 use Rattle.nr_board.proofs.Looks.{has_looked, is_empty, is_full, replace_dropped, replace_settles}
 use Rattle.nr_board.proofs.WriterCalls.{look_ends, look_settles}
 use Rattle.nr_board.specs.Spares.{desk_with}

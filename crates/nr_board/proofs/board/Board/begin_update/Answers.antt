@@ -2,10 +2,10 @@ use Rattle.std.proofs.Common.{ℕ, ap, subst, sym, ◌<◌, ◌∙◌, ◌≡◌
 use Rattle.nr_model.specs.Batches.{applied}
 use Rattle.nr_model.specs.declared.batches.ApplyFault.TheVariants as fault
 use Rattle.nr_model.specs.declared.calls.Reply.TheVariants as reply
-use Rattle.nr_machine.specs.Slots.{bound_of}
-use Rattle.nr_machine.specs.States.{key_of}
-use Rattle.nr_machine.specs.declared.calls.WriterCall.{WriterCall}
-use Rattle.nr_machine.specs.declared.places.Place.TheVariants.{Idle}
+use Rattle.nr_core.specs.Slots.{bound_of}
+use Rattle.nr_core.specs.States.{key_of}
+use Rattle.nr_core.specs.declared.calls.WriterCall.{WriterCall}
+use Rattle.nr_core.specs.declared.places.Place.TheVariants.{Idle}
 use Rattle.nr_board.proofs.Looks.{has_looked, is_empty, is_full, slot_so, update_dropped, update_reads}
 use Rattle.nr_board.proofs.SetRooms.{reads_set}
 use Rattle.nr_board.proofs.WriterCalls.{about_to_read, has_read, has_refused, look_ends}
@@ -81,10 +81,8 @@ returns-in-Ok g c =
     let desk = desk_with c.args.spare.now Idle in
     let read
     = has_read looks (update_reads c.args.self.now.shape desk c.args.key c.look.result c.args.deltas.now full)
-    c.requires.call (reads_set c.read_set.ensures) in (
-      _,
-      c.read_set.new.rows,
-      read,
-      ap (λ (bound : ℕ). applied bound c.read_set.new.rows c.args.deltas.now) (sym c.rows.ensures.value)
-          ∙ c.in-Ok.ensures.ok,
-    )
+    c.requires.call (reads_set c.read_set.ensures) in
+    let left
+    = ap (λ (bound : ℕ). applied bound c.read_set.new.rows c.args.deltas.now) (sym c.rows.ensures.value)
+    ∙ c.in-Ok.ensures.ok in
+    (_, c.read_set.new.rows, read, left)

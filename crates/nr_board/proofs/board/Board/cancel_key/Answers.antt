@@ -3,9 +3,9 @@ use Rattle.std.specs.Prelude.{slice_index, slice_set}
 use Rattle.nr_model.specs.Maps.{last_number}
 use Rattle.nr_model.specs.declared.calls.Reply.TheVariants as reply
 use Rattle.nr_words.specs.KeyWords.{slot_of}
-use Rattle.nr_machine.specs.Writer.{ended, looked}
-use Rattle.nr_machine.specs.declared.calls.WriterCall.TheVariants as writer
-use Rattle.nr_machine.specs.declared.places.Place.TheVariants.{Idle, Withdrawing}
+use Rattle.nr_core.specs.Writer.{ended, looked}
+use Rattle.nr_core.specs.declared.calls.WriterCall.TheVariants as writer
+use Rattle.nr_core.specs.declared.places.Place.TheVariants.{Idle, Withdrawing}
 use Rattle.nr_board.proofs.Looks.{asked_so, cancel_filled, cancel_unasked, cancel_withdraws, cancel_worn, filled_so}
 use Rattle.nr_board.proofs.Looks.{has_looked, slot_so, unasked_so}
 use Rattle.nr_board.proofs.WriterCalls.{about_to_withdraw, has_cancelled, look_ends}

@@ -1,6 +1,6 @@
 use Rattle.std.proofs.Common.{ap, arith, refl, subst, sym}
 use Rattle.nr_model.specs.declared.calls.Reply.TheVariants as reply
-use Rattle.nr_machine.specs.declared.places.Place.TheVariants.{Idle, Leaving}
+use Rattle.nr_core.specs.declared.places.Place.TheVariants.{Idle, Leaving}
 use Rattle.nr_board.proofs.Looks.{evict_leaves, evict_nothing, has_looked, is_empty, is_full}
 use Rattle.nr_board.proofs.WriterCalls.{about_to_leave, has_evicted, look_ends}
 use Rattle.nr_board.specs.Callers.{Table}

@@ -1,7 +1,7 @@
 use Rattle.std.proofs.Common.{ap, suc, subst, sym, Bool, true, eq-eqb, ◌∙◌, ◌≡◌}
 use Rattle.std.proofs.lemmas.Bool.{eqb-true}
 use Rattle.std.specs.Prelude.{◌↔◌}
-use Rattle.nr_machine.specs.Slots.{name_number, names_slot}
+use Rattle.nr_core.specs.Slots.{name_number, names_slot}
 use Rattle.nr_core.specs.MarkSteps.{found_again}
 use Rattle.nr_core.specs.Marks.{with_look}
 use Rattle.nr_board.proofs.ReaderSeats.{names_held}

@@ -1,5 +1,5 @@
 use Rattle.std.proofs.Common.{ap, arith, sym, ◌<◌, ◌∙◌}
-use Rattle.nr_machine.specs.declared.shape.Shape.{Shape}
+use Rattle.nr_core.specs.declared.shape.Shape.{Shape}
 use Rattle.nr_board.proofs.BoardPlaces.{key_in, stands}
 use Rattle.nr_board.proofs.SearchSeats.{has_given_up_so}
 use Rattle.nr_board.specs.Callers.{Table}

@@ -1,6 +1,6 @@
 use Rattle.std.proofs.Common.{ap, arith, subst, sym, ◌∙◌}
 use Rattle.atomic_table.specs.declared.shared.Seat.{Seat}
-use Rattle.nr_machine.specs.declared.shape.Shape.{Shape}
+use Rattle.nr_core.specs.declared.shape.Shape.{Shape}
 use Rattle.nr_board.proofs.Gathering.{heard_numbers, hears_seat}
 use Rattle.nr_board.proofs.HearsNotes.{hears_so}
 use Rattle.nr_board.specs.Callers.{Table}

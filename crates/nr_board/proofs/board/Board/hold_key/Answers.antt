@@ -1,5 +1,5 @@
 use Rattle.std.proofs.Common.{Bool, None, ap, arith, cond, subst, sym, ◌∙◌}
-use Rattle.nr_machine.specs.Slots.{name_number}
+use Rattle.nr_core.specs.Slots.{name_number}
 use Rattle.nr_core.specs.Marks.{Marks, acted, with_look}
 use Rattle.nr_core.specs.Puts.{put_number}
 use Rattle.nr_board.proofs.Holding.{finds_none, finds_so, holds_first}

@@ -1,5 +1,5 @@
 use Rattle.std.proofs.Common.{ap, arith, sym, ◌∙◌, ◌<◌}
-use Rattle.nr_machine.specs.declared.shape.Shape.{Shape}
+use Rattle.nr_core.specs.declared.shape.Shape.{Shape}
 use Rattle.nr_board.proofs.Gathering.{learned_lists, learned_numbers, learns_seat}
 use Rattle.nr_board.proofs.Learning.{learns_so}
 use Rattle.nr_board.specs.Callers.{Table}

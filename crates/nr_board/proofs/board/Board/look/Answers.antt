@@ -1,19 +1,19 @@
 use Rattle.std.proofs.Common.{ap, arith, subst, sym, ℕ, ◌<◌, ◌∙◌, ◌≡◌}
 use Rattle.atomic_table.specs.Table.{Allows}
-use Rattle.nr_machine.specs.Given.{IsGivenCall}
-use Rattle.nr_machine.specs.States.{key_of}
-use Rattle.nr_machine.specs.declared.roles.Desk.{Desk}
-use Rattle.nr_machine.specs.declared.roles.Role.TheVariants.{Writer}
-use Rattle.nr_machine.specs.declared.shape.Shape.{Shape}
+use Rattle.nr_core.specs.Given.{IsGivenCall}
+use Rattle.nr_core.specs.States.{key_of}
+use Rattle.nr_core.specs.declared.roles.Desk.{Desk}
+use Rattle.nr_core.specs.declared.roles.Role.TheVariants.{Writer}
+use Rattle.nr_core.specs.declared.shape.Shape.{Shape}
 use Rattle.nr_board.proofs.WriterSeats.{looked_seat}
 use Rattle.nr_board.proofs.WriterSteps.{looks_so}
-use Rattle.nr_machine.specs.declared.places.Place.{Place}
+use Rattle.nr_core.specs.declared.places.Place.{Place}
 use Rattle.nr_board.specs.Announcing.{heard_at}
 use Rattle.nr_board.specs.Callers.{Table}
 use Rattle.nr_board.specs.Plays.{Looked}
 use Rattle.nr_board.specs.Rule.{Kept}
 use Rattle.nr_board.proofs.board.Board.look.Goals as goal
-use Rattle.nr_machine.specs.Slots.{bound_of}
+use Rattle.nr_core.specs.Slots.{bound_of}
 
 pub load-requires : goal.load-requires
 load-requires g c =

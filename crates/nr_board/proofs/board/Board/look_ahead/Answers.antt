@@ -1,5 +1,5 @@
 use Rattle.std.proofs.Common.{ap, sym, ◌∙◌}
-use Rattle.nr_machine.specs.Slots.{name_number}
+use Rattle.nr_core.specs.Slots.{name_number}
 use Rattle.nr_board.proofs.BoardPlaces.{key_in, stands}
 use Rattle.nr_board.proofs.Notes.{ahead_token, looks_ahead_so}
 use Rattle.nr_board.specs.Callers.{Table}

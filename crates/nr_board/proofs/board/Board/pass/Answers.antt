@@ -1,8 +1,8 @@
 use Rattle.std.proofs.Common.{ap, arith, length, refl, subst, sym, ℕ, ◌+◌, ◌<◌, ◌∙◌, ◌≡◌}
 use Rattle.std.specs.Prelude.{remove}
 use Rattle.nr_words.specs.KeyWords.{same_count}
-use Rattle.nr_machine.specs.Spares.{Spare}
-use Rattle.nr_machine.specs.declared.places.Retired.{Retired}
+use Rattle.nr_core.specs.Spares.{Spare}
+use Rattle.nr_core.specs.declared.places.Retired.{Retired}
 use Rattle.nr_board.proofs.Passes.{entry_at, entry_inside, pass_takes, passed_by, passed_more, passed_none, tries_at}
 use Rattle.nr_board.specs.Passes.{PassedTo}
 use Rattle.nr_board.specs.SearchSeats.{TriesAt, TriesTo}

@@ -1,12 +1,12 @@
 use Rattle.std.proofs.Common.{ap, arith, get_or, refl, subst, sym, ℕ, ◌<◌, ◌≤◌, ◌∙◌, ◌≡◌}
 use Rattle.atomic_table.specs.Table.{Allows}
-use Rattle.nr_machine.specs.Slots.{departures}
+use Rattle.nr_core.specs.Slots.{departures}
 use Rattle.nr_words.specs.declared.layout.Layout.{Layout}
 use Rattle.nr_words.specs.Places.{Departures, place_of}
-use Rattle.nr_machine.specs.States.{retired_at}
-use Rattle.nr_machine.specs.declared.places.Place.TheVariants.{Searching}
-use Rattle.nr_machine.specs.declared.roles.Desk.{Desk}
-use Rattle.nr_machine.specs.declared.roles.Role.TheVariants.{Writer}
+use Rattle.nr_core.specs.States.{retired_at}
+use Rattle.nr_core.specs.declared.places.Place.TheVariants.{Searching}
+use Rattle.nr_core.specs.declared.roles.Desk.{Desk}
+use Rattle.nr_core.specs.declared.roles.Role.TheVariants.{Writer}
 use Rattle.nr_board.proofs.PollNotes.{at_get}
 use Rattle.nr_board.proofs.BoardPlaces.{departures_at, departures_in, stands}
 use Rattle.nr_board.proofs.WriterSeats.{desk_at, gone_seat}

@@ -4,17 +4,17 @@ use Rattle.std.proofs.lemmas.Bool.{le-ltb}
 use Rattle.std.specs.Prelude.{nat_lt, remove}
 use Rattle.nr_model.specs.declared.rows.Row.{Row}
 use Rattle.nr_words.specs.KeyWords.{same_count}
-use Rattle.nr_machine.specs.States.{no_retired}
-use Rattle.nr_machine.specs.declared.calls.NoSlot.{NoSlot}
-use Rattle.nr_machine.specs.declared.calls.WriterCall.{WriterCall}
-use Rattle.nr_machine.specs.declared.places.Retired.{Retired}
+use Rattle.nr_core.specs.States.{no_retired}
+use Rattle.nr_core.specs.declared.calls.NoSlot.{NoSlot}
+use Rattle.nr_core.specs.declared.calls.WriterCall.{WriterCall}
+use Rattle.nr_core.specs.declared.places.Retired.{Retired}
 use Rattle.nr_board.proofs.PollNotes.{at_get}
 use Rattle.nr_board.proofs.HeldPolls.{held_many, none_passed}
 use Rattle.nr_board.specs.Spares.{heard_all, held_polls, polls_to}
 use Rattle.nr_core.specs.Marks.{OfSlot, with_scan}
 use Rattle.nr_board.proofs.Searching.{Searched, lacks_slot, searched_more, searched_none, takes_it}
 use Rattle.nr_board.specs.Callers.{Table}
-use Rattle.nr_machine.specs.Spares.{Spare, none_spare}
+use Rattle.nr_core.specs.Spares.{Spare, none_spare}
 use Rattle.nr_board.specs.WriterSeats.{GoesOn, LacksSlot, MapSeat, TakesSlot}
 use Rattle.nr_board.proofs.board.Board.poll_retired.Goals as goal
 

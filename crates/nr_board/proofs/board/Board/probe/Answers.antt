@@ -2,14 +2,14 @@ use Rattle.std.proofs.Common.{ap, arith, get_or, subst, sym, ℕ, ◌<◌, ◌�
 use mathlib.Core.Option.{some}
 use lib.ListN.{get_elem?}
 use Rattle.atomic_table.specs.Table.{Allows}
-use Rattle.nr_machine.specs.Slots.{departures}
+use Rattle.nr_core.specs.Slots.{departures}
 use Rattle.nr_words.specs.declared.layout.Layout.{Layout}
 use Rattle.nr_words.specs.Places.{Departures, place_of}
-use Rattle.nr_machine.specs.declared.places.Place.TheVariants.{Idle}
-use Rattle.nr_machine.specs.declared.places.Retired.{Retired}
-use Rattle.nr_machine.specs.declared.roles.Desk.{Desk}
-use Rattle.nr_machine.specs.declared.roles.Role.TheVariants.{Writer}
-use Rattle.nr_machine.specs.declared.shape.Shape.{Shape}
+use Rattle.nr_core.specs.declared.places.Place.TheVariants.{Idle}
+use Rattle.nr_core.specs.declared.places.Retired.{Retired}
+use Rattle.nr_core.specs.declared.roles.Desk.{Desk}
+use Rattle.nr_core.specs.declared.roles.Role.TheVariants.{Writer}
+use Rattle.nr_core.specs.declared.shape.Shape.{Shape}
 use Rattle.nr_board.proofs.BoardPlaces.{departures_at, departures_in, stands}
 use Rattle.nr_board.proofs.Sweeps.{probes_so}
 use Rattle.nr_board.specs.Callers.{Table}

@@ -2,16 +2,16 @@ use Rattle.std.proofs.Common.{Bool, ap, arith, cond, get_or, length, refl, subst
 use Rattle.std.proofs.lemmas.Bool.{lt-leb}
 use Rattle.atomic_table.specs.Table.{Allows, Me}
 use Rattle.nr_words.specs.SetWords.{encode}
-use Rattle.nr_machine.specs.Operations.{becomes, going, target_of}
-use Rattle.nr_machine.specs.declared.operation.Operation.{Operation}
-use Rattle.nr_machine.specs.declared.operation.Operation.TheVariants.{Store, Swap}
+use Rattle.nr_core.specs.Operations.{becomes, going, target_of}
+use Rattle.nr_core.specs.declared.operation.Operation.{Operation}
+use Rattle.nr_core.specs.declared.operation.Operation.TheVariants.{Store, Swap}
 use Rattle.nr_words.specs.KeyWords.{naming}
-use Rattle.nr_machine.specs.Slots.{content}
-use Rattle.nr_machine.specs.States.{key_of}
-use Rattle.nr_machine.specs.declared.places.Place.TheVariants.{Putting}
-use Rattle.nr_machine.specs.declared.roles.Desk.{Desk}
-use Rattle.nr_machine.specs.declared.roles.Role.TheVariants.{Writer}
-use Rattle.nr_machine.specs.declared.shape.Shape.{Shape}
+use Rattle.nr_core.specs.Slots.{content}
+use Rattle.nr_core.specs.States.{key_of}
+use Rattle.nr_core.specs.declared.places.Place.TheVariants.{Putting}
+use Rattle.nr_core.specs.declared.roles.Desk.{Desk}
+use Rattle.nr_core.specs.declared.roles.Role.TheVariants.{Writer}
+use Rattle.nr_core.specs.declared.shape.Shape.{Shape}
 use Rattle.nr_board.proofs.WriterSeats.{desk_at, gone_seat}
 use Rattle.nr_board.proofs.WriterSteps.{goes_so}
 use Rattle.nr_board.specs.Callers.{Table}

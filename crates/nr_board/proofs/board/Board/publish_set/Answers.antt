@@ -1,12 +1,12 @@
 use Rattle.std.proofs.Common.{Bool, List, [], ◌++◌, ◌≡◌, ap, arith, false, length, refl, subst, sym, ℕ, ◌*◌, ◌+◌, ◌∙◌}
 use Rattle.std.specs.Prelude.{slice_set}
-use Rattle.nr_machine.specs.Spares.{Spare}
-use Rattle.nr_machine.specs.Writer.{moved_to, unnamed}
-use Rattle.nr_machine.specs.declared.places.Retired.{Retired}
+use Rattle.nr_core.specs.Spares.{Spare}
+use Rattle.nr_core.specs.Writer.{moved_to, unnamed}
+use Rattle.nr_core.specs.declared.places.Retired.{Retired}
 use Rattle.nr_board.proofs.Flagging.{fewer_retired, flags_put}
 use Rattle.nr_board.specs.Flags.{IsFlagged}
-use Rattle.nr_machine.specs.declared.places.Place.TheVariants.{Putting}
-use Rattle.nr_machine.specs.declared.roles.Desk.{Desk}
+use Rattle.nr_core.specs.declared.places.Place.TheVariants.{Putting}
+use Rattle.nr_core.specs.declared.roles.Desk.{Desk}
 use Rattle.nr_board.proofs.Publishing.{published}
 use Rattle.nr_board.proofs.Tokens.{grows_both}
 use Rattle.nr_board.specs.Callers.{Table, token}

@@ -1,7 +1,7 @@
 use Rattle.std.proofs.Common.{ap, arith, subst, sym, ℕ, ◌∙◌, ◌≡◌}
 use Rattle.atomic_table.specs.Table.{Allows}
-use Rattle.nr_machine.specs.declared.roles.Desk.{Desk}
-use Rattle.nr_machine.specs.declared.roles.Role.TheVariants.{Writer}
+use Rattle.nr_core.specs.declared.roles.Desk.{Desk}
+use Rattle.nr_core.specs.declared.roles.Role.TheVariants.{Writer}
 use Rattle.nr_board.proofs.BoardPlaces.{content_at, content_fits, content_in, stands}
 use Rattle.nr_board.proofs.WriterSeats.{put_seat}
 use Rattle.nr_board.proofs.WriterSteps.{puts_so}

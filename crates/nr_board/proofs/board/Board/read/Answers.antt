@@ -1,8 +1,8 @@
 use Rattle.std.proofs.Common.{ap, arith, get_or, subst, sym, ℕ, ◌+◌, ◌-◌, ◌∙◌, ◌≡◌}
 use mathlib.Core.Option.{none}
 use Rattle.atomic_table.specs.Table.{Allows, step}
-use Rattle.nr_machine.specs.Slots.{content}
-use Rattle.nr_machine.specs.declared.shape.Shape.{Shape}
+use Rattle.nr_core.specs.Slots.{content}
+use Rattle.nr_core.specs.declared.shape.Shape.{Shape}
 use Rattle.nr_words.specs.SetWords.{encode}
 use Rattle.nr_board.proofs.BoardPlaces.{content_at, content_fits, content_in, stands}
 use Rattle.nr_board.proofs.ReaderSeats.{read_seat}

@@ -1,9 +1,9 @@
 use Rattle.std.proofs.Common.{ap, arith, refl, subst, sym, ℕ, ◌∙◌, ◌≡◌}
 use Rattle.atomic_table.specs.Table.{Allows}
-use Rattle.nr_machine.specs.Slots.{content}
-use Rattle.nr_machine.specs.declared.places.Place.TheVariants.{Reading}
-use Rattle.nr_machine.specs.declared.roles.Desk.{Desk}
-use Rattle.nr_machine.specs.declared.roles.Role.TheVariants.{Writer}
+use Rattle.nr_core.specs.Slots.{content}
+use Rattle.nr_core.specs.declared.places.Place.TheVariants.{Reading}
+use Rattle.nr_core.specs.declared.roles.Desk.{Desk}
+use Rattle.nr_core.specs.declared.roles.Role.TheVariants.{Writer}
 use Rattle.nr_board.proofs.BoardPlaces.{content_at, content_fits, content_in, stands}
 use Rattle.nr_board.proofs.WriterSeats.{desk_at, gone_seat}
 use Rattle.nr_board.proofs.WriterSteps.{goes_so}

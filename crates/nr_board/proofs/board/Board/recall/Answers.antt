@@ -1,6 +1,6 @@
 use Rattle.std.proofs.Common.{ap, arith, subst, sym, ℕ, ◌+◌, ◌<◌, ◌∙◌, ◌≡◌}
-use Rattle.nr_machine.specs.Slots.{bound_of, content}
-use Rattle.nr_machine.specs.declared.shape.Shape.{Shape}
+use Rattle.nr_core.specs.Slots.{bound_of, content}
+use Rattle.nr_core.specs.declared.shape.Shape.{Shape}
 use Rattle.nr_core.specs.Marks.{set_in}
 use Rattle.nr_board.proofs.BoardPlaces.{content_in, stands}
 use Rattle.nr_board.proofs.Recalling.{recalls_so}

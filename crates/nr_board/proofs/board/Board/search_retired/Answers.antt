@@ -1,5 +1,5 @@
-use Rattle.std.proofs.Common.{ap, length, subst, ◌∙◌}
-use Rattle.nr_machine.specs.Spares.{Spare, none_spare}
+use Rattle.std.proofs.Common.{List, ap, length, subst, sym, ℕ, ◌∙◌}
+use Rattle.nr_core.specs.Spares.{Spare, none_spare}
 use Rattle.nr_board.proofs.RetiredSearch.{lacks_so, takes_first, takes_second}
 use Rattle.nr_board.specs.Flags.{Flagged}
 use Rattle.nr_board.specs.Passes.{PassTakes, PassedTo}
@@ -54,3 +54,15 @@ returns-clause-searches c =
     first.0 second.1)
     c.give_up.ensures.own c.give_up.ensures.ends (second.0 ∙ first.0)
     (c.counts.ensures ∙ ap none_spare (second.0 ∙ first.0))
+
+pub returns-clause-flagged : goal.returns-clause-flagged
+returns-clause-flagged c =
+    let map = c.args.self.now in
+    let first = c.in_default.ensures in
+    let second = c.in_default-pass.ensures.1 in
+    let search = second.search.search in
+    let gave = c.give_up.ensures.ends search.desk search.call search.rows search.role search.place in
+    subst (λ (heard : List ℕ). Flagged map c.args.spare.now.retired heard c.scan_words.new.unheard)
+    (sym (gave.heard ∙ second.heard))
+    (subst (λ (s : Spare). Flagged map s.retired c.scan_words.new.seat.me.0.heard c.scan_words.new.unheard) first.0
+    c.scan_words.ensures.flagged)

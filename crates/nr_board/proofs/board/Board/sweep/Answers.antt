@@ -1,15 +1,15 @@
 use Rattle.std.proofs.Common.{ap, arith, get_or, length, refl, subst, sym, true, false, Bool, List, ℕ, ◌+◌, ◌<◌, ◌∙◌}
 use Rattle.std.proofs.Common.{◌≡◌}
 use Rattle.std.specs.Prelude.{nat_lt}
-use Rattle.nr_machine.specs.Spares.{Spare}
+use Rattle.nr_core.specs.Spares.{Spare}
 use Rattle.nr_board.proofs.Flagging.{unheard_is}
 use Rattle.nr_board.specs.Callers.{Table}
 use Rattle.nr_board.specs.Flags.{IsFlagged}
 use Rattle.nr_board.specs.WholeScans.{is_unheard}
 use Rattle.nr_board.specs.WriterSeats.{MapSeat, RestsAt}
 use Rattle.nr_words.specs.KeyWords.{same_count}
-use Rattle.nr_machine.specs.States.{no_retired}
-use Rattle.nr_machine.specs.declared.places.Retired.{Retired}
+use Rattle.nr_core.specs.States.{no_retired}
+use Rattle.nr_core.specs.declared.places.Retired.{Retired}
 use Rattle.nr_board.proofs.Sweeps.{probes_at, retired_near, swept_more, swept_none, swept_past, swept_unheard}
 use Rattle.nr_board.proofs.Sweeps.{sweeps_free}
 use Rattle.nr_board.specs.Reaping.{ProbesAt, ProbesTo, SweepsFor, SweptTo}

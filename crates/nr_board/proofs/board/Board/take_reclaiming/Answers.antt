@@ -2,8 +2,8 @@ use Rattle.std.proofs.Common.{Bool, List, ap, arith, false, inl, inr, length, re
 use Rattle.std.proofs.Common.{◌+◌, ◌∙◌, ◌≡◌}
 use Rattle.nr_model.specs.Rows.{IsRowSet}
 use Rattle.nr_model.specs.declared.rows.Row.{Row}
-use Rattle.nr_machine.specs.declared.shape.Shape.{Shape}
-use Rattle.nr_machine.specs.Spares.{Spare}
+use Rattle.nr_core.specs.declared.shape.Shape.{Shape}
+use Rattle.nr_core.specs.Spares.{Spare}
 use Rattle.nr_core.specs.Marks.{Marks, set_in}
 use Rattle.nr_board.proofs.Searching.{takes_fresh}
 use Rattle.nr_board.proofs.Waiting.{takes_later}

@@ -1,7 +1,7 @@
 use Rattle.std.proofs.Common.{List, [], arith, length, refl, subst, sym, ◌<◌, ◌∷◌, ◌≡◌}
 use Rattle.std.specs.Prelude.{Result, Ok, Err}
-use Rattle.nr_machine.specs.declared.calls.NoSlot.{NoSlot}
-use Rattle.nr_machine.specs.declared.places.Retired.{Retired}
+use Rattle.nr_core.specs.declared.calls.NoSlot.{NoSlot}
+use Rattle.nr_core.specs.declared.places.Retired.{Retired}
 use Rattle.nr_board.proofs.WordSearches.{lacks_none, lacks_words, searches_in, takes_words}
 use Rattle.nr_board.specs.RetiredSearch.{SearchesFor}
 use Rattle.nr_board.specs.Searches.{TakesFor}

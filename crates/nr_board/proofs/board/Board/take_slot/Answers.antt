@@ -1,5 +1,5 @@
 use Rattle.std.proofs.Common.{subst, sym}
-use Rattle.nr_machine.specs.declared.shape.Shape.{Shape}
+use Rattle.nr_core.specs.declared.shape.Shape.{Shape}
 use Rattle.nr_board.proofs.Searching.{takes_fresh}
 use Rattle.nr_board.specs.WriterSeats.{TakesSlot}
 use Rattle.nr_board.proofs.board.Board.take_slot.Goals as goal

@@ -1,11 +1,11 @@
 use Rattle.std.proofs.Common.{ap, arith, get_or, subst, sym, ℕ, ◌<◌, ◌≤◌, ◌∙◌, ◌≡◌}
 use mathlib.Core.Option.{none}
 use Rattle.atomic_table.specs.Table.{Allows, step}
-use Rattle.nr_machine.specs.Slots.{departures}
+use Rattle.nr_core.specs.Slots.{departures}
 use Rattle.nr_words.specs.declared.layout.Layout.{Layout}
 use Rattle.nr_words.specs.Places.{Departures, place_of}
-use Rattle.nr_machine.specs.declared.places.Retired.{Retired}
-use Rattle.nr_machine.specs.declared.shape.Shape.{Shape}
+use Rattle.nr_core.specs.declared.places.Retired.{Retired}
+use Rattle.nr_core.specs.declared.shape.Shape.{Shape}
 use Rattle.nr_board.proofs.BoardPlaces.{departures_at, departures_in, stands}
 use Rattle.nr_board.proofs.SearchSeats.{has_tried_so, inside_list, there_is}
 use Rattle.nr_board.specs.Callers.{Table}

@@ -1,6 +1,6 @@
 use Rattle.std.proofs.Common.{List, Ok, ap, subst, sym, ℕ, ◌∙◌}
-use Rattle.nr_machine.specs.States.{key_of}
-use Rattle.nr_machine.specs.declared.calls.WriterCall.{WriterCall}
+use Rattle.nr_core.specs.States.{key_of}
+use Rattle.nr_core.specs.declared.calls.WriterCall.{WriterCall}
 use Rattle.nr_board.proofs.Waiting.{given_out}
 use Rattle.nr_board.proofs.WriterCalls.{has_not_updated, has_renewed, has_updated_later}
 use Rattle.nr_board.specs.Flags.{IsFlagged}

@@ -1,11 +1,11 @@
 use Rattle.std.proofs.Common.{ap, arith, false, refl, subst, sym, ℕ, ◌+◌, ◌∙◌, ◌≡◌}
 use Rattle.atomic_table.specs.Table.{Allows}
 use Rattle.nr_words.specs.KeyWords.{hole_word}
-use Rattle.nr_machine.specs.States.{number_at}
-use Rattle.nr_machine.specs.declared.places.Place.TheVariants.{Withdrawing}
-use Rattle.nr_machine.specs.declared.roles.Desk.{Desk}
-use Rattle.nr_machine.specs.declared.roles.Role.TheVariants.{Writer}
-use Rattle.nr_machine.specs.declared.shape.Shape.{Shape}
+use Rattle.nr_core.specs.States.{number_at}
+use Rattle.nr_core.specs.declared.places.Place.TheVariants.{Withdrawing}
+use Rattle.nr_core.specs.declared.roles.Desk.{Desk}
+use Rattle.nr_core.specs.declared.roles.Role.TheVariants.{Writer}
+use Rattle.nr_core.specs.declared.shape.Shape.{Shape}
 use Rattle.nr_board.proofs.WriterSeats.{desk_at, gone_seat}
 use Rattle.nr_board.proofs.WriterSteps.{goes_so}
 use Rattle.nr_board.specs.Callers.{Table}

@@ -1,6 +1,6 @@
 use Rattle.std.proofs.Common.{Bool, List, ap, arith, false, get_or, length, set, subst, sym, ℕ, ◌+◌, ◌<◌, ◌≡◌}
-use Rattle.nr_machine.specs.States.{no_retired}
-use Rattle.nr_machine.specs.declared.places.Retired.{Retired}
+use Rattle.nr_core.specs.States.{no_retired}
+use Rattle.nr_core.specs.declared.places.Retired.{Retired}
 use Rattle.nr_board.proofs.PollNotes.{at_get}
 use Rattle.nr_board.proofs.ScannedWords.{ClearedTo, cleared_more, cleared_none, none_flagged}
 use Rattle.nr_board.proofs.scans.Unheard.clear_retired.Goals as goal
