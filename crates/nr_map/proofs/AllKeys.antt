@@ -13,10 +13,10 @@ use Rattle.nr_model.specs.Laws.{pending}
 use Rattle.nr_model.specs.Maps.{call_key, state_of}
 use Rattle.nr_core.proofs.Histories.{length-now}
 use Rattle.nr_core.proofs.Sums.{below-change, below-first, below-same, below-sum, below-zero}
-use Rattle.nr_machine.specs.declared.shape.Shape.{Shape}
-use Rattle.nr_machine.specs.Slots.{bound_of}
-use Rattle.nr_machine.specs.Story.{map_after}
-use Rattle.nr_machine.specs.Sums.{below, total}
+use Rattle.nr_core.specs.declared.shape.Shape.{Shape}
+use Rattle.nr_core.specs.Slots.{bound_of}
+use Rattle.nr_core.specs.Story.{map_after}
+use Rattle.nr_core.specs.Sums.{below, total}
 use Rattle.nr_map.proofs.Gathered.{entries_are_callers_lem}
 use Rattle.nr_board.specs.Entries.{AreCallers}
 use Rattle.nr_map.specs.Rounds.{BeginningsMeet, SendsOfAllKeys, is_cancel, is_fill, is_sent}

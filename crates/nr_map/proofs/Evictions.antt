@@ -2,9 +2,9 @@
 use Rattle.std.proofs.Common.{◌≡◌, ℕ, [], ◌∷◌, ap, arith}
 use Rattle.nr_core.proofs.Sums.{total-append}
 use Rattle.nr_core.specs.Roles.{retirements}
-use Rattle.nr_machine.specs.Spares.{Spare}
-use Rattle.nr_machine.specs.Sums.{only}
-use Rattle.nr_machine.specs.declared.places.Retired.{Retired}
+use Rattle.nr_core.specs.Spares.{Spare}
+use Rattle.nr_core.specs.Sums.{only}
+use Rattle.nr_core.specs.declared.places.Retired.{Retired}
 use Rattle.nr_board.specs.Callers.{Caller}
 use Rattle.nr_board.specs.WriterAnswers.{EvictsKey}
 use Rattle.nr_board.specs.declared.answers.Evict.{Evict}

@@ -9,12 +9,12 @@ use Rattle.nr_model.proofs.HistoryLemmas.{count_by-cons, sends_are_answered_lem}
 use Rattle.nr_model.specs.Histories.{Entry, asks, entries_of, cancels_key, fills_key, is_cancelled, is_done, is_send}
 use Rattle.nr_core.proofs.Histories.{of-append}
 use Rattle.nr_core.proofs.Sums.{below-change, below-first, below-zero}
-use Rattle.nr_machine.specs.Sums.{below, total}
+use Rattle.nr_core.specs.Sums.{below, total}
 use Rattle.nr_board.proofs.Gathering.{just_calls}
 use Rattle.nr_board.specs.Callers.{Caller}
 use Rattle.nr_board.proofs.Entries.{nobody_else}
 use Rattle.nr_map.specs.Rounds.{CallsStay, EntriesAreCallers, RoundsTellAll, SendsOfAll}
-use Rattle.nr_machine.specs.Slots.{bound_of}
+use Rattle.nr_core.specs.Slots.{bound_of}
 
 pub calls_stay_lem : CallsStay
 calls_stay_lem log later caller goes_on has =

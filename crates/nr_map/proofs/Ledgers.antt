@@ -12,8 +12,8 @@ use mathlib.Core.Option.{some, some-injective, some-ne-none}
 use native.Mathlib.Decide.{dec_le, ℕ_discrete}
 use Rattle.nr_core.proofs.Choices.{by_cases}
 use Rattle.nr_core.proofs.Sums.{at_remove, at_snoc, total-append}
-use Rattle.nr_machine.specs.declared.places.Retired.{Retired}
-use Rattle.nr_machine.specs.declared.shape.Shape.{Shape}
+use Rattle.nr_core.specs.declared.places.Retired.{Retired}
+use Rattle.nr_core.specs.declared.shape.Shape.{Shape}
 use Rattle.nr_model.proofs.HistoryLemmas.{count_by-cons}
 use Rattle.nr_model.specs.Histories.{Entry, IsLegal, entries_of, is_done}
 use Rattle.nr_model.specs.Maps.{PartialMap, ask_reply, call_key, find_reply, next, reply_to, state_of}
@@ -25,7 +25,7 @@ use Rattle.nr_model.specs.declared.calls.Reply.TheVariants as reply
 use Rattle.nr_model.specs.declared.rows.Row.{Row}
 use Rattle.nr_model.specs.declared.states.KeyState.{KeyState}
 use Rattle.nr_model.specs.declared.states.KeyState.TheVariants.{Asked, Hole, Rows}
-use Rattle.nr_machine.specs.Story.{entry}
+use Rattle.nr_core.specs.Story.{entry}
 use Rattle.nr_core.specs.Marks.{Marks, Past, LoggedLoad, with_scan}
 use Rattle.nr_core.specs.Pasts.{Living}
 use Rattle.nr_core.specs.Puts.{put_count, puts_set}
@@ -33,7 +33,7 @@ use Rattle.nr_board.specs.declared.answers.Cancel.TheVariants as cancel
 use Rattle.nr_board.specs.declared.answers.Evict.TheVariants as evict
 use Rattle.nr_board.specs.Callers.{Caller, Gains, Table, map_at_opening}
 use Rattle.nr_board.specs.Entries.{AreCallers, is_reading}
-use Rattle.nr_machine.specs.Spares.{Spare}
+use Rattle.nr_core.specs.Spares.{Spare}
 use Rattle.nr_board.specs.Reaping.{ready_to}
 use Rattle.nr_board.specs.Spares.{not_passed}
 use Rattle.nr_board.specs.WriterAnswers.{Publishes, Retires, RetiresOne}

@@ -2,8 +2,8 @@
 use Rattle.std.proofs.Common.{◌≡◌, ℕ, ◌+◌, ◌≤◌, List, [], ◌∷◌, ◌++◌, get_or, inl, inr, ⊎_elim, length, refl, sym, ap}
 use Rattle.std.proofs.Common.{◌∙◌, subst, arith}
 use Rattle.nr_model.specs.Maps.{filled_count}
-use Rattle.nr_machine.specs.declared.places.Retired.{Retired}
-use Rattle.nr_machine.specs.declared.shape.Shape.{Shape}
+use Rattle.nr_core.specs.declared.places.Retired.{Retired}
+use Rattle.nr_core.specs.declared.shape.Shape.{Shape}
 use Rattle.nr_core.specs.MarkLaws.{DoneByMarks, NoSlotByMarks}
 use Rattle.nr_core.specs.Exact.{TookSpare}
 use Rattle.nr_core.specs.Marks.{Marks, Past}
@@ -11,7 +11,7 @@ use Rattle.nr_core.specs.Pasts.{AllReaders}
 use Rattle.nr_core.specs.PollNotes.{AllHeld, Noted}
 use Rattle.nr_core.proofs.PutNumbers.{count_grows, count_more}
 use Rattle.nr_core.specs.Puts.{put_count}
-use Rattle.nr_machine.specs.Story.{entry, map_after}
+use Rattle.nr_core.specs.Story.{entry, map_after}
 use Rattle.nr_model.specs.declared.calls.Call.{Call}
 use Rattle.nr_model.specs.declared.calls.Reply.TheVariants as reply
 use Rattle.nr_model.specs.declared.rows.Row.{Row}

@@ -11,9 +11,9 @@ use Rattle.nr_model.specs.declared.calls.Call.TheVariants as model
 use Rattle.nr_model.specs.declared.calls.Reply.TheVariants as reply
 use Rattle.nr_model.specs.declared.rows.Row.{Row}
 use Rattle.nr_model.specs.Rows.{IsRowSet}
-use Rattle.nr_machine.specs.Slots.{name_number}
-use Rattle.nr_machine.specs.Story.{entry}
-use Rattle.nr_machine.specs.declared.roles.Role.{Role}
+use Rattle.nr_core.specs.Slots.{name_number}
+use Rattle.nr_core.specs.Story.{entry}
+use Rattle.nr_core.specs.declared.roles.Role.{Role}
 use Rattle.nr_core.specs.Marks.{LoggedLoad, Marks, acted, gripped, with_loads}
 use Rattle.nr_core.specs.Puts.{put_number}
 use Rattle.nr_board.proofs.Holding.{rests_gains}
@@ -31,6 +31,13 @@ use Rattle.nr_map.specs.Pins.{HoldsSlot, Pins, PinsKey}
 use Rattle.nr_map.specs.Hands.{CopiesHeld, FindsKept, Handed, HoldsKey, KeepsByHand, LetsGo, MovesByHand, PinsByHand}
 use Rattle.nr_map.specs.Hands.{departed, goes_on, handed, steps_to_depart}
 use Rattle.nr_map.proofs.HandSteps.{finds_loud, holds_slot, loud_by_word}
+
+-- what a hold says of the table behind a map, it says of the map
+pub on_map : {board map : Table} (key : ℕ) (old new : MapSeat) (held : Option Held) → board ≡ map
+    → HoldsAfter 0 (finds_by_word (token old)) board key old.me.0.marks old new held
+    → HoldsAfter 0 (finds_by_word (token old)) map key old.me.0.marks old new held
+on_map key old new held =
+    subst (λ (t : Table). HoldsAfter 0 (finds_by_word (token old)) t key old.me.0.marks old new held)
 
 -- a reader that found a hole comes back
 pub pins_hole : (table : Table) (key : ℕ) (reader back : Caller) (old new : MapSeat) → token old ≡ reader

@@ -6,7 +6,7 @@ use Rattle.nr_model.specs.declared.calls.Call.{Call}
 use Rattle.nr_model.specs.declared.calls.Call.TheVariants as model
 use Rattle.nr_model.specs.Histories.{Entry}
 use Rattle.nr_model.specs.Laws.{BringsRowSet, RowsStayWithinBound}
-use Rattle.nr_machine.specs.declared.shape.Shape.{Shape}
+use Rattle.nr_core.specs.declared.shape.Shape.{Shape}
 use Rattle.nr_board.specs.Entries.{AreCallers, is_reading}
 use Rattle.nr_map.specs.RowBounds.{RowsFitTheMap}
 

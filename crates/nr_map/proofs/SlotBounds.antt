@@ -5,10 +5,10 @@ use Rattle.std.proofs.lemmas.List.Sums.{count_by-le-length}
 use Rattle.nr_model.specs.Histories.{Entry}
 use Rattle.nr_model.specs.Maps.{filled_count, is_filled_key}
 use Rattle.nr_core.proofs.Histories.{length-now}
-use Rattle.nr_machine.specs.declared.shape.Shape.{Shape}
-use Rattle.nr_machine.specs.Story.{map_after}
+use Rattle.nr_core.specs.declared.shape.Shape.{Shape}
+use Rattle.nr_core.specs.Story.{map_after}
 use Rattle.nr_board.specs.Callers.{Table}
-use Rattle.nr_machine.specs.Spares.{Spare}
+use Rattle.nr_core.specs.Spares.{Spare}
 use Rattle.nr_map.specs.SlotBounds.{NoSlotIsRare, SearchesAreShort, RoomForFills, RoomForReplacements, RoomForUpdates}
 
 -- no more keys are filled than there are

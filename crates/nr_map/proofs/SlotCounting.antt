@@ -1,6 +1,6 @@
 -- What the writer's lists say of its slots.
 use Rattle.std.proofs.Common.{◌≡◌, List, ap, arith, length}
-use Rattle.nr_machine.specs.declared.places.Retired.{Retired}
+use Rattle.nr_core.specs.declared.places.Retired.{Retired}
 use Rattle.nr_board.specs.Callers.{Table}
 use Rattle.nr_map.specs.SlotCounts.{CountsAtNoSlot}
 

@@ -6,7 +6,7 @@ use Rattle.std.specs.Prelude.{if◌then◌else◌}
 use Rattle.std.proofs.lemmas.Bool.{cases_eq, cases_Bool, cases_lt, eq-eqb, ne_eqb}
 use Rattle.std.proofs.lemmas.List.{length-set, length-replicate}
 use Rattle.nr_core.proofs.Histories.{length-after}
-use Rattle.nr_machine.specs.Story.{entry}
+use Rattle.nr_core.specs.Story.{entry}
 use Rattle.nr_core.specs.Puts.{puts_at}
 use Rattle.nr_model.proofs.LawLemmas.{legal_begins_lem, legal_goes_on_lem}
 use Rattle.nr_board.specs.Callers.{Caller, Gains, Table, map_at_opening}
@@ -163,11 +163,12 @@ step_puts map key e near legal put =
     (ap is_done (sym legal) ∙ parts.0))
 
 -- as many keys after an entry
-near_next : (map : PartialMap) (key : ℕ) (call : Call) → key < length map.states → key < length (next map call).states
+pub near_next : (map : PartialMap) (key : ℕ) (call : Call) → key < length map.states
+    → key < length (next map call).states
 near_next map key call near =
     omega (arith, length-set map.states (call_key call) (state_after map.bound call (state_of map (call_key call))))
 
-last_put : (log : List Entry) (map : PartialMap) (key n : ℕ) (rows : List Row) → key < length map.states
+pub last_put : (log : List Entry) (map : PartialMap) (key n : ℕ) (rows : List Row) → key < length map.states
     → IsLegal map log → state_of (after map log) key ≡ Rows n rows → NonePut map key log rows ⊎ LastPut map key log rows
 last_put [] map key n rows near legal is = inl (record { none = refl; number = n; rows_had = is })
 last_put (e ∷ log) map key n rows near legal is = ⊎_elim
@@ -213,11 +214,12 @@ filled_on (e ∷ log) map key near legal none filled = ⊎_elim
     (omega (arith, count_by-cons (evicts_at key) e log, none)) (step_filled map key e near legal.0 isnt filled))
     (cases_Bool (evicts_at key e))
 
-after_both : (log later : List Entry) (map : PartialMap) → after map (log ++ later) ≡ after (after map log) later
+pub after_both : (log later : List Entry) (map : PartialMap) → after map (log ++ later) ≡ after (after map log) later
 after_both [] later map = refl
 after_both (e ∷ log) later map = after_both log later (next map e.call)
 
-legal_later : (log later : List Entry) (map : PartialMap) → IsLegal map (log ++ later) → IsLegal (after map log) later
+pub legal_later : (log later : List Entry) (map : PartialMap) → IsLegal map (log ++ later)
+    → IsLegal (after map log) later
 legal_later [] later map legal = legal
 legal_later (e ∷ log) later map legal = legal_later log later (next map e.call) legal.1
 
@@ -227,7 +229,8 @@ no_hole (Hole m) n filled is = absurd (cc)
 no_hole (Asked m) n filled is = absurd (cc)
 no_hole (Rows m rows) n filled is = absurd (cc)
 
-rows_of : (state : KeyState) (rows : List Row) → find_reply state ≡ reply.Rows rows → (n : ℕ) × (state ≡ Rows n rows)
+pub rows_of : (state : KeyState) (rows : List Row) → find_reply state ≡ reply.Rows rows
+    → (n : ℕ) × (state ≡ Rows n rows)
 rows_of (Hole m) rows is = absurd (cc)
 rows_of (Asked m) rows is = absurd (cc)
 rows_of (Rows m old) rows is = (m, cc)

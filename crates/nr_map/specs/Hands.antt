@@ -21,7 +21,7 @@ use Rattle.nr_board.specs.Views.{View, rows_held, view_of}
 use Rattle.nr_map.specs.declared.hand.Kept.{Kept}
 use Rattle.nr_map.specs.Answers.{FindsIn, MarksFound}
 use Rattle.nr_map.specs.Pins.{HoldsSlot, Pinned, Pins}
-use Rattle.nr_machine.specs.Slots.{name_number}
+use Rattle.nr_core.specs.Slots.{name_number}
 use Rattle.nr_words.specs.KeyWords.{is_filled}
 use Rattle.nr_map.specs.Tokens.{IsReader}
 

@@ -1,6 +1,6 @@
 -- The tokens of a new map.
 use Rattle.std.specs.Prelude.{◌≡◌, ℕ, ◌+◌, ◌<◌, List, [], All, length, None, Some, replicate, slice_get}
-use Rattle.nr_machine.specs.declared.shape.Shape.{Shape}
+use Rattle.nr_core.specs.declared.shape.Shape.{Shape}
 use Rattle.atomic_table.specs.declared.shared.Seat.{Seat}
 use Rattle.nr_core.specs.Marks.{Marks, no_marks, opening_marks}
 use Rattle.nr_board.specs.Callers.{Caller, Table}

@@ -5,7 +5,7 @@ use Rattle.nr_model.specs.Histories.{Entry, IsLegal, asks, cancels, cancels_key,
 use Rattle.nr_model.specs.Histories.{is_cancelled, is_done, is_send, sends}
 use Rattle.nr_model.specs.Laws.{pending}
 use Rattle.nr_model.specs.Maps.{call_key, state_of}
-use Rattle.nr_machine.specs.Sums.{total}
+use Rattle.nr_core.specs.Sums.{total}
 use Rattle.nr_board.specs.Callers.{Caller, KnowsOwn, map_seen, map_at_opening}
 use Rattle.nr_board.specs.Entries.{AreCallers}
 use Rattle.nr_board.specs.Rule.{StartsWith}

@@ -2,7 +2,7 @@
 use Rattle.std.specs.Prelude.{◌≡◌, ℕ, ◌+◌, length}
 use Rattle.nr_model.specs.Maps.{filled_count}
 use Rattle.nr_model.specs.declared.calls.Call.{Call}
-use Rattle.nr_machine.specs.declared.calls.NoSlot.{NoSlot}
+use Rattle.nr_core.specs.declared.calls.NoSlot.{NoSlot}
 use Rattle.nr_board.specs.Callers.{Caller, map_seen}
 use Rattle.nr_board.specs.Meetings.{Learns}
 use Rattle.nr_board.specs.WriterAnswers.{HasNoSlot}

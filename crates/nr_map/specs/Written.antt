@@ -8,7 +8,7 @@ use Rattle.nr_model.specs.declared.rows.Row.{Row}
 use Rattle.nr_model.specs.declared.states.KeyState.TheVariants as state
 use Rattle.nr_model.specs.Histories.{Entry, IsLegal, after}
 use Rattle.nr_model.specs.Maps.{PartialMap, call_key, find_reply, next, state_of}
-use Rattle.nr_machine.specs.Story.{entry}
+use Rattle.nr_core.specs.Story.{entry}
 use Rattle.nr_core.specs.Puts.{puts_at}
 use Rattle.nr_board.specs.declared.answers.Found.{Found}
 use Rattle.nr_board.specs.declared.answers.Found.TheVariants as found

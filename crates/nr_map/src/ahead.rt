@@ -2,7 +2,7 @@
 ghost use Rattle.std.specs.Prelude.{◌≡◌, ◌<◌, ◌≤◌, ◌+◌, ◌*◌, All, length};
 ghost use Rattle.nr_model.specs.declared.rows.TheConstants.{MAX_ROWS};
 ghost use Rattle.nr_words.specs.Places.{total_of};
-ghost use Rattle.nr_machine.specs.Slots.{layout};
+ghost use Rattle.nr_core.specs.Slots.{layout};
 ghost use Rattle.nr_board.specs.Callers.{token};
 ghost use Rattle.nr_map.specs.FindsEach.{LoadsNear, loads_of_key, more_lines, with_loads};
 

@@ -129,7 +129,8 @@ impl Hand {
         ensures reads { CopiesHeld (2 * length self.old.rows) self.old self.new }
     {
         if let Some(kept) = self.held {
-            self.caller.copy(map, kept.set, rows);
+            map.board
+                .copy_from::<0, R>(&mut self.caller.seat, kept.set, rows);
         }
     }
 
@@ -179,7 +180,8 @@ impl Hand {
         ensures idle { self.old.key ≡ None → self.new ≡ self.old }
     {
         if let Some(kept) = self.held {
-            self.caller.release(map, kept.set);
+            map.board
+                .let_go(&mut self.caller.seat, self.caller.own, kept.set);
             self.held = None;
         }
     }
@@ -193,7 +195,10 @@ impl Hand {
         ensures pins { PinsByHand key self.old self.new result }
     {
         self.release(map);
-        match self.caller.hold(map, key) {
+        match map
+            .board
+            .hold_key(&mut self.caller.seat, self.caller.own, key)
+        {
             Some(set) => {
                 self.held = Some(Kept { key, set });
                 true
@@ -212,7 +217,10 @@ impl Hand {
         ensures again { AgainByHand key self.old self.new result }
     {
         match self.held {
-            Some(kept) if kept.key == key => self.caller.again(map, kept.set, key),
+            Some(kept) if kept.key == key => {
+                map.board
+                    .find_again(&mut self.caller.seat, kept.set.slot, key)
+            }
             _ => false,
         }
     }

@@ -1,6 +1,6 @@
 //! Maps that are larger than those of scripts.
 ghost use Rattle.std.specs.Prelude.{◌≡◌, ◌↔◌, IfOk, Err};
-ghost use Rattle.nr_machine.specs.Sizes.{IsBadLargeShape};
+ghost use Rattle.nr_core.specs.Sizes.{IsBadLargeShape};
 ghost use Rattle.nr_map.specs.Opened.{IsOpened, words_of_large};
 
 use crate::reader::Reader;

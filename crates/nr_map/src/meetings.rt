@@ -3,6 +3,7 @@ ghost use Rattle.std.specs.Prelude.{◌≡◌, ◌<◌};
 ghost use Rattle.nr_board.specs.Meetings.{Gathers, Meets, StatesKey, with_step};
 
 use crate::hand::Hand;
+use crate::pin::Pin;
 use crate::reader::Reader;
 use crate::reader_map::ReaderMap;
 use crate::writer::Writer;
@@ -49,6 +50,16 @@ impl ReaderMap {
     {
         self.board.hear(&mut writer.seat, &mut reader.caller.seat);
         self.board.hear(&mut reader.caller.seat, &mut writer.seat);
+    }
+
+    /// The same with a reader that holds a set, which it keeps.
+    pub fn gather_pin(&self, writer: &mut Writer, pin: &mut Pin)
+        requires own { (pin.old.reader.table ≡ self.now) × (writer.old.table ≡ self.now) }
+        ensures gathers { Gathers writer.old pin.old.reader writer.new pin.new.reader }
+        ensures rows { pin.new.rows ≡ pin.old.rows }
+    {
+        self.board.hear(&mut writer.seat, &mut pin.caller.seat);
+        self.board.hear(&mut pin.caller.seat, &mut writer.seat);
     }
 
     /// The same with a hand's reader. What the hand holds stays held.

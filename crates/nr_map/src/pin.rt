@@ -42,7 +42,7 @@ impl ReaderMap {
         ensures { PinsKey key reader result }
     {
         let mut caller = reader.into_token();
-        match caller.hold(self, key) {
+        match self.board.hold_key(&mut caller.seat, caller.own, key) {
             Some(held) => Ok(Pin { caller, held }),
             None => Err(Reader::of_token(caller)),
         }
@@ -95,7 +95,8 @@ impl Pin {
         ensures says { self.new.reader.says ≡ self.old.reader.says }
         ensures marks { self.new.reader.marks ≡ self.old.reader.marks }
     {
-        self.caller.copy(map, self.held, rows);
+        map.board
+            .copy_from::<0, RowSet>(&mut self.caller.seat, self.held, rows);
     }
 
     /// Finds a key again, in 1 step, which loads one word and writes none: whether the key still has
@@ -112,7 +113,8 @@ impl Pin {
         ensures says { self.new.reader.says ≡ self.old.reader.says }
         ensures marks { LooksAgain key self.old.reader.holds result self.old.reader.marks self.new.reader.marks }
     {
-        self.caller.again(map, self.held, key)
+        map.board
+            .find_again(&mut self.caller.seat, self.held.slot, key)
     }
 
     /// Ends the hold, in 1 step, and gives the reader back.
@@ -124,7 +126,7 @@ impl Pin {
         ensures marks { result.marks ≡ acted self.reader.marks self.reader.marks.put }
     {
         let Pin { mut caller, held } = self;
-        caller.release(map, held);
+        map.board.let_go(&mut caller.seat, caller.own, held);
         Reader::of_token(caller)
     }
 }

@@ -3,8 +3,8 @@ ghost use Rattle.std.specs.Prelude.{◌≡◌, ◌<◌, ◌≤◌, ◌⊎◌, �
 ghost use Rattle.nr_model.specs.declared.rows.TheConstants.{DEFAULT_ROWS, MAX_ROWS};
 ghost use Rattle.nr_model.specs.declared.seq_map.TheConstants.{MAX_KEYS};
 ghost use Rattle.nr_model.specs.Sizes.{IsBadSize};
-ghost use Rattle.nr_machine.specs.Sizes.{IsShape, IsBadShape};
-ghost use Rattle.nr_machine.specs.declared.shape.TheConstants.{MAX_READERS, MAX_SLOTS};
+ghost use Rattle.nr_core.specs.Sizes.{IsShape, IsBadShape};
+ghost use Rattle.nr_core.specs.declared.shape.TheConstants.{MAX_READERS, MAX_SLOTS};
 ghost use Rattle.nr_map.specs.Opened.{IsOpened, Seated};
 
 use crate::reader::Reader;
@@ -23,7 +23,7 @@ pub struct ReaderMap {
 }
 
 impl Model for ReaderMap {
-    ghost use Rattle.nr_machine.specs.Sizes.{IsShape};
+    ghost use Rattle.nr_core.specs.Sizes.{IsShape};
     ghost use Rattle.nr_board.specs.Callers.{Table};
 
     ghost Value = { Table };

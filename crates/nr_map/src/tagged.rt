@@ -88,16 +88,16 @@ impl Token {
         ensures finds { FindsTagged R.shows tag key (token self.old.seat) rows.old (token self.new.seat) rows.new result }
         ensures marks { MarksFound key (token self.old.seat) (token self.new.seat) (found_of result) }
     {
-        let Some(held) = self.hold(map, key) else {
+        let Some(held) = map.board.hold_key(&mut self.seat, self.own, key) else {
             return Tagged::Hole;
         };
         let answer = if self.begins_with(map, held, tag) {
-            map.board.copy_behind(&mut self.seat, held, rows);
+            map.board.copy_from::<1, R>(&mut self.seat, held, rows);
             Tagged::Rows
         } else {
             Tagged::Other
         };
-        self.release(map, held);
+        map.board.let_go(&mut self.seat, self.own, held);
         answer
     }
 

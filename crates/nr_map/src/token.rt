@@ -48,60 +48,6 @@ impl Token {
         self.own.index + 1
     }
 
-    /// Finds a key and holds its set; `None` where the key is a hole.
-    #[inline(always)]
-    pub(crate) fn hold(&mut self, map: &ReaderMap, key: u32) -> Option<Held>
-        requires reader { IsReader self.old.seat self.old.own }
-        requires idle { IdlesAt map.now self.old.seat }
-        requires key { key < map.now.shape.keys }
-        ensures own { self.new.own ≡ self.old.own }
-        ensures holds { HoldsAfter 0 (finds_by_word (token self.old.seat)) map.now key (view_of self.old.seat).marks self.old.seat self.new.seat result }
-    {
-        map.board.hold_key(&mut self.seat, self.own, key)
-    }
-
-    /// Writes the rows of the set that is held, in 2 steps a row.
-    #[inline(always)]
-    pub(crate) fn copy<R: RowRoom>(&mut self, map: &ReaderMap, held: Held, rows: &mut R)
-        requires held { HeldAs map.now held self.old.seat }
-        ensures own { self.new.own ≡ self.old.own }
-        ensures held { HeldAs map.now held self.new.seat }
-        ensures rows { R.shows rows.new (rows_held (view_of self.old.seat).role) }
-        ensures same { rows_held (view_of self.new.seat).role ≡ rows_held (view_of self.old.seat).role }
-        ensures rests { Rests (2 * length (rows_held (view_of self.old.seat).role)) (token self.old.seat) (token self.new.seat) }
-        ensures hold { (token self.new.seat).holds ≡ (token self.old.seat).holds }
-        ensures marks { (view_of self.new.seat).marks ≡ (view_of self.old.seat).marks }
-    {
-        map.board.copy_held(&mut self.seat, held, rows);
-    }
-
-    /// Finds a key again, in 1 step: whether it has the set still that is held.
-    pub(crate) fn again(&mut self, map: &ReaderMap, held: Held, key: u32) -> bool
-        requires held { HeldAs map.now held self.old.seat }
-        requires key { key < map.now.shape.keys }
-        ensures own { self.new.own ≡ self.old.own }
-        ensures held { HeldAs map.now held self.new.seat }
-        ensures role { (view_of self.new.seat).role ≡ (view_of self.old.seat).role }
-        ensures finds { FindsByPin key (rows_held (view_of self.old.seat).role) (token self.old.seat) (token self.new.seat) result }
-        ensures exact { (result ≡ true) ↔ HasPut key (view_of self.old.seat).marks.put (token self.new.seat) }
-        ensures marks { LooksAgain key (token self.old.seat).holds result (view_of self.old.seat).marks (view_of self.new.seat).marks }
-    {
-        map.board.find_again(&mut self.seat, held.slot, key)
-    }
-
-    /// Lets go what is held, in 1 step.
-    #[inline(always)]
-    pub(crate) fn release(&mut self, map: &ReaderMap, held: Held)
-        requires reader { IsReader self.old.seat self.old.own }
-        requires held { HeldAs map.now held self.old.seat }
-        ensures own { self.new.own ≡ self.old.own }
-        ensures idle { IdlesAt map.now self.new.seat }
-        ensures rests { Rests 1 (token self.old.seat) (token self.new.seat) }
-        ensures marks { (view_of self.new.seat).marks ≡ acted (view_of self.old.seat).marks (view_of self.old.seat).marks.put }
-    {
-        map.board.let_go(&mut self.seat, self.own, held);
-    }
-
     /// Looks a key up, and writes its rows where it is filled: nothing is held before and after.
     #[inline(always)]
     pub(crate) fn find<R: RowRoom>(&mut self, map: &ReaderMap, key: u32, rows: &mut R) -> Found
@@ -113,11 +59,11 @@ impl Token {
         ensures finds { FindsIn R.shows key (token self.old.seat) rows.old (token self.new.seat) rows.new result }
         ensures marks { MarksFound key (token self.old.seat) (token self.new.seat) result }
     {
-        let Some(held) = self.hold(map, key) else {
+        let Some(held) = map.board.hold_key(&mut self.seat, self.own, key) else {
             return Found::Hole;
         };
-        self.copy(map, held, rows);
-        self.release(map, held);
+        map.board.copy_from::<0, R>(&mut self.seat, held, rows);
+        map.board.let_go(&mut self.seat, self.own, held);
         Found::Rows
     }
 

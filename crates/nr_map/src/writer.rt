@@ -1,8 +1,8 @@
 //! The writer's token.
 ghost use Rattle.std.specs.Prelude.{◌≡◌, false, [], replicate, IfOk};
-ghost use Rattle.nr_machine.specs.Sizes.{IsShape};
-ghost use Rattle.nr_machine.specs.States.{opening_desk};
-ghost use Rattle.nr_machine.specs.declared.roles.Role.TheVariants.{Writer as writer_role};
+ghost use Rattle.nr_core.specs.Sizes.{IsShape};
+ghost use Rattle.nr_core.specs.States.{opening_desk};
+ghost use Rattle.nr_core.specs.declared.roles.Role.TheVariants.{Writer as writer_role};
 ghost use Rattle.nr_board.specs.Callers.{KnowsOwn, token};
 ghost use Rattle.nr_board.specs.Views.{view_of};
 

@@ -1,5 +1,5 @@
 use Rattle.std.proofs.Common.{ap, arith, replicate, ◌∙◌}
-use Rattle.nr_machine.specs.declared.shape.Shape.{Shape}
+use Rattle.nr_core.specs.declared.shape.Shape.{Shape}
 use Rattle.nr_core.specs.Marks.{opening_marks}
 use Rattle.nr_map.specs.Opened.{newcomer}
 use Rattle.nr_map.proofs.Seating.{all_own}

@@ -1,4 +1,4 @@
-use Rattle.nr_machine.specs.declared.calls.WriterCall.TheVariants.{Fill}
+use Rattle.nr_core.specs.declared.calls.WriterCall.TheVariants.{Fill}
 use Rattle.nr_map.proofs.reader_map.ReaderMap.fill_reclaiming.Given as goal
 
 abbrev pub ghosts-fill_reclaiming : goal.ghosts-fill_reclaiming

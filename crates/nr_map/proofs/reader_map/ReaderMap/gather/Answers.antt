@@ -1,5 +1,5 @@
 use Rattle.std.proofs.Common.{subst}
-use Rattle.nr_machine.specs.declared.roles.Grip.TheVariants.{Nothing}
+use Rattle.nr_core.specs.declared.roles.Grip.TheVariants.{Nothing}
 use Rattle.nr_board.proofs.Gathering.{gathers_seats}
 use Rattle.nr_board.specs.Callers.{Caller, token}
 use Rattle.nr_board.specs.Meetings.{Gathers}
