@@ -11,7 +11,7 @@ use Rattle.nr_model.specs.Histories.{Entry, after, entries_of}
 use Rattle.nr_model.specs.Maps.{PartialMap, asked as asked_after, key_count, next, number_of, state_of}
 use Rattle.nr_model.proofs.HistoryLemmas.{state_of-next_same}
 use Rattle.nr_core.proofs.Histories.{of-append}
-use Rattle.nr_machine.specs.Story.{entry}
+use Rattle.nr_core.specs.Story.{entry}
 use Rattle.nr_board.proofs.Entries.{callers_before, callers_of_more}
 use Rattle.nr_board.proofs.KeySets.{none_between}
 use Rattle.nr_board.specs.Callers.{Caller, Grows, KnowsOwn, Table, map_at_opening, map_seen}

@@ -8,7 +8,7 @@ use Rattle.nr_model.specs.declared.states.KeyState.TheVariants.{Hole}
 use Rattle.nr_model.specs.Histories.{Entry, IsLegal, after, entries_of}
 use Rattle.nr_model.specs.Maps.{PartialMap, call_key, key_count, next, reply_to, state_after, state_of}
 use Rattle.nr_model.proofs.HistoryLemmas.{state_of-next_other, state_of-next_same}
-use Rattle.nr_machine.specs.Story.{entry}
+use Rattle.nr_core.specs.Story.{entry}
 use Rattle.nr_board.proofs.Entries.{callers_before, callers_of_more}
 use Rattle.nr_board.proofs.KeySets.{none_between}
 use Rattle.nr_board.specs.Callers.{Caller, Gains, Grows, IsSound, Table, map_at_opening, map_seen}

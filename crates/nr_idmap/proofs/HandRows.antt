@@ -11,7 +11,7 @@ use Rattle.nr_model.specs.declared.calls.Reply.TheVariants as reply
 use Rattle.nr_model.specs.declared.states.KeyState.TheVariants.{Hole, Rows}
 use Rattle.nr_model.specs.Histories.{Entry, after}
 use Rattle.nr_model.specs.Maps.{PartialMap, find_reply, key_count, state_of}
-use Rattle.nr_machine.specs.Story.{entry}
+use Rattle.nr_core.specs.Story.{entry}
 use Rattle.nr_board.specs.declared.answers.Found.TheVariants as answer
 use Rattle.nr_board.specs.Callers.{Gains, Table, map_at_opening}
 use Rattle.nr_map.specs.Hands.{Handed}

@@ -77,7 +77,7 @@ module _ {Room : Type 0} (shows : Room → List Row → Type 0) (of_map : FindsW
         after answer
     by_answer new room after found.Rows finds =
         let looked : Token = finds.2 in ⊎_elim
-        (λ gone. inl (set_on note.ids.seen way finds.0.is_marked looked new.ids finds.4 gone))
+        (λ gone. inl (set_on note.ids.seen way finds.0.way finds.0.is_marked looked new.ids finds.4 gone))
         (λ put. inr put)
         (in_way finds.0 looked new after found.Rows (finds.3.1.steps + (2 * length (tag_of id ∷ finds.1) + 1))
         (reply.Rows (tag_of id ∷ finds.1))

@@ -16,7 +16,7 @@ use Rattle.nr_model.specs.Histories.{Entry, IsLegal, after}
 use Rattle.nr_model.specs.Maps.{PartialMap, asked, call_key, cancelled, evict_reply, filled, key_count, next}
 use Rattle.nr_model.specs.Maps.{replace_reply, replaced, reply_to, state_after, state_of, updated}
 use Rattle.nr_model.proofs.HistoryLemmas.{count_by-cons, one, state_of-next_other, state_of-next_same}
-use Rattle.nr_machine.specs.Story.{entry}
+use Rattle.nr_core.specs.Story.{entry}
 use Rattle.nr_board.specs.Callers.{Table, map_at_opening}
 use Rattle.nr_board.specs.Rule.{StartsWith}
 use Rattle.nr_map.specs.Written.{LastPut, NonePut, evicts_at, is_evicted}

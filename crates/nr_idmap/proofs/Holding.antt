@@ -41,7 +41,7 @@ module _ (id : ℕ) (at : NamedWay) (old now : IdHanded) (is : old ≡ now) (ids
 
   module _ (keeps : KeepsIn at.way (with_line_loaded old).hand before hand set answer.Rows) (slice : List Row)
       (same : slice ≡ set) where
-    pub holds_rows : HasTag id slice → (marked : Token) → SetsMark at.is_marked ids marked →
+    pub holds_rows : HasTag id slice → (marked : Token) → SetsMark at.way at.is_marked ids marked →
         HoldsAnew id now (record { hand = hand; ids = marked; id = Some id }) found.Rows
     holds_rows tag marked marks =
         subst (λ (o : IdHanded). HoldsAnew id o (record { hand = hand; ids = marked; id = Some id }) found.Rows) is (

@@ -8,7 +8,7 @@ use Rattle.nr_model.specs.declared.states.KeyState.{KeyState}
 use Rattle.nr_model.specs.declared.states.KeyState.TheVariants.{Hole, Asked, Rows}
 use Rattle.nr_model.specs.Histories.{Entry, IsLegal, after}
 use Rattle.nr_model.specs.Maps.{opening}
-use Rattle.nr_machine.specs.Story.{entry}
+use Rattle.nr_core.specs.Story.{entry}
 use Rattle.nr_board.specs.Callers.{Table, map_at_opening, map_seen}
 use Rattle.nr_ids.proofs.Logs.{one_way}
 use Rattle.nr_idmap.specs.Keepers.{Agrees, IsTied, Keeper, Owed, name_at, owed_at, owed_for, state_at}

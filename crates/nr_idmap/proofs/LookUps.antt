@@ -43,10 +43,10 @@ pub grown_on : (told : List Event) (way : ℕ) (acts : List Event) (old new : To
 grown_on told way acts old new grows gone =
     subst (IsUnnamedSince told way) (sym grows.seen) (unnamed_on told way old.seen grows.rest gone)
 
-pub set_on : (told : List Event) (way : ℕ) (marked : Bool) (old new : Token) → SetsMark marked old new
+pub set_on : (told : List Event) (way at : ℕ) (marked : Bool) (old new : Token) → SetsMark at marked old new
     → IsUnnamedSince told way old.seen → IsUnnamedSince told way new.seen
-set_on told way true old new same gone = subst (λ (t : Token). IsUnnamedSince told way t.seen) (sym same) gone
-set_on told way false old new grows gone = grown_on told way _ old new grows gone
+set_on told way at true old new same gone = subst (λ (t : Token). IsUnnamedSince told way t.seen) (sym same) gone
+set_on told way at false old new grows gone = grown_on told way _ old new grows gone
 
 -- a token that heard of a way's name looks it up there, unless the name was taken since
 pub looks_there : FindsWhatItHeard → (note : Known) (id way : ℕ) (old new : Token) (there : Option NamedWay) → 0 < id
@@ -72,5 +72,5 @@ looks_there law note id way old new there real named heard looks = in_way there 
         (law note id way near new None real named begun looked)
     in_way (Some at) looked = ⊎_elim
         (λ (is : Some at.way ≡ Some way). inr is)
-        (λ gone. inl (grown_on note.seen way _ looked.0 new looked.2 gone))
+        (λ gone. inl (grown_on note.seen way _ looked.0 new looked.2.looks gone))
         (law note id way near looked.0 (Some at.way) real named begun looked.1)

@@ -10,6 +10,7 @@ use Rattle.nr_model.specs.declared.states.KeyState.{KeyState}
 use Rattle.nr_model.specs.declared.states.KeyState.TheVariants.{Hole, Asked, Rows}
 use Rattle.nr_model.specs.Maps.{find_reply, state_of}
 use Rattle.nr_board.specs.Callers.{Caller, Gains, map_seen}
+use Rattle.nr_board.specs.WriterAnswers.{SlotsStay}
 use Rattle.nr_ids.specs.Answers.{FindsWay}
 use Rattle.nr_ids.specs.Events.{looks, name_of}
 use Rattle.nr_ids.specs.Tokens.{Token}
@@ -68,15 +69,16 @@ module _ (w a w' : Caller) (c c' : Token) (tied : IsTied (keeper_of w a c)) (id 
 module _ {Room : Type 0} (shows : Room → List Row → Type 0) (id way : ℕ) (old now new : Keeper) (before after : Room)
     (result : Looked)
     (is : old ≡ now) (finds : FindsWay id old.clerk new.clerk (Some way)) where
-  pub looks_pending : Gains 1 (Find way) old.writer new.writer reply.Hole → after ≡ before → result ≡ looked.Pending →
-      LooksById shows id now before new after result
-  looks_pending gains same answer = subst (LooksById shows id now before new after) (sym answer)
-      (subst (λ (o : Keeper). LooksById shows id o before new after looked.Pending) is (way, finds, gains, same))
+  pub looks_pending : Gains 1 (Find way) old.writer new.writer reply.Hole → SlotsStay old.writer new.writer
+      → after ≡ before → result ≡ looked.Pending → LooksById shows id now before new after result
+  looks_pending gains stay same answer = subst (LooksById shows id now before new after) (sym answer)
+      (subst (λ (o : Keeper). LooksById shows id o before new after looked.Pending) is (way, finds, gains, stay, same))
 
   pub looks_rows : (set : List Row) → Gains (2 * length set + 2) (Find way) old.writer new.writer (reply.Rows set) →
-      (rows : List Row) × (set ≡ tag_of id ∷ rows) → (copied : Bool) → CopiesBehind shows id set before after copied →
-      result ≡ looked.Rows → LooksById shows id now before new after result
-  looks_rows set gains tag true copies answer = subst (LooksById shows id now before new after) (sym answer)
+      SlotsStay old.writer new.writer → (rows : List Row) × (set ≡ tag_of id ∷ rows) → (copied : Bool) →
+      CopiesBehind shows id set before after copied → result ≡ looked.Rows →
+      LooksById shows id now before new after result
+  looks_rows set gains stay tag true copies answer = subst (LooksById shows id now before new after) (sym answer)
       (subst (λ (o : Keeper). LooksById shows id o before new after looked.Rows) is (
         way,
         copies.0,
@@ -84,7 +86,8 @@ module _ {Room : Type 0} (shows : Room → List Row → Type 0) (id way : ℕ) (
           finds,
           subst (λ (s : List Row). Gains (2 * length s + 2) (Find way) old.writer new.writer (reply.Rows s)) copies.1
               gains,
+          stay,
         ),
         copies.2,
       ))
-  looks_rows set gains tag false copies answer = absurd (copies.0 tag.0 tag.1)
+  looks_rows set gains stay tag false copies answer = absurd (copies.0 tag.0 tag.1)

@@ -7,7 +7,7 @@ use Rattle.std.proofs.lemmas.List.{get_or_past, get_or-replicate, length-replica
 use Rattle.nr_model.specs.declared.states.KeyState.TheVariants.{Hole}
 use Rattle.nr_model.specs.Histories.{Entry, IsLegal, after, entries_of}
 use Rattle.nr_model.specs.Maps.{opening, state_of}
-use Rattle.nr_machine.specs.declared.shape.Shape.{Shape}
+use Rattle.nr_core.specs.declared.shape.Shape.{Shape}
 use Rattle.nr_core.specs.Marks.{no_marks}
 use Rattle.nr_board.specs.Callers.{Caller, KnowsOwn, Table, map_at_opening}
 use Rattle.nr_board.specs.Entries.{AreCallers}

@@ -12,7 +12,7 @@ use Rattle.nr_model.specs.declared.states.KeyState.TheVariants.{Hole, Asked, Row
 use Rattle.nr_model.specs.Histories.{Entry, after, entries_of}
 use Rattle.nr_model.specs.Maps.{PartialMap, call_key, key_count, next, state_after, state_of}
 use Rattle.nr_model.proofs.HistoryLemmas.{state_of-next_other, state_of-next_same}
-use Rattle.nr_machine.specs.declared.shape.Shape.{Shape}
+use Rattle.nr_core.specs.declared.shape.Shape.{Shape}
 use Rattle.nr_board.specs.Entries.{AreCallers, IsCallers, is_reading}
 use Rattle.nr_idmap.specs.Keepers.{Agrees, owed_for}
 use Rattle.nr_idmap.specs.Tidy.{IsTidy, KeepsTags}

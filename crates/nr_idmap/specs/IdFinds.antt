@@ -5,9 +5,9 @@ use Rattle.nr_board.specs.Holds.{FindsHole, FindsRows}
 use Rattle.nr_board.specs.Callers.{Caller}
 use Rattle.nr_map.specs.FindsEach.{with_loads}
 use Rattle.nr_ids.specs.Answers as ids
-use Rattle.nr_ids.specs.Events.{looks}
-use Rattle.nr_ids.specs.Marks.{LooksAtMark, SetsMark}
-use Rattle.nr_ids.specs.Tokens.{Grows, Token}
+use Rattle.nr_ids.specs.Looking.{group_for}
+use Rattle.nr_ids.specs.Marks.{LoadsMarks, LooksAtMark, SetsMark}
+use Rattle.nr_ids.specs.Tokens.{Token}
 use Rattle.nr_idmap.specs.declared.finds.FoundId.{FoundId}
 use Rattle.nr_idmap.specs.declared.finds.FoundId.TheVariants as found
 use Rattle.nr_idmap.specs.declared.finds.NamedWay.{NamedWay}
@@ -20,13 +20,14 @@ with_line reader = record reader { caller = with_loads 1 reader.caller }
 
 -- a look-up of an id's name, and where a way has it one look at that way's mark
 abbrev pub LooksForWay : ℕ → Token → Token → Option NamedWay → Type 0
-LooksForWay id old new (Some at) = (named : Token) × ids.LooksUp id old named (Some at.way) × LooksAtMark named new
+LooksForWay id old new (Some at) =
+    (named : Token) × ids.LooksUp id old named (Some at.way) × LooksAtMark at.way at.is_marked named new
 LooksForWay id old new None = ids.LooksUp id old new None
 
--- such a look-up of one id alone: the word of its group's marks was loaded before, which tells nothing
+-- such a look-up of one id alone: its group's marks were loaded before
 abbrev pub LooksAlone : ℕ → Token → Token → Option NamedWay → Type 0
 LooksAlone id old new named =
-    (near : Token) × Grows (looks 1 old.number) old near × LooksForWay id near new named
+    (near : Token) × LoadsMarks (group_for old id) old near × LooksForWay id near new named
 
 -- the set was found in the id's way, and so many of its rows were read: the call's entry in the map's history
 abbrev pub FindsInWay : ℕ → NamedWay → ℕ → List Row → IdCaller → Caller → Token → Type 0
@@ -41,7 +42,7 @@ abbrev pub FindsByName : {Room : Type 0} → (Room → List Row → Type 0) → 
 FindsByName shows id old before new room found.Rows =
     (at : NamedWay) × (rows : List Row) × (looked : Token)
     × FindsInWay id at (length (tag_of id ∷ rows)) (tag_of id ∷ rows) old new.caller looked
-    × SetsMark at.is_marked looked new.ids × shows room rows
+    × SetsMark at.way at.is_marked looked new.ids × shows room rows
 FindsByName shows id old before new room found.Pending =
     (at : NamedWay) × LooksAlone id old.ids new.ids (Some at) × FindsHole 0 at.way old.caller new.caller
     × (room ≡ before)

@@ -1,14 +1,13 @@
 -- Finds by id of many ids.
-use Rattle.std.specs.Prelude.{◌≡◌, ◌≢◌, ℕ, zero, suc, ◌+◌, ◌*◌, ◌/◌, ◌<◌, min, List, [], ◌∷◌, length, take, drop}
+use Rattle.std.specs.Prelude.{◌≡◌, ◌≢◌, ℕ, zero, suc, ◌+◌, ◌*◌, ◌/◌, ◌<◌, min, List, [], ◌∷◌, length, map, take, drop}
 use Rattle.std.specs.Prelude.{Option, Some, None, IfSome}
 use Rattle.nr_model.specs.declared.rows.Row.{Row}
 use Rattle.nr_board.specs.Holds.{FindsHole, FindsRows}
 use Rattle.nr_map.specs.FindsEach.{loads_of_key, with_loads}
 use Rattle.nr_map.specs.declared.tagged.Tagged.{Tagged}
 use Rattle.nr_map.specs.declared.tagged.Tagged.TheVariants as tagged
-use Rattle.nr_ids.specs.Events.{looks}
-use Rattle.nr_ids.specs.Marks.{SetsMark}
-use Rattle.nr_ids.specs.Tokens.{Grows, Token}
+use Rattle.nr_ids.specs.Marks.{LoadsNames, SetsMark}
+use Rattle.nr_ids.specs.Tokens.{Token}
 use Rattle.nr_idmap.specs.declared.finds.FoundId.{FoundId}
 use Rattle.nr_idmap.specs.declared.finds.FoundId.TheVariants as found
 use Rattle.nr_idmap.specs.declared.finds.NamedWay.{NamedWay}
@@ -25,7 +24,7 @@ answer_told tagged.Other = found.Moved
 answer_told tagged.Hole = found.Pending
 
 abbrev pub MarksTold : Tagged → NamedWay → Token → Token → Type 0
-MarksTold tagged.Rows at old new = SetsMark at.is_marked old new
+MarksTold tagged.Rows at old new = SetsMark at.way at.is_marked old new
 MarksTold tagged.Other at old new = new ≡ old
 MarksTold tagged.Hole at old new = new ≡ old
 
@@ -35,7 +34,7 @@ abbrev pub FindsInside : {Room : Type 0} → (Room → List Row → Type 0) → 
 FindsInside shows id at old before new room found.Rows =
     (rows : List Row)
     × FindsRows (2 * length (tag_of id ∷ rows) + 1) at.way (tag_of id ∷ rows) old.caller new.caller
-    × SetsMark at.is_marked old.ids new.ids × shows room rows
+    × SetsMark at.way at.is_marked old.ids new.ids × shows room rows
 FindsInside shows id at old before new room found.Pending =
     FindsHole 0 at.way old.caller new.caller × (new.ids ≡ old.ids) × (room ≡ before)
 FindsInside shows id at old before new room found.Moved =
@@ -64,12 +63,15 @@ pub record FindsWantedId {Room : Type 0} (shows : Room → List Row → Type 0) 
 abbrev pub IsInside : {Room : Type 0} → ℕ → WantedId Room → Type 0
 IsInside keys wanted = IfSome wanted.at (λ at. at.way < keys)
 
--- of at most sixteen: a name of each group was loaded ahead; all were looked up in turn; the words that finds in their
--- ways need were loaded ahead; and all were found in turn
+abbrev pub ids_of : {Room : Type 0} → List (WantedId Room) → List ℕ
+ids_of {Room = Room} wanted = map (λ (one : WantedId Room). one.id) wanted
+
+-- of at most sixteen: the first name of each one's group was loaded ahead; all were looked up in turn; the words that
+-- finds in their ways need were loaded ahead; and all were found in turn
 pub record FindsBatch {Room : Type 0} (shows : Room → List Row → Type 0) (old : IdCaller)
     (wanted : List (WantedId Room)) (new : IdCaller) (told : List (WantedId Room)) : Type 0 where
   pub ahead : Token
-  pub loads : Grows (looks (length wanted) old.ids.number) old.ids ahead
+  pub loads : LoadsNames (ids_of wanted) old.ids ahead
   pub looked : Token
   pub ways : List (WantedId Room)
   pub looks : InTurn LooksUpWanted ahead wanted looked ways

@@ -107,7 +107,7 @@ abbrev pub HoldsByName : ℕ → IdHanded → IdHanded → FoundId → Type 0
 HoldsByName id old new found.Rows =
     (at : NamedWay) × (rows : List Row) × (looked : Token) × LooksAlone id old.ids looked (Some at)
     × KeepsWay at.way old.hand new.hand answer.Rows × (new.hand.rows ≡ tag_of id ∷ rows)
-    × SetsMark at.is_marked looked new.ids × (new.id ≡ Some id)
+    × SetsMark at.way at.is_marked looked new.ids × (new.id ≡ Some id)
 HoldsByName id old new found.Pending =
     (at : NamedWay) × LooksAlone id old.ids new.ids (Some at) × KeepsWay at.way old.hand new.hand answer.Hole
     × (new.id ≡ None)
@@ -127,7 +127,9 @@ HoldsAnew id old new told = HoldsByName id (with_line_loaded old) new told
 
 -- the way whose set is held is marked as found unless it is
 pub record MarksHeld (old new : IdHanded) : Type 0 where
-  pub marks : Marks old.ids new.ids
+  pub way : ℕ
+  pub held : old.hand.key ≡ Some way
+  pub marks : Marks way old.ids new.ids
   pub hand : new.hand ≡ old.hand
   pub id_is : new.id ≡ old.id
 

@@ -8,7 +8,7 @@ use Rattle.nr_model.specs.declared.calls.Call.TheVariants.{Find}
 use Rattle.nr_model.specs.declared.states.KeyState.TheVariants as state
 use Rattle.nr_model.specs.Histories.{Entry, after}
 use Rattle.nr_model.specs.Maps.{state_of}
-use Rattle.nr_machine.specs.Story.{entry}
+use Rattle.nr_core.specs.Story.{entry}
 use Rattle.nr_core.specs.Puts.{puts_at}
 use Rattle.nr_board.specs.Callers.{map_at_opening}
 use Rattle.nr_board.specs.Rule.{StartsWith}

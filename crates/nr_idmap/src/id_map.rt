@@ -1,7 +1,7 @@
 //! The map over ids, and its opening.
 ghost use Rattle.std.specs.Prelude.{◌≡◌, ◌↔◌, IsTrue};
 ghost use Rattle.nr_idmap.specs.IdOpenings.{IsBadIdShape, shape_of};
-ghost use Rattle.nr_machine.specs.Sizes.{IsBadLargeShape};
+ghost use Rattle.nr_core.specs.Sizes.{IsBadLargeShape};
 
 use nr_ids::{Directory, MAX_GROUPS};
 use nr_map::{MAX_LARGE_READERS, MAX_LARGE_SLOTS, ReaderMap, Shape};

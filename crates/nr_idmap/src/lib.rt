@@ -23,6 +23,7 @@ mod rows;
 mod tokens;
 mod upqueries;
 mod wanted;
+mod ways;
 mod writes;
 
 pub use finds::FoundId;

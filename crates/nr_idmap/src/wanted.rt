@@ -1,11 +1,10 @@
 //! Finds of many ids by one call.
 ghost use Rattle.std.specs.Prelude.{◌≡◌, ◌+◌, ◌<◌, ◌≤◌, ◌*◌, ℕ, All, IfSome, length, min, take};
 ghost use Rattle.nr_board.specs.Callers.{Caller};
-ghost use Rattle.nr_ids.specs.Events.{looks};
-ghost use Rattle.nr_ids.specs.Tokens.{Grows};
+ghost use Rattle.nr_ids.specs.Marks.{LoadsNames};
 ghost use Rattle.nr_map.specs.FindsEach.{loads_of_key, with_loads};
 ghost use Rattle.nr_idmap.specs.declared.finds.FoundId.TheVariants.{Absent};
-ghost use Rattle.nr_idmap.specs.IdFindsEach.{FindsBatch, FindsEachId, FindsWantedId, IsInside, LooksUpWanted};
+ghost use Rattle.nr_idmap.specs.IdFindsEach.{FindsBatch, FindsEachId, FindsWantedId, IsInside, LooksUpWanted, ids_of};
 ghost use Rattle.nr_idmap.specs.InTurn.{InTurn};
 ghost use Rattle.nr_idmap.specs.Keepers.{id_table_of};
 
@@ -80,7 +79,7 @@ impl IdMap {
         requires own { ids.old.directory ≡ self.now.directory }
         requires few { length wanted.now ≤ 16 }
         ensures own { ids.new.directory ≡ self.now.directory }
-        ensures loads { Grows (looks (length wanted.now) ids.old.number) ids.old ids.new }
+        ensures loads { LoadsNames (ids_of wanted.now) ids.old ids.new }
     {
         let mut all = [0; BATCH];
         copy_ids(wanted, &mut all);
@@ -150,6 +149,7 @@ impl IdMap {
 // Writes the ids over the first ones there.
 fn copy_ids<R>(wanted: &[WantedId<R>], ids: &mut [u64; BATCH])
     requires few { length wanted.now ≤ 16 }
+    ensures { take (length wanted.now) ids.new ≡ ids_of wanted.now }
 {
     for place in 0..wanted.len() {
         ids[place] = wanted[place].id;

@@ -1,15 +1,15 @@
 -- Calls of a few steps: what each step gains adds up, and where a scan finds no name the id had no way at some moment.
 use Rattle.std.proofs.Common.{◌≡◌, ◌≢◌, ℕ, zero, suc, ◌+◌, ◌-◌, ◌*◌, ◌/◌, ◌%◌, ◌<◌, ◌≤◌, ◌⊎◌, ⊎_elim, inl, inr, List}
 use Rattle.std.proofs.Common.{[], ◌∷◌, ◌++◌, refl, sym, ap, ◌∙◌, subst, arith, append_assoc, length-append, Option}
-use Rattle.std.proofs.Common.{Some, None, Ok, Err}
+use Rattle.std.proofs.Common.{Some, None, Ok, Err, Bool, true, false}
 use Rattle.std.specs.Prelude.{IfNone, IfSome}
 use Rattle.std.specs.Option.{ok_or}
 use mathlib.Core.Logic.{dite}
 use native.Mathlib.Decide.{dec_le, ℕ_discrete}
 use Rattle.nr_ids.specs.declared.plan.Plan.{Plan}
 use Rattle.nr_ids.specs.Groups.{IsWayOf, group_at, group_of, group_of_way, places, second_of, way_at, ways}
-use Rattle.nr_ids.specs.Events.{Event, named, unnamed, cleared, claimed, looked, own, looks, name_of, turn_of, May}
-use Rattle.nr_ids.specs.Events.{IsLegal, IsAbsent, IsOpen, IsClosed, MayName}
+use Rattle.nr_ids.specs.Events.{Event, named, unnamed, cleared, claimed, looked, touched, own, looks, name_of, turn_of}
+use Rattle.nr_ids.specs.Events.{turned, mark_bit, May, IsLegal, IsAbsent, IsOpen, IsClosed, MayName}
 use Rattle.nr_ids.specs.Scans.{Passed}
 use Rattle.nr_ids.specs.declared.admissions.Refused.{Refused}
 use Rattle.nr_ids.specs.declared.admissions.Refused.TheVariants as refused
@@ -18,6 +18,7 @@ use Rattle.nr_ids.specs.Looking.{WasAbsent, FindsAt, FindsIn, HadName, HasRoom, 
 use Rattle.nr_ids.specs.Looking.{MeetsAt, Missed, PassedByClerk, PassesGroup, Rooms, Scans, ScansGroup, SeesRoom}
 use Rattle.nr_ids.specs.Looking.{group_for, way_for, way_in}
 use Rattle.nr_ids.specs.Answers.{WasOpen, Admits}
+use Rattle.nr_ids.specs.Marks.{ChoosesWay, LoadsMarks, TakesMark, TurnsMarks, load_of_marks}
 use Rattle.nr_ids.specs.Tokens.{Opened, Token, Grows, Newest, WinsClaim, Within}
 use Rattle.nr_ids.proofs.Logs.{ClearsNothing, cond_same, cond_else, exact_names, looks_clear_nothing, looks_names}
 use Rattle.nr_ids.proofs.Logs.{named_inside, own_append, quiet_turn, was_odd}
@@ -129,8 +130,7 @@ module _ (plan : Plan) (id : ℕ) (real : 0 < id) where
   search_ways log (suc count) = ⊎_elim
       (λ (t : (i : ℕ) × (i < count) × (name_of log (way_at plan id i) ≡ id)). inl (t.0, omega (arith, t.1), t.2))
       (λ (t : (i : ℕ) → i < count → name_of log (way_at plan id i) ≢ id). dite
-      (ℕ_discrete (name_of log (way_at plan id count)) id)
-      (λ e. inl (count, omega arith, e))
+      (ℕ_discrete (name_of log (way_at plan id count)) id) (λ e. inl (count, omega arith, e))
       (λ ne. inr
       (λ i below. dite (ℕ_discrete i count)
       (λ (e : i ≡ count). λ h. ne (ap (λ (k : ℕ). name_of log (way_at plan id k)) (sym e) ∙ h))
@@ -168,6 +168,7 @@ module _ (plan : Plan) (id : ℕ) (real : 0 < id) where
       first (cleared g) may ne has = absurd (ne has)
       first (claimed by i) may ne has = absurd (ne has)
       first (looked by) may ne has = absurd (ne has)
+      first (touched by touch) may ne has = absurd (ne has)
 
 ends_none : (a b : List Event) → a ++ b ≡ [] → (a ≡ []) × (b ≡ [])
 ends_none [] b e = (refl, e)
@@ -662,3 +663,38 @@ some_on (Some x) P Q f h = f x h
 pub none_on : (r : Option ℕ) (P Q : Type 0) → (P → Q) → IfNone r P → IfNone r Q
 none_on None P Q f h = f h
 none_on (Some x) P Q f h = tt
+
+-- STEPS THAT CHANGE NO NAME
+abbrev pub LeavesNames : Token → Token → Type 0
+LeavesNames old new =
+    (acts : List Event) × Grows acts old new × ((way : ℕ) → name_of (acts ++ old.seen) way ≡ name_of old.seen way)
+
+pub leaves_names : (old new : Token) (way : ℕ) → old.number ≡ 0 → LeavesNames old new
+    → name_of new.seen way ≡ name_of old.seen way
+leaves_names old new way clerk leaves = clerk_names old leaves.0 new way clerk leaves.1 ∙ leaves.2 way
+
+pub looks_leave : (count : ℕ) (old new : Token) → Grows (looks count old.number) old new → LeavesNames old new
+looks_leave count old new grows = (looks count old.number, grows, looks_names count old.number old.seen)
+
+-- a look at a mark, and a choice
+load_then_turn : (group of bits : ℕ) (old mid new : Token) → LoadsMarks group old mid → TurnsMarks of bits mid new
+    → LeavesNames old new
+load_then_turn group of bits old mid new loads turns = (
+  touched mid.number (turned of bits) ∷ load_of_marks old.directory.plan old.number group ∷ [],
+  grows_on old mid new (load_of_marks old.directory.plan old.number group ∷ [])
+      (touched mid.number (turned of bits) ∷ []) loads turns,
+  λ way. refl,
+)
+
+pub takes_leave : (way : ℕ) (old new : Token) (taken : Bool) → TakesMark way old new taken → LeavesNames old new
+takes_leave way old new true takes =
+    load_then_turn (group_of_way way) (group_of_way way) (mark_bit way) old takes.0 new takes.1.looks takes.2
+takes_leave way old new false takes =
+    (load_of_marks old.directory.plan old.number (group_of_way way) ∷ [], takes.looks, λ way. refl)
+
+pub chosen_group : (group way : ℕ) (old new : Token) → ChoosesWay group way old new → group_of_way way ≡ group
+chosen_group group way old new chooses = omega (arith, chooses.way_is, chooses.chooses.place_is)
+
+pub chooses_leave : (group way : ℕ) (old new : Token) → ChoosesWay group way old new → LeavesNames old new
+chooses_leave group way old new chooses =
+    load_then_turn group group chooses.bits old chooses.looked new chooses.looks chooses.turns

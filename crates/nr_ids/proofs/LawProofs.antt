@@ -5,7 +5,8 @@ use mathlib.Core.Logic.{dite}
 use native.Mathlib.Decide.{ℕ_discrete}
 use Rattle.nr_ids.specs.declared.plan.Plan.{Plan}
 use Rattle.nr_ids.specs.Groups.{group_of}
-use Rattle.nr_ids.specs.Events.{Event, named, unnamed, cleared, claimed, looked, name_of, turn_of, May, IsLegal, IsOpen}
+use Rattle.nr_ids.specs.Events.{Event, named, unnamed, cleared, claimed, looked, touched, name_of, turn_of, May}
+use Rattle.nr_ids.specs.Events.{IsLegal, IsOpen}
 use Rattle.nr_ids.specs.Laws.{OneClaim, OneNaming, TurnCounts, FindsWhatItHeard, FindsWhatItKnew, Has, claims, closings}
 use Rattle.nr_ids.specs.Answers.{LooksUp}
 use Rattle.nr_ids.specs.Tokens.{Token, Within}
@@ -36,6 +37,7 @@ odd_until_cleared plan (event ∷ rest) log group legal odd =
         absurd (omega arith))
         (λ t. inr (ap (λ (k : ℕ). k % 2) t.1 ∙ here)) (turn_on plan (rest ++ log) (group_of plan id) group)
     still (looked by) may here = inr here
+    still (touched by touch) may here = inr here
 
 pub one_claim : OneClaim
 one_claim plan rest log by id other twin legal same =
@@ -69,6 +71,7 @@ stays plan (event ∷ rest) log way id legal real at =
     still (cleared g) may here = inl here
     still (claimed by i) may here = inl here
     still (looked by) may here = inl here
+    still (touched by touch) may here = inl here
 
 pub one_naming : OneNaming
 one_naming plan rest log way first id legal = let before = legal_end plan rest (named first id ∷ log) legal.1 in ⊎_elim
@@ -100,6 +103,7 @@ turn_counts plan (claimed by id ∷ log) group =
     ∙ ap (λ (k : ℕ). k + closings group log)
     (sym (cond_else (claims plan group log + 1) (claims plan group log) (group_of plan id) group ne)))
 turn_counts plan (looked by ∷ log) group = turn_counts plan log group
+turn_counts plan (touched by touch ∷ log) group = turn_counts plan log group
 
 has_before : (event : Event) (later since : List Event) → Has event since → Has event (later ++ since)
 has_before event [] since has = has

@@ -6,8 +6,8 @@ use mathlib.Core.Logic.{dite}
 use native.Mathlib.Decide.{ℕ_discrete}
 use Rattle.nr_ids.specs.declared.plan.Plan.{Plan}
 use Rattle.nr_ids.specs.Groups.{IsWayOf, group_of, ways}
-use Rattle.nr_ids.specs.Events.{Event, named, unnamed, cleared, claimed, looked, maker, own, looks, name_of, turn_of}
-use Rattle.nr_ids.specs.Events.{May, IsLegal, IsOpen, IsClosed, last_turn}
+use Rattle.nr_ids.specs.Events.{Event, named, unnamed, cleared, claimed, looked, touched, maker, own, looks, name_of}
+use Rattle.nr_ids.specs.Events.{turn_of, May, IsLegal, IsOpen, IsClosed, last_turn}
 
 module _ {A : Type 0} (x y : A) where
   pub cond_same : (a b : ℕ) → a ≡ b → cond (a == b) x y ≡ x
@@ -56,6 +56,12 @@ exact_names (looked by ∷ rest) seen way = exact_names rest seen way ∙ with_o
         → name_of (own 0 rest ++ seen) way ≡ name_of (cond b (looked by ∷ own 0 rest) (own 0 rest) ++ seen) way
     with_or_without true = refl
     with_or_without false = refl
+exact_names (touched by touch ∷ rest) seen way = exact_names rest seen way ∙ with_or_without (by == 0)
+  where
+    with_or_without : (b : Bool)
+        → name_of (own 0 rest ++ seen) way ≡ name_of (cond b (touched by touch ∷ own 0 rest) (own 0 rest) ++ seen) way
+    with_or_without true = refl
+    with_or_without false = refl
 
 pub quiet_names : (rest seen : List Event) (way : ℕ) → own 0 rest ≡ [] → name_of (rest ++ seen) way ≡ name_of seen way
 quiet_names rest seen way quiet = exact_names rest seen way ∙ ap (λ (l : List Event). name_of (l ++ seen) way) quiet
@@ -73,6 +79,7 @@ ClearsNothing (unnamed way ∷ log) = ClearsNothing log
 ClearsNothing (cleared group ∷ log) = ⊥
 ClearsNothing (claimed by id ∷ log) = ClearsNothing log
 ClearsNothing (looked by ∷ log) = ClearsNothing log
+ClearsNothing (touched by touch ∷ log) = ClearsNothing log
 
 pub looks_clear_nothing : (count by : ℕ) → ClearsNothing (looks count by)
 looks_clear_nothing zero by = tt
@@ -101,6 +108,7 @@ module _ (plan : Plan) where
   named_inside (cleared group ∷ log) way id legal real at = named_inside log way id legal.1 real at
   named_inside (claimed by i ∷ log) way id legal real at = named_inside log way id legal.1 real at
   named_inside (looked by ∷ log) way id legal real at = named_inside log way id legal.1 real at
+  named_inside (touched by touch ∷ log) way id legal real at = named_inside log way id legal.1 real at
 
   -- an id has at most one way
   pub one_way : (log : List Event) (v w id : ℕ) → IsLegal plan log → 0 < id → name_of log v ≡ id → name_of log w ≡ id
@@ -126,6 +134,7 @@ module _ (plan : Plan) where
   one_way (cleared group ∷ log) v w id legal real at_v at_w = one_way log v w id legal.1 real at_v at_w
   one_way (claimed by i ∷ log) v w id legal real at_v at_w = one_way log v w id legal.1 real at_v at_w
   one_way (looked by ∷ log) v w id legal real at_v at_w = one_way log v w id legal.1 real at_v at_w
+  one_way (touched by touch ∷ log) v w id legal real at_v at_w = one_way log v w id legal.1 real at_v at_w
 
   -- a turn goes on by one, or stays
   pub turn_on : (log : List Event) (of group : ℕ)
@@ -146,6 +155,8 @@ module _ (plan : Plan) where
   turn_rises (claimed by id) log group =
       ⊎_elim (λ t. let e = t.1 in omega arith) (λ t. let e = t.1 in omega arith) (turn_on log (group_of plan id) group)
   turn_rises (looked by) log group = let same : turn_of plan log group ≡ turn_of plan log group = refl in omega arith
+  turn_rises (touched by touch) log group =
+      let same : turn_of plan log group ≡ turn_of plan log group = refl in omega arith
 
   pub turn_rose : (rest log : List Event) (group : ℕ) → turn_of plan log group ≤ turn_of plan (rest ++ log) group
   turn_rose [] log group = let same : turn_of plan log group ≡ turn_of plan log group = refl in omega arith
@@ -183,6 +194,7 @@ module _ (plan : Plan) where
       still (cleared g) may even ne = ne
       still (claimed by i) may even ne = ne
       still (looked by) may even ne = ne
+      still (touched by touch) may even ne = ne
 
   -- an odd turn stays where the clerk clears nothing
   pub quiet_turn : (rest log : List Event) (group : ℕ) → ClearsNothing (own 0 rest) → IsLegal plan (rest ++ log)
@@ -210,6 +222,13 @@ module _ (plan : Plan) where
       tail : (b : Bool) → ClearsNothing (cond b (looked by ∷ own 0 rest) (own 0 rest)) → ClearsNothing (own 0 rest)
       tail true h = h
       tail false h = h
+  quiet_turn (touched by touch ∷ rest) log group quiet legal odd =
+      quiet_turn rest log group (tail (by == 0) quiet) legal.1 odd
+    where
+      tail : (b : Bool) → ClearsNothing (cond b (touched by touch ∷ own 0 rest) (own 0 rest))
+          → ClearsNothing (own 0 rest)
+      tail true h = h
+      tail false h = h
 
   -- no turn goes past the last one, which is even
   pub turn_bounded : (log : List Event) (group : ℕ) → IsLegal plan log → turn_of plan log group ≤ last_turn
@@ -233,6 +252,7 @@ module _ (plan : Plan) where
       omega arith)
       (λ t. let e = t.1 in omega arith) (turn_on log (group_of plan id) group)
   turn_bounded (looked by ∷ log) group legal = turn_bounded log group legal.1
+  turn_bounded (touched by touch ∷ log) group legal = turn_bounded log group legal.1
 
   pub open_early : (log : List Event) (group turn : ℕ) → IsLegal plan log → turn ≡ turn_of plan log group → turn % 2 ≡ 1
       → turn < last_turn
@@ -266,3 +286,4 @@ module _ (plan : Plan) where
       first (cleared of) same ne = on of same ne
       first (claimed by id) same ne = on (group_of plan id) same ne
       first (looked by) same ne = absurd (ne same)
+      first (touched by touch) same ne = absurd (ne same)

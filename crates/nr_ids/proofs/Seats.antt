@@ -1,6 +1,7 @@
 -- Each step of a seat on the table may be made, and what it tells is what the seat's token gains.
-use Rattle.std.proofs.Common.{◌≡◌, ℕ, zero, suc, ◌+◌, ◌%◌, ◌<◌, ◌==◌, List, [], ◌∷◌, ◌++◌, length, get_or, set, refl}
-use Rattle.std.proofs.Common.{sym, ap, ◌∙◌, subst, arith}
+use Rattle.std.proofs.Common.{◌≡◌, ℕ, zero, suc, ◌+◌, ◌/◌, ◌%◌, ◌<◌, ◌==◌, cond, List, [], ◌∷◌, ◌++◌, length, get_or}
+use Rattle.std.proofs.Common.{set}
+use Rattle.std.proofs.Common.{refl, sym, ap, ◌∙◌, subst, arith, bit_or, bit_xor}
 use mathlib.Core.Option.{some, none, some-injective, some-ne-none}
 use lib.ListN.{get_elem?}
 use lib.Seq.{set-get_or}
@@ -12,17 +13,20 @@ use Rattle.atomic_table.specs.declared.shared.Seat.{Seat}
 use Rattle.atomic_table.specs.Table.{State, Act, Allows, Valid, carried_after, keeps, opening, step, stepped}
 use Rattle.atomic_table.proofs.Lists.{exchanged}
 use Rattle.nr_ids.specs.declared.plan.Plan.{Plan}
-use Rattle.nr_ids.specs.Groups.{group_of, places, ways, IsPlan}
-use Rattle.nr_ids.specs.Events.{Event, named, unnamed, cleared, claimed, looked, maker, own, name_of, turn_of}
-use Rattle.nr_ids.specs.Events.{last_turn, May, MayName, MayClaim, IsLegal, IsOpen}
+use Rattle.nr_ids.specs.Groups.{group_of, group_of_way, places, ways, IsPlan}
+use Rattle.nr_ids.specs.Events.{Event, named, unnamed, cleared, claimed, looked, touched, loaded, marked, turned, maker}
+use Rattle.nr_ids.specs.Events.{own, mark_bit, marks_of, name_of, turn_of, last_turn, AreMarked, HasMark, May, MayName}
+use Rattle.nr_ids.specs.Events.{MayClaim, IsLegal, IsOpen}
 use Rattle.nr_ids.specs.Rule.{View, Shows, Fits, Kept, opener, counted, marks_place, turn_place, total}
-use Rattle.nr_ids.specs.Plays.{Goes, has_looked_at_name, has_looked_at_turn, has_claimed, has_marked, has_named}
-use Rattle.nr_ids.specs.Plays.{has_unnamed, has_cleared}
+use Rattle.nr_ids.specs.Plays.{Goes, has_looked_at_name, has_looked_at_turn, has_claimed, has_loaded, has_marked}
+use Rattle.nr_ids.specs.Plays.{has_named, has_unnamed, has_cleared, has_turned}
 use Rattle.nr_ids.specs.Scans.{Scanned}
 use Rattle.nr_ids.specs.Tokens.{Opened, Sits, Grows, WinsClaim, token}
 use Rattle.nr_ids.proofs.Logs.{ClearsNothing, own_this, quiet_names, quiet_turn}
+use Rattle.nr_ids.proofs.MarkBits.{quiet_mark, same_way}
 use Rattle.nr_ids.proofs.Scanning.{scan_shows}
-use Rattle.nr_ids.proofs.Steps.{moves, shows_beyond, shows_same, shows_name, shows_turn}
+use Rattle.nr_ids.proofs.Steps.{SameMarks, SameNames, SameTurns, moves, shows_marks, shows_name, shows_same}
+use Rattle.nr_ids.proofs.Steps.{shows_turn}
 
 abbrev pub Caller : Type 0
 Caller = Seat ℕ View
@@ -73,11 +77,13 @@ module _ (table : TableId) (key : Plan) (now : Opened) (about : Stands table key
   does event state kept at by words shows may =
       moves key state kept seat.id seat.me.0 (after kept.log event) at event words sits.calls by shows may refl
 
-  same_words : (state : State ℕ View) (kept : Kept key state) (place by : ℕ)
-      → Shows key (set state.words place (get_or state.words place 0)) (looked by ∷ kept.log)
-  same_words state kept place by =
-      subst (λ (words : List ℕ). Shows key words (looked by ∷ kept.log)) (sym (set-get_or state.words place 0))
-      (shows_same key state.words kept.log kept.shows (looked by) (λ _. refl) (λ _. refl))
+  same_words : (event : Event) (state : State ℕ View) (kept : Kept key state) (place : ℕ)
+      → SameNames key state.words kept.log kept.shows event → SameTurns key state.words kept.log kept.shows event
+      → SameMarks key state.words kept.log kept.shows event
+      → Shows key (set state.words place (get_or state.words place 0)) (event ∷ kept.log)
+  same_words event state kept place names turns marks =
+      subst (λ (words : List ℕ). Shows key words (event ∷ kept.log)) (sym (set-get_or state.words place 0))
+      (shows_same key state.words kept.log kept.shows event names turns marks)
 
   pub looks_at_name : (way : ℕ) → way < ways now.plan → (seat.table_id ≡ table) × (way < table.words)
       × Allows (Kept key) table.slots seat.id seat.me way (λ n. n)
@@ -92,7 +98,7 @@ module _ (table : TableId) (key : Plan) (now : Opened) (about : Stands table key
           keeps,
           tt,
           does event state kept at refl (set state.words way (get_or state.words way 0))
-              (same_words state kept way seat.me.0.number) tt,
+              (same_words event state kept way (λ _. refl) (λ _. refl) (λ _. refl)) tt,
           (goes event state kept at tt, kept.shows.names way near),
         ),
       )
@@ -112,7 +118,7 @@ module _ (table : TableId) (key : Plan) (now : Opened) (about : Stands table key
           keeps,
           tt,
           does event state kept at refl (set state.words place (get_or state.words place 0))
-              (same_words state kept place seat.me.0.number) tt,
+              (same_words event state kept place (λ _. refl) (λ _. refl) (λ _. refl)) tt,
           (
             goes event state kept at tt,
             λ other at_place. let there : place ≡ turn_place key other = omega arith in
@@ -122,23 +128,66 @@ module _ (table : TableId) (key : Plan) (now : Opened) (about : Stands table key
         ),
       )
 
-  -- whatever it makes of a group's marks
-  pub steps_on_marks : (f : ℕ → ℕ) (k : ℕ) (group place : ℕ) → group < now.plan.groups
-      → place ≡ marks_place now.plan group → (seat.table_id ≡ table) × (place < table.words)
-      × Allows (Kept key) table.slots seat.id seat.me place f (has_marked (step table.slots place k 0 none) seat.me)
-  steps_on_marks f k group place low is = let wide = about.wide in
-      let groups : key.groups ≡ now.plan.groups = ap (λ (plan : Plan). plan.groups) about.key_is in (
+  -- a load of any word, which of a group's marks tells what they are
+  pub loads_word : (place : ℕ) → place < total now.plan → (seat.table_id ≡ table) × (place < table.words)
+      × Allows (Kept key) table.slots seat.id seat.me place (λ n. n)
+      (has_loaded (step table.slots place 0 0 none) seat.me)
+  loads_word place low =
+      let wide = about.wide in
+      let total_is : total key ≡ total now.plan = ap total about.key_is in
+      let groups : seat.me.0.plan.groups ≡ key.groups = ap (λ (plan : Plan). plan.groups) plan_is in (
+        own_table,
+        omega (arith, low, wide),
+        λ state kept len at small. let event = touched seat.me.0.number (loaded place) in (
+          after kept.log event,
+          keeps,
+          tt,
+          does event state kept at refl (set state.words place (get_or state.words place 0))
+              (same_words event state kept place (λ _. refl) (λ _. refl) (λ _. refl)) tt,
+          (
+            goes event state kept at tt,
+            λ group at_place. let there : place ≡ marks_place key group = omega (arith, at_place, groups) in
+                let inside : group < key.groups = omega (arith, there, low, total_is) in
+                ap (λ (p : ℕ). get_or state.words p 0) there ∙ kept.shows.marks group inside,
+          ),
+        ),
+      )
+
+  -- a way's use bit is set
+  pub marks_way : (way place bit : ℕ) → way < ways now.plan → place ≡ marks_place now.plan (group_of_way way)
+      → bit ≡ mark_bit way → (seat.table_id ≡ table) × (place < table.words)
+      × Allows (Kept key) table.slots seat.id seat.me place (λ n. bit_or n bit)
+      (has_marked (step table.slots place bit 0 none) seat.me)
+  marks_way way place bit low is bit_is = let wide = about.wide in
+      let group : ℕ = way / 8 in
+      let groups : key.groups ≡ now.plan.groups = ap (λ (plan : Plan). plan.groups) about.key_is in
+      let groups' : seat.me.0.plan.groups ≡ key.groups = ap (λ (plan : Plan). plan.groups) plan_is in
+      let place' : marks_place key group ≡ place = omega arith in (
         own_table,
         omega arith,
         λ state kept len at small.
-            let event = looked seat.me.0.number in let n : ℕ = f (get_or state.words place 0) in (
+            let event = touched seat.me.0.number (marked way) in
+            let n : ℕ = bit_or (get_or state.words place 0) bit in
+            let may : way < ways key = omega arith in (
               after kept.log event,
               keeps,
               tt,
               does event state kept at refl (set state.words place n)
-                  (shows_beyond key state.words kept.log kept.shows event place n (omega arith) (λ _. refl) (λ _. refl))
-                  tt,
-              goes event state kept at tt,
+                  (subst
+                  (λ (p : ℕ). Shows key (set state.words p (bit_or (get_or state.words p 0) bit)) (event ∷ kept.log))
+                  place'
+                  (shows_marks key state.words kept.log kept.shows event group (λ (k : ℕ). bit_or k bit) (omega arith)
+                  (λ _. refl) (λ _. refl)
+                  (λ other. ap
+                  (λ (b : ℕ). cond (group == other) (bit_or (marks_of kept.log other) b) (marks_of kept.log other))
+                  (sym bit_is))))
+                  may,
+              λ other at_place other_bit.
+                  let same : way ≡ other
+                  = same_way way other (omega (arith, at_place, is, groups, groups'))
+                  (sym bit_is ∙ other_bit) in
+                  subst (λ (w : ℕ). Goes (touched seat.me.0.number (marked w)) seat.me.0 (after kept.log event)) same
+                  (goes event state kept at may),
             ),
       )
 
@@ -187,7 +236,8 @@ module _ (table : TableId) (key : Plan) (now : Opened) (about : Stands table key
             keeps,
             tt,
             does event state kept at (sym clerk) (set state.words way id)
-                (shows_name key state.words kept.log kept.shows event way id may.inside (λ _. refl) (λ _. refl)) may',
+                (shows_name key state.words kept.log kept.shows event way id may.inside (λ _. refl) (λ _. refl)
+                (λ _. refl)) may',
             goes event state kept at may',
           ),
         )
@@ -205,7 +255,8 @@ module _ (table : TableId) (key : Plan) (now : Opened) (about : Stands table key
             keeps,
             tt,
             does event state kept at (sym clerk) (set state.words way 0)
-                (shows_name key state.words kept.log kept.shows event way 0 near (λ _. refl) (λ _. refl)) near,
+                (shows_name key state.words kept.log kept.shows event way 0 near (λ _. refl) (λ _. refl)
+                (λ _. refl)) near,
             goes event state kept at near,
           ),
         )
@@ -232,12 +283,54 @@ module _ (table : TableId) (key : Plan) (now : Opened) (about : Stands table key
                 does event state kept at (sym clerk) (set state.words place (was + 1))
                     (subst (λ (p : ℕ). Shows key (set state.words p (was + 1)) (event ∷ kept.log)) place'
                     (shows_turn key state.words kept.log kept.shows event group (was + 1) (omega arith)
-                    (ap (λ (k : ℕ). k + 1) (sym here)) (λ _. refl) (λ _. refl)))
+                    (ap (λ (k : ℕ). k + 1) (sym here)) (λ _. refl) (λ _. refl) (λ _. refl)))
                     may,
                 λ other at_place.
                     let same : group ≡ other = omega arith in
                     subst (λ (g : ℕ). Goes (cleared g) seat.me.0 (after kept.log event)) same
                     (goes event state kept at may),
+              ),
+        )
+
+    -- use bits that are set stay so until the clerk turns them over
+    set_known : (state : State ℕ View) (kept : Kept key state) → get_elem? state.views seat.id ≡ some seat.me.0
+        → (group bits : ℕ) → AreMarked seat.me.0.seen group bits → AreMarked kept.log group bits
+    set_known state kept at group bits were place low on =
+        let later = (kept.fits seat.id seat.me.0 at).later in
+        subst (λ (l : List Event). HasMark (marks_of l group) place) (sym later.is)
+        (quiet_mark key later.rest seat.me.0.seen group place
+        (ap (λ (k : ℕ). own k later.rest) (sym clerk) ∙ later.quiet sits.calls)
+        (subst (IsLegal key) later.is kept.legal) (were place low on))
+
+    pub turns_group : (group place bits : ℕ) → group < now.plan.groups → place ≡ marks_place now.plan group
+        → AreMarked seat.me.0.seen group bits → (seat.table_id ≡ table) × (place < table.words)
+        × Allows (Kept key) table.slots seat.id seat.me place (λ n. bit_xor n bits)
+        (has_turned (step table.slots place bits 0 none) seat.me)
+    turns_group group place bits low is were = let wide = about.wide in
+        let groups : key.groups ≡ now.plan.groups = ap (λ (plan : Plan). plan.groups) about.key_is in
+        let groups' : seat.me.0.plan.groups ≡ key.groups = ap (λ (plan : Plan). plan.groups) plan_is in
+        let place' : marks_place key group ≡ place = omega arith in (
+          own_table,
+          omega arith,
+          λ state kept len at small.
+              let event = touched seat.me.0.number (turned group bits) in
+              let n : ℕ = bit_xor (get_or state.words place 0) bits in
+              let may : May key kept.log event = (clerk, omega arith, set_known state kept at group bits were) in (
+                after kept.log event,
+                keeps,
+                tt,
+                does event state kept at refl (set state.words place n)
+                    (subst
+                    (λ (p : ℕ). Shows key (set state.words p (bit_xor (get_or state.words p 0) bits))
+                    (event ∷ kept.log))
+                    place'
+                    (shows_marks key state.words kept.log kept.shows event group (λ (k : ℕ). bit_xor k bits)
+                    (omega arith) (λ _. refl) (λ _. refl) (λ _. refl)))
+                    may,
+                λ other at_place.
+                    let same : group ≡ other = omega arith in
+                    subst (λ (g : ℕ). Goes (touched seat.me.0.number (turned g bits)) seat.me.0 (after kept.log event))
+                    same (goes event state kept at may),
               ),
         )
 
@@ -282,7 +375,7 @@ module _ (table : TableId) (key : Plan) (now : Opened) (about : Stands table key
                   (subst (λ (p : ℕ). Shows key (set state.words p (was + 1)) (event ∷ kept.log))
                   (ap (turn_place key) of_id ∙ place')
                   (shows_turn key state.words kept.log kept.shows event (group_of key id) (was + 1) (omega arith)
-                  (ap (λ (k : ℕ). k + 1) (sym here)) (λ _. refl) (λ _. refl)))
+                  (ap (λ (k : ℕ). k + 1) (sym here)) (λ _. refl) (λ _. refl) (λ _. refl)))
                   may,
               (λ _. goes event state kept at may, λ ne. absurd (ne hit)),
             ))
@@ -290,7 +383,8 @@ module _ (table : TableId) (key : Plan) (now : Opened) (about : Stands table key
               after kept.log event,
               keeps,
               tt,
-              does event state kept at refl (set state.words place n) (same_words state kept place by) tt,
+              does event state kept at refl (set state.words place n)
+                  (same_words event state kept place (λ _. refl) (λ _. refl) (λ _. refl)) tt,
               (
                 λ hit. absurd (miss hit),
                 λ _. (
@@ -344,6 +438,8 @@ opens_so plan words sizes is = record {
     names = λ way low. ap (λ (l : List ℕ). get_or l way 0) is ∙ get_or-replicate (total plan) way 0 0 (omega arith);
     turns = λ group low. ap (λ (l : List ℕ). get_or l (turn_place plan group) 0) is
         ∙ get_or-replicate (total plan) (turn_place plan group) 0 0 (omega arith);
+    marks = λ group low. ap (λ (l : List ℕ). get_or l (marks_place plan group) 0) is
+        ∙ get_or-replicate (total plan) (marks_place plan group) 0 0 (omega arith);
   };
   legal = tt;
   sizes = sizes;

@@ -1,5 +1,5 @@
 -- A step that adds one event keeps the rule, and so does one that adds none.
-use Rattle.std.proofs.Common.{◌≡◌, ◌≢◌, ℕ, zero, suc, ◌+◌, ◌<◌, ◌≤◌, ◌⊎◌, ⊎_elim, inl, inr, true, ◌==◌, cond, List, []}
+use Rattle.std.proofs.Common.{◌≡◌, ◌≢◌, ℕ, zero, suc, ◌+◌, ◌<◌, ◌⊎◌, ⊎_elim, inl, inr, true, ◌==◌, cond, List, []}
 use Rattle.std.proofs.Common.{◌∷◌, ◌++◌, length, get_or, set, refl, sym, ap, ◌∙◌, subst, arith, get_or-set_other}
 use Rattle.std.proofs.Common.{get_or-set_same}
 use mathlib.Core.Option.{some, some-injective, some-ne-none}
@@ -12,27 +12,35 @@ use Rattle.atomic_table.specs.Table.{State, Splits, Joins}
 use Rattle.atomic_table.proofs.Lists.{at_set, at_snoc, set_else}
 use Rattle.nr_ids.specs.declared.plan.Plan.{Plan}
 use Rattle.nr_ids.specs.Groups.{ways}
-use Rattle.nr_ids.specs.Events.{Event, maker, name_of, turn_of, May}
-use Rattle.nr_ids.specs.Rule.{View, Shows, Fits, Kept, BeginsWith, turn_place, counted, with_reader, next_reader}
-use Rattle.nr_ids.specs.Rule.{note_of, retold, with_note, spent}
+use Rattle.nr_ids.specs.Events.{Event, maker, marks_of, name_of, turn_of, May}
+use Rattle.nr_ids.specs.Rule.{View, Shows, Fits, Kept, BeginsWith, marks_place, turn_place, counted, with_reader}
+use Rattle.nr_ids.specs.Rule.{next_reader, note_of, retold, with_note, spent}
 use Rattle.nr_ids.proofs.Logs.{cond_same, cond_else, own_other}
 
--- the words after a name or a turn is written
+-- the words after a name, a turn or a group's marks are written
 module _ (plan : Plan) (words : List ℕ) (log : List Event) (shows : Shows plan words log) (event : Event) where
-  pub shows_same : ((way : ℕ) → name_of (event ∷ log) way ≡ name_of log way)
-      → ((group : ℕ) → turn_of plan (event ∷ log) group ≡ turn_of plan log group) → Shows plan words (event ∷ log)
-  shows_same names turns =
+  abbrev pub SameNames : Type 0
+  SameNames = (way : ℕ) → name_of (event ∷ log) way ≡ name_of log way
+
+  abbrev pub SameTurns : Type 0
+  SameTurns = (group : ℕ) → turn_of plan (event ∷ log) group ≡ turn_of plan log group
+
+  abbrev pub SameMarks : Type 0
+  SameMarks = (group : ℕ) → marks_of (event ∷ log) group ≡ marks_of log group
+
+  pub shows_same : SameNames → SameTurns → SameMarks → Shows plan words (event ∷ log)
+  shows_same names turns marks =
       record {
         size = shows.size;
         names = λ way low. shows.names way low ∙ sym (names way);
         turns = λ group low. shows.turns group low ∙ sym (turns group);
+        marks = λ group low. shows.marks group low ∙ sym (marks group);
       }
 
   pub shows_name : (way n : ℕ) → way < ways plan
-      → ((other : ℕ) → name_of (event ∷ log) other ≡ cond (way == other) n (name_of log other))
-      → ((group : ℕ) → turn_of plan (event ∷ log) group ≡ turn_of plan log group)
+      → ((other : ℕ) → name_of (event ∷ log) other ≡ cond (way == other) n (name_of log other)) → SameTurns → SameMarks
       → Shows plan (set words way n) (event ∷ log)
-  shows_name way n low names turns = let size = shows.size in record {
+  shows_name way n low names turns marks = let size = shows.size in record {
     size = length-set words way n ∙ shows.size;
     names = λ other near. dite (ℕ_discrete way other)
         (λ (e : way ≡ other). let inside : way < length words = omega arith in
@@ -42,29 +50,16 @@ module _ (plan : Plan) (words : List ℕ) (log : List Event) (shows : Shows plan
         ∙ sym (cond_else n (name_of log other) way other ne) ∙ sym (names other));
     turns = λ group near. let apart : turn_place plan group ≢ way = λ e. absurd (omega arith) in
         get_or-set_other words way (turn_place plan group) n 0 apart ∙ shows.turns group near ∙ sym (turns group);
+    marks = λ group near. let apart : marks_place plan group ≢ way = λ e. absurd (omega arith) in
+        get_or-set_other words way (marks_place plan group) n 0 apart ∙ shows.marks group near ∙ sym (marks group);
   }
 
-  -- what stands behind all turns shows nothing
-  pub shows_beyond : (place n : ℕ) → turn_place plan plan.groups ≤ place
-      → ((way : ℕ) → name_of (event ∷ log) way ≡ name_of log way)
-      → ((group : ℕ) → turn_of plan (event ∷ log) group ≡ turn_of plan log group)
-      → Shows plan (set words place n) (event ∷ log)
-  shows_beyond place n behind names turns = record {
-    size = length-set words place n ∙ shows.size;
-    names = λ way low.
-        let apart : way ≢ place = λ e. absurd (omega arith) in
-        get_or-set_other words place way n 0 apart ∙ shows.names way low ∙ sym (names way);
-    turns = λ group low. let apart : turn_place plan group ≢ place = λ e. absurd (omega arith) in
-        get_or-set_other words place (turn_place plan group) n 0 apart ∙ shows.turns group low ∙ sym (turns group);
-  }
-
-  pub shows_turn : (group n : ℕ) → group < plan.groups → n ≡ turn_of plan log group + 1
-      → ((way : ℕ) → name_of (event ∷ log) way ≡ name_of log way)
+  pub shows_turn : (group n : ℕ) → group < plan.groups → n ≡ turn_of plan log group + 1 → SameNames
       → ((other : ℕ)
       → turn_of plan (event ∷ log) other
       ≡ cond (group == other) (turn_of plan log other + 1) (turn_of plan log other))
-      → Shows plan (set words (turn_place plan group) n) (event ∷ log)
-  shows_turn group n low is names turns = let size = shows.size in record {
+      → SameMarks → Shows plan (set words (turn_place plan group) n) (event ∷ log)
+  shows_turn group n low is names turns marks = let size = shows.size in record {
     size = length-set words (turn_place plan group) n ∙ shows.size;
     names = λ way near. let apart : way ≢ turn_place plan group = λ e. absurd (omega arith) in
         get_or-set_other words (turn_place plan group) way n 0 apart ∙ shows.names way near ∙ sym (names way);
@@ -76,7 +71,36 @@ module _ (plan : Plan) (words : List ℕ) (log : List Event) (shows : Shows plan
         (λ ne. let apart : turn_place plan other ≢ turn_place plan group = λ e. ne (omega arith) in
         get_or-set_other words (turn_place plan group) (turn_place plan other) n 0 apart ∙ shows.turns other near
         ∙ sym (cond_else (turn_of plan log other + 1) (turn_of plan log other) group other ne) ∙ sym (turns other));
+    marks = λ other near. let apart : marks_place plan other ≢ turn_place plan group = λ e. absurd (omega arith) in
+        get_or-set_other words (turn_place plan group) (marks_place plan other) n 0 apart ∙ shows.marks other near
+        ∙ sym (marks other);
   }
+
+  pub shows_marks : (group : ℕ) (f : ℕ → ℕ) → group < plan.groups → SameNames → SameTurns
+      → ((other : ℕ)
+      → marks_of (event ∷ log) other ≡ cond (group == other) (f (marks_of log other)) (marks_of log other))
+      → Shows plan (set words (marks_place plan group) (f (get_or words (marks_place plan group) 0))) (event ∷ log)
+  shows_marks group f low names turns marks =
+      let size = shows.size in
+      let place : ℕ = marks_place plan group in
+      let n : ℕ = f (get_or words place 0) in
+      record {
+        size = length-set words place n ∙ shows.size;
+        names = λ way near. let apart : way ≢ place = λ e. absurd (omega arith) in
+            get_or-set_other words place way n 0 apart ∙ shows.names way near ∙ sym (names way);
+        turns = λ other near. let apart : turn_place plan other ≢ place = λ e. absurd (omega arith) in
+            get_or-set_other words place (turn_place plan other) n 0 apart ∙ shows.turns other near
+            ∙ sym (turns other);
+        marks = λ other near. dite (ℕ_discrete group other)
+            (λ (e : group ≡ other). let inside : place < length words = omega arith in
+            ap (λ (k : ℕ). get_or (set words place n) (marks_place plan k) 0) (sym e)
+            ∙ get_or-set_same words place n 0 inside ∙ ap f (shows.marks group low)
+            ∙ ap (λ (k : ℕ). f (marks_of log k)) e
+            ∙ sym (cond_same (f (marks_of log other)) (marks_of log other) group other e) ∙ sym (marks other))
+            (λ ne. let apart : marks_place plan other ≢ place = λ e. ne (omega arith) in
+            get_or-set_other words place (marks_place plan other) n 0 apart ∙ shows.marks other near
+            ∙ sym (cond_else (f (marks_of log other)) (marks_of log other) group other ne) ∙ sym (marks other));
+      }
 
 module _ (plan : Plan) (state : State ℕ View) (kept : Kept plan state) (id : ℕ) (view next : View)
     (at : get_elem? state.views id ≡ some view) where

@@ -1,16 +1,27 @@
 -- What happens to a directory, newest first: each step of each caller is one event.
-use Rattle.std.specs.Prelude.{◌≡◌, ◌≢◌, ℕ, ◌+◌, ◌%◌, ◌^◌, ◌<◌, ◌==◌, cond, List, [], ◌∷◌, replicate}
+use Rattle.std.specs.Prelude.{◌≡◌, ◌≢◌, ℕ, ◌+◌, ◌%◌, ◌^◌, ◌<◌, ◌==◌, cond, List, [], ◌∷◌, replicate, bit_or, bit_xor}
+use Rattle.std.specs.Int.{bit_at}
 use Rattle.nr_ids.specs.declared.plan.Plan.{Plan}
-use Rattle.nr_ids.specs.Groups.{IsWayOf, group_of, ways}
+use Rattle.nr_ids.specs.Groups.{IsWayOf, group_of, group_of_way, ways}
+
+-- a step that concerns no name and no turn
+pub data Touch : Type 0 where
+  -- the word at that place of the table was loaded
+  loaded : ℕ → Touch
+  -- a way's use bit was set; those bits of a group's marks were turned over
+  marked : ℕ → Touch
+  turned : ℕ → ℕ → Touch
 
 pub data Event : Type 0 where
   -- by the clerk: from now on a way has this name, or has none; a claim of a group is answered
   named : ℕ → ℕ → Event
   unnamed : ℕ → Event
   cleared : ℕ → Event
-  -- by the caller of that number: its claim of an id's group is granted; it looked at a word
+  -- by the caller of that number: its claim of an id's group is granted; it looked at a name or a turn; it touched
+  -- another word
   claimed : ℕ → ℕ → Event
   looked : ℕ → Event
+  touched : ℕ → Touch → Event
 
 -- the number of the caller whose step it was; the clerk's is 0
 abbrev pub maker : Event → ℕ
@@ -19,6 +30,7 @@ maker (unnamed way) = 0
 maker (cleared group) = 0
 maker (claimed by id) = by
 maker (looked by) = by
+maker (touched by touch) = by
 
 -- a caller's own steps
 abbrev pub own : ℕ → List Event → List Event
@@ -37,6 +49,7 @@ name_of (unnamed other ∷ log) way = cond (other == way) 0 (name_of log way)
 name_of (cleared group ∷ log) way = name_of log way
 name_of (claimed by id ∷ log) way = name_of log way
 name_of (looked by ∷ log) way = name_of log way
+name_of (touched by touch ∷ log) way = name_of log way
 
 -- the turn of a group: how often it was claimed and cleared, so odd while a claim is open
 abbrev pub turn_of : Plan → List Event → ℕ → ℕ
@@ -47,6 +60,34 @@ turn_of plan (cleared other ∷ log) group = cond (other == group) (turn_of plan
 turn_of plan (claimed by id ∷ log) group =
     cond (group_of plan id == group) (turn_of plan log group + 1) (turn_of plan log group)
 turn_of plan (looked by ∷ log) group = turn_of plan log group
+turn_of plan (touched by touch ∷ log) group = turn_of plan log group
+
+-- a way's bit among its group's marks
+abbrev pub mark_bit : ℕ → ℕ
+mark_bit way = 2 ^ (way % 8)
+
+-- the marks of a group after these events: a use bit of each of its eight ways, and above them the place at which the
+-- next choice begins
+abbrev pub marks_after : Touch → ℕ → ℕ → ℕ
+marks_after (loaded place) group marks = marks
+marks_after (marked way) group marks = cond (group_of_way way == group) (bit_or marks (mark_bit way)) marks
+marks_after (turned other bits) group marks = cond (other == group) (bit_xor marks bits) marks
+
+abbrev pub marks_of : List Event → ℕ → ℕ
+marks_of [] group = 0
+marks_of (named way id ∷ log) group = marks_of log group
+marks_of (unnamed way ∷ log) group = marks_of log group
+marks_of (cleared other ∷ log) group = marks_of log group
+marks_of (claimed by id ∷ log) group = marks_of log group
+marks_of (looked by ∷ log) group = marks_of log group
+marks_of (touched by touch ∷ log) group = marks_after touch group (marks_of log group)
+
+-- the use bit at a place in a group's marks is set; a way's is
+abbrev pub HasMark : ℕ → ℕ → Type 0
+HasMark marks place = bit_at marks place ≡ 1
+
+abbrev pub IsMarked : List Event → ℕ → Type 0
+IsMarked log way = HasMark (marks_of log (group_of_way way)) (way % 8)
 
 abbrev pub IsOpen : Plan → List Event → ℕ → Type 0
 IsOpen plan log group = turn_of plan log group % 2 ≡ 1
@@ -78,12 +119,22 @@ pub record MayClaim (plan : Plan) (log : List Event) (id : ℕ) : Type 0 where
   pub early : turn_of plan log (group_of plan id) < last_turn
   pub absent : IsAbsent log id
 
+-- use bits that are turned over are set, and the clerk does that
+abbrev pub AreMarked : List Event → ℕ → ℕ → Type 0
+AreMarked log group bits = (place : ℕ) → place < 8 → bit_at bits place ≡ 1 → HasMark (marks_of log group) place
+
+abbrev pub MayTouch : Plan → List Event → ℕ → Touch → Type 0
+MayTouch plan log by (loaded place) = Unit {0}
+MayTouch plan log by (marked way) = way < ways plan
+MayTouch plan log by (turned group bits) = (by ≡ 0) × (group < plan.groups) × AreMarked log group bits
+
 abbrev pub May : Plan → List Event → Event → Type 0
 May plan log (named way id) = MayName plan log way id
 May plan log (unnamed way) = way < ways plan
 May plan log (cleared group) = (group < plan.groups) × IsOpen plan log group
 May plan log (claimed by id) = MayClaim plan log id
 May plan log (looked by) = Unit {0}
+May plan log (touched by touch) = MayTouch plan log by touch
 
 abbrev pub IsLegal : Plan → List Event → Type 0
 IsLegal plan [] = Unit {0}

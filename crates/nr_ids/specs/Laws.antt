@@ -1,9 +1,14 @@
 -- Laws of legal events, and of what tokens know.
-use Rattle.std.specs.Prelude.{◌≡◌, ◌≢◌, ℕ, ◌+◌, ◌<◌, ◌⊎◌, ◌==◌, cond, List, [], ◌∷◌, ◌++◌, Option, Some}
+use Rattle.std.specs.Prelude.{◌≡◌, ◌≢◌, ℕ, ◌+◌, ◌*◌, ◌%◌, ◌<◌, ◌≤◌, ◌⊎◌, ◌==◌, cond, Contains, List, [], ◌∷◌, ◌++◌}
+use Rattle.std.specs.Prelude.{Option, Some}
+use Rattle.std.specs.Prelude.{bit_xor, length}
+use Rattle.std.specs.Int.{bit_at}
 use Rattle.nr_ids.specs.declared.plan.Plan.{Plan}
-use Rattle.nr_ids.specs.Groups.{IsPlan, IsWayOf, group_of, second_of, ways}
-use Rattle.nr_ids.specs.Events.{Event, named, unnamed, cleared, claimed, looked, name_of, turn_of, IsLegal}
+use Rattle.nr_ids.specs.Groups.{IsPlan, IsWayOf, group_of, group_of_way, second_of, ways}
+use Rattle.nr_ids.specs.Events.{Event, Touch, named, unnamed, cleared, claimed, looked, touched, loaded, marked, turned}
+use Rattle.nr_ids.specs.Events.{marks_of, name_of, turn_of, IsLegal}
 use Rattle.nr_ids.specs.Answers.{LooksUp}
+use Rattle.nr_ids.specs.Marks.{ChoosesPlace}
 use Rattle.nr_ids.specs.Rule.{BeginsWith}
 use Rattle.nr_ids.specs.Tokens.{Known, Token, Grows, HasName}
 
@@ -48,6 +53,7 @@ claims plan group (cleared other ∷ log) = claims plan group log
 claims plan group (claimed by id ∷ log) =
     cond (group_of plan id == group) (claims plan group log + 1) (claims plan group log)
 claims plan group (looked by ∷ log) = claims plan group log
+claims plan group (touched by touch ∷ log) = claims plan group log
 
 abbrev pub closings : ℕ → List Event → ℕ
 closings group [] = 0
@@ -56,6 +62,7 @@ closings group (unnamed way ∷ log) = closings group log
 closings group (cleared other ∷ log) = cond (other == group) (closings group log + 1) (closings group log)
 closings group (claimed by id ∷ log) = closings group log
 closings group (looked by ∷ log) = closings group log
+closings group (touched by touch ∷ log) = closings group log
 
 -- a turn counts both
 abbrev pub TurnCounts : Type 0
@@ -81,3 +88,37 @@ FindsWhatItHeard =
     (note : Known) (id way : ℕ) (old new : Token) (found : Option ℕ) → 0 < id → name_of note.seen way ≡ id
     → BeginsWith old.seen note.seen → LooksUp id old new found
     → (found ≡ Some way) ⊎ ((rest : List Event) × (new.seen ≡ rest ++ note.seen) × Has (unnamed way) rest)
+
+-- 1 where a way was marked, and its mark wasn't taken since, else 0
+abbrev pub use_after : Touch → ℕ → ℕ → ℕ
+use_after (loaded place) way was = was
+use_after (marked other) way was = cond (other == way) 1 was
+use_after (turned group bits) way was =
+    cond (group == group_of_way way) (cond (bit_at bits (way % 8) == 1) 0 was) was
+
+abbrev pub use_of : List Event → ℕ → ℕ
+use_of [] way = 0
+use_of (named other id ∷ log) way = use_of log way
+use_of (unnamed other ∷ log) way = use_of log way
+use_of (cleared group ∷ log) way = use_of log way
+use_of (claimed by id ∷ log) way = use_of log way
+use_of (looked by ∷ log) way = use_of log way
+use_of (touched by touch ∷ log) way = use_after touch way (use_of log way)
+
+-- that is what its bit among the marks tells
+abbrev pub MarksTell : Type 0
+MarksTell =
+    (plan : Plan) (log : List Event) (way : ℕ) → IsLegal plan log
+    → bit_at (marks_of log (group_of_way way)) (way % 8) ≡ use_of log way
+
+-- choices by a group's marks, one after the other, where no way is marked in between: the places that they come to
+abbrev pub ChoosesInTurn : ℕ → List ℕ → Type 0
+ChoosesInTurn marks [] = Unit {0}
+ChoosesInTurn marks (place ∷ places) =
+    (bits : ℕ) × ChoosesPlace marks place bits × ChoosesInTurn (bit_xor marks bits) places
+
+-- eight of them come to each place that had no mark, and sixteen to every one
+abbrev pub EachPlaceIsChosen : Type 0
+EachPlaceIsChosen =
+    (marks : ℕ) (places : List ℕ) (place : ℕ) → ChoosesInTurn marks places → place < 8
+    → 8 + 8 * bit_at marks place ≤ length places → Contains places place

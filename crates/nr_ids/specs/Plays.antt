@@ -1,10 +1,11 @@
 -- What each kind of step tells its token.
-use Rattle.std.specs.Prelude.{◌≡◌, ◌≢◌, ℕ, List, [], ◌∷◌, ◌++◌}
+use Rattle.std.specs.Prelude.{◌≡◌, ◌≢◌, ℕ, ◌<◌, List, [], ◌∷◌, ◌++◌}
 use mathlib.Core.Option.{Option, none, some}
 use Rattle.atomic_table.specs.Table.{Me, Step}
-use Rattle.nr_ids.specs.Groups.{group_of}
-use Rattle.nr_ids.specs.Events.{Event, own, named, unnamed, cleared, claimed, looked, name_of, turn_of, IsLegal}
-use Rattle.nr_ids.specs.Rule.{View, BeginsWith, counted, turn_place}
+use Rattle.nr_ids.specs.Groups.{group_of, group_of_way}
+use Rattle.nr_ids.specs.Events.{Event, own, named, unnamed, cleared, claimed, looked, touched, loaded, marked, turned}
+use Rattle.nr_ids.specs.Events.{mark_bit, marks_of, name_of, turn_of, IsLegal}
+use Rattle.nr_ids.specs.Rule.{View, BeginsWith, counted, marks_place, turn_place}
 
 abbrev pub Then : Type 1
 Then = Step ℕ → Me ℕ View → ℕ → Me ℕ View → Type 0
@@ -48,6 +49,18 @@ abbrev pub has_cleared : Then
 has_cleared step (before, _) found (after, _) =
     (group : ℕ) → step.word ≡ turn_place before.plan group → Goes (cleared group) before after
 
--- a step on a group's marks, which tells nothing
+-- a load that tells no name and no turn; of a group's marks it tells those
+abbrev pub has_loaded : Then
+has_loaded step (before, _) found (after, _) =
+    Goes (touched before.number (loaded step.word)) before after
+    × ((group : ℕ) → step.word ≡ marks_place before.plan group → found ≡ marks_of after.seen group)
+
 abbrev pub has_marked : Then
-has_marked step (before, _) found (after, _) = Goes (looked before.number) before after
+has_marked step (before, _) found (after, _) =
+    (way : ℕ) → step.word ≡ marks_place before.plan (group_of_way way) → step.first ≡ mark_bit way
+    → Goes (touched before.number (marked way)) before after
+
+abbrev pub has_turned : Then
+has_turned step (before, _) found (after, _) =
+    (group : ℕ) → step.word ≡ marks_place before.plan group
+    → Goes (touched before.number (turned group step.first)) before after

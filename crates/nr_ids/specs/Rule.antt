@@ -1,12 +1,12 @@
--- The rule of the table: its words show the names and the turns after one legal list of events, and each token knows an
--- end of that list.
+-- The rule of the table: its words show the names, the turns and the marks after one legal list of events, and each
+-- token knows an end of that list.
 use Rattle.std.specs.Prelude.{◌≡◌, ℕ, ◌+◌, ◌*◌, ◌<◌, ◌≤◌, Bool, true, false, List, [], ◌++◌, length, slice_index}
 use mathlib.Core.Option.{some}
 use lib.ListN.{get_elem?}
 use Rattle.atomic_table.specs.Table.{State}
 use Rattle.nr_ids.specs.declared.plan.Plan.{Plan}
 use Rattle.nr_ids.specs.Groups.{IsPlan, ways}
-use Rattle.nr_ids.specs.Events.{Event, own, name_of, turn_of, IsLegal}
+use Rattle.nr_ids.specs.Events.{Event, own, marks_of, name_of, turn_of, IsLegal}
 
 -- what a token knows
 pub record View : Type 0 where
@@ -74,7 +74,7 @@ pub record Later (log : List Event) (view : View) : Type 0 where
 abbrev pub turn_place : Plan → ℕ → ℕ
 turn_place plan group = ways plan + group
 
--- its marks stand behind all turns, and may be any
+-- its marks stand behind all turns
 abbrev pub marks_place : Plan → ℕ → ℕ
 marks_place plan group = ways plan + plan.groups + group
 
@@ -85,6 +85,7 @@ pub record Shows (plan : Plan) (words : List ℕ) (log : List Event) : Type 0 wh
   pub size : length words ≡ total plan
   pub names : (way : ℕ) → way < ways plan → slice_index words way ≡ name_of log way
   pub turns : (group : ℕ) → group < plan.groups → slice_index words (turn_place plan group) ≡ turn_of plan log group
+  pub marks : (group : ℕ) → group < plan.groups → slice_index words (marks_place plan group) ≡ marks_of log group
 
 pub record Fits (plan : Plan) (log : List Event) (made : ℕ) (view : View) : Type 0 where
   pub plan_is : view.calls ≡ true → view.plan ≡ plan

@@ -1,14 +1,16 @@
 //! The table of names and turns. It is private to this module, whose functions make one step each.
 ghost use Rattle.std.specs.Prelude.{◌≡◌, ◌≢◌, ◌<◌, ◌%◌, true, false, IfOk, [], ◌∷◌};
-ghost use Rattle.nr_ids.specs.Events.{MayName, cleared, last_turn, looked, name_of, named, turn_of, unnamed};
+ghost use Rattle.nr_ids.specs.Events.{AreMarked, MayName, cleared, last_turn, loaded, looked, marked, marks_of, name_of, named, touched, turn_of, unnamed};
 ghost use Rattle.nr_ids.specs.Groups.{IsPlan, group_of, places, ways};
+ghost use Rattle.nr_ids.specs.Marks.{LoadsMarks, TurnsMarks};
 ghost use Rattle.nr_ids.specs.Rule.{BeginsWith, counted, marks_place, next_reader, note_of, opener, retold, total, turn_place, with_note, with_reader};
 ghost use Rattle.nr_ids.specs.Scans.{Scanned};
 ghost use Rattle.nr_ids.specs.Tokens.{Grows, IsNote, Sits, WinsClaim, carried_by, token, view_of};
 
-use crate::plan::Plan;
+use crate::plan::{Plan, WAYS};
 use crate::rule::{
-    Claims, Clears, LooksAtName, LooksAtTurn, Marks, Names, Notes, Retells, Rule, Seats, Unnames,
+    Claims, Clears, Loads, LooksAtName, LooksAtTurn, MarksWay, Names, Notes, Retells, Rule, Seats,
+    TurnsOver, Unnames,
 };
 use crate::view::View;
 use atomic_table::Table;
@@ -155,40 +157,55 @@ impl Directory {
         words.store::<Clears>(seat, place, was + 1);
     }
 
-    /// The word of a group's marks, which may be any.
+    /// A load of a way's name ahead of a look at it.
+    pub(crate) fn load_name(&self, seat: &mut Seat, way: u32)
+        requires caller { Sits self.now seat.old }
+        requires way { way < ways self.now.plan }
+        ensures caller { Sits self.now seat.new }
+        ensures grows { Grows (touched (token seat.old).number (loaded way) ∷ []) (token seat.old) (token seat.new) }
+    {
+        let words = &self.table.shared;
+        words.load::<Loads>(seat, way as usize);
+    }
+
+    /// The marks of a group.
     pub(crate) fn marks(&self, seat: &mut Seat, group: u32) -> u64
         requires caller { Sits self.now seat.old }
         requires group { group < self.now.plan.groups }
         ensures caller { Sits self.now seat.new }
-        ensures grows { Grows (looked (token seat.old).number ∷ []) (token seat.old) (token seat.new) }
+        ensures loads { LoadsMarks group (token seat.old) (token seat.new) }
+        ensures value { result ≡ marks_of (token seat.new).seen group }
     {
         let words = &self.table.shared;
         let place = self.marks_place(group);
-        words.load::<Marks>(seat, place)
+        words.load::<Loads>(seat, place)
     }
 
-    /// Sets marks of a group.
-    pub(crate) fn add_marks(&self, seat: &mut Seat, group: u32, bits: u64)
+    /// Sets a way's use bit.
+    pub(crate) fn set_mark(&self, seat: &mut Seat, way: u32)
         requires caller { Sits self.now seat.old }
-        requires group { group < self.now.plan.groups }
+        requires way { way < ways self.now.plan }
         ensures caller { Sits self.now seat.new }
-        ensures grows { Grows (looked (token seat.old).number ∷ []) (token seat.old) (token seat.new) }
+        ensures grows { Grows (touched (token seat.old).number (marked way) ∷ []) (token seat.old) (token seat.new) }
     {
         let words = &self.table.shared;
-        let place = self.marks_place(group);
-        words.fetch_or::<Marks>(seat, place, bits);
+        let place = self.marks_place(way / WAYS);
+        words.fetch_or::<MarksWay>(seat, place, 1 << (way % WAYS));
     }
 
-    /// Turns bits of a group's marks over, which loses none that a reader sets meanwhile.
+    /// The clerk turns bits of a group's marks over, which loses none that a reader sets meanwhile. The use
+    /// bits among them are set.
     pub(crate) fn turn_marks(&self, seat: &mut Seat, group: u32, bits: u64)
-        requires caller { Sits self.now seat.old }
+        requires clerk { Sits self.now seat.old }
+        requires number { (token seat.old).number ≡ 0 }
         requires group { group < self.now.plan.groups }
-        ensures caller { Sits self.now seat.new }
-        ensures grows { Grows (looked (token seat.old).number ∷ []) (token seat.old) (token seat.new) }
+        requires set { AreMarked (token seat.old).seen group bits }
+        ensures clerk { Sits self.now seat.new }
+        ensures turns { TurnsMarks group bits (token seat.old) (token seat.new) }
     {
         let words = &self.table.shared;
         let place = self.marks_place(group);
-        words.fetch_xor::<Marks>(seat, place, bits);
+        words.fetch_xor::<TurnsOver>(seat, place, bits);
     }
 
     /// A look at word 0, by which the token knows all that a note told it which it took in last.

@@ -1,5 +1,5 @@
 //! Laws over the definitions alone. Nothing runs here: each function's contract is the law.
-ghost use Rattle.nr_ids.specs.Laws.{AtItsPlaces, ClerkKnows, FindsWhatItHeard, FindsWhatItKnew, OneClaim, OneNaming, OneWay, SecondIsAnother, TurnCounts};
+ghost use Rattle.nr_ids.specs.Laws.{AtItsPlaces, ClerkKnows, EachPlaceIsChosen, FindsWhatItHeard, FindsWhatItKnew, MarksTell, OneClaim, OneNaming, OneWay, SecondIsAnother, TurnCounts};
 
 /// An id has at most one way.
 pub fn one_way()
@@ -45,4 +45,15 @@ pub fn finds_what_it_knew()
 /// So does one that heard a note whose maker knew that, unless the name was taken since the note.
 pub fn finds_what_it_heard()
     ensures { FindsWhatItHeard }
+{}
+
+/// A way is marked exactly where it was marked since its mark was taken last.
+pub fn marks_tell()
+    ensures { MarksTell }
+{}
+
+/// Where no way of a group is marked meanwhile, eight choices come to each that had no mark, and sixteen to
+/// every way.
+pub fn each_place_is_chosen()
+    ensures { EachPlaceIsChosen }
 {}

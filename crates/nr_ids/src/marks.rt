@@ -1,16 +1,16 @@
-//! Marks of ways that were found of late: readers set them, and the clerk takes them back, so that it can
-//! tell which way another id may have. And loads ahead of look-ups. No law speaks of either.
-ghost use Rattle.std.specs.Prelude.{◌≡◌, ◌<◌, length};
-ghost use Rattle.nr_ids.specs.Events.{looks};
-ghost use Rattle.nr_ids.specs.Groups.{group_of, group_of_way, ways};
-ghost use Rattle.nr_ids.specs.Marks.{LooksAtMark, SetsMark, TakesMark};
-ghost use Rattle.nr_ids.specs.Tokens.{Grows, Sits, token};
+//! Use bits, which tell what ways were found of late: readers set them, and the clerk takes them back, so
+//! that it can choose which way another id may have. And loads ahead of look-ups.
+ghost use Rattle.std.specs.Prelude.{◌≡◌, ◌<◌, ◌*◌, ◌↔◌, IsTrue, bit_xor};
+ghost use Rattle.nr_ids.specs.Events.{HasMark};
+ghost use Rattle.nr_ids.specs.Groups.{group_of, ways};
+ghost use Rattle.nr_ids.specs.Marks.{ChoosesPlace, ChoosesWay, LoadsMarks, LoadsNames, LooksAtMark, SetsMark, TakesMark, place_after};
+ghost use Rattle.nr_ids.specs.Tokens.{Sits, token};
 
 use crate::directory::{Directory, Seat};
 use crate::plan::WAYS;
 use crate::tokens::{Clerk, Reader};
 
-/// Behind a group's marks stands the place that `choose` begins at.
+/// Behind a group's use bits stands the place that `choose` begins at.
 const AT: u64 = 256;
 
 impl Directory {
@@ -19,10 +19,9 @@ impl Directory {
         requires own { reader.old.directory ≡ self.now }
         requires way { way < ways self.now.plan }
         ensures own { reader.new.directory ≡ self.now }
-        ensures looks { LooksAtMark reader.old reader.new }
+        ensures looks { LooksAtMark way result reader.old reader.new }
     {
-        let (group, bit) = mark_of(way);
-        self.marks(&mut reader.seat, group) & bit != 0
+        self.has_mark(&mut reader.seat, way)
     }
 
     /// Marks a way as found, in 1 step; in none where it is marked already.
@@ -30,11 +29,10 @@ impl Directory {
         requires own { reader.old.directory ≡ self.now }
         requires way { way < ways self.now.plan }
         ensures own { reader.new.directory ≡ self.now }
-        ensures marks { SetsMark is_marked reader.old reader.new }
+        ensures marks { SetsMark way is_marked reader.old reader.new }
     {
         if !is_marked {
-            let (group, bit) = mark_of(way);
-            self.add_marks(&mut reader.seat, group, bit);
+            self.set_mark(&mut reader.seat, way);
         }
     }
 
@@ -44,13 +42,12 @@ impl Directory {
         requires own { clerk.old.directory ≡ self.now }
         requires way { way < ways self.now.plan }
         ensures own { clerk.new.directory ≡ self.now }
-        ensures takes { TakesMark clerk.old clerk.new result }
+        ensures takes { TakesMark way clerk.old clerk.new result }
     {
-        let (group, bit) = mark_of(way);
-        if self.marks(&mut clerk.seat, group) & bit == 0 {
+        if !self.has_mark(&mut clerk.seat, way) {
             return false;
         }
-        self.turn_marks(&mut clerk.seat, group, bit);
+        self.turn_marks(&mut clerk.seat, way / WAYS, 1 << (way % WAYS));
         true
     }
 
@@ -60,24 +57,23 @@ impl Directory {
     pub fn choose(&self, clerk: &mut Clerk, id: u64) -> u32
         requires own { clerk.old.directory ≡ self.now }
         ensures own { clerk.new.directory ≡ self.now }
-        ensures group { group_of_way result ≡ group_of self.now.plan id }
+        ensures chooses { ChoosesWay (group_of self.now.plan id) result clerk.old clerk.new }
         ensures inside { result < ways self.now.plan }
-        ensures steps { Grows (looks 2 clerk.old.number) clerk.old clerk.new }
     {
         let group = self.plan().group_of(id);
-        let (place, passed) = chosen(self.marks(&mut clerk.seat, group));
-        self.turn_marks(&mut clerk.seat, group, passed);
+        let (place, bits) = chosen(self.marks(&mut clerk.seat, group));
+        self.turn_marks(&mut clerk.seat, group, bits);
         WAYS * group + place
     }
 
-    /// Loads a name of each id's group, so that the lines of memory in which the others lie are near
-    /// then. It tells nothing. Takes 1 step an id.
+    /// Loads the first name of each id's group, so that the lines of memory in which the others lie are
+    /// near then. It tells nothing. Takes 1 step an id.
     pub fn load_ahead(&self, reader: &mut Reader, ids: &[u64])
         requires own { reader.old.directory ≡ self.now }
         ensures own { reader.new.directory ≡ self.now }
-        ensures steps { Grows (looks (length ids.now) reader.old.number) reader.old reader.new }
+        ensures loads { LoadsNames ids.now reader.old reader.new }
     {
-        self.look_at_groups(&mut reader.seat, ids);
+        self.load_names(&mut reader.seat, ids);
     }
 
     /// Loads the marks of an id's group, so that their line of memory is near when the mark of its way is
@@ -85,43 +81,53 @@ impl Directory {
     pub fn load_marks(&self, reader: &mut Reader, id: u64)
         requires own { reader.old.directory ≡ self.now }
         ensures own { reader.new.directory ≡ self.now }
-        ensures steps { Grows (looks 1 reader.old.number) reader.old reader.new }
+        ensures loads { LoadsMarks (group_of self.now.plan id) reader.old reader.new }
     {
         let group = self.plan().group_of(id);
         self.marks(&mut reader.seat, group);
     }
 
-    fn look_at_groups(&self, seat: &mut Seat, ids: &[u64])
+    fn load_names(&self, seat: &mut Seat, ids: &[u64])
         requires caller { Sits self.now seat.old }
         ensures caller { Sits self.now seat.new }
-        ensures grows { Grows (looks (length ids.now) (token seat.old).number) (token seat.old) (token seat.new) }
+        ensures loads { LoadsNames ids.now (token seat.old) (token seat.new) }
     {
         for id in ids {
-            self.look(seat, WAYS * self.plan().group_of(*id));
+            self.load_name(seat, self.plan().first_way(*id));
         }
+    }
+
+    fn has_mark(&self, seat: &mut Seat, way: u32) -> bool
+        requires caller { Sits self.now seat.old }
+        requires way { way < ways self.now.plan }
+        ensures caller { Sits self.now seat.new }
+        ensures looks { LooksAtMark way result (token seat.old) (token seat.new) }
+    {
+        has_bit(self.marks(seat, way / WAYS), way % WAYS)
     }
 }
 
-// The group of a way, and its bit among the group's marks.
-fn mark_of(way: u32) -> (u32, u64)
-    ensures { let (group, _) = result in group ≡ group_of_way way }
+// Whether the use bit of a place is set in these marks.
+fn has_bit(marks: u64, place: u32) -> bool
+    requires place { place < 8 }
+    ensures { IsTrue result ↔ HasMark marks place }
 {
-    (way / WAYS, 1 << (way % WAYS))
+    marks & (1 << place) != 0
 }
 
 // The place in its group of the way that these marks choose, and the bits that change then.
 fn chosen(marks: u64) -> (u32, u64)
-    ensures { let (place, _) = result in place < 8 }
+    ensures chooses { let (place, bits) = result in ChoosesPlace marks place bits }
+    ensures place { let (place, _) = result in place < 8 }
 {
     let begin = (marks / AT % 8) as u32;
     let mut passed = 0;
     for step in 0..WAYS {
         let place = (begin + step) % WAYS;
-        let bit = 1 << place;
-        if marks & bit == 0 {
+        if !has_bit(marks, place) {
             return (place, passed | moved(begin, place));
         }
-        passed |= bit;
+        passed |= 1 << place;
     }
     (begin, passed | moved(begin, begin))
 }
@@ -130,6 +136,7 @@ fn chosen(marks: u64) -> (u32, u64)
 fn moved(begin: u32, place: u32) -> u64
     requires place { place < 8 }
     requires begin { begin < 8 }
+    ensures { result ≡ 256 * bit_xor begin (place_after place 1) }
 {
     AT * (begin ^ (place + 1) % WAYS) as u64
 }

@@ -103,11 +103,27 @@ impl Play<u64, View> for Clears {
     ghost then = { has_cleared };
 }
 
-/// A step on a group's marks, which tells nothing.
-pub struct Marks;
+/// A load that tells no name and no turn: of a group's marks, or ahead.
+pub struct Loads;
 
-impl Play<u64, View> for Marks {
+impl Play<u64, View> for Loads {
+    ghost use Rattle.nr_ids.specs.Plays.{has_loaded};
+
+    ghost then = { has_loaded };
+}
+
+pub struct MarksWay;
+
+impl Play<u64, View> for MarksWay {
     ghost use Rattle.nr_ids.specs.Plays.{has_marked};
 
     ghost then = { has_marked };
+}
+
+pub struct TurnsOver;
+
+impl Play<u64, View> for TurnsOver {
+    ghost use Rattle.nr_ids.specs.Plays.{has_turned};
+
+    ghost then = { has_turned };
 }

@@ -1,6 +1,6 @@
 use Rattle.std.proofs.Common.{◌≡◌, ◌≢◌, ◌<◌, inr, refl, List, ◌∷◌, ap, ◌∙◌, sym, subst, Result, Ok, Err, Some}
 use Rattle.nr_model.specs.declared.rows.Row.{Row}
-use Rattle.nr_machine.specs.declared.calls.NoSlot.{NoSlot}
+use Rattle.nr_core.specs.declared.calls.NoSlot.{NoSlot}
 use Rattle.nr_board.specs.declared.answers.FillFault.{FillFault}
 use Rattle.nr_board.specs.declared.answers.FillFault.TheVariants as fill
 use Rattle.nr_board.specs.Callers.{Caller}

@@ -58,12 +58,13 @@ returns-clause-looks g c =
           looks_pending g.R.RowRoom.shows c.args.id c.in-Some.way (keeper_of writer asker clerk) c.args.writer.now
           (keeper_of c.look_into.new.writer asker searched_by) c.args.rows.now c.match-look_into.rows
           c.match-look_into.result
-          c.writer.view_is c.in-Some.ensures.answer v.in-Hole.ensures.0 v.rows-is v.result-is
+          c.writer.view_is c.in-Some.ensures.answer v.in-Hole.ensures.0 v.in-Hole.ensures.1 v.rows-is v.result-is
       | in-Rows v ↦
           looks_rows g.R.RowRoom.shows c.args.id c.in-Some.way (keeper_of writer asker clerk) c.args.writer.now
           (keeper_of c.look_into.new.writer asker searched_by) c.args.rows.now c.match-look_into.rows
           c.match-look_into.result
           c.writer.view_is c.in-Some.ensures.answer v.in-Rows.ensures.0 v.in-Rows.ensures.1
+          v.in-Rows.ensures.2
           (look_tagged writer asker c.look_into.new.writer clerk searched_by c.writer.invariant c.args.id c.in-Some.way
           c.in-Some.ensures.answer _ v.in-Rows.ensures.0 v.in-Rows.ensures.1) v.copy_behind.result
           (subst (λ (r : g.row.R.Denot). CopiesBehind g.R.RowRoom.shows c.args.id v.in-Rows.ensures.0 c.args.rows.now r

@@ -1,5 +1,5 @@
 use Rattle.std.proofs.Common.{◌≡◌, List, [], length, ap, sym, subst, ◌∙◌, arith}
-use Rattle.nr_machine.specs.declared.shape.Shape.{Shape}
+use Rattle.nr_core.specs.declared.shape.Shape.{Shape}
 use Rattle.nr_ids.specs.Groups.{ways}
 use Rattle.nr_ids.specs.Tokens.{Opened, Token}
 use Rattle.nr_map.specs.Opened.{IsOpened, words_of_large}

@@ -1,0 +1,170 @@
+-- Use bits: what an or and an exclusive or make of them, and that a set one stays until the clerk turns it over.
+use Rattle.std.proofs.Common.{◌≡◌, ◌≢◌, ℕ, zero, suc, ◌+◌, ◌*◌, ◌/◌, ◌%◌, ◌^◌, ◌<◌, ◌≤◌, ◌⊎◌}
+use Rattle.std.proofs.Common.{zero-mul, List, [], ◌∷◌, ◌++◌, refl, sym, ap, ◌∙◌, subst, arith, bit_and, bit_or, bit_xor}
+use mathlib.Core.Logic.{dite}
+use native.Mathlib.Decide.{ℕ_discrete}
+use Rattle.std.specs.Int.{bit_at}
+use Rattle.std.proofs.lemmas.Nat.Bits.{and_pow, bit_at-lt, bit_at-pow_other, bit_at-pow_same, bit_at-zero}
+use Rattle.std.proofs.lemmas.Nat.Bits.{bit_at_cat_low, bit_at_or}
+use Rattle.std.proofs.lemmas.Nat.{pow_pos}
+use Rattle.nr_ids.specs.declared.plan.Plan.{Plan}
+use Rattle.nr_ids.specs.Groups.{group_of_way}
+use Rattle.nr_ids.specs.Events.{Event, Touch, named, unnamed, cleared, claimed, looked, touched, loaded, marked, turned}
+use Rattle.nr_ids.specs.Events.{maker, own, mark_bit, marks_after, marks_of, AreMarked, HasMark, IsLegal, IsMarked, May}
+use Rattle.nr_ids.specs.Events.{MayTouch}
+use Rattle.nr_ids.specs.Marks.{ChoosesPlace, begin_of, bits_from, place_after}
+use Rattle.nr_ids.proofs.Logs.{cond_same, cond_else, own_none}
+
+-- a way by its group and its bit
+pub same_way : (way other : ℕ) → group_of_way way ≡ group_of_way other → mark_bit way ≡ mark_bit other → way ≡ other
+same_way way other group bit = dite (ℕ_discrete (way % 8) (other % 8))
+    (λ (e : way % 8 ≡ other % 8). omega (arith, group, e))
+    (λ (ne : way % 8 ≢ other % 8).
+    let one : bit_at (2 ^ (way % 8)) (way % 8) ≡ 1 = bit_at-pow_same (way % 8) in
+    let none : bit_at (2 ^ (other % 8)) (way % 8) ≡ 0 = bit_at-pow_other (other % 8) (way % 8) ne in
+    absurd (cc (sym one ∙ ap (λ (n : ℕ). bit_at n (way % 8)) bit ∙ none)))
+
+-- a place's bit as the code makes it
+pub shifted : (place : ℕ) → place < 8 → 1 * 2 ^ place % 2 ^ 64 ≡ 2 ^ place
+shifted zero low = refl
+shifted (suc zero) low = refl
+shifted (suc (suc zero)) low = refl
+shifted (suc (suc (suc zero))) low = refl
+shifted (suc (suc (suc (suc zero)))) low = refl
+shifted (suc (suc (suc (suc (suc zero))))) low = refl
+shifted (suc (suc (suc (suc (suc (suc zero)))))) low = refl
+shifted (suc (suc (suc (suc (suc (suc (suc zero))))))) low = refl
+shifted (suc (suc (suc (suc (suc (suc (suc (suc more)))))))) low = absurd (omega arith)
+
+pub shifted_bit : (way : ℕ) → 1 * 2 ^ (way % 8) % 2 ^ 64 ≡ mark_bit way
+shifted_bit way = shifted (way % 8) (omega arith)
+
+-- whether it is among these marks
+pub bit_set : (marks place : ℕ) → place < 8 → bit_and marks (1 * 2 ^ place % 2 ^ 64) ≢ 0 → HasMark marks place
+bit_set marks place low some =
+    let bit = ap (bit_and marks) (shifted place low) ∙ and_pow marks place in
+    let few = bit_at-lt marks place in
+    dite (ℕ_discrete (bit_at marks place) 0)
+    (λ (e : bit_at marks place ≡ 0). absurd (some (bit ∙ ap (λ (k : ℕ). k * 2 ^ place) e ∙ zero-mul (2 ^ place))))
+    (λ ne. omega (arith, few, ne))
+
+pub bit_unset : (marks place : ℕ) → place < 8 → bit_and marks (1 * 2 ^ place % 2 ^ 64) ≡ 0 → bit_at marks place ≡ 0
+bit_unset marks place low none =
+    let bit = ap (bit_and marks) (shifted place low) ∙ and_pow marks place in
+    let few = bit_at-lt marks place in
+    let some = pow_pos place in
+    dite (ℕ_discrete (bit_at marks place) 1)
+    (λ (e : bit_at marks place ≡ 1).
+    let one : 1 * 2 ^ place ≡ 0 = ap (λ (k : ℕ). k * 2 ^ place) (sym e) ∙ sym bit ∙ none in
+    absurd (omega (arith, one, some)))
+    (λ ne. omega (arith, few, ne))
+
+-- a set bit stays set by an or
+pub or_keeps : (marks bits place : ℕ) → HasMark marks place → HasMark (bit_or marks bits) place
+or_keeps marks bits place set = let low = bit_at-lt bits place in
+    bit_at_or marks bits place ∙ omega (arith, set, low)
+
+pub quiet_mark : (plan : Plan) (rest log : List Event) (group place : ℕ) → own 0 rest ≡ [] → IsLegal plan (rest ++ log)
+    → HasMark (marks_of log group) place → HasMark (marks_of (rest ++ log) group) place
+quiet_mark plan [] log group place quiet legal set = set
+quiet_mark plan (event ∷ rest) log group place quiet legal set =
+    let apart = own_none 0 event rest quiet in
+    on event apart.0 legal.0 (quiet_mark plan rest log group place apart.1 legal.1 set)
+  where
+    by_touch : (by : ℕ) (touch : Touch) → by ≢ 0 → MayTouch plan (rest ++ log) by touch
+        → HasMark (marks_of (rest ++ log) group) place
+        → HasMark (marks_after touch group (marks_of (rest ++ log) group)) place
+    by_touch by (loaded at) other may here = here
+    by_touch by (marked way) other may here = let marks = marks_of (rest ++ log) group in
+        dite (ℕ_discrete (group_of_way way) group)
+        (λ (e : group_of_way way ≡ group).
+        subst (λ (n : ℕ). HasMark n place) (sym (cond_same (bit_or marks (mark_bit way)) marks (way / 8) group e))
+        (or_keeps marks (mark_bit way) place here))
+        (λ ne. subst (λ (n : ℕ). HasMark n place)
+        (sym (cond_else (bit_or marks (mark_bit way)) marks (way / 8) group ne)) here)
+    by_touch by (turned of bits) other may here = absurd (other may.0)
+
+    on : (e : Event) → maker e ≢ 0 → May plan (rest ++ log) e → HasMark (marks_of (rest ++ log) group) place
+        → HasMark (marks_of (e ∷ rest ++ log) group) place
+    on (named way id) other may here = here
+    on (unnamed way) other may here = here
+    on (cleared of) other may here = here
+    on (claimed by id) other may here = here
+    on (looked by) other may here = here
+    on (touched by touch) other may here = by_touch by touch other may here
+
+-- the bits that a choice turns over among the use bits are those of the places that it passed
+pub bits_from_only : (begin count place : ℕ) → bit_at (bits_from begin count) place ≡ 1
+    → (step : ℕ) × (step < count) × (place ≡ place_after begin step)
+bits_from_only begin zero place on = absurd (cc (sym on ∙ bit_at-zero place))
+bits_from_only begin (suc count) place on = dite (ℕ_discrete place (place_after begin count))
+    (λ (e : place ≡ place_after begin count). (count, omega arith, e))
+    (λ ne.
+    let apart = bit_at-pow_other (place_after begin count) place ne in
+    let both = bit_at_or (bits_from begin count) (2 ^ place_after begin count) place in
+    let low = bit_at-lt (bits_from begin count) place in
+    let t = bits_from_only begin count place (omega (arith, on, both, apart, low)) in
+    (t.0, omega (arith, t.1), t.2))
+
+pub moved_low : (n place : ℕ) → place < 8 → bit_at (256 * n) place ≡ 0
+moved_low n place low =
+    ap (λ (k : ℕ). bit_at k place) (omega arith) ∙ bit_at_cat_low n 8 0 place low ∙ bit_at-zero place
+
+pub turned_bits : (marks place bits : ℕ) (chooses : ChoosesPlace marks place bits) (at : ℕ) → at < 8
+    → bit_at bits at ≡ bit_at (bits_from (begin_of marks) chooses.passed) at
+turned_bits marks place bits chooses at low =
+    let moved : ℕ = 256 * bit_xor (begin_of marks) (place_after place 1) in
+    let passed : ℕ = bits_from (begin_of marks) chooses.passed in
+    let few = bit_at-lt passed at in
+    let none : bit_at moved at ≡ 0 = moved_low (bit_xor (begin_of marks) (place_after place 1)) at low in
+    ap (λ (n : ℕ). bit_at n at) chooses.bits_are ∙ bit_at_or passed moved at ∙ omega (arith, none, few)
+
+pub turned_are_marked : (marks place bits : ℕ) → ChoosesPlace marks place bits → (at : ℕ) → at < 8
+    → bit_at bits at ≡ 1 → HasMark marks at
+turned_are_marked marks place bits chooses at low on =
+    let t = bits_from_only (begin_of marks) chooses.passed at
+    (sym (turned_bits marks place bits chooses at low) ∙ on) in
+    subst (HasMark marks) (sym t.2) (chooses.marked t.0 t.1)
+
+-- one way's bit
+pub bit_is_marked : (log : List Event) (way bit : ℕ) → bit ≡ mark_bit way → IsMarked log way
+    → AreMarked log (group_of_way way) bit
+bit_is_marked log way bit is set place low on = dite (ℕ_discrete place (way % 8))
+    (λ (e : place ≡ way % 8). subst (HasMark (marks_of log (way / 8))) (sym e) set)
+    (λ ne.
+    let none : bit_at (2 ^ (way % 8)) place ≡ 0 = bit_at-pow_other (way % 8) place ne in
+    absurd (cc (sym on ∙ ap (λ (n : ℕ). bit_at n place) is ∙ none)))
+
+-- THE CHOICE, STEP BY STEP
+pub bits_on : (marks passed step : ℕ) → passed ≡ bits_from (begin_of marks) step
+    → bit_or passed (1 * 2 ^ place_after (begin_of marks) step % 2 ^ 64) ≡ bits_from (begin_of marks) (step + 1)
+bits_on marks passed step is =
+    let more : suc step ≡ step + 1 = omega arith in
+    ap (bit_or passed) (shifted (place_after (begin_of marks) step) (omega arith))
+    ∙ ap (λ (n : ℕ). bit_or n (2 ^ place_after (begin_of marks) step)) is ∙ ap (bits_from (begin_of marks)) more
+
+pub marked_on : (marks count : ℕ) → ((step : ℕ) → step < count → HasMark marks (place_after (begin_of marks) step))
+    → HasMark marks (place_after (begin_of marks) count)
+    → (step : ℕ) → step < count + 1 → HasMark marks (place_after (begin_of marks) step)
+marked_on marks count were is step near = dite (ℕ_discrete step count)
+    (λ (e : step ≡ count). subst (λ (k : ℕ). HasMark marks (place_after (begin_of marks) k)) (sym e) is)
+    (λ ne. were step (omega (arith, near, ne)))
+
+pub unmarked : (marks place : ℕ) → (HasMark marks place → ⊥) → bit_at marks place ≡ 0
+unmarked marks place other = let low = bit_at-lt marks place in dite (ℕ_discrete (bit_at marks place) 1)
+    (λ (e : bit_at marks place ≡ 1). absurd (other e))
+    (λ ne. omega (arith, low, ne))
+
+pub chosen_so : (marks place passed moved count : ℕ) → count ≤ 8 → place ≡ place_after (begin_of marks) count
+    → ((step : ℕ) → step < count → HasMark marks (place_after (begin_of marks) step))
+    → (bit_at marks place ≡ 0) ⊎ (count ≡ 8) → passed ≡ bits_from (begin_of marks) count
+    → moved ≡ 256 * bit_xor (begin_of marks) (place_after place 1) → ChoosesPlace marks place (bit_or passed moved)
+chosen_so marks place passed moved count few place_is were ends passed_is moved_is = record {
+  passed = count;
+  few = few;
+  place_is = place_is;
+  marked = were;
+  ends = ends;
+  bits_are = ap (bit_or passed) moved_is
+      ∙ ap (λ (n : ℕ). bit_or n (256 * bit_xor (begin_of marks) (place_after place 1))) passed_is;
+}
