@@ -7,7 +7,7 @@ use Rattle.nr_ids.specs.declared.requests.Requested.{Requested}
 use Rattle.nr_ids.specs.declared.requests.Requested.TheVariants as requested
 use Rattle.nr_ids.specs.Answers.{LooksUp, Requests}
 use Rattle.nr_ids.specs.Marks.{SetsMark}
-use Rattle.nr_ids.specs.Events.{Event, claimed, cleared, looked, looks, named, own, unnamed}
+use Rattle.nr_ids.specs.Events.{Event, Touch, claimed, cleared, looked, looks, named, own, touched, unnamed}
 use Rattle.nr_ids.specs.Tokens.{Granted, Grows, Token}
 use Rattle.nr_ids.proofs.Logs.{own_append}
 use Rattle.nr_idmap.specs.declared.finds.FoundId.{FoundId}
@@ -34,6 +34,7 @@ claimed_ids-append (claimed by id ∷ l) m =
     ap (λ (ids : List ℕ). ids ++ id ∷ []) (claimed_ids-append l m)
     ∙ append_assoc (claimed_ids m) (claimed_ids l) (id ∷ [])
 claimed_ids-append (looked by ∷ l) m = claimed_ids-append l m
+claimed_ids-append (touched by touch ∷ l) m = claimed_ids-append l m
 
 looks_claim_none : (count by : ℕ) → claimed_ids (looks count by) ≡ []
 looks_claim_none zero by = refl
@@ -63,6 +64,9 @@ claims_of old new acts ids grows is =
 claims_none : (old new : Token) (count : ℕ) → Grows (looks count old.number) old new → Claims old [] new
 claims_none old new count grows =
     claims_of old new (looks count old.number) [] grows (looks_claim_none count old.number)
+
+claims_touch : (touch : Touch) (old new : Token) → Grows (touched old.number touch ∷ []) old new → Claims old [] new
+claims_touch touch old new grows = claims_of old new (touched old.number touch ∷ []) [] grows refl
 
 claims_both : (a b c : Token) (ids more : List ℕ) → Claims a ids b → Claims b more c → Claims a (ids ++ more) c
 claims_both a b c ids more one two = record {
@@ -163,17 +167,17 @@ look_none id old new None looks_up = claims_none old new places looks_up.0
 way_none : (id : ℕ) (old new : Token) (at : Option NamedWay) → LooksForWay id old new at → Claims old [] new
 way_none id old new (Some at) looks_up =
     claims_both old looks_up.0 new []
-    [] (look_none id old looks_up.0 (Some at.way) looks_up.1) (claims_none looks_up.0 new 1 looks_up.2)
+    [] (look_none id old looks_up.0 (Some at.way) looks_up.1) (claims_touch _ looks_up.0 new looks_up.2.looks)
 way_none id old new None looks_up = look_none id old new None looks_up
 
 alone_none : (id : ℕ) (old new : Token) (at : Option NamedWay) → LooksAlone id old new at → Claims old [] new
 alone_none id old new at looks_up =
     claims_both old looks_up.0 new []
-    [] (claims_none old looks_up.0 1 looks_up.1) (way_none id looks_up.0 new at looks_up.2)
+    [] (claims_touch _ old looks_up.0 looks_up.1) (way_none id looks_up.0 new at looks_up.2)
 
-mark_none : (marked : Bool) (old new : Token) → SetsMark marked old new → Claims old [] new
-mark_none true old new same = same_token old new same
-mark_none false old new grows = claims_none old new 1 grows
+mark_none : (way : ℕ) (marked : Bool) (old new : Token) → SetsMark way marked old new → Claims old [] new
+mark_none way true old new same = same_token old new same
+mark_none way false old new grows = claims_touch _ old new grows
 
 find_none : {Room : Type 0} (shows : Room → List Row → Type 0) (id : ℕ) (old : IdCaller) (before : Room)
     (new : IdCaller) (after : Room) (answer : FoundId)
@@ -181,7 +185,8 @@ find_none : {Room : Type 0} (shows : Room → List Row → Type 0) (id : ℕ) (o
     → Claims old.ids [] new.ids
 find_none shows id old before new after found.Rows finds =
     claims_both old.ids finds.2 new.ids []
-    [] (alone_none id old.ids finds.2 (Some finds.0) finds.3.0) (mark_none finds.0.is_marked finds.2 new.ids finds.4)
+    [] (alone_none id old.ids finds.2 (Some finds.0) finds.3.0)
+    (mark_none finds.0.way finds.0.is_marked finds.2 new.ids finds.4)
 find_none shows id old before new after found.Pending finds = alone_none id old.ids new.ids (Some finds.0) finds.1
 find_none shows id old before new after found.Moved finds = alone_none id old.ids new.ids (Some finds.0) finds.2.0
 find_none shows id old before new after found.Absent finds = alone_none id old.ids new.ids None finds.0

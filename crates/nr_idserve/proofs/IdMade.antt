@@ -4,7 +4,7 @@ use Rattle.std.proofs.Common.{append_assoc, false, inl, inr, true, ⊎_elim}
 use Rattle.nr_model.specs.declared.batches.Delta.{Delta}
 use Rattle.nr_model.specs.declared.rows.Row.{Row}
 use Rattle.nr_model.specs.Histories.{Entry}
-use Rattle.nr_machine.specs.declared.calls.NoSlot.{NoSlot}
+use Rattle.nr_core.specs.declared.calls.NoSlot.{NoSlot}
 use Rattle.nr_board.specs.declared.answers.Cancel.TheVariants as cancel
 use Rattle.nr_board.specs.declared.answers.Evict.{Evict}
 use Rattle.nr_board.specs.declared.answers.Evict.TheVariants as evict

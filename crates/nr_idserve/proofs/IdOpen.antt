@@ -1,7 +1,7 @@
 -- The upqueries in hand are those that are open.
 use Rattle.std.proofs.Common.{◌≡◌, ◌≢◌, ◌+◌, ◌<◌, ◌≤◌, ℕ, zero, suc, List, [], ◌∷◌, ◌++◌, Option, None, Some, refl, sym}
 use Rattle.std.proofs.Common.{ap, ◌∙◌, subst, arith, Bool, false, true, Ok, Err, Result, ◌⊎◌, inl, inr, ⊎_elim}
-use Rattle.nr_machine.specs.Sums.{only}
+use Rattle.nr_core.specs.Sums.{only}
 use Rattle.nr_core.proofs.Sums.{only-is, only-le, only-same}
 use Rattle.nr_idmap.specs.IdLaws.{OneUpquery}
 use Rattle.nr_idmap.specs.Keepers.{ClosesOne, IsTied, Keeper, OpensOne, Owed, OwesElse, OwesSame, Sent, owed_at}

@@ -1,12 +1,13 @@
 -- Where each way of an id's groups has a name, an id is chosen; and its eviction makes room.
-use Rattle.std.proofs.Common.{◌≡◌, ℕ, Bool, false, true, List, None, Some, Err, sym, ap, ◌∙◌}
+use Rattle.std.proofs.Common.{◌≡◌, ℕ, Bool, false, true, List, Option, None, Some, Err, sym, ap, ◌∙◌}
 use Rattle.nr_board.specs.declared.answers.Evict.TheVariants as evict
 use Rattle.nr_ids.specs.declared.admissions.Refused.TheVariants as refused
-use Rattle.nr_ids.specs.Events.{Event, looks, name_of}
+use Rattle.nr_ids.specs.Events.{Event, name_of}
 use Rattle.nr_ids.specs.Groups.{group_of, group_of_way}
-use Rattle.nr_ids.specs.Looking.{IsFull}
-use Rattle.nr_ids.specs.Tokens.{Grows, Opened, Token}
-use Rattle.nr_ids.proofs.Calls.{at_first, clerk_looks}
+use Rattle.nr_ids.specs.Looking.{IsFull, group_for}
+use Rattle.nr_ids.specs.Tokens.{Opened, Token}
+use Rattle.nr_ids.proofs.Calls.{LeavesNames, at_first, chooses_leave, chosen_group, clerk_looks, leaves_names}
+use Rattle.nr_ids.proofs.Calls.{looks_leave}
 use Rattle.nr_ids.proofs.Logs.{cond_same, one_way}
 use Rattle.nr_idmap.specs.IdChoices.{ChoosesId}
 use Rattle.nr_idmap.specs.IdWrites.{EvictsId}
@@ -26,39 +27,48 @@ has_free_not_full id clerk has full =
     let place = at_first clerk.directory.plan id has.way has.group in
     full place.0 place.1 (ap (λ (way : ℕ). name_of clerk.seen way) place.2 ∙ has.free)
 
--- looks change nothing of it
-free_later : (id count : ℕ) (old new : Token) → Grows (looks count old.number) old new → HasFree id old → HasFree id new
-free_later id count old new grows has =
+-- steps that change no name change nothing of it
+free_later : (id : ℕ) (old new : Token) → LeavesNames old new → HasFree id old → HasFree id new
+free_later id old new leaves has =
     record {
-      number = grows.number ∙ has.number;
+      number = leaves.1.number ∙ has.number;
       way = has.way;
-      group = has.group ∙ ap (λ (directory : Opened). group_of directory.plan id) (sym grows.directory);
-      free = clerk_looks old count old.number new has.way has.number grows ∙ has.free;
+      group = has.group ∙ ap (λ (directory : Opened). group_of directory.plan id) (sym leaves.1.directory);
+      free = leaves_names old new has.way has.number leaves ∙ has.free;
     }
 
-free_before : (id count : ℕ) (old new : Token) → old.number ≡ 0 → Grows (looks count old.number) old new
-    → HasFree id new → HasFree id old
-free_before id count old new number grows has =
+free_before : (id : ℕ) (old new : Token) → old.number ≡ 0 → LeavesNames old new → HasFree id new → HasFree id old
+free_before id old new number leaves has =
     record {
       number = number;
       way = has.way;
-      group = has.group ∙ ap (λ (directory : Opened). group_of directory.plan id) grows.directory;
-      free = sym (clerk_looks old count old.number new has.way number grows) ∙ has.free;
+      group = has.group ∙ ap (λ (directory : Opened). group_of directory.plan id) leaves.1.directory;
+      free = sym (leaves_names old new has.way number leaves) ∙ has.free;
     }
+
+-- the choice itself
+chose : (id : ℕ) (old new : Token) (named : Option ℕ) (chooses : ChoosesId id old new named)
+    → LeavesNames old chooses.mid × (group_of_way chooses.way ≡ group_of old.directory.plan id)
+chose id old new named chooses = (
+  chooses_leave (group_for old id) chooses.way old chooses.mid chooses.chooses,
+  chosen_group (group_for old id) chooses.way old chooses.mid chooses.chooses,
+)
 
 -- a choice for an id whose groups are full comes to an id
 pub chooses_some : (id : ℕ) (old new : Token) → old.number ≡ 0 → IsFull id old → ChoosesId id old new None → ⊥
 chooses_some id old new number full chooses =
+    let first = chose id old new None chooses in
+    let grows = first.0.1 in
     has_free_not_full id old
-    (free_before id 2 old chooses.mid number chooses.chooses
-    (free_before id 1 chooses.mid new (chooses.chooses.number ∙ number) chooses.names.0
+    (free_before id old chooses.mid number first.0
+    (free_before id chooses.mid new (grows.number ∙ number) (looks_leave 1 chooses.mid new chooses.names.0)
     (record {
-      number = chooses.names.0.number ∙ chooses.chooses.number ∙ number;
+      number = chooses.names.0.number ∙ grows.number ∙ number;
       way = chooses.way;
       group =
-          chooses.group
+          first.1
           ∙ ap (λ (directory : Opened). group_of directory.plan id)
-          (sym (chooses.names.0.directory ∙ chooses.chooses.directory));
+          (sym (chooses.names.0.directory ∙ grows.directory));
       free = chooses.names.1;
     })))
     full
@@ -70,7 +80,9 @@ evicts_chosen : (id victim : ℕ) (old chosen new : Keeper) → old.clerk.number
 evicts_chosen id victim old chosen new number chooses evicts =
     let gone = evicts.1.unnames in
     let found = evicts.1.finds.0.grows in
-    let here = chooses.names.0.number ∙ chooses.chooses.number ∙ number in
+    let first = chose id old.clerk chosen.clerk (Some victim) chooses in
+    let grows = first.0.1 in
+    let here = chooses.names.0.number ∙ grows.number ∙ number in
     let named
     = clerk_looks chosen.clerk _ chosen.clerk.number evicts.1.mid chooses.way here found ∙ chooses.names.1.has in
     let same
@@ -80,9 +92,9 @@ evicts_chosen id victim old chosen new number chooses evicts =
       number = gone.number ∙ found.number ∙ here;
       way = chooses.way;
       group =
-          chooses.group
+          first.1
           ∙ ap (λ (directory : Opened). group_of directory.plan id)
-          (sym (gone.directory ∙ found.directory ∙ chooses.names.0.directory ∙ chooses.chooses.directory));
+          (sym (gone.directory ∙ found.directory ∙ chooses.names.0.directory ∙ grows.directory));
       free =
           ap (λ (log : List Event). name_of log chooses.way) gone.newest.1
           ∙ cond_same 0 (name_of gone.newest.0 chooses.way) evicts.0 chooses.way same;
@@ -99,7 +111,7 @@ pub room_is_made : (id : ℕ) (say : Say) (old room new : IdFlowSeen) → old.wr
 room_is_made id say old room new number makes admits =
     let seen = admits.0.refused in
     has_free_not_full id new.writer.clerk
-    (free_later id 17 room.writer.clerk new.writer.clerk seen.0
+    (free_later id room.writer.clerk new.writer.clerk (looks_leave 17 room.writer.clerk new.writer.clerk seen.0)
     (evicts_chosen id say.id old.writer makes.0.writer room.writer number makes.1.chooses
     (was_evicted say.may_go say.id makes.0 room makes.2).evicts))
     seen.1

@@ -1,5 +1,6 @@
 pub mod IdRinging
 pub mod IdGetting
+pub mod IdWaiting
 pub mod IdOpen
 pub mod IdMade
 pub mod IdTurning

@@ -1,7 +1,7 @@
 -- No claim is lost that a client was granted.
 use Rattle.std.specs.Prelude.{◌≡◌, ℕ, List, [], ◌∷◌, ◌++◌, Option, None, Some, Result}
 use Rattle.nr_model.specs.declared.rows.Row.{Row}
-use Rattle.nr_ids.specs.Events.{Event, claimed, cleared, looked, named, own, unnamed}
+use Rattle.nr_ids.specs.Events.{Event, claimed, cleared, looked, named, own, touched, unnamed}
 use Rattle.nr_ids.specs.Tokens.{Granted}
 use Rattle.nr_serve.specs.declared.sleepers.TooLate.{TooLate}
 use Rattle.nr_trigger.specs.declared.post.Upquery.{Upquery}
@@ -17,6 +17,7 @@ claimed_ids (unnamed way ∷ log) = claimed_ids log
 claimed_ids (cleared group ∷ log) = claimed_ids log
 claimed_ids (claimed by id ∷ log) = claimed_ids log ++ id ∷ []
 claimed_ids (looked by ∷ log) = claimed_ids log
+claimed_ids (touched by touch ∷ log) = claimed_ids log
 
 -- what was posted names, and the claim that is kept
 abbrev pub ids_posted : List Upquery → List ℕ

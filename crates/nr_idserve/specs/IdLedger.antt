@@ -4,8 +4,8 @@ use Rattle.std.specs.Prelude.{◌≡◌, ◌≤◌, ◌+◌, ℕ, List, [], ◌�
 use Rattle.nr_model.specs.declared.batches.Delta.{Delta}
 use Rattle.nr_model.specs.declared.rows.Row.{Row}
 use Rattle.nr_model.specs.Histories.{Entry}
-use Rattle.nr_machine.specs.Sums.{only, total}
-use Rattle.nr_machine.specs.declared.calls.NoSlot.{NoSlot}
+use Rattle.nr_core.specs.Sums.{only, total}
+use Rattle.nr_core.specs.declared.calls.NoSlot.{NoSlot}
 use Rattle.nr_board.specs.declared.answers.Evict.{Evict}
 use Rattle.nr_board.specs.declared.answers.ReplaceFault.{ReplaceFault}
 use Rattle.nr_board.specs.declared.answers.UpdateFault.{UpdateFault}

@@ -2,6 +2,7 @@ pub mod IdServices
 pub mod IdHands
 pub mod IdRings
 pub mod IdGets
+pub mod IdWaits
 pub mod IdClaims
 pub mod IdFlows
 pub mod IdTakes

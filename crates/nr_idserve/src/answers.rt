@@ -1,5 +1,5 @@
 //! What a get by id and its tries come to.
-ghost use Rattle.std.specs.Prelude.{◌≡◌, true};
+ghost use Rattle.std.specs.Prelude.{◌↔◌, IsTrue};
 ghost use Rattle.nr_idserve.specs.IdGets.{IsAwaited};
 
 /// How a get by id ended.
@@ -33,7 +33,7 @@ pub enum Missed {
 impl Missed {
     // Whether the dataflow is to raise the id's group, if no claim is kept.
     pub(crate) fn is_awaited(&self) -> bool
-        ensures { result ≡ true → IsAwaited self.now }
+        ensures { IsTrue result ↔ IsAwaited self.now }
     {
         matches!(
             self,

@@ -34,14 +34,14 @@ struct Told<M: IdMeasure> {
 }
 
 impl<M: IdMeasure> Model for Told<M> {
-    ghost use Rattle.std.specs.Prelude.{IfSome};
+    ghost use Rattle.std.specs.Prelude.{◌≡◌, MatchOption};
     ghost use Rattle.nr_idserve.specs.IdApplied.{IdTelling};
 
     ghost Value = { IdTelling };
 
     ghost view = { λ told. record { amount = told.amount; note = told.note } };
 
-    ghost invariant = { λ told. IfSome told.note (λ note. M.reached told.amount note) };
+    ghost invariant = { λ told. MatchOption told.note (told.amount ≡ 0) (λ note. M.reached told.amount note) };
 }
 
 impl<M: IdMeasure> Told<M> {

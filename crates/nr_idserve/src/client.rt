@@ -1,5 +1,5 @@
 //! A client by id, which gets rows, and claims and waits for ids that are absent.
-ghost use Rattle.std.specs.Prelude.{◌≡◌, ◌<◌, IfErr, None, slice_index};
+ghost use Rattle.std.specs.Prelude.{◌≡◌, ◌<◌, IfErr, None, Ok, slice_index};
 ghost use Rattle.nr_ids.specs.Groups.{group_of};
 ghost use Rattle.nr_idmap.specs.IdNotes.{HearsIdNote, known_to_reader, note_table_of, with_steps_of_note};
 ghost use Rattle.nr_idmap.specs.Keepers.{id_table_of};
@@ -8,6 +8,7 @@ ghost use Rattle.nr_idserve.specs.IdApplied.{HearsIdApplied};
 ghost use Rattle.nr_idserve.specs.IdGets.{GetsId, GetsIdInTime};
 ghost use Rattle.nr_idserve.specs.IdHands.{IsReadyFor, with_id_reader};
 ghost use Rattle.nr_idserve.specs.IdRings.{RingsFor};
+ghost use Rattle.nr_idserve.specs.IdWaits.{GetsIdSleeping};
 
 use crate::answers::GotId;
 use crate::applied::{IdApplied, IdMeasure};
@@ -83,6 +84,7 @@ impl<'a> IdClient<'a> {
     pub fn get<R: RowRoom, W: Wait>(&mut self, rt: &W, id: u64, tries: u32, rows: &mut R) -> GotId
         requires { 0 < id }
         ensures gets { GetsId R.shows (record { capacity = self.old.queue.capacity; id = id; tries = tries }) self.old.hands rows.old self.new.hands rows.new result }
+        ensures waits { GetsIdSleeping R.shows (record { capacity = self.old.queue.capacity; id = id; tries = tries }) (group_of self.old.map.directory.plan id) self.old.hands rows.old self.old.guest self.new.hands rows.new self.new.guest (Ok result) }
         ensures at_once { tries ≡ 0 → self.new.hands ≡ self.old.hands }
         ensures rings { RingsFor self.old.hands.poster self.old.guest self.new.hands.poster self.new.guest }
         ensures places { (self.new.map ≡ self.old.map) × (self.new.queue ≡ self.old.queue) }
@@ -107,6 +109,7 @@ impl<'a> IdClient<'a> {
     ) -> Result<GotId, TooLate>
         requires { 0 < id }
         ensures gets { GetsIdInTime R.shows (record { capacity = self.old.queue.capacity; id = id; tries = tries }) self.old.hands rows.old self.new.hands rows.new result }
+        ensures waits { GetsIdSleeping R.shows (record { capacity = self.old.queue.capacity; id = id; tries = tries }) (group_of self.old.map.directory.plan id) self.old.hands rows.old self.old.guest self.new.hands rows.new self.new.guest result }
         ensures late { IfErr result (λ late. late.until ≡ until) }
         ensures at_once { tries ≡ 0 → self.new.hands ≡ self.old.hands }
         ensures rings { RingsFor self.old.hands.poster self.old.guest self.new.hands.poster self.new.guest }
@@ -127,6 +130,7 @@ impl<'a> IdClient<'a> {
     ) -> Result<GotId, TooLate>
         requires { 0 < id }
         ensures gets { GetsIdInTime R.shows (record { capacity = self.old.queue.capacity; id = id; tries = tries }) self.old.hands rows.old self.new.hands rows.new result }
+        ensures waits { GetsIdSleeping R.shows (record { capacity = self.old.queue.capacity; id = id; tries = tries }) (group_of self.old.map.directory.plan id) self.old.hands rows.old self.old.guest self.new.hands rows.new self.new.guest result }
         ensures late { IfErr result (λ late. L.lapses limit.now late) }
         ensures at_once { tries ≡ 0 → self.new.hands ≡ self.old.hands }
         ensures rings { RingsFor self.old.hands.poster self.old.guest self.new.hands.poster self.new.guest }

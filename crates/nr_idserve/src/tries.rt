@@ -1,9 +1,12 @@
 //! The tries of a get by id.
-ghost use Rattle.std.specs.Prelude.{◌≡◌, ◌<◌, IfErr, None, Some};
+ghost use Rattle.std.specs.Prelude.{◌≡◌, ◌<◌, IfErr, IfOk, None, Some};
+ghost use Rattle.nr_ids.specs.Groups.{group_of};
 ghost use Rattle.nr_serve.specs.Counts.{OnlyLooks};
+ghost use Rattle.nr_serve.specs.Waits.{SleepsIf};
 ghost use Rattle.nr_idserve.specs.IdHands.{IsReadyFor, PostsFirst, PostsKept};
-ghost use Rattle.nr_idserve.specs.IdGets.{AwaitsRaise, GetsIdInTime, MissesOnce, RequestsOnce, TriesOnce};
+ghost use Rattle.nr_idserve.specs.IdGets.{AwaitsRaise, GetsIdInTime, IsAwaited, MissesOnce, RequestsOnce, TriesOnce};
 ghost use Rattle.nr_idserve.specs.IdRings.{RingsFor};
+ghost use Rattle.nr_idserve.specs.IdWaits.{GetsIdSleeping};
 
 use crate::answers::{GotId, Missed, TriedId};
 use crate::hands::IdHands;
@@ -134,6 +137,7 @@ fn sleep_if<L: Limit<R>, R: Wait>(
     requires { MissesOnce service.now.queue.capacity counted.now.id counted.now.hands.value hands.now missed.now }
     ensures looks { OnlyLooks lobby.old lobby.new }
     ensures late { IfErr result (λ late. L.lapses limit.now late) }
+    ensures sleeps { IfOk result (λ _. SleepsIf tries_left counted.now.count counted.now.group (IsAwaited missed.now) hands.now.kept lobby.new) }
     ensures slept { IfErr result (λ _. (0 < tries_left) × AwaitsRaise service.now.queue.capacity counted.now.id counted.now.hands.value hands.now missed.now) }
 {
     if tries_left > 0 && missed.is_awaited() && hands.kept.is_none() {
@@ -159,6 +163,7 @@ pub(crate) fn get_by_tries<R: RowRoom, L: Limit<W>, W: Wait>(
     requires id { 0 < id }
     ensures ready { IsReadyFor service.now.map service.now.queue hands.new }
     ensures gets { GetsIdInTime R.shows (record { capacity = service.now.queue.capacity; id = id; tries = tries }) hands.old rows.old hands.new rows.new result }
+    ensures waits { GetsIdSleeping R.shows (record { capacity = service.now.queue.capacity; id = id; tries = tries }) (group_of service.now.map.directory.plan id) hands.old rows.old lobby.old hands.new rows.new lobby.new result }
     ensures late { IfErr result (λ late. L.lapses limit.now late) }
     ensures at_once { tries ≡ 0 → hands.new ≡ hands.old }
     ensures rings { RingsFor hands.old.poster lobby.old hands.new.poster lobby.new }

@@ -12,7 +12,7 @@ use Rattle.nr_model.specs.declared.calls.Reply.{Reply}
 use Rattle.nr_model.specs.declared.calls.Reply.TheVariants as reply
 use Rattle.nr_model.specs.Histories.{Entry, is_done, is_send}
 use Rattle.nr_model.specs.Maps.{call_key}
-use Rattle.nr_machine.specs.Story.{entry}
+use Rattle.nr_core.specs.Story.{entry}
 use Rattle.nr_map.specs.Rounds.{is_cancel, is_fill, is_sent}
 use Rattle.nr_serve.specs.Tickets.{sent, sent_by}
 use Rattle.nr_load.specs.Gained.{AreNear, Tells}

@@ -8,7 +8,7 @@ use Rattle.nr_model.specs.declared.states.KeyState.{KeyState}
 use Rattle.nr_model.specs.declared.states.KeyState.TheVariants as states
 use Rattle.nr_core.proofs.Histories.{length-now}
 use Rattle.nr_core.proofs.Sums.{below-first}
-use Rattle.nr_machine.specs.Sums.{below, total}
+use Rattle.nr_core.specs.Sums.{below, total}
 use Rattle.nr_board.specs.declared.answers.KeyKind.{KeyKind}
 use Rattle.nr_board.specs.declared.answers.KeyKind.TheVariants as kind
 use Rattle.nr_board.specs.Callers.{Caller, Table, map_seen, map_at_opening}

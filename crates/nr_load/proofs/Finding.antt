@@ -17,7 +17,7 @@ use Rattle.nr_model.specs.Batches.{applied}
 use Rattle.nr_model.specs.Histories.{Entry, IsLegal, entries_of, is_done}
 use Rattle.nr_model.specs.Maps.{PartialMap, call_key, find_reply, next, reply_to, rows_or, state_after, state_of}
 use Rattle.nr_model.proofs.HistoryLemmas.{state_of-next_other, state_of-next_same}
-use Rattle.nr_machine.specs.declared.shape.Shape.{Shape}
+use Rattle.nr_core.specs.declared.shape.Shape.{Shape}
 use Rattle.nr_board.specs.Callers.{Table, map_at_opening}
 use Rattle.nr_board.specs.Entries.{AreCallers, IsCallers, is_reading}
 use Rattle.nr_load.specs.Base.{FindsRow, FindsRows, FollowsBase, IsRound, Rounds, StepsBase, applies, changed, row_of}

@@ -7,8 +7,8 @@ use Rattle.nr_model.specs.declared.calls.Call.TheVariants as call
 use Rattle.nr_model.specs.declared.calls.Reply.{Reply}
 use Rattle.nr_model.specs.declared.calls.Reply.TheVariants as reply
 use Rattle.nr_model.specs.Histories.{Entry, is_done}
-use Rattle.nr_machine.specs.Story.{entry}
-use Rattle.nr_machine.specs.declared.calls.NoSlot.{NoSlot}
+use Rattle.nr_core.specs.Story.{entry}
+use Rattle.nr_core.specs.declared.calls.NoSlot.{NoSlot}
 use Rattle.nr_board.specs.declared.answers.Evict.{Evict}
 use Rattle.nr_board.specs.declared.answers.Evict.TheVariants as evict
 use Rattle.nr_board.specs.declared.answers.FillFault.{FillFault}
@@ -20,13 +20,14 @@ use Rattle.nr_board.specs.WriterAnswers.{EvictsKey, UpdatesKey}
 use Rattle.nr_trigger.specs.declared.post.Post.{Post}
 use Rattle.nr_trigger.specs.declared.post.Upquery.{Upquery}
 use Rattle.nr_trigger.specs.Tokens.{TakerSeen}
-use Rattle.nr_serve.specs.declared.turns.Turn.TheVariants as turn
+use Rattle.nr_serve.specs.declared.try_turns.TryTurn.TheVariants as turn
 use Rattle.nr_serve.specs.Flows.{FlowSeen}
 use Rattle.nr_serve.specs.Hands.{capped}
 use Rattle.nr_serve.specs.Ends.{IsPast}
-use Rattle.nr_serve.specs.Turns.{FindsNone, Spends, SpendsOne, Turns, kept_posts}
+use Rattle.nr_serve.specs.Sources.{FailsNever}
+use Rattle.nr_serve.specs.Turns.{FindsNone, Spends, SpendsOne, TurnsOrFails, kept_posts}
 use Rattle.nr_load.specs.declared.flow.Turned.TheVariants as turned
-use Rattle.nr_load.specs.Base.{Changes, FailsNever, FollowsBase, GivesRow, IsRound, StepsBase, applies}
+use Rattle.nr_load.specs.Base.{Changes, FollowsBase, GivesRow, IsRound, StepsBase, applies}
 use Rattle.nr_load.specs.Flowed.{Changed, RefusesUpdate, TurnsOnce}
 use Rattle.nr_load.specs.Gained.{Gained}
 use Rattle.nr_load.specs.UnderWay.{upqueries_in, upqueries_of}
@@ -135,7 +136,7 @@ passed_fits old new key fill.Stale past spends = refl
 passed_fits old new key (fill.NoSlot counts) past spends = absurd past
 
 pub turn_passes : (old new : FlowSeen (List ℕ)) (key fills : ℕ) → length old.source ≡ old.map.shape.keys
-    → fills ≡ capped fills → Turns GivesRow FailsNever old new (turn.Passed key)
+    → fills ≡ capped fills → TurnsOrFails GivesRow FailsNever old new (turn.Passed key)
     → TurnsOnce old fills new fills turned.Went
 turn_passes old new key fills long small turns = record {
   count = 0;
@@ -166,7 +167,7 @@ spends_none old new finds =
     }
 
 pub turn_idles : (old new : FlowSeen (List ℕ)) (fills : ℕ) → fills ≡ capped fills
-    → Turns GivesRow FailsNever old new turn.Idle → TurnsOnce old fills new fills turned.Idle
+    → TurnsOrFails GivesRow FailsNever old new turn.Idle → TurnsOnce old fills new fills turned.Idle
 turn_idles old new fills small turns = record {
   count = 0;
   gained = turns_gain GivesRow old new turn.Idle turns;

@@ -12,11 +12,11 @@ use Rattle.nr_board.specs.declared.answers.UpdateFault.{UpdateFault}
 use Rattle.nr_board.specs.declared.answers.UpdateFault.TheVariants as update
 use Rattle.nr_board.specs.WriterAnswers.{EvictsKey, FillsKey, UpdatesKey}
 use Rattle.nr_board.specs.Callers.{Caller, Grows}
-use Rattle.nr_serve.specs.declared.turns.Turn.{Turn}
-use Rattle.nr_serve.specs.declared.turns.Turn.TheVariants as turn
+use Rattle.nr_serve.specs.declared.try_turns.TryTurn.{TryTurn}
+use Rattle.nr_serve.specs.declared.try_turns.TryTurn.TheVariants as turn
 use Rattle.nr_serve.specs.Flows.{FlowSeen}
 use Rattle.nr_serve.specs.Ends.{IsPast}
-use Rattle.nr_serve.specs.Turns.{SpendsOne, Turns}
+use Rattle.nr_serve.specs.Turns.{SpendsOne, TurnsOrFails}
 use Rattle.nr_load.specs.Gained.{Gained, Tells}
 use Rattle.nr_load.proofs.Counting.{tells_both, tells_evict, tells_fill, tells_none, tells_update}
 
@@ -87,7 +87,7 @@ updates_gain keys bound key batch a b (Err update.TooMany) low updates =
 updates_gain keys bound key batch a b (Err (update.NoSlot counts)) low updates =
     grown _ keys a b [] 0 0 updates.3.grows (tells_none keys)
 
-abbrev pub fills_of : Turn → ℕ
+abbrev pub fills_of : TryTurn → ℕ
 fills_of turn.Idle = 0
 fills_of (turn.Filled key) = 1
 fills_of (turn.Passed key) = 0
@@ -111,7 +111,7 @@ module _ {S : Type 0} (gives : S → (key bound : ℕ) → List Row → S → Ty
       → spends.post.upquery.key < old.map.shape.keys
   near_post old new key answer spends = subst (λ (k : ℕ). k < old.map.shape.keys) (sym spends.key_is) spends.near
 
-  abbrev pub turns_gain : (old new : FlowSeen S) (answer : Turn) → Turns gives (λ _ _ _ _. ⊥) old new answer
+  abbrev pub turns_gain : (old new : FlowSeen S) (answer : TryTurn) → TurnsOrFails gives (λ _ _ _ _. ⊥) old new answer
       → Gained old.map.shape.keys old.writer new.writer 0 (fills_of answer)
   turns_gain old new turn.Idle turns =
       gained_none old.map.shape.keys old.writer new.writer (ap (λ (flow : FlowSeen S). flow.writer) turns.2)

@@ -7,8 +7,8 @@ use Rattle.std.proofs.lemmas.List.{length-map, length-replicate}
 use Rattle.std.proofs.lemmas.Option.{get_or_from_slice_get}
 use Rattle.nr_model.specs.declared.states.KeyState.TheVariants.{Hole}
 use Rattle.nr_model.specs.Histories.{Entry, entries_of}
-use Rattle.nr_machine.specs.declared.shape.Shape.{Shape}
-use Rattle.nr_machine.specs.Sums.{total}
+use Rattle.nr_core.specs.declared.shape.Shape.{Shape}
+use Rattle.nr_core.specs.Sums.{total}
 use Rattle.nr_core.specs.Marks.{no_marks}
 use Rattle.nr_board.specs.Callers.{Caller, Table, map_at_opening}
 use Rattle.nr_map.specs.Opened.{newcomer}

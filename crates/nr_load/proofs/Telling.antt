@@ -5,7 +5,7 @@ use Rattle.std.proofs.lemmas.List.{append-nil, nil_from_length}
 use Rattle.std.specs.List.{count_by}
 use Rattle.nr_model.proofs.HistoryLemmas.{count_by-cons}
 use Rattle.nr_model.specs.Histories.{Entry, entries_of}
-use Rattle.nr_machine.specs.Sums.{total}
+use Rattle.nr_core.specs.Sums.{total}
 use Rattle.nr_board.specs.Callers.{Caller, Table, IsSound}
 use Rattle.nr_map.specs.Rounds.{CallsStay, EntriesAreCallers, HasCalls, HasHeard, HasJustCalls, KnowsAll, RoundsTellAll}
 use Rattle.nr_map.specs.Rounds.{SendsOfAllKeys, is_cancel, is_fill, is_sent}

@@ -8,7 +8,7 @@ use Rattle.nr_model.specs.declared.calls.Reply.{Reply}
 use Rattle.nr_model.specs.declared.calls.Reply.TheVariants as reply
 use Rattle.nr_model.specs.declared.calls.Call.{Call}
 use Rattle.nr_model.specs.Histories.{Entry, is_done}
-use Rattle.nr_machine.specs.Story.{entry}
+use Rattle.nr_core.specs.Story.{entry}
 use Rattle.nr_serve.specs.Hands.{capped, last_count}
 
 -- the one row of a key, and the batch that makes it the next one
@@ -22,10 +22,6 @@ base_deltas key x = record { plus = false; row = row_of key x } ∷ record { plu
 abbrev pub GivesRow : List ℕ → (key bound : ℕ) → List Row → List ℕ → Type 0
 GivesRow base key bound rows base' =
     (base' ≡ base) × (key < length base → rows ≡ row_of key (slice_index base key) ∷ [])
-
--- it gives rows each time
-abbrev pub FailsNever : List ℕ → (key bound : ℕ) → List ℕ → Type 0
-FailsNever base key bound base' = ⊥
 
 -- a step adds one to the number in the key's row, unless that is the last one
 abbrev pub StepsBase : ℕ → List ℕ → List ℕ → Option (List Delta) → Type 0

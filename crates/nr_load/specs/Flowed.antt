@@ -5,7 +5,7 @@ use Rattle.nr_model.specs.declared.calls.Call.TheVariants as call
 use Rattle.nr_model.specs.declared.calls.Reply.{Reply}
 use Rattle.nr_model.specs.declared.calls.Reply.TheVariants as reply
 use Rattle.nr_model.specs.Histories.{Entry}
-use Rattle.nr_machine.specs.Story.{entry}
+use Rattle.nr_core.specs.Story.{entry}
 use Rattle.nr_board.specs.Callers.{Caller}
 use Rattle.nr_board.specs.declared.answers.UpdateFault.{UpdateFault}
 use Rattle.nr_trigger.specs.declared.post.Post.{Post}

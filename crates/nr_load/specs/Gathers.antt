@@ -2,7 +2,7 @@
 use Rattle.std.specs.Prelude.{◌≡◌, ◌<◌, ℕ, ◌+◌, List, length, slice_index_or}
 use Rattle.nr_model.specs.Histories.{Entry}
 use Rattle.nr_model.specs.Laws.{pending}
-use Rattle.nr_machine.specs.Sums.{total}
+use Rattle.nr_core.specs.Sums.{total}
 use Rattle.nr_board.specs.declared.answers.KeyKind.{KeyKind}
 use Rattle.nr_board.specs.declared.answers.KeyKind.TheVariants as kind
 use Rattle.nr_board.specs.Callers.{Caller, map_seen, IsSound}

@@ -4,8 +4,8 @@ use Rattle.std.specs.List.{count_by}
 use Rattle.rand_pcg.specs.Lcg.{Lcg}
 use Rattle.nr_model.specs.Histories.{Entry, IsLegal, after, entries_of}
 use Rattle.nr_model.specs.Laws.{pending}
-use Rattle.nr_machine.specs.declared.shape.Shape.{Shape}
-use Rattle.nr_machine.specs.Sums.{total}
+use Rattle.nr_core.specs.declared.shape.Shape.{Shape}
+use Rattle.nr_core.specs.Sums.{total}
 use Rattle.nr_core.specs.Marks.{no_marks}
 use Rattle.nr_board.specs.Callers.{Caller, Table, map_at_opening}
 use Rattle.nr_board.specs.Entries.{AreCallers}

@@ -3,7 +3,7 @@ ghost use Rattle.std.specs.Prelude.{◌≡◌, ◌<◌, IfOk, length, replicate}
 ghost use Rattle.nr_load.specs.Base.{StepsBase};
 
 use nr_model::{Delta, Row, RowRoom, RowSet, RowSource};
-use nr_serve::{Source, SourceFault};
+use nr_serve::{FallibleSource, SourceFault};
 use std::alloc::{AllocError, Global};
 use std::marker::Model;
 
@@ -45,14 +45,15 @@ impl RowSource for One {
     ghost gave_more = { λ _ _ _ _ _ _. tt };
 }
 
-impl Source for Base {
-    ghost use Rattle.nr_load.specs.Base.{FailsNever, GivesRow};
+impl FallibleSource for Base {
+    ghost use Rattle.nr_load.specs.Base.{GivesRow};
+    ghost use Rattle.nr_serve.specs.Sources.{FailsNever};
 
     ghost gives = { GivesRow };
 
     ghost fails = { FailsNever };
 
-    fn rows(&mut self, key: u32, _bound: u32, room: &mut RowSet) -> Result<(), SourceFault> {
+    fn try_rows(&mut self, key: u32, _bound: u32, room: &mut RowSet) -> Result<(), SourceFault> {
         match self.values.get(key as usize) {
             Some(value) => {
                 let row = Row {

@@ -11,7 +11,7 @@ use crate::fault::LoadFault;
 use crate::shared::Shared;
 use crate::under_way::UnderWay;
 use nr_map::{UpdateFault, Writer};
-use nr_serve::{Dataflow, Guest, Turn};
+use nr_serve::{Dataflow, Guest, TryTurn};
 use nr_trigger::Taker;
 use std::sync::Wait;
 
@@ -63,11 +63,11 @@ fn turn_once<R: Wait>(rt: &R, flow: &mut Dataflow<'_, Base>, fills: &mut u64) ->
     ensures places { (flow.new.map ≡ flow.old.map) × (flow.new.queue ≡ flow.old.queue) }
 {
     let before = *fills;
-    match flow.turn_or_sleep(rt) {
-        Turn::Idle => Turned::Idle,
-        Turn::Passed(_) => Turned::Went,
-        Turn::Failed(_) | Turn::Kept(_) | Turn::Worn(_) => unreachable!(),
-        Turn::Filled(key) => {
+    match flow.try_turn_or_sleep(rt) {
+        TryTurn::Idle => Turned::Idle,
+        TryTurn::Passed(_) => Turned::Went,
+        TryTurn::Failed(_) | TryTurn::Kept(_) | TryTurn::Worn(_) => unreachable!(),
+        TryTurn::Filled(key) => {
             *fills = before.saturating_add(1);
             match change(flow, key, *fills) {
                 Ok(()) => Turned::Went,
@@ -115,7 +115,7 @@ fn turn_on<R: Wait>(
     let mut guest = lobby.guest();
     let mut fills = 0;
     for _ in rt.forever() {
-        let is_closed = lobby.is_closed(&mut guest);
+        let is_closed = lobby.is_closed_as(&mut guest);
         under_way.ready(rt, flow);
         let turned = turn_once(rt, flow, &mut fills);
         if is_last(turned, is_closed) {
@@ -158,7 +158,7 @@ pub(crate) fn flow_on<R: Wait>(
     ensures flows { Flows writer taker result }
     ensures closes { (result.guest.lobby ≡ shared.now.service.lobby) × (0 < result.guest.closes) }
 {
-    let mut flow = Dataflow::open(&shared.service, writer, taker, base);
+    let mut flow = Dataflow::of_service(&shared.service, writer, taker, base);
     let (fills, fault) = turn_all(rt, shared, &mut flow);
     let (writer, taker, kept, _) = flow.end();
     if let Some(trigger) = kept {

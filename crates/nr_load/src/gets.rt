@@ -154,7 +154,7 @@ pub fn load_gets<R: Wait, G: Gate>(
     let mut rows = RowSet::new();
     let mut answered: u32 = 0;
     for made in 0..gets {
-        if lobby.is_closed(&mut guest) {
+        if lobby.is_closed_as(&mut guest) {
             return (Worked::stopped(made, answered), guest);
         }
         let (got, fault) = get_drawn(rt, client, draws, &mut rows, known.as_mut_slice());

@@ -28,7 +28,7 @@ impl Shared {
     {
         let lobby = self.service.lobby();
         let mut guest = lobby.guest();
-        lobby.close(&mut guest);
+        lobby.close_as(&mut guest);
         guest
     }
 }

@@ -78,7 +78,7 @@ fn work<R: Wait, G: Gate>(
         service,
     } = shared;
     let mut draws = Draws::open(plan.seed, reader.number(), service.map().keys());
-    let mut client = Client::open(service, reader, poster, gate);
+    let mut client = Client::of_service(service, reader, poster, gate);
     let (worked, guest) = load_gets(
         rt,
         *alloc,

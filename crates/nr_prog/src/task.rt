@@ -2,8 +2,8 @@
 ghost use Rattle.std.specs.Prelude.{◌≡◌, ◌<◌, ◌≤◌, ◌∷◌, [], map, string_bytes, IfSome};
 ghost use Rattle.nr_prog.specs.Tasks.{IsRunnable, load_asked, load_of, number_within, task};
 
+use nr_core::MAX_READERS;
 use nr_load::Plan;
-use nr_machine::MAX_READERS;
 use nr_model::MAX_KEYS;
 use nr_text::number;
 

@@ -10,7 +10,7 @@ use native.Mathlib.Decide.{ℕ_discrete}
 use prog.Atomic.{either}
 use Rattle.atomic_table.specs.Table.{Allows, Enters, Me, State, keeps, step, stepped, opening}
 use Rattle.atomic_table.proofs.Lists.{at_set, at_snoc}
-use Rattle.nr_machine.specs.Sums.{total}
+use Rattle.nr_core.specs.Sums.{total}
 use Rattle.nr_serve.specs.Hands.{capped, last_count}
 use Rattle.nr_serve.specs.Counts.{AreCounts, IsLater, Visit, closed_at, has_closed, has_read_count, has_raised}
 use Rattle.nr_serve.specs.Counts.{how_often, new_guest}

@@ -17,15 +17,15 @@ use Rattle.nr_serve.specs.Gets.{found, miss, misses, requested}
 use Rattle.nr_serve.specs.Hands.{Moves, last_count}
 use Rattle.nr_serve.proofs.Moving.{moves_both, moves_none}
 
-misses-snoc : (by key : ℕ) (requests : List Requested) (request : Requested)
+pub misses-snoc : (by key : ℕ) (requests : List Requested) (request : Requested)
     → misses by key (requests ++ request ∷ []) ≡ misses by key requests ++ miss by key request
 misses-snoc by key [] request = append-nil (miss by key request)
 misses-snoc by key (first ∷ requests) request =
     ap (λ (l : List Entry). miss by key first ++ l) (misses-snoc by key requests request)
     ∙ sym (append_assoc (miss by key first) (misses by key requests) (miss by key request))
 
-misses_then : (key : ℕ) (a b c : Hands) (requests : List Requested) (request : Requested) → MissesAll key a b requests
-    → MissesOnce key b c request → MissesAll key a c (requests ++ request ∷ [])
+abbrev pub misses_then : (key : ℕ) (a b c : Hands) (requests : List Requested) (request : Requested)
+    → MissesAll key a b requests → MissesOnce key b c request → MissesAll key a c (requests ++ request ∷ [])
 misses_then key a b c [] request all once =
     (c, subst (λ (hands : Hands). MissesOnce key hands c request) all once, refl)
 misses_then key a b c (first ∷ requests) request all once =
@@ -45,12 +45,12 @@ pub record Missed (key count : ℕ) (old new : Hands) : Type 0 where
   pub counted : finds_by_word old.reader ≡ false → steps ≡ length (misses old.reader.number key requests)
   pub moves : Moves steps (misses old.reader.number key requests) old new
 
-pub missed_none : (key : ℕ) (a : Hands) → a.sends ≤ last_count → Missed key 0 a a
+abbrev pub missed_none : (key : ℕ) (a : Hands) → a.sends ≤ last_count → Missed key 0 a a
 missed_none key a small =
     record { requests = []; count_is = refl; missed = refl; steps = 0; counted = λ _. refl; moves = moves_none a small }
 
 -- one try more that found a hole
-pub missed_more : (key n : ℕ) (a b c : Hands) (before rows : List Row) (request : Requested) → Missed key n a b
+abbrev pub missed_more : (key n : ℕ) (a b c : Hands) (before rows : List Row) (request : Requested) → Missed key n a b
     → TriesOnce key b before c rows (tried.Missed request) → Missed key (n + 1) a c
 missed_more key n a b c before rows request missed once =
     let by = a.reader.number in
@@ -84,7 +84,7 @@ missed_more key n a b c before rows request missed once =
     }
 
 -- by the counts they took a step for each call
-counted_by : (key n : ℕ) (a b : Hands) → (missed : Missed key n a b) → finds_by_word a.reader ≡ false
+pub counted_by : (key n : ℕ) (a b : Hands) → (missed : Missed key n a b) → finds_by_word a.reader ≡ false
     → b.reader.steps ≡ a.reader.steps + length (misses a.reader.number key missed.requests)
 counted_by key n a b missed no_word =
     let all = missed.moves.makes.steps_made in
@@ -92,7 +92,7 @@ counted_by key n a b missed no_word =
     omega (arith, all, each)
 
 -- a last find, and all calls together
-found_last : (key n more : ℕ) (a b c : Hands) (set : List Row) (missed : Missed key n a b)
+pub found_last : (key n more : ℕ) (a b c : Hands) (set : List Row) (missed : Missed key n a b)
     → (once : FindsOnce key more b c set)
     → Moves (missed.steps + (once.steps + more))
     (misses a.reader.number key missed.requests ++ found b.reader.number key (reply.Rows set) ∷ []) a c
@@ -100,7 +100,7 @@ found_last key n more a b c set missed once =
     moves_both missed.steps (once.steps + more) _ a (misses a.reader.number key missed.requests) b
     (found b.reader.number key (reply.Rows set) ∷ []) c refl missed.moves once.moves
 
-pub gets_by_end : (key n tries : ℕ) (a b c : Hands) (before rows : List Row) (answer : Got) → n < tries
+abbrev pub gets_by_end : (key n tries : ℕ) (a b c : Hands) (before rows : List Row) (answer : Got) → n < tries
     → Missed key n a b → TriesOnce key b before c rows (tried.Ended answer) → Gets key tries a before c rows answer
 gets_by_end key n tries a b c before rows got.Rows low missed once = record {
   requests = missed.requests;
@@ -126,7 +126,7 @@ gets_by_end key n tries a b c before rows got.Barred low missed once = record {
   moves = found_last key n 1 a b c once.0 missed once.1;
 }
 
-pub gets_by_none : (key n tries : ℕ) (a b : Hands) (before rows : List Row) → n ≡ tries → Missed key n a b
+abbrev pub gets_by_none : (key n tries : ℕ) (a b : Hands) (before rows : List Row) → n ≡ tries → Missed key n a b
     → rows ≡ before → Gets key tries a before b rows got.GaveUp
 gets_by_none key n tries a b before rows all missed same = record {
   requests = missed.requests;
@@ -143,7 +143,7 @@ gets_by_none key n tries a b before rows all missed same = record {
 }
 
 -- the sleep after one try more timed out
-pub ends_late : (key n tries : ℕ) (a b c : Hands) (before rows : List Row) (request : Requested) → n + 1 < tries
+abbrev pub ends_late : (key n tries : ℕ) (a b c : Hands) (before rows : List Row) (request : Requested) → n + 1 < tries
     → Missed key n a b → rows ≡ before → AwaitsFill key b c request → EndsLate key tries a before c rows
 ends_late key n tries a b c before rows request few missed same slept =
     record {

@@ -5,7 +5,7 @@ use Rattle.std.proofs.Common.{arith, append_assoc, append-nil, inl, inr}
 use Rattle.nr_core.proofs.Sums.{total-append}
 use Rattle.nr_model.specs.declared.rows.Row.{Row}
 use Rattle.nr_model.specs.Histories.{Entry}
-use Rattle.nr_machine.specs.Sums.{total}
+use Rattle.nr_core.specs.Sums.{total}
 use Rattle.nr_board.specs.declared.answers.Cancel.{Cancel}
 use Rattle.nr_board.specs.declared.answers.Cancel.TheVariants as cancel
 use Rattle.nr_board.specs.declared.answers.FillFault.TheVariants as fill
@@ -15,11 +15,11 @@ use Rattle.nr_trigger.specs.declared.post.Upquery.{Upquery}
 use Rattle.nr_trigger.specs.Tokens.{TakerSeen}
 use Rattle.nr_serve.specs.declared.turns.Spent.{Spent}
 use Rattle.nr_serve.specs.declared.turns.Spent.TheVariants as spent
-use Rattle.nr_serve.specs.declared.turns.Turn.{Turn}
-use Rattle.nr_serve.specs.declared.turns.Turn.TheVariants as turn
+use Rattle.nr_serve.specs.declared.try_turns.TryTurn.{TryTurn}
+use Rattle.nr_serve.specs.declared.try_turns.TryTurn.TheVariants as turn
 use Rattle.nr_serve.specs.Ends.{FailsOne, FillsOne, TakesBack}
 use Rattle.nr_serve.specs.Flows.{FlowSeen}
-use Rattle.nr_serve.specs.Turns.{Spends, Takes, Turns, kept_posts}
+use Rattle.nr_serve.specs.Turns.{Spends, Takes, TurnsOrFails, kept_posts}
 use Rattle.nr_serve.specs.Ledger.{Cancels, Does, EachTriggerEndsOnce, Ending, Evicts, FailWorn, Fails, FillLacks}
 use Rattle.nr_serve.specs.Ledger.{Filling, Fills, Goes, Hears, IsEachOnce, Keeps, Lends, Looks, Opens, Replaces, Run}
 use Rattle.nr_serve.specs.Ledger.{TakesNone, TakesOne, Tells, TurnsOnce, Updates, ended, ended_by, fate_by, fate_of}
@@ -145,7 +145,7 @@ module _ {S : Type 0} where
 
 module _ {S : Type 0} (gives : S → (key bound : ℕ) → List Row → S → Type 0)
     (fails : S → (key bound : ℕ) → S → Type 0) where
-  turns_books : (old new : FlowSeen S) (turned : Turn) (turns : Turns gives fails old new turned)
+  turns_books : (old new : FlowSeen S) (turned : TryTurn) (turns : TurnsOrFails gives fails old new turned)
       → Books old new [] [] (ended_by gives fails old turned new turns)
   turns_books old new turn.Idle turns = record {
     gain = [];

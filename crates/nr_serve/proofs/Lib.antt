@@ -6,6 +6,7 @@ pub mod Making
 pub mod Moving
 pub mod Trying
 pub mod Getting
+pub mod Waiting
 pub mod Serving
 pub mod Heard
 pub mod Telling

@@ -4,7 +4,7 @@ use Rattle.std.proofs.Common.{append-nil, inl, inr, ⊎_elim}
 use Rattle.nr_model.specs.declared.calls.Call.{Call}
 use Rattle.nr_model.specs.declared.calls.Reply.{Reply}
 use Rattle.nr_model.specs.Histories.{Entry, IsLegal, entries_of}
-use Rattle.nr_machine.specs.Story.{entry}
+use Rattle.nr_core.specs.Story.{entry}
 use Rattle.nr_board.specs.Callers.{Caller, Gains, Rests, Table, map_at_opening, IsSound}
 use Rattle.nr_board.specs.Entries.{AreCallers}
 use Rattle.nr_board.specs.Rule.{StartsWith}

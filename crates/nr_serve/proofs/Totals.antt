@@ -2,7 +2,7 @@
 use Rattle.std.proofs.Common.{◌≡◌, ℕ, zero, suc, ◌+◌, List, [], ◌∷◌, ◌++◌, set, sym, ap, arith}
 use mathlib.Core.Option.{some, some-injective, some-ne-none}
 use lib.ListN.{get_elem?}
-use Rattle.nr_machine.specs.Sums.{total}
+use Rattle.nr_core.specs.Sums.{total}
 use Rattle.nr_serve.specs.Counts.{how_often}
 
 module _ {A : Type 0} (f : A → ℕ) where

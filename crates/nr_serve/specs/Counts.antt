@@ -5,7 +5,7 @@ use mathlib.Core.Option.{some}
 use lib.ListN.{get_elem?}
 use Rattle.atomic_table.specs.Seated.{TableId}
 use Rattle.atomic_table.specs.Table.{Me, State, Step}
-use Rattle.nr_machine.specs.Sums.{only, total}
+use Rattle.nr_core.specs.Sums.{only, total}
 use Rattle.nr_serve.specs.Hands.{capped, last_count}
 
 -- what a guest knows and did: each number as it last saw them all, the indexes of the counts that it raised, oldest

@@ -6,7 +6,7 @@ use Rattle.nr_model.specs.declared.calls.Call.TheVariants as call
 use Rattle.nr_model.specs.declared.calls.Reply.{Reply}
 use Rattle.nr_model.specs.declared.calls.Reply.TheVariants as reply
 use Rattle.nr_model.specs.Histories.{Entry}
-use Rattle.nr_machine.specs.Story.{entry}
+use Rattle.nr_core.specs.Story.{entry}
 use Rattle.nr_core.specs.Marks.{acted}
 use Rattle.nr_board.specs.Callers.{Caller, Rests}
 use Rattle.nr_board.specs.Holds.{HeldIn, HoleIn, finds_by_word, looked}

@@ -7,8 +7,8 @@ use Rattle.nr_model.specs.declared.calls.Reply.{Reply}
 use Rattle.nr_model.specs.declared.calls.Reply.TheVariants as reply
 use Rattle.nr_model.specs.declared.rows.Row.{Row}
 use Rattle.nr_model.specs.Histories.{Entry}
-use Rattle.nr_machine.specs.Sums.{total}
-use Rattle.nr_machine.specs.declared.calls.NoSlot.{NoSlot}
+use Rattle.nr_core.specs.Sums.{total}
+use Rattle.nr_core.specs.declared.calls.NoSlot.{NoSlot}
 use Rattle.nr_board.specs.declared.answers.Cancel.{Cancel}
 use Rattle.nr_board.specs.declared.answers.Cancel.TheVariants as cancel
 use Rattle.nr_board.specs.declared.answers.Evict.{Evict}
@@ -19,11 +19,11 @@ use Rattle.nr_board.specs.WriterAnswers.{CancelsKey, EvictsKey, ReplacesKey, Upd
 use Rattle.nr_trigger.specs.declared.post.Post.{Post}
 use Rattle.nr_serve.specs.declared.turns.Spent.{Spent}
 use Rattle.nr_serve.specs.declared.turns.Spent.TheVariants as spent
-use Rattle.nr_serve.specs.declared.turns.Turn.{Turn}
-use Rattle.nr_serve.specs.declared.turns.Turn.TheVariants as turn
+use Rattle.nr_serve.specs.declared.try_turns.TryTurn.{TryTurn}
+use Rattle.nr_serve.specs.declared.try_turns.TryTurn.TheVariants as turn
 use Rattle.nr_serve.specs.Ends.{FailsOne, FillsOne}
 use Rattle.nr_serve.specs.Flows.{FlowSeen}
-use Rattle.nr_serve.specs.Turns.{FindsNone, Takes, Turns, kept_posts}
+use Rattle.nr_serve.specs.Turns.{FindsNone, Takes, TurnsOrFails, kept_posts}
 
 -- how a trigger ended: its key was filled with these rows; it needed none; or they couldn't be had, and its request was
 -- taken back
@@ -54,8 +54,8 @@ fate_by cancel.Worn = Passed
 module _ {S : Type 0} (gives : S → (key bound : ℕ) → List Row → S → Type 0)
     (fails : S → (key bound : ℕ) → S → Type 0) where
   -- the trigger that a turn spent
-  abbrev pub ended_by : (old : FlowSeen S) (turned : Turn) (new : FlowSeen S) → Turns gives fails old new turned
-      → List Ending
+  abbrev pub ended_by : (old : FlowSeen S) (turned : TryTurn) (new : FlowSeen S)
+      → TurnsOrFails gives fails old new turned → List Ending
   ended_by old turn.Idle new turns = []
   ended_by old (turn.Filled key) new turns = ended turns.post (Filled turns.answers.rows)
   ended_by old (turn.Passed key) new (_, _, spends) = ended spends.post Passed
@@ -78,7 +78,7 @@ module _ {S : Type 0} (gives : S → (key bound : ℕ) → List Row → S → Ty
         → Does old (back ∷ []) (post ∷ []) [] new
     Keeps : (old new : FlowSeen S) (post : Post) → new ≡ record old { kept = Some post }
         → Does old (kept_posts old.kept) (post ∷ []) [] new
-    TurnsOnce : (old new : FlowSeen S) (turned : Turn) (turns : Turns gives fails old new turned)
+    TurnsOnce : (old new : FlowSeen S) (turned : TryTurn) (turns : TurnsOrFails gives fails old new turned)
         → Does old [] [] (ended_by old turned new turns) new
     Updates : (old new : FlowSeen S) (key : ℕ) (batch : List Delta) (answer : Result (Unit {0}) UpdateFault)
         → UpdatesKey old.map.shape.rows key batch old.writer new.writer answer

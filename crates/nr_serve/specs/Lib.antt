@@ -3,6 +3,7 @@ pub mod Services
 pub mod Rings
 pub mod Flows
 pub mod Ends
+pub mod Sources
 pub mod Turns
 pub mod Ledger
 pub mod Requests
@@ -11,6 +12,7 @@ pub mod Callers
 pub mod Tickets
 pub mod Hands
 pub mod Gets
+pub mod Waits
 pub mod Gates
 pub mod Clients
 pub mod Heard

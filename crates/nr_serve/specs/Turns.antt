@@ -9,11 +9,14 @@ use Rattle.nr_board.specs.WriterAnswers.{FillsKey}
 use Rattle.nr_trigger.specs.declared.post.Post.{Post}
 use Rattle.nr_trigger.specs.Tokens.{IsSameTaker, TakerSeen, WasEmpty, taker_tried}
 use Rattle.nr_serve.specs.declared.source.SourceFault.{SourceFault}
+use Rattle.nr_serve.specs.declared.try_turns.TryTurn.{TryTurn}
+use Rattle.nr_serve.specs.declared.try_turns.TryTurn.TheVariants as try_turn
 use Rattle.nr_serve.specs.declared.turns.Turn.{Turn}
 use Rattle.nr_serve.specs.declared.turns.Turn.TheVariants as turn
 use Rattle.nr_serve.specs.Counts.{GuestSeen, OnlyLooks, Raises, raises_for}
 use Rattle.nr_serve.specs.Ends.{FailRaises, FailsBy, IsPast, TakesBack}
 use Rattle.nr_serve.specs.Flows.{FlowSeen}
+use Rattle.nr_serve.specs.Sources.{FailsNever}
 
 -- the triggers that are kept, one at most
 abbrev pub kept_posts : Option Post → List Post
@@ -111,13 +114,14 @@ module _ {S : Type 0} (fails : S → (key bound : ℕ) → S → Type 0) where
 
 module _ {S : Type 0} (gives : S → (key bound : ℕ) → List Row → S → Type 0)
     (fails : S → (key bound : ℕ) → S → Type 0) where
-  abbrev pub Turns : FlowSeen S → FlowSeen S → Turn → Type 0
-  Turns old new turn.Idle = FindsNone old new
-  Turns old new (turn.Filled key) = SpendsOne gives key old new (Ok tt)
-  Turns old new (turn.Passed key) = (fault : FillFault) × IsPast fault × SpendsOne gives key old new (Err fault)
-  Turns old new (turn.Failed key) = GivesUp fails key old new
-  Turns old new (turn.Kept counts) = KeepsOne gives old new (Err (fill.NoSlot counts))
-  Turns old new (turn.Worn key) = KeepsWorn fails key old new
+  abbrev pub TurnsOrFails : FlowSeen S → FlowSeen S → TryTurn → Type 0
+  TurnsOrFails old new try_turn.Idle = FindsNone old new
+  TurnsOrFails old new (try_turn.Filled key) = SpendsOne gives key old new (Ok tt)
+  TurnsOrFails old new (try_turn.Passed key) =
+      (fault : FillFault) × IsPast fault × SpendsOne gives key old new (Err fault)
+  TurnsOrFails old new (try_turn.Failed key) = GivesUp fails key old new
+  TurnsOrFails old new (try_turn.Kept counts) = KeepsOne gives old new (Err (fill.NoSlot counts))
+  TurnsOrFails old new (try_turn.Worn key) = KeepsWorn fails key old new
 
   -- the source is asked for the rows of a trigger, which its key is filled with; or it fails
   abbrev pub AsksSource : Post → FlowSeen S → FlowSeen S → Result (Result (Unit {0}) FillFault) SourceFault → Type 0
@@ -125,15 +129,27 @@ module _ {S : Type 0} (gives : S → (key bound : ℕ) → List Row → S → Ty
   AsksSource post old new (Err fault) =
       fails old.source post.upquery.key old.map.shape.rows new.source × (new.writer ≡ old.writer)
 
+-- a turn as one over a source that may fail
+abbrev pub tried : Turn → TryTurn
+tried turn.Idle = try_turn.Idle
+tried (turn.Filled key) = try_turn.Filled key
+tried (turn.Passed key) = try_turn.Passed key
+tried (turn.Kept counts) = try_turn.Kept counts
+
+-- a turn over a source that never fails
+abbrev pub Turns : {S : Type 0} → (S → (key bound : ℕ) → List Row → S → Type 0) → FlowSeen S → FlowSeen S → Turn
+    → Type 0
+Turns gives old new turned = TurnsOrFails gives FailsNever old new (tried turned)
+
 -- a turn goes on with a trigger for whose key the source failed
-abbrev pub TurnsFailed : {S : Type 0} → Post → FlowSeen S → FlowSeen S → Turn → Type 0
-TurnsFailed post old new turn.Idle = ⊥
-TurnsFailed post old new (turn.Filled key) = ⊥
-TurnsFailed post old new (turn.Passed key) = ⊥
-TurnsFailed post old new (turn.Failed key) =
+abbrev pub TurnsFailed : {S : Type 0} → Post → FlowSeen S → FlowSeen S → TryTurn → Type 0
+TurnsFailed post old new try_turn.Idle = ⊥
+TurnsFailed post old new (try_turn.Filled key) = ⊥
+TurnsFailed post old new (try_turn.Passed key) = ⊥
+TurnsFailed post old new (try_turn.Failed key) =
     (key ≡ post.upquery.key) × (answer : Cancel) × IsOver answer × FailsBy post old new answer
-TurnsFailed post old new (turn.Kept counts) = ⊥
-TurnsFailed post old new (turn.Worn key) =
+TurnsFailed post old new (try_turn.Kept counts) = ⊥
+TurnsFailed post old new (try_turn.Worn key) =
     (key ≡ post.upquery.key) × TakesBack post.upquery old.writer new.writer cancel.Worn × OnlyLooks old.guest new.guest
     × (new ≡ record old { writer = new.writer; guest = new.guest; kept = Some post })
 

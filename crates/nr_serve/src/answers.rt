@@ -1,5 +1,5 @@
 //! What a get and its tries come to.
-ghost use Rattle.std.specs.Prelude.{◌≡◌, true};
+ghost use Rattle.std.specs.Prelude.{◌↔◌, IsTrue};
 ghost use Rattle.nr_serve.specs.Gets.{IsPending};
 
 /// How a get ended.
@@ -29,7 +29,7 @@ pub enum Requested {
 impl Requested {
     // Whether a fill is to come, if no ticket is kept.
     pub(crate) fn is_pending(&self) -> bool
-        ensures { result ≡ true → IsPending self.now }
+        ensures { IsTrue result ↔ IsPending self.now }
     {
         matches!(self, Requested::Sent(_) | Requested::Waiting)
     }

@@ -37,14 +37,14 @@ struct Told<M: Measure> {
 }
 
 impl<M: Measure> Model for Told<M> {
-    ghost use Rattle.std.specs.Prelude.{IfSome};
+    ghost use Rattle.std.specs.Prelude.{◌≡◌, MatchOption};
     ghost use Rattle.nr_serve.specs.Applied.{Telling};
 
     ghost Value = { Telling };
 
     ghost view = { λ told. record { amount = told.amount; note = told.note } };
 
-    ghost invariant = { λ told. IfSome told.note (λ note. M.reached told.amount note) };
+    ghost invariant = { λ told. MatchOption told.note (told.amount ≡ 0) (λ note. M.reached told.amount note) };
 }
 
 impl<M: Measure> Told<M> {

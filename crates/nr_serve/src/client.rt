@@ -1,5 +1,5 @@
 //! A client, which gets rows, and asks and waits for those that are missing.
-ghost use Rattle.std.specs.Prelude.{◌≡◌, ◌<◌, ◌≤◌, ◌+◌, IfErr, IfOk, length, None, slice_index};
+ghost use Rattle.std.specs.Prelude.{◌≡◌, ◌<◌, ◌≤◌, ◌+◌, IfErr, IfOk, length, None, Ok, slice_index};
 ghost use Rattle.nr_board.specs.Callers.{KnowsOwn};
 ghost use Rattle.nr_board.specs.Meetings.{HearsNote, known_to, with_step};
 ghost use Rattle.nr_serve.specs.Clients.{since};
@@ -8,19 +8,21 @@ ghost use Rattle.nr_serve.specs.Gets.{Gets, GetsInTime};
 ghost use Rattle.nr_serve.specs.Hands.{capped, with_idle_reader};
 ghost use Rattle.nr_serve.specs.Rings.{Rings};
 ghost use Rattle.nr_serve.specs.Tickets.{sent};
+ghost use Rattle.nr_serve.specs.Waits.{GetsSleeping};
 
 use crate::answers::Got;
 use crate::applied::{Applied, Measure};
 use crate::gate::Gate;
 use crate::hands::Hands;
+use crate::lobby::Lobby;
 use crate::service::Service;
 use crate::shared::Shared;
 use crate::sleepers::{Limit, NoLimit, TooLate};
 use crate::tries::get_by_tries;
 use crate::watched::Watched;
-use nr_map::{Note, Reader, Ticket};
+use nr_map::{Note, Reader, ReaderMap, Ticket};
 use nr_model::RowSet;
-use nr_trigger::Poster;
+use nr_trigger::{Poster, Triggers};
 use std::marker::Model;
 use std::snapshot::Snapshot;
 use std::sync::Wait;
@@ -59,8 +61,50 @@ impl<'a, G: Gate> Client<'a, G> {
     ghost use Rattle.nr_serve.specs.Applied.{HearsApplied};
     ghost use Rattle.nr_serve.specs.Gates.{AsksGate};
 
+    /// A client of a map, over a queue that takes all keys of this map. It sleeps in the lobby, so that
+    /// has to be the one that the map's dataflow raises; a `Service` sees to that.
+    pub fn open(
+        map: &'a ReaderMap,
+        reader: Reader,
+        triggers: &'a Triggers,
+        poster: Poster,
+        lobby: &'a Lobby,
+        gate: &'a G,
+    ) -> Client<'a, G>
+        requires map { reader.table ≡ map.now }
+        requires queue { poster.queue ≡ triggers.now.id }
+        requires keys { map.now.shape.keys ≤ poster.keys }
+        ensures places { (result.map ≡ map.now) × (result.queue ≡ triggers.now) }
+        ensures gate { (result.gate ≡ gate.now) × (result.reader ≡ reader.number) }
+        ensures hands { result.hands ≡ record { reader = reader; poster = poster; kept = None; sends = 0 } }
+        ensures opened { result.opened ≡ result.hands }
+        ensures guest { (result.guest.lobby ≡ lobby.now) × IsNew result.guest }
+        ensures counts { result.gets ≡ 0 }
+    {
+        let number = reader.number();
+        let hands = Hands::of(reader, poster);
+        let opened = Snapshot::of(&hands);
+        Client {
+            shared: Shared {
+                map,
+                triggers,
+                gate,
+                reader: number,
+            },
+            lobby: Watched::of(lobby),
+            hands,
+            gets: 0,
+            opened,
+        }
+    }
+
     /// A client of a service whose queue takes all keys of its map.
-    pub fn open(service: &'a Service, reader: Reader, poster: Poster, gate: &'a G) -> Client<'a, G>
+    pub fn of_service(
+        service: &'a Service,
+        reader: Reader,
+        poster: Poster,
+        gate: &'a G,
+    ) -> Client<'a, G>
         requires map { reader.table ≡ service.now.map }
         requires queue { poster.queue ≡ service.now.queue.id }
         requires keys { service.now.map.shape.keys ≤ poster.keys }
@@ -71,21 +115,8 @@ impl<'a, G: Gate> Client<'a, G> {
         ensures guest { (result.guest.lobby ≡ service.now.lobby) × IsNew result.guest }
         ensures counts { result.gets ≡ 0 }
     {
-        let number = reader.number();
-        let hands = Hands::of(reader, poster);
-        let opened = Snapshot::of(&hands);
-        Client {
-            shared: Shared {
-                map: service.map(),
-                triggers: service.triggers(),
-                gate,
-                reader: number,
-            },
-            lobby: Watched::of(service.lobby()),
-            hands,
-            gets: 0,
-            opened,
-        }
+        let (map, triggers) = (service.map(), service.triggers());
+        Client::open(map, reader, triggers, poster, service.lobby(), gate)
     }
 
     /// Gets the rows of a key, in at most that many tries. A try posts the ticket that is kept, if
@@ -100,6 +131,7 @@ impl<'a, G: Gate> Client<'a, G> {
     pub fn get<R: Wait>(&mut self, rt: &R, key: u32, tries: u32, rows: &mut RowSet) -> Got
         requires { key < self.old.map.shape.keys }
         ensures gets { Gets key tries self.old.hands rows.old self.new.hands rows.new result }
+        ensures waits { GetsSleeping key tries self.old.hands rows.old self.old.guest self.new.hands rows.new self.new.guest (Ok result) }
         ensures released { self.new.hands.reader.holds ≡ None }
         ensures at_once { tries ≡ 0 → self.new.hands ≡ self.old.hands }
         ensures rings { Rings self.old.hands self.old.guest self.new.hands self.new.guest }
@@ -129,6 +161,7 @@ impl<'a, G: Gate> Client<'a, G> {
     ) -> Result<Got, TooLate>
         requires { key < self.old.map.shape.keys }
         ensures gets { GetsInTime key tries self.old.hands rows.old self.new.hands rows.new result }
+        ensures waits { GetsSleeping key tries self.old.hands rows.old self.old.guest self.new.hands rows.new self.new.guest result }
         ensures late { IfErr result (λ late. late.until ≡ until) }
         ensures released { self.new.hands.reader.holds ≡ None }
         ensures at_once { tries ≡ 0 → self.new.hands ≡ self.old.hands }
@@ -153,6 +186,7 @@ impl<'a, G: Gate> Client<'a, G> {
     ) -> Result<Got, TooLate>
         requires { key < self.old.map.shape.keys }
         ensures gets { GetsInTime key tries self.old.hands rows.old self.new.hands rows.new result }
+        ensures waits { GetsSleeping key tries self.old.hands rows.old self.old.guest self.new.hands rows.new self.new.guest result }
         ensures late { IfErr result (λ late. L.lapses limit.now late) }
         ensures released { self.new.hands.reader.holds ≡ None }
         ensures at_once { tries ≡ 0 → self.new.hands ≡ self.old.hands }

@@ -8,6 +8,7 @@ ghost use Rattle.nr_board.specs.WriterAnswers.{CancelsKey, EvictsKey, ReplacesKe
 ghost use Rattle.nr_serve.specs.Counts.{IsNew, Raises, told_at};
 
 use crate::applied::{Applied, Measure};
+use crate::lobby::Lobby;
 use crate::raiser::Raiser;
 use crate::service::Service;
 use nr_map::{Cancel, Evict, NoSlot, Note, ReaderMap, ReplaceFault, UpdateFault, Writer, laws};
@@ -45,24 +46,49 @@ impl<'a, S> Dataflow<'a, S> {
     ghost use Rattle.nr_serve.specs.Turns.{CancelRaises};
     ghost use Rattle.nr_serve.specs.Lending.{LendsSource};
 
-    /// The dataflow of a service whose queue takes keys of its map alone.
-    pub fn open(service: &'a Service, writer: Writer, taker: Taker, source: S) -> Dataflow<'a, S>
-        requires map { writer.table ≡ service.now.map }
-        requires queue { taker.queue ≡ service.now.queue.id }
-        requires keys { taker.keys ≤ service.now.map.shape.keys }
-        ensures flow { result ≡ record { map = service.now.map; queue = service.now.queue; writer = writer; taker = taker; kept = None; source = source; guest = result.guest } }
-        ensures guest { (result.guest.lobby ≡ service.now.lobby) × IsNew result.guest }
+    /// The dataflow of a map, over a queue that takes keys of this map alone. It raises the lobby, so
+    /// that has to be the one in which the map's clients sleep; a `Service` sees to that.
+    pub fn open(
+        map: &'a ReaderMap,
+        writer: Writer,
+        triggers: &'a Triggers,
+        taker: Taker,
+        source: S,
+        lobby: &'a Lobby,
+    ) -> Dataflow<'a, S>
+        requires map { writer.table ≡ map.now }
+        requires queue { taker.queue ≡ triggers.now.id }
+        requires keys { taker.keys ≤ map.now.shape.keys }
+        ensures flow { result ≡ record { map = map.now; queue = triggers.now; writer = writer; taker = taker; kept = None; source = source; guest = result.guest } }
+        ensures guest { (result.guest.lobby ≡ lobby.now) × IsNew result.guest }
     {
         Dataflow {
-            map: service.map(),
-            triggers: service.triggers(),
-            raiser: Raiser::of(service.lobby()),
+            map,
+            triggers,
+            raiser: Raiser::of(lobby),
             writer,
             taker,
             kept: None,
             source,
             room: RowSet::new(),
         }
+    }
+
+    /// The dataflow of a service whose queue takes keys of its map alone.
+    pub fn of_service(
+        service: &'a Service,
+        writer: Writer,
+        taker: Taker,
+        source: S,
+    ) -> Dataflow<'a, S>
+        requires map { writer.table ≡ service.now.map }
+        requires queue { taker.queue ≡ service.now.queue.id }
+        requires keys { taker.keys ≤ service.now.map.shape.keys }
+        ensures flow { result ≡ record { map = service.now.map; queue = service.now.queue; writer = writer; taker = taker; kept = None; source = source; guest = result.guest } }
+        ensures guest { (result.guest.lobby ≡ service.now.lobby) × IsNew result.guest }
+    {
+        let (map, triggers) = (service.map(), service.triggers());
+        Dataflow::open(map, writer, triggers, taker, source, service.lobby())
     }
 
     /// Applies a batch to the rows of a key, as the map's `update` does. On a map with a slot for

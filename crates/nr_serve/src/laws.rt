@@ -5,7 +5,7 @@ ghost use Rattle.nr_serve.specs.Ledger.{EachTriggerEndsOnce};
 ghost use Rattle.nr_serve.specs.Requests.{CancelledIsStale, OneAtATime};
 
 use crate::applied::Measure;
-use crate::source::Source;
+use crate::source::FallibleSource;
 
 /// A client that hears a note whose maker had seen a put of a key, and then gets the key, finds the
 /// rows of that put or of a later one in each of the get's finds, or a hole where the key was evicted
@@ -28,7 +28,7 @@ pub fn gets_what_was_applied<M: Measure>()
 /// From the opening of a dataflow on, each trigger that was taken was filled, passed or failed, or it is
 /// kept, or is under way, as often as it was taken; and the fills that its writer has done are those
 /// of the triggers that were filled, one each, with the rows that were given for them.
-pub fn each_trigger_ends_once<S: Source>()
+pub fn each_trigger_ends_once<S: FallibleSource>()
     ensures { EachTriggerEndsOnce S.gives S.fails }
 {}
 

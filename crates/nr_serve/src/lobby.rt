@@ -89,8 +89,8 @@ impl Lobby {
         self.counts.enter(CLOSED_AT).1
     }
 
-    /// How often the whole lobby was raised, up to 2^64 - 1.
-    pub fn count(&self, guest: &mut Guest) -> u64
+    /// `count`, with what the guest knows.
+    pub fn count_as(&self, guest: &mut Guest) -> u64
         requires { guest.old.lobby ≡ self.now }
         ensures looks { OnlyLooks guest.old guest.new }
         ensures found { slice_index guest.new.seen whole_at ≡ result }
@@ -108,10 +108,9 @@ impl Lobby {
         self.counts.at(guest, group_at(key))
     }
 
-    /// Raises each count by one and wakes all sleepers. A raise of a count to 2^64 - 1 closes the
-    /// lobby, and later ones change nothing.
+    /// `raise`, with what the guest did.
     #[tactic(auto, using(crate::proofs::Later::raises_none, crate::proofs::Later::raises_both))]
-    pub fn raise<R: Wait>(&self, rt: &R, guest: &mut Guest)
+    pub fn raise_as<R: Wait>(&self, rt: &R, guest: &mut Guest)
         requires { guest.old.lobby ≡ self.now }
         ensures { Raises (groups_below 64 ++ whole_at ∷ []) guest.old guest.new }
     {
@@ -155,9 +154,8 @@ impl Lobby {
         self.counts.at(guest, failed_at(key))
     }
 
-    /// Sleeps while the count of the whole lobby is at most `n` and it isn't closed, and tells the
-    /// count.
-    pub fn wait_past<R: Wait>(&self, rt: &R, guest: &mut Guest, n: u64) -> u64
+    /// `wait_past`, with what the guest knows.
+    pub fn wait_past_as<R: Wait>(&self, rt: &R, guest: &mut Guest, n: u64) -> u64
         requires { guest.old.lobby ≡ self.now }
         ensures looks { OnlyLooks guest.old guest.new }
         ensures past { (n < result) ⊎ (0 < slice_index guest.new.seen closed_at) }
@@ -197,8 +195,8 @@ impl Lobby {
         Ok(())
     }
 
-    /// Closes it for good and wakes all sleepers; from now on nobody sleeps here.
-    pub fn close(&self, guest: &mut Guest)
+    /// `close`, with what the guest did.
+    pub fn close_as(&self, guest: &mut Guest)
         requires { guest.old.lobby ≡ self.now }
         ensures later { IsLaterOf guest.old guest.new }
         ensures closed { 0 < slice_index guest.new.seen closed_at }
@@ -209,8 +207,8 @@ impl Lobby {
         self.wake_all();
     }
 
-    /// Whether it was closed.
-    pub fn is_closed(&self, guest: &mut Guest) -> bool
+    /// `is_closed`, with what the guest knows.
+    pub fn is_closed_as(&self, guest: &mut Guest) -> bool
         requires { guest.old.lobby ≡ self.now }
         ensures looks { OnlyLooks guest.old guest.new }
         ensures closed { IsTrue result ↔ (0 < slice_index guest.new.seen closed_at) }
@@ -304,7 +302,7 @@ impl Lobby {
         let count = self.counts.at(guest, place);
         let next = count.saturating_add(1);
         if next == u64::MAX {
-            self.close(guest);
+            self.close_as(guest);
         }
         (count, next)
     }
@@ -388,7 +386,7 @@ impl Lobby {
         ensures between { IfSome result (λ count. (slice_index guest.old.seen place ≤ count) × (count ≤ slice_index guest.new.seen place)) }
     {
         let count = self.counts.at(guest, place);
-        if count > n || self.is_closed(guest) {
+        if count > n || self.is_closed_as(guest) {
             return Some(count);
         }
         None

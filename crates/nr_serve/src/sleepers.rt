@@ -1,6 +1,7 @@
 //! Where threads sleep until they are woken, or until a time. It is the kit's `EventCount` with a limit
 //! of time: a sleeper announces itself, looks once more at what it waits for, and then sleeps.
-ghost use Rattle.std.specs.Prelude.{◌≡◌, ◌≤◌, IfErr};
+ghost use Rattle.std.specs.Prelude.{◌≡◌, ◌<◌, ◌≤◌, ◌+◌, IfErr, IfOk, Some};
+ghost use Rattle.core.specs.Duration.{as_nanos};
 ghost use Rattle.std.specs.Option.{ForSome};
 ghost use Rattle.std.specs.Time.{instant_nanos};
 
@@ -115,16 +116,25 @@ impl<R: Wait + Clock> Limit<R> for Instant {
 
 // How long it is until then.
 fn time_left<R: Clock>(rt: &R, until: Instant) -> Result<Duration, TooLate>
-    ensures { IfErr result (λ late. late.until ≡ until) }
+    ensures left { IfOk result (λ left. (now : Instant) × (0 < as_nanos left) × (instant_nanos now + as_nanos left ≡ instant_nanos until)) }
+    ensures late { IfErr result (λ late. late.until ≡ until) }
 {
     let Ok(now) = Instant::now(rt) else {
         return Err(TooLate { until, read: None });
     };
-    if now >= until {
-        return Err(TooLate {
+    left_at(now, until)
+}
+
+// How long it is from now until then.
+fn left_at(now: Instant, until: Instant) -> Result<Duration, TooLate>
+    ensures left { IfOk result (λ left. (0 < as_nanos left) × (instant_nanos now + as_nanos left ≡ instant_nanos until)) }
+    ensures late { IfErr result (λ late. (late.until ≡ until) × (late.read ≡ Some now)) }
+{
+    match until.checked_duration_since(now) {
+        Some(left) if !left.is_zero() => Ok(left),
+        _ => Err(TooLate {
             until,
             read: Some(now),
-        });
+        }),
     }
-    Ok(until.duration_since(now))
 }

@@ -4,9 +4,10 @@ ghost use Rattle.nr_core.specs.Marks.{acted};
 ghost use Rattle.nr_board.specs.Callers.{Rests};
 ghost use Rattle.nr_serve.specs.Counts.{OnlyLooks};
 ghost use Rattle.nr_serve.specs.Gates.{AsksGate, AsksOnce};
-ghost use Rattle.nr_serve.specs.Gets.{AnswersHeld, AwaitsFill, GetsInTime, LeavesKept, MissesOnce, TriesOnce, kept_attempts, requested, sent_attempts};
+ghost use Rattle.nr_serve.specs.Gets.{AnswersHeld, AwaitsFill, GetsInTime, IsPending, LeavesKept, MissesOnce, TriesOnce, kept_attempts, requested, sent_attempts};
 ghost use Rattle.nr_serve.specs.Hands.{IsReady, Moves};
 ghost use Rattle.nr_serve.specs.Rings.{Rings};
+ghost use Rattle.nr_serve.specs.Waits.{GetsSleeping, SleepsIf};
 
 use crate::answers::{Got, Requested, Tried};
 use crate::gate::Gate;
@@ -163,6 +164,7 @@ fn sleep_if<L: Limit<R>, R: Wait>(
     requires { MissesOnce counted.now.key counted.now.hands.value hands.now requested.now }
     ensures looks { OnlyLooks lobby.old lobby.new }
     ensures late { IfErr result (λ late. L.lapses limit.now late) }
+    ensures sleeps { IfOk result (λ _. SleepsIf tries_left counted.now.count counted.now.key (IsPending requested.now) hands.now.kept lobby.new) }
     ensures slept { IfErr result (λ _. (0 < tries_left) × AwaitsFill counted.now.key counted.now.hands.value hands.now requested.now) }
 {
     if tries_left > 0 && requested.is_pending() && hands.kept.is_none() {
@@ -191,6 +193,7 @@ pub(crate) fn get_by_tries<G: Gate, L: Limit<R>, R: Wait>(
     ensures gets { GetsInTime key tries hands.old rows.old hands.new rows.new result }
     ensures late { IfErr result (λ late. L.lapses limit.now late) }
     ensures at_once { tries ≡ 0 → hands.new ≡ hands.old }
+    ensures waits { GetsSleeping key tries hands.old rows.old lobby.old hands.new rows.new lobby.new result }
     ensures rings { Rings hands.old lobby.old hands.new lobby.new }
     ensures asks { IfOk result (λ got. AsksGate G.lets G.hears shared.now.gate.now shared.now.reader get got) }
 {

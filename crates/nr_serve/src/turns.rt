@@ -1,12 +1,13 @@
-//! What the dataflow does with a trigger: it takes one, and spends or keeps it.
+//! What the dataflow does with a trigger: it takes one, and spends or keeps it; and a turn, which does all that.
 ghost use Rattle.std.specs.Prelude.{◌≡◌, ◌≢◌, ◌<◌, ◌≤◌, IfErr, IfOk, IsTrue, length, slice_index, None, Some, Ok, Err};
 ghost use Rattle.std.specs.Result.{is_ok};
 ghost use Rattle.nr_serve.specs.Counts.{OnlyLooks, Raises, raises_for, rung_at};
 
 use crate::dataflow::Dataflow;
 use crate::raiser::Rung;
-use crate::source::{Source, SourceFault};
-use nr_map::{Cancel, FillFault, NoSlot, ReaderMap, laws};
+use crate::source::Source;
+use crate::try_turns::TryTurn;
+use nr_map::{Cancel, FillFault, NoSlot, laws};
 use nr_model::RowSet;
 use nr_trigger::Trigger;
 use std::sync::Wait;
@@ -33,13 +34,8 @@ pub enum Turn {
     /// The key needs no fill: it is filled already, or nobody asks for it any more, or its request
     /// has another ticket number.
     Passed(u32),
-    /// The source failed for the key. The trigger's request was taken back, if it still stood.
-    Failed(u32),
     /// There was no slot for the rows; the trigger is kept and tried first in the next turn.
     Kept(NoSlot),
-    /// The source failed for the key, whose ticket number is the last one, so that no request of it
-    /// can be taken back; the trigger is kept and tried first in the next turn.
-    Worn(u32),
 }
 
 impl<'a, S> Dataflow<'a, S> {
@@ -154,7 +150,7 @@ impl<'a, S> Dataflow<'a, S> {
     }
 
     // Spends a trigger after its fill, and raises the lobby for its key.
-    fn spend<R: Wait>(&mut self, rt: &R, trigger: Trigger)
+    pub(crate) fn spend<R: Wait>(&mut self, rt: &R, trigger: Trigger)
         ensures raised { Raises (raises_for trigger.upquery.key) self.old.guest self.new.guest }
         ensures rest { self.new ≡ record self.old { guest = self.new.guest } }
     {
@@ -175,7 +171,7 @@ impl<'a, S> Dataflow<'a, S> {
     }
 
     // Keeps a trigger where none is kept.
-    fn put_back(&mut self, trigger: Trigger)
+    pub(crate) fn put_back(&mut self, trigger: Trigger)
         requires none { self.old.kept ≡ None }
         requires key { trigger.upquery.key < self.old.map.shape.keys }
         ensures { self.new ≡ record self.old { kept = Some trigger } }
@@ -189,38 +185,24 @@ impl<'a, S> Dataflow<'a, S> {
 
 impl<'a, S: Source> Dataflow<'a, S> {
     ghost use Rattle.nr_map.specs.SlotBounds.{HasRoomForAll};
-    ghost use Rattle.nr_serve.specs.Turns.{AsksSource, Turns, TurnsFailed};
+    ghost use Rattle.nr_serve.specs.Turns.{Turns};
 
     /// Takes the trigger that is kept, or else the next one of the queue, asks the source for its
-    /// key's rows, and fills the key by the trigger's ticket number, or takes the request back where
-    /// the source fails. Raises the lobby for the key where it was filled or needed no fill, and
-    /// where the request was taken back. A trigger that is kept is tried again in the next turn, with
-    /// rows that the source is asked for again; on a map with a slot for each key, each reader and
-    /// one more, none is ever kept for want of a slot. May wait for a thread that is within a call of
-    /// its own.
+    /// key's rows, and fills the key by the trigger's ticket number. Raises the lobby for the key
+    /// where it was filled or needed no fill. A trigger that is kept is tried again in the next turn,
+    /// with rows that the source is asked for again; on a map with a slot for each key, each reader
+    /// and one more, none is ever kept. May wait for a thread that is within a call of its own.
     pub fn turn<R: Wait>(&mut self, rt: &R) -> Turn
-        ensures turns { Turns S.gives S.fails self.old self.new result }
+        ensures turns { Turns S.gives self.old self.new result }
         ensures places { (self.new.map ≡ self.old.map) × (self.new.queue ≡ self.old.queue) }
         ensures room { HasRoomForAll self.old.map → (counts : NoSlot) → result ≢ Turn.Kept counts }
     {
-        let Some(trigger) = self.take(rt) else {
-            return Turn::Idle;
-        };
-        let key = trigger.key();
-        match self.fill_from_source(&trigger) {
-            Ok(Ok(())) => {
-                self.spend(rt, trigger);
-                Turn::Filled(key)
-            }
-            Ok(Err(FillFault::NotAsked | FillFault::Already | FillFault::Stale)) => {
-                self.spend(rt, trigger);
-                Turn::Passed(key)
-            }
-            Ok(Err(FillFault::NoSlot(counts))) => {
-                self.put_back(trigger);
-                Turn::Kept(counts)
-            }
-            Err(SourceFault) => self.turn_failed(rt, trigger),
+        match self.try_turn(rt) {
+            TryTurn::Idle => Turn::Idle,
+            TryTurn::Filled(key) => Turn::Filled(key),
+            TryTurn::Passed(key) => Turn::Passed(key),
+            TryTurn::Kept(counts) => Turn::Kept(counts),
+            TryTurn::Failed(_) | TryTurn::Worn(_) => unreachable!(),
         }
     }
 
@@ -228,7 +210,7 @@ impl<'a, S: Source> Dataflow<'a, S> {
     /// lobby is closed, and then tells that it was idle. Call it again after that. It never sleeps
     /// while a trigger is kept.
     pub fn turn_or_sleep<R: Wait>(&mut self, rt: &R) -> Turn
-        ensures turns { Turns S.gives S.fails self.old self.new result }
+        ensures turns { Turns S.gives self.old self.new result }
         ensures places { (self.new.map ≡ self.old.map) × (self.new.queue ≡ self.old.queue) }
         ensures room { HasRoomForAll self.old.map → (counts : NoSlot) → result ≢ Turn.Kept counts }
     {
@@ -239,50 +221,4 @@ impl<'a, S: Source> Dataflow<'a, S> {
         }
         turned
     }
-
-    // Fills the trigger's key with rows that the source gives now, if it does.
-    fn fill_from_source(&mut self, trigger: &Trigger) -> Result<Result<(), FillFault>, SourceFault>
-        requires key { trigger.now.upquery.key < self.old.map.shape.keys }
-        ensures asks { AsksSource S.gives S.fails trigger.now self.old self.new result }
-        ensures rest { self.new ≡ record self.old { writer = self.new.writer; source = self.new.source } }
-        ensures room { HasRoomForAll self.old.map → (counts : NoSlot) → result ≢ Ok (Err (FillFault.NoSlot counts)) }
-    {
-        laws::room_for_fills();
-        let key = trigger.key();
-        ask_source(&mut self.source, self.map, key, &mut self.room)?;
-        Ok(
-            self.map
-                .fill(&mut self.writer, key, trigger.number(), &self.room),
-        )
-    }
-
-    // Ends a trigger for whose key the source failed.
-    fn turn_failed<R: Wait>(&mut self, rt: &R, trigger: Trigger) -> Turn
-        requires none { self.old.kept ≡ None }
-        requires key { trigger.upquery.key < self.old.map.shape.keys }
-        ensures { TurnsFailed trigger self.old self.new result }
-    {
-        let key = trigger.key();
-        match self.fail(rt, trigger) {
-            Ok(_) => Turn::Failed(key),
-            Err(trigger) => {
-                self.put_back(trigger);
-                Turn::Worn(key)
-            }
-        }
-    }
-}
-
-// Asks the source for a key's rows, with the map's bound on them.
-fn ask_source<S: Source>(
-    source: &mut S,
-    map: &ReaderMap,
-    key: u32,
-    room: &mut RowSet,
-) -> Result<(), SourceFault>
-    ensures few { IfOk result (λ _. length room.new ≤ map.now.shape.rows) }
-    ensures gives { IfOk result (λ _. S.gives source.old key map.now.shape.rows room.new source.new) }
-    ensures fails { IfErr result (λ _. S.fails source.old key map.now.shape.rows source.new) }
-{
-    source.rows(key, map.rows(), room)
 }

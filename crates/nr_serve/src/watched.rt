@@ -139,7 +139,7 @@ impl<'a> Watched<'a> {
         ensures looks { OnlyLooks self.old self.new }
         ensures closed { IsTrue result ↔ (0 < slice_index self.new.seen closed_at) }
     {
-        self.lobby.is_closed(&mut self.guest)
+        self.lobby.is_closed_as(&mut self.guest)
     }
 
     /// Rings the bell, once a ticket was posted.

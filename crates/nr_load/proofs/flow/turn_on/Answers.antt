@@ -39,7 +39,7 @@ loop-preserved g c =
           so_far_more c.args.flow.now c.loop.flow c.ready.new.flow turned.new.flow c.loop.under_way c.ready.new.self
           turned.result c.loop.fills turned.new.fills so_far.map so_far.far ready turned.ensures.turns
           (λ wrong. not_both c.is_last.result (c.is_last.ensures.wrong wrong) c.if-is_last.false);
-      lobby = c.is_closed-is_closed.ensures.looks.later.lobby ∙ so_far.lobby;
+      lobby = c.is_closed_as-is_closed.ensures.looks.later.lobby ∙ so_far.lobby;
     }
 
 pub returns-then-is_last : goal.returns-then-is_last

@@ -8,8 +8,8 @@ use Rattle.nr_load.specs.Works.{GetsKey, Judged, Works, answers, of_gets}
 use Rattle.nr_load.proofs.Working.{Begins, answers_one, ends, ends_with, goes_on, judged_long, judged_told}
 use Rattle.nr_load.proofs.gets.load_gets.Goals as goal
 
-pub returns-then-is_closed-clause-works : goal.returns-then-is_closed-clause-works
-returns-then-is_closed-clause-works g c =
+pub returns-then-is_closed_as-clause-works : goal.returns-then-is_closed_as-clause-works
+returns-then-is_closed_as-clause-works g c =
     let none : List ℕ = replicate c.args.draws.now.keys 0 in
     subst (λ (fault : Option LoadFault). Works 1000000 c.args.draws.now.keys c.stopped.result.made none
     c.args.draws.now.generator c.args.client.now.hands c.loop-made.draws.generator c.loop-made.client.hands
@@ -84,7 +84,7 @@ loop-made-preserved g c =
       queue = got.ensures.places.1 ∙ so_far.queue;
       opened = got.ensures.places.2 ∙ so_far.opened;
       keys = got.ensures.draws.0 ∙ so_far.keys;
-      lobby = c.is_closed.ensures.looks.later.lobby ∙ so_far.lobby;
+      lobby = c.is_closed_as.ensures.looks.later.lobby ∙ so_far.lobby;
       few = omega (arith, so_far.few, c.answers_of-answered.ensures, answers_one got.result.0);
       long = ap (λ (l : List ℕ). length l) items ∙ long ∙ so_far.long;
       begun =

@@ -1,6 +1,6 @@
 use Rattle.std.proofs.Common.{rules, ap, arith, sym, ◌∙◌}
 use Rattle.std.proofs.lemmas.Option.{get_or_from_slice_get}
-use Rattle.nr_machine.specs.declared.shape.Shape.{Shape}
+use Rattle.nr_core.specs.declared.shape.Shape.{Shape}
 use Rattle.nr_serve.specs.Services.{ServiceSeen}
 use Rattle.nr_trigger.specs.Tokens.{PosterSeen}
 use Rattle.nr_load.proofs.load.run_load.Goals as goal

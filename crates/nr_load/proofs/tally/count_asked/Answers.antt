@@ -1,5 +1,5 @@
 use Rattle.std.proofs.Common.{◌≡◌, ◌∙◌, sym, ap, arith}
-use Rattle.nr_machine.specs.Sums.{below}
+use Rattle.nr_core.specs.Sums.{below}
 use Rattle.nr_board.specs.Callers.{Table}
 use Rattle.nr_load.proofs.CountingAsked.{all_keys, asked_small, counts_on, pending_at}
 use Rattle.nr_load.proofs.Gathering.{learns_sound, learns_stays, stays_then}

@@ -1,5 +1,5 @@
 use Rattle.std.proofs.Common.{◌≡◌, ◌≤◌}
-use Rattle.nr_machine.specs.Sums.{below}
+use Rattle.nr_core.specs.Sums.{below}
 use Rattle.nr_load.specs.Balance.{Stays}
 use Rattle.nr_board.specs.Callers.{IsSound}
 use Rattle.nr_load.proofs.CountingAsked.{pending_at}

@@ -15,7 +15,7 @@ use Rattle.nr_load.proofs.workers.work.Goals as goal
 pub returns-clause-serves : goal.returns-clause-serves
 returns-clause-serves g c =
     let load = c.load_gets-guest in
-    let old = c.open-client.result.hands in
+    let old = c.of_service-client.result.hands in
     let new = load.new.client.hands in
     let table : c.args.shared.now.service.map ≡ c.args.reader.table = sym c.requires.own in
     let keys : c.open-draws.result.keys ≡ c.args.reader.table.shape.keys
@@ -37,12 +37,12 @@ returns-clause-serves g c =
     stream load.ensures.works) in
     let some : 0 < c.args.reader.table.shape.keys
     = subst (λ (t : Table). 0 < t.shape.keys) table c.args.shared.now.keys.0 in
-    let first : old.reader ≡ c.args.reader = ap (λ (hands : Hands). hands.reader) c.open-client.ensures.hands in
+    let first : old.reader ≡ c.args.reader = ap (λ (hands : Hands). hands.reader) c.of_service-client.ensures.hands in
     let few = works_few 1000000 _ load.result.0.made _ _ _ _ old new _ some works in
     let gained : Gained c.args.reader.table.shape.keys c.args.reader new.reader few.count 0
     = subst (λ (r : Caller). Gained c.args.reader.table.shape.keys r new.reader few.count 0) first few.gained in
     let opened : load.new.client.opened.reader ≡ c.args.reader
-    = ap (λ (hands : Hands). hands.reader) (load.ensures.places.2 ∙ c.open-client.ensures.opened) ∙ first in
+    = ap (λ (hands : Hands). hands.reader) (load.ensures.places.2 ∙ c.of_service-client.ensures.opened) ∙ first in
     let counted : length (sent (since load.new.client.opened new)) ≡ few.count
     = ap (λ (r : Caller). length (sent (drop (length r.mine) new.reader.mine))) opened
     ∙ since_gained _ c.args.reader new.reader few.count 0 gained in
@@ -54,7 +54,7 @@ returns-clause-serves g c =
             old = old;
             new = new;
             begins = first;
-            empty = ap (λ (hands : Hands). hands.kept) c.open-client.ensures.hands;
+            empty = ap (λ (hands : Hands). hands.kept) c.of_service-client.ensures.hands;
             ends = sym c.end-reader.ensures.reader;
             generator = load.new.draws.generator;
             works = works;

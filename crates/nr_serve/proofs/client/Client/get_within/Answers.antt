@@ -1,3 +1,6 @@
+use Rattle.std.proofs.Common.{subst}
+use Rattle.nr_serve.specs.Clients.{ClientSeen}
+use Rattle.nr_serve.specs.Waits.{GetsSleeping}
 use Rattle.nr_serve.proofs.Getting.{called_in_time}
 use Rattle.nr_serve.proofs.Serving.{serves_on}
 use Rattle.nr_serve.proofs.client.Client.get_within.Goals as goal
@@ -11,3 +14,10 @@ invariant_of-self g c =
     got.ensures.gets in
     serves_on fields.shared.map.now fields.shared.triggers.now fields.opened.value fields.hands got.new.hands _ _
     c.self.invariant got.ensures.ready called.moves
+
+pub returns-clause-waits : goal.returns-clause-waits
+returns-clause-waits g c =
+    subst
+    (λ (client : ClientSeen _). GetsSleeping c.args.key c.args.tries client.hands c.args.rows.now client.guest
+    c.get_by_tries.new.hands c.get_by_tries.new.rows c.get_by_tries.new.lobby c.get_by_tries.result)
+    c.self.view_is c.get_by_tries.ensures.waits
