@@ -70,7 +70,8 @@ extern "C" {
 #define NR_READERS_OUT 36u /* some reader was not returned */
 #define NR_NAMED 37u     /* the id has a way: rows, or an upquery under way */
 #define NR_BAD_ROW 38u   /* a row of an id has an `a` of 0 */
-#define NR_STRANGER 39u  /* the handles are of two maps, or of two queues */
+#define NR_STRANGER 39u  /* the handles are of two maps, or of two queues, or the upquery is another map's */
+#define NR_ALL_ASKED 40u /* each way of the id's group has an open upquery */
 
 /* An answer as text. */
 static inline const char *nr_strerror(uint32_t answer) {
@@ -114,14 +115,15 @@ static inline const char *nr_strerror(uint32_t answer) {
   case NR_READERS_OUT: return "some reader was not returned";
   case NR_NAMED: return "the id has a way";
   case NR_BAD_ROW: return "a row's first number is 0";
-  case NR_STRANGER: return "the handles are of two maps or queues";
+  case NR_STRANGER: return "what was given is of two maps or queues";
+  case NR_ALL_ASKED: return "each way of the group is asked for";
   default: return "no answer of this library";
   }
 }
 
-/* The version of this header, 0.2.0, with 8 bits for each number, and the library's. Their first two numbers have to
+/* The version of this header, 0.3.0, with 8 bits for each number, and the library's. Their first two numbers have to
    agree. */
-#define NR_VERSION 0x000200
+#define NR_VERSION 0x000300
 uint32_t nr_version(void);
 
 /* How many bytes a struct takes in the library, for programs in another language, or linked to another library, that
@@ -222,12 +224,14 @@ typedef struct nr_id_shape {
 } nr_id_shape;
 
 /* An upquery that nr_admit opened, by its numbers: whose rows it asks for, and which answer fits. `count` says which of
-   the map's admissions opened it: 1 for the first, and it stays at 2^64 - 1. */
+   the map's admissions opened it: 1 for the first, and it stays at 2^64 - 1. `map` says which of the program's maps
+   over ids that was. */
 typedef struct nr_upquery {
   uint64_t id;
   uint64_t number;
   uint32_t way;
   uint64_t count;
+  uint64_t map;
 } nr_upquery;
 
 typedef struct nr_id_writer {
@@ -314,7 +318,8 @@ uint32_t nr_open_reader(nr_writer *writer, nr_reader *reader);
 uint32_t nr_return_reader(nr_writer *writer, nr_reader *reader);
 
 /* End a handle, which is then zeros; if it isn't live, they do nothing. The last handle frees the map's memory.
-   nr_close_reader releases what the reader holds; no handle gets that reader again. */
+   nr_close_reader releases what the reader holds; no handle gets that reader again. Readers aren't told that the writer
+   was closed: a request answers as before, so tell those who wait by a flag of your own. */
 void nr_close_reader(nr_reader *reader);
 void nr_close_writer(nr_writer *writer);
 
@@ -486,7 +491,8 @@ uint32_t nr_take(nr_taker *taker, uint32_t *key, uint64_t *number);
    A get. Find the id. At NR_HOLE or NR_OTHER request it; who gets NR_SEND passes the id to the thread that writes,
    which admits it, gets the rows, and fills. At NR_ASKED, NR_WAITING or NR_NAMED wait and find again. After a fill, a
    withdrawal and an eviction wake those who wait.
-   Full groups. At NR_FULL evict the id that nr_choose_id tells, and admit again: the claim stays open.
+   Full groups. At NR_FULL evict the id that nr_choose_id tells, and admit again: the claim stays open. At NR_ALL_ASKED,
+   or after eight choices that nr_evict_id answered NR_NOTHING, first fill or withdraw an upquery of the group.
    Dropping an id's rows, because the base changed. Withdraw its upquery, if one is open, and evict it: a late fill is
    NR_STALE. embed/c/ids.c is a whole program.
    Holding. nr_find_id, nr_find_each_id and nr_pin_id answer NR_HOLDING if the reader holds a set, and nr_row_at_id,
@@ -508,7 +514,8 @@ uint32_t nr_open_id_reader(nr_id_writer *writer, nr_id_reader *reader);
 
 /* End a handle, which is then zeros; if it isn't live, they do nothing. A reader lets go what it holds. No handle
    gets a closed reader again, so a thread that ends passes its reader on. Closing the writer ends all open
-   upqueries; the last handle frees the memory. */
+   upqueries; the last handle frees the memory. Readers aren't told of it: an id that was asked stays NR_ASKED, and a
+   request may still get NR_SEND. So tell those who wait by a flag of your own, before you wake them. */
 void nr_close_id_reader(nr_id_reader *reader);
 void nr_close_id_writer(nr_id_writer *writer);
 
@@ -563,15 +570,15 @@ uint32_t nr_look_id(nr_id_writer *writer, uint64_t id, nr_rows *rows);
    way of the id's two groups is another's. These three leave `upquery` as it was. */
 uint32_t nr_admit(nr_id_writer *writer, uint64_t id, nr_upquery *upquery);
 
-/* Fills an open upquery's id with n rows in ascending order, each `a` above 0. NR_TOO_MANY, NR_NOT_SORTED, NR_BAD_ROW,
-   and NR_STALE if no upquery with these numbers is open, without a step; NR_DONE, NR_NO_SLOT or NR_ALL_FILLED after W
-   steps and those of nr_fill for n + 1 rows. After the last two the upquery stays open. So an answer that comes a
-   second time is NR_STALE, also after an eviction and a new admission. */
+/* Fills an open upquery's id with n rows in ascending order, each `a` above 0. Without a step NR_STRANGER, if another
+   map opened the upquery; NR_TOO_MANY, NR_NOT_SORTED or NR_BAD_ROW; NR_STALE, if no upquery with these numbers is open.
+   NR_DONE, NR_NO_SLOT or NR_ALL_FILLED after W steps and those of nr_fill for n + 1 rows. After the last two the
+   upquery stays open. So an answer that comes a second time is NR_STALE, also after an eviction and a new admission. */
 uint32_t nr_fill_id(nr_id_writer *writer, const nr_upquery *upquery, const nr_row *rows, size_t n);
 
 /* Takes an open upquery and its id's way back. NR_CANCELLED after W + 3 steps: wake those who wait for the id.
-   NR_STALE without a step, if no upquery with these numbers is open. NR_WORN after W + 1: it has the last ticket
-   number, and only its own fill ends it. */
+   NR_STRANGER and NR_STALE as of nr_fill_id. NR_WORN after W + 1: it has the last ticket number, and only its own fill
+   ends it. */
 uint32_t nr_withdraw_id(nr_id_writer *writer, const nr_upquery *upquery);
 
 /* As nr_update and nr_replace, of an id's rows, each `a` above 0: else NR_BAD_ROW without a step. NR_NOTHING after 16
@@ -605,7 +612,9 @@ uint32_t nr_uses_id(nr_id_writer *writer, uint64_t id);
 
 /* The id of a way of that id's group, by second chance: NR_DONE after 3 steps, and `chosen` is the first from the last
    choice on that wasn't found since. NR_NOTHING if the chosen way is nobody's, and `chosen` stays as it was. Where the
-   chosen id's upquery is open nr_evict_id answers NR_NOTHING; then choose again. */
+   chosen id's upquery is open nr_evict_id answers NR_NOTHING; then choose again, as the next choice begins behind it.
+   After eight such choices the ids that could be evicted are being found all the time. NR_ALL_ASKED without a step, if
+   each way of the group has an open upquery, and `chosen` stays as it was. */
 uint32_t nr_choose_id(nr_id_writer *writer, uint64_t id, uint64_t *chosen);
 
 #ifdef __cplusplus

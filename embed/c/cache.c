@@ -1,7 +1,7 @@
 /* A cache of strings before a slow query. Of an entry the map has the key's hash, as an id, and the address, as a row.
-   Of the threads that miss a key one claims it, and all try again until it is there (wait.c has threads that sleep). The
-   thread that writes frees an entry once nobody can see it: each reader tells from which moment on it looks, and what
-   left the map at that moment or later stays. */
+   Of the threads that miss a key one claims it, and all try again until it is there (wait.c has threads that sleep). A
+   reader holds an entry while it looks at it. The thread that writes frees an entry once that comes back: it left the
+   map, and nobody holds it. */
 #include "../../include/nr.h"
 #include "order.h"
 #include <pthread.h>
@@ -11,26 +11,25 @@
 #include <stdlib.h>
 #include <string.h>
 
-enum { READERS = 4, WAYS = 64, KEYS = 100, ROUNDS = 20000 };
-#define NOWHERE UINT64_MAX /* a reader looks at nothing */
+/* Eight ways for each five entries, so that few groups are full before the cache is. */
+enum { READERS = 4, LIMIT = 40, WAYS = 64, MOST_PASSED = 16, SOME = 12, KEYS = 100, ROUNDS = 20000 };
 
 typedef struct entry {
   char *key, *value;
-  uint64_t id, left;
-  struct entry *next;
+  uint64_t id;
 } entry;
 
-/* The map's key is to be drawn at random where strangers choose keys. */
+/* A slot for each entry, each reader, the writer's own and one more. The map's key is to be drawn at random where
+   strangers choose keys. */
 static const nr_id_shape shape = {
-  .groups = WAYS / 8, .slots = WAYS + READERS + 2, .readers = READERS, .rows = 1, .key = 0x9e3779b97f4a7c15};
+  .groups = WAYS / 8, .slots = LIMIT + READERS + 2, .readers = READERS, .rows = 1, .key = 0x9e3779b97f4a7c15};
 static nr_id_writer writer;
 static nr_id_reader readers[READERS];
-static entry *held[WAYS], *gone;
-static unsigned made, freed;
-static _Atomic uint64_t moment, looks_from[READERS];
+static entry *held[WAYS];
+static unsigned count, hand, turn, made, freed;
 static const char *_Atomic claims[READERS];
 static atomic_uint ended;
-static char order;
+static char order, returns;
 
 static void want(bool is_so, const char *what) {
   if (is_so) return;
@@ -50,28 +49,29 @@ static uint64_t id_of(const char *key) {
 }
 
 /* Copies the value of a key. Another key may have its hash. */
-static bool find(int seat, const char *key, char value[64]) {
-  nr_rows rows;
-  looks_from[seat] = moment;
-  bool is_held = nr_find_id(&readers[seat], id_of(key), &rows) == NR_ROWS;
-  if (is_held) {
-    NR_FOUND(&order);
-    const entry *found = (const entry *)(uintptr_t)rows.row[0].b;
-    is_held = !strcmp(found->key, key);
-    if (is_held) strcpy(value, found->value);
-  }
-  looks_from[seat] = NOWHERE;
-  return is_held;
+static bool find(int place, const char *key, char value[64]) {
+  nr_id_reader *reader = &readers[place];
+  uint32_t rows;
+  nr_row row;
+  if (nr_pin_id(reader, id_of(key), &rows) != NR_ROWS) return false;
+  NR_FOUND(&order);
+  want(nr_row_at_id(reader, 0, &row) == NR_ROWS, "an entry's row");
+  const entry *found = (const entry *)(uintptr_t)row.b;
+  bool is_its_own = !strcmp(found->key, key);
+  if (is_its_own) strcpy(value, found->value);
+  NR_LETS_GO(&returns);
+  nr_release_id(reader);
+  return is_its_own;
 }
 
 static void *read_all(void *given) {
-  int seat = (int)(uintptr_t)given;
+  int place = (int)(uintptr_t)given;
   char key[32], value[64], wanted[64];
   for (unsigned round = 0; round < ROUNDS; round++) {
-    sprintf(key, "user %u", round * (unsigned)(seat + 3) % KEYS * (round % 7) / 7);
-    while (!find(seat, key, value)) {
-      if (nr_request_id(&readers[seat], id_of(key)) == NR_SEND) claims[seat] = key;
-      while (claims[seat]) sched_yield();
+    sprintf(key, "user %u", round * (unsigned)(place + 3) % KEYS * (round % 7) / 7);
+    while (!find(place, key, value)) {
+      if (nr_request_id(&readers[place], id_of(key)) == NR_SEND) claims[place] = key;
+      while (claims[place]) sched_yield();
     }
     query(key, wanted);
     want(!strcmp(value, wanted), "the key's own value");
@@ -80,64 +80,107 @@ static void *read_all(void *given) {
   return NULL;
 }
 
+/* Frees the entry of a set that came back, whose first row says whose it was. */
+static void free_entry(const nr_rows *had) {
+  NR_CAME_BACK(&returns);
+  entry *one = (entry *)(uintptr_t)had->row[1].b;
+  want(had->count == 2 && had->row[0].b == one->id, "an entry's set");
+  free(one->key), free(one->value), free(one);
+  freed++;
+}
+
 /* Takes an entry from the map, as where its user changes. */
 static void evict(uint32_t way) {
   if (!held[way]) return;
   want(nr_evict_id(&writer, held[way]->id) == NR_EVICTED, "an eviction");
-  held[way]->left = moment++;
-  held[way]->next = gone;
-  gone = held[way];
   held[way] = NULL;
+  count--;
 }
 
-/* The list begins with what left the map last. */
-static void free_gone(void) {
-  uint64_t earliest = NOWHERE;
-  for (int seat = 0; seat < READERS; seat++) {
-    uint64_t from = looks_from[seat];
-    if (from < earliest) earliest = from;
+/* A hand goes round the ways of all groups, since one that holds many hot ids is to get room from those that hold none.
+   It takes the next entry that wasn't found since it passed, or that comes after many that were. */
+static void make_room(void) {
+  for (unsigned passed = 0; count >= LIMIT; hand = (hand + 1) % WAYS) {
+    if (!held[hand]) continue;
+    bool was_found = nr_uses_id(&writer, held[hand]->id) == NR_DONE;
+    if (!was_found || passed++ == MOST_PASSED) evict(hand);
   }
-  entry **at = &gone, *one;
-  while (*at && (*at)->left >= earliest) at = &(*at)->next;
-  while ((one = *at)) {
-    *at = one->next;
-    free(one->key), free(one->value), free(one);
-    freed++;
-  }
+}
+
+/* Gives an id a way. Where each of its two groups' ways is taken, one of them after the other makes room. */
+static nr_upquery admit(uint64_t id) {
+  const uint32_t groups[] = {nr_id_group(&shape, id), nr_id_second_group(&shape, id)};
+  nr_upquery upquery;
+  for (; nr_admit(&writer, id, &upquery) == NR_FULL; turn++) evict(8 * groups[turn % 2] + turn / 2 % 8);
+  return upquery;
 }
 
 static void answer(const char *key) {
-  nr_upquery upquery;
+  static nr_rows had;
   entry *one = malloc(sizeof *one);
   *one = (entry){.key = malloc(strlen(key) + 1), .value = malloc(64), .id = id_of(key)};
   strcpy(one->key, key);
   query(key, one->value);
   made++;
-  while (nr_admit(&writer, one->id, &upquery) == NR_FULL) evict(8 * nr_id_group(&shape, one->id) + made % 8);
+  const nr_upquery upquery = admit(one->id);
   const nr_row row = {1, (uint64_t)(uintptr_t)one};
+  make_room();
   NR_PUTS(&order);
-  want(nr_fill_id(&writer, &upquery, &row, 1) == NR_DONE, "a fill");
+  uint32_t said = nr_fill_id_reclaiming(&writer, &upquery, &row, 1, &had);
+  want(said == NR_DONE || said == NR_GIVEN, "a fill");
+  if (said == NR_GIVEN) free_entry(&had);
   held[upquery.way] = one;
-  free_gone();
+  count++;
+  while (nr_reap_id(&writer, &had) == NR_GIVEN) free_entry(&had);
+}
+
+/* How many of so many users are missing, from one on, who are there then: of all users or of those of one group. */
+static unsigned missing(unsigned user, unsigned users, bool are_of_one_group) {
+  char key[32], value[64];
+  unsigned missed = 0;
+  for (; users; user++) {
+    sprintf(key, "user %u", user);
+    if (are_of_one_group && nr_id_group(&shape, id_of(key))) continue;
+    users--;
+    if (find(0, key, value)) continue;
+    missed++;
+    nr_request_id(&readers[0], id_of(key));
+    answer(key);
+    want(find(0, key, value), "an answer that is there");
+  }
+  return missed;
+}
+
+/* Once others have filled the cache, some users stay after a few rounds, though they are more than their group holds. */
+static void try_some(void) {
+  missing(KEYS, 3 * LIMIT, false);
+  for (int round = 0; round < 5; round++) missing(0, SOME, true);
+  want(!missing(0, SOME, true) && count <= LIMIT, "some users that stay");
+}
+
+static void end(void) {
+  static nr_rows had;
+  for (int place = 0; place < READERS; place++) nr_close_id_reader(&readers[place]);
+  for (uint32_t way = 0; way < WAYS; way++) evict(way);
+  while (nr_reap_id(&writer, &had) == NR_GIVEN) free_entry(&had);
+  nr_close_id_writer(&writer);
+  want(made == freed, "an entry was never freed");
 }
 
 int main(void) {
   pthread_t threads[READERS];
   want(nr_open_ids(&shape, &writer) == NR_DONE, "a map over ids");
-  for (int seat = 0; seat < READERS; seat++) {
-    looks_from[seat] = NOWHERE;
-    want(nr_open_id_reader(&writer, &readers[seat]) == NR_DONE, "a reader");
+  for (int place = 0; place < READERS; place++)
+    want(nr_open_id_reader(&writer, &readers[place]) == NR_DONE, "a reader");
+  for (int place = 0; place < READERS; place++)
+    pthread_create(&threads[place], NULL, read_all, (void *)(uintptr_t)place);
+  for (int place = 0; ended < READERS; place = (place + 1) % READERS) {
+    if (claims[place]) answer(claims[place]), claims[place] = NULL;
+    if (!place) sched_yield();
   }
-  for (int seat = 0; seat < READERS; seat++) pthread_create(&threads[seat], NULL, read_all, (void *)(uintptr_t)seat);
-  for (int seat = 0; ended < READERS; seat = (seat + 1) % READERS) {
-    if (claims[seat]) answer(claims[seat]), claims[seat] = NULL;
-    if (!seat) sched_yield();
-  }
-  for (int seat = 0; seat < READERS; seat++) pthread_join(threads[seat], NULL), nr_close_id_reader(&readers[seat]);
-  for (uint32_t way = 0; way < WAYS; way++) evict(way);
-  free_gone();
-  nr_close_id_writer(&writer);
-  want(made == freed, "an entry was never freed");
+  for (int place = 0; place < READERS; place++) pthread_join(threads[place], NULL);
+  try_some();
+  end();
   puts("each key had its own value, and each entry was freed once");
   return 0;
 }

@@ -293,6 +293,72 @@ static void test_choices(void) {
   nr_close_id_writer(&writer);
 }
 
+/* Where each way of a group is asked no choice makes room, and says so, until an upquery ends. */
+static void test_all_asked(void) {
+  enum { WAYS = 8 };
+  const nr_id_shape shape = {.groups = 1, .slots = 11, .readers = 1, .rows = 1};
+  nr_id_writer writer = {0};
+  nr_id_reader reader = {0};
+  nr_upquery upqueries[WAYS + 1];
+  uint64_t chosen = 55;
+  WANTS(NR_DONE, nr_open_ids(&shape, &writer));
+  WANTS(NR_DONE, nr_open_id_reader(&writer, &reader));
+  for (uint64_t id = 1; id < WAYS; id++) upqueries[id] = admitted(&writer, &reader, id);
+  if (nr_choose_id(&writer, 9, &chosen) == NR_ALL_ASKED) WANTS(NR_DONE, NR_ALL_ASKED);
+  chosen = 55;
+  upqueries[WAYS] = admitted(&writer, &reader, WAYS);
+  WANTS(NR_SEND, nr_request_id(&reader, 9));
+  WANTS(NR_FULL, nr_admit(&writer, 9, &upqueries[0]));
+  WANTS(NR_ALL_ASKED, nr_choose_id(&writer, 9, &chosen));
+  if (chosen != 55) WANTS(NR_ALL_ASKED, NR_DONE);
+  /* One is filled: of eight choices one can be evicted. */
+  WANTS(NR_DONE, nr_fill_id(&writer, &upqueries[5], ORDERS, 1));
+  int choices = 0;
+  do WANTS(NR_DONE, nr_choose_id(&writer, 9, &chosen));
+  while (nr_evict_id(&writer, chosen) == NR_NOTHING && ++choices < WAYS);
+  if (chosen != 5) WANTS(NR_DONE, NR_OTHER);
+  WANTS(NR_SEND, nr_admit(&writer, 9, &upqueries[0]));
+  WANTS(NR_ALL_ASKED, nr_choose_id(&writer, 10, &chosen));
+  WANTS(NR_CANCELLED, nr_withdraw_id(&writer, &upqueries[3]));
+  if (nr_choose_id(&writer, 10, &chosen) == NR_ALL_ASKED) WANTS(NR_DONE, NR_ALL_ASKED);
+  nr_close_id_reader(&reader);
+  nr_close_id_writer(&writer);
+}
+
+/* A map refuses what another of the same shape asked, and takes its own. */
+static void test_strangers(void) {
+  const nr_id_shape shape = {.groups = 1, .slots = 11, .readers = 1, .rows = 1};
+  nr_id_writer writers[2] = {{0}, {0}};
+  nr_id_reader readers[2] = {{0}, {0}};
+  nr_upquery upqueries[2];
+  nr_rows had = {.count = 77};
+  for (int map = 0; map < 2; map++) {
+    WANTS(NR_DONE, nr_open_ids(&shape, &writers[map]));
+    WANTS(NR_DONE, nr_open_id_reader(&writers[map], &readers[map]));
+    upqueries[map] = admitted(&writers[map], &readers[map], USER);
+  }
+  for (int map = 0; map < 2; map++) {
+    WANTS(NR_STRANGER, nr_fill_id(&writers[map], &upqueries[1 - map], ORDERS, 1));
+    WANTS(NR_STRANGER, nr_fill_id_reclaiming(&writers[map], &upqueries[1 - map], ORDERS, 1, &had));
+    WANTS(NR_STRANGER, nr_withdraw_id(&writers[map], &upqueries[1 - map]));
+    WANTS(NR_ASKED, nr_find_id(&readers[map], USER, &rows));
+  }
+  if (had.count != 77) WANTS(NR_STRANGER, NR_GIVEN);
+  for (int map = 0; map < 2; map++) {
+    WANTS(NR_DONE, nr_fill_id(&writers[map], &upqueries[map], ORDERS, 1));
+    nr_close_id_reader(&readers[map]);
+    nr_close_id_writer(&writers[map]);
+  }
+  /* Nor does a map that lies where a closed one lay. */
+  WANTS(NR_DONE, nr_open_ids(&shape, &writers[0]));
+  WANTS(NR_DONE, nr_open_id_reader(&writers[0], &readers[0]));
+  upqueries[1] = admitted(&writers[0], &readers[0], USER);
+  WANTS(NR_STRANGER, nr_fill_id(&writers[0], &upqueries[0], ORDERS, 1));
+  WANTS(NR_DONE, nr_fill_id(&writers[0], &upqueries[1], ORDERS, 1));
+  nr_close_id_reader(&readers[0]);
+  nr_close_id_writer(&writers[0]);
+}
+
 static void test_closed(nr_id_writer *writer, nr_id_reader *reader) {
   nr_upquery upquery = {0};
   nr_id_reader other = {0};
@@ -368,6 +434,8 @@ int main(void) {
   test_slots();
   test_each();
   test_choices();
+  test_all_asked();
+  test_strangers();
   const nr_id_shape two = {.groups = 1, .slots = 2, .readers = 1, .rows = 3};
   WANTS(NR_DONE, nr_open_ids(&two, &writer));
   WANTS(NR_DONE, nr_open_id_reader(&writer, &reader));

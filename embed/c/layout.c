@@ -51,11 +51,12 @@ LIES(nr_id_shape, readers, 8);
 LIES(nr_id_shape, rows, 12);
 LIES(nr_id_shape, key, 16);
 LIES(nr_id_shape, first_number, 24);
-TAKES(nr_upquery, 32);
+TAKES(nr_upquery, 40);
 LIES(nr_upquery, id, 0);
 LIES(nr_upquery, number, 8);
 LIES(nr_upquery, way, 16);
 LIES(nr_upquery, count, 24);
+LIES(nr_upquery, map, 32);
 TAKES(nr_id_writer, 8);
 TAKES(nr_id_reader, 8);
 TAKES(nr_wanted_id, 8 + 8 + 8 + 255 * 16);
@@ -210,7 +211,7 @@ static void test_closing(void) {
 
 /* Each answer has words of its own, and the library is of this header's version. */
 static void test_words(void) {
-  const uint32_t answers = NR_STRANGER + 1;
+  const uint32_t answers = NR_ALL_ASKED + 1;
   for (uint32_t one = 0; one < answers; one++)
     for (uint32_t other = one + 1; other <= answers; other++)
       wants("two answers in the same words", 1, strcmp(nr_strerror(one), nr_strerror(other)) != 0);

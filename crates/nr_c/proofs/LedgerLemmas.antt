@@ -8,7 +8,7 @@ use Rattle.nr_c.specs.Ledgers.{AreOf, Counted, no_entries}
 none-is-not-some : (counted : Counted) → None ≡ Some counted → ⊥
 none-is-not-some counted is = subst (λ one. MatchOption one ⊤ (λ _. ⊥)) is tt
 
-pub none_is_of_any : (table : IdTable) (ways : ℕ) → AreOf table (no_entries ways)
-none_is_of_any table ways =
+pub none_is_of_any : (table : IdTable) (map ways : ℕ) → AreOf table (no_entries map ways)
+none_is_of_any table map ways =
     All-replicate (λ one. (counted : Counted) → one ≡ Some counted → counted.upquery.table ≡ table) ways None
     (λ counted is. absurd (none-is-not-some counted is))

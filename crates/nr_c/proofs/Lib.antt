@@ -1,10 +1,6 @@
-pub mod AsReaderBox
-pub mod AsWriterBox
-pub mod AsPosterBox
-pub mod AsTakerBox
-pub mod AsRemainsBox
-pub mod AsIdReaderBox
-pub mod AsIdWriterBox
+pub mod HandleBox
+pub mod HandleLent
+pub mod HandleSend
 pub mod FindsMade
 pub mod IdleFinds
 pub mod LedgerLemmas

@@ -5,7 +5,7 @@ use Rattle.nr_c.specs.Numbers.{answer_empty, answer_evicted, answer_filled, answ
 use Rattle.nr_c.specs.Numbers.{answer_hole, answer_in_the_way, answer_no_row, answer_all_filled, answer_no_slot}
 use Rattle.nr_c.specs.Numbers.{answer_not_asked, answer_nothing, answer_rows, answer_send, answer_stale}
 use Rattle.nr_c.specs.Numbers.{answer_too_many, answer_waiting, answer_worn}
-use Rattle.nr_machine.specs.declared.calls.NoSlot.{NoSlot}
+use Rattle.nr_core.specs.declared.calls.NoSlot.{NoSlot}
 use Rattle.nr_map.specs.declared.answers.Asked.{Asked}
 use Rattle.nr_map.specs.declared.answers.Asked.TheVariants as asked
 use Rattle.nr_board.specs.declared.answers.Cancel.{Cancel}

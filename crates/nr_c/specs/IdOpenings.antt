@@ -7,6 +7,7 @@ use Rattle.nr_idmap.specs.Keepers.{IdCaller}
 use Rattle.nr_c.specs.declared.id_reader_side.IdReaderSide.{IdReaderSide}
 use Rattle.nr_c.specs.declared.id_shape.NrIdShape.{NrIdShape}
 use Rattle.nr_c.specs.declared.id_writer_side.IdWriterSide.{IdWriterSide}
+use Rattle.nr_c.specs.Hands.{EndsIdHand}
 use Rattle.nr_c.specs.Ledgers.{no_entries}
 use Rattle.nr_c.specs.Numbers.{answer_bad_size, answer_done, answer_no_memory, answer_no_reader}
 
@@ -21,20 +22,22 @@ id_shape_of shape =
       first_number = shape.first_number;
     }
 
--- the writer's side of a new map over ids: its writer, its readers, none of which has a handle, and no upquery
-pub record IsNewIdWriter (shape : IdShape) (side : IdWriterSide) : Type 0 where
+-- the writer's side of a new map over ids: its writer, its readers, none of which has a handle, and no upquery of the
+-- map that has this number
+pub record IsNewIdWriter (shape : IdShape) (number : ℕ) (side : IdWriterSide) : Type 0 where
   pub opens : OpensIds shape side.map.value side.writer side.spare.items
-  pub none_kept : side.ledger ≡ no_entries side.map.value.map.shape.keys
+  pub none_kept : side.ledger ≡ no_entries number side.map.value.map.shape.keys
 
 -- the handle leads to the side of a new map, or nowhere
-abbrev pub LeadsToIds : IdShape → List IdWriterSide → ℕ → Type 0
-LeadsToIds shape after code =
-    ((code ≡ answer_done) × (side : IdWriterSide) × (after ≡ side ∷ []) × IsNewIdWriter shape side)
+abbrev pub LeadsToIds : IdShape → ℕ → List IdWriterSide → ℕ → Type 0
+LeadsToIds shape number after code =
+    ((code ≡ answer_done) × (side : IdWriterSide) × (after ≡ side ∷ []) × IsNewIdWriter shape number side)
     ⊎ (((code ≡ answer_bad_size) ⊎ (code ≡ answer_no_memory)) × (after ≡ []))
 
 -- an opening by its code: sizes out of their limits are refused
-abbrev pub OpensIdMap : IdShape → List IdWriterSide → ℕ → Type 0
-OpensIdMap shape after code = ((code ≡ answer_bad_size) ↔ IsBadIdShape shape) × LeadsToIds shape after code
+abbrev pub OpensIdMap : IdShape → ℕ → List IdWriterSide → ℕ → Type 0
+OpensIdMap shape number after code =
+    ((code ≡ answer_bad_size) ↔ IsBadIdShape shape) × LeadsToIds shape number after code
 
 -- the writer's handle leads to one side, of the same map, with the same writer and upqueries, and these readers have no
 -- handle
@@ -66,3 +69,7 @@ TakesIdReader before other after handle code =
     × KeepsIdWriter before after (rest ++ reader ∷ []) rest × LeadsToIdReader before reader handle)
     ⊎ ((code ≡ answer_no_memory) × (rest : List IdCaller) × (reader : IdCaller)
     × KeepsIdWriter before after (rest ++ reader ∷ []) (rest ++ reader ∷ []) × (handle ≡ other))
+
+-- the reader that a handle led to was ended, with what it held
+abbrev pub EndsIdReader : List IdReaderSide → Type 0
+EndsIdReader before = (side : IdReaderSide) → before ≡ side ∷ [] → (reader : IdCaller) × EndsIdHand side.hand reader

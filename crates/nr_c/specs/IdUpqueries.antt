@@ -14,7 +14,8 @@ use Rattle.nr_c.specs.declared.kept_upquery.NrUpquery.{NrUpquery}
 use Rattle.nr_c.specs.IdCodes.{filled_code, refused_code, withdrawn_code}
 use Rattle.nr_c.specs.IdRows.{AreIdRowsRefused}
 use Rattle.nr_c.specs.Ledgers.{Entries, GivesUp, KeepsNone, keeps, keeps_new, next_count, owed_of}
-use Rattle.nr_c.specs.Numbers.{answer_send, answer_stale}
+use Rattle.nr_c.specs.IdLive.{Turn}
+use Rattle.nr_c.specs.Numbers.{answer_send, answer_stale, answer_stranger}
 
 -- the upquery that the map opened is kept under a count of its own, and its numbers are told
 pub record AdmitsAndKeeps (id : ℕ) (told : NrUpquery) (old new : IdWriterSide) (code : ℕ) : Type 0 where
@@ -23,6 +24,7 @@ pub record AdmitsAndKeeps (id : ℕ) (told : NrUpquery) (old new : IdWriterSide)
   pub admits : AdmitsId id old.writer new.writer upquery.owed
   pub numbers : owed_of told ≡ upquery.owed
   pub count : told.count ≡ next_count old.ledger
+  pub map : told.map ≡ old.ledger.map
   pub keeps : new.ledger ≡ keeps_new upquery old.ledger
 
 -- the directory refuses, and nothing else happened
@@ -36,6 +38,19 @@ pub record AdmitsNot (id : ℕ) (before after : NrUpquery) (old new : IdWriterSi
 abbrev pub AdmitsByCode : ℕ → NrUpquery → NrUpquery → IdWriterSide → IdWriterSide → ℕ → Type 0
 AdmitsByCode id before after old new code =
     AdmitsAndKeeps id after old new code ⊎ AdmitsNot id before after old new code
+
+-- another map's upquery is refused, which the code says; nothing has changed
+pub record IsStranger (upquery : NrUpquery) (stay : Type 0) (old new : IdWriterSide) (code : ℕ) : Type 0 where
+  pub code_is : code ≡ answer_stranger
+  pub other : upquery.map ≡ old.ledger.map → ⊥
+  pub stays : new.writer ≡ old.writer
+  pub keeps : new.ledger ≡ old.ledger
+  pub told : stay
+
+-- a call with an upquery: it is refused where that is another map's, and else does what it does
+abbrev pub WithOwn : NrUpquery → Type 0 → Turn → Turn
+WithOwn upquery stays does old new code =
+    IsStranger upquery stays old new code ⊎ ((upquery.map ≡ old.ledger.map) × does old new code)
 
 -- no upquery with these numbers is open
 pub record IsStale (wanted : NrUpquery) (old new : IdWriterSide) (code : ℕ) : Type 0 where

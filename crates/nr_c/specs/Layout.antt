@@ -4,7 +4,7 @@ use Rattle.std.specs.Prelude.{ℕ, List, [], ◌∷◌, slice_index_or}
 -- a row, room for rows, a wanted key, a signed row, a shape, a map's sizes, its slots' counts, the five handles, a
 -- shape by ids, an upquery, the two handles by id, and a wanted id
 abbrev pub struct_sizes : List ℕ
-struct_sizes = 16 ∷ 4088 ∷ 4096 ∷ 24 ∷ 32 ∷ 16 ∷ 12 ∷ 8 ∷ 8 ∷ 8 ∷ 8 ∷ 8 ∷ 32 ∷ 32 ∷ 8 ∷ 8 ∷ 4104 ∷ []
+struct_sizes = 16 ∷ 4088 ∷ 4096 ∷ 24 ∷ 32 ∷ 16 ∷ 12 ∷ 8 ∷ 8 ∷ 8 ∷ 8 ∷ 8 ∷ 32 ∷ 40 ∷ 8 ∷ 8 ∷ 4104 ∷ []
 
 abbrev pub struct_size : ℕ → ℕ
 struct_size place = slice_index_or struct_sizes place 0

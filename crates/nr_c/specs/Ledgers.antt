@@ -13,13 +13,14 @@ pub record Counted : Type 0 where
   pub count : ℕ
   pub upquery : Sent
 
--- how many admissions have opened one, and what each way has
+-- which map's they are, how many admissions have opened one, and what each way has
 pub record Entries : Type 0 where
+  pub map : ℕ
   pub count : ℕ
   pub places : List (Option Counted)
 
-abbrev pub no_entries : ℕ → Entries
-no_entries ways = record { count = 0; places = replicate ways None }
+abbrev pub no_entries : ℕ → ℕ → Entries
+no_entries map ways = record { map = map; count = 0; places = replicate ways None }
 
 -- each is of that map
 abbrev pub AreOf : IdTable → Entries → Type 0
@@ -29,7 +30,7 @@ abbrev pub kept_at : Entries → ℕ → Option Counted
 kept_at kept way = get_or kept.places way None
 
 abbrev pub with_place : Entries → ℕ → Option Counted → Entries
-with_place kept way one = record { count = kept.count; places = set kept.places way one }
+with_place kept way one = record { map = kept.map; count = kept.count; places = set kept.places way one }
 
 -- it is kept at its way's place
 abbrev pub keeps : ℕ → Sent → Entries → Entries
@@ -41,7 +42,8 @@ next_count kept = min (kept.count + 1) 18446744073709551615
 
 -- a new one is kept, and counted
 abbrev pub keeps_new : Sent → Entries → Entries
-keeps_new upquery kept = keeps (next_count kept) upquery (record { count = next_count kept; places = kept.places })
+keeps_new upquery kept =
+    keeps (next_count kept) upquery (record { map = kept.map; count = next_count kept; places = kept.places })
 
 -- it has all of these numbers
 abbrev pub HasNumbers : NrUpquery → Counted → Type 0
@@ -60,6 +62,13 @@ pub record GivesUp (wanted : NrUpquery) (upquery : Sent) (before after : Entries
   pub kept : kept_at before wanted.way ≡ Some (record { count = wanted.count; upquery = upquery })
   pub is : upquery.owed ≡ owed_of wanted
   pub left : after ≡ with_place before wanted.way None
+
+-- an upquery of this way is open, and one of each way of this group
+abbrev pub IsAsked : ℕ → Entries → Type 0
+IsAsked way kept = (counted : Counted) × (kept_at kept way ≡ Some counted)
+
+abbrev pub AreAllAsked : ℕ → Entries → Type 0
+AreAllAsked group kept = (way : ℕ) → group_of_way way ≡ group → IsAsked way kept
 
 -- an upquery of this id at this way, and at a way of this group
 abbrev pub IsAt : ℕ → ℕ → NrUpquery → Type 0

@@ -118,6 +118,12 @@ answer_named = 37
 abbrev pub answer_bad_row : ℕ
 answer_bad_row = 38
 
--- the version 0.2.0, whose numbers have 8 bits each
+abbrev pub answer_stranger : ℕ
+answer_stranger = 39
+
+abbrev pub answer_all_asked : ℕ
+answer_all_asked = 40
+
+-- the version 0.3.0, whose numbers have 8 bits each
 abbrev pub version : ℕ
-version = 512
+version = 768

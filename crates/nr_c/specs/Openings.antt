@@ -1,7 +1,7 @@
 -- What opens a map and its handles.
 use Rattle.std.specs.Prelude.{ℕ, ◌≡◌, ◌↔◌, ◌⊎◌, List, [], ◌∷◌, ◌++◌}
-use Rattle.nr_machine.specs.Sizes.{IsBadLargeShape, IsBadShape}
-use Rattle.nr_machine.specs.declared.shape.Shape.{Shape}
+use Rattle.nr_core.specs.Sizes.{IsBadLargeShape, IsBadShape}
+use Rattle.nr_core.specs.declared.shape.Shape.{Shape}
 use Rattle.nr_board.specs.Callers.{Caller}
 use Rattle.nr_map.specs.Hands.{idle}
 use Rattle.nr_map.specs.Opened.{IsOpened, words_of_large}
@@ -65,3 +65,7 @@ ReturnsReader before other after handle code =
     ((code ≡ answer_done) × (rest : List Caller) × (reader : Caller) × (held : ReaderSide) × (other ≡ held ∷ [])
     × EndsHand held.hand reader × KeepsWriter before after rest (rest ++ reader ∷ []) × (handle ≡ []))
     ⊎ ((code ≡ answer_no_memory) × (rest : List Caller) × KeepsWriter before after rest rest × (handle ≡ other))
+
+-- the reader that a handle led to was ended, with what it held
+abbrev pub EndsReader : List ReaderSide → Type 0
+EndsReader before = (side : ReaderSide) → before ≡ side ∷ [] → (reader : Caller) × EndsHand side.hand reader

@@ -1,7 +1,7 @@
 -- What opens a queue of requests and its handles.
 use Rattle.std.specs.Prelude.{ℕ, ◌≡◌, ◌↔◌, ◌⊎◌, List, [], ◌∷◌, ◌++◌, ⊤}
 use Rattle.nr_model.specs.Sizes.{IsBadSize}
-use Rattle.nr_machine.specs.declared.shape.TheConstants.{MAX_LARGE_READERS, MAX_LARGE_SLOTS}
+use Rattle.nr_core.specs.declared.shape.TheConstants.{MAX_LARGE_READERS, MAX_LARGE_SLOTS}
 use Rattle.nr_trigger.specs.Tokens.{IsOpenedQueue, PosterSeen}
 use Rattle.nr_c.specs.Numbers.{answer_bad_size, answer_done, answer_no_memory, answer_no_poster}
 use Rattle.nr_c.specs.declared.poster_side.PosterSide.{PosterSide}

@@ -1,6 +1,6 @@
 -- The sizes of a map as C has them.
 use Rattle.std.specs.Prelude.{ℕ, ◌≡◌, List, [], ◌∷◌}
-use Rattle.nr_machine.specs.declared.shape.Shape.{Shape}
+use Rattle.nr_core.specs.declared.shape.Shape.{Shape}
 use Rattle.nr_c.specs.Numbers.{answer_done}
 use Rattle.nr_c.specs.declared.reader_side.ReaderSide.{ReaderSide}
 use Rattle.nr_c.specs.declared.sizes.NrShape.{NrShape}

@@ -127,6 +127,12 @@ pub const NR_NAMED: u32 = 37;
 /// To a call by id: a row's first number is 0.
 pub const NR_BAD_ROW: u32 = 38;
 
+/// To a call with an upquery: another map opened it.
+pub const NR_STRANGER: u32 = 39;
+
+/// To a choice by id: each way of the group has an open upquery.
+pub const NR_ALL_ASKED: u32 = 40;
+
 /// The number of a find's answer.
 pub fn of_found(found: Found) -> u32
     ensures { result ≡ found_code found }

@@ -1,10 +1,10 @@
 //! What helps the writer by id to choose whom to evict.
 ghost use Rattle.std.specs.Prelude.{◌≡◌, ⊤};
-ghost use Rattle.nr_c.specs.IdChoices.{ChoosesIdByCode, UsesIdByCode};
-ghost use Rattle.nr_c.specs.IdLive.{IdWriterCalls, WithId};
+ghost use Rattle.nr_c.specs.IdChoices.{ChoosesByCode, UsesIdByCode};
+ghost use Rattle.nr_c.specs.IdLive.{IdWriterCalls, IdWriterTurns, WithId};
 ghost use Rattle.nr_c.specs.Live.{WhenLive};
 
-use crate::codes::{NR_CLOSED, NR_DONE, NR_NO_KEY, NR_NOTHING};
+use crate::codes::{NR_ALL_ASKED, NR_CLOSED, NR_DONE, NR_NO_KEY, NR_NOTHING};
 use crate::id_writer_handle::NrIdWriter;
 
 /// Whether an id's rows were found since this was asked last: `NR_DONE`, or `NR_NOTHING`. It is a hint: a
@@ -27,10 +27,11 @@ pub extern "C" fn nr_uses_id(writer: &mut NrIdWriter, id: u64) -> u32
 
 /// The id of a way of another's group, which may be evicted in its favour: `NR_DONE`, and `chosen` is the first from
 /// the last choice on that wasn't found since. `NR_NOTHING` where the way that was chosen has no id, and
-/// `chosen` stays. `NR_NO_KEY` for the id 0, with no step. Takes 3 steps.
+/// `chosen` stays. Takes 3 steps. With no step it answers `NR_ALL_ASKED` where each way of the group has an
+/// open upquery, so that no choice could be evicted, and `NR_NO_KEY` for the id 0.
 #[unsafe(no_mangle)]
 pub extern "C" fn nr_choose_id(writer: &mut NrIdWriter, id: u64, chosen: &mut u64) -> u32
-    ensures { WhenLive (chosen.new ≡ chosen.old) (WithId id (chosen.new ≡ chosen.old) (IdWriterCalls (ChoosesIdByCode id chosen.old chosen.new))) writer.old.live writer.new.live result }
+    ensures { WhenLive (chosen.new ≡ chosen.old) (WithId id (chosen.new ≡ chosen.old) (IdWriterTurns (ChoosesByCode id chosen.old chosen.new))) writer.old.live writer.new.live result }
 {
     if !writer.is_live() {
         return NR_CLOSED;
@@ -39,6 +40,9 @@ pub extern "C" fn nr_choose_id(writer: &mut NrIdWriter, id: u64, chosen: &mut u6
         return NR_NO_KEY;
     }
     let side = writer.side();
+    if side.ledger.are_all_asked(side.map.group_of(id)) {
+        return NR_ALL_ASKED;
+    }
     match side.map.choose(&mut side.writer, id) {
         Some(named) => {
             *chosen = named;

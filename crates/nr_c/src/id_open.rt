@@ -4,7 +4,7 @@ ghost use Rattle.nr_idmap.specs.IdHands.{idle_by_id};
 ghost use Rattle.nr_idmap.specs.IdOpenings.{IsBadIdShape};
 ghost use Rattle.nr_idmap.specs.Keepers.{id_table_of};
 ghost use Rattle.nr_c.specs.Live.{WhenEmpty, WhenOther};
-ghost use Rattle.nr_c.specs.IdOpenings.{IsNewIdWriter, OpensIdMap, TakesIdReader, id_shape_of};
+ghost use Rattle.nr_c.specs.IdOpenings.{EndsIdReader, IsNewIdWriter, OpensIdMap, TakesIdReader, id_shape_of};
 
 use crate::codes::{NR_BAD_SIZE, NR_CLOSED, NR_DONE, NR_LIVE, NR_NO_MEMORY, NR_NO_READER};
 use crate::id_reader_handle::NrIdReader;
@@ -22,15 +22,21 @@ use std::sync::Arc;
 /// Opens a map over ids of that shape, and makes the writer's handle live. Answers `NR_DONE`; `NR_LIVE`
 /// where the handle is live already; `NR_BAD_SIZE` where a size is out of its limits, 1 to 536,870,911
 /// groups, 1 to 4,194,303 slots, 1 to 65,534 readers, 1 to 254 rows and a first ticket number up to
-/// 4,194,303; or `NR_NO_MEMORY`. The handle stays as it was where it isn't done.
+/// 4,194,303; or `NR_NO_MEMORY`. The handle stays as it was where it isn't done. `number` is the map's, by
+/// which its upqueries are told from other maps': what `embed/null` makes gives each map another one.
 #[unsafe(no_mangle)]
-pub extern "C" fn nr_open_ids(alloc: Global, shape: &NrIdShape, writer: &mut NrIdWriter) -> u32
-    ensures { WhenEmpty (OpensIdMap (id_shape_of shape.now)) writer.old.live writer.new.live result }
+pub extern "C" fn nr_open_ids(
+    alloc: Global,
+    shape: &NrIdShape,
+    writer: &mut NrIdWriter,
+    number: u64,
+) -> u32
+    ensures { WhenEmpty (OpensIdMap (id_shape_of shape.now) number) writer.old.live writer.new.live result }
 {
     if writer.is_live() {
         return NR_LIVE;
     }
-    match opened_ids(alloc, shape) {
+    match opened_ids(alloc, shape, number) {
         Ok(side) => {
             writer.lead_to(side);
             NR_DONE
@@ -41,12 +47,16 @@ pub extern "C" fn nr_open_ids(alloc: Global, shape: &NrIdShape, writer: &mut NrI
 }
 
 // The writer's side of a new map.
-fn opened_ids(alloc: Global, shape: &NrIdShape) -> Result<Box<IdWriterSide, Global>, OpenFault>
+fn opened_ids(
+    alloc: Global,
+    shape: &NrIdShape,
+    number: u64,
+) -> Result<Box<IdWriterSide, Global>, OpenFault>
     ensures bad_size { (result ≡ Err OpenFault.BadSize) ↔ IsBadIdShape (id_shape_of shape.now) }
-    ensures ok { IfOk result (λ side. IsNewIdWriter (id_shape_of shape.now) side.value) }
+    ensures ok { IfOk result (λ side. IsNewIdWriter (id_shape_of shape.now) number side.value) }
 {
     let (map, writer, spare) = IdMap::open(alloc, &shape.shape())?;
-    let Ok(ledger) = Ledger::empty(alloc, map.ways()) else {
+    let Ok(ledger) = Ledger::empty(alloc, number, map.ways()) else {
         return Err(OpenFault::Memory);
     };
     let map = Arc::new(alloc, map).map_err(|_| OpenFault::Memory)?;
@@ -116,11 +126,13 @@ fn seated_by_id(
 /// handle isn't live.
 #[unsafe(no_mangle)]
 pub extern "C" fn nr_close_id_reader(alloc: Global, reader: &mut NrIdReader)
-    ensures { reader.new.live ≡ [] }
+    ensures empty { reader.new.live ≡ [] }
+    ensures ends { EndsIdReader reader.old.live }
 {
-    if reader.is_live() {
-        drop(reader.close(alloc));
+    if !reader.is_live() {
+        return;
     }
+    drop(reader.close(alloc));
 }
 
 /// Ends the writer, and with it each upquery that is open. The memory of the map goes with the last

@@ -1,29 +1,29 @@
-//! The id reader's handle: a box of the id reader's side, or none, whose type names no other type, so that C
-//! may hold it.
+//! The id reader's handle. Its type has no parameter, so that C may hold it, and all that is done with it is
+//! done with the `Handle` that it is lent as.
 ghost use Rattle.std.specs.Prelude.{◌≡◌, List, [], ◌∷◌};
 ghost use Rattle.std.specs.Bool.{OnFalse, OnTrue};
 ghost use base.Stored.{coded_list};
+ghost use Rattle.nr_c.specs.contracts.id_reader_side.IdReaderSide.{the_row};
 ghost use Rattle.nr_c.specs.declared.id_reader_side.IdReaderSide.{IdReaderSide};
-ghost use Rattle.nr_c.specs.IdReaderHandles.{id_reader_side_coded, id_reader_handle_owns};
+ghost use Rattle.nr_c.specs.Hands.{EndsIdHand};
+ghost use Rattle.nr_c.specs.Handles.{handle_owns, side_coded};
 
 use crate::id_reader_side::IdReaderSide;
-use crate::parts::Parts;
+use nr_idmap::IdReader;
 use std::alloc::Global;
 use std::marker::Model;
-use std::mem::{self, ManuallyDrop};
-use std::ptr;
 
 /// C starts one as zeros, which leads nowhere, as does one that was closed; it never copies one that
 /// leads somewhere. It can't be dropped: its owner ends what it leads to.
 #[repr(C)]
 pub struct NrIdReader {
-    pub(crate) ptr: *mut u8,
+    ptr: *mut u8,
     alloc: Global,
-    pub ghost live: { List IdReaderSide } by { coded_list id_reader_side_coded },
+    pub ghost live: { List IdReaderSide } by { coded_list (side_coded the_row) },
 }
 
 impl Model for NrIdReader {
-    ghost also_owns = { λ s. id_reader_handle_owns s.alloc s.ptr s.live };
+    ghost also_owns = { λ s. handle_owns the_row s.alloc s.ptr s.live };
 }
 
 // C may hand it to another thread.
@@ -35,9 +35,7 @@ impl NrIdReader {
         requires empty { self.old.live ≡ [] }
         ensures { self.new.live ≡ b.value ∷ [] }
     {
-        let empty = mem::replace(self, NrIdReader::of_parts(Parts::of(b)));
-        // It owns nothing, so nothing is lost with it.
-        let _ = unsafe { ManuallyDrop::new_unchecked(empty) };
+        self.handle().lead_to(b)
     }
 
     /// Whether it leads somewhere.
@@ -46,53 +44,16 @@ impl NrIdReader {
         ensures live { OnTrue result ((side : IdReaderSide) × (self.new.live ≡ side ∷ [])) }
         ensures empty { OnFalse result (self.new.live ≡ []) }
     {
-        !self.ptr.is_null()
+        self.handle().is_live()
     }
 
-    /// Gives back what the handle leads to. It leads nowhere then.
-    pub fn close(&mut self, alloc: Global) -> IdReaderSide
+    /// Ends the reader: what it holds is released, and its share of the map ends. The handle leads nowhere
+    /// then.
+    pub fn close(&mut self, alloc: Global) -> IdReader
         requires { (side : IdReaderSide) × (self.old.live ≡ side ∷ []) }
-        ensures ends { (side : IdReaderSide) → self.old.live ≡ side ∷ [] → result ≡ side }
+        ensures ends { (side : IdReaderSide) → self.old.live ≡ side ∷ [] → EndsIdHand side.hand result }
         ensures empty { self.new.live ≡ [] }
     {
-        let handle = mem::replace(self, NrIdReader::empty(alloc));
-        Box::into_inner(handle.into_box())
-    }
-
-    fn empty(alloc: Global) -> NrIdReader
-        ensures { result.live ≡ [] }
-    {
-        NrIdReader {
-            ptr: ptr::null_mut(),
-            alloc,
-        }
-    }
-
-    fn into_box(self) -> Box<IdReaderSide, Global>
-        requires { (side : IdReaderSide) × (self.live ≡ side ∷ []) }
-        ensures { self.live ≡ result.value ∷ [] }
-    {
-        self.into_parts().into_box()
-    }
-
-    fn of_parts(parts: Parts<IdReaderSide, Global>) -> NrIdReader
-        ensures { result.live ≡ parts.value ∷ [] }
-    {
-        let Parts { ptr, alloc } = parts;
-        NrIdReader {
-            ptr: ptr as *mut u8,
-            alloc,
-        }
-    }
-
-    fn into_parts(self) -> Parts<IdReaderSide, Global>
-        requires { (side : IdReaderSide) × (self.live ≡ side ∷ []) }
-        ensures { self.live ≡ result.value ∷ [] }
-    {
-        let NrIdReader { ptr, alloc } = self;
-        Parts {
-            ptr: ptr as *mut IdReaderSide,
-            alloc,
-        }
+        Box::into_inner(self.handle().take(alloc)).end()
     }
 }

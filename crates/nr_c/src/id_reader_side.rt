@@ -3,7 +3,7 @@ ghost use Rattle.std.specs.Prelude.{◌≡◌};
 ghost use Rattle.std.specs.Bool.{OnFalse, OnTrue};
 ghost use Rattle.nr_idmap.specs.IdHands.{hand_table_of, idle_by_id, reader_of};
 ghost use Rattle.nr_idmap.specs.Keepers.{id_table_of};
-ghost use Rattle.nr_c.specs.Hands.{HoldsAnId, HoldsNoId};
+ghost use Rattle.nr_c.specs.Hands.{EndsIdHand, HoldsAnId, HoldsNoId};
 
 use crate::reader_side::APART;
 use nr_idmap::{IdHand, IdMap, IdReader};
@@ -50,6 +50,8 @@ impl IdReaderSide {
 
     /// The reader, which holds nothing any more. Its share of the map ends.
     pub fn end(self) -> IdReader
+        ensures ends { EndsIdHand self.hand result }
+        ensures own { id_table_of result ≡ self.map.value }
         ensures back { HoldsNoId self.hand → result ≡ reader_of self.hand }
     {
         let IdReaderSide {

@@ -3,9 +3,12 @@
 ghost use Rattle.std.specs.Prelude.{◌≡◌};
 ghost use Rattle.nr_c.specs.IdLive.{IdWriterTurns, WithId};
 ghost use Rattle.nr_c.specs.IdReclaims.{FillsIdReclaimingByCode, ReapsIdByCode, ReplacesIdReclaimingByCode, UpdatesIdReclaimingByCode};
+ghost use Rattle.nr_c.specs.IdUpqueries.{WithOwn};
 ghost use Rattle.nr_c.specs.Live.{WhenLive};
 
-use crate::codes::{NR_CLOSED, NR_NO_KEY, NR_STALE, of_no_slot, of_reaped, of_reclaimed};
+use crate::codes::{
+    NR_CLOSED, NR_NO_KEY, NR_STALE, NR_STRANGER, of_no_slot, of_reaped, of_reclaimed,
+};
 use crate::id_codes::{of_id_replace_reclaiming, of_id_update_reclaiming};
 use crate::id_rows::{id_batch_refusal, id_refusal};
 use crate::id_writer_handle::NrIdWriter;
@@ -24,12 +27,15 @@ pub extern "C" fn nr_fill_id_reclaiming(
     rows: &[Row],
     had: &mut NrRows,
 ) -> u32
-    ensures { WhenLive (had.new ≡ had.old) (IdWriterTurns (FillsIdReclaimingByCode upquery.now rows.now had.old had.new)) writer.old.live writer.new.live result }
+    ensures { WhenLive (had.new ≡ had.old) (IdWriterTurns (WithOwn upquery.now (had.new ≡ had.old) (FillsIdReclaimingByCode upquery.now rows.now had.old had.new))) writer.old.live writer.new.live result }
 {
     if !writer.is_live() {
         return NR_CLOSED;
     }
     let side = writer.side();
+    if !side.ledger.is_own(upquery) {
+        return NR_STRANGER;
+    }
     if let Some(code) = id_refusal(side.map.rows(), rows) {
         return code;
     }

@@ -1,11 +1,12 @@
 //! Upqueries of a map over ids, which C has by their numbers.
 ghost use Rattle.std.specs.Prelude.{◌≡◌, ⊤, MatchOption};
 ghost use Rattle.nr_c.specs.IdLive.{IdWriterTurns, WithId};
-ghost use Rattle.nr_c.specs.IdUpqueries.{AdmitsByCode, FillsIdByCode, WithdrawsByCode};
+ghost use Rattle.nr_c.specs.IdUpqueries.{AdmitsByCode, FillsIdByCode, WithOwn, WithdrawsByCode};
 ghost use Rattle.nr_c.specs.Live.{WhenLive};
 
 use crate::codes::{
-    NR_CANCELLED, NR_CLOSED, NR_DONE, NR_NO_KEY, NR_SEND, NR_STALE, NR_WORN, of_no_slot,
+    NR_CANCELLED, NR_CLOSED, NR_DONE, NR_NO_KEY, NR_SEND, NR_STALE, NR_STRANGER, NR_WORN,
+    of_no_slot,
 };
 use crate::id_codes::of_refused;
 use crate::id_rows::id_refusal;
@@ -40,18 +41,22 @@ pub extern "C" fn nr_admit(writer: &mut NrIdWriter, id: u64, upquery: &mut NrUpq
     }
 }
 
-/// Answers an upquery with the id's rows, in ascending order. Answers `NR_TOO_MANY`, `NR_NOT_SORTED` and
-/// `NR_BAD_ROW` for rows that aren't an id's, with no step; `NR_STALE` where the upquery isn't open,
-/// with no step; `NR_DONE`; or `NR_NO_SLOT` where readers hold slots, and else `NR_ALL_FILLED`, and it is
-/// open still. Takes 8 or 16 steps of the directory, and those of the map's fill for a row more.
+/// Answers an upquery with the id's rows, in ascending order. Answers with no step `NR_STRANGER` where
+/// another map opened the upquery; `NR_TOO_MANY`, `NR_NOT_SORTED` and `NR_BAD_ROW` for rows that aren't an
+/// id's; and `NR_STALE` where the upquery isn't open. Else `NR_DONE`; or `NR_NO_SLOT` where readers hold
+/// slots, and else `NR_ALL_FILLED`, and it is open still. Takes 8 or 16 steps of the directory, and those of
+/// the map's fill for a row more.
 #[unsafe(no_mangle)]
 pub extern "C" fn nr_fill_id(writer: &mut NrIdWriter, upquery: &NrUpquery, rows: &[Row]) -> u32
-    ensures { WhenLive ⊤ (IdWriterTurns (FillsIdByCode upquery.now rows.now)) writer.old.live writer.new.live result }
+    ensures { WhenLive ⊤ (IdWriterTurns (WithOwn upquery.now ⊤ (FillsIdByCode upquery.now rows.now))) writer.old.live writer.new.live result }
 {
     if !writer.is_live() {
         return NR_CLOSED;
     }
     let side = writer.side();
+    if !side.ledger.is_own(upquery) {
+        return NR_STRANGER;
+    }
     if let Some(code) = id_refusal(side.map.rows(), rows) {
         return code;
     }
@@ -68,18 +73,22 @@ pub extern "C" fn nr_fill_id(writer: &mut NrIdWriter, upquery: &NrUpquery, rows:
     }
 }
 
-/// Takes an upquery back: its id has no way then, and may be claimed again. Answers `NR_CANCELLED`;
-/// `NR_STALE` where it isn't open, with no step; or `NR_WORN` where its ticket number is the last one,
+/// Takes an upquery back: its id has no way then, and may be claimed again. Answers `NR_CANCELLED`; with no
+/// step `NR_STRANGER` where another map opened it, and `NR_STALE` where it isn't open; or `NR_WORN` where its ticket number is the last one,
 /// and it is open still. Takes 8 or 16 steps of the directory, 2 of the map, and 1 of the directory; 1 of
 /// the map and no more where it is worn.
 #[unsafe(no_mangle)]
 pub extern "C" fn nr_withdraw_id(writer: &mut NrIdWriter, upquery: &NrUpquery) -> u32
-    ensures { WhenLive ⊤ (IdWriterTurns (WithdrawsByCode upquery.now)) writer.old.live writer.new.live result }
+    ensures { WhenLive ⊤ (IdWriterTurns (WithOwn upquery.now ⊤ (WithdrawsByCode upquery.now))) writer.old.live writer.new.live result }
 {
     if !writer.is_live() {
         return NR_CLOSED;
     }
-    take_back(writer.side(), *upquery)
+    let side = writer.side();
+    if !side.ledger.is_own(upquery) {
+        return NR_STRANGER;
+    }
+    take_back(side, *upquery)
 }
 
 /// Takes an upquery back that a writer opened, where these are its numbers.

@@ -1,17 +1,15 @@
-//! The id writer's handle: a box of the id writer's side, or none, whose type names no other type, so that C
-//! may hold it.
+//! The id writer's handle. Its type has no parameter, so that C may hold it, and all that is done with it is
+//! done with the `Handle` that it is lent as.
 ghost use Rattle.std.specs.Prelude.{◌≡◌, List, [], ◌∷◌};
 ghost use Rattle.std.specs.Bool.{OnFalse, OnTrue};
 ghost use base.Stored.{coded_list};
+ghost use Rattle.nr_c.specs.contracts.id_writer_side.IdWriterSide.{the_row};
 ghost use Rattle.nr_c.specs.declared.id_writer_side.IdWriterSide.{IdWriterSide};
-ghost use Rattle.nr_c.specs.IdWriterHandles.{id_writer_side_coded, id_writer_handle_owns};
+ghost use Rattle.nr_c.specs.Handles.{handle_owns, side_coded};
 
 use crate::id_writer_side::IdWriterSide;
-use crate::parts::Parts;
 use std::alloc::Global;
 use std::marker::Model;
-use std::mem::{self, ManuallyDrop};
-use std::ptr;
 
 /// C starts one as zeros, which leads nowhere, as does one that was closed; it never copies one that
 /// leads somewhere. It can't be dropped: its owner ends what it leads to. That it may go to another
@@ -19,13 +17,13 @@ use std::ptr;
 /// type that can't be dropped.
 #[repr(C)]
 pub struct NrIdWriter {
-    pub(crate) ptr: *mut u8,
+    ptr: *mut u8,
     alloc: Global,
-    pub ghost live: { List IdWriterSide } by { coded_list id_writer_side_coded },
+    pub ghost live: { List IdWriterSide } by { coded_list (side_coded the_row) },
 }
 
 impl Model for NrIdWriter {
-    ghost also_owns = { λ s. id_writer_handle_owns s.alloc s.ptr s.live };
+    ghost also_owns = { λ s. handle_owns the_row s.alloc s.ptr s.live };
 }
 
 impl NrIdWriter {
@@ -34,9 +32,7 @@ impl NrIdWriter {
         requires empty { self.old.live ≡ [] }
         ensures { self.new.live ≡ b.value ∷ [] }
     {
-        let empty = mem::replace(self, NrIdWriter::of_parts(Parts::of(b)));
-        // It owns nothing, so nothing is lost with it.
-        let _ = unsafe { ManuallyDrop::new_unchecked(empty) };
+        self.handle().lead_to(b)
     }
 
     /// Whether it leads somewhere.
@@ -45,7 +41,7 @@ impl NrIdWriter {
         ensures live { OnTrue result ((side : IdWriterSide) × (self.new.live ≡ side ∷ [])) }
         ensures empty { OnFalse result (self.new.live ≡ []) }
     {
-        !self.ptr.is_null()
+        self.handle().is_live()
     }
 
     /// Gives back what the handle leads to. It leads nowhere then.
@@ -54,44 +50,6 @@ impl NrIdWriter {
         ensures ends { (side : IdWriterSide) → self.old.live ≡ side ∷ [] → result ≡ side }
         ensures empty { self.new.live ≡ [] }
     {
-        let handle = mem::replace(self, NrIdWriter::empty(alloc));
-        Box::into_inner(handle.into_box())
-    }
-
-    fn empty(alloc: Global) -> NrIdWriter
-        ensures { result.live ≡ [] }
-    {
-        NrIdWriter {
-            ptr: ptr::null_mut(),
-            alloc,
-        }
-    }
-
-    fn into_box(self) -> Box<IdWriterSide, Global>
-        requires { (side : IdWriterSide) × (self.live ≡ side ∷ []) }
-        ensures { self.live ≡ result.value ∷ [] }
-    {
-        self.into_parts().into_box()
-    }
-
-    fn of_parts(parts: Parts<IdWriterSide, Global>) -> NrIdWriter
-        ensures { result.live ≡ parts.value ∷ [] }
-    {
-        let Parts { ptr, alloc } = parts;
-        NrIdWriter {
-            ptr: ptr as *mut u8,
-            alloc,
-        }
-    }
-
-    fn into_parts(self) -> Parts<IdWriterSide, Global>
-        requires { (side : IdWriterSide) × (self.live ≡ side ∷ []) }
-        ensures { self.live ≡ result.value ∷ [] }
-    {
-        let NrIdWriter { ptr, alloc } = self;
-        Parts {
-            ptr: ptr as *mut IdWriterSide,
-            alloc,
-        }
+        Box::into_inner(self.handle().take(alloc))
     }
 }

@@ -1,10 +1,11 @@
-//! `side` has a file of its own: its clause names the row of the handle, which the file that
-//! declares it cannot import.
+//! `handle` and `side` have a file of their own: their clauses name the row of the handle, which the
+//! file that declares it cannot import.
 ghost use Rattle.std.specs.Prelude.{◌≡◌, [], ◌∷◌};
 ghost use types.Logic.{sem};
-ghost use Rattle.nr_c.specs.IdWriterFollows.{follows_id_writer_side};
+ghost use Rattle.nr_c.specs.IdWriterFollows.{follows_id_writer_side, follows_id_writer, of_handle};
 ghost use Rattle.nr_c.specs.declared.id_writer_side.IdWriterSide.{IdWriterSide as Held};
 
+use crate::handle::Handle;
 use crate::id_writer_handle::NrIdWriter;
 use crate::id_writer_side::IdWriterSide;
 
@@ -15,6 +16,15 @@ impl NrIdWriter {
         ensures* writes_back { sem 𝓛 (follows_id_writer_side self.entry result) }
         ensures value { self.old.live ≡ result.now ∷ [] }
     {
-        unsafe { &mut *(self.ptr as *mut IdWriterSide) }
+        self.handle().token()
+    }
+
+    /// The same word without its name for C.
+    pub fn handle(&mut self) -> &mut Handle<IdWriterSide>
+        ensures* writes_back { sem 𝓛 (follows_id_writer self.entry result) }
+        ensures value { self.old ≡ of_handle result.now }
+    {
+        let whole = self as *mut NrIdWriter;
+        unsafe { &mut *(whole as *mut Handle<IdWriterSide>) }
     }
 }

@@ -6,9 +6,9 @@ use nr_idmap::Upquery;
 use std::marker::Model;
 use std::mem::ManuallyDrop;
 
-/// An upquery in C: for which id and way, by which ticket number it is answered, and which admission of
-/// its map opened it, 1 for the first. An eviction keeps the ticket number, so only the count tells a
-/// second answer from the first one to the way's next upquery.
+/// An upquery in C: for which id and way, by which ticket number it is answered, which admission of
+/// its map opened it, 1 for the first, and which map that is. An eviction keeps the ticket number, so only
+/// the count tells a second answer from the first one to the way's next upquery.
 #[repr(C)]
 #[derive(Clone, Copy)]
 pub struct NrUpquery {
@@ -16,6 +16,7 @@ pub struct NrUpquery {
     pub number: u64,
     pub way: u32,
     pub count: u64,
+    pub map: u64,
 }
 
 /// An upquery that the library keeps while it is open. It may be let go: its writer goes with it, so
@@ -52,11 +53,12 @@ impl KeptUpquery {
         ManuallyDrop::into_inner(self.kept)
     }
 
-    /// Its numbers.
-    pub fn numbers(&self) -> NrUpquery
-        ensures { HasNumbers result self.now }
+    /// Its numbers, with that of its map.
+    pub fn numbers(&self, map: u64) -> NrUpquery
+        ensures numbers { HasNumbers result self.now }
+        ensures map { result.map ≡ map }
     {
-        NrUpquery::of(self.count, &self.kept)
+        NrUpquery::of(map, self.count, &self.kept)
     }
 
     /// Whether it has these numbers.
@@ -73,15 +75,17 @@ impl KeptUpquery {
 
 impl NrUpquery {
     /// Its numbers.
-    pub fn of(count: u64, upquery: &Upquery) -> NrUpquery
+    pub fn of(map: u64, count: u64, upquery: &Upquery) -> NrUpquery
         ensures numbers { owed_of result ≡ upquery.now.owed }
         ensures count { result.count ≡ count }
+        ensures map { result.map ≡ map }
     {
         NrUpquery {
             id: upquery.id(),
             number: upquery.number(),
             way: upquery.way(),
             count,
+            map,
         }
     }
 }

@@ -46,7 +46,7 @@ const _: () = prove!(size_of::<NrPoster>() == 8);
 
 const _: () = prove!(size_of::<NrIdShape>() == 32);
 
-const _: () = prove!(size_of::<NrUpquery>() == 32);
+const _: () = prove!(size_of::<NrUpquery>() == 40);
 
 const _: () = prove!(size_of::<NrIdWriter>() == 8);
 

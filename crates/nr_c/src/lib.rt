@@ -12,6 +12,8 @@
 #![tactic(auto)]
 
 mod codes;
+mod handle;
+mod handle_lend;
 mod id_choices;
 mod id_codes;
 mod id_invalidations;

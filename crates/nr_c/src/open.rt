@@ -3,7 +3,7 @@ ghost use Rattle.std.specs.Prelude.{◌≡◌, ◌↔◌, [], Err, IfOk, IfErr};
 ghost use Rattle.nr_map.specs.Hands.{idle};
 ghost use Rattle.nr_map.specs.Opened.{IsOpened, words_of_large};
 ghost use Rattle.nr_c.specs.Live.{OneMap, WhenBothLive, WhenEmpty, WhenLive, WhenOther};
-ghost use Rattle.nr_c.specs.Openings.{IsNewWriter, IsRefused, Opens, ReturnsReader, TakesReader};
+ghost use Rattle.nr_c.specs.Openings.{EndsReader, IsNewWriter, IsRefused, Opens, ReturnsReader, TakesReader};
 ghost use Rattle.nr_c.specs.Sizes.{TellsSizes, shape_of_sizes};
 
 use crate::codes::{NR_BAD_SIZE, NR_CLOSED, NR_DONE, NR_LIVE, NR_NO_MEMORY, NR_NO_READER};
@@ -142,11 +142,13 @@ pub extern "C" fn nr_return_reader(
 /// handle isn't live.
 #[unsafe(no_mangle)]
 pub extern "C" fn nr_close_reader(alloc: Global, reader: &mut NrReader)
-    ensures { reader.new.live ≡ [] }
+    ensures empty { reader.new.live ≡ [] }
+    ensures ends { EndsReader reader.old.live }
 {
-    if reader.is_live() {
-        drop(reader.close(alloc));
+    if !reader.is_live() {
+        return;
     }
+    drop(reader.close(alloc));
 }
 
 /// Ends the writer. The memory of the map goes with the last handle. Nothing happens where the handle

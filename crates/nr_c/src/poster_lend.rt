@@ -1,10 +1,11 @@
-//! `side` has a file of its own: its clause names the row of the handle, which the file that
-//! declares it cannot import.
+//! `handle` and `side` have a file of their own: their clauses name the row of the handle, which the
+//! file that declares it cannot import.
 ghost use Rattle.std.specs.Prelude.{◌≡◌, [], ◌∷◌};
 ghost use types.Logic.{sem};
-ghost use Rattle.nr_c.specs.PosterFollows.{follows_poster_side};
+ghost use Rattle.nr_c.specs.PosterFollows.{follows_poster_side, follows_poster, of_handle};
 ghost use Rattle.nr_c.specs.declared.poster_side.PosterSide.{PosterSide as Held};
 
+use crate::handle::Handle;
 use crate::poster_handle::NrPoster;
 use crate::poster_side::PosterSide;
 
@@ -15,6 +16,15 @@ impl NrPoster {
         ensures* writes_back { sem 𝓛 (follows_poster_side self.entry result) }
         ensures value { self.old.live ≡ result.now ∷ [] }
     {
-        unsafe { &mut *(self.ptr as *mut PosterSide) }
+        self.handle().token()
+    }
+
+    /// The same word without its name for C.
+    pub fn handle(&mut self) -> &mut Handle<PosterSide>
+        ensures* writes_back { sem 𝓛 (follows_poster self.entry result) }
+        ensures value { self.old ≡ of_handle result.now }
+    {
+        let whole = self as *mut NrPoster;
+        unsafe { &mut *(whole as *mut Handle<PosterSide>) }
     }
 }

@@ -1,7 +1,7 @@
 //! What opens a queue of requests and its handles, and what ends them.
 ghost use Rattle.std.specs.Prelude.{◌≡◌, ◌↔◌, ◌⊎◌, ℕ, [], Err, IfOk, IfErr};
 ghost use Rattle.nr_model.specs.Sizes.{IsBadSize};
-ghost use Rattle.nr_machine.specs.declared.shape.TheConstants.{MAX_LARGE_READERS, MAX_LARGE_SLOTS};
+ghost use Rattle.nr_core.specs.declared.shape.TheConstants.{MAX_LARGE_READERS, MAX_LARGE_SLOTS};
 ghost use Rattle.nr_c.specs.Live.{WhenBothLive, WhenEmpty, WhenOther};
 ghost use Rattle.nr_c.specs.Queues.{IsNewQueue, OneQueue, OpensQueue, ReturnsPoster, TakesPoster};
 

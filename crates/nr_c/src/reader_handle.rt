@@ -1,31 +1,29 @@
-//! A reader's handle: a box of a reader's side, or none, whose type names no other type, so that C
-//! may hold it.
+//! A reader's handle. Its type has no parameter, so that C may hold it, and all that is done with it is
+//! done with the `Handle` that it is lent as.
 ghost use Rattle.std.specs.Prelude.{◌≡◌, List, [], ◌∷◌};
 ghost use Rattle.std.specs.Bool.{OnFalse, OnTrue};
 ghost use base.Stored.{coded_list};
+ghost use Rattle.nr_c.specs.contracts.reader_side.ReaderSide.{the_row};
 ghost use Rattle.nr_c.specs.declared.reader_side.ReaderSide.{ReaderSide};
 ghost use Rattle.nr_c.specs.Hands.{EndsHand};
-ghost use Rattle.nr_c.specs.ReaderHandles.{reader_side_coded, reader_handle_owns};
+ghost use Rattle.nr_c.specs.Handles.{handle_owns, side_coded};
 
-use crate::parts::Parts;
 use crate::reader_side::ReaderSide;
 use nr_map::Reader;
 use std::alloc::Global;
 use std::marker::Model;
-use std::mem::{self, ManuallyDrop};
-use std::ptr;
 
 /// C starts one as zeros, which leads nowhere, as does one that was closed; it never copies one that
 /// leads somewhere. It can't be dropped: its owner ends what it leads to.
 #[repr(C)]
 pub struct NrReader {
-    pub(crate) ptr: *mut u8,
+    ptr: *mut u8,
     alloc: Global,
-    pub ghost live: { List ReaderSide } by { coded_list reader_side_coded },
+    pub ghost live: { List ReaderSide } by { coded_list (side_coded the_row) },
 }
 
 impl Model for NrReader {
-    ghost also_owns = { λ s. reader_handle_owns s.alloc s.ptr s.live };
+    ghost also_owns = { λ s. handle_owns the_row s.alloc s.ptr s.live };
 }
 
 // C may hand it to another thread.
@@ -37,9 +35,7 @@ impl NrReader {
         requires empty { self.old.live ≡ [] }
         ensures { self.new.live ≡ b.value ∷ [] }
     {
-        let empty = mem::replace(self, NrReader::of_parts(Parts::of(b)));
-        // It owns nothing, so nothing is lost with it.
-        let _ = unsafe { ManuallyDrop::new_unchecked(empty) };
+        self.handle().lead_to(b)
     }
 
     /// Whether it leads somewhere.
@@ -48,7 +44,7 @@ impl NrReader {
         ensures live { OnTrue result ((side : ReaderSide) × (self.new.live ≡ side ∷ [])) }
         ensures empty { OnFalse result (self.new.live ≡ []) }
     {
-        !self.ptr.is_null()
+        self.handle().is_live()
     }
 
     /// Ends the reader: what it holds is released, and its share of the map ends. The handle leads nowhere
@@ -59,44 +55,6 @@ impl NrReader {
         ensures own { (side : ReaderSide) → self.old.live ≡ side ∷ [] → result.table ≡ side.map.value }
         ensures empty { self.new.live ≡ [] }
     {
-        let handle = mem::replace(self, NrReader::empty(alloc));
-        Box::into_inner(handle.into_box()).end()
-    }
-
-    fn empty(alloc: Global) -> NrReader
-        ensures { result.live ≡ [] }
-    {
-        NrReader {
-            ptr: ptr::null_mut(),
-            alloc,
-        }
-    }
-
-    fn into_box(self) -> Box<ReaderSide, Global>
-        requires { (side : ReaderSide) × (self.live ≡ side ∷ []) }
-        ensures { self.live ≡ result.value ∷ [] }
-    {
-        self.into_parts().into_box()
-    }
-
-    fn of_parts(parts: Parts<ReaderSide, Global>) -> NrReader
-        ensures { result.live ≡ parts.value ∷ [] }
-    {
-        let Parts { ptr, alloc } = parts;
-        NrReader {
-            ptr: ptr as *mut u8,
-            alloc,
-        }
-    }
-
-    fn into_parts(self) -> Parts<ReaderSide, Global>
-        requires { (side : ReaderSide) × (self.live ≡ side ∷ []) }
-        ensures { self.live ≡ result.value ∷ [] }
-    {
-        let NrReader { ptr, alloc } = self;
-        Parts {
-            ptr: ptr as *mut ReaderSide,
-            alloc,
-        }
+        Box::into_inner(self.handle().take(alloc)).end()
     }
 }

@@ -1,10 +1,11 @@
-//! `side` has a file of its own: its clause names the row of the handle, which the file that
-//! declares it cannot import.
+//! `handle` and `side` have a file of their own: their clauses name the row of the handle, which the
+//! file that declares it cannot import.
 ghost use Rattle.std.specs.Prelude.{◌≡◌, [], ◌∷◌};
 ghost use types.Logic.{sem};
-ghost use Rattle.nr_c.specs.RemainsFollows.{follows_remains_side};
+ghost use Rattle.nr_c.specs.RemainsFollows.{follows_remains_side, follows_remains, of_handle};
 ghost use Rattle.nr_c.specs.declared.remains_side.RemainsSide.{RemainsSide as Held};
 
+use crate::handle::Handle;
 use crate::remains_handle::NrRemains;
 use crate::remains_side::RemainsSide;
 
@@ -15,6 +16,15 @@ impl NrRemains {
         ensures* writes_back { sem 𝓛 (follows_remains_side self.entry result) }
         ensures value { self.old.live ≡ result.now ∷ [] }
     {
-        unsafe { &mut *(self.ptr as *mut RemainsSide) }
+        self.handle().token()
+    }
+
+    /// The same word without its name for C.
+    pub fn handle(&mut self) -> &mut Handle<RemainsSide>
+        ensures* writes_back { sem 𝓛 (follows_remains self.entry result) }
+        ensures value { self.old ≡ of_handle result.now }
+    {
+        let whole = self as *mut NrRemains;
+        unsafe { &mut *(whole as *mut Handle<RemainsSide>) }
     }
 }

@@ -1,30 +1,28 @@
-//! The taker's handle: a box of the taker's side, or none, whose type names no other type, so that C
-//! may hold it.
+//! The taker's handle. Its type has no parameter, so that C may hold it, and all that is done with it is
+//! done with the `Handle` that it is lent as.
 ghost use Rattle.std.specs.Prelude.{◌≡◌, List, [], ◌∷◌};
 ghost use Rattle.std.specs.Bool.{OnFalse, OnTrue};
 ghost use base.Stored.{coded_list};
+ghost use Rattle.nr_c.specs.contracts.taker_side.TakerSide.{the_row};
 ghost use Rattle.nr_c.specs.declared.taker_side.TakerSide.{TakerSide};
-ghost use Rattle.nr_c.specs.TakerHandles.{taker_side_coded, taker_handle_owns};
+ghost use Rattle.nr_c.specs.Handles.{handle_owns, side_coded};
 
-use crate::parts::Parts;
 use crate::taker_side::TakerSide;
 use nr_trigger::Taker;
 use std::alloc::Global;
 use std::marker::Model;
-use std::mem::{self, ManuallyDrop};
-use std::ptr;
 
 /// C starts one as zeros, which leads nowhere, as does one that was closed; it never copies one that
 /// leads somewhere. It can't be dropped: its owner ends what it leads to.
 #[repr(C)]
 pub struct NrTaker {
-    pub(crate) ptr: *mut u8,
+    ptr: *mut u8,
     alloc: Global,
-    pub ghost live: { List TakerSide } by { coded_list taker_side_coded },
+    pub ghost live: { List TakerSide } by { coded_list (side_coded the_row) },
 }
 
 impl Model for NrTaker {
-    ghost also_owns = { λ s. taker_handle_owns s.alloc s.ptr s.live };
+    ghost also_owns = { λ s. handle_owns the_row s.alloc s.ptr s.live };
 }
 
 // C may hand it to another thread.
@@ -36,9 +34,7 @@ impl NrTaker {
         requires empty { self.old.live ≡ [] }
         ensures { self.new.live ≡ b.value ∷ [] }
     {
-        let empty = mem::replace(self, NrTaker::of_parts(Parts::of(b)));
-        // It owns nothing, so nothing is lost with it.
-        let _ = unsafe { ManuallyDrop::new_unchecked(empty) };
+        self.handle().lead_to(b)
     }
 
     /// Whether it leads somewhere.
@@ -47,7 +43,7 @@ impl NrTaker {
         ensures live { OnTrue result ((side : TakerSide) × (self.new.live ≡ side ∷ [])) }
         ensures empty { OnFalse result (self.new.live ≡ []) }
     {
-        !self.ptr.is_null()
+        self.handle().is_live()
     }
 
     /// Ends the taker, and its share of the queue. The handle leads nowhere then.
@@ -56,45 +52,7 @@ impl NrTaker {
         ensures ends { (side : TakerSide) → self.old.live ≡ side ∷ [] → result ≡ side.taker }
         ensures empty { self.new.live ≡ [] }
     {
-        let handle = mem::replace(self, NrTaker::empty(alloc));
-        let side = Box::into_inner(handle.into_box());
+        let side = Box::into_inner(self.handle().take(alloc));
         side.taker
-    }
-
-    fn empty(alloc: Global) -> NrTaker
-        ensures { result.live ≡ [] }
-    {
-        NrTaker {
-            ptr: ptr::null_mut(),
-            alloc,
-        }
-    }
-
-    fn into_box(self) -> Box<TakerSide, Global>
-        requires { (side : TakerSide) × (self.live ≡ side ∷ []) }
-        ensures { self.live ≡ result.value ∷ [] }
-    {
-        self.into_parts().into_box()
-    }
-
-    fn of_parts(parts: Parts<TakerSide, Global>) -> NrTaker
-        ensures { result.live ≡ parts.value ∷ [] }
-    {
-        let Parts { ptr, alloc } = parts;
-        NrTaker {
-            ptr: ptr as *mut u8,
-            alloc,
-        }
-    }
-
-    fn into_parts(self) -> Parts<TakerSide, Global>
-        requires { (side : TakerSide) × (self.live ≡ side ∷ []) }
-        ensures { self.live ≡ result.value ∷ [] }
-    {
-        let NrTaker { ptr, alloc } = self;
-        Parts {
-            ptr: ptr as *mut TakerSide,
-            alloc,
-        }
     }
 }

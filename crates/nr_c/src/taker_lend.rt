@@ -1,10 +1,11 @@
-//! `side` has a file of its own: its clause names the row of the handle, which the file that
-//! declares it cannot import.
+//! `handle` and `side` have a file of their own: their clauses name the row of the handle, which the
+//! file that declares it cannot import.
 ghost use Rattle.std.specs.Prelude.{◌≡◌, [], ◌∷◌};
 ghost use types.Logic.{sem};
-ghost use Rattle.nr_c.specs.TakerFollows.{follows_taker_side};
+ghost use Rattle.nr_c.specs.TakerFollows.{follows_taker_side, follows_taker, of_handle};
 ghost use Rattle.nr_c.specs.declared.taker_side.TakerSide.{TakerSide as Held};
 
+use crate::handle::Handle;
 use crate::taker_handle::NrTaker;
 use crate::taker_side::TakerSide;
 
@@ -15,6 +16,15 @@ impl NrTaker {
         ensures* writes_back { sem 𝓛 (follows_taker_side self.entry result) }
         ensures value { self.old.live ≡ result.now ∷ [] }
     {
-        unsafe { &mut *(self.ptr as *mut TakerSide) }
+        self.handle().token()
+    }
+
+    /// The same word without its name for C.
+    pub fn handle(&mut self) -> &mut Handle<TakerSide>
+        ensures* writes_back { sem 𝓛 (follows_taker self.entry result) }
+        ensures value { self.old ≡ of_handle result.now }
+    {
+        let whole = self as *mut NrTaker;
+        unsafe { &mut *(whole as *mut Handle<TakerSide>) }
     }
 }

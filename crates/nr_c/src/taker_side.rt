@@ -7,7 +7,7 @@ use std::sync::Arc;
 
 /// The taker with its share of the queue, and the posters that no handle has yet. The queue's keys
 /// are below that number.
-/// It begins with the queue, by whose place null.c tells two queues apart.
+/// It begins with the queue, by whose place what `embed/null` makes tells two queues apart.
 #[derive(Drop)]
 #[repr(C)]
 pub struct TakerSide {

@@ -1,29 +1,27 @@
-//! The writer's handle: a box of the writer's side, or none, whose type names no other type, so that C
-//! may hold it.
+//! The writer's handle. Its type has no parameter, so that C may hold it, and all that is done with it is
+//! done with the `Handle` that it is lent as.
 ghost use Rattle.std.specs.Prelude.{◌≡◌, List, [], ◌∷◌};
 ghost use Rattle.std.specs.Bool.{OnFalse, OnTrue};
 ghost use base.Stored.{coded_list};
+ghost use Rattle.nr_c.specs.contracts.writer_side.WriterSide.{the_row};
 ghost use Rattle.nr_c.specs.declared.writer_side.WriterSide.{WriterSide};
-ghost use Rattle.nr_c.specs.WriterHandles.{writer_side_coded, writer_handle_owns};
+ghost use Rattle.nr_c.specs.Handles.{handle_owns, side_coded};
 
-use crate::parts::Parts;
 use crate::writer_side::WriterSide;
 use std::alloc::Global;
 use std::marker::Model;
-use std::mem::{self, ManuallyDrop};
-use std::ptr;
 
 /// C starts one as zeros, which leads nowhere, as does one that was closed; it never copies one that
 /// leads somewhere. It can't be dropped: its owner ends what it leads to.
 #[repr(C)]
 pub struct NrWriter {
-    pub(crate) ptr: *mut u8,
+    ptr: *mut u8,
     alloc: Global,
-    pub ghost live: { List WriterSide } by { coded_list writer_side_coded },
+    pub ghost live: { List WriterSide } by { coded_list (side_coded the_row) },
 }
 
 impl Model for NrWriter {
-    ghost also_owns = { λ s. writer_handle_owns s.alloc s.ptr s.live };
+    ghost also_owns = { λ s. handle_owns the_row s.alloc s.ptr s.live };
 }
 
 // C may hand it to another thread.
@@ -35,9 +33,7 @@ impl NrWriter {
         requires empty { self.old.live ≡ [] }
         ensures { self.new.live ≡ b.value ∷ [] }
     {
-        let empty = mem::replace(self, NrWriter::of_parts(Parts::of(b)));
-        // It owns nothing, so nothing is lost with it.
-        let _ = unsafe { ManuallyDrop::new_unchecked(empty) };
+        self.handle().lead_to(b)
     }
 
     /// Whether it leads somewhere.
@@ -46,7 +42,7 @@ impl NrWriter {
         ensures live { OnTrue result ((side : WriterSide) × (self.new.live ≡ side ∷ [])) }
         ensures empty { OnFalse result (self.new.live ≡ []) }
     {
-        !self.ptr.is_null()
+        self.handle().is_live()
     }
 
     /// Gives back what the handle leads to. It leads nowhere then.
@@ -55,44 +51,6 @@ impl NrWriter {
         ensures ends { (side : WriterSide) → self.old.live ≡ side ∷ [] → result ≡ side }
         ensures empty { self.new.live ≡ [] }
     {
-        let handle = mem::replace(self, NrWriter::empty(alloc));
-        Box::into_inner(handle.into_box())
-    }
-
-    fn empty(alloc: Global) -> NrWriter
-        ensures { result.live ≡ [] }
-    {
-        NrWriter {
-            ptr: ptr::null_mut(),
-            alloc,
-        }
-    }
-
-    fn into_box(self) -> Box<WriterSide, Global>
-        requires { (side : WriterSide) × (self.live ≡ side ∷ []) }
-        ensures { self.live ≡ result.value ∷ [] }
-    {
-        self.into_parts().into_box()
-    }
-
-    fn of_parts(parts: Parts<WriterSide, Global>) -> NrWriter
-        ensures { result.live ≡ parts.value ∷ [] }
-    {
-        let Parts { ptr, alloc } = parts;
-        NrWriter {
-            ptr: ptr as *mut u8,
-            alloc,
-        }
-    }
-
-    fn into_parts(self) -> Parts<WriterSide, Global>
-        requires { (side : WriterSide) × (self.live ≡ side ∷ []) }
-        ensures { self.live ≡ result.value ∷ [] }
-    {
-        let NrWriter { ptr, alloc } = self;
-        Parts {
-            ptr: ptr as *mut WriterSide,
-            alloc,
-        }
+        Box::into_inner(self.handle().take(alloc))
     }
 }

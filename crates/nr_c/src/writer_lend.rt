@@ -1,10 +1,11 @@
-//! `side` has a file of its own: its clause names the row of the handle, which the file that
-//! declares it cannot import.
+//! `handle` and `side` have a file of their own: their clauses name the row of the handle, which the
+//! file that declares it cannot import.
 ghost use Rattle.std.specs.Prelude.{◌≡◌, [], ◌∷◌};
 ghost use types.Logic.{sem};
-ghost use Rattle.nr_c.specs.WriterFollows.{follows_writer_side};
+ghost use Rattle.nr_c.specs.WriterFollows.{follows_writer_side, follows_writer, of_handle};
 ghost use Rattle.nr_c.specs.declared.writer_side.WriterSide.{WriterSide as Held};
 
+use crate::handle::Handle;
 use crate::writer_handle::NrWriter;
 use crate::writer_side::WriterSide;
 
@@ -15,6 +16,15 @@ impl NrWriter {
         ensures* writes_back { sem 𝓛 (follows_writer_side self.entry result) }
         ensures value { self.old.live ≡ result.now ∷ [] }
     {
-        unsafe { &mut *(self.ptr as *mut WriterSide) }
+        self.handle().token()
+    }
+
+    /// The same word without its name for C.
+    pub fn handle(&mut self) -> &mut Handle<WriterSide>
+        ensures* writes_back { sem 𝓛 (follows_writer self.entry result) }
+        ensures value { self.old ≡ of_handle result.now }
+    {
+        let whole = self as *mut NrWriter;
+        unsafe { &mut *(whole as *mut Handle<WriterSide>) }
     }
 }

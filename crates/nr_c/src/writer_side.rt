@@ -9,7 +9,7 @@ use std::alloc::Global;
 use std::sync::Arc;
 
 /// The writer with its share of the map, and the readers that no handle has yet.
-/// It begins with the map, by whose place null.c tells two maps apart.
+/// It begins with the map, by whose place what `embed/null` makes tells two maps apart.
 #[derive(Drop)]
 #[repr(C)]
 pub struct WriterSide {

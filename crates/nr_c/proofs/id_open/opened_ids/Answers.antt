@@ -8,7 +8,8 @@ use Rattle.nr_c.proofs.id_open.opened_ids.Goals as goal
 pub invariant_of-side-clause-owed : goal.invariant_of-side-clause-owed
 invariant_of-side-clause-owed c =
     let table = c.in_ok-map-2.map.value in
-    subst (λ (kept : Entries). AreOf table kept) (sym c.in-Ok.ensures) (none_is_of_any table c.ways.result)
+    subst (λ (kept : Entries). AreOf table kept) (sym c.in-Ok.ensures)
+    (none_is_of_any table c.args.number c.ways.result)
 
 pub invariant_of-side-clause-spares : goal.invariant_of-side-clause-spares
 invariant_of-side-clause-spares c =

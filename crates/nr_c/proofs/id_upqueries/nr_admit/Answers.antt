@@ -28,6 +28,7 @@ returns-in-Ok c = inr (inr (
           admits = c.in-Ok.ensures.admits.1;
           numbers = c.keep_new.ensures.numbers;
           count = c.keep_new.ensures.count;
+          map = c.keep_new.ensures.map;
           keeps = c.keep_new.ensures.keeps;
         });
   },

@@ -8,6 +8,17 @@ use Rattle.nr_idmap.specs.Tags.{IsIdSet}
 use Rattle.nr_c.specs.IdRows.{AreIdRowsRefused}
 use Rattle.nr_c.proofs.id_upqueries.nr_fill_id.Goals as goal
 
+pub returns-then-not-is_own : goal.returns-then-not-is_own
+returns-then-not-is_own c = inr (record {
+  old = c.side-side.result.now;
+  new = _;
+  was = ap (λ handle. handle.live) (sym c.is_live.ensures.same) ∙ c.side-side.ensures.value;
+  is = refl;
+  map = refl;
+  spare = refl;
+  made = inl (record { code_is = refl; other = c.if-not-is_own.ensures.other; stays = refl; keeps = refl; told = tt });
+})
+
 pub returns-in-Some : goal.returns-in-Some
 returns-in-Some c =
     let bound = c.rows.ensures ∙ ap id_rows (c.deref.ensures ∙ sym c.side-side.result.now.own) in
@@ -18,14 +29,16 @@ returns-in-Some c =
       is = refl;
       map = refl;
       spare = refl;
-      made =
-          inl
-          (record {
-            refused = subst (λ (n : ℕ). AreIdRowsRefused n c.args.rows.now c.in-Some.code) bound
-                c.in-Some.ensures;
-            stays = refl;
-            keeps = refl;
-          });
+      made = inr (
+        c.if-not-is_own.ensures.own,
+        inl
+            (record {
+              refused = subst (λ (n : ℕ). AreIdRowsRefused n c.args.rows.now c.in-Some.code) bound
+                  c.in-Some.ensures;
+              stays = refl;
+              keeps = refl;
+            }),
+      );
     })
 
 pub returns-in_default-give_up : goal.returns-in_default-give_up
@@ -38,11 +51,13 @@ returns-in_default-give_up c =
       is = refl;
       map = refl;
       spare = refl;
-      made =
-          inr (
-            subst (λ (n : ℕ). IsIdSet n c.args.rows.now) bound c.in_default.ensures,
-            inl (record { code_is = refl; stays = refl; none = c.in_default-give_up.ensures }),
-          );
+      made = inr (
+        c.if-not-is_own.ensures.own,
+        inr (
+          subst (λ (n : ℕ). IsIdSet n c.args.rows.now) bound c.in_default.ensures,
+          inl (record { code_is = refl; stays = refl; none = c.in_default-give_up.ensures }),
+        ),
+      );
     })
 
 pub returns-in-Ok : goal.returns-in-Ok
@@ -55,20 +70,22 @@ returns-in-Ok c =
       is = refl;
       map = refl;
       spare = refl;
-      made =
-          inr (
-            subst (λ (n : ℕ). IsIdSet n c.args.rows.now) bound c.in_default.ensures,
-            inr
-                (record {
-                  upquery = c.in-Some-give_up.opened;
-                  rest = _;
-                  gives_up = c.in-Some-give_up.ensures;
-                  answer = Ok tt;
-                  code_is = refl;
-                  fills = c.in-Ok.ensures.fills;
-                  keeps = refl;
-                }),
-          );
+      made = inr (
+        c.if-not-is_own.ensures.own,
+        inr (
+          subst (λ (n : ℕ). IsIdSet n c.args.rows.now) bound c.in_default.ensures,
+          inr
+              (record {
+                upquery = c.in-Some-give_up.opened;
+                rest = _;
+                gives_up = c.in-Some-give_up.ensures;
+                answer = Ok tt;
+                code_is = refl;
+                fills = c.in-Ok.ensures.fills;
+                keeps = refl;
+              }),
+        ),
+      );
     })
 
 pub returns-in-Err-Closed : goal.returns-in-Err-Closed
@@ -81,23 +98,25 @@ returns-in-Err-Closed c =
       is = refl;
       map = refl;
       spare = refl;
-      made =
-          inr (
-            subst (λ (n : ℕ). IsIdSet n c.args.rows.now) bound c.in_default.ensures,
-            inr
-                (record {
-                  upquery = c.in-Some-give_up.opened;
-                  rest = _;
-                  gives_up = c.in-Some-give_up.ensures;
-                  answer = Err unfilled.Closed;
-                  code_is = refl;
-                  fills = subst
-                      (λ (why : Unfilled). FillsId c.in-Some-give_up.opened.owed c.args.rows.now
-                      c.side-side.result.now.writer c.fill.new.writer (Err why))
-                      c.in-Err-Closed.field-0-is c.in-Err-Closed.ensures.fills;
-                  keeps = refl;
-                }),
-          );
+      made = inr (
+        c.if-not-is_own.ensures.own,
+        inr (
+          subst (λ (n : ℕ). IsIdSet n c.args.rows.now) bound c.in_default.ensures,
+          inr
+              (record {
+                upquery = c.in-Some-give_up.opened;
+                rest = _;
+                gives_up = c.in-Some-give_up.ensures;
+                answer = Err unfilled.Closed;
+                code_is = refl;
+                fills = subst
+                    (λ (why : Unfilled). FillsId c.in-Some-give_up.opened.owed c.args.rows.now
+                    c.side-side.result.now.writer c.fill.new.writer (Err why))
+                    c.in-Err-Closed.field-0-is c.in-Err-Closed.ensures.fills;
+                keeps = refl;
+              }),
+        ),
+      );
     })
 
 pub returns-in-Err-NoSlot : goal.returns-in-Err-NoSlot
@@ -110,21 +129,23 @@ returns-in-Err-NoSlot c =
       is = refl;
       map = refl;
       spare = refl;
-      made =
-          inr (
-            subst (λ (n : ℕ). IsIdSet n c.args.rows.now) bound c.in_default.ensures,
-            inr
-                (record {
-                  upquery = c.in-Some-give_up.opened;
-                  rest = _;
-                  gives_up = c.in-Some-give_up.ensures;
-                  answer = Err (unfilled.NoSlot c.in-Err-NoSlot.opened c.in-Err-NoSlot.counts);
-                  code_is = c.of_no_slot.ensures;
-                  fills = subst
-                      (λ (why : Unfilled). FillsId c.in-Some-give_up.opened.owed c.args.rows.now
-                      c.side-side.result.now.writer c.fill.new.writer (Err why))
-                      c.in-Err-NoSlot.field-0-is c.in-Err-NoSlot.ensures.fills;
-                  keeps = c.keep.ensures;
-                }),
-          );
+      made = inr (
+        c.if-not-is_own.ensures.own,
+        inr (
+          subst (λ (n : ℕ). IsIdSet n c.args.rows.now) bound c.in_default.ensures,
+          inr
+              (record {
+                upquery = c.in-Some-give_up.opened;
+                rest = _;
+                gives_up = c.in-Some-give_up.ensures;
+                answer = Err (unfilled.NoSlot c.in-Err-NoSlot.opened c.in-Err-NoSlot.counts);
+                code_is = c.of_no_slot.ensures;
+                fills = subst
+                    (λ (why : Unfilled). FillsId c.in-Some-give_up.opened.owed c.args.rows.now
+                    c.side-side.result.now.writer c.fill.new.writer (Err why))
+                    c.in-Err-NoSlot.field-0-is c.in-Err-NoSlot.ensures.fills;
+                keeps = c.keep.ensures;
+              }),
+        ),
+      );
     })

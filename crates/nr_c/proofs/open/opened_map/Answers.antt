@@ -1,7 +1,7 @@
 use Rattle.std.proofs.Common.{◌<◌, ◌+◌, ℕ, ⊎_elim, inl, inr, arith}
 use Rattle.nr_model.specs.Sizes.{IsBadSize}
-use Rattle.nr_machine.specs.Sizes.{IsBadLargeShape, IsBadShape}
-use Rattle.nr_machine.specs.declared.shape.Shape.{Shape}
+use Rattle.nr_core.specs.Sizes.{IsBadLargeShape, IsBadShape}
+use Rattle.nr_core.specs.declared.shape.Shape.{Shape}
 use Rattle.nr_c.proofs.open.opened_map.Goals as goal
 
 narrower : (few many size : ℕ) → few < many + 1 → IsBadSize many size → IsBadSize few size

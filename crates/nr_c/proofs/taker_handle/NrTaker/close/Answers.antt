@@ -1,7 +1,7 @@
-use Rattle.std.proofs.Common.{ap, ◌∙◌}
+use Rattle.std.proofs.Common.{ap, sym, ◌∙◌}
 use Rattle.nr_c.proofs.taker_handle.NrTaker.close.Goals as goal
 
-pub into_box-requires : goal.into_box-requires
-into_box-requires c =
+pub take-requires : goal.take-requires
+take-requires c =
     let (side, is) = c.requires in
-    (side, ap (λ handle. handle.live) c.replace-handle.ensures.value ∙ is)
+    (side, sym (ap (λ handle. handle.live) c.handle.ensures.value) ∙ is)

@@ -1,0 +1,176 @@
+-- The code of `handle` in each type of handle: it lends the word as a `Handle`, and the handle follows it. Assumes
+-- `Logic`.
+--     function       the code, at what stands behind its references
+--     Alike S T      the row S of a handle, and that what one owns in memory the `Handle` with the row T owns, and back
+use mathlib.Core.Path.{◌≡◌, refl}
+use Prim.Native.Nat.{ℕ}
+use mathlib.Core.List.{[], ◌∷◌}
+use seplogic.Ra.Ura.{Ura}
+use mir.Syntax.{Fn, Ty, named, erased, mut, ty_ptr, ty_ref, local, value_local, place, deref, copy, rv_opd, addr_of}
+use mir.Syntax.{seq, assign, block, return}
+use mir.Val.{Val, vptr}
+use base.Logic.{SProp, ent, sep, emp, via, fst∗}
+use base.Fml.{Lft, GName, Share, ftrue, flft}
+use prog.Wp.{Env, Calls, Loops, WpFn, Tables}
+use types.Logic.{Logic, sem}
+use types.Mut.{open_ref}
+use contract.Monad.{fact}
+use sound.WpLaws.{WpFn-mono}
+use types.Kit.{‵, ◌⊛◌, some, at_ret, ◌$◌, ◌∵◌, !, qed, by, move, keep, use1, drop, split, join, pick, fsplit}
+use types.Kit.{fsplit3, fjoin, suffices, frame, done, raw, later, await, group}
+use types.Run.{stop, of_opd, first, blocks, exec, returns, enter, addr}
+use types.ByLocal.{alloc_all, pass_all, free_all, look_at, get, through, sets, env, sets_last}
+use denote.RattleType.{RattleType, owns}
+use denote.Memory.{mem}
+use denote.Ref.{MutRef, mut_vals, mut_Tells}
+use denote.Signature.{plain, mut_ref_to}
+use denote.Steps.{nothing}
+use denote.Triple.Clauses.{Clauses, Ended, closing}
+use denote.Triple.Entry.{on_entry}
+use denote.Triple.Spec.{Meets}
+use denote.Triple.Walked.{says, Stays, stay_dropped, walk_of, ends_at, walked, walk_Meets, Goes-spent_ref}
+use denote.Exit.{no}
+use denote.Follow.{follows, Part, lends_Part}
+use Rattle.std.proofs.VecSteps.Shapes.{after}
+
+abbrev pub function : Ty → Ty → Ty → Ty → Fn
+function t u w v =
+    record {
+      lifetimes = 1;
+      outlives = [];
+      ty_params = [];
+      givens = 0;
+      params = 1;
+      locals = local (ty_ref (named 0) mut t) value_local ∷ local (ty_ref (named 0) mut u) value_local
+          ∷ local ty_ptr value_local ∷ local (ty_ref erased mut t) value_local ∷ local ty_ptr value_local ∷ [];
+      body = seq (assign (place 2 []) (addr_of (place 1 (deref v ∷ []))))
+          (seq
+          (block
+          (seq (assign (place 4 []) (rv_opd (copy (place 2 []))))
+          (assign (place 3 []) (addr_of (place 4 (deref w ∷ []))))))
+          (seq (assign (place 0 []) (rv_opd (copy (place 3 [])))) return));
+    }
+
+abbrev pub There : (S T : RattleType) → (S.Denot → T.Denot) → Type 2
+There S T to =
+    (M : Type 1) (𝓤 : Ura M) (𝓛 : Logic 𝓤) (s : S.Denot) (b o : ℕ)
+    → ent 𝓤 (sem 𝓛 ((mem S).own_at s b o)) (sem 𝓛 ((mem T).own_at (to s) b o))
+
+abbrev pub Back : (S T : RattleType) → (T.Denot → S.Denot) → Type 2
+Back S T of =
+    (M : Type 1) (𝓤 : Ura M) (𝓛 : Logic 𝓤) (b o : ℕ) (h : T.Denot)
+    → ent 𝓤 (sep 𝓤 (sem 𝓛 ((mem T).own_at h b o)) (sem 𝓛 ftrue)) (sem 𝓛 ((mem S).own_at (of h) b o))
+
+pub record Alike (S T : RattleType) : Type 2 where
+  pub of : T.Denot → S.Denot
+  pub to : S.Denot → T.Denot
+  pub is : (s : S.Denot) → s ≡ of (to s)
+  pub there : There S T to
+  pub back : Back S T of
+
+module _ {S T : RattleType} (I : Alike S T) (t u w v : Ty) where
+  abbrev code : Fn
+  code = function t u w v
+
+  abbrev ended : Ended
+  ended =
+      record {
+        signature = record {
+          lifetimes = 1;
+          outlives = [];
+          params = mut_ref_to (0 ∷ []) tt (plain (λ _. S)) ∷ [];
+          result = mut_ref_to (0 ∷ []) tt (plain (λ _. T));
+        };
+        kept = (no, tt);
+      }
+
+  abbrev stayed : Stays ended.signature.params ended.kept
+  stayed = (stay_dropped (mut_ref_to (0 ∷ []) tt (plain (λ _. S))) no, tt)
+
+  abbrev spec : {M : Type 1} {𝓤 : Ura M} (𝓛 : Logic 𝓤) → Clauses 𝓤 ended
+  spec {𝓤 = 𝓤} 𝓛 κs a =
+      record {
+        ghost = Unit {0};
+        requires = λ _. emp 𝓤;
+        ensures = λ _ r _. sep 𝓤 (sem 𝓛 (follows S T a.0.ghost_name r.ghost_name I.of)) (fact 𝓤 (a.0.now ≡ I.of r.now));
+      }
+
+  module _ {M : Type 1} {𝓤 : Ura M} (𝓛 : Logic 𝓤) (κ : Lft) (q : Share) (rb ro : ℕ) (γ : GName) (s : S.Denot) where
+    open 𝓛 use {H, A}
+
+    abbrev bound : (walk_of 𝓛 ended stayed (spec 𝓛)).Ghost
+    bound = (
+      ((κ, tt), (q, tt), tt, (record { ref_ptr = (rb, ro); ghost_name = γ; now = s }, tt), (vptr rb ro ∷ [], tt)),
+      tt,
+    )
+
+    abbrev Post : Val → SProp 𝓤
+    Post = (walk_of 𝓛 ended stayed (spec 𝓛)).post bound
+
+    exits : (γ' : GName)
+        → ent 𝓤
+        (sep 𝓤
+        (sem 𝓛
+        ((MutRef (named 0) κ T).own_val (record { ref_ptr = (rb, ro); ghost_name = γ'; now = I.to s })
+        (vptr rb ro ∷ [])))
+        (sep 𝓤 (A.lft κ q) (sem 𝓛 (follows S T γ γ' I.of))))
+        (Post (vptr rb ro))
+    exits γ' =
+        qed 𝓛
+        (‵ ((MutRef (named 0) κ T).own_val (record { ref_ptr = (rb, ro); ghost_name = γ'; now = I.to s })
+        (vptr rb ro ∷ []))
+        ∷ ‵ (flft κ q) ∷ ‵ (follows S T γ γ' I.of) ∷ [])
+        ∵
+        suffices
+        ! _
+        (ends_at 𝓛 ended stayed (spec 𝓛) bound (vptr rb ro)
+        (record { ref_ptr = (rb, ro); ghost_name = γ'; now = I.to s }) (tt, tt) (tt, tt))
+        $
+        nothing ! $ nothing ! $ fjoin ! $ join ! $ nothing ! $ move ! (2 ∷ 0 ∷ []) $ join ! $ join ! $ frame ! $ says
+        ! (I.is s) $ done !
+
+    module _ (C : Calls 𝓤 H) (Λ : Loops 𝓤 H) where
+      walk : ent 𝓤
+          (on_entry 𝓛 ended.signature (κ, tt) (q, tt) (record { ref_ptr = (rb, ro); ghost_name = γ; now = s }, tt)
+          (vptr rb ro ∷ [], tt))
+          (WpFn 𝓤 H C Λ code (vptr rb ro ∷ []) Post)
+      walk =
+          qed 𝓛
+          ((‵ (flft κ q) ⊛ ‵ ftrue) ∷
+          ‵ (owns (MutRef (named 0) κ S ∷ []) (record { ref_ptr = (rb, ro); ghost_name = γ; now = s }, tt)
+          (vptr rb ro ∷ [], tt))
+          ∷ [])
+          ∵
+          enter ! C Λ code (vptr rb ro ∷ []) _ $
+          alloc_all ! (λ l. pass_all ! refl ((tt, tt), tt) $
+          let En : Env 𝓤 H = env code.locals l in
+          move ! (1 ∷ []) $ fsplit ! $ fsplit3 ! $ drop ! $ move ! (3 ∷ []) $ split ! $ move ! (2 ∷ 3 ∷ 0 ∷ []) $
+          open_ref ! tt (mem S) {x = s} {b = rb} {o = ro} $
+          use1 𝓛 (‵ ((mem T).own_at (I.to s) rb ro)) (I.there M 𝓤 𝓛 s rb ro) $
+          sets ! (addr ! (through ! refl (stop !))) refl (tt, tt) $
+          first ! $ blocks ! $
+          sets ! (of_opd ! (get ! refl)) refl (tt, tt) $
+          sets_last ! (addr ! (through ! refl (stop !))) refl (tt, tt) $
+          exec ! C Λ En (after 2 code.body) (at_ret En Post) $
+          sets ! (of_opd ! (get ! refl)) refl (tt, tt) $
+          nothing ! $ move ! (2 ∷ 3 ∷ 4 ∷ 1 ∷ 0 ∷ []) $ group ! 5 $
+          use1 𝓛
+          (later
+          (some
+          (λ (γ' : GName). raw
+          (Part 𝓛 S T I.of (named 0) κ q rb ro rb ro γ (sem 𝓛 ftrue) (I.back M 𝓤 𝓛 rb ro) (I.to s) γ'))))
+          (lends_Part 𝓛 S T I.of (named 0) κ q rb ro rb ro γ (sem 𝓛 ftrue) (I.back M 𝓤 𝓛 rb ro) (S.coded.code s)
+          (S.coded.code s) (I.to s))
+          $ await ! tt $ pick ! (λ γ'.
+          returns ! (look_at ! 0 refl) $ free_all ! refl $
+          keep ! (0 ∷ []) $ by ! (exits γ')))
+
+  pub meets : {M : Type 1} {𝓤 : Ura M} (𝓛 : Logic 𝓤) (𝓣 : Tables 𝓤 𝓛.H)
+      → Meets 𝓛 ended.signature (WpFn 𝓤 𝓛.H 𝓣.C 𝓣.Λ code) (closing 𝓛 ended (spec 𝓛))
+  meets {𝓤 = 𝓤} 𝓛 𝓣 =
+      walk_Meets 𝓛 ended stayed (Goes-spent_ref 𝓛 1 (0 ∷ []) tt (plain (λ _. S)), tt) (spec 𝓛)
+      (WpFn 𝓤 𝓛.H 𝓣.C 𝓣.Λ code) (WpFn-mono 𝓤 𝓛.H 𝓛.laws 𝓣 code)
+      (walked 𝓛 ended stayed (spec 𝓛) (WpFn 𝓤 𝓛.H 𝓣.C 𝓣.Λ code) (λ κs. (mut_vals, tt))
+      (λ κs. (mut_Tells (named 0) κs.0 S, tt))
+      (λ κs qs bounds a g are. via 𝓤 _ (fst∗ 𝓤 _ (emp 𝓤))
+      (walk 𝓛 κs.0 qs.0 a.0.ref_ptr.0 a.0.ref_ptr.1 a.0.ghost_name a.0.now 𝓣.C 𝓣.Λ)))
