@@ -1,0 +1,35 @@
+-- A new store: no upquery is open, and there is a slot for each way, each reader and one more.
+use Rattle.std.proofs.Common.{◌≡◌, ◌<◌, ◌≤◌, ◌+◌, ◌-◌, ◌*◌, ℕ, List, [], ◌∷◌, ◌++◌, ap, sym, ◌∙◌, arith}
+use Rattle.nr_core.specs.declared.shape.Shape.{Shape}
+use Rattle.nr_ids.specs.Events.{Event, name_of}
+use Rattle.nr_idmap.specs.declared.id_map.IdShape.{IdShape}
+use Rattle.nr_idmap.specs.IdOpenings.{OpensIds, shape_of}
+use Rattle.nr_idmap.specs.Keepers.{IdCaller, IdTable, Keeper, owed_for, state_at}
+use Rattle.nr_map.specs.SlotBounds.{HasRoomForAll}
+use Rattle.nr_cache.specs.declared.shape.StoreShape.{StoreShape}
+use Rattle.nr_cache.specs.Openings.{ids_of}
+use Rattle.nr_cache.specs.Stores.{OwesNone}
+
+pub opened_owes_none : (shape : IdShape) (table : IdTable) (keeper : Keeper) (readers : List IdCaller)
+    → OpensIds shape table keeper readers → OwesNone keeper
+opened_owes_none shape table keeper readers opens way =
+    ap (λ (seen : List Event). owed_for way (name_of seen way) (state_at keeper way)) opens.clerk.1
+
+-- the shape of the map
+shape_is : (shape : IdShape) (table : IdTable) (keeper : Keeper) (readers : List IdCaller)
+    → OpensIds shape table keeper readers → keeper.table.map.shape ≡ shape_of shape
+shape_is shape table keeper readers opens = ap (λ (t : IdTable). t.map.shape) opens.writes ∙ opens.opened.sizes
+
+pub opened_has_room : (shape : StoreShape) (table : IdTable) (keeper : Keeper) (readers : List IdCaller)
+    → OpensIds (ids_of shape) table keeper readers → HasRoomForAll keeper.table.map
+opened_has_room shape table keeper readers opens =
+    let is = shape_is (ids_of shape) table keeper readers opens in
+    let keys = ap (λ (s : Shape). s.keys) is in
+    let reads = ap (λ (s : Shape). s.readers) is in
+    let slots = ap (λ (s : Shape). s.slots) is in
+    omega (arith, keys, reads, slots)
+
+pub opened_has_row : (shape : StoreShape) (table : IdTable) (keeper : Keeper) (readers : List IdCaller)
+    → OpensIds (ids_of shape) table keeper readers → 0 < keeper.table.map.shape.rows - 1
+opened_has_row shape table keeper readers opens =
+    let rows = ap (λ (s : Shape). s.rows) (shape_is (ids_of shape) table keeper readers opens) in omega (arith, rows)

@@ -1,0 +1,20 @@
+use Rattle.std.proofs.Common.{◌≡◌, Some, sym, subst, ◌∙◌}
+use Rattle.std.proofs.lemmas.List.Elements.{All-pop}
+use Rattle.nr_idmap.specs.declared.id_map.IdShape.{IdShape}
+use Rattle.nr_idmap.specs.IdOpenings.{OpensIds}
+use Rattle.nr_idmap.specs.Keepers.{IdCaller, id_table_of}
+use Rattle.nr_cache.specs.Openings.{ids_of}
+use Rattle.nr_cache.proofs.Opening.{opened_has_room, opened_has_row, opened_owes_none}
+use Rattle.nr_cache.proofs.store.Store.open.Goals as goal
+
+pub invariant_of-store : goal.invariant_of-store
+invariant_of-store c =
+    let opens = subst (λ (s : IdShape). OpensIds s c.in-Ok.map c.in-Ok.writer c.in-Ok.readers.items)
+    c.of_ids.ensures.value c.in-Ok.ensures.ok in
+    let its = All-pop (λ (r : IdCaller). id_table_of r ≡ c.in-Ok.map) c.in-Ok.readers.items c.pop.new.self.items
+    (Some c.in-Some.asker) c.in-Some.ensures.items opens.own in (
+      its.1 ∙ sym opens.writes,
+      opened_owes_none (ids_of c.args.shape.now) c.in-Ok.map c.in-Ok.writer c.in-Ok.readers.items opens,
+      opened_has_room c.args.shape.now c.in-Ok.map c.in-Ok.writer c.in-Ok.readers.items opens,
+      opened_has_row c.args.shape.now c.in-Ok.map c.in-Ok.writer c.in-Ok.readers.items opens,
+    )

@@ -1,0 +1,14 @@
+use Rattle.std.proofs.Common.{sym, ◌∙◌}
+use Rattle.nr_cache.proofs.Seen.{puts_by, same_changing}
+use Rattle.nr_cache.proofs.store.Store.put.Goals as goal
+
+pub returns-clause-puts : goal.returns-clause-puts
+returns-clause-puts g c =
+    puts_by g.R.RowRoom.shows c.args.id c.args.stamp c.args.value
+    (record { keeper = c.self.inside.writer; asker = c.self.inside.asker; underway = c.self.inside.flights })
+    c.args.self.now c.args.had.now
+    (record { keeper = c.put_value.new.writer; asker = c.put_value.new.asker; underway = c.outdate.new.self })
+    c.put_value.new.had c.outdate.result c.put_value.result c.self.view_is c.outdate.ensures
+    (sym (same_changing c.args.id c.args.id c.self.inside.flights c.outdate.new.self c.outdate.result c.outdate.ensures)
+    ∙ sym c.is_changing.ensures ∙ c.if-is_changing.false)
+    c.put_value.ensures.puts

@@ -1,0 +1,81 @@
+-- A store's calls from its opening on: what happened to its flights, which sets it put, and which came out.
+use Rattle.std.specs.Prelude.{◌≡◌, ℕ, true, false, List, [], ◌∷◌, ◌++◌, Option, Some, None}
+use Rattle.nr_model.specs.declared.rows.Row.{Row}
+use Rattle.nr_board.specs.declared.answers.Reaped.{Reaped}
+use Rattle.nr_board.specs.declared.answers.Reclaimed.{Reclaimed}
+use Rattle.nr_map.specs.GivenBack as map
+use Rattle.nr_map.specs.GivenBack.{IsEachOnce}
+use Rattle.nr_map.specs.Remains.{AllComeOut, Given, Left, TakenApart}
+use Rattle.nr_cache.specs.declared.flights.Flight.{Flight}
+use Rattle.nr_cache.specs.declared.store.Begun.TheVariants as begun
+use Rattle.nr_cache.specs.declared.store.Landed.TheVariants as landed
+use Rattle.nr_cache.specs.Flights.{Ends, EndsChange, none_under_way}
+use Rattle.nr_cache.specs.Histories.{Began, ChangeBegan, ChangeEnded, Ended, Event, Invalidated, IsFresh, IsInOrder}
+use Rattle.nr_cache.specs.StoreSeen.{StoreSeen}
+use Rattle.nr_cache.specs.Stores.{BeginsFlight, ChangesId, Invalidates, IsStill, LandsHeld, Puts, Reaps, set_of}
+
+module _ {Room : Type 0} (shows : Room → List Row → Type 0) where
+  -- a call, by what its contract says
+  pub data Calls : StoreSeen → List Event → List (List Row) → List Given → StoreSeen → Type 0 where
+    Loads : (id mark : ℕ) (flight : Flight) (old new : StoreSeen) → BeginsFlight id mark old new (begun.Load flight)
+        → IsStill old new → Calls old (Began flight ∷ []) [] [] new
+    Waits : (id mark : ℕ) (flight : Flight) (old new : StoreSeen) → BeginsFlight id mark old new (begun.Wait flight)
+        → Calls old [] [] [] new
+    LoadsAlone : (id mark : ℕ) (old new : StoreSeen) → BeginsFlight id mark old new begun.Alone → IsStill old new
+        → Calls old [] [] [] new
+    IsHeld : (id mark : ℕ) (old new : StoreSeen) → BeginsFlight id mark old new begun.Held → IsStill old new
+        → Calls old [] [] [] new
+    LandsIt : (number stamp value : ℕ) (old new : StoreSeen) (room : Room) (given : Reclaimed)
+        → (lands : LandsHeld shows number stamp value old new room given)
+        → Calls old (Ended lands.flight ∷ []) (set_of lands.flight.id stamp value ∷ []) lands.puts.0 new
+    EndsIt : (number : ℕ) (flight : Flight) (old new : StoreSeen) → Ends number old.underway new.underway (Some flight)
+        → IsStill old new → Calls old (Ended flight ∷ []) [] [] new
+    EndsNone : (number : ℕ) (old new : StoreSeen) → Ends number old.underway new.underway None → IsStill old new
+        → Calls old [] [] [] new
+    InvalidatesIt : (id : ℕ) (old new : StoreSeen) (had : _) → Invalidates id old new had
+        → Calls old (Invalidated id ∷ []) [] [] new
+    PutsIt : (id stamp value : ℕ) (old new : StoreSeen) (before room : Room) (given : Reclaimed)
+        → (puts : Puts shows id stamp value old before new room (landed.Held given))
+        → Calls old (Invalidated id ∷ []) (set_of id stamp value ∷ []) puts.puts.0 new
+    PutsNone : (id stamp value : ℕ) (old new : StoreSeen) (before room : Room)
+        → Puts shows id stamp value old before new room landed.Own → Calls old (Invalidated id ∷ []) [] [] new
+    ChangeBegins : (id : ℕ) (old new : StoreSeen) → ChangesId id old new true
+        → Calls old (ChangeBegan id ∷ []) [] [] new
+    ChangeRefused : (id : ℕ) (old new : StoreSeen) → ChangesId id old new false
+        → Calls old (Invalidated id ∷ []) [] [] new
+    ChangeEnds : (id : ℕ) (old new : StoreSeen) → EndsChange id old.underway new.underway true
+        → new ≡ record old { underway = new.underway } → Calls old (ChangeEnded id ∷ []) [] [] new
+    ReapsIt : (old new : StoreSeen) (before room : Room) (answer : Reaped)
+        → (reaps : Reaps shows old before new room answer) → Calls old [] [] reaps.out new
+
+  -- the store after any such calls, with what happened to its flights, the latest first, the sets that it put, in
+  -- order,
+  -- and those that came out
+  pub data StoreRun : List Event → List (List Row) → List Given → StoreSeen → Type 0 where
+    Opens : (room changes : ℕ) (store : StoreSeen) → store.underway ≡ none_under_way room changes
+        → map.Run shows store.keeper.writer [] [] → StoreRun [] [] [] store
+    Goes : (history events : List Event) (put more : List (List Row)) (given out : List Given) (old new : StoreSeen)
+        → StoreRun history put given old → Calls old events more out new
+        → StoreRun (events ++ history) (put ++ more) (given ++ out) new
+
+  -- Of each id one flight at most is under way, each that began has ended once or is under way, and one whose value is
+  -- to be held is fresh.
+  abbrev pub StoresInOrder : Type 0
+  StoresInOrder =
+      (history : List Event) (put : List (List Row)) (given : List Given) (store : StoreSeen)
+      → StoreRun history put given store → IsInOrder history store.underway
+
+  -- A value that landed and is held: since its flight began its id was neither invalidated nor put nor changed.
+  abbrev pub HoldsFresh : Type 0
+  HoldsFresh =
+      (history : List Event) (put : List (List Row)) (given : List Given) (number stamp value : ℕ)
+      (old new : StoreSeen) (room : Room) (some : Reclaimed)
+      → StoreRun history put given old → (lands : LandsHeld shows number stamp value old new room some)
+      → IsFresh lands.flight history
+
+  -- Each value that was held comes out once: by then, or when the map is taken apart.
+  abbrev pub EachValueComesOutOnce : Type 0
+  EachValueComesOutOnce =
+      (history : List Event) (put : List (List Row)) (given rest : List Given) (store : StoreSeen) (left : Left)
+      → StoreRun history put given store → TakenApart store.keeper.writer left → AllComeOut shows left rest
+      → IsEachOnce put (given ++ rest)

@@ -1,0 +1,41 @@
+//! Finds by a reader, which take no lock.
+ghost use Rattle.std.specs.Prelude.{◌≡◌, ◌<◌};
+ghost use Rattle.nr_idmap.specs.IdHands.{hand_table_of};
+ghost use Rattle.nr_cache.specs.Finds.{FindsValue, tells_value};
+
+use nr_idmap::{FoundId, IdHand, IdMap};
+use nr_model::Row;
+
+/// A value that a reader holds, with the stamp that it came with.
+#[derive(Clone, Copy, Debug, PartialEq, Eq)]
+pub struct FoundValue {
+    pub stamp: u64,
+    pub value: u64,
+}
+
+/// The value of an id, if it has one. The reader holds it until its next find, or until it is released:
+/// meanwhile it doesn't come out, whatever happens to the id. Takes the steps of a hand's `pin`: where the
+/// reader holds the id's value still, 1 load of the map and 1 look at the way's mark.
+pub fn find(map: &IdMap, hand: &mut IdHand, id: u64) -> Option<FoundValue>
+    requires own { hand_table_of hand.old ≡ map.now }
+    requires id { 0 < id }
+    ensures own { hand_table_of hand.new ≡ map.now }
+    ensures finds { FindsValue id hand.old hand.new result }
+{
+    match hand.pin(map, id) {
+        FoundId::Rows => value_of(hand.rows()),
+        FoundId::Pending | FoundId::Moved | FoundId::Absent => None,
+    }
+}
+
+fn value_of(rows: &[Row]) -> Option<FoundValue>
+    ensures { result ≡ tells_value rows.now }
+{
+    match rows {
+        [row, ..] => Some(FoundValue {
+            stamp: row.a,
+            value: row.b,
+        }),
+        [] => None,
+    }
+}

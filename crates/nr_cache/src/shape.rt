@@ -1,0 +1,50 @@
+//! The sizes of a store.
+ghost use Rattle.std.specs.Prelude.{◌≡◌, ◌↔◌, IsTrue};
+ghost use Rattle.nr_cache.specs.Openings.{IsBadStoreShape, ids_of};
+ghost use Rattle.nr_idmap.specs.IdOpenings.{IsBadIdShape};
+
+use nr_idmap::IdShape;
+use nr_model::is_bad_size;
+
+/// How many groups a store may have.
+pub const MAX_STORE_GROUPS: u32 = 516_000;
+/// How many readers may find in it.
+pub const MAX_STORE_READERS: u32 = 65_533;
+
+/// A store holds at most eight values a group, each of which may have one of sixteen places. An id's two
+/// groups are chosen by a hash with that key, which should be drawn at random and told to nobody who may
+/// choose ids. It has room for so many flights, and so many changes of the base, at a time.
+#[derive(Clone, Copy, Debug)]
+pub struct StoreShape {
+    pub groups: u32,
+    pub key: u64,
+    pub readers: u32,
+    pub flights: u32,
+    pub changes: u32,
+}
+
+impl StoreShape {
+    /// Whether an opening refuses it: there must be 1 to 516,000 groups and 1 to 65,533 readers.
+    pub fn is_bad(&self) -> bool
+        ensures { IsTrue result ↔ IsBadStoreShape self.now }
+    {
+        is_bad_size(MAX_STORE_GROUPS, self.groups) || is_bad_size(MAX_STORE_READERS, self.readers)
+    }
+
+    // The shape of the store's map: a reader more, which claims, and a slot for each way, each reader, the
+    // writer's own and one more.
+    pub(crate) fn of_ids(&self) -> IdShape
+        requires { IsBadStoreShape self.now → ⊥ }
+        ensures value { result ≡ ids_of self.now }
+        ensures good { IsBadIdShape result → ⊥ }
+    {
+        IdShape {
+            groups: self.groups,
+            key: self.key,
+            slots: 8 * self.groups + self.readers + 3,
+            readers: self.readers + 1,
+            rows: 1,
+            first_number: 0,
+        }
+    }
+}
