@@ -1,8 +1,13 @@
-//! Tests of the running map by public calls alone: threads, the largest maps, and sets that come back.
+//! Tests of the running map, of the directory of ids and of the map over ids, by public calls alone: threads, the
+//! largest maps, and sets that come back.
 #![tactic(auto)]
 
 #[cfg(test)]
+mod cache;
+#[cfg(test)]
 mod calls;
+#[cfg(test)]
+mod ids;
 #[cfg(test)]
 mod kept;
 #[cfg(test)]
@@ -14,9 +19,15 @@ mod pins;
 #[cfg(test)]
 mod reclaiming;
 #[cfg(test)]
+mod retired;
+#[cfg(test)]
 mod same;
 #[cfg(test)]
+mod sizes;
+#[cfg(test)]
 mod slots;
+#[cfg(test)]
+mod specified;
 #[cfg(test)]
 mod tagged;
 #[cfg(test)]

@@ -168,3 +168,37 @@ fn pinned_set_outlives_an_update(rt: HostRuntime) {
     worked.looks(&rt, 0, &[(7, 8)]);
     worked.stands(&rt, 1, KeyKind::Asked);
 }
+
+// Pins key 0, and reads the row that is held once the key was evicted and the pin gathered.
+fn row_of_gathered(map: &ReaderMap, writer: &mut Writer, reader: Reader) -> Option<Row>
+    requires own { (reader.table ≡ map.now) × (writer.old.table ≡ map.now) }
+    requires key { 0 < map.now.shape.keys }
+{
+    let mut pin = match map.pin(reader, 0) {
+        Ok(pin) => pin,
+        Err(_) => return None,
+    };
+    map.evict(writer, 0);
+    map.gather_pin(writer, &mut pin);
+    let row = if pin.len() == 1 {
+        Some(pin.row(map, 0))
+    } else {
+        None
+    };
+    pin.release(map);
+    row
+}
+
+#[test]
+fn gathered_pin_keeps_its_set(rt: HostRuntime) {
+    let mut worked = Worked::open(&rt, 1, 3, 1, 0);
+    worked.asks(&rt, 0, Told::Send(0, 0));
+    worked.fills(&rt, 0, 0, &[(5, 6)]);
+    let Worked {
+        map,
+        mut writer,
+        reader,
+    } = worked;
+    let held = row_of_gathered(&map, &mut writer, reader);
+    is_same(&rt, &held, &Some(Row { a: 5, b: 6 }));
+}

@@ -95,7 +95,7 @@ fn fits(call: &Call, rows: u32) -> bool
 }
 
 // The map replies so to these calls, one after another: each reply stands beside its call, as `Debug` writes it.
-fn replies<R: Abort + AllocGlobal>(
+pub(crate) fn replies<R: Abort + AllocGlobal>(
     rt: &R,
     map: &mut SeqMap,
     calls: &[(Call, &str)],

@@ -9,4 +9,6 @@ mod names_at_refused_memory;
 #[cfg(test)]
 mod same;
 #[cfg(test)]
+mod specified;
+#[cfg(test)]
 mod words;

@@ -1,11 +1,10 @@
 //! Each call that takes memory is made once more where it was refused, so these tests pass as well
 //! where any one request for memory is refused (tests/refused_memory refuses each in turn).
-ghost use Rattle.std.specs.Prelude.{◌≡◌, ◌<◌, ◌≤◌};
+ghost use Rattle.std.specs.Prelude.{◌<◌, ◌≤◌};
 ghost use Rattle.nr_names.specs.declared.table.TheConstants.{MAX_KEYS};
 
 use crate::same::is_same;
-use nr_names::{Keys, NameFault, NameTable, Names};
-use std::marker::Brand;
+use nr_names::{NameFault, NameTable, Names};
 use std::process::Abort;
 use std::sync::Wait;
 use std::thread::{Threads, join};
@@ -119,8 +118,8 @@ fn names_have_at_most_255_bytes(rt: HostRuntime) {
     reads_both(&rt, &table, &mut String::new(rt.alloc()), "a", longest);
 }
 
-fn opened_shared<K: Keys>(rt: &(impl Abort + AllocGlobal), keys: u32) -> Names<K>
-    requires { (0 < keys) × (keys ≤ MAX_KEYS) × (keys ≡ K.keys) }
+fn opened_shared(rt: &(impl Abort + AllocGlobal), keys: u32) -> Names
+    requires { (0 < keys) × (keys ≤ MAX_KEYS) }
 {
     let opened = match Names::open(rt.alloc(), keys) {
         Err(NameFault::Memory) => Names::open(rt.alloc(), keys),
@@ -129,7 +128,7 @@ fn opened_shared<K: Keys>(rt: &(impl Abort + AllocGlobal), keys: u32) -> Names<K
     opened.expect(rt, "a table opens where one request for memory is refused")
 }
 
-fn interned_shared<K: Keys>(rt: &impl Wait, names: &Names<K>, name: &str) -> Reply {
+fn interned_shared(rt: &impl Wait, names: &Names, name: &str) -> Reply {
     match names.intern(rt, name) {
         Err(NameFault::Memory) => names.intern(rt, name),
         reply => reply,
@@ -137,9 +136,9 @@ fn interned_shared<K: Keys>(rt: &impl Wait, names: &Names<K>, name: &str) -> Rep
 }
 
 // Reads a name that has the number over a text that is another.
-fn read_shared_over<K: Keys>(
+fn read_shared_over(
     rt: &(impl Wait + Abort),
-    names: &Names<K>,
+    names: &Names,
     number: u32,
     text: &mut String,
     before: &str,
@@ -153,7 +152,7 @@ fn read_shared_over<K: Keys>(
 }
 
 // Reads the two names of a table, one over the other.
-fn reads_both_shared<K: Keys>(rt: &(impl Wait + Abort), names: &Names<K>, text: &mut String) {
+fn reads_both_shared(rt: &(impl Wait + Abort), names: &Names, text: &mut String) {
     read_shared_over(rt, names, 0, text, "");
     reads(rt, text, "a");
     read_shared_over(rt, names, 1, text, "a");
@@ -161,17 +160,13 @@ fn reads_both_shared<K: Keys>(rt: &(impl Wait + Abort), names: &Names<K>, text: 
 }
 
 // Number 2 names nothing, which leaves the text as it was.
-fn stays_shared<K: Keys>(rt: &(impl Wait + Abort), names: &Names<K>, text: &mut String) {
+fn stays_shared(rt: &(impl Wait + Abort), names: &Names, text: &mut String) {
     says(rt, names.name(rt, 2, text), Err(NameFault::NoName));
     reads(rt, text, "b");
 }
 
 // The number is no name's yet.
-fn names_nothing_shared<K: Keys>(
-    rt: &(impl Wait + Abort + AllocGlobal),
-    names: &Names<K>,
-    number: u32,
-) {
+fn names_nothing_shared(rt: &(impl Wait + Abort + AllocGlobal), names: &Names, number: u32) {
     let mut text = String::new(rt.alloc());
     says(
         rt,
@@ -181,7 +176,7 @@ fn names_nothing_shared<K: Keys>(
 }
 
 // What two threads are answered that intern one name.
-fn both_intern<K: Keys, R: Threads + Wait + Sync>(rt: &R, names: &Names<K>) -> (Reply, Reply) {
+fn both_intern<R: Threads + Wait + Sync>(rt: &R, names: &Names) -> (Reply, Reply) {
     join(
         rt,
         || interned_shared(rt, names, "a"),
@@ -190,7 +185,7 @@ fn both_intern<K: Keys, R: Threads + Wait + Sync>(rt: &R, names: &Names<K>) -> (
 }
 
 // What the calls are answered that come after those of the threads.
-fn intern_four<K: Keys>(rt: &impl Wait, names: &Names<K>) -> [Reply; 4] {
+fn intern_four(rt: &impl Wait, names: &Names) -> [Reply; 4] {
     [
         interned_shared(rt, names, "b"),
         names.intern(rt, "c"),
@@ -199,10 +194,8 @@ fn intern_four<K: Keys>(rt: &impl Wait, names: &Names<K>) -> [Reply; 4] {
     ]
 }
 
-fn gives_two_numbers<K: Keys, R: Threads + Wait + Abort + AllocGlobal + Sync>(rt: &R)
-    requires { K.keys ≡ 2 }
-{
-    let names: Names<K> = opened_shared(rt, 2);
+fn gives_two_numbers<R: Threads + Wait + Abort + AllocGlobal + Sync>(rt: &R) {
+    let names = opened_shared(rt, 2);
     is_same(rt, &both_intern(rt, &names), &(Ok(0), Ok(0)));
     names_nothing_shared(rt, &names, 1);
     is_same(
@@ -217,7 +210,7 @@ fn gives_two_numbers<K: Keys, R: Threads + Wait + Abort + AllocGlobal + Sync>(rt
 
 #[test]
 fn a_shared_table_gives_numbers(rt: HostRuntime) {
-    gives_two_numbers::<Brand, _>(&rt);
+    gives_two_numbers(&rt);
 }
 
 const WORDS: [&str; 5] = ["ant", "bee", "cow", "dog", "elk"];
@@ -225,7 +218,7 @@ const WORDS: [&str; 5] = ["ant", "bee", "cow", "dog", "elk"];
 // What each word was answered, in the order of the words.
 type Replies = [Reply; 5];
 
-fn forwards<K: Keys>(rt: &impl Wait, names: &Names<K>) -> Replies {
+fn forwards(rt: &impl Wait, names: &Names) -> Replies {
     let mut replies = [Err(NameFault::NoName); 5];
     for i in 0..5 {
         replies[i] = interned_shared(rt, names, WORDS[i]);
@@ -233,7 +226,7 @@ fn forwards<K: Keys>(rt: &impl Wait, names: &Names<K>) -> Replies {
     replies
 }
 
-fn backwards<K: Keys>(rt: &impl Wait, names: &Names<K>) -> Replies {
+fn backwards(rt: &impl Wait, names: &Names) -> Replies {
     let mut replies = [Err(NameFault::NoName); 5];
     for i in 0..5 {
         replies[4 - i] = interned_shared(rt, names, WORDS[4 - i]);
@@ -243,10 +236,7 @@ fn backwards<K: Keys>(rt: &impl Wait, names: &Names<K>) -> Replies {
 
 // What two threads are answered that intern the same words, one of them from the end, so either may find a
 // word new.
-fn both_intern_words<K: Keys, R: Threads + Wait + Sync>(
-    rt: &R,
-    names: &Names<K>,
-) -> (Replies, Replies) {
+fn both_intern_words<R: Threads + Wait + Sync>(rt: &R, names: &Names) -> (Replies, Replies) {
     join(rt, || forwards(rt, names), || backwards(rt, names))
 }
 
@@ -264,9 +254,9 @@ fn numbers_of(rt: &impl Abort, replies: &Replies) -> [u32; 5] {
 }
 
 // Reads a word by its number, over the word before it.
-fn reads_word<K: Keys>(
+fn reads_word(
     rt: &(impl Wait + Abort),
-    names: &Names<K>,
+    names: &Names,
     number: u32,
     text: &mut String,
     before: &str,
@@ -277,12 +267,7 @@ fn reads_word<K: Keys>(
     is_same(rt, &names.intern(rt, word), &Ok(number));
 }
 
-fn reads_words<K: Keys>(
-    rt: &(impl Wait + Abort),
-    names: &Names<K>,
-    numbers: [u32; 5],
-    text: &mut String,
-) {
+fn reads_words(rt: &(impl Wait + Abort), names: &Names, numbers: [u32; 5], text: &mut String) {
     let mut before = "";
     for i in 0..5 {
         reads_word(rt, names, numbers[i], text, before, WORDS[i]);
@@ -290,10 +275,8 @@ fn reads_words<K: Keys>(
     }
 }
 
-fn agrees_on_five_words<K: Keys, R: Threads + Wait + Abort + AllocGlobal + Sync>(rt: &R)
-    requires { K.keys ≡ 5 }
-{
-    let names: Names<K> = opened_shared(rt, 5);
+fn agrees_on_five_words<R: Threads + Wait + Abort + AllocGlobal + Sync>(rt: &R) {
+    let names = opened_shared(rt, 5);
     let (here, there) = both_intern_words(rt, &names);
     is_same(rt, &here, &there);
     reads_words(
@@ -308,5 +291,5 @@ fn agrees_on_five_words<K: Keys, R: Threads + Wait + Abort + AllocGlobal + Sync>
 
 #[test]
 fn threads_agree_on_names_and_numbers(rt: HostRuntime) {
-    agrees_on_five_words::<Brand, _>(&rt);
+    agrees_on_five_words(&rt);
 }

@@ -48,7 +48,7 @@ fn hears<M: Measure, R: Wait>(
 {
     let (reader, poster) = tokens;
     let gate = OpenGate;
-    let mut client = Client::open(service, reader, poster, &gate);
+    let mut client = Client::of_service(service, reader, poster, &gate);
     let amount = client.wait_applied(rt, applied, 3);
     let mut rows = RowSet::new();
     let got = client.get(rt, 0, 1, &mut rows);
@@ -69,7 +69,7 @@ fn tells<M: Measure, R: Wait + Clock>(
     requires reached { (amount : _) (note : _) → note.table ≡ service.now.map → M.reached amount note }
 {
     let (writer, taker) = tokens;
-    let mut flow = Dataflow::open(service, writer, taker, Plain { bound: 0 });
+    let mut flow = Dataflow::of_service(service, writer, taker, Plain { bound: 0 });
     thread::sleep(rt, Duration::from_millis(50));
     let more = Delta {
         plus: true,

@@ -75,8 +75,8 @@ fn is_late<R: Abort + Wait + Clock>(rt: &R, opened: Opened) {
         poster,
     } = opened;
     let gate = OpenGate;
-    let mut client = Client::open(&service, reader, poster, &gate);
-    let mut flow = Dataflow::open(&service, writer, taker, Plain { bound: 0 });
+    let mut client = Client::of_service(&service, reader, poster, &gate);
+    let mut flow = Dataflow::of_service(&service, writer, taker, Plain { bound: 0 });
     is_late_and_filled(rt, &mut client, &mut flow);
     is_same(rt, &(end_client(client), end_flow(flow)), &(false, false));
 }
@@ -92,7 +92,7 @@ fn gets_soon<R: Wait + Clock>(
 {
     let (reader, poster) = tokens;
     let gate = OpenGate;
-    let mut client = Client::open(service, reader, poster, &gate);
+    let mut client = Client::of_service(service, reader, poster, &gate);
     let ended = gets_in(rt, &mut client, 60_000, 10);
     end_client(client);
     ended
@@ -104,7 +104,7 @@ fn fills_later<R: Wait + Clock>(rt: &R, service: &Service, tokens: (Writer, Take
     requires queue { let (_, taker) = tokens in (taker.queue ≡ service.now.queue.id) × (taker.keys ≡ 2) }
 {
     let (writer, taker) = tokens;
-    let mut flow = Dataflow::open(service, writer, taker, Plain { bound: 0 });
+    let mut flow = Dataflow::of_service(service, writer, taker, Plain { bound: 0 });
     for _ in 0..1_000 {
         thread::sleep(rt, Duration::from_millis(50));
         if flow.turn(rt) == Turn::Filled(0) {

@@ -44,7 +44,7 @@ fn fills_and_sleeps<R: Wait + Clock>(
     requires queue { let (_, taker) = tokens in (taker.queue ≡ service.now.queue.id) × (taker.keys ≡ 2) }
 {
     let (writer, taker) = tokens;
-    let mut flow = Dataflow::open(service, writer, taker, Plain { bound: 0 });
+    let mut flow = Dataflow::of_service(service, writer, taker, Plain { bound: 0 });
     comes(rt, &told.kept);
     flow.turn(rt);
     told.filled.store(true, Ordering::SeqCst);
@@ -67,7 +67,7 @@ fn posts_what_it_kept<R: Wait + Clock>(
     requires queue { let (_, poster) = tokens in (poster.queue ≡ service.now.queue.id) × (poster.keys ≡ 2) }
 {
     let (reader, poster) = tokens;
-    let mut client = Client::open(service, reader, poster, &OpenGate);
+    let mut client = Client::of_service(service, reader, poster, &OpenGate);
     let mut rows = RowSet::new();
     client.get(rt, 0, 1, &mut rows);
     client.get(rt, 1, 1, &mut rows);
@@ -77,9 +77,8 @@ fn posts_what_it_kept<R: Wait + Clock>(
     client.get(rt, 1, 1, &mut rows);
     let is_awake = comes(rt, &told.came);
     let lobby = service.lobby();
-    let mut guest = lobby.guest();
-    lobby.close(&mut guest);
-    lobby.ring(rt, &mut guest);
+    lobby.close(rt);
+    lobby.ring(rt, &mut lobby.guest());
     let got = client.get(rt, 1, 1, &mut rows);
     end_client(client);
     (is_awake, got)

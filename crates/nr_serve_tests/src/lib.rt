@@ -1,9 +1,11 @@
 //! Tests of what runs in threads, by public calls alone: the tickets' way to the dataflow, its turns and the clients'
-//! gets, one after another and in threads of their own, and whole loads.
+//! gets, by number and by id, one after another and in threads of their own, and whole loads.
 #![tactic(auto)]
 
 #[cfg(test)]
 mod applied;
+#[cfg(test)]
+mod by_id;
 #[cfg(test)]
 mod deadlines;
 #[cfg(test)]
@@ -16,6 +18,10 @@ mod loads;
 mod lobbies;
 #[cfg(test)]
 mod opened;
+#[cfg(test)]
+mod pairs;
+#[cfg(test)]
+mod parts;
 #[cfg(test)]
 mod queues;
 #[cfg(test)]

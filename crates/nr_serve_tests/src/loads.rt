@@ -29,14 +29,14 @@ impl Notes {
 /// Lets each of two readers pass once the other has come in the same get, for which it looks within
 /// one call. After it once said no it lets nobody pass.
 #[derive(Drop)]
-struct Meeting {
+pub(crate) struct Meeting {
     one: Notes,
     two: Notes,
     has_failed: AtomicBool,
 }
 
 impl Meeting {
-    fn new() -> Meeting {
+    pub(crate) fn new() -> Meeting {
         Meeting {
             one: Notes::new(),
             two: Notes::new(),
@@ -55,7 +55,7 @@ impl Meeting {
     }
 
     /// Whether each get up to that was answered once, in order.
-    fn are_answered(&self, gets: u64) -> bool {
+    pub(crate) fn are_answered(&self, gets: u64) -> bool {
         !self.has_failed.load(Ordering::SeqCst)
             && self.one.answered.load(Ordering::SeqCst) == gets
             && self.two.answered.load(Ordering::SeqCst) == gets

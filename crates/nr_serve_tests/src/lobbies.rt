@@ -8,31 +8,46 @@ use nr_trigger::{Taker, Triggers};
 use std::process::Abort;
 use std::sync::Wait;
 
-fn counts<R: Abort>(rt: &R, lobby: &Lobby, guest: &mut Guest, count: u64, is_closed: bool)
-    requires { guest.old.lobby ≡ lobby.now }
-    ensures { guest.new.lobby ≡ lobby.now }
-{
+fn counts<R: Abort + Wait>(rt: &R, lobby: &Lobby, count: u64, is_closed: bool) {
     is_same(
         rt,
-        &(lobby.count(guest), lobby.is_closed(guest)),
+        &(lobby.count(rt), lobby.is_closed(rt)),
         &(count, is_closed),
     );
 }
 
 fn counts_and_closes<R: Abort + Wait>(rt: &R, lobby: &Lobby) {
-    let mut guest = lobby.guest();
-    lobby.raise(rt, &mut guest);
-    is_same(rt, &lobby.wait_past(rt, &mut guest, 0), &1);
-    counts(rt, lobby, &mut guest, 1, false);
-    lobby.close(&mut guest);
-    is_same(rt, &lobby.wait_past(rt, &mut guest, 7), &1);
-    counts(rt, lobby, &mut guest, 1, true);
+    counts(rt, lobby, 0, false);
+    lobby.raise(rt);
+    is_same(rt, &lobby.wait_past(rt, 0), &1);
+    counts(rt, lobby, 1, false);
+    lobby.close(rt);
+    is_same(rt, &lobby.wait_past(rt, 7), &1);
+    counts(rt, lobby, 1, true);
 }
 
 #[test]
 fn a_lobby_counts_and_closes(rt: HostRuntime) {
     let lobby = Lobby::open(rt.alloc()).expect(&rt, "a lobby");
     counts_and_closes(&rt, &lobby);
+}
+
+// The same by one guest.
+fn counts_and_closes_as<R: Abort + Wait>(rt: &R, lobby: &Lobby) {
+    let mut guest = lobby.guest();
+    lobby.raise_as(rt, &mut guest);
+    is_same(rt, &lobby.count_as(&mut guest), &1);
+    is_same(rt, &lobby.wait_past_as(rt, &mut guest, 0), &1);
+    is_same(rt, &lobby.is_closed_as(&mut guest), &false);
+    lobby.close_as(&mut guest);
+    is_same(rt, &lobby.wait_past_as(rt, &mut guest, 7), &1);
+    is_same(rt, &lobby.is_closed_as(&mut guest), &true);
+}
+
+#[test]
+fn a_guest_counts_and_closes(rt: HostRuntime) {
+    let lobby = Lobby::open(rt.alloc()).expect(&rt, "a lobby");
+    counts_and_closes_as(&rt, &lobby);
 }
 
 fn counts_for<R: Abort>(rt: &R, lobby: &Lobby, guest: &mut Guest, key: u32, count: u64)
@@ -47,9 +62,9 @@ fn raises_for_a_key<R: Abort + Wait>(rt: &R, lobby: &Lobby) {
     lobby.raise_for(rt, &mut guest, 3);
     counts_for(rt, lobby, &mut guest, 67, 1);
     counts_for(rt, lobby, &mut guest, 4, 0);
-    lobby.raise(rt, &mut guest);
+    lobby.raise(rt);
     is_same(rt, &lobby.wait_past_for(rt, &mut guest, 67, 1), &2);
-    counts(rt, lobby, &mut guest, 2, false);
+    counts(rt, lobby, 2, false);
 }
 
 // A raise for key 3 is one of its group, which has key 67 too, and one of the whole lobby.

@@ -1,11 +1,10 @@
 //! Maps and queues with their tokens, and calls of clients and dataflows whose answers are asserted.
 ghost use Rattle.std.specs.Prelude.{◌≡◌, ◌<◌, ◌≤◌, All, length};
 
-use crate::gates::Noting;
 use crate::same::is_same;
 use nr_map::{Reader, ReaderMap, Shape, Writer};
 use nr_model::{Row, RowSet};
-use nr_serve::{Client, Dataflow, Gate, Got, Lobby, Service, Source, SourceFault, Turn};
+use nr_serve::{Client, Dataflow, FallibleSource, Gate, Got, Lobby, Service, Source, Turn};
 use nr_trigger::{Poster, Taker, Triggers};
 use std::marker::Model;
 use std::process::Abort;
@@ -18,10 +17,9 @@ pub(crate) struct Plain {
 }
 
 impl Source for Plain {
-    fn rows(&mut self, key: u32, bound: u32, room: &mut RowSet) -> Result<(), SourceFault> {
+    fn rows(&mut self, key: u32, bound: u32) -> RowSet {
         self.bound = bound;
-        *room = one_row(u64::from(key), 5);
-        Ok(())
+        one_row(u64::from(key), 5)
     }
 }
 
@@ -160,7 +158,7 @@ pub(crate) fn end_client<G: Gate>(client: Client<'_, G>) -> bool {
 }
 
 /// Ends a dataflow: whether it kept a trigger, which is spent.
-pub(crate) fn end_flow<S: Source + Drop>(flow: Dataflow<'_, S>) -> bool {
+pub(crate) fn end_flow<S: FallibleSource + Drop>(flow: Dataflow<'_, S>) -> bool {
     let (_writer, _taker, kept, _source) = flow.end();
     match kept {
         Some(trigger) => {
@@ -172,9 +170,9 @@ pub(crate) fn end_flow<S: Source + Drop>(flow: Dataflow<'_, S>) -> bool {
 }
 
 // A get of one try.
-pub(crate) fn gets<R: Abort + Wait>(
+pub(crate) fn gets<G: Gate, R: Abort + Wait>(
     rt: &R,
-    client: &mut Client<'_, Noting>,
+    client: &mut Client<'_, G>,
     key: u32,
     rows: &mut RowSet,
     got: Got,
@@ -186,7 +184,7 @@ pub(crate) fn gets<R: Abort + Wait>(
 }
 
 // A get of one try that finds a hole.
-pub(crate) fn misses<R: Abort + Wait>(rt: &R, client: &mut Client<'_, Noting>, key: u32)
+pub(crate) fn misses<G: Gate, R: Abort + Wait>(rt: &R, client: &mut Client<'_, G>, key: u32)
     requires { key < client.old.map.shape.keys }
     ensures { client.new.map ≡ client.old.map }
 {

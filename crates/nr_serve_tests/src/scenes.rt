@@ -25,7 +25,7 @@ const ADDED: Row = Row { a: 1, b: 7 };
 fn gives_up<R: Abort + Wait>(rt: &R, lobby: &Lobby, client: &mut Client<'_, Noting>)
     requires { client.old.map.shape.keys ≡ 2 }
 {
-    lobby.close(&mut lobby.guest());
+    lobby.close(rt);
     is_same(rt, &client.get(rt, 0, 3, &mut RowSet::new()), &Got::GaveUp);
 }
 
@@ -134,8 +134,8 @@ fn play_in<R: Abort + Wait>(rt: &R, scene: Scene, opened: Opened) {
     } = opened;
     let gate = Noting::from(scene.first());
     let source = Plain { bound: 0 };
-    let mut client = Client::open(&service, reader, poster, &gate);
-    let mut flow = Dataflow::open(&service, writer, taker, source);
+    let mut client = Client::of_service(&service, reader, poster, &gate);
+    let mut flow = Dataflow::of_service(&service, writer, taker, source);
     scene.play(rt, service.lobby(), &gate, &mut client, &mut flow);
     end_client(client);
     end_flow(flow);

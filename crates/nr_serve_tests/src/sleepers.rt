@@ -1,7 +1,7 @@
 //! Threads that sleep in a lobby, and what wakes them: each is given time to fall asleep, and then must come back by
 //! one call alone. On a slow machine it may not sleep yet, and what is asserted holds all the same.
 use crate::same::is_same;
-use nr_serve::Lobby;
+use nr_serve::{Lobby, NoLimit, Watched};
 use std::alloc::{AllocError, Global};
 use std::process::Abort;
 use std::sync::Wait;
@@ -13,11 +13,12 @@ const GROUPS: u32 = 64;
 
 const LOOKS: u32 = 10_000;
 
-/// What a thread sleeps for: a raise of the whole lobby, or one for a key.
+/// What a thread sleeps for: a raise of the whole lobby, or one for a key, by the lobby's own call or as a client does.
 #[derive(Clone, Copy, Debug)]
 enum Cause {
     Whole,
     Key(u32),
+    KeyOfClient(u32),
 }
 
 /// A thread that sleeps until a count is above 0, and tells that it came back.
@@ -36,11 +37,17 @@ impl Sleeper {
     }
 
     fn sleep<R: Wait>(&self, rt: &R, lobby: &Lobby) {
-        let mut guest = lobby.guest();
         match self.cause {
-            Cause::Whole => lobby.wait_past(rt, &mut guest, 0),
-            Cause::Key(key) => lobby.wait_past_for(rt, &mut guest, key, 0),
-        };
+            Cause::Whole => {
+                lobby.wait_past(rt, 0);
+            }
+            Cause::Key(key) => {
+                lobby.wait_past_for(rt, &mut lobby.guest(), key, 0);
+            }
+            Cause::KeyOfClient(key) => {
+                let _ = Watched::of(lobby).wait_within(rt, key, 0, &NoLimit);
+            }
+        }
         self.came.store(true, Ordering::SeqCst);
     }
 
@@ -96,24 +103,23 @@ fn each_comes<R: Wait + Clock>(rt: &R, lobby: &Lobby, sleepers: &[Sleeper]) -> b
 // Does it, and tells whether it woke them. Then whoever sleeps still is helped.
 fn wakes<R: Wait + Clock>(rt: &R, lobby: &Lobby, sleepers: &[Sleeper], deed: Deed) -> bool {
     thread::sleep(rt, Duration::from_millis(200));
-    let mut guest = lobby.guest();
     let woken = match deed {
         Deed::Raise => {
-            lobby.raise(rt, &mut guest);
+            lobby.raise(rt);
             all_come(rt, sleepers)
         }
         Deed::RaiseFor(key) => {
-            lobby.raise_for(rt, &mut guest, key);
+            lobby.raise_for(rt, &mut lobby.guest(), key);
             all_come(rt, sleepers)
         }
         Deed::RaiseForEach => each_comes(rt, lobby, sleepers),
         Deed::Close => {
-            lobby.close(&mut guest);
+            lobby.close(rt);
             all_come(rt, sleepers)
         }
     };
-    lobby.close(&mut guest);
-    lobby.raise(rt, &mut guest);
+    lobby.close(rt);
+    lobby.raise(rt);
     woken
 }
 
@@ -151,6 +157,15 @@ fn of_each_group(alloc: Global) -> Result<Vec<Sleeper>, AllocError> {
     let mut sleepers = Vec::new(alloc);
     for key in 0..GROUPS {
         sleepers.push(Sleeper::of(Cause::Key(key)))?;
+    }
+    Ok(sleepers)
+}
+
+// The same, as clients.
+fn client_of_each_group(alloc: Global) -> Result<Vec<Sleeper>, AllocError> {
+    let mut sleepers = Vec::new(alloc);
+    for key in 0..GROUPS {
+        sleepers.push(Sleeper::of(Cause::KeyOfClient(key)))?;
     }
     Ok(sleepers)
 }
@@ -193,6 +208,12 @@ fn a_raise_for_a_key_wakes_all_sleepers_of_its_group(rt: HostRuntime) {
 #[test]
 fn raises_for_keys_wake_each_group_by_itself(rt: HostRuntime) {
     let sleepers = of_each_group(rt.alloc()).expect(&rt, "memory");
+    all_wake(&rt, sleepers.as_slice(), Deed::RaiseForEach);
+}
+
+#[test]
+fn raises_for_keys_wake_clients_of_each_group_by_themselves(rt: HostRuntime) {
+    let sleepers = client_of_each_group(rt.alloc()).expect(&rt, "memory");
     all_wake(&rt, sleepers.as_slice(), Deed::RaiseForEach);
 }
 

@@ -6,7 +6,7 @@ use crate::opened::{Opened, end_client, end_flow, gets, misses, one_row};
 use crate::same::{are_same, is_same};
 use nr_map::{Cancel, Evict};
 use nr_model::{Row, RowSet};
-use nr_serve::{Client, Dataflow, Got, Lobby, Source, SourceFault, Spent, Turn};
+use nr_serve::{Client, Dataflow, FallibleSource, Got, Lobby, SourceFault, Spent, TryTurn};
 use nr_trigger::Trigger;
 use std::process::Abort;
 use std::sync::Wait;
@@ -17,8 +17,8 @@ struct Faulty {
     faults: u32,
 }
 
-impl Source for Faulty {
-    fn rows(&mut self, key: u32, _bound: u32, room: &mut RowSet) -> Result<(), SourceFault> {
+impl FallibleSource for Faulty {
+    fn try_rows(&mut self, key: u32, _bound: u32, room: &mut RowSet) -> Result<(), SourceFault> {
         if self.faults > 0 {
             self.faults -= 1;
             return Err(SourceFault);
@@ -79,10 +79,10 @@ fn comes_to<R: Abort + Wait>(
 }
 
 // The next turn.
-fn turns<R: Abort + Wait>(rt: &R, flow: &mut Flow<'_>, wanted: Turn)
+fn turns<R: Abort + Wait>(rt: &R, flow: &mut Flow<'_>, wanted: TryTurn)
     ensures { flow.new.map ≡ flow.old.map }
 {
-    is_same(rt, &flow.turn(rt), &wanted);
+    is_same(rt, &flow.try_turn(rt), &wanted);
 }
 
 // How often the client was told that the source failed for key 0.
@@ -138,10 +138,10 @@ fn source_fails<R: Abort + Wait>(rt: &R, client: &mut Client<'_, Noting>, flow: 
     flow.source().faults = 1;
     misses(rt, client, 0);
     failures(rt, client, 0);
-    turns(rt, flow, Turn::Failed(0));
+    turns(rt, flow, TryTurn::Failed(0));
     failures(rt, client, 1);
     misses(rt, client, 0);
-    turns(rt, flow, Turn::Filled(0));
+    is_same(rt, &flow.try_turn_or_sleep(rt), &TryTurn::Filled(0));
     is_same(rt, &client.sends(), &2);
     finds(rt, client, 0, 5);
 }
@@ -162,7 +162,7 @@ fn comes_late<R: Abort + Wait>(
     misses(rt, client, 0);
     comes_to(rt, flow, late, act, Some(Spent::Passed));
     misses(rt, client, 0);
-    turns(rt, flow, Turn::Filled(0));
+    turns(rt, flow, TryTurn::Filled(0));
     failures(rt, client, 0);
     finds(rt, client, 0, 5);
 }
@@ -193,8 +193,8 @@ fn wears<R: Abort + Wait>(rt: &R, client: &mut Client<'_, Noting>, flow: &mut Fl
     misses(rt, client, 0);
     let trigger = takes(rt, flow);
     comes_to(rt, flow, trigger, Act::Fail, None);
-    turns(rt, flow, Turn::Worn(0));
-    turns(rt, flow, Turn::Filled(0));
+    turns(rt, flow, TryTurn::Worn(0));
+    turns(rt, flow, TryTurn::Filled(0));
     failures(rt, client, 0);
     finds(rt, client, 0, 5);
 }
@@ -264,8 +264,8 @@ fn play_in<R: Abort + Wait>(rt: &R, scene: Scene, opened: Opened) {
         poster,
     } = opened;
     let gate = Noting::from(1);
-    let mut client = Client::open(&service, reader, poster, &gate);
-    let mut flow = Dataflow::open(&service, writer, taker, Faulty { faults: 0 });
+    let mut client = Client::of_service(&service, reader, poster, &gate);
+    let mut flow = Dataflow::of_service(&service, writer, taker, Faulty { faults: 0 });
     scene.play(rt, service.lobby(), &mut client, &mut flow);
     is_same(rt, &(end_client(client), end_flow(flow)), &(false, false));
 }

@@ -73,7 +73,7 @@ fn gets<R: Wait + CpuClock>(
 {
     let (reader, poster) = tokens;
     let gate = OpenGate;
-    let mut client = Client::open(service, reader, poster, &gate);
+    let mut client = Client::of_service(service, reader, poster, &gate);
     let mut rows = RowSet::new();
     let since = busy(rt);
     let got = client.get(rt, 0, tries, &mut rows);
@@ -99,7 +99,7 @@ fn turns<R: Wait + CpuClock>(
     requires queue { let (_, taker) = tokens in (taker.queue ≡ service.now.queue.id) × (taker.keys ≡ 2) }
 {
     let (writer, taker) = tokens;
-    let mut flow = Dataflow::open(service, writer, taker, Plain { bound: 0 });
+    let mut flow = Dataflow::of_service(service, writer, taker, Plain { bound: 0 });
     let since = busy(rt);
     flow.turn_or_sleep(rt);
     let is_idle = was_idle(rt, since);
@@ -126,7 +126,7 @@ fn cancels_and_fills<R: Wait + Clock>(rt: &R, service: &Service, tokens: (Writer
     requires queue { let (_, taker) = tokens in (taker.queue ≡ service.now.queue.id) × (taker.keys ≡ 2) }
 {
     let (writer, taker) = tokens;
-    let mut flow = Dataflow::open(service, writer, taker, Plain { bound: 0 });
+    let mut flow = Dataflow::of_service(service, writer, taker, Plain { bound: 0 });
     cancels(rt, &mut flow);
     for _ in 0..LOOKS {
         pause(rt);
@@ -150,18 +150,17 @@ fn wakes_client<R: Wait + Clock>(
 {
     pause(rt);
     let lobby = service.lobby();
-    let mut guest = lobby.guest();
     match cause {
         Cause::Work => cancels_and_fills(rt, service, tokens),
-        Cause::Close => lobby.close(&mut guest),
+        Cause::Close => lobby.close(rt),
         Cause::LateClose => {
             thread::sleep(rt, Duration::from_secs(1));
-            lobby.close(&mut guest);
+            lobby.close(rt);
         }
     }
     let is_awake = comes(rt, came);
-    lobby.close(&mut guest);
-    lobby.raise_for(rt, &mut guest, 0);
+    lobby.close(rt);
+    lobby.raise_for(rt, &mut lobby.guest(), 0);
     is_awake
 }
 
@@ -180,10 +179,10 @@ fn stirs<R: Wait + Clock + CpuClock>(
         Cause::Work => {
             gets(rt, service, tokens, 1, &AtomicBool::new(false));
         }
-        Cause::Close => lobby.close(&mut lobby.guest()),
+        Cause::Close => lobby.close(rt),
         Cause::LateClose => {
             thread::sleep(rt, Duration::from_secs(1));
-            lobby.close(&mut lobby.guest());
+            lobby.close(rt);
         }
     }
 }
@@ -203,9 +202,8 @@ fn wakes_flow<R: Wait + Clock + CpuClock>(
     stirs(rt, service, tokens, cause);
     let is_awake = comes(rt, came);
     let lobby = service.lobby();
-    let mut guest = lobby.guest();
-    lobby.close(&mut guest);
-    lobby.ring(rt, &mut guest);
+    lobby.close(rt);
+    lobby.ring(rt, &mut lobby.guest());
     is_awake
 }
 

@@ -4,7 +4,7 @@ ghost use Rattle.std.specs.Prelude.{◌≡◌, ◌≤◌, length};
 use crate::opened::{Opened, end_client, end_flow, one_row};
 use nr_load::{Draws, LoadFault, Worked, load_gets};
 use nr_model::RowSet;
-use nr_serve::{Client, Dataflow, Got, Lobby, OpenGate, Source, SourceFault, Turn};
+use nr_serve::{Client, Dataflow, Got, Lobby, OpenGate, Source, Turn};
 use std::alloc::Global;
 use std::process::Abort;
 use std::sync::Wait;
@@ -14,9 +14,8 @@ use std::sync::Wait;
 struct Liar;
 
 impl Source for Liar {
-    fn rows(&mut self, key: u32, _bound: u32, room: &mut RowSet) -> Result<(), SourceFault> {
-        *room = one_row(u64::from(key) + 1, 0);
-        Ok(())
+    fn rows(&mut self, key: u32, _bound: u32) -> RowSet {
+        one_row(u64::from(key) + 1, 0)
     }
 }
 
@@ -48,12 +47,12 @@ fn works_twice<R: Abort + Wait>(rt: &R, alloc: Global, opened: Opened) -> ([Work
         poster,
     } = opened;
     let gate = OpenGate;
-    let mut client = Client::open(&service, reader, poster, &gate);
-    let mut flow = Dataflow::open(&service, writer, taker, Liar);
+    let mut client = Client::of_service(&service, reader, poster, &gate);
+    let mut flow = Dataflow::of_service(&service, writer, taker, Liar);
     lies(rt, &mut client, &mut flow);
     let lobby = service.lobby();
     let first = works(rt, alloc, &mut client, lobby);
-    lobby.close(&mut lobby.guest());
+    lobby.close(rt);
     let second = works(rt, alloc, &mut client, lobby);
     let kept = (end_client(client), end_flow(flow));
     ([first, second], kept != (false, false))

@@ -1,5 +1,0 @@
-use Rattle.std.proofs.Common.{◌≡◌}
-use Rattle.nr_idserve_tests.proofs.applied.answers.Given as goal
-
-abbrev pub invariant-loop : goal.invariant-loop
-invariant-loop g l = (l.flow.map ≡ l.fn.flow.map) × (l.flow.lobby ≡ l.fn.flow.lobby)

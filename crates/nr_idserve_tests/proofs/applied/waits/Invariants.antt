@@ -1,6 +1,0 @@
-use Rattle.std.proofs.Common.{◌≡◌}
-use Rattle.nr_idmap.specs.IdNotes.{note_table_of}
-use Rattle.nr_idserve_tests.proofs.applied.waits.Given as goal
-
-abbrev pub ghosts-both : goal.ghosts-both
-ghosts-both g a = record { reached = λ _ note. note_table_of note ≡ a.service.now.map }

@@ -1,0 +1,257 @@
+//! A store of a cache: flights, values, and what comes out.
+ghost use Rattle.std.specs.Prelude.{◌≡◌, ◌<◌};
+
+use crate::ids::view::{is_same, is_set, row};
+use nr_cache::{Begun, Flight, FoundValue, Landed, MAX_STORE_GROUPS, Store, StoreShape, find};
+use nr_idmap::{IdHand, IdMap, OpenFault, Reaped, Reclaimed};
+use nr_model::{Row, RowSet};
+use std::marker::Model;
+use std::process::Abort;
+
+/// Sixteen values, one reader, and room for two flights and one change.
+const SMALL: StoreShape = StoreShape {
+    groups: 2,
+    key: 0x9E37_79B9_7F4A_7C15,
+    readers: 1,
+    flights: 2,
+    changes: 1,
+};
+
+/// A store with its map and a reader, and the set that came out last.
+struct Shelf {
+    map: IdMap,
+    store: Store,
+    hand: IdHand,
+    had: RowSet,
+}
+
+impl Model for Shelf {
+    ghost use Rattle.std.specs.Prelude.{◌≡◌};
+    ghost use Rattle.nr_idmap.specs.IdHands.{hand_table_of};
+    ghost use Rattle.nr_idmap.specs.Keepers.{IdTable};
+
+    ghost Value = { IdTable };
+
+    ghost view = { λ shelf. shelf.map };
+
+    ghost invariant = { λ shelf. (shelf.store.keeper.table ≡ shelf.map) × (hand_table_of shelf.hand ≡ shelf.map) };
+}
+
+impl Shelf {
+    fn open<R: AllocGlobal + Abort>(rt: &R) -> Shelf {
+        let (map, store, mut readers) = Store::open(rt.alloc(), &SMALL).expect(rt, "memory");
+        let reader = readers.pop().expect(rt, "a reader");
+        Shelf {
+            map,
+            store,
+            hand: IdHand::of(reader),
+            had: RowSet::new(),
+        }
+    }
+
+    /// The marks of the flights that end with it.
+    fn closes<R: Abort>(self, rt: &R, marks: &[u64]) {
+        let Shelf {
+            map,
+            store,
+            hand,
+            had: _,
+        } = self;
+        let _reader = hand.into_reader(&map);
+        let left = store.close();
+        is_same(rt, &left.len(), &marks.len());
+        for (flight, mark) in left.iter().zip(marks) {
+            is_same(rt, &flight.mark, mark);
+        }
+    }
+
+    /// The id's flight begins: its number.
+    fn loads<R: Abort>(&mut self, rt: &R, id: u64, mark: u64) -> u64
+        requires { 0 < id }
+    {
+        match self.store.begin(&self.map, id, mark) {
+            Begun::Load(flight) => flight.number,
+            _ => panic!(rt; "the id's flight begins"),
+        }
+    }
+
+    fn waits<R: Abort>(&mut self, rt: &R, id: u64, mark: u64)
+        requires { 0 < id }
+    {
+        match self.store.begin(&self.map, id, 0) {
+            Begun::Wait(Flight { mark: its, .. }) => is_same(rt, &its, &mark),
+            _ => panic!(rt; "the id's flight is under way"),
+        }
+    }
+
+    fn has<R: Abort>(&mut self, rt: &R, id: u64)
+        requires { 0 < id }
+    {
+        let begun = self.store.begin(&self.map, id, 0);
+        assert!(rt; matches!(begun, Begun::Held));
+    }
+
+    fn is_alone<R: Abort>(&mut self, rt: &R, id: u64)
+        requires { 0 < id }
+    {
+        let begun = self.store.begin(&self.map, id, 0);
+        assert!(rt; matches!(begun, Begun::Alone));
+    }
+
+    /// Whether the value is held.
+    fn lands(&mut self, number: u64, value: u64) -> bool {
+        let landed = self.store.land(&self.map, number, 1, value, &mut self.had);
+        matches!(landed, Landed::Held(_))
+    }
+
+    fn puts(&mut self, id: u64, value: u64) -> Landed
+        requires { 0 < id }
+    {
+        self.store.put(&self.map, id, 1, value, &mut self.had)
+    }
+
+    fn finds<R: Abort>(&mut self, rt: &R, id: u64, value: Option<u64>)
+        requires { 0 < id }
+    {
+        let found = find(&self.map, &mut self.hand, id);
+        let wanted = value.map(|value| FoundValue { stamp: 1, value });
+        is_same(rt, &found, &wanted);
+    }
+
+    fn invalidates(&mut self, id: u64) -> bool
+        requires { 0 < id }
+    {
+        self.store.invalidate(&self.map, id)
+    }
+
+    fn reaps<R: Abort>(&mut self, rt: &R, wanted: Reaped) {
+        let reaped = self.store.reap(&self.map, &mut self.had);
+        is_same(rt, &reaped, &wanted);
+    }
+
+    fn gave_out<R: Abort>(&self, rt: &R, rows: &[Row]) {
+        is_set(rt, self.had.as_slice(), rows);
+    }
+}
+
+#[test]
+fn a_value_is_loaded_once_and_found(rt: HostRuntime) {
+    let mut shelf = Shelf::open(&rt);
+    shelf.finds(&rt, 7, None);
+    let number = shelf.loads(&rt, 7, 70);
+    shelf.waits(&rt, 7, 70);
+    assert!(&rt; shelf.lands(number, 700));
+    shelf.finds(&rt, 7, Some(700));
+    shelf.has(&rt, 7);
+    // A flight ends once.
+    assert!(&rt; !shelf.lands(number, 701));
+    shelf.closes(&rt, &[]);
+}
+
+#[test]
+fn a_value_comes_out_once_nobody_holds_it(rt: HostRuntime) {
+    let mut shelf = Shelf::open(&rt);
+    assert!(&rt; matches!(shelf.puts(7, 70), Landed::Held(Reclaimed::Nothing)));
+    shelf.finds(&rt, 7, Some(70));
+    assert!(&rt; shelf.invalidates(7));
+    shelf.reaps(&rt, Reaped::Held);
+    shelf.finds(&rt, 7, None);
+    shelf.reaps(&rt, Reaped::Set);
+    shelf.gave_out(&rt, &[row(0, 7), row(1, 70)]);
+    shelf.reaps(&rt, Reaped::Nothing);
+    assert!(&rt; !shelf.invalidates(7));
+    shelf.closes(&rt, &[]);
+}
+
+#[test]
+fn what_began_before_an_invalidation_is_its_loaders_own(rt: HostRuntime) {
+    let mut shelf = Shelf::open(&rt);
+    let number = shelf.loads(&rt, 7, 70);
+    assert!(&rt; !shelf.invalidates(7));
+    shelf.waits(&rt, 7, 70);
+    assert!(&rt; !shelf.lands(number, 700));
+    shelf.finds(&rt, 7, None);
+    // A put outdates a flight too, and its value stays.
+    let number = shelf.loads(&rt, 7, 71);
+    assert!(&rt; matches!(shelf.puts(7, 701), Landed::Held(_)));
+    assert!(&rt; !shelf.lands(number, 702));
+    shelf.finds(&rt, 7, Some(701));
+    shelf.closes(&rt, &[]);
+}
+
+#[test]
+fn what_is_loaded_during_a_change_is_its_loaders_own(rt: HostRuntime) {
+    let mut shelf = Shelf::open(&rt);
+    let before = shelf.loads(&rt, 7, 70);
+    assert!(&rt; shelf.store.begin_change(7));
+    // There is room for one change.
+    assert!(&rt; !shelf.store.begin_change(8));
+    assert!(&rt; !shelf.lands(before, 700));
+    let during = shelf.loads(&rt, 7, 71);
+    assert!(&rt; matches!(shelf.puts(7, 701), Landed::Own));
+    assert!(&rt; shelf.store.end_change(7));
+    assert!(&rt; !shelf.store.end_change(7));
+    assert!(&rt; !shelf.lands(during, 702));
+    shelf.finds(&rt, 7, None);
+    let after = shelf.loads(&rt, 7, 72);
+    assert!(&rt; shelf.lands(after, 703));
+    shelf.finds(&rt, 7, Some(703));
+    shelf.closes(&rt, &[]);
+}
+
+#[test]
+fn flights_have_room_and_end_with_the_store(rt: HostRuntime) {
+    let mut shelf = Shelf::open(&rt);
+    let first = shelf.loads(&rt, 1, 10);
+    let _second = shelf.loads(&rt, 2, 20);
+    shelf.is_alone(&rt, 3);
+    assert!(&rt;
+        matches!(
+            shelf.store.fail(first),
+            Some(Flight {
+                id: 1,
+                mark: 10,
+                ..
+            })
+        )
+    );
+    assert!(&rt; shelf.store.fail(first).is_none());
+    let _third = shelf.loads(&rt, 3, 30);
+    shelf.closes(&rt, &[20, 30]);
+}
+
+#[test]
+fn a_landing_makes_room(rt: HostRuntime) {
+    let mut shelf = Shelf::open(&rt);
+    for id in 100..200u64 {
+        let number = shelf.loads(&rt, id, 0);
+        assert!(&rt; shelf.lands(number, id));
+        shelf.finds(&rt, id, Some(id));
+    }
+    shelf.closes(&rt, &[]);
+}
+
+#[test]
+fn bad_sizes_of_a_store_are_refused(rt: HostRuntime) {
+    let bad = [
+        StoreShape { groups: 0, ..SMALL },
+        StoreShape {
+            groups: MAX_STORE_GROUPS + 1,
+            ..SMALL
+        },
+        StoreShape {
+            readers: 0,
+            ..SMALL
+        },
+    ];
+    for shape in &bad {
+        match Store::open(rt.alloc(), shape) {
+            Err(OpenFault::BadSize) => {}
+            Err(OpenFault::Memory) => panic!(&rt; "memory"),
+            Ok((_map, store, _readers)) => {
+                store.close();
+                panic!(&rt; "it is refused")
+            }
+        }
+    }
+}

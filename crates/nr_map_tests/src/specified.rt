@@ -1,0 +1,4 @@
+//! Each public item of the step machine and of the running map in the form that its callers rely on: where
+//! a name, a field, an argument or an answer changes, these files no longer compile.
+mod machine;
+mod map;

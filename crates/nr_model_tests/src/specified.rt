@@ -1,0 +1,5 @@
+//! Each public item of the lowest crates in the form that its callers rely on: where a name, a field, an
+//! argument or an answer changes, these files no longer compile.
+mod model;
+mod names;
+mod words;

@@ -1,0 +1,107 @@
+//! Turns of a dataflow, which ask a source for the rows of ids.
+ghost use Rattle.std.specs.Prelude.{◌≤◌, length};
+ghost use Rattle.nr_idmap.specs.Tags.{AreIdRows};
+
+use crate::by_id::opened::{Opened, end_client, end_flow, finds, gets};
+use nr_idserve::{GotId, IdClient, IdDataflow, IdSource, IdTurn, NoVictims};
+use nr_model::{Row, RowSet};
+use nr_serve::SourceFault;
+use std::process::Abort;
+use std::sync::Wait;
+
+/// Each id has the one row `1:id`, where there are rows; else it fails. How often it was asked.
+#[derive(Drop)]
+pub(crate) struct Numbers {
+    pub(crate) has_rows: bool,
+    pub(crate) asked: u64,
+}
+
+impl IdSource for Numbers {
+    fn rows(&mut self, id: u64, bound: u32, room: &mut RowSet) -> Result<(), SourceFault> {
+        self.asked = self.asked.saturating_add(1);
+        if !self.has_rows || bound == 0 {
+            return Err(SourceFault);
+        }
+        *room = one_row(id);
+        Ok(())
+    }
+}
+
+fn one_row(b: u64) -> RowSet
+    ensures few { length result ≤ 1 }
+    ensures untagged { AreIdRows result }
+{
+    match RowSet::of(&[Row { a: 1, b }]) {
+        Ok(rows) => rows,
+        Err(_) => RowSet::new(),
+    }
+}
+
+fn turns<R: Abort + Wait>(rt: &R, flow: &mut IdDataflow<'_>, source: &mut Numbers, wanted: IdTurn) {
+    assert_eq!(rt; flow.turn(rt, &mut NoVictims, source), wanted);
+}
+
+// The source is asked once for an id that was claimed, and never by an idle turn.
+fn asks_once<R: Abort + Wait>(rt: &R, client: &mut IdClient<'_>, flow: &mut IdDataflow<'_>) {
+    let mut source = Numbers {
+        has_rows: true,
+        asked: 0,
+    };
+    turns(rt, flow, &mut source, IdTurn::Idle);
+    gets(rt, client, 3, GotId::GaveUp);
+    turns(rt, flow, &mut source, IdTurn::Filled(3));
+    turns(rt, flow, &mut source, IdTurn::Idle);
+    finds(rt, client, 3, &[Row { a: 1, b: 3 }]);
+    assert_eq!(rt; source.asked, 1);
+}
+
+// An id is claimed anew once the source failed for it.
+fn asks_anew<R: Abort + Wait>(rt: &R, client: &mut IdClient<'_>, flow: &mut IdDataflow<'_>) {
+    let mut source = Numbers {
+        has_rows: false,
+        asked: 0,
+    };
+    gets(rt, client, 4, GotId::GaveUp);
+    turns(rt, flow, &mut source, IdTurn::Failed(4));
+    assert_eq!(rt; client.failures_for(4), 1);
+    source.has_rows = true;
+    gets(rt, client, 4, GotId::GaveUp);
+    turns(rt, flow, &mut source, IdTurn::Filled(4));
+    finds(rt, client, 4, &[Row { a: 1, b: 4 }]);
+}
+
+// Nobody sleeps in a closed lobby, so one thread can make an idle turn.
+fn turns_or_sleeps<R: Abort + Wait>(rt: &R, client: &mut IdClient<'_>, flow: &mut IdDataflow<'_>) {
+    let mut source = Numbers {
+        has_rows: true,
+        asked: 0,
+    };
+    let idle = flow.turn_or_sleep(rt, &mut NoVictims, &mut source);
+    gets(rt, client, 5, GotId::GaveUp);
+    let turned = flow.turn_or_sleep(rt, &mut NoVictims, &mut source);
+    assert_eq!(rt; (idle, turned), (IdTurn::Idle, IdTurn::Filled(5)));
+    finds(rt, client, 5, &[Row { a: 1, b: 5 }]);
+}
+
+fn asks<R: Abort + Wait>(rt: &R, opened: Opened) {
+    let Opened {
+        service,
+        writer,
+        taker,
+        one,
+        two: _two,
+    } = opened;
+    let mut client = IdClient::open(&service, one.0, one.1);
+    let mut flow = IdDataflow::open(&service, writer, taker);
+    asks_once(rt, &mut client, &mut flow);
+    asks_anew(rt, &mut client, &mut flow);
+    let lobby = service.lobby();
+    lobby.close(rt);
+    turns_or_sleeps(rt, &mut client, &mut flow);
+    assert_eq!(rt; (end_client(client), end_flow(rt, flow)), (false, None));
+}
+
+#[test]
+fn a_turn_asks_its_source(rt: HostRuntime) {
+    asks(&rt, Opened::open(&rt, 1, 4));
+}

@@ -1,6 +1,0 @@
-mod Spelling
-mod TextRows
-mod Moments
-mod Meeting
-mod Behind
-mod Pinning

@@ -1,0 +1,13 @@
+//! A tour for users: a chapter in each file, of the map, of the queue and the server, and of ids. It makes
+//! their calls, and prints what they answered.
+#![tactic(auto)]
+
+mod ids;
+mod map;
+mod server;
+
+fn main(rt: HostRuntime) -> anyhow::Result<()> {
+    map::show_map(&rt)?;
+    server::show(&rt)?;
+    ids::show(&rt)
+}

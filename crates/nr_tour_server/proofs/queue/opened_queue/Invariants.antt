@@ -1,4 +1,0 @@
-use Rattle.nr_tour_server.proofs.queue.opened_queue.Given as goal
-
-abbrev pub ghost-open : goal.ghost-open
-ghost-open a = 2
