@@ -70,7 +70,7 @@ pub(crate) fn done(code: u32) -> Result<(), Fault> {
         ffi::NR_DONE => return Ok(()),
         ffi::NR_NOT_ASKED => Fault::NotAsked,
         ffi::NR_ALREADY => Fault::Already,
-        ffi::NR_STALE => Fault::Stale,
+        ffi::NR_STALE | ffi::NR_STRANGER => Fault::Stale,
         ffi::NR_NO_ROW => Fault::NoRow,
         ffi::NR_TOO_MANY => Fault::TooMany,
         ffi::NR_NO_SLOT => Fault::NoSlot,

@@ -1,11 +1,12 @@
-//! Drops that may panic.
+//! Work that is done with each of several, of which one may panic.
+use std::any::Any;
 use std::panic::{catch_unwind, resume_unwind, AssertUnwindSafe};
 
-/// Drops each of them, also where the drop of one panics; the first such panic goes on at the end.
-pub(crate) fn drop_each<T>(doomed: impl IntoIterator<Item = T>) {
+/// Does it with each of them, also where it panics with one; the first such panic goes on at the end.
+pub(crate) fn with_each<T>(all: impl IntoIterator<Item = T>, mut work: impl FnMut(T)) {
     let mut panicked = None;
-    for one in doomed {
-        if let Err(why) = catch_unwind(AssertUnwindSafe(|| drop(one))) {
+    for one in all {
+        if let Some(why) = panic_of(|| work(one)) {
             panicked.get_or_insert(why);
         }
     }
@@ -14,4 +15,23 @@ pub(crate) fn drop_each<T>(doomed: impl IntoIterator<Item = T>) {
             resume_unwind(why);
         }
     }
+}
+
+/// Drops each of them.
+pub(crate) fn drop_each<T>(doomed: impl IntoIterator<Item = T>) {
+    with_each(doomed, drop);
+}
+
+/// Drops each of them and gives the result, which is dropped too where one of them panics: as it unwinds a second panic
+/// would end the program.
+pub(crate) fn drop_each_then<T, R>(doomed: impl IntoIterator<Item = T>, result: R) -> R {
+    if let Some(why) = panic_of(|| drop_each(doomed)) {
+        _ = panic_of(|| drop(result));
+        resume_unwind(why);
+    }
+    result
+}
+
+fn panic_of(work: impl FnOnce()) -> Option<Box<dyn Any + Send>> {
+    catch_unwind(AssertUnwindSafe(work)).err()
 }

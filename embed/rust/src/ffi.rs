@@ -43,6 +43,7 @@ pub const NR_ALL_FILLED: u32 = 30;
 pub const NR_IN_THE_WAY: u32 = 33;
 pub const NR_GIVEN: u32 = 34;
 pub const NR_HELD: u32 = 35;
+pub const NR_STRANGER: u32 = 39;
 
 extern "C" {
     pub fn nr_version() -> u32;
@@ -97,11 +98,20 @@ extern "C" {
     pub fn nr_open_id_reader(writer: *mut Handle, reader: *mut Handle) -> u32;
     pub fn nr_close_id_reader(reader: *mut Handle);
     pub fn nr_close_id_writer(writer: *mut Handle);
-    pub fn nr_find_id(reader: *mut Handle, id: u64, rows: *mut Rows) -> u32;
+    pub fn nr_pin_id(reader: *mut Handle, id: u64, count: *mut u32) -> u32;
+    pub fn nr_find_kept_id(reader: *mut Handle, id: u64, rows: *mut Rows) -> u32;
+    pub fn nr_release_id(reader: *mut Handle) -> u32;
     pub fn nr_request_id(reader: *mut Handle, id: u64) -> u32;
     pub fn nr_admit(writer: *mut Handle, id: u64, upquery: *mut Upquery) -> u32;
-    pub fn nr_fill_id(writer: *mut Handle, upquery: *const Upquery, rows: *const Row, n: usize) -> u32;
+    pub fn nr_fill_id_reclaiming(
+        writer: *mut Handle,
+        upquery: *const Upquery,
+        rows: *const Row,
+        n: usize,
+        had: *mut Rows,
+    ) -> u32;
     pub fn nr_withdraw_id(writer: *mut Handle, upquery: *const Upquery) -> u32;
-    pub fn nr_replace_id(writer: *mut Handle, id: u64, rows: *const Row, n: usize) -> u32;
+    pub fn nr_replace_id_reclaiming(writer: *mut Handle, id: u64, rows: *const Row, n: usize, had: *mut Rows) -> u32;
+    pub fn nr_reap_id(writer: *mut Handle, had: *mut Rows) -> u32;
     pub fn nr_evict_id(writer: *mut Handle, id: u64) -> u32;
 }

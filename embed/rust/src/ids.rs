@@ -31,6 +31,7 @@ pub struct Upquery {
     number: u64,
     way: u32,
     count: u64,
+    map: u64,
 }
 
 impl Upquery {
@@ -68,17 +69,35 @@ pub fn open(shape: &IdShape) -> Result<(IdWriter, Vec<IdReader>), Fault> {
 #[derive(Debug)]
 pub struct IdReader {
     handle: Handle,
+    /// Whether it holds a set.
+    holds: bool,
 }
 
 // SAFETY: a handle may go to another thread, and calls take it by `&mut`, so that two threads never use it at a time.
 unsafe impl Send for IdReader {}
 
 impl IdReader {
-    /// The rows of an id, where it has some.
-    pub fn find<'a>(&mut self, id: u64, rows: &'a mut Rows) -> Option<&'a [Row]> {
+    /// The rows of an id, where it has some. The reader holds them until its next find or [`IdReader::let_go`].
+    pub fn hold<'a>(&mut self, id: u64, rows: &'a mut Rows) -> Option<&'a [Row]> {
         // SAFETY: the handle is live, and the rows are laid out as the header's.
-        let found = unsafe { ffi::nr_find_id(&mut self.handle, id, rows) } == ffi::NR_ROWS;
-        found.then(|| rows.as_slice())
+        self.holds = unsafe { ffi::nr_find_kept_id(&mut self.handle, id, rows) } == ffi::NR_ROWS;
+        self.holds.then(|| rows.as_slice())
+    }
+
+    /// The same where the caller knows the rows: whether the id has some.
+    pub fn pin(&mut self, id: u64) -> bool {
+        self.let_go();
+        // SAFETY: the handle is live.
+        self.holds = unsafe { ffi::nr_pin_id(&mut self.handle, id, &mut 0) } == ffi::NR_ROWS;
+        self.holds
+    }
+
+    /// Ends its hold, where it has one.
+    pub fn let_go(&mut self) {
+        if std::mem::take(&mut self.holds) {
+            // SAFETY: the handle is live.
+            unsafe { ffi::nr_release_id(&mut self.handle) };
+        }
     }
 
     /// Claims the group of an id that has no way, for the writer to admit it.
@@ -95,7 +114,8 @@ impl Drop for IdReader {
     }
 }
 
-/// The writer by id.
+/// The writer by id. A set that an id has no more comes back once, when no reader holds it and none can find it: from
+/// [`IdWriter::reap`], or from the fill or replacement that takes its slot.
 #[derive(Debug)]
 pub struct IdWriter {
     handle: Handle,
@@ -106,7 +126,7 @@ unsafe impl Send for IdWriter {}
 
 impl IdWriter {
     fn open_reader(&mut self) -> Result<IdReader, Fault> {
-        let mut reader = IdReader { handle: Handle::empty() };
+        let mut reader = IdReader { handle: Handle::empty(), holds: false };
         // SAFETY: the writer's handle is live, and the other is not.
         done(unsafe { ffi::nr_open_id_reader(&mut self.handle, &mut reader.handle) })?;
         Ok(reader)
@@ -124,10 +144,12 @@ impl IdWriter {
         }
     }
 
-    /// Fills the id of an upquery; where that isn't open it is refused with [`Fault::Stale`].
-    pub fn fill(&mut self, upquery: &Upquery, rows: &[Row]) -> Result<(), Fault> {
+    /// Fills the id of an upquery: the rows of a set that came back. Where the upquery isn't open, or is another map's,
+    /// it is refused with [`Fault::Stale`].
+    pub fn fill<'a>(&mut self, upquery: &Upquery, rows: &[Row], had: &'a mut Rows) -> Result<&'a [Row], Fault> {
         // SAFETY: the handle is live, what the pointers lead to is laid out as the header's, and there are so many rows.
-        done(unsafe { ffi::nr_fill_id(&mut self.handle, upquery, rows.as_ptr(), rows.len()) })
+        let code = unsafe { ffi::nr_fill_id_reclaiming(&mut self.handle, upquery, rows.as_ptr(), rows.len(), had) };
+        came_back(code, had)
     }
 
     /// Takes an upquery back: whether its id has no way now. If not, its own fill alone ends it.
@@ -136,10 +158,18 @@ impl IdWriter {
         unsafe { ffi::nr_withdraw_id(&mut self.handle, upquery) != ffi::NR_WORN }
     }
 
-    /// Puts rows in place of those of an id that has some.
-    pub fn replace(&mut self, id: u64, rows: &[Row]) -> Result<(), Fault> {
-        // SAFETY: the handle is live, and there are so many rows, laid out as the header's.
-        done(unsafe { ffi::nr_replace_id(&mut self.handle, id, rows.as_ptr(), rows.len()) })
+    /// Puts rows in place of those of an id that has some: the rows of a set that came back.
+    pub fn replace<'a>(&mut self, id: u64, rows: &[Row], had: &'a mut Rows) -> Result<&'a [Row], Fault> {
+        // SAFETY: the handle is live, and there are so many rows, laid out as the header's as those that come back.
+        let code = unsafe { ffi::nr_replace_id_reclaiming(&mut self.handle, id, rows.as_ptr(), rows.len(), had) };
+        came_back(code, had)
+    }
+
+    /// The rows of a set that came back, or none where readers hold all that wait.
+    pub fn reap<'a>(&mut self, had: &'a mut Rows) -> Option<&'a [Row]> {
+        // SAFETY: the handle is live, and the rows are laid out as the header's.
+        let code = unsafe { ffi::nr_reap_id(&mut self.handle, had) };
+        (code == ffi::NR_GIVEN).then(|| own_rows(had))
     }
 
     /// Takes an id's rows and its way.
@@ -147,6 +177,19 @@ impl IdWriter {
         // SAFETY: the handle is live.
         unsafe { ffi::nr_evict_id(&mut self.handle, id) };
     }
+}
+
+/// The rows that came back with an answer, or no rows.
+fn came_back(code: u32, had: &Rows) -> Result<&[Row], Fault> {
+    match code {
+        ffi::NR_GIVEN => Ok(own_rows(had)),
+        code => done(code).map(|()| &[][..]),
+    }
+}
+
+/// The rows of a set that came back, after that which says whose it was.
+fn own_rows(had: &Rows) -> &[Row] {
+    &had.as_slice()[1..]
 }
 
 impl Drop for IdWriter {

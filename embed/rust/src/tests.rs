@@ -3,10 +3,13 @@ use crate::*;
 
 mod cache;
 mod emptied;
+mod eviction;
+mod holds;
 mod inbox;
 mod loaders;
 mod lobby;
 mod net;
+mod panics;
 mod progress;
 mod reclaiming;
 mod values;

@@ -1,7 +1,6 @@
 //! How a cache is opened.
 use super::expiry::Expiry;
 use super::part::Part;
-use super::seats::Seats;
 use super::shared::{Desk, Shared};
 use super::store::Store;
 use super::Cache;
@@ -23,9 +22,6 @@ const MAX_PARTS: usize = 16;
 
 /// How many readers the maps of all parts may have where there is more than one: of 6 kB each.
 const MAX_READERS: usize = 512;
-
-/// How many slots a part's map has besides those that it cannot do without, so that a fill rarely looks at all readers.
-const SPARE_SLOTS: u32 = 64;
 
 /// How many entries a part has at least where there is more than one.
 const LEAST_PART: usize = 128;
@@ -96,9 +92,9 @@ impl<K: Hash + Eq, V, S: BuildHasher> CacheBuilder<K, V, S> {
             let asker = readers.pop().expect("the store's own reader");
             spare.iter_mut().zip(readers).for_each(|(desk, reader)| desk.push(reader));
             let store = Store::new(writer, asker, shape, capacity);
-            parts.push(Part::new(expiry, Seats::new(spare.len()), store));
+            parts.push(Part::new(expiry, spare.len(), store));
         }
-        let desk = |(ids, seat): (Vec<IdReader>, usize)| Desk { ids: ids.into(), seat };
+        let desk = |(ids, number): (Vec<IdReader>, usize)| Desk { ids: ids.into(), number };
         let spare = spare.into_iter().zip(0..).map(desk).collect();
         Ok(Cache { shared: Arc::new(Shared::new(self.hasher, self.capacity, parts, spare)) })
     }
@@ -119,11 +115,11 @@ fn parts(capacity: usize, threads: u32) -> usize {
 }
 
 /// The map of a part. Eight ways for each five entries, so that few groups are full before the part is; and a slot for
-/// each entry, each reader and more, so that no fill lacks one.
+/// each entry, each reader and one more, so that no fill lacks one: what left the map and readers hold has one too.
 fn shape(capacity: usize, threads: u32) -> IdShape {
     let groups = capacity.div_ceil(5) as u32;
     // The store has a reader of its own, and so has the library.
-    let (slots, readers) = (capacity as u32 + SPARE_SLOTS + threads + 3, threads + 1);
+    let (slots, readers) = (capacity as u32 + threads + 3, threads + 1);
     let key = RandomState::new().hash_one(0u8);
     IdShape { groups, slots, readers, rows: 1, key, first_number: 0 }
 }

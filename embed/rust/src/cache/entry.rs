@@ -3,6 +3,7 @@ use super::expiry::Moment;
 use crate::Row;
 use std::ptr::NonNull;
 use std::sync::atomic::{AtomicBool, AtomicU64, Ordering::Relaxed};
+use std::thread::{self, ThreadId};
 
 /// A value with its key, in a box of its own that the store owns.
 pub(super) struct Entry<K, V> {
@@ -10,6 +11,8 @@ pub(super) struct Entry<K, V> {
     pub key: K,
     pub value: V,
     pub born: Moment,
+    /// The thread by whose load or call the value came: none where it came by a request, whose load may have run anywhere.
+    pub maker: Option<ThreadId>,
     /// When it was last found, as far as the time to idle asks.
     pub touched: AtomicU64,
     /// Whether it was found since the store last looked for something to evict.
@@ -17,8 +20,14 @@ pub(super) struct Entry<K, V> {
 }
 
 impl<K, V> Entry<K, V> {
+    /// One whose value comes by the thread that calls.
     pub fn new(id: u64, key: K, value: V, now: Moment) -> Entry<K, V> {
-        Entry { id, key, value, born: now, touched: AtomicU64::new(now), used: AtomicBool::new(false) }
+        Entry::of(Some(thread::current().id()), id, key, value, now)
+    }
+
+    /// One whose value comes by that thread.
+    pub fn of(maker: Option<ThreadId>, id: u64, key: K, value: V, now: Moment) -> Entry<K, V> {
+        Entry { id, key, value, born: now, maker, touched: AtomicU64::new(now), used: AtomicBool::new(false) }
     }
 
     /// Notes that it was found, and writes only what isn't so yet.
@@ -43,7 +52,7 @@ pub(super) fn row_of<K, V>(entry: NonNull<Entry<K, V>>) -> Row {
     Row { a: 1, b: entry.as_ptr() as u64 }
 }
 
-/// The entry that the rows of a set refer to.
+/// The entry that the rows of a set refer to; a set without rows has none.
 pub(super) fn entry_of<K, V>(rows: &[Row]) -> Option<NonNull<Entry<K, V>>> {
     NonNull::new(rows.first()?.b as *mut Entry<K, V>)
 }

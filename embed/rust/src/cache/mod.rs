@@ -1,15 +1,18 @@
 //! A cache of values of any type by keys of any type.
 mod builder;
+mod counts;
 mod entry;
 mod expiry;
 mod flights;
+mod hold;
+mod lock;
 mod part;
 mod reader;
 mod request;
-mod seats;
 mod shared;
 mod stats;
 mod store;
+mod victims;
 mod view;
 
 pub use builder::CacheBuilder;
@@ -18,6 +21,7 @@ pub use request::{Request, Sought};
 pub use stats::CacheStats;
 pub use view::{Change, View};
 
+use crate::drops::with_each;
 use entry::Entry;
 use part::Part;
 use shared::Shared;
@@ -92,7 +96,7 @@ impl<K: Hash + Eq, V, S: BuildHasher> Cache<K, V, S> {
 
     /// Takes each key's value, as [`Cache::invalidate`] does one.
     pub fn invalidate_all(&self) {
-        self.shared.parts().iter().for_each(Part::invalidate_all);
+        with_each(self.shared.parts(), Part::invalidate_all);
     }
 
     /// How many entries it holds, of which some may have expired.

@@ -1,20 +1,24 @@
 //! One of a cache's parts, which has some of the ids, and a map and a lock of its own.
+use super::counts::Counts;
 use super::entry::Entry;
 use super::expiry::{Expiry, Moment};
 use super::flights::{Cause, End, Flight, Prospect};
-use super::seats::Seats;
+use super::hold::Hold;
+use super::lock::{Lock, Locked};
 use super::stats::CacheStats;
 use super::store::{Place, Store};
-use crate::drops::drop_each;
+use crate::drops::drop_each_then;
+use crate::ids::IdReader;
 use std::borrow::Borrow;
-use std::sync::{Arc, Mutex, MutexGuard, PoisonError};
+use std::sync::Arc;
 
 /// Apart from the lines of the others.
 #[repr(align(128))]
 pub(super) struct Part<K, V> {
     pub expiry: Expiry,
-    pub seats: Seats,
-    store: Mutex<Store<K, V>>,
+    /// One for each reader.
+    pub counts: Box<[Counts]>,
+    store: Lock<Store<K, V>>,
 }
 
 // SAFETY: the entries go between threads, and are read by several at a time; the rest is behind a lock or atomic.
@@ -34,7 +38,7 @@ pub(super) enum Begun<K> {
 
 /// A value that was loaded.
 pub(super) enum Landed<K, V> {
-    /// The cache holds it; where a seat was given, that was taken before.
+    /// The cache holds it, and so does the reader that was given.
     Held(Place<K, V>),
     /// The caller alone has it.
     Own(Box<Entry<K, V>>),
@@ -53,8 +57,9 @@ impl<K, V> Drop for Failing<'_, K, V> {
 }
 
 impl<K, V> Part<K, V> {
-    pub fn new(expiry: Expiry, seats: Seats, store: Store<K, V>) -> Self {
-        Part { expiry, seats, store: Mutex::new(store) }
+    pub fn new(expiry: Expiry, readers: usize, store: Store<K, V>) -> Self {
+        let counts = (0..readers).map(|_| Counts::default()).collect();
+        Part { expiry, counts, store: Lock::new(store) }
     }
 
     /// Opens a flight of a key, unless it is held or there is one.
@@ -76,7 +81,7 @@ impl<K, V> Part<K, V> {
             // Another key has the id.
             Some((false, false)) => Prospect::NoPlace,
             Some((_, true)) => {
-                store.evict(id, &self.seats);
+                store.evict(id);
                 store.counted.evictions += 1;
                 self.prospect(&mut store, id, now)
             }
@@ -93,7 +98,7 @@ impl<K, V> Part<K, V> {
         } else if store.flights.has_upquery(id) {
             Prospect::NoPlace
         } else {
-            store.admit(id, &self.seats, &self.expiry, now).map_or(Prospect::NoPlace, Prospect::Held)
+            store.admit(id, &self.expiry, now).map_or(Prospect::NoPlace, Prospect::Held)
         }
     }
 
@@ -105,15 +110,21 @@ impl<K, V> Part<K, V> {
         self.store().flights.find(id, key)
     }
 
-    /// Ends a flight by its value, for the reader of that seat.
-    pub fn land(&self, flight: &Arc<Flight<K>>, entry: Box<Entry<K, V>>, seat: Option<usize>) -> Landed<K, V> {
+    /// Ends a flight by its value, which the reader holds then, where one is given.
+    pub fn land(
+        &self,
+        flight: &Arc<Flight<K>>,
+        entry: Box<Entry<K, V>>,
+        reader: Option<&mut IdReader>,
+    ) -> Landed<K, V> {
+        let mut hold = None;
         let land = |store: &mut Store<K, V>| {
             store.counted.loads += 1;
             match store.flights.end(flight) {
                 Prospect::Held(upquery) => {
-                    let place = store.fill(upquery, entry, &self.seats, &self.expiry);
-                    // After what it took out, so that this reader doesn't keep that.
-                    seat.map(|seat| self.seats.sit(seat));
+                    let place = store.fill(upquery, entry, &self.expiry);
+                    // Under the lock, so that nobody takes it out before.
+                    hold = reader.map(|reader| Hold::of(reader, flight.id()));
                     return Landed::Held(place);
                 }
                 Prospect::NoPlace => store.counted.refused += 1,
@@ -121,7 +132,11 @@ impl<K, V> Part<K, V> {
             }
             Landed::Own(entry)
         };
-        self.change_then(land, || flight.end(End::Loaded))
+        let landed = self.change_then(land, || flight.end(End::Loaded));
+        if let Some(hold) = hold {
+            hold.keep();
+        }
+        landed
     }
 
     /// Ends a flight without a value, for that cause.
@@ -147,29 +162,31 @@ impl<K, V> Part<K, V> {
     where
         K: Eq,
     {
-        let id = entry.id;
+        let (id, now) = (entry.id, entry.born);
+        // Out here it is dropped without the lock, also where the keys' `Eq` panics.
+        let mut entry = Some(entry);
         let refused = self.change(|store| {
             store.revoke(id);
-            let is_same = store.find(id).map(|old| old.key == entry.key);
+            let is_same = entry.as_ref().and_then(|entry| store.has_key(id, &entry.key));
             // Whether the value is from before a change or from after it nobody can tell.
             if store.flights.is_changing(id) && is_same != Some(false) {
-                store.evict(id, &self.seats);
+                store.evict(id);
                 store.counted.outdated += 1;
-                return Some(entry);
+                return entry.take();
             }
             let upquery = match is_same {
-                Some(true) => {
-                    store.replace(entry, &self.seats);
-                    return None;
+                None => store.admit(id, &self.expiry, now),
+                Some(_) => None,
+            };
+            let entry = entry.take()?;
+            match (is_same, upquery) {
+                (Some(true), _) => store.replace(entry),
+                (_, Some(upquery)) => _ = store.fill(upquery, entry, &self.expiry),
+                _ => {
+                    store.counted.refused += 1;
+                    return Some(entry);
                 }
-                Some(false) => None,
-                None => store.admit(id, &self.seats, &self.expiry, entry.born),
-            };
-            let Some(upquery) = upquery else {
-                store.counted.refused += 1;
-                return Some(entry);
-            };
-            store.fill(upquery, entry, &self.seats, &self.expiry);
+            }
             None
         });
         refused.is_none()
@@ -181,7 +198,7 @@ impl<K, V> Part<K, V> {
             if store.place(entry.id) != Some(old) {
                 return Some(entry);
             }
-            store.replace(entry, &self.seats);
+            store.replace(entry);
             None
         });
         refused.is_none()
@@ -194,15 +211,19 @@ impl<K, V> Part<K, V> {
     {
         self.change(|store| {
             store.revoke(id);
-            let is_its_own = store.find(id).is_some_and(|entry| entry.key.borrow() == key);
-            is_its_own && store.evict(id, &self.seats)
+            store.has_key(id, key) == Some(true) && store.evict(id)
         })
+    }
+
+    /// What is under way for an id will not be held.
+    pub fn revoke(&self, id: u64) {
+        self.store().revoke(id);
     }
 
     pub fn invalidate_all(&self) {
         self.change(|store| {
             store.revoke_all();
-            store.evict_all(&self.seats);
+            store.evict_all();
         });
     }
 
@@ -214,25 +235,34 @@ impl<K, V> Part<K, V> {
         });
     }
 
-    /// Ends it. Where the key has an entry, that is replaced by what `change` makes of it, or goes where that makes none:
-    /// whether there was one.
-    pub fn end_change(&self, id: u64, key: K, change: impl FnOnce(&V) -> Option<V>) -> Option<bool>
+    /// Ends it. Where the key has an entry that hasn't expired, that is replaced by what `change` makes of it: whether it was.
+    /// An entry of which that makes none goes.
+    pub fn end_change<E, C>(&self, id: u64, key: K, change: C) -> Result<bool, E>
     where
         K: Eq,
+        C: FnOnce(&Entry<K, V>) -> Result<Option<V>, E>,
     {
         let now = self.expiry.now();
         // Where the key isn't needed it is dropped without the lock.
         let mut key = Some(key);
         self.change(|store| {
             store.flights.end_change(id);
-            let Some(old) = store.find(id).filter(|old| Some(&old.key) == key.as_ref()) else { return Some(false) };
-            let Some(value) = change(&old.value) else {
-                store.evict(id, &self.seats);
-                return None;
-            };
-            let key = key.take().expect("the key is here");
-            store.replace(Box::new(Entry::new(id, key, value, now)), &self.seats);
-            Some(true)
+            let is_its_own = key.as_ref().and_then(|key| store.has_key(id, key)) == Some(true);
+            let Some(old) = store.find(id).filter(|_| is_its_own) else { return Ok(false) };
+            let (is_over, maker) = (self.expiry.is_over(old, now), old.maker);
+            let made = if is_over { Ok(None) } else { change(old) };
+            match (made, key.take()) {
+                (Ok(Some(value)), Some(key)) => {
+                    store.replace(Box::new(Entry::of(maker, id, key, value, now)));
+                    Ok(true)
+                }
+                (made, kept) => {
+                    key = kept;
+                    store.counted.evictions += u64::from(is_over);
+                    store.evict(id);
+                    made.map(|_| false)
+                }
+            }
         })
     }
 
@@ -242,16 +272,16 @@ impl<K, V> Part<K, V> {
 
     pub fn stats(&self) -> CacheStats {
         let mut stats = self.store().counted;
-        self.seats.add_to(&mut stats);
+        self.counts.iter().for_each(|counts| counts.add_to(&mut stats));
         stats
     }
 
     /// All entries, of a cache that nobody uses any more.
     pub fn take_all(&mut self) -> Vec<Box<Entry<K, V>>> {
-        self.store.get_mut().unwrap_or_else(PoisonError::into_inner).take_all()
+        self.store.get_mut().take_all()
     }
 
-    /// Changes the store under its lock, and then drops what nobody can see any more, without it.
+    /// Changes the store under its lock, and then drops what came back, without it.
     fn change<R>(&self, change: impl FnOnce(&mut Store<K, V>) -> R) -> R {
         self.change_then(change, || {})
     }
@@ -263,15 +293,14 @@ impl<K, V> Part<K, V> {
         let result = {
             let mut store = self.store();
             let result = change(&mut store);
-            doomed.extend(store.sweep(&self.seats));
+            doomed.extend(store.reap());
             result
         };
         then();
-        drop_each(doomed);
-        result
+        drop_each_then(doomed, result)
     }
 
-    fn store(&self) -> MutexGuard<'_, Store<K, V>> {
-        self.store.lock().unwrap_or_else(PoisonError::into_inner)
+    fn store(&self) -> Locked<'_, Store<K, V>> {
+        self.store.lock()
     }
 }

@@ -1,9 +1,10 @@
 //! What a thread finds and loads values with.
+use super::counts::Counts;
 use super::entry::{entry_of, Entry};
 use super::flights::End;
+use super::hold::Hold;
 use super::part::{Begun, Failing, Landed, Part};
 use super::request::{Request, Sought};
-use super::seats::Seat;
 use super::shared::{Desk, Shared};
 use super::store::Place;
 use super::Cache;
@@ -26,15 +27,17 @@ use std::time::{Duration, Instant};
 pub struct CacheReader<K: Hash + Eq, V, S: BuildHasher> {
     /// One of each part.
     ids: ManuallyDrop<Box<[IdReader]>>,
-    seat: usize,
+    /// The part in which it found last, and the only one in which it may still hold what was borrowed and forgotten.
+    last: usize,
+    number: usize,
     rows: Box<Rows>,
     cache: Cache<K, V, S>,
 }
 
 impl<K: Hash + Eq, V, S: BuildHasher> CacheReader<K, V, S> {
     pub(super) fn of(desk: Desk, cache: Cache<K, V, S>) -> CacheReader<K, V, S> {
-        let Desk { ids, seat } = desk;
-        CacheReader { ids: ManuallyDrop::new(ids), seat, rows: Box::default(), cache }
+        let Desk { ids, number } = desk;
+        CacheReader { ids: ManuallyDrop::new(ids), last: 0, number, rows: Box::default(), cache }
     }
 
     /// The cache that it reads.
@@ -139,7 +142,7 @@ impl<K: Hash + Eq, V, S: BuildHasher> CacheReader<K, V, S> {
             return Ok(self.borrowed(at, place));
         }
         if let Some(flight) = self.part(at).flight_of(at.id, key) {
-            self.seat(at).count_wait();
+            self.counts(at).count_wait();
             match flight.wait(Instant::now().checked_add(timeout)) {
                 None => return Err(WaitError::TimedOut),
                 Some(End::Failed(why)) => return Err(WaitError::Failed(why)),
@@ -151,17 +154,22 @@ impl<K: Hash + Eq, V, S: BuildHasher> CacheReader<K, V, S> {
     }
 
     /// Puts a new value in place of a key's, made of the one that it has; `change` runs again where that was replaced
-    /// meanwhile. Whether the cache held one.
+    /// meanwhile. Whether the cache held one. A load of the key that is under way will not be held.
     pub fn update<Q>(&mut self, key: &Q, mut change: impl FnMut(&V) -> V) -> bool
     where
         K: Borrow<Q>,
         Q: Hash + Eq + ToOwned<Owned = K> + ?Sized,
     {
         let at = self.at(key);
+        // A load that began before this call may have read what was to be changed. Once it is revoked, what is found here is
+        // changed, and what isn't is loaded by later loads alone.
+        self.part(at).revoke(at.id);
         while let Some(place) = self.find(at, key) {
-            let (part, old) = (self.part(at), self.borrowed(at, place));
+            let part = &self.cache.shared.parts()[at.part];
+            let old = CacheRef(Borrowed::Held(place, Hold::had(&mut self.ids[at.part])));
             let value = change(&old);
-            let entry = Box::new(Entry::new(at.id, key.to_owned(), value, part.expiry.now()));
+            let maker = old.entry().maker;
+            let entry = Box::new(Entry::of(maker, at.id, key.to_owned(), value, part.expiry.now()));
             let is_done = part.swap(place, entry);
             // Until here no other entry can have come to lie where the old one lies.
             drop(old);
@@ -192,7 +200,7 @@ impl<K: Hash + Eq, V, S: BuildHasher> CacheReader<K, V, S> {
             match self.begin(at, key) {
                 Begun::Load(flight) => break flight,
                 Begun::Wait(flight) => {
-                    self.seat(at).count_wait();
+                    self.counts(at).count_wait();
                     if flight.wait(until).is_none() {
                         return Err(LoadError::TimedOut);
                     }
@@ -203,15 +211,16 @@ impl<K: Hash + Eq, V, S: BuildHasher> CacheReader<K, V, S> {
                 return Ok(self.borrowed(at, place));
             }
         };
-        let part = self.part(at);
+        let part = &self.cache.shared.parts()[at.part];
         // Where the load ends without a value, by an error or a panic, this wakes those who wait.
         let _failing = Failing { part, flight: &flight };
         let value = load().map_err(LoadError::Failed)?;
         let entry = Box::new(Entry::new(at.id, key.to_owned(), value, part.expiry.now()));
-        Ok(match part.land(&flight, entry, Some(self.seat)) {
-            Landed::Held(place) => self.borrowed(at, place),
-            Landed::Own(entry) => CacheRef(Borrowed::Own(entry)),
-        })
+        let reader = &mut self.ids[at.part];
+        Ok(CacheRef(match part.land(&flight, entry, Some(reader)) {
+            Landed::Held(place) => Borrowed::Held(place, Hold::had(&mut self.ids[at.part])),
+            Landed::Own(entry) => Borrowed::Own(entry),
+        }))
     }
 
     /// Opens a flight of a key, unless it is held or there is one. The id is claimed without the lock.
@@ -224,15 +233,21 @@ impl<K: Hash + Eq, V, S: BuildHasher> CacheReader<K, V, S> {
         self.part(at).begin(at.id, key, key.to_owned())
     }
 
-    /// Where the entry of a key lies, which stays there while the reader has its seat. Without one the seat is left.
+    /// Where the entry of a key lies, which stays there while the reader holds it. Without one it holds nothing.
     fn find<Q: Eq + ?Sized>(&mut self, at: At, key: &Q) -> Option<Place<K, V>>
     where
         K: Borrow<Q>,
     {
         let part = &self.cache.shared.parts()[at.part];
-        let seat = Leaving(part.seats.sit(self.seat));
-        let place = entry_of::<K, V>(self.ids[at.part].find(at.id, &mut self.rows)?)?;
-        // SAFETY: the reader sat down before it found the entry.
+        let last = std::mem::replace(&mut self.last, at.part);
+        if last != at.part {
+            self.ids[last].let_go();
+        }
+        let reader = &mut self.ids[at.part];
+        let rows = reader.hold(at.id, &mut self.rows)?;
+        let hold = Hold::had(reader);
+        let place = entry_of::<K, V>(rows)?;
+        // SAFETY: the reader holds the entry's set, so the entry hasn't come back.
         let entry = unsafe { place.as_ref() };
         let now = part.expiry.now();
         if entry.key.borrow() != key || part.expiry.is_over(entry, now) {
@@ -240,7 +255,7 @@ impl<K: Hash + Eq, V, S: BuildHasher> CacheReader<K, V, S> {
         }
         entry.mark();
         part.expiry.touch(entry, now);
-        std::mem::forget(seat);
+        hold.keep();
         Some(place)
     }
 
@@ -251,14 +266,15 @@ impl<K: Hash + Eq, V, S: BuildHasher> CacheReader<K, V, S> {
     {
         let found = self.find(at, key);
         match found {
-            Some(_) => self.seat(at).count_hit(),
-            None => self.seat(at).count_miss(),
+            Some(_) => self.counts(at).count_hit(),
+            None => self.counts(at).count_miss(),
         }
         found
     }
 
-    fn borrowed(&self, at: At, place: Place<K, V>) -> CacheRef<'_, K, V> {
-        CacheRef(Borrowed::Held(place, Leaving(self.seat(at))))
+    /// What the last find has found.
+    fn borrowed(&mut self, at: At, place: Place<K, V>) -> CacheRef<'_, K, V> {
+        CacheRef(Borrowed::Held(place, Hold::had(&mut self.ids[at.part])))
     }
 
     fn at<Q: Hash + ?Sized>(&self, key: &Q) -> At {
@@ -270,8 +286,8 @@ impl<K: Hash + Eq, V, S: BuildHasher> CacheReader<K, V, S> {
         &self.shared().parts()[at.part]
     }
 
-    fn seat(&self, at: At) -> &Seat {
-        self.part(at).seats.seat(self.seat)
+    fn counts(&self, at: At) -> &Counts {
+        &self.part(at).counts[self.number]
     }
 
     fn shared(&self) -> &Shared<K, V, S> {
@@ -282,16 +298,16 @@ impl<K: Hash + Eq, V, S: BuildHasher> CacheReader<K, V, S> {
 impl<K: Hash + Eq, V, S: BuildHasher> Drop for CacheReader<K, V, S> {
     fn drop(&mut self) {
         // What was borrowed and forgotten is let go.
-        self.shared().parts().iter().for_each(|part| part.seats.seat(self.seat).leave());
+        self.ids[self.last].let_go();
         // SAFETY: nothing uses it after this.
         let ids = unsafe { ManuallyDrop::take(&mut self.ids) };
-        self.shared().spare().push(Desk { ids, seat: self.seat });
+        self.shared().spare().push(Desk { ids, number: self.number });
     }
 }
 
 impl<K: Hash + Eq, V, S: BuildHasher> fmt::Debug for CacheReader<K, V, S> {
     fn fmt(&self, f: &mut fmt::Formatter<'_>) -> fmt::Result {
-        f.debug_struct("CacheReader").field("seat", &self.seat).finish_non_exhaustive()
+        f.debug_struct("CacheReader").field("number", &self.number).finish_non_exhaustive()
     }
 }
 
@@ -302,17 +318,8 @@ struct At {
     part: usize,
 }
 
-/// A seat that is left with this.
-struct Leaving<'a>(&'a Seat);
-
-impl Drop for Leaving<'_> {
-    fn drop(&mut self) {
-        self.0.leave();
-    }
-}
-
 enum Borrowed<'a, K, V> {
-    Held(Place<K, V>, #[allow(dead_code)] Leaving<'a>),
+    Held(Place<K, V>, #[allow(dead_code)] Hold<'a>),
     Own(Box<Entry<K, V>>),
 }
 
@@ -338,7 +345,7 @@ impl<K, V> CacheRef<'_, K, V> {
 
     fn entry(&self) -> &Entry<K, V> {
         match &self.0 {
-            // SAFETY: the reader has its seat, which it took before it found the entry, as long as this borrows it.
+            // SAFETY: the reader holds the entry's set as long as this borrows it.
             Borrowed::Held(place, _) => unsafe { place.as_ref() },
             Borrowed::Own(entry) => entry,
         }

@@ -34,7 +34,7 @@ impl<K: Hash + Eq, V, S: BuildHasher> Request<K, V, S> {
         K: Clone,
     {
         let part = self.part();
-        let entry = Box::new(Entry::new(self.flight.id(), self.key().clone(), value, part.expiry.now()));
+        let entry = Box::new(Entry::of(None, self.flight.id(), self.key().clone(), value, part.expiry.now()));
         matches!(part.land(&self.flight, entry, None), Landed::Held(_))
     }
 

@@ -15,10 +15,10 @@ pub(super) struct Shared<K, V, S> {
     spare: Mutex<Vec<Desk>>,
 }
 
-/// What a reader has of a cache: a reader of each part's map, and its seat there, which has one number in all.
+/// What a reader has of a cache: a reader of each part's map, and the number by which it counts in all parts.
 pub(super) struct Desk {
     pub ids: Box<[IdReader]>,
-    pub seat: usize,
+    pub number: usize,
 }
 
 impl<K, V, S> Shared<K, V, S> {

@@ -1,10 +1,12 @@
 //! Caches of rows that are kept up to date by changes.
+use super::entry::Entry;
 use super::Cache;
 use crate::{Delta, Fault, Row};
 use std::borrow::Borrow;
 use std::collections::hash_map::RandomState;
 use std::fmt;
 use std::hash::{BuildHasher, Hash};
+use std::thread;
 
 /// A cache of rows, in ascending order, of which a key may have any number. Where the base changes, the rows that the view
 /// holds change with it, and need no load.
@@ -40,13 +42,18 @@ impl<K: Hash + Eq, S: BuildHasher> Cache<K, Box<[Row]>, S> {
     }
 
     /// Begins a change and ends it, as [`Change::commit`] does: for a base that has changed by now, where loads are made
-    /// by the same thread.
+    /// by the same thread. Whether rows that another thread has loaded, or that came by a [`Request`](crate::Request), are
+    /// from before the change or from after it nobody can tell: these go, so that none of them is there twice.
     pub fn update<Q>(&self, key: &Q, deltas: &[Delta]) -> Result<bool, Fault>
     where
         K: Borrow<Q>,
         Q: Hash + Eq + ToOwned<Owned = K> + ?Sized,
     {
-        self.change(key).commit(deltas)
+        let own = Some(thread::current().id());
+        self.change(key).end(|rows| match rows.maker == own {
+            true => changed(&rows.value, deltas).map(Some),
+            false => Ok(None),
+        })
     }
 }
 
@@ -63,18 +70,22 @@ impl<K: Hash + Eq, S: BuildHasher> Change<'_, K, S> {
     /// key. No get that begins after this has returned sees older rows. Where a row that was lost isn't there, the view's
     /// rows were not the base's: they go, and the call is refused with [`Fault::NoRow`].
     pub fn commit(mut self, deltas: &[Delta]) -> Result<bool, Fault> {
-        self.end(|rows| changed(rows, deltas)).ok_or(Fault::NoRow)
+        self.end(|rows| changed(&rows.value, deltas).map(Some))
     }
 
-    fn end(&mut self, change: impl FnOnce(&[Row]) -> Option<Box<[Row]>>) -> Option<bool> {
-        let key = self.key.take()?;
-        self.view.shared.part_of(self.id).end_change(self.id, key, |rows| change(rows))
+    fn end<C>(&mut self, change: C) -> Result<bool, Fault>
+    where
+        C: FnOnce(&Entry<K, Box<[Row]>>) -> Result<Option<Box<[Row]>>, Fault>,
+    {
+        let Some(key) = self.key.take() else { return Ok(false) };
+        self.view.shared.part_of(self.id).end_change(self.id, key, change)
     }
 }
 
 impl<K: Hash + Eq, S: BuildHasher> Drop for Change<'_, K, S> {
     fn drop(&mut self) {
-        self.end(|_| None);
+        // What it was refused for went with the rows.
+        _ = self.end(|_| Ok(None));
     }
 }
 
@@ -84,8 +95,8 @@ impl<K: Hash + Eq + fmt::Debug, S: BuildHasher> fmt::Debug for Change<'_, K, S> 
     }
 }
 
-/// Rows after a change, unless one that is lost isn't there, nor among those that come.
-fn changed(rows: &[Row], deltas: &[Delta]) -> Option<Box<[Row]>> {
+/// Rows after a change. Refused where one that is lost isn't there, nor among those that come.
+fn changed(rows: &[Row], deltas: &[Delta]) -> Result<Box<[Row]>, Fault> {
     let of_sign = |is_plus| deltas.iter().filter(move |delta| delta.is_plus() == is_plus).map(Delta::row);
     let mut rows: Vec<Row> = rows.iter().copied().chain(of_sign(true)).collect();
     let mut lost: Vec<Row> = of_sign(false).collect();
@@ -93,5 +104,5 @@ fn changed(rows: &[Row], deltas: &[Delta]) -> Option<Box<[Row]>> {
     lost.sort();
     let mut lost = lost.into_iter().peekable();
     rows.retain(|row| lost.next_if_eq(row).is_none());
-    lost.next().is_none().then(|| rows.into())
+    lost.next().map_or(Ok(rows.into()), |_| Err(Fault::NoRow))
 }

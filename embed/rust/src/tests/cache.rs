@@ -11,7 +11,7 @@ use std::time::{Duration, Instant};
 const LONG: Duration = Duration::from_secs(3600);
 
 /// What a call gave that may panic by a load's own panic, and by no other.
-fn caught<T>(call: impl FnOnce() -> T) -> Option<T> {
+pub(super) fn caught<T>(call: impl FnOnce() -> T) -> Option<T> {
     match catch_unwind(AssertUnwindSafe(call)) {
         Ok(gave) => Some(gave),
         Err(why) if why.downcast_ref() == Some(&"a load") => None,
@@ -35,7 +35,7 @@ fn cache<V: Send + Sync>(capacity: usize) -> Cache<u64, V> {
     Cache::builder().capacity(capacity).threads(8).open().unwrap()
 }
 
-fn panicking<T>() -> T {
+pub(super) fn panicking<T>() -> T {
     // Without the hook's message.
     resume_unwind(Box::new("a load"))
 }
@@ -216,6 +216,24 @@ fn an_update_is_made_of_the_value_that_it_replaces() {
     };
     assert!(reader.update(&1, change));
     assert_eq!((tries.get(), reader.get(&1).as_deref()), (2, Some(&70)));
+}
+
+#[test]
+fn what_was_loaded_before_an_update_is_not_held() {
+    let cache = cache(10);
+    let (mut reader, mut other) = (cache.reader().unwrap(), cache.reader().unwrap());
+    let Sought::Missing(request) = other.get_or_request(&1) else { panic!() };
+    assert!(!reader.update(&1, |_| unreachable!()));
+    assert!(!request.fill(5));
+    assert!(reader.get(&1).is_none());
+    let loaded = reader.get_with(&1, || {
+        assert!(!other.update(&1, |_| unreachable!()));
+        6
+    });
+    assert!(!loaded.is_held());
+    drop(loaded);
+    assert!(reader.get(&1).is_none() && reader.get_with(&1, || 7).is_held());
+    assert_eq!(cache.stats().outdated, 2);
 }
 
 #[test]

@@ -85,6 +85,44 @@ fn a_load_that_began_before_a_change_was_over_is_not_held() {
     assert_eq!((view.stats().outdated, view.stats().refused), (5, 0));
 }
 
+#[test]
+fn an_update_puts_no_row_in_twice_that_another_thread_has_loaded() {
+    let view = view();
+    let mut reader = view.reader().unwrap();
+    // The base has got row 2, and the view hears of it last.
+    let load = |reader: &mut CacheReader<u64, Box<[Row]>, _>| reader.get_with(&1, || rows(&[1, 2])).is_held();
+    thread::scope(|scope| assert!(scope.spawn(|| load(&mut view.reader().unwrap())).join().unwrap()));
+    assert_eq!(view.update(&1, &[Delta::plus(row(2))]), Ok(false));
+    assert!(reader.get(&1).is_none());
+    let Sought::Missing(request) = reader.get_or_request(&1) else { panic!() };
+    thread::scope(|scope| assert!(scope.spawn(|| request.fill(rows(&[1, 2]))).join().unwrap()));
+    assert_eq!(view.update(&1, &[Delta::plus(row(2))]), Ok(false));
+    // Its own loads come before its own changes of the base, and changes that have begun are told from loads.
+    assert!(load(&mut reader));
+    assert_eq!(view.update(&1, &[Delta::plus(row(3))]), Ok(true));
+    thread::scope(|scope| {
+        scope.spawn(|| assert_eq!(view.change(&1).commit(&[Delta::plus(row(4))]), Ok(true)));
+    });
+    assert_eq!(view.update(&1, &[Delta::plus(row(5))]), Ok(true));
+    assert_eq!(reader.get(&1).as_deref(), Some(&rows(&[1, 2, 3, 4, 5])));
+}
+
+#[test]
+fn a_change_does_not_revive_rows_that_have_expired() {
+    let time = Duration::from_millis(30);
+    let view = View::<u64>::builder().time_to_live(time).open().unwrap();
+    let mut reader = view.reader().unwrap();
+    for begins_before in [true, false] {
+        view.insert(1, rows(&[1]));
+        let change = begins_before.then(|| view.change(&1));
+        thread::sleep(time + time / 4);
+        let change = change.unwrap_or_else(|| view.change(&1));
+        assert_eq!(change.commit(&[Delta::plus(row(2))]), Ok(false));
+        assert!(reader.get(&1).is_none() && view.is_empty());
+    }
+    assert_eq!(view.stats().evictions, 2);
+}
+
 /// Each thread adds rows of its own to the base and takes them away, and loads what is missing.
 fn play(number: u64, base: &[Mutex<Vec<Row>>], view: &View<u64>) {
     let mut reader = view.reader().unwrap();

@@ -1,0 +1,29 @@
+//! What keeps a value while a reader borrows it.
+use crate::ids::IdReader;
+
+/// A reader's hold of an entry's set, which ends with this. Until then the set doesn't come back, and so the entry stays.
+pub(super) struct Hold<'a>(&'a mut IdReader);
+
+impl<'a> Hold<'a> {
+    /// The hold that a reader has.
+    pub fn had(reader: &'a mut IdReader) -> Hold<'a> {
+        Hold(reader)
+    }
+
+    /// A hold of the set of an id that is filled, and that nobody can take meanwhile.
+    pub fn of(reader: &'a mut IdReader, id: u64) -> Hold<'a> {
+        assert!(reader.pin(id), "the id is filled");
+        Hold(reader)
+    }
+
+    /// Leaves it with the reader, of whom it is to be had again.
+    pub fn keep(self) {
+        std::mem::forget(self);
+    }
+}
+
+impl Drop for Hold<'_> {
+    fn drop(&mut self) {
+        self.0.let_go();
+    }
+}
