@@ -13,5 +13,5 @@ BEGIN
     PERFORM pg_logical_emit_message(true, 'edges: changed', '');
 END $$;
 CREATE EVENT TRIGGER edges_changed ON ddl_command_end
-    WHEN TAG IN ('ALTER TABLE', 'DROP TABLE', 'ALTER PUBLICATION', 'DROP PUBLICATION')
+    WHEN TAG IN ('ALTER TABLE', 'DROP TABLE', 'ALTER PUBLICATION', 'DROP PUBLICATION', 'ALTER SCHEMA', 'DROP SCHEMA')
     EXECUTE FUNCTION tell_edges();

@@ -5,6 +5,7 @@ use crate::log::{Changes, Log, Transaction};
 use crate::lsn::Lsn;
 use crate::residents::Residents;
 use crate::snapshot::Snapshot;
+use crate::table::TableId;
 use crate::upquery::{Answer, Asker, Request, Seen, Told};
 use crate::{parts, pq, stats::Count, Shared};
 use nr::{Arrival, Delta, Fault, InboxTaker, Row, Ticket};
@@ -19,6 +20,8 @@ pub enum Event {
     Lost,
     /// A new slot stands.
     Begun(First),
+    /// The stream can't go on, for this reason, until an operator mends it.
+    Refused(String),
     Answer(Answer),
     /// A client asks for an article without a key.
     Asked(Box<str>, mpsc::Sender<Told>),
@@ -32,6 +35,8 @@ pub struct First {
     /// It sees just what was committed before the slot's first transaction, which comes after the place.
     pub snapshot: Snapshot,
     pub place: Lsn,
+    /// Whose changes it brings.
+    pub table: TableId,
 }
 
 /// After this many applied transactions without an upquery, PostgreSQL is asked what a snapshot sees.
@@ -52,6 +57,7 @@ pub struct Order {
     fresh: Fresh,
     /// What the slot began with.
     first: Option<Snapshot>,
+    table: TableId,
     /// A slot stands. Without one, answers are told and fill nothing.
     is_following: bool,
     applied: Lsn,
@@ -63,16 +69,19 @@ pub struct Order {
 }
 
 impl Dataflow<'_> {
-    pub fn run(mut self) {
+    /// Until the edge is told to end, or for the reason that is given.
+    pub fn run(mut self) -> Result<(), String> {
         while let Some(arrival) = self.inbox.wait() {
             match arrival {
-                Arrival::Event(Event::End) => return,
+                Arrival::Event(Event::End) => break,
+                Arrival::Event(Event::Refused(why)) => return Err(why),
                 Arrival::Event(event) => self.handle(event),
                 Arrival::Ticket(ticket) => self.upquery(ticket),
             }
             self.shared.log.store(self.order.log.len() as u64, SeqCst);
             self.shared.is_following.store(self.order.is_following, SeqCst);
         }
+        Ok(())
     }
 
     fn handle(&mut self, event: Event) {
@@ -84,7 +93,7 @@ impl Dataflow<'_> {
             Event::Answer(answer) => self.take_answer(answer),
             Event::Asked(article, client) => self.request(article, Asker::Client(client), false),
             Event::Awaited(key) => _ = self.order.worn.remove(&key).map(|ticket| self.upquery(ticket)),
-            Event::End => {}
+            Event::Refused(_) | Event::End => {}
         }
     }
 
@@ -149,9 +158,17 @@ impl Dataflow<'_> {
         emptied.cancelled.into_iter().for_each(|key| self.tell(key, &Told::Again));
     }
 
-    fn follow(&mut self, First { snapshot, place }: First) {
+    /// Another table has the name now. What is held and the log are of the one before, which the stream still brings.
+    fn leave_table(&mut self) {
+        self.begin_anew();
+        self.order.log.clear();
+        self.shared.has_other_table.store(true, SeqCst);
+    }
+
+    fn follow(&mut self, First { snapshot, place, table }: First) {
         self.order.log.clear();
         self.order.first = Some(snapshot);
+        self.order.table = table;
         self.order.is_following = true;
         self.order.applied = place;
         self.shared.lobby.progress().restart(place.0);
@@ -164,6 +181,9 @@ impl Dataflow<'_> {
             Ok(answer) => answer,
             Err(fault) => return requests.into_iter().for_each(|request| self.refuse(request.asker, &fault)),
         };
+        if parts::TABLE && self.order.is_following && seen.table != self.order.table {
+            self.leave_table();
+        }
         // An answer of before the loss tells nothing of a server that was restarted: that may give its numbers anew.
         let is_late = requests.iter().all(|request| request.number <= self.order.emptied_after);
         if !is_late && self.lacks_first(&seen) {

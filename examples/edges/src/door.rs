@@ -2,6 +2,7 @@
 use crate::session::Session;
 use std::net::{Shutdown, TcpListener};
 use std::sync::{atomic::AtomicI32, atomic::Ordering::SeqCst, Arc, Mutex};
+use std::time::{Duration, Instant};
 use std::{collections::HashMap, ffi::c_int, io, io::ErrorKind, io::Write, os::fd::AsRawFd, thread, thread::Builder};
 
 extern "C" {
@@ -17,8 +18,12 @@ extern "C" fn shut(_signal: c_int) {
     unsafe { shutdown(LISTENER.load(SeqCst), 2) };
 }
 
-/// Gives each client a thread and a session, which the next one has when it has gone; ends when all have.
-pub fn serve(listener: TcpListener, sessions: Vec<Session>) {
+/// How long those are waited for who are asked to go: one may wait for PostgreSQL, or for a lock there.
+pub const GRACE: Duration = Duration::from_secs(3);
+const PAUSE: Duration = Duration::from_millis(5);
+
+/// Gives each client a thread and a session, which the next one has when it has gone. Calls `end` when all have.
+pub fn serve(listener: TcpListener, sessions: Vec<Session>, end: impl FnOnce()) {
     LISTENER.store(listener.as_raw_fd(), SeqCst);
     // SAFETY: the handler makes nothing but an atomic load and a call that it may make.
     [2, 15].iter().for_each(|number| _ = unsafe { signal(*number, shut) });
@@ -49,5 +54,10 @@ pub fn serve(listener: TcpListener, sessions: Vec<Session>) {
             }
         }
         clients.lock().unwrap().values().for_each(|client| _ = client.shutdown(Shutdown::Both));
+        let begun = Instant::now();
+        while !clients.lock().unwrap().is_empty() && begun.elapsed() < GRACE {
+            thread::sleep(PAUSE);
+        }
+        end();
     });
 }

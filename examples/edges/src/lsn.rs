@@ -15,6 +15,21 @@ impl FromStr for Lsn {
     }
 }
 
+impl Lsn {
+    /// A place that PostgreSQL tells with the size of its log's files. Where it is the end of a page's header, this is the
+    /// page's begin: a stream comes as far, and no farther until more is written.
+    pub fn before_header(place: &str, size: &str) -> Result<Lsn, String> {
+        let (Lsn(place), size) = (place.parse()?, size.parse::<u64>().map_err(|fault| fault.to_string())?);
+        let header = if place % size < PAGE { FIRST_HEADER } else { HEADER };
+        Ok(Lsn(if place % PAGE == header { place - header } else { place }))
+    }
+}
+
+/// In bytes, as PostgreSQL is built. A file's first page has a longer header.
+const PAGE: u64 = 8192;
+const HEADER: u64 = 24;
+const FIRST_HEADER: u64 = 40;
+
 impl fmt::Display for Lsn {
     fn fmt(&self, f: &mut fmt::Formatter<'_>) -> fmt::Result {
         write!(f, "{:X}/{:X}", self.0 >> 32, self.0 as u32)

@@ -11,17 +11,20 @@ mod pgoutput;
 mod pq;
 mod residents;
 mod session;
+mod slot;
 mod snapshot;
 mod stats;
 mod stream;
+mod table;
 mod upquery;
 mod wire;
 
 use dataflow::{Dataflow, Event, Order};
 use nr::{Inbox, Lobby, ReaderMap, Rows, Shape, Writer};
-use std::sync::atomic::{AtomicBool, AtomicU64};
+use std::sync::atomic::{AtomicBool, AtomicU64, Ordering::SeqCst};
 use std::sync::{mpsc, Mutex};
-use std::{collections::VecDeque, env, error::Error, net::TcpListener, process, thread, time::Duration};
+use std::thread::{self, Builder};
+use std::{collections::VecDeque, env, error::Error, net::TcpListener, process, time::Duration};
 
 /// What the threads share beside the map.
 struct Shared {
@@ -31,6 +34,11 @@ struct Shared {
     /// All that clients were told was committed before this place. It never falls.
     told: AtomicU64,
     longest_wait: Duration,
+    limits: wire::Limits,
+    /// Connections to PostgreSQL by which no client writes now.
+    writers: Mutex<Vec<pq::Connection>>,
+    /// Another table has the name of the one that the stream brings.
+    has_other_table: AtomicBool,
     /// Those of the sessions, and those of the dataflow.
     counts: Vec<stats::Counts>,
     work: stats::Counts,
@@ -42,8 +50,9 @@ struct Shared {
 }
 
 /// Each is followed by a number, or has that of DEFAULTS. Times are in milliseconds; with 0 slots there are as many as needed.
-const OPTIONS: &str = "--port --readers --keys --rows --limit --connections --batch --wait --confirm --slots --number";
-const DEFAULTS: [u32; 11] = [0, 64, 65536, 63, 6554, 4, 32, 10_000, 1000, 0, 0];
+const OPTIONS: &str =
+    "--port --readers --keys --rows --limit --connections --batch --wait --confirm --slots --number --idle --half";
+const DEFAULTS: [u32; 13] = [0, 64, 65536, 63, 6554, 4, 32, 10_000, 1000, 0, 0, 300_000, 10_000];
 
 struct Options([u32; DEFAULTS.len()]);
 
@@ -72,6 +81,10 @@ impl Options {
         Shape { rows: self.of("--rows"), first_number, ..Shape::new(self.of("--keys"), slots, readers) }
     }
 
+    fn time(&self, name: &str) -> Duration {
+        Duration::from_millis(self.of(name).max(1).into())
+    }
+
     fn shared(&self, address: String, writer: &Writer) -> Shared {
         Shared {
             address,
@@ -79,6 +92,9 @@ impl Options {
             lobby: Lobby::of(writer),
             told: AtomicU64::new(0),
             longest_wait: Duration::from_millis(self.of("--wait").into()),
+            limits: wire::Limits { idle: self.time("--idle"), half: self.time("--half") },
+            writers: Mutex::default(),
+            has_other_table: AtomicBool::new(false),
             counts: (0..self.of("--readers")).map(|_| stats::Counts::default()).collect(),
             work: stats::Counts::default(),
             log: AtomicU64::new(0),
@@ -91,13 +107,18 @@ impl Options {
 fn main() -> Result<(), Box<dyn Error>> {
     let told = Options::read(env::args().skip(1));
     let (address, slot, options) = told.ok_or_else(|| format!("ADDRESS SLOT, and of {OPTIONS} each with a number"))?;
+    let slot = &slot::Slot::new(address.clone(), slot);
+    if let Err(stream::End::Refused(why)) = slot.check() {
+        eprintln!("edge: {why}");
+        process::exit(1);
+    }
     let ReaderMap { writer, readers } = ReaderMap::open(&options.shape())?;
     // A key has one ticket at a time, and one of each that was taken back.
     let Inbox { taker: inbox, posters, events } = Inbox::open(&writer, options.of("--keys"), options.of("--readers"))?;
     let shared = &options.shared(address, &writer);
     let session = |(number, (reader, poster))| {
         let events = events.clone();
-        session::Session { number, reader, rows: Rows::new(), poster, events, shared, base: None }
+        session::Session { number, reader, rows: Rows::new(), poster, events, shared }
     };
     let sessions: Vec<_> = readers.into_iter().zip(posters).enumerate().map(session).collect();
     let (requests, waiting) = mpsc::channel();
@@ -105,8 +126,7 @@ fn main() -> Result<(), Box<dyn Error>> {
     let limit = options.of("--limit") as usize;
     let residents = residents::Residents { writer, shared, clock: VecDeque::new(), limit };
     let confirm = Duration::from_millis(options.of("--confirm").into());
-    let stream =
-        stream::Stream { address: shared.address.clone(), slot: slot.clone(), events: events.clone(), confirm };
+    let stream = stream::Stream { slot, events: events.clone(), shared, confirm };
     let listener = TcpListener::bind(("127.0.0.1", u16::try_from(options.of("--port"))?))?;
     thread::scope(|scope| {
         for _ in 0..options.of("--connections") {
@@ -115,13 +135,27 @@ fn main() -> Result<(), Box<dyn Error>> {
             scope.spawn(move || upqueries.run());
         }
         scope.spawn(move || stream.run());
-        let end = events.clone();
-        scope.spawn(move || (door::serve(listener, sessions), _ = end.send(Event::End)));
-        Dataflow { inbox, requests, shared, residents, order: Order::default() }.run();
-        // The other threads wait for PostgreSQL, which need not keep anything for this edge from now on.
-        if let Err(fault) = stream::drop_slot(&shared.address, &slot) {
-            eprintln!("the slot {slot} may still be there: {fault}");
-        }
-        process::exit(0)
+        let end = move || _ = events.send(Event::End);
+        scope.spawn(move || door::serve(listener, sessions, end));
+        let end = Dataflow { inbox, requests, shared, residents, order: Order::default() }.run();
+        process::exit(leave(end, slot))
     })
+}
+
+/// Drops the slot, for which PostgreSQL need not keep anything from now on. The status with which to end.
+fn leave(end: Result<(), String>, slot: &slot::Slot) -> i32 {
+    let why = end.err();
+    why.iter().for_each(|why| eprintln!("edge: {why}"));
+    slot.is_over.store(true, SeqCst);
+    let stays = format!("edge: the slot {} may still be there", slot.name);
+    let line = format!("{stays}: PostgreSQL doesn't answer");
+    _ = Builder::new().spawn(move || {
+        thread::sleep(door::GRACE);
+        eprintln!("{line}");
+        process::exit(1)
+    });
+    if let Err(fault) = slot.drop() {
+        eprintln!("{stays}: {fault}");
+    }
+    i32::from(why.is_some())
 }

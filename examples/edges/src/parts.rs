@@ -6,3 +6,4 @@ pub const FIRST_SNAPSHOT: bool = !cfg!(feature = "without_first_snapshot");
 pub const REPEATS_GUARD: bool = !cfg!(feature = "without_repeats_guard");
 pub const EMPTYING: bool = !cfg!(feature = "without_emptying");
 pub const CANCEL: bool = !cfg!(feature = "without_cancel");
+pub const TABLE: bool = !cfg!(feature = "without_table");

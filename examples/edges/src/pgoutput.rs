@@ -1,5 +1,6 @@
 //! The messages of PostgreSQL's plug-in `pgoutput`, version 1, as far as an edge needs them.
 use crate::lsn::{Lsn, Xid};
+use crate::table::TableId;
 use nr::{Delta, Row};
 use std::str;
 
@@ -14,17 +15,18 @@ pub enum Message {
     Begin(Xid),
     /// With the place at which the transaction ends.
     Commit(Lsn),
-    /// A table as it is from here on.
-    Table(Table),
+    /// The table as it is from here on.
+    Columns(Columns),
     Changes(Vec<Change>),
-    /// A table was emptied by TRUNCATE, or changed by its owner.
+    /// The table was emptied by TRUNCATE, or one was changed by its owner.
     Changed,
+    /// Also what is of another table.
     Other,
 }
 
 /// Where the table has its columns, and all else that a message tells of it.
 #[derive(PartialEq, Eq)]
-pub struct Table {
+pub struct Columns {
     places: [usize; 3],
     description: Vec<u8>,
 }
@@ -35,29 +37,23 @@ const CHANGED: &str = "edges: changed";
 
 impl Message {
     /// None where an edge can't know what the message means, as of a table without its columns.
-    pub fn of(bytes: &[u8], table: Option<&Table>) -> Option<Message> {
+    pub fn of(bytes: &[u8], table: TableId, columns: Option<&Columns>) -> Option<Message> {
         let mut bytes = Bytes(bytes);
         Some(match bytes.byte()? {
             b'B' => Message::Begin(Xid(u32::from_be_bytes(bytes.skip(16)?.array()?))),
             b'C' => Message::Commit(Lsn(u64::from_be_bytes(bytes.skip(9)?.array()?))),
-            b'R' => Message::Table(Table::of(bytes)?),
-            b'I' => Message::Changes(bytes.skip(4)?.changes(table?)?),
-            b'U' | b'D' => {
-                let has_old_row = *bytes.skip(4)?.0.first()? == b'O';
-                has_old_row.then_some(())?;
-                Message::Changes(bytes.changes(table?)?)
-            }
-            b'T' => Message::Changed,
+            kind @ (b'R' | b'I' | b'U' | b'D') if bytes.table()? == table => bytes.of_table(kind, columns)?,
+            b'T' if bytes.tables()?.contains(&table) => Message::Changed,
             b'M' if bytes.skip(9)?.text()? == CHANGED => Message::Changed,
             _ => Message::Other,
         })
     }
 }
 
-impl Table {
-    fn of(mut bytes: Bytes) -> Option<Table> {
+impl Columns {
+    fn of(mut bytes: Bytes) -> Option<Columns> {
         let description = bytes.0.to_vec();
-        bytes.skip(4)?.text()?;
+        bytes.text()?;
         bytes.text()?;
         let is_told_whole = bytes.byte()? == b'f';
         let column = |bytes: &mut Bytes| {
@@ -67,7 +63,7 @@ impl Table {
         let columns: Vec<_> = (0..bytes.count()?).map(|_| column(&mut bytes)).collect::<Option<_>>()?;
         let place = |wanted: &&str| columns.iter().position(|name| name == wanted);
         let places: Option<Vec<_>> = COLUMNS.iter().map(place).collect();
-        is_told_whole.then_some(Table { places: places?.try_into().ok()?, description })
+        is_told_whole.then_some(Columns { places: places?.try_into().ok()?, description })
     }
 }
 
@@ -103,29 +99,53 @@ impl<'a> Bytes<'a> {
         self.skip(1).map(|_| text)
     }
 
+    fn table(&mut self) -> Option<TableId> {
+        self.array().map(u32::from_be_bytes).map(TableId)
+    }
+
+    /// Those of a TRUNCATE.
+    fn tables(&mut self) -> Option<Vec<TableId>> {
+        let count = u32::from_be_bytes(self.array()?);
+        self.skip(1)?;
+        (0..count).map(|_| self.table()).collect()
+    }
+
+    /// What a message tells of the table, after the table's number.
+    fn of_table(mut self, kind: u8, columns: Option<&Columns>) -> Option<Message> {
+        match kind {
+            b'R' => Columns::of(self).map(Message::Columns),
+            b'U' | b'D' if *self.0.first()? != b'O' => None,
+            _ => self.changes(columns?).map(Message::Changes),
+        }
+    }
+
     /// Rows that were there, and rows that are.
-    fn changes(&mut self, table: &Table) -> Option<Vec<Change>> {
-        let mut changes = Vec::new();
+    fn changes(&mut self, columns: &Columns) -> Option<Vec<Change>> {
+        let (mut changes, mut before) = (Vec::new(), Vec::new());
         while let Some(kind) = self.byte() {
-            let (article, row) = self.row(table)?;
+            let cells = self.cells(&before)?;
+            let [article, voter, weight] = columns.places.map(|place| cells.get(place).copied().flatten());
+            let row = Row { a: voter?.parse().ok()?, b: weight?.parse().ok()? };
             let delta = if kind == b'N' { Delta::plus(row) } else { Delta::minus(row) };
-            changes.push(Change { article, delta });
+            changes.push(Change { article: article?.into(), delta });
+            before = cells;
         }
         Some(changes)
     }
 
-    fn row(&mut self, table: &Table) -> Option<(Box<str>, Row)> {
-        let cells: Vec<_> = (0..self.count()?).map(|_| self.cell()).collect::<Option<_>>()?;
-        let [article, voter, weight] = table.places.map(|place| cells.get(place).copied().flatten());
-        Some((article?.into(), Row { a: voter?.parse().ok()?, b: weight?.parse().ok()? }))
+    /// The texts of a row's cells, where they have one. A long text that stays is told of the row before alone.
+    fn cells(&mut self, before: &[Option<&'a str>]) -> Option<Vec<Option<&'a str>>> {
+        (0..usize::from(self.count()?)).map(|place| self.cell(before.get(place).copied().flatten())).collect()
     }
 
-    /// The text of a cell, where it has one.
-    fn cell(&mut self) -> Option<Option<&'a str>> {
-        if self.byte()? != b't' {
-            return Some(None);
+    fn cell(&mut self, before: Option<&'a str>) -> Option<Option<&'a str>> {
+        match self.byte()? {
+            b't' => {
+                let length = u32::from_be_bytes(self.array()?) as usize;
+                str::from_utf8(self.take(length)?).ok().map(Some)
+            }
+            b'u' => Some(before),
+            _ => Some(None),
         }
-        let length = u32::from_be_bytes(self.array()?) as usize;
-        str::from_utf8(self.take(length)?).ok().map(Some)
     }
 }

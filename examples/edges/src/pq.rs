@@ -1,6 +1,6 @@
 //! A connection to PostgreSQL, through libpq's C functions.
-use std::ffi::{c_char, c_int, c_void, CStr, CString};
-use std::ptr::null_mut;
+use std::ffi::{c_char, c_int, c_ulong, c_void, CStr, CString};
+use std::ptr::{null, null_mut};
 use std::{fmt, slice};
 
 type Handle = *mut c_void;
@@ -8,11 +8,24 @@ type Text = *const c_char;
 
 #[link(name = "pq")]
 extern "C" {
-    fn PQconnectdb(address: Text) -> Handle;
-    fn PQstatus(connection: Handle) -> c_int;
+    fn PQconnectStart(address: Text) -> Handle;
+    fn PQconnectPoll(connection: Handle) -> c_int;
+    fn PQsocket(connection: Handle) -> c_int;
+    fn PQsetErrorVerbosity(connection: Handle, verbosity: c_int) -> c_int;
+    fn PQbackendPID(connection: Handle) -> c_int;
     fn PQfinish(connection: Handle);
     fn PQerrorMessage(connection: Handle) -> Text;
     fn PQsendQuery(connection: Handle, sql: Text) -> c_int;
+    fn PQsendQueryParams(
+        connection: Handle,
+        sql: Text,
+        count: c_int,
+        types: *const u32,
+        values: *const Text,
+        lengths: *const c_int,
+        formats: *const c_int,
+        format: c_int,
+    ) -> c_int;
     fn PQgetResult(connection: Handle) -> Handle;
     fn PQresultStatus(result: Handle) -> c_int;
     fn PQresultErrorField(result: Handle, field: c_int) -> Text;
@@ -26,10 +39,32 @@ extern "C" {
     fn PQfreemem(bytes: *mut u8);
 }
 
-const CONNECTED: c_int = 0;
+extern "C" {
+    fn poll(sockets: *mut Socket, count: c_ulong, millis: c_int) -> c_int;
+}
+
+/// What the system waits for at a socket, and what came.
+#[repr(C)]
+struct Socket {
+    number: c_int,
+    wanted: i16,
+    came: i16,
+}
+
+const READ: i16 = 1;
+const WRITE: i16 = 4;
+/// In milliseconds, for each step of coming to PostgreSQL.
+const LONGEST_STEP: c_int = 10_000;
+
+const WANTS_TO_READ: c_int = 1;
+const WANTS_TO_WRITE: c_int = 2;
+const CONNECTED: c_int = 3;
+const WITH_CODE: c_int = 2;
+const IN_SHORT: c_int = 1;
 const COMMAND_DONE: c_int = 1;
 const ROWS: c_int = 2;
 const COPY_BOTH_WAYS: c_int = 8;
+const END_OF_COPY: c_int = -1;
 const FIELD_OF_STATE: c_int = b'C' as c_int;
 
 /// The rows of a statement, their columns as texts.
@@ -38,9 +73,16 @@ pub type Table = Vec<Vec<String>>;
 /// What PostgreSQL or the connection to it says is wrong.
 #[derive(Clone, Debug)]
 pub struct Fault {
-    /// PostgreSQL's code of five signs; empty where the connection is broken.
+    /// PostgreSQL's code of five signs; empty where the connection is broken or can't be made.
     pub state: String,
     message: String,
+}
+
+impl Fault {
+    /// Whether other connections of before may be broken too.
+    pub fn is_of_connection(&self) -> bool {
+        self.state.is_empty() || self.state.starts_with("57") || self.state.starts_with("08")
+    }
 }
 
 impl From<String> for Fault {
@@ -64,12 +106,52 @@ impl Connection {
     pub fn open(address: &str) -> Result<Connection, Fault> {
         let address = text(address);
         // SAFETY: the address ends with a zero. What is given back is a connection also where this fails.
-        let connection = Connection(unsafe { PQconnectdb(address.as_ptr()) });
-        // SAFETY: the connection is there.
-        match unsafe { PQstatus(connection.0) } {
-            CONNECTED => Ok(connection),
-            _ => Err(connection.fault()),
+        let connection = Connection(unsafe { PQconnectStart(address.as_ptr()) });
+        // SAFETY: the connection is there. A refusal then has its code.
+        unsafe { PQsetErrorVerbosity(connection.0, WITH_CODE) };
+        let mut step = WANTS_TO_WRITE;
+        while let WANTS_TO_READ | WANTS_TO_WRITE = step {
+            connection.wait_until_ready(if step == WANTS_TO_READ { READ } else { WRITE })?;
+            // SAFETY: the connection is there.
+            step = unsafe { PQconnectPoll(connection.0) };
         }
+        if step != CONNECTED {
+            let Fault { message, .. } = connection.fault();
+            return Err(Fault { state: state_in(&message), message });
+        }
+        // SAFETY: the connection is there.
+        unsafe { PQsetErrorVerbosity(connection.0, IN_SHORT) };
+        Ok(connection)
+    }
+
+    fn wait_until_ready(&self, wanted: i16) -> Result<(), Fault> {
+        // SAFETY: the connection is there.
+        let mut socket = Socket { number: unsafe { PQsocket(self.0) }, wanted, came: 0 };
+        // SAFETY: there is one socket, or a number below 0, which the system passes over.
+        let count = unsafe { poll(&mut socket, 1, if socket.number < 0 { 0 } else { LONGEST_STEP }) };
+        // A signal ends the wait too, and then libpq sees that it has to wait on.
+        (count != 0 || socket.number < 0).then_some(()).ok_or_else(|| String::from("PostgreSQL doesn't answer").into())
+    }
+
+    /// PostgreSQL's process at the other end.
+    pub fn process(&self) -> i32 {
+        // SAFETY: the connection is there.
+        unsafe { PQbackendPID(self.0) }
+    }
+
+    /// Sends one statement with texts for its parameters, and gives its table.
+    pub fn run_with(&mut self, sql: &str, parameters: &[&str]) -> Result<Table, Fault> {
+        let (sql, parameters) = (text(sql), parameters.iter().map(|it| text(it)).collect::<Vec<_>>());
+        let values: Vec<_> = parameters.iter().map(|it| it.as_ptr()).collect();
+        let count = values.len() as c_int;
+        // SAFETY: the connection is there, each text ends with a zero, and there are as many as are told.
+        let is_sent =
+            unsafe { PQsendQueryParams(self.0, sql.as_ptr(), count, null(), values.as_ptr(), null(), null(), 0) };
+        if is_sent == 0 {
+            return Err(self.fault());
+        }
+        let mut tables = self.answers()?;
+        tables.pop().ok_or_else(|| self.fault())
     }
 
     /// Sends one or more statements at once, and gives a table of each. One that begins a copy is the last.
@@ -79,6 +161,10 @@ impl Connection {
         if unsafe { PQsendQuery(self.0, sql.as_ptr()) } == 0 {
             return Err(self.fault());
         }
+        self.answers()
+    }
+
+    fn answers(&mut self) -> Result<Vec<Table>, Fault> {
         let mut tables = Vec::new();
         while let Some(answer) = self.next_answer() {
             tables.push(answer.table(self));
@@ -100,12 +186,21 @@ impl Connection {
         let mut bytes = null_mut();
         // SAFETY: the connection is there, and there is room for an address.
         let length = unsafe { PQgetCopyData(self.0, &mut bytes, 0) };
+        if length == END_OF_COPY {
+            return Err(self.end_of_copy());
+        }
         let length = usize::try_from(length).map_err(|_| self.fault())?;
         // SAFETY: it has given so many bytes.
         let message = unsafe { slice::from_raw_parts(bytes, length) }.to_vec();
         // SAFETY: it gave the bytes, which are not used again.
         unsafe { PQfreemem(bytes) };
         Ok(message)
+    }
+
+    /// What PostgreSQL says is wrong, where it has ended a copy since something was.
+    fn end_of_copy(&mut self) -> Fault {
+        let answer = self.next_answer().map(|answer| answer.table(self));
+        answer.and_then(Result::err).unwrap_or_else(|| String::from("PostgreSQL has ended the stream").into())
     }
 
     pub fn send(&mut self, message: &[u8]) -> Result<(), Fault> {
@@ -166,7 +261,15 @@ fn text(text: &str) -> CString {
     CString::new(text).unwrap_or_default()
 }
 
-/// A text as a literal of SQL, where `standard_conforming_strings` is on, as it is unless somebody turned it off.
+/// A text as a literal of SQL, whatever `standard_conforming_strings` is.
 pub fn quoted(text: &str) -> String {
-    format!("'{}'", text.replace('\'', "''"))
+    format!("E'{}'", text.replace('\\', "\\\\").replace('\'', "''"))
+}
+
+/// The code in a refusal such as `FATAL:  28000: role "edge" does not exist`; of many servers' refusals the last one's.
+fn state_in(message: &str) -> String {
+    let is_sign = |sign: char| sign.is_ascii_digit() || sign.is_ascii_uppercase();
+    let has_digit = |part: &str| part.contains(|sign: char| sign.is_ascii_digit());
+    let is_state = |part: &&str| part.len() == 5 && part.chars().all(is_sign) && has_digit(part);
+    message.rsplit(": ").map(str::trim).find(is_state).unwrap_or_default().into()
 }

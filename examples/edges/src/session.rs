@@ -1,5 +1,5 @@
 //! A session: a thread that answers one client's commands in their order.
-use crate::pq::{quoted, Connection};
+use crate::pq::{Connection, Fault};
 use crate::upquery::Told;
 use crate::{dataflow::Event, lsn::Lsn, stats, stats::Count, wire, wire::bulk, Shared};
 use nr::{Asked, EventSender, InboxPoster, Reader, Row, Rows};
@@ -14,8 +14,6 @@ pub struct Session<'a> {
     pub poster: InboxPoster<Event>,
     pub events: EventSender<Event>,
     pub shared: &'a Shared,
-    /// Its own, once a client has written.
-    pub base: Option<Connection>,
 }
 
 const WRONG_COUNT: &str = "wrong number of arguments";
@@ -23,12 +21,21 @@ const UNKNOWN: &str = "unknown command: there are GET, READ, PEEK, VOTE, UNVOTE,
 const NOT_REACHED: &str = "the edge has not come as far as the token: try again, or ask another edge";
 /// Its place, once it is committed: without a flush it isn't on the disk yet.
 const PLACE: &str = "SELECT CASE current_setting('synchronous_commit') WHEN 'off' THEN pg_current_wal_insert_lsn()
-    ELSE pg_current_wal_flush_lsn() END";
+    ELSE pg_current_wal_flush_lsn() END, pg_size_bytes(current_setting('wal_segment_size'))";
+const VOTE: &str = "INSERT INTO votes (article, voter, weight) VALUES ($1, $2::bigint, $3::bigint) RETURNING 1";
+/// It waits for who has a row locked.
+const UNVOTE: &str = "DELETE FROM ONLY votes WHERE ctid = (SELECT ctid FROM ONLY votes
+    WHERE (article, voter, weight) = ($1, $2::bigint, $3::bigint) LIMIT 1 FOR UPDATE) RETURNING 1";
+const IS_THERE: &str = "SELECT 1 FROM ONLY votes WHERE (article, voter, weight) = ($1, $2::bigint, $3::bigint) LIMIT 1";
+/// How often a row is tried that another has changed meanwhile.
+const TRIES: usize = 10;
+/// Of the connections that no client writes by, so many stay.
+const MOST_AT_REST: usize = 4;
 
 impl Session<'_> {
     /// A command without meaning is answered by an error, which is the last reply where its end can't be told.
     pub fn serve(&mut self, client: Arc<TcpStream>) -> io::Result<()> {
-        let mut wire = wire::Wire::new(client)?;
+        let mut wire = wire::Wire::new(client, self.shared.limits)?;
         loop {
             match wire.command() {
                 Ok(words) => wire.reply(words.and_then(|words| self.answer(&words))),
@@ -46,8 +53,8 @@ impl Session<'_> {
             ("GET", [article, token @ ..]) => self.after(token)?.get(name(article)?),
             ("READ", [article, token @ ..]) => self.after(token)?.read(name(article)?),
             ("PEEK", [article, token @ ..]) => self.after(token)?.peek(name(article)?),
-            ("VOTE", [article, voter, weight]) => self.write(Written::Vote, article, voter, weight),
-            ("UNVOTE", [article, voter, weight]) => self.write(Written::Unvote, article, voter, weight),
+            ("VOTE", [article, voter, weight]) => self.write(VOTE, article, voter, weight),
+            ("UNVOTE", [article, voter, weight]) => self.write(UNVOTE, article, voter, weight),
             ("STATS", []) => Ok(bulk(&stats::text_of(self.shared))),
             ("PING", []) => Ok("+PONG\r\n".into()),
             ("PING", [text]) => Ok(bulk(text)),
@@ -129,30 +136,45 @@ impl Session<'_> {
     }
 
     /// Writes to PostgreSQL, and answers with a token: a read that brings it sees what was written, at any edge.
-    fn write(&mut self, what: Written, article: &str, voter: &str, weight: &str) -> Result<String, String> {
-        let (article, voter, weight) = (quoted(name(article)?), number(voter)?, number(weight)?);
-        let row = format!("({article}, {voter}, {weight})");
-        let statement = match what {
-            Written::Vote => format!("INSERT INTO votes (article, voter, weight) VALUES {row} RETURNING 1"),
-            Written::Unvote => format!(
-                "DELETE FROM votes WHERE ctid = (SELECT ctid FROM votes WHERE (article, voter, weight) = {row}
-                LIMIT 1 FOR UPDATE SKIP LOCKED) RETURNING 1"
-            ),
-        };
-        let open = self.base.take().map_or_else(|| Connection::open(&self.shared.address), Ok);
-        let run = |mut base: Connection| Ok((base.run(&format!("BEGIN; {statement}; COMMIT; {PLACE}"))?, base));
-        let (tables, base) = open.and_then(run).map_err(|fault| fault.to_string())?;
-        self.base = Some(base);
-        match &tables[..] {
-            [_, written, _, place] if !written.is_empty() => Ok(format!("+{}\r\n", place[0][0])),
-            _ => Err("there is no such vote".into()),
+    fn write(&self, statement: &str, article: &str, voter: &str, weight: &str) -> Result<String, String> {
+        let row = [name(article)?, &number(voter)?, &number(weight)?];
+        match self.written(statement, &row).map_err(|fault| fault.to_string())? {
+            (true, place) => Ok(format!("+{place}\r\n")),
+            (false, _) => Err("there is no such vote".into()),
         }
+    }
+
+    /// Whether a statement has written its row, and the place of its commit.
+    fn written(&self, statement: &str, row: &[&str]) -> Result<(bool, Lsn), Fault> {
+        let resting = self.shared.writers.lock().unwrap().pop();
+        let mut base = resting.map_or_else(|| Connection::open(&self.shared.address), Ok)?;
+        let tables = written_by(&mut base, statement, row).and_then(|is_written| Ok((is_written, base.run(PLACE)?)));
+        let mut resting = self.shared.writers.lock().unwrap();
+        let (is_written, place) = tables.inspect_err(|fault| {
+            // What rests was broken by the same end of the server.
+            if fault.is_of_connection() {
+                resting.clear();
+            }
+        })?;
+        if resting.len() < MOST_AT_REST {
+            resting.push(base);
+        }
+        let [place, size] = &place[0][0][..] else { return Err(String::from("there is no place").into()) };
+        Ok((is_written, Lsn::before_header(place, size)?))
     }
 }
 
-enum Written {
-    Vote,
-    Unvote,
+/// Whether a statement wrote its row. Where it finds none since another has changed that meanwhile, it is run again.
+fn written_by(base: &mut Connection, statement: &str, row: &[&str]) -> Result<bool, Fault> {
+    for _ in 0..TRIES {
+        if !base.run_with(statement, row)?.is_empty() {
+            return Ok(true);
+        }
+        if base.run_with(IS_THERE, row)?.is_empty() {
+            return Ok(false);
+        }
+    }
+    Err(String::from("others change the vote: try again").into())
 }
 
 fn name(word: &str) -> Result<&str, String> {
@@ -160,8 +182,9 @@ fn name(word: &str) -> Result<&str, String> {
     is_name.then_some(word).ok_or("an article is 1 to 64 bytes without control characters".into())
 }
 
-fn number(word: &str) -> Result<u64, String> {
-    let number = word.parse().ok().filter(|number| *number <= i64::MAX as u64);
+/// In its shortest form.
+fn number(word: &str) -> Result<String, String> {
+    let number = word.parse().ok().filter(|number: &u64| *number <= i64::MAX as u64).map(|it| it.to_string());
     number.ok_or("a voter and a weight are numbers from 0 to 9223372036854775807".into())
 }
 

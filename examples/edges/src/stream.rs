@@ -2,110 +2,166 @@
 use crate::dataflow::{Event, First};
 use crate::log::{Changes, Transaction};
 use crate::lsn::Lsn;
-use crate::pgoutput::{Message, Table};
+use crate::pgoutput::{Columns, Message};
 use crate::pq::{quoted, Connection, Fault};
+use crate::slot::Slot;
+use crate::table::{self, TableId};
+use crate::Shared;
 use nr::EventSender;
-use std::{thread, time::Duration, time::Instant};
+use std::sync::atomic::Ordering::SeqCst;
+use std::{convert::Infallible, fmt, thread, time::Duration, time::Instant};
 
-pub struct Stream {
-    pub address: String,
-    pub slot: String,
+pub struct Stream<'a> {
+    pub slot: &'a Slot,
     pub events: EventSender<Event>,
+    pub shared: &'a Shared,
     /// How often PostgreSQL is told how far the stream is, at most. It repeats what it wasn't told of.
     pub confirm: Duration,
 }
 
 /// Why the stream ended.
-enum End {
-    /// The connection is broken, or another has the slot: the same slot goes on later.
-    Broken,
+#[derive(Debug)]
+pub enum End {
+    /// The connection is broken, or PostgreSQL can't serve it for a while: the same slot goes on later.
+    Broken(String),
     /// Changes are missing, or can't be understood: all begins anew.
-    Lost,
+    Lost(String),
+    /// What an edge needs isn't there, and it can't mend that: the edge ends.
+    Refused(String),
     /// The edge ends.
     Over,
 }
 
-/// What PostgreSQL says where a slot isn't there, is of no use any more, or lacks a part of the log.
-const SLOT_IS_LOST: [&str; 3] = ["42704", "55000", "58P01"];
-const SLOT_IS_ACTIVE: &str = "55006";
-const PAUSE: Duration = Duration::from_millis(20);
-
-impl From<Fault> for End {
-    fn from(fault: Fault) -> End {
-        if SLOT_IS_LOST.contains(&fault.state.as_str()) {
-            End::Lost
-        } else {
-            End::Broken
+impl fmt::Display for End {
+    fn fmt(&self, f: &mut fmt::Formatter<'_>) -> fmt::Result {
+        match self {
+            End::Broken(why) | End::Lost(why) | End::Refused(why) => f.write_str(why),
+            End::Over => f.write_str("the edge ends"),
         }
     }
 }
 
-impl Stream {
+impl From<Fault> for End {
+    /// By PostgreSQL's code. A fault of a kind that isn't known here may mean that changes are missing.
+    fn from(fault: Fault) -> End {
+        let why = fault.to_string();
+        match (fault.state.get(..2).unwrap_or_default(), &*fault.state) {
+            // A role that may not, a password that is wrong, a database that is gone.
+            (_, "42501" | "57P04" | "3D000") | ("28", _) => End::Refused(why),
+            // No connection, no room, a server that is ended or cancels; and a slot that a process still has.
+            ("" | "08" | "53" | "57", _) | (_, "55006") => End::Broken(why),
+            _ => End::Lost(why),
+        }
+    }
+}
+
+/// What is known of the slot that was made, while it is good.
+struct Made {
+    /// Which start of the server it was made in.
+    start: String,
+    table: TableId,
+    /// All that was committed before this place came from it.
+    reached: Lsn,
+}
+
+/// Says each change of the stream's state, a line each, and how long to wait after a fault: longer while it stays.
+#[derive(Default)]
+struct Voice {
+    said: String,
+    pause: Duration,
+}
+
+const SHORTEST_PAUSE: Duration = Duration::from_millis(20);
+const LONGEST_PAUSE: Duration = Duration::from_secs(1);
+
+impl Voice {
+    fn says(&mut self, line: String) -> Duration {
+        self.pause = if line == self.said { (self.pause * 2).min(LONGEST_PAUSE) } else { SHORTEST_PAUSE };
+        if line != self.said {
+            eprintln!("edge: {line}");
+            self.said = line;
+        }
+        self.pause
+    }
+}
+
+impl Stream<'_> {
     pub fn run(self) {
-        // Which start of the server the slot was made in, while it is good.
-        let mut made_in = None;
+        let (mut made, mut voice) = (None, Voice::default());
         loop {
-            let end = match made_in.take() {
-                Some(start) => self.go_on(start, &mut made_in),
-                None => self.begin_anew(&mut made_in),
+            let line = match self.follow(&mut made, &mut voice) {
+                _ if self.slot.is_over.load(SeqCst) => return,
+                Err(End::Broken(why)) => format!("waits for PostgreSQL: {why}"),
+                Err(End::Lost(why)) => {
+                    if made.take().is_some() && self.tell(Event::Lost).is_err() {
+                        return;
+                    }
+                    format!("begins anew: {why}")
+                }
+                Err(End::Refused(why)) => {
+                    _ = self.tell(Event::Refused(why));
+                    return;
+                }
+                Err(End::Over) => return,
             };
-            match end {
-                Err(End::Lost) if self.tell(Event::Lost).is_ok() => made_in = None,
-                Err(End::Broken) | Ok(()) => {}
-                Err(End::Over | End::Lost) => return,
-            }
-            thread::sleep(PAUSE);
+            thread::sleep(voice.says(line));
         }
     }
 
-    /// With a new slot. It waits for the end of every transaction that is running.
-    fn begin_anew(&self, made_in: &mut Option<String>) -> Result<(), End> {
-        drop_slot(&self.address, &self.slot)?;
-        let mut connection = self.connect()?;
+    /// With the slot that was made, or with a new one.
+    fn follow(&self, made: &mut Option<Made>, voice: &mut Voice) -> Result<Infallible, End> {
+        let mut beside = Connection::open(&self.slot.address)?;
+        if made.is_some() {
+            self.slot.is_free(&mut beside)?;
+        } else {
+            table::check(&mut beside)?;
+            self.slot.drop()?;
+        }
+        let mut connection = Connection::open(&format!("{} replication=database", self.slot.address))?;
         let start = start_of(&mut connection)?;
-        let sql = format!("CREATE_REPLICATION_SLOT {} LOGICAL pgoutput (SNAPSHOT 'export')", self.slot);
+        self.slot.own.lock().unwrap().push(connection.process());
+        let made = match made {
+            // It may be another server, or have lost what it told.
+            Some(made) if made.start != start => return Err(End::Lost("PostgreSQL was started anew".into())),
+            Some(made) => made,
+            None => made.insert(self.make(start, &mut connection, &mut beside)?),
+        };
+        let options = "proto_version '1', publication_names 'edges', messages 'true'";
+        connection.run(&format!("START_REPLICATION SLOT {} LOGICAL 0/0 ({options})", self.slot.name))?;
+        self.slot.brings_all_after(made.reached, &mut beside)?;
+        drop(beside);
+        voice.says(format!("follows the slot {}", self.slot.name));
+        self.read(connection, made)
+    }
+
+    /// A new slot. It waits for the end of every transaction that is running. Its snapshot sees just the transactions that
+    /// committed before the slot's first.
+    fn make(&self, start: String, connection: &mut Connection, beside: &mut Connection) -> Result<Made, End> {
+        let sql = format!("CREATE_REPLICATION_SLOT {} LOGICAL pgoutput (SNAPSHOT 'export')", self.slot.name);
         let slot = connection.run(&sql)?.remove(0).remove(0);
-        let first = self.first(&slot[1], &slot[2])?;
-        *made_in = Some(start);
-        self.tell(Event::Begun(first))?;
-        self.follow(connection)
-    }
-
-    /// What a slot begins with. Its snapshot sees just the transactions that committed before the slot's first.
-    fn first(&self, place: &str, snapshot: &str) -> Result<First, End> {
-        let mut beside = Connection::open(&self.address)?;
+        let table = table::check(beside)?;
         let begin = "BEGIN ISOLATION LEVEL REPEATABLE READ; SET TRANSACTION SNAPSHOT";
-        let tables = beside.run(&format!("{begin} {}; SELECT pg_current_snapshot()", quoted(snapshot)))?;
-        let snapshot = tables[2][0][0].parse().map_err(|_| End::Lost)?;
-        Ok(First { snapshot, place: place.parse().map_err(|_| End::Lost)? })
-    }
-
-    /// With the same slot. A server that was started anew may be another one, or have lost what it told.
-    fn go_on(&self, start: String, made_in: &mut Option<String>) -> Result<(), End> {
-        *made_in = Some(start.clone());
-        let mut connection = self.connect()?;
-        if start_of(&mut connection)? != start {
-            return Err(End::Lost);
-        }
-        self.follow(connection)
-    }
-
-    fn connect(&self) -> Result<Connection, Fault> {
-        Connection::open(&format!("{} replication=database", self.address))
+        let tables = beside.run(&format!("{begin} {}; SELECT pg_current_snapshot(); COMMIT", quoted(&slot[2])))?;
+        let (place, snapshot) = (slot[1].parse().map_err(End::Lost)?, tables[2][0][0].parse().map_err(End::Lost)?);
+        self.tell(Event::Begun(First { snapshot, place, table }))?;
+        Ok(Made { start, table, reached: place })
     }
 
     fn tell(&self, event: Event) -> Result<(), End> {
         self.events.send(event).map_err(|_| End::Over)
     }
 
-    fn follow(&self, mut connection: Connection) -> Result<(), End> {
-        let options = "proto_version '1', publication_names 'edges', messages 'true'";
-        connection.run(&format!("START_REPLICATION SLOT {} LOGICAL 0/0 ({options})", self.slot))?;
-        let mut place = Place { reached: Lsn(0), open: None, table: None };
+    fn read(&self, mut connection: Connection, made: &mut Made) -> Result<Infallible, End> {
+        let mut place = Place { table: made.table, reached: Lsn(0), open: None, columns: None };
         let mut confirmed = Instant::now();
         loop {
-            let (event, is_wanted) = place.after(&connection.message()?).ok_or(End::Lost)?;
+            let message = connection.message()?;
+            let (event, is_wanted) = place.after(&message).ok_or_else(|| End::Lost(NO_CHANGE_OF_ROWS.into()))?;
+            made.reached = made.reached.max(place.reached);
             event.map_or(Ok(()), |event| self.tell(event))?;
+            if self.shared.has_other_table.swap(false, SeqCst) {
+                return Err(End::Lost("another table is called votes".into()));
+            }
             let is_due = confirmed.elapsed() >= self.confirm;
             if is_due || is_wanted {
                 connection.send(&place.confirmation(is_due))?;
@@ -115,11 +171,14 @@ impl Stream {
     }
 }
 
+const NO_CHANGE_OF_ROWS: &str = "the table was emptied or changed, or a change of it can't be understood";
+
 /// Where the stream is.
 struct Place {
+    table: TableId,
     reached: Lsn,
     open: Option<Transaction>,
-    table: Option<Table>,
+    columns: Option<Columns>,
 }
 
 impl Place {
@@ -138,20 +197,20 @@ impl Place {
     }
 
     fn changed(&mut self, message: &[u8]) -> Option<Option<Event>> {
-        match Message::of(message, self.table.as_ref())? {
+        match Message::of(message, self.table, self.columns.as_ref())? {
             Message::Begin(xid) => self.open = Some(Transaction { xid, end: Lsn(0), changes: Changes::new() }),
             Message::Changes(changes) => {
                 let known = &mut self.open.as_mut()?.changes;
                 changes.into_iter().for_each(|it| known.entry(it.article).or_default().push(it.delta));
             }
-            Message::Table(table) if self.table.as_ref().is_none_or(|known| *known == table) => {
-                self.table = Some(table)
+            Message::Columns(columns) if self.columns.as_ref().is_none_or(|known| *known == columns) => {
+                self.columns = Some(columns)
             }
             Message::Commit(end) => {
                 self.reached = end;
                 return Some(Some(Event::Transaction(Transaction { end, ..self.open.take()? })));
             }
-            Message::Table(_) | Message::Changed => return None,
+            Message::Columns(_) | Message::Changed => return None,
             Message::Other => {}
         }
         Some(None)
@@ -169,17 +228,4 @@ impl Place {
 fn start_of(connection: &mut Connection) -> Result<String, Fault> {
     let sql = "SELECT pg_postmaster_start_time(), stats_reset FROM pg_stat_bgwriter";
     connection.run(sql).map(|tables| tables[0][0].concat())
-}
-
-/// Drops a slot, where there is one, and ends who has it.
-pub fn drop_slot(address: &str, slot: &str) -> Result<(), Fault> {
-    let mut connection = Connection::open(address)?;
-    let of_slot = format!("FROM pg_replication_slots WHERE slot_name = {}", quoted(slot));
-    while !connection.run(&format!("SELECT pg_terminate_backend(active_pid) {of_slot}"))?[0].is_empty() {
-        match connection.run(&format!("SELECT pg_drop_replication_slot(slot_name) {of_slot}")) {
-            Err(fault) if fault.state != SLOT_IS_ACTIVE => return Err(fault),
-            _ => thread::sleep(PAUSE),
-        }
-    }
-    Ok(())
 }

@@ -3,6 +3,7 @@ use crate::dataflow::Event;
 use crate::lsn::Lsn;
 use crate::pq::{quoted, Connection, Fault, Table};
 use crate::snapshot::Snapshot;
+use crate::table::TableId;
 use nr::{EventSender, Row, Ticket};
 use std::sync::{mpsc, Arc, Mutex};
 use std::{thread, time::Duration};
@@ -41,6 +42,7 @@ pub enum Told {
 pub struct Seen {
     pub snapshot: Snapshot,
     pub place: Lsn,
+    pub table: TableId,
 }
 
 /// What PostgreSQL answers to the requests of one statement: for each its rows, in no order.
@@ -51,7 +53,8 @@ pub struct Answer {
 
 // One statement has one snapshot, which is the one that it tells. The place is read after the snapshot was taken.
 const PREPARE: &str = "PREPARE upquery (text[]) AS SELECT pg_current_snapshot(), pg_current_wal_insert_lsn(),
-    (SELECT string_agg(voter || ' ' || weight, ' ') FROM votes WHERE votes.article = asked.article)
+    pg_size_bytes(current_setting('wal_segment_size')), 'votes'::regclass::oid,
+    (SELECT string_agg(voter || ' ' || weight, ' ') FROM ONLY votes WHERE votes.article = asked.article)
     FROM unnest($1::text[]) WITH ORDINALITY AS asked (article, place) ORDER BY place";
 const PAUSE: Duration = Duration::from_millis(5);
 
@@ -105,8 +108,9 @@ fn element(article: &str) -> String {
 
 fn answer_of(table: &Table) -> Option<(Seen, Vec<Vec<Row>>)> {
     let first = table.first()?;
-    let seen = Seen { snapshot: first[0].parse().ok()?, place: first[1].parse().ok()? };
-    Some((seen, table.iter().map(|line| rows_of(&line[2])).collect::<Option<_>>()?))
+    let place = Lsn::before_header(&first[1], &first[2]).ok()?;
+    let seen = Seen { snapshot: first[0].parse().ok()?, place, table: TableId(first[3].parse().ok()?) };
+    Some((seen, table.iter().map(|line| rows_of(&line[4])).collect::<Option<_>>()?))
 }
 
 fn rows_of(text: &str) -> Option<Vec<Row>> {

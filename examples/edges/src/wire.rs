@@ -1,21 +1,39 @@
 //! The Redis protocol: a command is an array of words (RESP2) or a line of them; replies go before a read that may wait.
 use std::io::{self, BufRead, BufReader, ErrorKind, Read, Write};
 use std::net::{Shutdown, TcpStream};
-use std::{str, str::FromStr, sync::Arc};
+use std::{str, str::FromStr, sync::Arc, time::Duration, time::Instant};
 
 /// The most bytes of a line or of a word. What is longer is passed over.
 const LONGEST: usize = 4096;
 const TOO_LONG: &str = "a line or a word is longer than 4096 bytes";
 
+/// How long a client may say nothing, and owe the rest of a command or the reading of replies.
+#[derive(Clone, Copy)]
+pub struct Limits {
+    pub idle: Duration,
+    pub half: Duration,
+}
+
 struct Client {
     stream: Arc<TcpStream>,
     replies: Vec<u8>,
+    limits: Limits,
+    /// When the rest of a command is to be there, once it has begun.
+    due: Option<Instant>,
+    /// What the stream waits for at most.
+    wait: Duration,
 }
 
 impl Read for Client {
     fn read(&mut self, room: &mut [u8]) -> io::Result<usize> {
         (&*self.stream).write_all(&self.replies)?;
         self.replies.clear();
+        let wait = self.due.map_or(self.limits.idle, |due| due.saturating_duration_since(Instant::now()));
+        if wait != self.wait {
+            // It can't be zero.
+            self.stream.set_read_timeout(Some(wait.max(Duration::from_millis(1))))?;
+            self.wait = wait;
+        }
         (&*self.stream).read(room)
     }
 }
@@ -23,19 +41,33 @@ impl Read for Client {
 pub struct Wire(BufReader<Client>);
 
 impl Wire {
-    pub fn new(stream: Arc<TcpStream>) -> io::Result<Wire> {
+    pub fn new(stream: Arc<TcpStream>, limits: Limits) -> io::Result<Wire> {
         stream.set_nodelay(true)?;
-        Ok(Wire(BufReader::new(Client { stream, replies: Vec::new() })))
+        stream.set_write_timeout(Some(limits.half))?;
+        let wait = Duration::MAX;
+        Ok(Wire(BufReader::new(Client { stream, replies: Vec::new(), limits, due: None, wait })))
     }
 
     /// The words of the next command, or why it isn't one. `InvalidData` where nobody can tell where it ends.
     pub fn command(&mut self) -> io::Result<Result<Vec<Vec<u8>>, String>> {
-        let Some(line) = self.line()? else { return Ok(Err(TOO_LONG.into())) };
-        let words: Vec<_> = match line.strip_prefix(b"*") {
-            Some(count) => (0..number::<u8>(count)?).map(|_| self.word()).collect::<io::Result<_>>()?,
-            None => line.split(u8::is_ascii_whitespace).filter(|it| !it.is_empty()).map(|it| Some(it.into())).collect(),
-        };
+        self.0.fill_buf()?;
+        self.0.get_mut().due = Some(Instant::now() + self.0.get_ref().limits.half);
+        let words = self.words()?;
+        self.0.get_mut().due = None;
         Ok(words.into_iter().collect::<Option<_>>().ok_or(TOO_LONG.into()))
+    }
+
+    /// None for each that is too long.
+    fn words(&mut self) -> io::Result<Vec<Option<Vec<u8>>>> {
+        let Some(line) = self.line()? else { return Ok(vec![None]) };
+        if let Some(count) = line.strip_prefix(b"*") {
+            return (0..number::<u8>(count)?).map(|_| self.word()).collect();
+        }
+        let words: Vec<_> = line.split(u8::is_ascii_whitespace).filter(|it| !it.is_empty()).collect();
+        if is_http(&words) {
+            return Err(broken("a line of HTTP"));
+        }
+        Ok(words.into_iter().map(|word| Some(word.into())).collect())
     }
 
     pub fn reply(&mut self, reply: Result<String, String>) {
@@ -43,13 +75,14 @@ impl Wire {
         self.0.get_mut().replies.extend(text.into_bytes());
     }
 
-    /// Replies to what is no command, and reads on for as long as the client sends, or else it might not see it.
+    /// Replies to what is no command, and reads on for a while as long as the client sends, or else it might not see it.
     pub fn end(mut self, fault: io::Error) -> io::Result<()> {
         self.reply(Err(format!("Protocol error: {fault}")));
-        let Client { stream, replies } = self.0.get_mut();
-        (&**stream).write_all(replies)?;
-        stream.shutdown(Shutdown::Write)?;
-        io::copy(&mut &**stream, &mut io::sink()).map(|_| ())
+        let client = self.0.get_mut();
+        (&*client.stream).write_all(&client.replies)?;
+        client.replies.clear();
+        client.stream.shutdown(Shutdown::Write)?;
+        io::copy(client, &mut io::sink()).map(|_| ())
     }
 
     /// A line without its end; none where it is too long.
@@ -76,6 +109,12 @@ impl Wire {
             .then(|| (size <= LONGEST).then_some(word))
             .ok_or_else(|| broken("a word is not as long as told"))
     }
+}
+
+/// Whether a line is a browser's, which a web page has send what it likes: the body of such a request may have commands.
+fn is_http(words: &[&[u8]]) -> bool {
+    let is = |place: usize, name: &str| words.get(place).is_some_and(|word| word.eq_ignore_ascii_case(name.as_bytes()));
+    is(0, "POST") || is(0, "Host:") || is(0, "GET") && words.get(1).is_some_and(|path| path.starts_with(b"/"))
 }
 
 fn number<T: FromStr>(digits: &[u8]) -> io::Result<T> {

@@ -1,6 +1,7 @@
 //! What may happen between an edge and PostgreSQL, step by step: nothing here is left to chance.
 //!   cases PROGRAM ADDRESS RESTART [CASE]    RESTART is a command that ends PostgreSQL at once and starts it again
 mod edges;
+mod operator;
 #[path = "../src/pq.rs"]
 mod pq;
 use edges::{last, rows_in_table, signal, token, until, Edge};
@@ -16,7 +17,7 @@ struct Case {
 }
 
 /// A name, and what happens.
-const CASES: [(&str, fn(&mut Case)); 12] = [
+const CASES: [(&str, fn(&mut Case)); 29] = [
     ("log", a_commit_that_no_snapshot_sees_yet),
     ("first_snapshot", a_commit_that_the_new_slot_does_not_carry),
     ("early", an_answer_that_is_older_than_the_slot),
@@ -29,6 +30,23 @@ const CASES: [(&str, fn(&mut Case)); 12] = [
     ("crash", a_server_that_recovers_by_itself),
     ("killed", an_edge_that_is_killed),
     ("tokens", a_token_that_is_not_reached),
+    ("error", operator::a_publication_that_is_gone_for_a_while),
+    ("dropped", operator::a_publication_that_is_dropped),
+    ("role", operator::a_role_that_may_not_replicate_any_more),
+    ("needs", operator::a_database_that_lacks_what_an_edge_needs),
+    ("other", operator::another_table_in_the_publication),
+    ("name", operator::another_table_of_the_same_name),
+    ("strange", operator::a_slot_that_is_no_edge_s),
+    ("twin", operator::two_edges_of_one_slot),
+    ("anew", operator::a_slot_that_another_made_anew),
+    ("toast", operator::a_long_text_that_stays),
+    ("header", operator::a_place_after_a_page_s_header),
+    ("page", operator::a_web_page_that_writes),
+    ("text", operator::texts_that_are_no_sql),
+    ("locked", operator::a_vote_that_another_has_locked),
+    ("rest", operator::clients_that_voted_once),
+    ("silent", operator::clients_that_say_nothing),
+    ("end", operator::an_end_while_a_client_waits_for_a_lock),
 ];
 
 fn main() {
@@ -282,9 +300,9 @@ fn a_table_that_is_truncated_or_changed(case: &mut Case) {
     case.sql("INSERT INTO votes VALUES ('t', 3, 3)");
     case.sql("ALTER EVENT TRIGGER edges_changed DISABLE");
     case.sql("ALTER TABLE votes ALTER weight TYPE numeric USING weight + 1");
+    case.sql("ALTER EVENT TRIGGER edges_changed ENABLE");
     let now = case.write("INSERT INTO votes VALUES ('t', 4, 4)");
     assert_eq!(edge.ask(&format!("GET t {now}")), "1:8 2:3 3:4 4:4");
-    case.sql("ALTER EVENT TRIGGER edges_changed ENABLE");
     let now = case.write("ALTER TABLE votes ALTER weight TYPE bigint");
     assert_eq!(edge.ask(&format!("GET t {now}")), "1:8 2:3 3:4 4:4");
     assert_eq!(edge.count("losses"), 6);

@@ -1,11 +1,14 @@
 //! Edges as processes, and clients of theirs that bear it when one ends.
 #![allow(dead_code)]
 use crate::pq::{Connection, Table};
+use std::fs::{read_to_string, File};
 use std::io::{BufRead, BufReader, Error, ErrorKind, Read, Result, Write};
-use std::net::TcpStream;
+use std::net::{Shutdown, TcpStream};
+use std::path::PathBuf;
 use std::process::{Child, Command, Stdio};
-use std::thread;
+use std::sync::atomic::{AtomicU32, Ordering::SeqCst};
 use std::time::{Duration, Instant};
+use std::{env, thread};
 
 /// Only against hanging for ever: no result depends on it.
 pub const LONG: Duration = Duration::from_secs(120);
@@ -15,18 +18,41 @@ pub struct Edge {
     words: Vec<String>,
     process: Child,
     pub port: u16,
+    /// A file of what it says on standard error.
+    errors: PathBuf,
 }
 
 impl Edge {
+    /// One that listens, or has ended before.
     pub fn start(program: &str, address: &str, slot: &str, options: &[&str]) -> Edge {
+        static NEXT: AtomicU32 = AtomicU32::new(0);
         let words: Vec<String> = [program, address, slot].iter().chain(options).map(|word| word.to_string()).collect();
-        let (process, port) = started(&words);
-        Edge { words: [words, vec!["--port".into(), port.to_string()]].concat(), process, port }
+        let errors = env::current_exe().unwrap().with_extension(format!("said-{}", NEXT.fetch_add(1, SeqCst)));
+        let (process, port) = started(&words, &errors);
+        Edge { words: [words, vec!["--port".into(), port.to_string()]].concat(), process, port, errors }
     }
 
     /// At the same port.
     pub fn start_again(&mut self) {
-        (self.process, self.port) = started(&self.words);
+        (self.process, self.port) = started(&self.words, &self.errors);
+    }
+
+    pub fn said(&self) -> String {
+        read_to_string(&self.errors).unwrap()
+    }
+
+    pub fn says(&self, what: &str) {
+        until(&format!("the edge says '{what}'"), || self.said().contains(what));
+    }
+
+    /// Its status, when it has ended by itself.
+    pub fn ends(&mut self) -> Option<i32> {
+        let mut status = None;
+        until("the edge ends", || {
+            status = self.process.try_wait().unwrap();
+            status.is_some()
+        });
+        status.unwrap().code()
     }
 
     /// By SIGKILL.
@@ -58,7 +84,11 @@ impl Edge {
     }
 
     pub fn follows(&self) {
-        until("the edge follows", || self.stat("following") == "1");
+        // An edge with one reader may refuse this client while it still has the one before it.
+        until("the edge follows", || {
+            let told = self.client().ask("STATS");
+            told.is_ok_and(|text| text.lines().any(|line| line == "following:1"))
+        });
     }
 }
 
@@ -69,12 +99,13 @@ impl Drop for Edge {
     }
 }
 
-fn started(words: &[String]) -> (Child, u16) {
-    let mut process = Command::new(&words[0]).args(&words[1..]).stdout(Stdio::piped()).spawn().unwrap();
-    let mut line = String::new();
+/// Its port is 0 where it ends before it listens.
+fn started(words: &[String], errors: &PathBuf) -> (Child, u16) {
+    let (errors, mut line) = (File::create(errors).unwrap(), String::new());
+    let mut process = Command::new(&words[0]).args(&words[1..]).stdout(Stdio::piped()).stderr(errors).spawn().unwrap();
     BufReader::new(process.stdout.take().unwrap()).read_line(&mut line).unwrap();
     let port = line.trim_end().rsplit(':').next().unwrap();
-    (process, port.parse().expect("the edge tells its port"))
+    (process, port.parse().unwrap_or(0))
 }
 
 pub fn signal(name: &str, process: &str) {
@@ -99,9 +130,34 @@ impl Client {
         Ok(Client(BufReader::new(stream)))
     }
 
+    pub fn send(&mut self, bytes: &str) -> Result<()> {
+        self.0.get_mut().write_all(bytes.as_bytes())
+    }
+
     pub fn ask(&mut self, line: &str) -> Result<String> {
-        self.0.get_mut().write_all(format!("{line}\r\n").as_bytes())?;
+        self.send(&format!("{line}\r\n"))?;
         self.reply()
+    }
+
+    /// A command whose words may have any signs.
+    pub fn ask_words(&mut self, words: &[&str]) -> Result<String> {
+        let words = words.iter().map(|word| format!("${}\r\n{word}\r\n", word.len())).collect::<Vec<_>>();
+        self.send(&format!("*{}\r\n{}", words.len(), words.concat()))?;
+        self.reply()
+    }
+
+    /// All that comes after these bytes, with which the client ends.
+    pub fn ends_with(mut self, bytes: &str) -> String {
+        self.send(bytes).unwrap();
+        self.0.get_mut().shutdown(Shutdown::Write).unwrap();
+        self.rest().expect("the edge ends the connection")
+    }
+
+    /// All that comes until the edge ends the connection.
+    pub fn rest(mut self) -> Result<String> {
+        let mut text = String::new();
+        self.0.read_to_string(&mut text)?;
+        Ok(text)
     }
 
     /// A text, a line with its first sign, `nil`, or the parts of an array, a line each.

@@ -15,6 +15,7 @@ struct Trial {
 
 const ONE: Row = Row { a: 1, b: 1 };
 const TWO: Row = Row { a: 2, b: 2 };
+const TABLE: TableId = TableId(1);
 
 impl Trial {
     fn with(options: &str) -> Trial {
@@ -37,7 +38,8 @@ impl Trial {
     }
 
     fn begin(&mut self, snapshot: &str) {
-        self.dataflow.handle(Event::Begun(First { snapshot: snapshot.parse().unwrap(), place: Lsn(100) }));
+        let first = First { snapshot: snapshot.parse().unwrap(), place: Lsn(100), table: TABLE };
+        self.dataflow.handle(Event::Begun(first));
     }
 
     fn lose(&mut self) {
@@ -61,7 +63,11 @@ impl Trial {
 
     /// An answer of place 200.
     fn answer(&mut self, request: Request, snapshot: &str, rows: &[Row]) {
-        let seen = Seen { snapshot: snapshot.parse().unwrap(), place: Lsn(200) };
+        self.answer_of(TABLE, request, snapshot, rows);
+    }
+
+    fn answer_of(&mut self, table: TableId, request: Request, snapshot: &str, rows: &[Row]) {
+        let seen = Seen { snapshot: snapshot.parse().unwrap(), place: Lsn(200), table };
         let answer = Answer { requests: vec![request], rows: Ok((seen, vec![rows.to_vec()])) };
         self.dataflow.handle(Event::Answer(answer));
     }
@@ -312,6 +318,31 @@ fn an_article_with_more_rows_than_a_key_may_have_is_told() {
     trial.fill("a", "10:10:", &[ONE; 3]);
     trial.commit(12, 110, "a", Delta::plus(TWO));
     assert_eq!(trial.held("a"), None);
+}
+
+#[test]
+fn what_is_held_of_another_table_goes() {
+    let mut trial = Trial::following();
+    trial.fill("a", "10:10:", &[ONE]);
+    trial.commit(12, 110, "b", Delta::plus(ONE));
+    let (request, told) = trial.ask("b");
+    trial.answer_of(TableId(2), request, "12:13:12", &[TWO]);
+    assert!(matches!(told.try_recv(), Ok(Told::Again)));
+    assert_eq!((trial.held("a"), trial.held("b")), (None, None));
+    assert!(trial.shared.has_other_table.load(SeqCst), "the stream begins anew");
+    // Until it has, the new table's rows are told without the other's changes.
+    let (request, told) = trial.ask("b");
+    trial.answer_of(TableId(2), request, "12:13:12", &[TWO]);
+    assert_eq!((trial.held("b"), rows(told)), (None, Some(vec![TWO])));
+}
+
+#[test]
+fn a_place_after_a_header_is_where_its_page_begins() {
+    let before = |place: u64| Lsn::before_header(&Lsn(place).to_string(), "1048576").unwrap().0;
+    let (page, file) = (3 * 8192, 5 << 20);
+    assert_eq!([page + 24, file + 40].map(before), [page, file]);
+    let others = [page, page + 16, page + 40, file, file + 24, file + 80];
+    assert_eq!(others.map(before), others);
 }
 
 #[test]

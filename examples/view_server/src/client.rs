@@ -1,6 +1,7 @@
 //! A client, and what has come from it and goes to it.
 use crate::poll::{Poll, CHANGE, NOTHING, READ, WRITE};
-use crate::{now, session::Session, wire};
+use crate::session::{Need, Session};
+use crate::{now, wire};
 use std::sync::{atomic::AtomicU64, atomic::Ordering::SeqCst, Mutex};
 use std::{io, io::ErrorKind, io::Read, io::Write, net::Shutdown, net::TcpStream};
 
@@ -12,6 +13,19 @@ pub struct Client {
     pub due: AtomicU64,
 }
 
+/// What a client's next command waits for.
+#[derive(Clone, Copy, PartialEq, Eq)]
+pub enum Next {
+    /// That more comes from it, or that it reads its replies.
+    Socket,
+    /// That others have had their turn.
+    Turn,
+    Errand(Need),
+}
+
+/// Of one client before others have their turn.
+pub const COMMANDS_A_TURN: usize = 32;
+
 #[derive(Default)]
 pub struct Talk {
     pub came: Vec<u8>,
@@ -22,6 +36,8 @@ pub struct Talk {
     owes: bool,
     /// Whether it is on an errand, and its desk leaves it alone.
     pub is_away: bool,
+    /// Whether it is among those whose turn comes at its desk.
+    pub has_turn: bool,
     /// What its desk waits for.
     wanted: u32,
 }
@@ -40,16 +56,23 @@ impl Client {
         Ok(())
     }
 
-    /// Answers what has come and sends that, and has the desk wait for more: whether the base is needed first.
-    pub fn serve(&self, talk: &mut Talk, session: &mut Session, poll: &Poll) -> io::Result<bool> {
-        let (had, shared) = (talk.came.len(), session.shared);
-        let is_sent = loop {
-            talk.is_away = talk.answer(session);
+    /// Answers a turn's commands of what has come and sends that, and has the desk wait for what comes next.
+    pub fn serve(&self, talk: &mut Talk, session: &mut Session, poll: &Poll) -> io::Result<Next> {
+        let (had, shared, mut left) = (talk.came.len(), session.shared, COMMANDS_A_TURN);
+        // Where this fails, its desk is to see that.
+        talk.is_away = false;
+        let (mut next, is_sent) = loop {
+            let next = talk.answer(session, &mut left);
             let (is_full, is_sent) = (talk.replies.len() >= wire::MOST, talk.send(&self.stream)?);
-            if !is_full || !is_sent || talk.is_away {
-                break is_sent;
+            if !is_full || !is_sent || next != Next::Socket {
+                break (next, is_sent);
             }
         };
+        if next == Next::Turn && !is_sent {
+            next = Next::Socket;
+        }
+        talk.has_turn = next == Next::Turn;
+        talk.is_away = matches!(next, Next::Errand(_));
         if is_sent && talk.has_ended {
             _ = self.stream.shutdown(Shutdown::Write);
         }
@@ -63,23 +86,25 @@ impl Client {
         if std::mem::replace(&mut talk.wanted, wanted) != wanted {
             poll.set(CHANGE, &self.stream, self.token, wanted)?;
         }
-        Ok(talk.is_away)
+        Ok(next)
     }
 }
 
 impl Talk {
-    /// Whether the base is needed for the next command, and isn't here.
-    fn answer(&mut self, session: &mut Session) -> bool {
-        let (mut done, mut needs_base) = (0, false);
-        while !needs_base && !self.has_ended && self.replies.len() < wire::MOST {
+    /// So many commands at most, in their order. On an errand the next turn is one too.
+    fn answer(&mut self, session: &mut Session, left: &mut usize) -> Next {
+        let (mut done, mut next) = (0, Next::Socket);
+        while next == Next::Socket && !self.has_ended && self.replies.len() < wire::MOST {
             match wire::command(&self.came[done..]) {
                 Ok(None) => break,
+                Ok(Some(_)) if *left == 0 => next = session.errand.map_or(Next::Turn, Next::Errand),
                 Ok(Some((words, size))) => match session.answer(&words) {
-                    None => needs_base = true,
-                    Some(reply) => {
+                    Err(need) => next = Next::Errand(need),
+                    Ok(reply) => {
                         self.replies.extend(reply.bytes());
                         self.has_ended = words.is_ok_and(|it| it.len() == 1 && it[0].eq_ignore_ascii_case("QUIT"));
                         done += size;
+                        *left -= 1;
                     }
                 },
                 Err(why) => {
@@ -89,7 +114,7 @@ impl Talk {
             }
         }
         self.came.drain(..if self.has_ended { self.came.len() } else { done });
-        needs_base
+        next
     }
 
     /// Sends as much as can be sent: whether that was all.

@@ -1,18 +1,55 @@
-//! Who may wait for the base: threads that answer for a client what its desk can't, and loaders, which wait for nobody.
-use crate::poll::{CHANGE, READ};
-use crate::{base::Base, base::Query, desk::Errand, session::told, session::Load, session::Session, wire};
-use std::sync::{mpsc::Receiver, mpsc::Sender, Mutex};
+//! Who may wait for the base: threads that load or vote for a client whose desk can't, and loaders, which wait for nobody.
+use crate::client::{Client, Next, COMMANDS_A_TURN};
+use crate::poll::{Poll, CHANGE, READ};
+use crate::session::{told, Load, Need, Session};
+use crate::{base::Base, base::Query, wire};
+use std::sync::{mpsc::Receiver, mpsc::Sender, Arc, Mutex};
 
-/// Answers all that has come from one client after another.
-pub fn run(errands: &Mutex<Receiver<Errand>>, mut session: Session, requests: &Sender<Load>) {
+/// A client that is brought to an errand, and where its desk waits for it again; or none, after which nobody comes.
+pub type Errand<'a> = Option<(Arc<Client>, &'a Poll)>;
+
+/// Where a client is brought: to those who load, or to those who vote. Neither waits for the other.
+#[derive(Clone)]
+pub struct Bring<'a> {
+    pub to_load: Sender<Errand<'a>>,
+    pub to_vote: Sender<Errand<'a>>,
+}
+
+impl<'a> Bring<'a> {
+    pub fn bring(&self, need: Need, client: Arc<Client>, poll: &'a Poll) {
+        let to = if need == Need::Load { &self.to_load } else { &self.to_vote };
+        _ = to.send(Some((client, poll)));
+    }
+
+    /// Has so many end who load, and who vote.
+    pub fn end(&self, loads: usize, votes: usize) {
+        (0..loads).for_each(|_| _ = self.to_load.send(None));
+        (0..votes).for_each(|_| _ = self.to_vote.send(None));
+    }
+}
+
+/// Does an errand for one client after another. Who needs another comes back after those who wait.
+pub fn run<'a>(
+    errands: &Mutex<Receiver<Errand<'a>>>,
+    mut session: Session,
+    bring: &Bring<'a>,
+    requests: &Sender<Load>,
+) {
     loop {
         let next = errands.lock().unwrap().recv();
-        let Ok((client, poll)) = next else { return };
+        let Ok(Some((client, poll))) = next else { return };
         let mut talk = client.talk.lock().unwrap();
-        look_ahead(&talk.came, &mut session, requests);
-        if client.serve(&mut talk, &mut session, poll).is_err() {
+        if session.errand == Some(Need::Load) {
+            look_ahead(&talk.came, &mut session, requests);
+        }
+        session.may = true;
+        let next = client.serve(&mut talk, &mut session, poll);
+        drop(talk);
+        match next {
+            Ok(Next::Errand(need)) => bring.bring(need, client, poll),
+            Ok(_) => {}
             // Its desk sees that it has gone.
-            _ = poll.set(CHANGE, &client.stream, client.token, READ);
+            Err(_) => _ = poll.set(CHANGE, &client.stream, client.token, READ),
         }
     }
 }
@@ -20,7 +57,8 @@ pub fn run(errands: &Mutex<Receiver<Errand>>, mut session: Session, requests: &S
 /// Has what a client's GETs lack loaded side by side, all but the first, which its own errand loads.
 fn look_ahead(mut came: &[u8], session: &mut Session, requests: &Sender<Load>) {
     let mut is_first = true;
-    while let Ok(Some((command, size))) = wire::command(came) {
+    for _ in 0..COMMANDS_A_TURN {
+        let Ok(Some((command, size))) = wire::command(came) else { return };
         came = &came[size..];
         let Ok([get, article]) = command.as_deref() else { continue };
         if get.eq_ignore_ascii_case("GET") && !std::mem::take(&mut is_first) {

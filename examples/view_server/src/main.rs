@@ -11,6 +11,7 @@ mod stats;
 mod wire;
 
 use nr::View;
+use session::Need;
 use std::sync::{atomic::AtomicBool, atomic::Ordering::Relaxed, mpsc, Arc, LazyLock, Mutex};
 use std::thread::{self, Builder, Scope};
 use std::{env, error::Error, net::TcpListener, time::Instant};
@@ -37,6 +38,9 @@ fn now() -> u64 {
 }
 
 static IS_OVER: AtomicBool = AtomicBool::new(false);
+
+/// How many threads vote: while one writes, the others have what comes before and after that.
+const VOTERS: usize = 4;
 
 /// Each is followed by a number, or has that of DEFAULTS.
 const OPTIONS: &str = "--port --limit --errands --clients --idle --half --busy --delay";
@@ -71,36 +75,44 @@ fn main() -> Result<(), Box<dyn Error>> {
     let (path, address, [port, limit, errands, most_clients, idle, half, busy, delay]) = told;
     let open_base = || base::Base::open(&path, busy, delay);
     let (at_desks, errands) = (thread::available_parallelism().map_or(4, usize::from), errands as usize);
-    let view = View::builder().capacity(limit as usize).threads((at_desks + errands) as u32).open()?;
+    let sessions = at_desks + errands + VOTERS;
+    let view = View::builder().capacity(limit as usize).threads(sessions as u32).open()?;
     let (writes, clients, most_clients) = (Mutex::new(open_base()?), Mutex::default(), most_clients as usize);
-    let counts = (0..=at_desks + errands).map(|_| stats::Counts::default()).collect();
+    let counts = (0..=sessions).map(|_| stats::Counts::default()).collect();
     let shared = &Shared { view, writes, most_clients, clients, idle, half, busy, counts };
-    let session = |number: usize, base| {
+    let session = |number: usize, base, errand| {
         let reader = shared.view.reader().expect("there is a reader for each session");
-        session::Session { reader, base, counts: &shared.counts[number + 1], shared }
+        session::Session { reader, base, errand, may: false, counts: &shared.counts[number + 1], shared }
     };
     let listener = TcpListener::bind((&address[..], u16::try_from(port)?))?;
     let desks: Vec<_> = (0..at_desks).map(|_| poll::Poll::new()).collect::<Result<_, _>>()?;
-    let ((bring, errand), (request, requests)) = (mpsc::channel(), mpsc::channel());
-    let (errand, requests) = (&Mutex::new(errand), Arc::new(Mutex::new(requests)));
+    let ((to_load, loads), (to_vote, votes), (request, requests)) = (mpsc::channel(), mpsc::channel(), mpsc::channel());
+    let (bring, loads, votes) = (&errands::Bring { to_load, to_vote }, &Mutex::new(loads), &Mutex::new(votes));
+    let requests = Arc::new(Mutex::new(requests));
     thread::scope(|scope| {
         let at_desks = start(scope, at_desks, |number| {
-            let (desk, session, bring) = (&desks[number], session(number, None), bring.clone());
+            let (desk, session, bring) = (&desks[number], session(number, None, None), bring.clone());
             Ok(move || desk::serve(desk, session, &bring))
         });
+        let voters = start(scope, VOTERS, |number| {
+            let (session, request) = (session(desks.len() + number, None, Some(Need::Vote)), request.clone());
+            Ok(move || errands::run(votes, session, bring, &request))
+        });
         let on_errands = start(scope, errands, |number| {
-            let (session, request) = (session(desks.len() + number, Some(open_base()?)), request.clone());
-            Ok(move || errands::run(errand, session, &request))
+            let session = session(desks.len() + VOTERS + number, Some(open_base()?), Some(Need::Load));
+            let request = request.clone();
+            Ok(move || errands::run(loads, session, bring, &request))
         });
         start(scope, errands, |_| {
             let (base, requests) = (open_base()?, Arc::clone(&requests));
             Ok(move || errands::load(&requests, base))
         });
         // Where there are no loaders who requests learns that.
-        drop(requests);
-        let served = (at_desks.min(on_errands) > 0).then(|| door::serve(listener, &desks[..at_desks], shared));
+        drop((requests, request));
+        let are_there = at_desks.min(on_errands).min(voters) > 0;
+        let served = are_there.then(|| door::serve(listener, &desks[..at_desks], shared));
         IS_OVER.store(true, Relaxed);
-        drop((bring, request));
+        bring.end(errands, VOTERS);
         served.ok_or("there are no threads for clients".into())
     })
 }

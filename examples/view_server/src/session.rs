@@ -3,14 +3,24 @@ use crate::stats::{self, Count, Counts};
 use crate::wire::{array, bulk, Command};
 use crate::{base::Base, base::Query, log, Shared};
 use nr::{CacheReader, Delta, Request, Row, Sought};
-use std::{fmt::Write, hash::RandomState, time::Duration, time::Instant};
+use std::{fmt::Write, hash::RandomState, mem::take, time::Duration, time::Instant};
 
 pub struct Session<'a> {
     pub reader: CacheReader<String, Box<[Row]>, RandomState>,
     /// A desk has none.
     pub base: Option<Base>,
+    /// What it is for, where it is on errands, and whether it may still do that in this turn.
+    pub errand: Option<Need>,
+    pub may: bool,
     pub counts: &'a Counts,
     pub shared: &'a Shared,
+}
+
+/// What a command needs the base for.
+#[derive(Clone, Copy, Debug, PartialEq, Eq)]
+pub enum Need {
+    Load,
+    Vote,
 }
 
 const KNOWN: [&str; 8] = ["GET", "VOTE", "UNVOTE", "STATS", "PING", "SELECT", "HELLO", "CONFIG"];
@@ -18,25 +28,25 @@ pub type Load = Request<String, Box<[Row]>>;
 type Reply = Result<String, String>;
 
 impl Session<'_> {
-    /// The reply to a command, or none where that needs the base and there is none here.
-    pub fn answer(&mut self, command: &Command) -> Option<String> {
+    /// The reply to a command, or what it needs that can't be done here, or not in this turn.
+    pub fn answer(&mut self, command: &Command) -> Result<String, Need> {
         let reply = match command {
             Ok(words) => self.reply(words)?,
             Err(why) => Err(why.to_string()),
         };
-        Some(reply.unwrap_or_else(|why| {
+        Ok(reply.unwrap_or_else(|why| {
             self.counts.up(Count::Errors);
             format!("-{}{why}\r\n", if why.starts_with("NOPROTO") { "" } else { "ERR " })
         }))
     }
 
-    fn reply(&mut self, words: &[&str]) -> Option<Reply> {
-        let Some((command, arguments)) = words.split_first() else { return Some(Ok(String::new())) };
+    fn reply(&mut self, words: &[&str]) -> Result<Reply, Need> {
+        let Some((command, arguments)) = words.split_first() else { return Ok(Ok(String::new())) };
         match (command.to_ascii_uppercase().as_str(), arguments) {
             ("GET", [article]) => self.get(article),
             ("VOTE", [article, user, weight]) => self.vote(article, user, weight, true),
             ("UNVOTE", [article, user, weight]) => self.vote(article, user, weight, false),
-            (other, _) => Some(self.reply_of_server(other, arguments)),
+            (other, _) => Ok(self.reply_of_server(other, arguments)),
         }
     }
 
@@ -60,22 +70,36 @@ impl Session<'_> {
     }
 
     /// By the view, without a lock; or else by one load, however many miss the article together.
-    fn get(&mut self, article: &str) -> Option<Reply> {
+    fn get(&mut self, article: &str) -> Result<Reply, Need> {
         if let Err(why) = name(article) {
-            return Some(Err(why));
+            return Ok(Err(why));
         }
         let begun = Instant::now();
         let mut what = Count::Hits;
-        let mut text = self.reader.get(article).map(|rows| Ok(text_of(&rows)));
-        if text.is_none() {
-            let (base, wait) = (self.base.as_mut()?, Duration::from_millis(self.shared.busy));
-            let found =
-                self.reader.try_get_with_timeout(article, wait, || base.run(Query::Rows, article, &[]).map(Box::from));
-            text = Some(found.map(|rows| text_of(&rows)).map_err(|why| told(why.to_string())));
-            what = Count::Misses;
-        }
+        let held = self.reader.get(article).map(|rows| Ok(text_of(&rows)));
+        let text = match held {
+            Some(text) => text,
+            None => {
+                what = Count::Misses;
+                self.load(article)?
+            }
+        };
         self.counts.took(what, begun.elapsed());
-        text
+        Ok(text)
+    }
+
+    fn load(&mut self, article: &str) -> Result<Reply, Need> {
+        self.begin(Need::Load)?;
+        let (base, wait) = (self.base.as_mut().ok_or(Need::Load)?, Duration::from_millis(self.shared.busy));
+        let load = || base.run(Query::Rows, article, &[]).map(Box::from);
+        let found = self.reader.try_get_with_timeout(article, wait, load);
+        Ok(found.map(|rows| text_of(&rows)).map_err(|why| told(why.to_string())))
+    }
+
+    /// Refused at a desk, on an errand of another kind, and where this turn has had one.
+    fn begin(&mut self, need: Need) -> Result<(), Need> {
+        let may = self.errand == Some(need) && take(&mut self.may);
+        may.then_some(()).ok_or(need)
     }
 
     /// The request of an article that the view lacks and nobody loads.
@@ -88,27 +112,29 @@ impl Session<'_> {
     }
 
     /// Writes to the base, and then to the view, which holds no load that began before the end of both.
-    fn vote(&mut self, article: &str, user: &str, weight: &str, is_new: bool) -> Option<Reply> {
+    fn vote(&mut self, article: &str, user: &str, weight: &str, is_new: bool) -> Result<Reply, Need> {
         let row = match name(article).and_then(|()| Ok(Row { a: number(user)?, b: number(weight)? })) {
             Ok(row) => row,
-            Err(why) => return Some(Err(why)),
+            Err(why) => return Ok(Err(why)),
         };
-        self.base.as_ref()?;
+        self.begin(Need::Vote)?;
         let begun = Instant::now();
-        Some(self.write(article, row, is_new)).inspect(|_| self.counts.took(Count::Votes, begun.elapsed()))
+        let reply = write(self.shared, article, row, is_new);
+        self.counts.took(Count::Votes, begun.elapsed());
+        Ok(reply)
     }
+}
 
-    fn write(&self, article: &str, row: Row, is_new: bool) -> Reply {
-        let (query, delta) = if is_new { (Query::Add, Delta::plus(row)) } else { (Query::Remove, Delta::minus(row)) };
-        // After a fault nobody knows what was written: the article leaves the view with this.
-        let change = self.shared.view.change(article);
-        let rows = self.shared.writes.lock().unwrap().run(query, article, &[row.a, row.b]).map_err(told)?;
-        let deltas = if rows.is_empty() { &[][..] } else { &[delta] };
-        if change.commit(deltas).is_err() {
-            log::say("view", &format!("another program has written votes of {article}"));
-        }
-        rows.first().map(|_| "+OK\r\n".into()).ok_or("there is no such vote".into())
+fn write(shared: &Shared, article: &str, row: Row, is_new: bool) -> Reply {
+    let (query, delta) = if is_new { (Query::Add, Delta::plus(row)) } else { (Query::Remove, Delta::minus(row)) };
+    // After a fault nobody knows what was written: the article leaves the view with this.
+    let change = shared.view.change(article);
+    let rows = shared.writes.lock().unwrap().run(query, article, &[row.a, row.b]).map_err(told)?;
+    let deltas = if rows.is_empty() { &[][..] } else { &[delta] };
+    if change.commit(deltas).is_err() {
+        log::say("view", &format!("another program has written votes of {article}"));
     }
+    rows.first().map(|_| "+OK\r\n".into()).ok_or("there is no such vote".into())
 }
 
 /// A fault of the base, of which the log has a line.

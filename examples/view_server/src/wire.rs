@@ -28,8 +28,17 @@ fn words<'a>(rest: &mut &'a [u8]) -> Result<Vec<&'a [u8]>, Stop> {
     match line.strip_prefix(b"*") {
         Some(count) => (0..number(count, 255)?).map(|_| word(rest)).collect(),
         None if line.len() > LONGEST => Ok(vec![line]),
-        None => Ok(line.split(u8::is_ascii_whitespace).filter(|word| !word.is_empty()).collect()),
+        None => {
+            let words: Vec<_> = line.split(u8::is_ascii_whitespace).filter(|word| !word.is_empty()).collect();
+            (!is_http(&words)).then_some(words).ok_or(Some("a line of HTTP"))
+        }
     }
+}
+
+/// Whether a line is a browser's, which a web page has send what it likes: the body of such a request may have commands.
+fn is_http(words: &[&[u8]]) -> bool {
+    let is = |place: usize, name: &str| words.get(place).is_some_and(|word| word.eq_ignore_ascii_case(name.as_bytes()));
+    is(0, "POST") || is(0, "Host:") || is(0, "GET") && words.get(1).is_some_and(|path| path.starts_with(b"/"))
 }
 
 fn checked(words: Vec<&[u8]>) -> Command<'_> {

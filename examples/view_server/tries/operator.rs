@@ -114,6 +114,34 @@ fn held(port: &str) {
     assert!(stat(port, "hit-us-p50") < 500_000 && stat(port, "miss-us-p50") >= 500_000, "STATS tells other times");
 }
 
+/// Votes of many clients, each with many in one breath, keep no miss waiting for all of them.
+fn crowd(port: &str) {
+    let mut voters: Vec<_> = (0..32).map(|_| Client::connect(port)).collect();
+    for (number, voter) in voters.iter_mut().enumerate() {
+        voter.send(&format!("VOTE crowd:{number} 1 1\r\n").repeat(20));
+    }
+    assert!(comes(|| stat(port, "votes") > 0));
+    assert_eq!(Client::connect(port).ask("GET crowd:none"), "");
+    let votes = stat(port, "votes");
+    assert!(votes < 320, "a miss came after {votes} of 640 votes");
+    voters.iter_mut().for_each(|voter| (0..20).for_each(|_| assert_eq!(voter.reply(), "+OK")));
+}
+
+/// Commands of all kinds in one breath are answered in their order, though each kind is another's to answer.
+fn order(port: &str) {
+    let mut clients: Vec<_> = (0..8).map(|_| Client::connect(port)).collect();
+    let vote = |number: usize, user: usize| format!("VOTE order:{number} {user} 1\r\nGET order:{number}\r\nPING\r\n");
+    for (number, client) in clients.iter_mut().enumerate() {
+        client.send(&(0..50).map(|user| vote(number, user)).collect::<String>());
+    }
+    for client in &mut clients {
+        for user in 0..50 {
+            let rows: Vec<_> = (0..=user).map(|user| format!("{user}:1")).collect();
+            assert_eq!([client.reply(), client.reply(), client.reply()], ["+OK", &rows.join(" "), "+PONG"]);
+        }
+    }
+}
+
 /// Where there are no loaders, an errand loads what its client asks for in one breath.
 fn few(port: &str) {
     let mut client = Client::connect(port);
@@ -125,7 +153,7 @@ fn few(port: &str) {
 
 fn main() {
     let words: Vec<String> = env::args().collect();
-    let tries: [(&str, fn(&str)); 8] = [
+    let tries: [(&str, fn(&str)); 10] = [
         ("scan", scan),
         ("silent", silent),
         ("idle", idle),
@@ -134,6 +162,8 @@ fn main() {
         ("breath", breath),
         ("held", held),
         ("few", few),
+        ("crowd", crowd),
+        ("order", order),
     ];
     tries.iter().find(|(name, _)| *name == words[2]).expect("a try").1(&words[1]);
 }
