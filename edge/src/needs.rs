@@ -1,0 +1,163 @@
+//! What an edge needs of its database so that the stream brings each change of each view, and the SQL that makes it so.
+use crate::configuration::{Configuration, View};
+use crate::pq::{Connection, Fault};
+
+/// Something that an edge needs and that isn't there.
+pub struct Lack {
+    pub says: String,
+    /// What makes it so, or a line of comment where no statement does.
+    pub sql: String,
+}
+
+/// When it holds, what is said where it doesn't, and what makes it so.
+type Need = (&'static str, &'static str, &'static str);
+
+/// Of the database. In their SQL `{publication}` and `{role}` stand for names.
+const OF_DATABASE: [Need; 7] = [
+    (
+        "current_setting('server_encoding') = 'UTF8' AND current_setting('client_encoding') = 'UTF8'",
+        "the database and its clients need the encoding UTF8",
+        "-- A database is made with its encoding: CREATE DATABASE name ENCODING 'UTF8'",
+    ),
+    (
+        "current_setting('wal_level') = 'logical'",
+        "the setting wal_level needs to be logical",
+        "ALTER SYSTEM SET wal_level = logical; -- and start PostgreSQL anew",
+    ),
+    (
+        "current_setting('max_slot_wal_keep_size') <> '-1'",
+        "PostgreSQL keeps any amount of its log for an edge that is gone",
+        "ALTER SYSTEM SET max_slot_wal_keep_size = '10GB'; SELECT pg_reload_conf();",
+    ),
+    (
+        "EXISTS (SELECT FROM pg_roles WHERE rolname = current_user AND (rolreplication OR rolsuper))",
+        "the role may not replicate",
+        "ALTER ROLE {role} REPLICATION;",
+    ),
+    (
+        "EXISTS (SELECT FROM pg_publication WHERE pubname = publication)",
+        "there is no publication",
+        "CREATE PUBLICATION {publication};",
+    ),
+    (
+        "NOT EXISTS (SELECT FROM pg_publication
+        WHERE pubname = publication AND NOT (pubinsert AND pubupdate AND pubdelete AND pubtruncate))",
+        "the publication lacks inserts, updates, deletes or truncates",
+        "ALTER PUBLICATION {publication} SET (publish = 'insert, update, delete, truncate');",
+    ),
+    (
+        "EXISTS (SELECT FROM pg_event_trigger WHERE evtname = publication || '_changed' AND evtenabled IN ('O', 'A')
+        AND evttags @> '{ALTER TABLE,DROP TABLE,ALTER PUBLICATION,DROP PUBLICATION,ALTER SCHEMA,DROP SCHEMA}')",
+        "no event trigger tells of a table that is changed, which the stream tells no row of",
+        "DROP EVENT TRIGGER IF EXISTS {publication}_changed;
+CREATE OR REPLACE FUNCTION tell_{publication}() RETURNS event_trigger LANGUAGE plpgsql AS $$
+BEGIN
+    PERFORM pg_logical_emit_message(true, 'edges: changed', '');
+END $$;
+CREATE EVENT TRIGGER {publication}_changed ON ddl_command_end
+    WHEN TAG IN ('ALTER TABLE', 'DROP TABLE', 'ALTER PUBLICATION', 'DROP PUBLICATION', 'ALTER SCHEMA', 'DROP SCHEMA')
+    EXECUTE FUNCTION tell_{publication}();",
+    ),
+];
+
+/// Of a view's table, which has the number `source`. In their SQL `{table}` stands for its name.
+const OF_VIEW: [Need; 9] = [
+    (
+        "EXISTS (SELECT FROM pg_class WHERE oid = source AND relkind = 'r' AND relpersistence = 'p' AND NOT relispartition)",
+        "there is no such table, or it is none that is logged and whole: no view, no partition",
+        "-- The table is the application's to make.",
+    ),
+    (
+        "(SELECT count(*) FROM pg_attribute WHERE attrelid = source AND attnum > 0 AND attname = ANY (key || columns))
+        = cardinality(key || columns)",
+        "the table lacks a column of the view",
+        "-- The columns are the application's to make.",
+    ),
+    (
+        "NOT EXISTS (SELECT FROM pg_attribute WHERE attrelid = source AND attname = ANY (key) AND NOT attnotnull)",
+        "a column of the key may be NULL",
+        "-- Of each column of the key: ALTER TABLE {table} ALTER .. SET NOT NULL",
+    ),
+    (
+        "NOT EXISTS (SELECT FROM pg_attribute JOIN pg_collation ON pg_collation.oid = attcollation
+        WHERE attrelid = source AND attname = ANY (key) AND NOT collisdeterministic)
+        AND NOT EXISTS (SELECT FROM pg_attribute JOIN pg_type ON pg_type.oid = atttypid
+        WHERE attrelid = source AND attname = ANY (key) AND typname IN ('bpchar', 'citext'))",
+        "a column of the key has texts that equal others",
+        "-- The key's texts need a type, as text, and a collation of which each text equals itself alone.",
+    ),
+    (
+        "NOT EXISTS (SELECT FROM pg_inherits WHERE inhparent = source)",
+        "tables inherit from it",
+        "-- What inherits has rows of its own: SELECT inhrelid::regclass FROM pg_inherits WHERE inhparent = '{table}'::regclass",
+    ),
+    (
+        "NOT row_security_active(source) AND has_table_privilege(source, 'SELECT')",
+        "the role may not read each row",
+        "GRANT SELECT ON {table} TO {role}; ALTER TABLE {table} DISABLE ROW LEVEL SECURITY;",
+    ),
+    (
+        "EXISTS (SELECT FROM pg_class WHERE oid = source AND relreplident = 'f')",
+        "a change needs to tell the row that was: REPLICA IDENTITY FULL",
+        "ALTER TABLE {table} REPLICA IDENTITY FULL;",
+    ),
+    (
+        "EXISTS (SELECT FROM pg_publication_tables JOIN pg_namespace ON nspname = schemaname
+        JOIN pg_class ON relname = tablename AND relnamespace = pg_namespace.oid
+        WHERE pubname = publication AND pg_class.oid = source)",
+        "the publication doesn't have the table",
+        "ALTER PUBLICATION {publication} ADD TABLE ONLY {table};",
+    ),
+    (
+        "NOT EXISTS (SELECT FROM pg_publication_rel JOIN pg_publication ON pg_publication.oid = prpubid
+        WHERE pubname = publication AND prrelid = source AND (prqual IS NOT NULL OR prattrs IS NOT NULL))",
+        "the publication has a part of the table: some rows, or some columns",
+        "ALTER PUBLICATION {publication} DROP TABLE {table}; ALTER PUBLICATION {publication} ADD TABLE ONLY {table};",
+    ),
+];
+
+/// What lacks, in the order in which it is to be made.
+pub fn lacking(configuration: &Configuration, connection: &mut Connection) -> Result<Vec<Lack>, Fault> {
+    let publication = &configuration.source.publication;
+    let role = connection.run("SELECT quote_ident(current_user)")?.concat().concat().concat();
+    let of_database = select(&OF_DATABASE, "''", "(SELECT $1::text AS publication)");
+    let holds = connection.run_with(&of_database, &[publication])?.remove(0);
+    let mut lacks = lacks_of(&OF_DATABASE, &holds[1..], &[("{publication}", publication), ("{role}", &role)]);
+    for view in &configuration.views {
+        let line = of_view(view, publication, connection)?;
+        let names = [("{publication}", publication.as_str()), ("{role}", &role), ("{table}", &line[0])];
+        let mut of_view = lacks_of(&OF_VIEW, &line[1..], &names);
+        // Where the table isn't there nothing else holds.
+        if line[1] != "t" {
+            of_view.truncate(1);
+        }
+        lacks.extend(of_view.into_iter().map(|it| Lack { says: format!("the view {}: {}", view.name, it.says), ..it }));
+    }
+    Ok(lacks)
+}
+
+/// The table's name, and whether each need holds.
+fn of_view(view: &View, publication: &str, connection: &mut Connection) -> Result<Vec<String>, Fault> {
+    let of =
+        "(SELECT to_regclass($1)::oid AS source, $2::text AS publication, $3::name[] AS key, $4::name[] AS columns)";
+    let sql = select(&OF_VIEW, "coalesce(source::regclass::text, '')", of);
+    let [key, columns] = [&view.key, &view.columns].map(|names| array(names));
+    connection.run_with(&sql, &[&view.table, publication, &key, &columns]).map(|mut table| table.remove(0))
+}
+
+fn select(needs: &[Need], first: &str, of: &str) -> String {
+    let holds: Vec<_> = needs.iter().map(|(holds, ..)| format!("({holds}) IS TRUE")).collect();
+    format!("SELECT {first}, {} FROM {of} AS it", holds.join(", "))
+}
+
+fn lacks_of(needs: &[Need], holds: &[String], names: &[(&str, &str)]) -> Vec<Lack> {
+    let named = |sql: &str| names.iter().fold(sql.to_owned(), |sql, (word, name)| sql.replace(word, name));
+    let lacking = needs.iter().zip(holds).filter(|(_, holds)| *holds != "t");
+    lacking.map(|((_, says, sql), _)| Lack { says: (*says).into(), sql: named(sql) }).collect()
+}
+
+/// PostgreSQL's text of an array.
+fn array(names: &[String]) -> String {
+    let quoted = |name: &String| format!("\"{}\"", name.replace('\\', "\\\\").replace('"', "\\\""));
+    format!("{{{}}}", names.iter().map(quoted).collect::<Vec<_>>().join(","))
+}
