@@ -12,8 +12,6 @@ import kit
 # Words after which a bracket or a bar begins something of its own, and those that a condition or a range follows.
 HEADS = set("as crate else for if impl in let match mut pub return where while".split())
 CLOSED_BY = {"(": ")", "[": "]", "{": "}"}
-# A piece of a body that only names or moves what is there. Contracts say which values those are.
-NO_DEED = re.compile(r"(?!.*\b(for|while|loop|if|else|match|return|break|continue|unsafe)\b)(let (mut )?\w+ )?(= )?[\w\s.,:&]*")
 
 
 class Function(NamedTuple):
@@ -178,14 +176,11 @@ class File:
             i = behind(self.words, i + 1, "<", ">") if self.words[i : i + 2] == ["::", "<"] else i + 1
         yield start, end
 
-    def deeds(self, function, values):
-        """What it does in order, each with its line: the pieces of its body that do something, or name one of these values."""
-        found = []
-        for first, end in self.pieces(function.body + 1, function.end - 1):
-            deed = self.spelled(first, end)
-            if not NO_DEED.fullmatch(deed) or values & set(self.words[first:end]):
-                found.append((deed, self.lines[first]))
-        return found
+    def deeds(self, function):
+        """What it does in order, each with its line: every piece of its body. One that only names a value counts too, since
+        a `let` of a name that was there, or another literal, changes what a later piece does."""
+        pieces = self.pieces(function.body + 1, function.end - 1)
+        return [(deed, self.lines[first]) for first, end in pieces if (deed := self.spelled(first, end))]
 
     def constants(self):
         """Each constant outside of a function, with its line."""

@@ -289,7 +289,6 @@ fn main() {
         counts(c"no place in the cache", stats.refused);
         counts(c"late load refused", stats.outdated);
         counts(c"ticket numbers next to 2^22", 1);
-        counts(c"epochs 2^32 before 2^64", 1);
         drop(cache);
         model_lives(0);
     }
