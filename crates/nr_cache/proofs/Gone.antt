@@ -1,32 +1,50 @@
--- An id whose value was taken has none, and a way with a name has its id's.
-use Rattle.std.proofs.Common.{◌≡◌, ◌<◌, ℕ, zero, suc, ◌⊎◌, inl, inr, Bool, true, false, cond, List, [], ◌∷◌, ◌++◌}
-use Rattle.std.proofs.Common.{Some, None, sym, ap, ◌∙◌, refl, subst, arith, length}
+-- An id's value that is taken was there, and is gone then.
+use Rattle.std.proofs.Common.{◌≡◌, ◌≢◌, ◌+◌, ◌<◌, ℕ, inl, inr, Bool, true, false, cond, ◌∷◌, [], Option, Some, None}
+use Rattle.std.proofs.Common.{sym, ap, ◌∙◌, subst, arith}
 use Rattle.std.specs.Bool.{◌==◌}
 use Rattle.std.proofs.lemmas.Bool.{cases_eq, eq-eqb, ne_eqb}
-use Rattle.std.proofs.lemmas.List.{length-replicate}
-use Rattle.nr_model.specs.Histories.{Entry, IsLegal, after}
-use Rattle.nr_model.specs.Maps.{PartialMap, evict_reply, next, state_after, state_of}
-use Rattle.nr_model.specs.declared.calls.Call.TheVariants.{Evict}
-use Rattle.nr_model.specs.declared.calls.Reply.TheVariants as reply
-use Rattle.nr_model.specs.declared.states.KeyState.{KeyState}
-use Rattle.nr_model.specs.declared.states.KeyState.TheVariants.{Hole, Asked, Rows}
-use Rattle.nr_model.proofs.HistoryLemmas.{state_of-next_same}
-use Rattle.nr_core.specs.Story.{entry}
-use Rattle.nr_board.specs.Callers.{Caller, Table, map_at_opening, map_seen}
+use Rattle.nr_board.specs.Callers.{Caller, Table, map_seen}
 use Rattle.nr_board.specs.WriterAnswers.{EvictsKey}
-use Rattle.nr_board.specs.declared.answers.Evict as board
 use Rattle.nr_board.specs.declared.answers.Evict.TheVariants as evict
-use Rattle.nr_ids.specs.Events.{name_of, unnamed}
-use Rattle.nr_ids.specs.Groups.{ways}
-use Rattle.nr_ids.specs.Tokens.{Opened}
-use Rattle.nr_ids.proofs.Calls.{clerk_names}
+use Rattle.nr_ids.specs.Answers.{FindsWay}
+use Rattle.nr_ids.specs.Events.{IsAbsent, name_of, unnamed}
+use Rattle.nr_ids.specs.Groups.{places, ways}
+use Rattle.nr_ids.specs.Tokens.{Opened, Token}
+use Rattle.nr_ids.proofs.Calls.{clerk_looks, clerk_names}
 use Rattle.nr_ids.proofs.Logs.{one_way}
+use Rattle.nr_idmap.specs.IdChoices.{StaysButClerk}
 use Rattle.nr_idmap.specs.IdLaws.{NamedIsOwedOrResident, UnnamedIsAbsent}
 use Rattle.nr_idmap.specs.IdWrites.{EvictsId, EvictsWay}
-use Rattle.nr_idmap.specs.Keepers.{Agrees, IsTied, Keeper, name_at, owed_for}
+use Rattle.nr_idmap.specs.Keepers.{IsTied, Keeper, name_at}
 use Rattle.nr_idmap.specs.Tags.{IsResident}
-use Rattle.nr_map.proofs.Written.{near_next}
-use Rattle.nr_cache.specs.Stores.{HasValue, IsGone, OwesNone}
+use Rattle.nr_cache.specs.Places.{HasValue, IsGone, OwesNone, TakesValue}
+use Rattle.nr_cache.proofs.LastCalls.{evicts_it, last_call}
+
+-- A LOOK-UP
+-- the clerk's looks change no name
+pub looked_names : (id : ℕ) (old : Keeper) (mid : Token) (found : Option ℕ) → IsTied old
+    → FindsWay id old.clerk mid found → (way : ℕ) → name_of mid.seen way ≡ name_at old way
+looked_names id old mid (Some way) tied finds k =
+    clerk_looks old.clerk (finds.0.count + 0) old.clerk.number mid k tied.names.1 finds.0.grows
+looked_names id old mid None tied finds k =
+    clerk_looks old.clerk places old.clerk.number mid k tied.names.1 finds.0
+
+pub found_named : (id way : ℕ) (old : Keeper) (mid : Token) → IsTied old → FindsWay id old.clerk mid (Some way)
+    → name_at old way ≡ id
+found_named id way old mid tied finds = sym (looked_names id old mid (Some way) tied finds way) ∙ finds.1.has
+
+pub found_none : (id : ℕ) (old : Keeper) (mid : Token) → IsTied old → FindsWay id old.clerk mid None
+    → IsAbsent old.clerk.seen id
+found_none id old mid tied finds way named = finds.1 way (looked_names id old mid None tied finds way ∙ named)
+
+-- such a way is a key of the map
+pub found_near : (id way : ℕ) (old : Keeper) (mid : Token) → IsTied old → FindsWay id old.clerk mid (Some way)
+    → way < old.writer.table.shape.keys
+found_near id way old mid tied finds =
+    let inside = finds.1.inside in
+    let plan = ap (λ (d : Opened). ways d.plan) (finds.0.grows.directory ∙ tied.names.0) in
+    let keys = ap (λ (t : Table). t.shape.keys) tied.writes.0 in
+    omega (arith, inside, plan, tied.ways_are, keys)
 
 -- A NAMED WAY HAS A VALUE
 pub has_value : NamedIsOwedOrResident → (id way : ℕ) (keeper : Keeper) → IsTied keeper → OwesNone keeper → 0 < id
@@ -37,48 +55,18 @@ has_value law id way keeper tied none real named =
       | inr had ↦ (had.0, subst (λ (n : ℕ). IsResident (map_seen keeper.writer) n had.0) named had.1)
     ]
 
--- AN EVICTION THAT FOUND NOTHING
-left_alone : (bound way : ℕ) (state : KeyState) → reply.Nothing ≡ evict_reply state
-    → state_after bound (Evict way) state ≡ state
-left_alone bound way (Hole n) e = refl
-left_alone bound way (Asked n) e = refl
-left_alone bound way (Rows n rows) e = absurd (cc (e))
+pub is_gone : UnnamedIsAbsent → (id : ℕ) (keeper : Keeper) → IsTied keeper → IsAbsent keeper.clerk.seen id
+    → IsGone id keeper
+is_gone law id keeper tied absent = (law keeper id tied absent).0
 
--- the last entry of a legal history evicted nothing: the key's state was this, and stays so
-evicts_nothing : (map : PartialMap) (log : List Entry) (by way : ℕ) → way < length map.states
-    → IsLegal map (log ++ entry by (Evict way) reply.Nothing ∷ [])
-    → (state_of (after map (log ++ entry by (Evict way) reply.Nothing ∷ [])) way ≡ state_of (after map log) way)
-    × (reply.Nothing ≡ evict_reply (state_of (after map log) way))
-evicts_nothing map [] by way near legal =
-    (state_of-next_same map (Evict way) near ∙ left_alone map.bound way (state_of map way) legal.0, legal.0)
-evicts_nothing map (e ∷ log) by way near legal =
-    evicts_nothing (next map e.call) log by way (near_next map way e.call near) legal.1
+-- a look-up leaves both as they were
+pub value_before : (id : ℕ) (old new : Keeper) → StaysButClerk old new → HasValue id new → HasValue id old
+value_before id old new stays had =
+    (had.0, subst (λ (w : Caller). IsResident (map_seen w) id had.0) stays.writer had.1)
 
--- such a way has no name, where no upquery is open
-nobody : (way name : ℕ) (state : KeyState) → 0 < name → Agrees name state → owed_for way name state ≡ None
-    → reply.Nothing ≡ evict_reply state → ⊥
-nobody way name (Hole n) real agrees none nothing = omega (arith, real, agrees)
-nobody way zero (Asked n) real agrees none nothing = omega (arith, real)
-nobody way (suc name) (Asked n) real agrees none nothing = cc (none)
-nobody way name (Rows n rows) real agrees none nothing = cc (nothing)
-
-none_asked : (id way : ℕ) (old : Caller) (new : Keeper) → IsTied new → OwesNone new → 0 < id → name_at new way ≡ id
-    → way < new.table.map.shape.keys → EvictsKey way old new.writer evict.Nothing → ⊥
-none_asked id way old new tied none real named near evicts =
-    let gains = evicts.0 in
-    let opening = map_at_opening old.table in
-    let log = old.seen ++ gains.between in
-    let table_is : old.table ≡ new.table.map = sym gains.table ∙ tied.writes.0 in
-    let here : way < length opening.states =
-    let keys = ap (λ (t : Table). t.shape.keys) table_is in
-    omega (arith, near, keys, length-replicate old.table.shape.keys (Hole old.table.shape.first_number)) in
-    let last = evicts_nothing opening log old.number way here (subst (IsLegal opening) gains.seen gains.legal) in
-    let seen_is : map_seen new.writer ≡ after opening (log ++ entry old.number (Evict way) reply.Nothing ∷ []) =
-    ap (λ (t : Table). after (map_at_opening t) new.writer.seen) gains.table ∙ ap (after opening) gains.seen in
-    let state_is : state_of (map_seen new.writer) way ≡ state_of (after opening log) way =
-    ap (λ (m : PartialMap). state_of m way) seen_is ∙ last.0 in
-    nobody way (name_at new way) (state_of (map_seen new.writer) way) (subst (λ (n : ℕ). 0 < n) (sym named) real)
-    (tied.agrees way) (none way) (last.1 ∙ ap evict_reply (sym state_is))
+pub gone_before : (id : ℕ) (old new : Keeper) → StaysButClerk old new → IsGone id new → IsGone id old
+gone_before id old new stays gone rows had =
+    gone rows (subst (λ (w : Caller). IsResident (map_seen w) id rows) (sym stays.writer) had)
 
 -- AN EVICTION
 cond_is : (b : Bool) (x y : ℕ) → b ≡ true → cond b x y ≡ x
@@ -88,35 +76,57 @@ cond_not : (b : Bool) (x y : ℕ) → b ≡ false → cond b x y ≡ y
 cond_not b x y e = ap (λ (t : Bool). cond t x y) e
 
 -- the way has no name any more, and the others' names stay
-module _ (id way : ℕ) (old new : Keeper) (tied : IsTied old) (later : IsTied new) (real : 0 < id)
-    (evicts : EvictsWay id way old new) where
-  names : (k : ℕ) → name_of new.clerk.seen k ≡ cond (way == k) 0 (name_of evicts.mid.seen k)
-  names k = clerk_names evicts.mid (unnamed way ∷ []) new.clerk k
-      (evicts.finds.0.grows.number ∙ tied.names.1) evicts.unnames
+module _ (id way : ℕ) (old new : Keeper) (tied : IsTied old) (evicts : EvictsWay id way old new) where
+  names : (k : ℕ) → name_at new k ≡ cond (way == k) 0 (name_at old k)
+  names k = clerk_names evicts.mid (unnamed way ∷ []) new.clerk k (evicts.finds.0.grows.number ∙ tied.names.1)
+      evicts.unnames
+      ∙ ap (λ (n : ℕ). cond (way == k) 0 n) (looked_names id old evicts.mid (Some way) tied evicts.finds k)
 
-  nowhere : (k : ℕ) → name_at new k ≡ id → ⊥
-  nowhere k named = elim (cases_eq way k) [
-    | inl same ↦
-        let none : name_at new k ≡ 0 = names k ∙ cond_is (way == k) 0 (name_of evicts.mid.seen k) (eq-eqb way k same) in
-        let zero_is : id ≡ 0 = sym named ∙ none in omega (arith, zero_is, real)
+  pub unnamed_at : (k : ℕ) → k ≡ way → name_at new k ≡ 0
+  unnamed_at k same = names k ∙ cond_is (way == k) 0 (name_at old k) (eq-eqb way k (sym same))
+
+  pub named_before : (k name : ℕ) → 0 < name → name_at new k ≡ name → (k ≢ way) × (name_at old k ≡ name)
+  named_before k name real named = elim (cases_eq way k) [
+    | inl same ↦ let none = sym (unnamed_at k (sym same)) ∙ named in absurd (omega (arith, none, real))
     | inr other ↦
-        let had : name_of evicts.mid.seen k ≡ id =
-        sym (names k ∙ cond_not (way == k) 0 (name_of evicts.mid.seen k) (ne_eqb way k other)) ∙ named in
-        other (one_way old.clerk.directory.plan evicts.mid.seen way k id evicts.finds.0.grows.legal real
-        evicts.finds.1.has had)
+        ((λ same. other (sym same)), sym (names k ∙ cond_not (way == k) 0 (name_at old k) (ne_eqb way k other)) ∙ named)
   ]
 
-  gone_from_way : UnnamedIsAbsent → IsGone id new
-  gone_from_way law = (law new id later nowhere).0
+  pub nowhere : 0 < id → IsAbsent new.clerk.seen id
+  nowhere real k named =
+      let was = named_before k id real named in
+      was.0 (one_way old.table.directory.plan old.clerk.seen k way id tied.legal real was.1
+      (found_named id way old evicts.mid tied evicts.finds))
 
-pub gone_after : UnnamedIsAbsent → (id : ℕ) (old new : Keeper) (answer : board.Evict) → IsTied old → IsTied new
-    → OwesNone new → 0 < id → EvictsId id old new answer → IsGone id new
-gone_after law id old new evict.Evicted tied later none real does =
-    gone_from_way id does.0 old new tied later real does.1 law
-gone_after law id old new evict.Nothing tied later none real (inl absent) = (law new id later absent.0.1).0
-gone_after law id old new evict.Nothing tied later none real (inr (way, finds, evicts)) =
-    absurd (none_asked id way old.writer new later none real finds.1.has
-    (let are = later.ways_are in
-    let same = ap (λ (d : Opened). ways d.plan) later.names.0 in
-    let inside = finds.1.inside in omega (arith, are, same, inside))
-    evicts)
+-- a way with the id's name is not passed over
+passed_over : (id way : ℕ) (old new : Keeper) → IsTied old → IsTied new → OwesNone new → 0 < id
+    → FindsWay id old.clerk new.clerk (Some way) → EvictsKey way old.writer new.writer evict.Nothing → ⊥
+passed_over id way old new tied later none real finds evicts =
+    evicts_it way (name_at new way) new.writer (subst (λ (n : ℕ). 0 < n) (sym finds.1.has) real) (later.agrees way)
+    (none way) (last_call (found_near id way old new.clerk tied finds) evicts.0)
+
+module _ (named : NamedIsOwedOrResident) (unnamed_law : UnnamedIsAbsent) (id : ℕ) (old new : Keeper) (tied : IsTied old)
+    (later : IsTied new) (none_old : OwesNone old) (none : OwesNone new) (real : 0 < id) (stays : new.asker ≡ old.asker)
+  where
+    pub takes_some : EvictsId id old new evict.Evicted → TakesValue id old new true
+    takes_some evicts = (
+      has_value named id evicts.0 old tied none_old real
+          (found_named id evicts.0 old evicts.1.mid tied evicts.1.finds),
+      evicts,
+      stays,
+    )
+
+    pub takes_none : EvictsId id old new evict.Nothing → TakesValue id old new false
+    takes_none (inl absent) =
+        (is_gone unnamed_law id old tied (found_none id old new.clerk tied absent.0), inl absent, stays)
+    takes_none (inr (way, finds, evicts)) = absurd (passed_over id way old new tied later none real finds evicts)
+
+-- then the id is gone
+pub gone_after : UnnamedIsAbsent → (id : ℕ) (old new : Keeper) (had : Bool) → IsTied old → IsTied new → OwesNone new
+    → 0 < id → TakesValue id old new had → IsGone id new
+gone_after law id old new true tied later none real takes =
+    is_gone law id new later (nowhere id takes.1.0 old new tied takes.1.1 real)
+gone_after law id old new false tied later none real (gone, inl absent, stays) =
+    is_gone law id new later (λ way named. absent.0.1 way named)
+gone_after law id old new false tied later none real (gone, inr (way, finds, evicts), stays) =
+    absurd (passed_over id way old new tied later none real finds evicts)

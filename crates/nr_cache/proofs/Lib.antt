@@ -2,9 +2,11 @@
 mod Lists
 mod InOrder
 mod Quiets
-mod Admitting
-mod Older
+mod LastCalls
 mod Gone
+mod Admitting
+mod Placing
+mod Older
 mod Seen
 mod Opening
 mod StoreRuns

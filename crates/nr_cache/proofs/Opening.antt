@@ -1,5 +1,5 @@
 -- A new store: no upquery is open, and there is a slot for each way, each reader and one more.
-use Rattle.std.proofs.Common.{◌≡◌, ◌<◌, ◌≤◌, ◌+◌, ◌-◌, ◌*◌, ℕ, List, [], ◌∷◌, ◌++◌, ap, sym, ◌∙◌, arith}
+use Rattle.std.proofs.Common.{◌≡◌, ◌<◌, ◌-◌, List, ap, ◌∙◌, arith}
 use Rattle.nr_core.specs.declared.shape.Shape.{Shape}
 use Rattle.nr_ids.specs.Events.{Event, name_of}
 use Rattle.nr_idmap.specs.declared.id_map.IdShape.{IdShape}
@@ -8,7 +8,7 @@ use Rattle.nr_idmap.specs.Keepers.{IdCaller, IdTable, Keeper, owed_for, state_at
 use Rattle.nr_map.specs.SlotBounds.{HasRoomForAll}
 use Rattle.nr_cache.specs.declared.shape.StoreShape.{StoreShape}
 use Rattle.nr_cache.specs.Openings.{ids_of}
-use Rattle.nr_cache.specs.Stores.{OwesNone}
+use Rattle.nr_cache.specs.Places.{OwesNone}
 
 pub opened_owes_none : (shape : IdShape) (table : IdTable) (keeper : Keeper) (readers : List IdCaller)
     → OpensIds shape table keeper readers → OwesNone keeper

@@ -1,9 +1,7 @@
 -- What the map's calls by id do to its writer: which put no set, and which sets come out.
-use Rattle.std.proofs.Common.{◌≡◌, ℕ, List, [], ◌∷◌, ◌++◌, Result, Ok, Err, refl, sym, subst}
+use Rattle.std.proofs.Common.{◌≡◌, ℕ, List, [], ◌∷◌, ◌++◌, Result, Ok, refl, sym, subst}
 use Rattle.std.proofs.Common.{append_assoc, append-nil, inl, inr}
 use Rattle.nr_model.specs.declared.rows.Row.{Row}
-use Rattle.nr_model.specs.declared.calls.Call.TheVariants as model
-use Rattle.nr_model.specs.declared.calls.Reply.TheVariants as reply
 use Rattle.nr_board.specs.Callers.{Caller}
 use Rattle.nr_board.specs.declared.answers.Evict.{Evict}
 use Rattle.nr_board.specs.declared.answers.Evict.TheVariants as evict
@@ -14,12 +12,8 @@ use Rattle.nr_board.specs.declared.answers.Reclaimed.TheVariants as reclaimed
 use Rattle.nr_board.specs.Meetings.{with_step}
 use Rattle.nr_board.specs.Reaping.{ReapsIn}
 use Rattle.nr_board.specs.declared.answers.ReplaceFault.{ReplaceFault}
-use Rattle.nr_board.specs.declared.answers.ReplaceFault.TheVariants as replace
 use Rattle.nr_board.specs.Reclaiming.{ReplacesReclaiming}
-use Rattle.nr_board.specs.WriterAnswers.{ReplacesKey}
 use Rattle.nr_ids.specs.declared.admissions.Refused.{Refused}
-use Rattle.nr_idmap.specs.declared.writes.IdFault.{IdFault}
-use Rattle.nr_idmap.specs.declared.writes.IdFault.TheVariants as fault
 use Rattle.nr_idmap.specs.IdWrites.{AdmitsId, CallsWay, EvictsId, FillsAndGives, RefusesId}
 use Rattle.nr_idmap.specs.Keepers.{Keeper, Owed}
 use Rattle.nr_idmap.specs.Tags.{tag_of}
@@ -67,14 +61,6 @@ admit_quiet id old new owed admits =
 pub refuse_quiet : (id : ℕ) (old new : Keeper) (why : Refused) → RefusesId id old new why
     → IsQuiet old.writer new.writer
 refuse_quiet id old new why refuses = quiet_same old.writer new.writer refuses.writer
-
--- a replacement that isn't done
-key_unreplaced : (key : ℕ) (rows : List Row) (old new : Caller) (why : ReplaceFault)
-    → ReplacesKey key rows old new (Err why) → IsQuiet old new
-key_unreplaced key rows old new replace.Dropped does =
-    quiet.Refused 1 (model.Replace key rows) reply.Dropped old old new (quiet.Stays old) refl does.0 does.1
-key_unreplaced key rows old new (replace.NoSlot counts) does =
-    quiet.Lacks 1 (model.Replace key rows) counts old old new (quiet.Stays old) does
 
 -- WHAT COMES OUT
 module _ {Room : Type 0} (shows : Room → List Row → Type 0) where
@@ -147,17 +133,6 @@ module _ {Room : Type 0} (shows : Room → List Row → Type 0) where
         (back.Replaces does.0 (tag_of id ∷ rows) old.writer new.writer before after reclaimed.Nothing does.2),
     refl,
   )
-
-  pub unreplaced_quiet : (id : ℕ) (rows : List Row) (old : Keeper) (before : Room) (new : Keeper) (after : Room)
-      (why : IdFault ReplaceFault)
-      → CallsWay (λ (way : ℕ) (o n : Caller) (r : Result Reclaimed ReplaceFault).
-      ReplacesReclaiming shows way (tag_of id ∷ rows) o before n after r) id old new (Err why)
-      → (why ≡ fault.Absent → after ≡ before)
-      → IsQuiet old.writer new.writer × (after ≡ before)
-  unreplaced_quiet id rows old before new after fault.Absent does stays =
-      (quiet_same old.writer new.writer does.1, stays refl)
-  unreplaced_quiet id rows old before new after (fault.Refused why) does stays =
-      (key_unreplaced does.0 (tag_of id ∷ rows) old.writer new.writer why does.2.0, does.2.1)
 
   pub reap_moves : (old new : Caller) (before after : Room) (answer : Reaped) → ReapsIn shows old before new after
       answer

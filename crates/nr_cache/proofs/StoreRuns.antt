@@ -1,19 +1,27 @@
 -- A store's calls in a row.
-use Rattle.std.proofs.Common.{◌≡◌, List, [], ◌∷◌, ◌++◌, sym, ap, subst}
+use Rattle.std.proofs.Common.{◌≡◌, ℕ, Bool, true, false, List, [], ◌∷◌, ◌++◌, Option, Some, None, inl, inr, sym, ap}
+use Rattle.std.proofs.Common.{subst}
 use Rattle.nr_model.specs.declared.rows.Row.{Row}
+use Rattle.nr_idmap.specs.Keepers.{Keeper}
 use Rattle.nr_map.specs.GivenBack as map
 use Rattle.nr_map.specs.GivenBack.{EachSetComesOutOnce}
 use Rattle.nr_map.specs.Remains.{Given}
-use Rattle.nr_cache.specs.Flights.{Outdates, Underway}
+use Rattle.nr_cache.specs.declared.flights.Flight.{Flight}
+use Rattle.nr_cache.specs.declared.store.Begun.{Begun}
+use Rattle.nr_cache.specs.declared.store.Begun.TheVariants as begun
+use Rattle.nr_cache.specs.Flights.{Ends, Outdates, Underway}
 use Rattle.nr_cache.specs.Histories.{Began, ChangeBegan, ChangeEnded, Does, Ended, Event, Invalidated}
 use Rattle.nr_cache.specs.Histories as flights
-use Rattle.nr_cache.specs.Moves.{IsQuiet, Moves}
+use Rattle.nr_cache.specs.Moves.{Moves}
 use Rattle.nr_cache.specs.Moves as quiet
 use Rattle.nr_cache.specs.StoreSeen.{StoreSeen}
 use Rattle.nr_cache.specs.StoreRuns as runs
-use Rattle.nr_cache.specs.StoreRuns.{Calls, EachValueComesOutOnce, HoldsFresh, StoreRun, StoresInOrder}
+use Rattle.nr_cache.specs.StoreRuns.{Calls, EachValueComesOutOnce, HoldsFresh, StoreRun, StoresInOrder, began_by}
+use Rattle.nr_cache.specs.StoreRuns.{changed_by, ended_by}
+use Rattle.nr_cache.specs.Stores.{BeginsFlight, ChangesId, LandsOwn, OnlyLooksUp}
 use Rattle.nr_cache.proofs.InOrder.{each_flight_ends_once_lem, held_is_fresh_lem}
-use Rattle.nr_cache.proofs.Quiets.{goes_on_lem, quiet_moves}
+use Rattle.nr_cache.proofs.Placing.{no_place_quiet, takes_quiet}
+use Rattle.nr_cache.proofs.Quiets.{goes_on_lem, quiet_moves, quiet_same}
 
 -- the flights after it, and the map's writer
 record Goes_on {Room : Type 0} (shows : Room → List Row → Type 0) (history : List Event) (put : List (List Row))
@@ -30,35 +38,51 @@ module _ {Room : Type 0} (shows : Room → List Row → Type 0) where
       → flights.Run (event ∷ history) new
   one history event old new run does = flights.Goes history event old new run does
 
+  begun_loads : (history : List Event) (id mark : ℕ) (old new : StoreSeen) (answer : Begun)
+      → flights.Run history old.underway → BeginsFlight id mark old new answer
+      → flights.Run (began_by answer ++ history) new.underway
+  begun_loads history id mark old new (begun.Load flight) run begins =
+      one history (Began flight) old.underway new.underway run (id, mark, begins.0, begins.2)
+  begun_loads history id mark old new (begun.Wait flight) run begins =
+      none history old.underway new.underway run (ap (λ (s : StoreSeen). s.underway) begins.1)
+  begun_loads history id mark old new begun.Held run begins = none history old.underway new.underway run begins.2
+  begun_loads history id mark old new begun.Alone run begins = none history old.underway new.underway run begins.3
+
+  ended_loads : (history : List Event) (number : ℕ) (found : Option Flight) (old new : Underway)
+      → flights.Run history old → Ends number old new found → flights.Run (ended_by found ++ history) new
+  ended_loads history number (Some flight) old new run ends = one history (Ended flight) old new run (number, ends)
+  ended_loads history number None old new run ends = none history old new run ends.1
+
+  changed_loads : (history : List Event) (id : ℕ) (old new : StoreSeen) (told : Bool)
+      → flights.Run history old.underway → ChangesId id old new told
+      → flights.Run (changed_by id told ++ history) new.underway
+  changed_loads history id old new true run does =
+      one history (ChangeBegan id) old.underway new.underway run (does.found, does.mid, does.outdates, does.begins)
+  changed_loads history id old new false run does =
+      one history (Invalidated id) old.underway new.underway run
+      (does.found, subst (λ (b : Underway). Outdates id old.underway b does.found) (sym does.begins.1) does.outdates)
+
   loads : {old new : StoreSeen} {events : List Event} {more : List (List Row)} {out : List Given} (history : List Event)
       → flights.Run history old.underway → Calls shows old events more out new → flights.Run (events ++ history)
       new.underway
-  loads history run (runs.Loads id mark flight old new begins still) =
-      one history (Began flight) old.underway new.underway run (id, mark, begins.0, begins.2)
-  loads history run (runs.Waits id mark flight old new begins) =
-      none history old.underway new.underway run (ap (λ (s : StoreSeen). s.underway) begins.1)
-  loads history run (runs.LoadsAlone id mark old new begins still) = none history old.underway new.underway run begins.3
-  loads history run (runs.IsHeld id mark old new begins still) = none history old.underway new.underway run begins.2
-  loads history run (runs.LandsIt number stamp value old new room given lands) =
+  loads history run (runs.Begins id mark old new answer begins) = begun_loads history id mark old new answer run begins
+  loads history run (runs.LandsIt number stamp value old new before room given lands) =
       one history (Ended lands.flight) old.underway new.underway run (number, lands.ends)
-  loads history run (runs.EndsIt number flight old new ends still) =
-      one history (Ended flight) old.underway new.underway run (number, ends)
-  loads history run (runs.EndsNone number old new ends still) = none history old.underway new.underway run ends.1
+  loads history run (runs.LandsNone number old new before room lands) =
+      ended_loads history number lands.found old.underway new.underway run lands.ends
+  loads history run (runs.FailsIt number old new found fails) =
+      ended_loads history number found old.underway new.underway run fails.ends
   loads history run (runs.InvalidatesIt id old new had does) =
       one history (Invalidated id) old.underway new.underway run (does.found, does.outdates)
   loads history run (runs.PutsIt id stamp value old new before room given puts) =
       one history (Invalidated id) old.underway new.underway run (puts.found, puts.outdates)
-  loads history run (runs.PutsNone id stamp value old new before room puts) =
+  loads history run (runs.PutsNone id old new before room puts) =
       one history (Invalidated id) old.underway new.underway run (puts.found, puts.outdates)
-  loads history run (runs.ChangeBegins id old new does) =
-      one history (ChangeBegan id) old.underway new.underway run (does.found, does.mid, does.outdates, does.begins)
-  loads history run (runs.ChangeRefused id old new does) =
-      one history (Invalidated id) old.underway new.underway run
-      (does.found, subst (λ (b : Underway). Outdates id old.underway b does.found) (sym does.begins.1) does.outdates)
+  loads history run (runs.ChangeBegins id old new told does) = changed_loads history id old new told run does
   loads history run (runs.ChangeEnds id old new ends rest) =
       one history (ChangeEnded id) old.underway new.underway run ends
   loads history run (runs.ReapsIt old new before room answer reaps) =
-      none history old.underway new.underway run reaps.rest
+      none history old.underway new.underway run reaps.rest.0
 
   stays : {old new : StoreSeen} → new ≡ old → Moves shows old.keeper.writer [] [] new.keeper.writer
   stays {old} same =
@@ -71,20 +95,42 @@ module _ {Room : Type 0} (shows : Room → List Row → Type 0) where
       subst (λ (s : StoreSeen). Moves shows old.keeper.writer [] [] s.keeper.writer) (sym rest)
       (quiet.NoMove old.keeper.writer)
 
+  looks : (id : ℕ) (old new : StoreSeen) (way : Option ℕ) → OnlyLooksUp id old new way
+      → Moves shows old.keeper.writer [] [] new.keeper.writer
+  looks id old new way does = quiet_moves shows (quiet_same old.keeper.writer new.keeper.writer does.0.1.writer)
+
+  begun_sets : (id mark : ℕ) (old new : StoreSeen) (answer : Begun) → BeginsFlight id mark old new answer
+      → Moves shows old.keeper.writer [] [] new.keeper.writer
+  begun_sets id mark old new (begun.Load flight) begins = looks id old new None begins.3
+  begun_sets id mark old new (begun.Wait flight) begins = stays begins.1
+  begun_sets id mark old new begun.Held begins = looks id old new (Some begins.3) begins.4
+  begun_sets id mark old new begun.Alone begins = looks id old new None begins.4
+
+  own_sets : (number : ℕ) (old new : StoreSeen) (before room : Room) → LandsOwn shows number old before new room
+      → Moves shows old.keeper.writer [] [] new.keeper.writer
+  own_sets number old new before room lands = elim lands.why [
+    | inl late ↦
+        quiet_moves shows
+        (quiet_same old.keeper.writer new.keeper.writer (ap (λ (k : Keeper). k.writer) late.1))
+    | inr (flight, found, fated, place) ↦
+        quiet_moves shows (no_place_quiet flight.id old.keeper old.asker new.keeper new.asker place)
+  ]
+
   sets : {old new : StoreSeen} {events : List Event} {more : List (List Row)} {out : List Given}
       → Calls shows old events more out new → Moves shows old.keeper.writer more out new.keeper.writer
-  sets (runs.Loads id mark flight old new begins still) = quiet_moves shows still
-  sets (runs.Waits id mark flight old new begins) = stays begins.1
-  sets (runs.LoadsAlone id mark old new begins still) = quiet_moves shows still
-  sets (runs.IsHeld id mark old new begins still) = quiet_moves shows still
-  sets (runs.LandsIt number stamp value old new room given lands) = lands.puts.1
-  sets (runs.EndsIt number flight old new ends still) = quiet_moves shows still
-  sets (runs.EndsNone number old new ends still) = quiet_moves shows still
-  sets (runs.InvalidatesIt id old new had does) = quiet_moves shows does.still
-  sets (runs.PutsIt id stamp value old new before room given puts) = puts.puts.1
-  sets (runs.PutsNone id stamp value old new before room puts) = quiet_moves shows puts.still
-  sets (runs.ChangeBegins id old new does) = rests old new does.rest
-  sets (runs.ChangeRefused id old new does) = rests old new does.rest
+  sets (runs.Begins id mark old new answer begins) = begun_sets id mark old new answer begins
+  sets (runs.LandsIt number stamp value old new before room given lands) = lands.holds.moves
+  sets (runs.LandsNone number old new before room lands) = own_sets number old new before room lands
+  sets (runs.FailsIt number old new found fails) = rests old new fails.rest
+  sets (runs.InvalidatesIt id old new had does) =
+      quiet_moves shows (takes_quiet id old.keeper new.keeper had does.takes)
+  sets (runs.PutsIt id stamp value old new before room given puts) = puts.holds.moves
+  sets (runs.PutsNone id old new before room puts) =
+      elim puts.why [
+        | inl changed ↦ quiet_moves shows (takes_quiet id old.keeper new.keeper changed.1.0 changed.1.1)
+        | inr place ↦ quiet_moves shows (no_place_quiet id old.keeper old.asker new.keeper new.asker place.1)
+      ]
+  sets (runs.ChangeBegins id old new told does) = rests old new does.rest
   sets (runs.ChangeEnds id old new ends rest) = rests old new rest
   sets (runs.ReapsIt old new before room answer reaps) = reaps.moves
 
@@ -106,7 +152,7 @@ module _ {Room : Type 0} (shows : Room → List Row → Type 0) where
       run).loads
 
   pub holds_fresh_lem : HoldsFresh shows
-  holds_fresh_lem history put given number stamp value old new room some run lands =
+  holds_fresh_lem history put given number stamp value old new before room some run lands =
       held_is_fresh_lem history old.underway new.underway lands.flight (run_goes run).loads (number, lands.ends)
       lands.fated
 

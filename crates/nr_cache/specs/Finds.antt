@@ -11,7 +11,7 @@ use Rattle.nr_map.specs.Written.{HeardBefore, LastPut}
 use Rattle.nr_idmap.specs.Keepers.{Keeper}
 use Rattle.nr_idmap.specs.Tags.{tag_of}
 use Rattle.nr_cache.specs.declared.finds.FoundValue.{FoundValue}
-use Rattle.nr_cache.specs.Stores.{IsGone}
+use Rattle.nr_cache.specs.Places.{IsGone}
 use Rattle.nr_idmap.specs.declared.finds.FoundId.{FoundId}
 use Rattle.nr_idmap.specs.declared.finds.FoundId.TheVariants as found
 use Rattle.nr_idmap.specs.IdHands.{IdHanded, PinsById, rows_in_hand}

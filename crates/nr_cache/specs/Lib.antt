@@ -2,6 +2,7 @@ pub mod Flights
 pub mod Histories
 pub mod StoreSeen
 pub mod Moves
+pub mod Places
 pub mod Stores
 pub mod StoreRuns
 pub mod Finds

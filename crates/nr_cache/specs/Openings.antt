@@ -1,5 +1,5 @@
 -- The opening of a store.
-use Rattle.std.specs.Prelude.{◌≡◌, ℕ, ◌+◌, ◌*◌, ◌⊎◌, List, [], ◌∷◌, ◌++◌}
+use Rattle.std.specs.Prelude.{◌≡◌, ◌+◌, ◌*◌, ◌⊎◌, List, [], ◌∷◌, ◌++◌}
 use Rattle.nr_model.specs.Sizes.{IsBadSize}
 use Rattle.nr_idmap.specs.declared.id_map.IdShape.{IdShape}
 use Rattle.nr_idmap.specs.IdOpenings.{OpensIds}

@@ -1,5 +1,5 @@
 -- A store's calls from its opening on: what happened to its flights, which sets it put, and which came out.
-use Rattle.std.specs.Prelude.{◌≡◌, ℕ, true, false, List, [], ◌∷◌, ◌++◌, Option, Some, None}
+use Rattle.std.specs.Prelude.{◌≡◌, ℕ, Bool, true, false, List, [], ◌∷◌, ◌++◌, Option, Some, None}
 use Rattle.nr_model.specs.declared.rows.Row.{Row}
 use Rattle.nr_board.specs.declared.answers.Reaped.{Reaped}
 use Rattle.nr_board.specs.declared.answers.Reclaimed.{Reclaimed}
@@ -7,50 +7,55 @@ use Rattle.nr_map.specs.GivenBack as map
 use Rattle.nr_map.specs.GivenBack.{IsEachOnce}
 use Rattle.nr_map.specs.Remains.{AllComeOut, Given, Left, TakenApart}
 use Rattle.nr_cache.specs.declared.flights.Flight.{Flight}
+use Rattle.nr_cache.specs.declared.store.Begun.{Begun}
 use Rattle.nr_cache.specs.declared.store.Begun.TheVariants as begun
-use Rattle.nr_cache.specs.declared.store.Landed.TheVariants as landed
-use Rattle.nr_cache.specs.Flights.{Ends, EndsChange, none_under_way}
+use Rattle.nr_cache.specs.Flights.{EndsChange, none_under_way}
 use Rattle.nr_cache.specs.Histories.{Began, ChangeBegan, ChangeEnded, Ended, Event, Invalidated, IsFresh, IsInOrder}
 use Rattle.nr_cache.specs.StoreSeen.{StoreSeen}
-use Rattle.nr_cache.specs.Stores.{BeginsFlight, ChangesId, Invalidates, IsStill, LandsHeld, Puts, Reaps, set_of}
+use Rattle.nr_cache.specs.Stores.{BeginsFlight, ChangesId, Fails, Invalidates, LandsHeld, LandsOwn, PutsHeld, PutsOwn}
+use Rattle.nr_cache.specs.Stores.{Reaps, set_of}
+
+-- what a call tells of the flights
+abbrev pub began_by : Begun → List Event
+began_by (begun.Load flight) = Began flight ∷ []
+began_by _ = []
+
+abbrev pub ended_by : Option Flight → List Event
+ended_by (Some flight) = Ended flight ∷ []
+ended_by None = []
+
+abbrev pub changed_by : ℕ → Bool → List Event
+changed_by id true = ChangeBegan id ∷ []
+changed_by id false = Invalidated id ∷ []
 
 module _ {Room : Type 0} (shows : Room → List Row → Type 0) where
-  -- a call, by what its contract says
+  -- a call, by what its contract says: what happened to the flights, the set that it put, and that which came out
   pub data Calls : StoreSeen → List Event → List (List Row) → List Given → StoreSeen → Type 0 where
-    Loads : (id mark : ℕ) (flight : Flight) (old new : StoreSeen) → BeginsFlight id mark old new (begun.Load flight)
-        → IsStill old new → Calls old (Began flight ∷ []) [] [] new
-    Waits : (id mark : ℕ) (flight : Flight) (old new : StoreSeen) → BeginsFlight id mark old new (begun.Wait flight)
-        → Calls old [] [] [] new
-    LoadsAlone : (id mark : ℕ) (old new : StoreSeen) → BeginsFlight id mark old new begun.Alone → IsStill old new
-        → Calls old [] [] [] new
-    IsHeld : (id mark : ℕ) (old new : StoreSeen) → BeginsFlight id mark old new begun.Held → IsStill old new
-        → Calls old [] [] [] new
-    LandsIt : (number stamp value : ℕ) (old new : StoreSeen) (room : Room) (given : Reclaimed)
-        → (lands : LandsHeld shows number stamp value old new room given)
-        → Calls old (Ended lands.flight ∷ []) (set_of lands.flight.id stamp value ∷ []) lands.puts.0 new
-    EndsIt : (number : ℕ) (flight : Flight) (old new : StoreSeen) → Ends number old.underway new.underway (Some flight)
-        → IsStill old new → Calls old (Ended flight ∷ []) [] [] new
-    EndsNone : (number : ℕ) (old new : StoreSeen) → Ends number old.underway new.underway None → IsStill old new
-        → Calls old [] [] [] new
-    InvalidatesIt : (id : ℕ) (old new : StoreSeen) (had : _) → Invalidates id old new had
+    Begins : (id mark : ℕ) (old new : StoreSeen) (answer : Begun) → BeginsFlight id mark old new answer
+        → Calls old (began_by answer) [] [] new
+    LandsIt : (number stamp value : ℕ) (old new : StoreSeen) (before room : Room) (given : Reclaimed)
+        → (lands : LandsHeld shows number stamp value old before new room given)
+        → Calls old (Ended lands.flight ∷ []) (set_of lands.flight.id stamp value ∷ []) lands.holds.out new
+    LandsNone : (number : ℕ) (old new : StoreSeen) (before room : Room)
+        → (lands : LandsOwn shows number old before new room) → Calls old (ended_by lands.found) [] [] new
+    FailsIt : (number : ℕ) (old new : StoreSeen) (found : Option Flight) → Fails number old new found
+        → Calls old (ended_by found) [] [] new
+    InvalidatesIt : (id : ℕ) (old new : StoreSeen) (had : Bool) → Invalidates id old new had
         → Calls old (Invalidated id ∷ []) [] [] new
     PutsIt : (id stamp value : ℕ) (old new : StoreSeen) (before room : Room) (given : Reclaimed)
-        → (puts : Puts shows id stamp value old before new room (landed.Held given))
-        → Calls old (Invalidated id ∷ []) (set_of id stamp value ∷ []) puts.puts.0 new
-    PutsNone : (id stamp value : ℕ) (old new : StoreSeen) (before room : Room)
-        → Puts shows id stamp value old before new room landed.Own → Calls old (Invalidated id ∷ []) [] [] new
-    ChangeBegins : (id : ℕ) (old new : StoreSeen) → ChangesId id old new true
-        → Calls old (ChangeBegan id ∷ []) [] [] new
-    ChangeRefused : (id : ℕ) (old new : StoreSeen) → ChangesId id old new false
+        → (puts : PutsHeld shows id stamp value old before new room given)
+        → Calls old (Invalidated id ∷ []) (set_of id stamp value ∷ []) puts.holds.out new
+    PutsNone : (id : ℕ) (old new : StoreSeen) (before room : Room) → PutsOwn shows id old before new room
         → Calls old (Invalidated id ∷ []) [] [] new
+    ChangeBegins : (id : ℕ) (old new : StoreSeen) (told : Bool) → ChangesId id old new told
+        → Calls old (changed_by id told) [] [] new
     ChangeEnds : (id : ℕ) (old new : StoreSeen) → EndsChange id old.underway new.underway true
         → new ≡ record old { underway = new.underway } → Calls old (ChangeEnded id ∷ []) [] [] new
     ReapsIt : (old new : StoreSeen) (before room : Room) (answer : Reaped)
         → (reaps : Reaps shows old before new room answer) → Calls old [] [] reaps.out new
 
   -- the store after any such calls, with what happened to its flights, the latest first, the sets that it put, in
-  -- order,
-  -- and those that came out
+  -- order, and those that came out
   pub data StoreRun : List Event → List (List Row) → List Given → StoreSeen → Type 0 where
     Opens : (room changes : ℕ) (store : StoreSeen) → store.underway ≡ none_under_way room changes
         → map.Run shows store.keeper.writer [] [] → StoreRun [] [] [] store
@@ -69,8 +74,8 @@ module _ {Room : Type 0} (shows : Room → List Row → Type 0) where
   abbrev pub HoldsFresh : Type 0
   HoldsFresh =
       (history : List Event) (put : List (List Row)) (given : List Given) (number stamp value : ℕ)
-      (old new : StoreSeen) (room : Room) (some : Reclaimed)
-      → StoreRun history put given old → (lands : LandsHeld shows number stamp value old new room some)
+      (old new : StoreSeen) (before room : Room) (some : Reclaimed)
+      → StoreRun history put given old → (lands : LandsHeld shows number stamp value old before new room some)
       → IsFresh lands.flight history
 
   -- Each value that was held comes out once: by then, or when the map is taken apart.

@@ -42,7 +42,7 @@ pub struct Store {
 impl Model for Store {
     ghost use Rattle.std.specs.Prelude.{◌≡◌, ◌<◌};
     ghost use Rattle.nr_idmap.specs.Keepers.{id_rows, id_table_of};
-    ghost use Rattle.nr_cache.specs.Stores.{OwesNone};
+    ghost use Rattle.nr_cache.specs.Places.{OwesNone};
     ghost use Rattle.nr_cache.specs.StoreSeen.{StoreSeen};
     ghost use Rattle.nr_map.specs.SlotBounds.{HasRoomForAll};
 
@@ -55,7 +55,7 @@ impl Model for Store {
 
 impl Store {
     ghost use Rattle.nr_cache.specs.Flights.{EndsChange, none_under_way};
-    ghost use Rattle.nr_cache.specs.Stores.{BeginsFlight, ChangesId, Fails, IsStill};
+    ghost use Rattle.nr_cache.specs.Stores.{BeginsFlight, ChangesId, Fails};
 
     /// A store with its map and its readers, without a value. Refused where a size is out of its limits, and
     /// then where there is no memory; no other call takes any.
@@ -94,7 +94,6 @@ impl Store {
         requires id { 0 < id }
         ensures own { self.new.keeper.table ≡ map.now }
         ensures begins { BeginsFlight id mark self.old self.new result }
-        ensures still { IsStill self.old self.new }
     {
         if let Some(flight) = self.flights.of(id) {
             return Begun::Wait(flight);

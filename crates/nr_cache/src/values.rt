@@ -1,11 +1,12 @@
 //! How values come into a store, and out of it.
-ghost use Rattle.std.specs.Prelude.{◌≡◌, ◌<◌, ◌∷◌, [], Some};
-ghost use Rattle.nr_idmap.specs.Keepers.{id_rows, id_table_of, owed_at};
-ghost use Rattle.nr_cache.specs.Moves.{IsQuiet};
+ghost use Rattle.std.specs.Prelude.{◌≡◌, ◌<◌, ◌∷◌, [], Some, IfNone, IfSome};
+ghost use Rattle.nr_ids.specs.Events.{IsAbsent};
+ghost use Rattle.nr_ids.specs.Looking.{IsFull};
+ghost use Rattle.nr_idmap.specs.Keepers.{id_rows, id_table_of};
 ghost use Rattle.nr_map.specs.SlotBounds.{HasRoomForAll};
 ghost use Rattle.nr_idmap.specs.IdWrites.{FillsAndGives};
-ghost use Rattle.nr_cache.specs.Stores as spec;
-ghost use Rattle.nr_cache.specs.Stores.{AdmitsOrNot, ClaimsOr, OwesNone, PutsBy};
+ghost use Rattle.nr_cache.specs.Places.{AdmitsOrNot, ClaimsOr, IsGone, MakesRoom, OwesNone, OwesOnly, TakesValue};
+ghost use Rattle.nr_cache.specs.Stores.{HoldsOrNot};
 
 use crate::flights::Fate;
 use crate::store::{Landed, Store};
@@ -16,7 +17,7 @@ use nr_idmap::{
 use nr_model::{Row, RowRoom};
 
 impl Store {
-    ghost use Rattle.nr_cache.specs.Stores.{Invalidates, IsGone, Lands, Puts, Reaps};
+    ghost use Rattle.nr_cache.specs.Stores.{Invalidates, Lands, Puts, Reaps};
 
     /// Ends the flight of that number by its value, with a stamp above 0. It is held unless its id was
     /// invalidated, put or changed since the flight began, or was being changed then. Makes room itself.
@@ -98,14 +99,18 @@ fn take_value(map: &IdMap, writer: &mut IdWriter, id: u64) -> bool
     requires id { 0 < id }
     ensures own { writer.new.table ≡ map.now }
     ensures owes { OwesNone writer.new }
-    ensures gone { spec.IsGone id writer.new }
-    ensures still { IsQuiet writer.old.writer writer.new.writer }
+    ensures takes { TakesValue id writer.old writer.new result }
+    ensures gone { IsGone id writer.new }
 {
     laws::unnamed_is_absent();
+    laws::named_is_owed_or_resident();
     writer.is_tied();
     let answer = map.evict(writer, id);
     writer.is_tied();
-    matches!(answer, Evict::Evicted)
+    match answer {
+        Evict::Evicted => true,
+        Evict::Nothing => false,
+    }
 }
 
 // Puts a row in place of an id's, or gives the id a way and fills it.
@@ -125,18 +130,29 @@ fn put_value<R: RowRoom>(
     requires stamp { 0 < row.a }
     ensures own { (writer.new.table ≡ map.now) × (id_table_of asker.new ≡ map.now) }
     ensures owes { OwesNone writer.new }
-    ensures puts { PutsBy R.shows id row writer.old asker.old.ids had.old writer.new asker.new.ids had.new result }
+    ensures puts { HoldsOrNot R.shows id row writer.old asker.old had.old writer.new asker.new had.new result }
 {
-    if let Ok(given) = map.replace_reclaiming(writer, id, &[row], had) {
-        return Landed::Held(given);
+    nr_map::laws::room_for_replacements();
+    laws::unnamed_is_absent();
+    writer.is_tied();
+    match map.replace_reclaiming(writer, id, &[row], had) {
+        Ok(given) => return Landed::Held(given),
+        Err(IdFault::Absent) => {}
+        // A way with a name has a set, and there is a slot for each way, each reader and one more.
+        Err(IdFault::Refused(_fault)) => {
+            writer.is_tied();
+            unreachable!()
+        }
     }
-    take_value(map, writer, id);
+    writer.is_tied();
     if !claim(map, asker, id) {
         return Landed::Own;
     }
-    match admit(map, writer, id) {
-        Ok(upquery) => Landed::Held(fill(map, writer, upquery, row, had)),
-        Err(_) => Landed::Own,
+    let admitted = admit(map, writer, id);
+    writer.is_tied();
+    match admitted {
+        Some(upquery) => Landed::Held(fill(map, writer, upquery, row, had)),
+        None => Landed::Own,
     }
 }
 
@@ -145,7 +161,7 @@ fn claim(map: &IdMap, asker: &mut IdReader, id: u64) -> bool
     requires own { id_table_of asker.old ≡ map.now }
     requires id { 0 < id }
     ensures own { id_table_of asker.new ≡ map.now }
-    ensures claims { ClaimsOr id asker.old.ids asker.new.ids result }
+    ensures claims { ClaimsOr id asker.old asker.new result }
 {
     match map.request(asker, id) {
         Requested::Granted(claim) => {
@@ -156,38 +172,60 @@ fn claim(map: &IdMap, asker: &mut IdReader, id: u64) -> bool
     }
 }
 
-// Gives an id a way, for which the value of another of its group goes where each has one.
-fn admit(map: &IdMap, writer: &mut IdWriter, id: u64) -> Result<Upquery, Refused>
+// Gives an id that has none a way, for which the value of another of its group goes where each is taken.
+fn admit(map: &IdMap, writer: &mut IdWriter, id: u64) -> Option<Upquery>
     requires own { writer.old.table ≡ map.now }
     requires owes { OwesNone writer.old }
     requires id { 0 < id }
+    requires absent { IsAbsent writer.old.clerk.seen id }
     ensures own { writer.new.table ≡ map.now }
-    ensures admits { AdmitsOrNot id writer.new result }
-    ensures still { IsQuiet writer.old.writer writer.new.writer }
+    ensures admits { AdmitsOrNot id writer.old writer.new result }
+    ensures upquery { IfSome result (λ upquery. (upquery.table ≡ map.now) × OwesOnly upquery.owed writer.new) }
+    ensures none { IfNone result (OwesNone writer.new × IsAbsent writer.new.clerk.seen id) }
 {
+    writer.is_tied();
     match map.admit(writer, id) {
-        Ok(upquery) => Ok(upquery),
-        Err(Refused::Full) => {
-            make_room(map, writer, id);
-            map.admit(writer, id)
-        }
-        Err(Refused::NoClaim) => Err(Refused::NoClaim),
-        Err(Refused::Named(way)) => Err(Refused::Named(way)),
+        Ok(upquery) => return Some(upquery),
+        Err(Refused::NoClaim) => return None,
+        Err(Refused::Full) => {}
+        // It has no way.
+        Err(Refused::Named(_way)) => unreachable!(),
+    }
+    make_room(map, writer, id);
+    writer.is_tied();
+    match map.admit(writer, id) {
+        Ok(upquery) => Some(upquery),
+        Err(Refused::NoClaim) => None,
+        // There is room now, and the id has no way still.
+        Err(Refused::Full) => unreachable!(),
+        Err(Refused::Named(_way)) => unreachable!(),
     }
 }
 
-// Takes the value of one of an id's group.
+// Takes the value of one of an id's group, where each of the id's ways is taken.
 fn make_room(map: &IdMap, writer: &mut IdWriter, id: u64)
     requires own { writer.old.table ≡ map.now }
     requires owes { OwesNone writer.old }
+    requires id { 0 < id }
+    requires absent { IsAbsent writer.old.clerk.seen id }
+    requires full { IsFull id writer.old.clerk }
     ensures own { writer.new.table ≡ map.now }
     ensures owes { OwesNone writer.new }
-    ensures still { IsQuiet writer.old.writer writer.new.writer }
+    ensures absent { IsAbsent writer.new.clerk.seen id }
+    ensures room { MakesRoom id writer.old writer.new }
+    ensures free { IsFull id writer.new.clerk → ⊥ }
 {
+    laws::named_is_owed_or_resident();
+    writer.is_tied();
     let Some(victim) = map.choose(writer, id) else {
-        return;
+        // Each of the group's ways has a name.
+        unreachable!()
     };
-    map.evict(writer, victim);
+    writer.is_tied();
+    // A way that has a name has a value.
+    if !take_value(map, writer, victim) {
+        unreachable!()
+    }
 }
 
 // Fills an upquery that was just opened.
@@ -199,11 +237,13 @@ fn fill<R: RowRoom>(
     had: &mut R,
 ) -> Reclaimed
     requires own { (writer.old.table ≡ map.now) × (upquery.table ≡ map.now) }
-    requires owes { owed_at writer.old upquery.owed.way ≡ Some upquery.owed }
+    requires owes { OwesOnly upquery.owed writer.old }
     requires slots { HasRoomForAll map.now.map }
     requires rows { 0 < id_rows map.now }
     requires stamp { 0 < row.a }
     ensures own { writer.new.table ≡ map.now }
+    ensures owes { OwesNone writer.new }
+    ensures asker { writer.new.asker ≡ writer.old.asker }
     ensures fills { FillsAndGives R.shows upquery.owed (row ∷ []) writer.old had.old writer.new had.new result }
 {
     nr_map::laws::room_for_fills();

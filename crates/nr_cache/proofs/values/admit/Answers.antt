@@ -1,26 +1,61 @@
-use Rattle.nr_cache.proofs.Admitting.{admission_quiet}
-use Rattle.nr_cache.proofs.Quiets.{quiet_then}
+use Rattle.std.proofs.Common.{◌∙◌, ◌+◌, inr, subst, sym}
+use Rattle.nr_ids.specs.declared.admissions.Refused.{Refused}
+use Rattle.nr_ids.specs.Groups.{places}
+use Rattle.nr_idmap.specs.IdWrites.{RefusesId}
+use Rattle.nr_cache.proofs.Admitting.{not_full, not_met, refused_absent}
 use Rattle.nr_cache.proofs.values.admit.Goals as goal
 
-pub returns-in-Ok-clause-still : goal.returns-in-Ok-clause-still
-returns-in-Ok-clause-still c =
-    admission_quiet c.args.id c.args.map.now c.args.writer.now c.admit.new.writer c.admit.result c.admit.ensures.admits
-    c.admit.ensures.refused
+pub returns-in-Err-NoClaim-clause-none : goal.returns-in-Err-NoClaim-clause-none
+returns-in-Err-NoClaim-clause-none c =
+    let refuses = subst (λ (why : Refused). RefusesId c.args.id c.args.writer.now c.admit.new.writer why)
+    c.in-Err-NoClaim.field-0-is c.in-Err-NoClaim.ensures.refused in (
+      λ way. refuses.owes way ∙ c.requires.owes way,
+      refused_absent c.args.id 1 c.args.writer.now c.admit.new.writer c.is_tied.ensures refuses.refused.0
+          c.requires.absent,
+    )
 
-pub returns-in-Err-Full-clause-still : goal.returns-in-Err-Full-clause-still
-returns-in-Err-Full-clause-still c = quiet_then (quiet_then
-    (admission_quiet c.args.id c.args.map.now c.args.writer.now c.admit.new.writer c.admit.result c.admit.ensures.admits
-    c.admit.ensures.refused)
-    c.make_room.ensures.still)
-    (admission_quiet c.args.id c.args.map.now c.make_room.new.writer c.admit-in-Err-Full.new.writer
-    c.admit-in-Err-Full.result c.admit-in-Err-Full.ensures.admits c.admit-in-Err-Full.ensures.refused)
+pub unreachable-requires : goal.unreachable-requires
+unreachable-requires c =
+    not_met c.args.id c.in-Err-Named._way c.args.writer.now c.admit.new.writer c.is_tied.ensures c.requires.absent
+    (subst (λ (why : Refused). RefusesId c.args.id c.args.writer.now c.admit.new.writer why) c.in-Err-Named.field-0-is
+    c.in-Err-Named.ensures.refused)
 
-pub returns-in-Err-NoClaim-clause-still : goal.returns-in-Err-NoClaim-clause-still
-returns-in-Err-NoClaim-clause-still c =
-    admission_quiet c.args.id c.args.map.now c.args.writer.now c.admit.new.writer c.admit.result c.admit.ensures.admits
-    c.admit.ensures.refused
+pub make_room-requires-clause-absent : goal.make_room-requires-clause-absent
+make_room-requires-clause-absent c =
+    let refuses = subst (λ (why : Refused). RefusesId c.args.id c.args.writer.now c.admit.new.writer why)
+    c.in-Err-Full.field-0-is c.in-Err-Full.ensures.refused in
+    refused_absent c.args.id (places + 1) c.args.writer.now c.admit.new.writer c.is_tied.ensures refuses.refused.0
+    c.requires.absent
 
-pub returns-in-Err-Named-clause-still : goal.returns-in-Err-Named-clause-still
-returns-in-Err-Named-clause-still c =
-    admission_quiet c.args.id c.args.map.now c.args.writer.now c.admit.new.writer c.admit.result c.admit.ensures.admits
-    c.admit.ensures.refused
+pub unreachable-requires-in-Err-Full-admit : goal.unreachable-requires-in-Err-Full-admit
+unreachable-requires-in-Err-Full-admit c =
+    not_full c.args.id c.make_room.new.writer c.admit-2.new.writer c.is_tied-2.ensures c.make_room.ensures.free
+    (subst (λ (why : Refused). RefusesId c.args.id c.make_room.new.writer c.admit-2.new.writer why)
+    c.in-Err-Full-admit.field-0-is c.in-Err-Full-admit.ensures.refused)
+
+pub unreachable-requires-in-Err-Named-admit : goal.unreachable-requires-in-Err-Named-admit
+unreachable-requires-in-Err-Named-admit c =
+    not_met c.args.id c.in-Err-Named-admit._way c.make_room.new.writer c.admit-2.new.writer c.is_tied-2.ensures
+    c.make_room.ensures.absent
+    (subst (λ (why : Refused). RefusesId c.args.id c.make_room.new.writer c.admit-2.new.writer why)
+    c.in-Err-Named-admit.field-0-is c.in-Err-Named-admit.ensures.refused)
+
+pub returns-in-Ok-admit-clause-admits : goal.returns-in-Ok-admit-clause-admits
+returns-in-Ok-admit-clause-admits c =
+    inr (record {
+      full = c.admit.new.writer;
+      roomy = c.make_room.new.writer;
+      refuses = subst (λ (why : Refused). RefusesId c.args.id c.args.writer.now c.admit.new.writer why)
+          c.in-Err-Full.field-0-is c.in-Err-Full.ensures.refused;
+      room = c.make_room.ensures.room;
+      admits = (c.in-Ok-admit.ensures.admits.1, c.in-Ok-admit.ensures.admits.0 ∙ sym c.admit-2.ensures.own);
+    })
+
+pub returns-in-Err-NoClaim-admit-clause-none : goal.returns-in-Err-NoClaim-admit-clause-none
+returns-in-Err-NoClaim-admit-clause-none c =
+    let refuses = subst (λ (why : Refused). RefusesId c.args.id c.make_room.new.writer c.admit-2.new.writer why)
+    c.in-Err-NoClaim-admit.field-0-is c.in-Err-NoClaim-admit.ensures.refused in (
+      λ way. refuses.owes way ∙ c.make_room.ensures.owes way,
+      refused_absent c.args.id 1 c.make_room.new.writer c.admit-2.new.writer c.is_tied-2.ensures refuses.refused.0
+          c.make_room.ensures.absent,
+    )

@@ -5,6 +5,7 @@ use Rattle.nr_idmap.specs.IdWrites.{FillsId}
 use Rattle.nr_idmap.specs.Keepers.{IdTable}
 use Rattle.nr_idmap.specs.Tags.{tag_of}
 use Rattle.nr_map.specs.SlotBounds.{HasRoomForAll}
+use Rattle.nr_cache.proofs.Admitting.{closes_only}
 use Rattle.nr_cache.proofs.values.fill.Goals as goal
 
 pub unreachable-requires-in-Err-NoSlot : goal.unreachable-requires-in-Err-NoSlot
@@ -17,3 +18,8 @@ unreachable-requires-in-Err-NoSlot g c =
     (subst (λ (t : Table). HasRoomForAll t)
     (sym (c.is_tied.ensures.writes.0 ∙ ap (λ (t : IdTable). t.map) c.requires.own.0)) c.requires.slots)
     does.1.lacks
+
+pub returns-clause-owes : goal.returns-clause-owes
+returns-clause-owes g c =
+    closes_only c.args.upquery.owed c.args.writer.now c.fill_reclaiming.new.writer c.requires.owes
+    c.in-Ok.ensures.fills.closes

@@ -1,26 +1,33 @@
-use Rattle.std.proofs.Common.{◌∙◌}
-use Rattle.nr_cache.proofs.Gone.{gone_after}
-use Rattle.nr_cache.proofs.Quiets.{evict_quiet}
+use Rattle.std.proofs.Common.{◌∙◌, subst, true, false}
+use Rattle.nr_board.specs.declared.answers.Evict.{Evict}
+use Rattle.nr_idmap.specs.IdWrites.{EvictsId}
+use Rattle.nr_cache.proofs.Gone.{gone_after, takes_none, takes_some}
 use Rattle.nr_cache.proofs.values.take_value.Goals as goal
+
+pub returns-in-Evicted-clause-takes : goal.returns-in-Evicted-clause-takes
+returns-in-Evicted-clause-takes c =
+    takes_some c.named_is_owed_or_resident.ensures c.unnamed_is_absent.ensures c.args.id c.args.writer.now
+    c.evict-answer.new.writer c.is_tied.ensures c.is_tied-2.ensures c.requires.owes
+    (λ way. c.evict-answer.ensures.owes way ∙ c.requires.owes way) c.requires.id c.evict-answer.ensures.asker
+    (subst (λ (a : Evict). EvictsId c.args.id c.args.writer.now c.evict-answer.new.writer a) c.in-Evicted.is
+    c.evict-answer.ensures.evicts)
 
 pub returns-in-Evicted-clause-gone : goal.returns-in-Evicted-clause-gone
 returns-in-Evicted-clause-gone c =
-    gone_after c.unnamed_is_absent.ensures c.args.id c.args.writer.now c.evict-answer.new.writer c.evict-answer.result
-    c.is_tied.ensures c.is_tied-2.ensures (λ way. c.evict-answer.ensures.owes way ∙ c.requires.owes way)
-    c.requires.id c.evict-answer.ensures.evicts
+    gone_after c.unnamed_is_absent.ensures c.args.id c.args.writer.now c.evict-answer.new.writer true c.is_tied.ensures
+    c.is_tied-2.ensures (λ way. c.evict-answer.ensures.owes way ∙ c.requires.owes way) c.requires.id
+    (returns-in-Evicted-clause-takes c)
 
-pub returns-in-Evicted-clause-still : goal.returns-in-Evicted-clause-still
-returns-in-Evicted-clause-still c =
-    evict_quiet c.args.id c.args.writer.now c.evict-answer.new.writer c.evict-answer.result
-    c.evict-answer.ensures.evicts
+pub returns-in-Nothing-clause-takes : goal.returns-in-Nothing-clause-takes
+returns-in-Nothing-clause-takes c =
+    takes_none c.named_is_owed_or_resident.ensures c.unnamed_is_absent.ensures c.args.id c.args.writer.now
+    c.evict-answer.new.writer c.is_tied.ensures c.is_tied-2.ensures c.requires.owes
+    (λ way. c.evict-answer.ensures.owes way ∙ c.requires.owes way) c.requires.id c.evict-answer.ensures.asker
+    (subst (λ (a : Evict). EvictsId c.args.id c.args.writer.now c.evict-answer.new.writer a) c.in-Nothing.is
+    c.evict-answer.ensures.evicts)
 
-pub returns-in_default-clause-gone : goal.returns-in_default-clause-gone
-returns-in_default-clause-gone c =
-    gone_after c.unnamed_is_absent.ensures c.args.id c.args.writer.now c.evict-answer.new.writer c.evict-answer.result
-    c.is_tied.ensures c.is_tied-2.ensures (λ way. c.evict-answer.ensures.owes way ∙ c.requires.owes way)
-    c.requires.id c.evict-answer.ensures.evicts
-
-pub returns-in_default-clause-still : goal.returns-in_default-clause-still
-returns-in_default-clause-still c =
-    evict_quiet c.args.id c.args.writer.now c.evict-answer.new.writer c.evict-answer.result
-    c.evict-answer.ensures.evicts
+pub returns-in-Nothing-clause-gone : goal.returns-in-Nothing-clause-gone
+returns-in-Nothing-clause-gone c =
+    gone_after c.unnamed_is_absent.ensures c.args.id c.args.writer.now c.evict-answer.new.writer false c.is_tied.ensures
+    c.is_tied-2.ensures (λ way. c.evict-answer.ensures.owes way ∙ c.requires.owes way) c.requires.id
+    (returns-in-Nothing-clause-takes c)

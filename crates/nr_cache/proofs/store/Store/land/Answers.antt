@@ -1,4 +1,4 @@
-use Rattle.nr_cache.specs.Moves as quiet
+use Rattle.std.proofs.Common.{refl}
 use Rattle.nr_cache.proofs.Seen.{lands_by, lands_late, lands_none}
 use Rattle.nr_cache.proofs.store.Store.land.Goals as goal
 
@@ -8,7 +8,7 @@ returns-in_default-clause-lands g c =
     (record { keeper = c.self.inside.writer; asker = c.self.inside.asker; underway = c.self.inside.flights })
     c.args.self.now c.args.had.now
     (record { keeper = c.self.inside.writer; asker = c.self.inside.asker; underway = c.end.new.self })
-    c.self.view_is c.in_default.ensures.ends (quiet.Stays c.self.inside.writer.writer)
+    c.self.view_is c.in_default.ensures.ends refl refl
 
 pub returns-in-Hold-clause-lands : goal.returns-in-Hold-clause-lands
 returns-in-Hold-clause-lands g c =
@@ -25,4 +25,4 @@ returns-in-Outdated-clause-lands g c =
     (record { keeper = c.self.inside.writer; asker = c.self.inside.asker; underway = c.self.inside.flights })
     c.args.self.now c.args.had.now
     (record { keeper = c.self.inside.writer; asker = c.self.inside.asker; underway = c.end.new.self })
-    c.in-Some.flight c.self.view_is c.in-Some.ensures.ends c.in-Outdated.is (quiet.Stays c.self.inside.writer.writer)
+    c.in-Some.flight c.self.view_is c.in-Some.ensures.ends c.in-Outdated.is refl refl

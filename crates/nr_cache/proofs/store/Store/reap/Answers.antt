@@ -12,4 +12,10 @@ returns-clause-reaps g c =
     (record { keeper = c.reap.new.writer; asker = c.self.inside.asker; underway = c.self.inside.flights })
     c.reap.new.had
     c.reap.result) c.self.view_is
-    (record { out = r.0; moves = r.1; gives = r.2; rest = refl })
+    (record {
+      reaps = c.reap.ensures.reaps;
+      out = r.0;
+      moves = r.1;
+      gives = r.2;
+      rest = (refl, refl, c.reap.ensures.clerk, c.reap.ensures.asker);
+    })

@@ -1,0 +1,129 @@
+-- How a value comes into the map, and out of it.
+use Rattle.std.specs.Prelude.{◌≡◌, ◌≢◌, ◌⊎◌, ℕ, Bool, true, false, List, [], ◌∷◌, Option, Some, None, Result, Ok}
+use Rattle.nr_model.specs.declared.rows.Row.{Row}
+use Rattle.nr_board.specs.Callers.{Caller, map_seen}
+use Rattle.nr_board.specs.declared.answers.Evict.TheVariants as evict
+use Rattle.nr_board.specs.declared.answers.Reclaimed.{Reclaimed}
+use Rattle.nr_board.specs.declared.answers.ReplaceFault.{ReplaceFault}
+use Rattle.nr_board.specs.Reclaiming.{ReplacesReclaiming}
+use Rattle.nr_ids.specs.declared.admissions.Refused.TheVariants as refused
+use Rattle.nr_ids.specs.declared.requests.Requested.{Requested}
+use Rattle.nr_ids.specs.declared.requests.Requested.TheVariants as requested
+use Rattle.nr_ids.specs.Answers.{FindsWay, Requests}
+use Rattle.nr_ids.specs.Looking.{IsFull}
+use Rattle.nr_ids.specs.Tokens.{Granted}
+use Rattle.nr_idmap.specs.declared.writes.IdFault.{IdFault}
+use Rattle.nr_idmap.specs.IdChoices.{ChoosesId, StaysButClerk}
+use Rattle.nr_idmap.specs.IdWrites.{AdmitsId, CallsWay, EvictsId, FillsAndGives, RefusesId}
+use Rattle.nr_idmap.specs.Keepers.{IdCaller, Keeper, Owed, Sent, owed_at}
+use Rattle.nr_idmap.specs.Tags.{IsResident, tag_of}
+use Rattle.nr_map.specs.Remains.{Given}
+use Rattle.nr_cache.specs.Moves.{Moves, ShowsGiven}
+
+-- in all that the writer has seen the id has a value, or has none
+abbrev pub HasValue : ℕ → Keeper → Type 0
+HasValue id keeper = (rows : List Row) × IsResident (map_seen keeper.writer) id rows
+
+abbrev pub IsGone : ℕ → Keeper → Type 0
+IsGone id keeper = (rows : List Row) → IsResident (map_seen keeper.writer) id rows → ⊥
+
+-- between two calls no upquery is open
+abbrev pub OwesNone : Keeper → Type 0
+OwesNone keeper = (way : ℕ) → owed_at keeper way ≡ None
+
+-- within one this one is open
+pub record OwesOnly (owed : Owed) (keeper : Keeper) : Type 0 where
+  pub stands : owed_at keeper owed.way ≡ Some owed
+  pub others : (way : ℕ) → way ≢ owed.way → owed_at keeper way ≡ None
+
+-- the id was looked up, and else nothing happened
+abbrev pub LooksUp : ℕ → Keeper → Keeper → Option ℕ → Type 0
+LooksUp id old new way = FindsWay id old.clerk new.clerk way × StaysButClerk old new
+
+-- OUT
+-- the id's value is evicted, or it had none
+abbrev pub TakesValue : ℕ → Keeper → Keeper → Bool → Type 0
+TakesValue id old new true = HasValue id old × EvictsId id old new evict.Evicted × (new.asker ≡ old.asker)
+TakesValue id old new false = IsGone id old × EvictsId id old new evict.Nothing × (new.asker ≡ old.asker)
+
+-- each of the id's ways was taken, and the value that the choice named is evicted
+pub record MakesRoom (id : ℕ) (old new : Keeper) : Type 0 where
+  pub full : IsFull id old.clerk
+  pub victim : ℕ
+  pub mid : Keeper
+  pub chooses : ChoosesId id old.clerk mid.clerk (Some victim)
+  pub stays : StaysButClerk old mid
+  pub takes : TakesValue victim mid new true
+
+-- IN
+-- the id's group is claimed by a request, or it wasn't to be had, since another reader has it or it is worn out
+abbrev pub IsNotGranted : Requested → Type 0
+IsNotGranted (requested.Granted claim) = ⊥
+IsNotGranted _ = Unit {0}
+
+abbrev pub ClaimsOr : ℕ → IdCaller → IdCaller → Bool → Type 0
+ClaimsOr id old new true =
+    (claim : Granted) × Requests id old.ids new.ids (requested.Granted claim) × (new.caller ≡ old.caller)
+ClaimsOr id old new false =
+    (answer : Requested) × Requests id old.ids new.ids answer × IsNotGranted answer × (new.caller ≡ old.caller)
+
+-- an upquery is opened for the id, or the directory doesn't know of a claim of its group
+abbrev pub AdmitsAtOnce : ℕ → Keeper → Keeper → Option Sent → Type 0
+AdmitsAtOnce id old new (Some sent) = AdmitsId id old new sent.owed × (sent.table ≡ new.table)
+AdmitsAtOnce id old new None = RefusesId id old new refused.NoClaim
+
+-- at once, or after room was made
+pub record MakesRoomFirst (id : ℕ) (old new : Keeper) (answer : Option Sent) : Type 0 where
+  pub full : Keeper
+  pub roomy : Keeper
+  pub refuses : RefusesId id old full refused.Full
+  pub room : MakesRoom id full roomy
+  pub admits : AdmitsAtOnce id roomy new answer
+
+abbrev pub AdmitsOrNot : ℕ → Keeper → Keeper → Option Sent → Type 0
+AdmitsOrNot id old new answer = AdmitsAtOnce id old new answer ⊎ MakesRoomFirst id old new answer
+
+-- the id has no way, and gets none
+pub record HasNoPlace (id : ℕ) (old : Keeper) (asker : IdCaller) (new : Keeper) (asker' : IdCaller) : Type 0 where
+  pub mid : Keeper
+  pub absent : LooksUp id old mid None
+  pub why : (ClaimsOr id asker asker' false × (new ≡ mid))
+      ⊎ (ClaimsOr id asker asker' true × AdmitsOrNot id mid new None)
+  pub gone : IsGone id new
+
+module _ {Room : Type 0} (shows : Room → List Row → Type 0) where
+  -- the call of the map that puts the row in place of what the id has
+  abbrev pub Replaces : ℕ → Row → Keeper → Room → Keeper → Room → Result Reclaimed (IdFault ReplaceFault) → Type 0
+  Replaces id row old before new after answer =
+      CallsWay
+      (λ (way : ℕ) (o n : Caller) (r : Result Reclaimed ReplaceFault).
+      ReplacesReclaiming shows way (tag_of id ∷ row ∷ []) o before n after r)
+      id old new answer
+
+  -- the row takes the place of what the id has
+  pub record TakesPlace (id : ℕ) (row : Row) (old : Keeper) (asker : IdCaller) (before : Room) (new : Keeper)
+      (asker' : IdCaller) (after : Room) (given : Reclaimed) : Type 0 where
+    pub replaces : Replaces id row old before new after (Ok given)
+    pub still : (new.asker ≡ old.asker) × (asker' ≡ asker)
+
+  -- or the id, which has no way, gets one with its row
+  pub record GetsPlace (id : ℕ) (row : Row) (old : Keeper) (asker : IdCaller) (before : Room) (new : Keeper)
+      (asker' : IdCaller) (after : Room) (given : Reclaimed) : Type 0 where
+    pub mid : Keeper
+    pub absent : LooksUp id old mid None
+    pub claims : ClaimsOr id asker asker' true
+    pub late : Keeper
+    pub sent : Sent
+    pub admits : AdmitsOrNot id mid late (Some sent)
+    pub fills : FillsAndGives shows sent.owed (row ∷ []) late before new after given
+    pub stays : new.asker ≡ late.asker
+
+  -- it has the row then; one set was put, and one that nobody can see any more may have come out
+  pub record Holds (id : ℕ) (row : Row) (old : Keeper) (asker : IdCaller) (before : Room) (new : Keeper)
+      (asker' : IdCaller) (after : Room) (given : Reclaimed) : Type 0 where
+    pub how : TakesPlace id row old asker before new asker' after given
+        ⊎ GetsPlace id row old asker before new asker' after given
+    pub has : IsResident (map_seen new.writer) id (row ∷ [])
+    pub out : List Given
+    pub moves : Moves shows old.writer ((tag_of id ∷ row ∷ []) ∷ []) out new.writer
+    pub gives : ShowsGiven shows out after given
