@@ -108,7 +108,7 @@ fn turn_on<R: Wait>(
     requires base { flow.old.source ≡ replicate flow.old.map.shape.keys 0 }
     requires room { HasRoomForAll flow.old.map }
     requires none { (flow.old.kept ≡ None) × (under_way.old.posts ≡ []) }
-    requires most { under_way.old.most ≡ ahead_of shared.now.plan.upqueries }
+    requires most { under_way.old.most ≡ ahead_of shared.now.upqueries }
     ensures { let (fills, fault) = result in TurnsAll flow.old flow.new fills fault }
 {
     let lobby = shared.service.lobby();
@@ -136,7 +136,7 @@ fn turn_all<R: Wait>(
     requires none { flow.old.kept ≡ None }
     ensures { let (fills, fault) = result in TurnsAll flow.old flow.new fills fault }
 {
-    let Ok(mut under_way) = UnderWay::open(shared.alloc, shared.plan.upqueries) else {
+    let Ok(mut under_way) = UnderWay::open(shared.alloc, shared.upqueries) else {
         return (0, Some(LoadFault::Memory));
     };
     let turned = turn_on(rt, shared, flow, &mut under_way);

@@ -128,9 +128,28 @@ fn get_drawn<R: Wait, G: Gate>(
 /// A get of each of the next `gets` drawn keys, in order. Before each it looks whether the lobby is
 /// closed, and then stops. A fault ends it: `Barred` where a gate never let pass, `WrongRows` where a
 /// get gave anything but one row `k:x` of its key with x not below what this worker saw of k before,
-/// and `Memory` where there is none for what it knows of each key; then it begins no get. Gives the
-/// guest by which it looked.
+/// and `Memory` where there is none for what it knows of each key; then it begins no get.
 pub fn load_gets<R: Wait, G: Gate>(
+    rt: &R,
+    alloc: Global,
+    client: &mut Client<'_, G>,
+    draws: &mut Draws,
+    gets: u32,
+    lobby: &Lobby,
+) -> Worked
+    requires { draws.old.keys ≤ client.old.map.shape.keys }
+    ensures works { Works TRIES draws.old.keys result.made (replicate draws.old.keys 0) draws.old.generator client.old.hands draws.new.generator client.new.hands result.answered (of_gets result.fault) }
+    ensures memory { result.fault ≡ Some LoadFault.Memory → result.made ≡ 0 }
+    ensures few { (result.made ≤ gets) × (result.answered ≤ result.made) }
+    ensures all { result.stopped ≡ false → result.fault ≡ None → result.made ≡ gets }
+    ensures places { (client.new.map ≡ client.old.map) × (client.new.queue ≡ client.old.queue) × (client.new.opened ≡ client.old.opened) }
+{
+    let (worked, _) = make_gets(rt, alloc, client, draws, gets, lobby);
+    worked
+}
+
+/// The gets of `load_gets`, and the guest by which it looked.
+pub(crate) fn make_gets<R: Wait, G: Gate>(
     rt: &R,
     alloc: Global,
     client: &mut Client<'_, G>,

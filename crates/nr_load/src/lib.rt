@@ -17,4 +17,4 @@ mod workers;
 pub use draws::Draws;
 pub use fault::LoadFault;
 pub use gets::{Worked, load_gets};
-pub use load::{LoadReport, Plan, run_load};
+pub use load::{LoadReport, Plan, WindowedPlan, run_load, run_windowed_load};

@@ -34,7 +34,13 @@ pub struct Plan {
     pub keys: u32,
     /// The gets of each reader.
     pub gets: u32,
-    /// How many upqueries may be under way at once: at least one always may.
+}
+
+/// A run of load with several upqueries under way.
+#[derive(Clone, Copy, Debug, PartialEq, Eq)]
+pub struct WindowedPlan {
+    pub plan: Plan,
+    /// The window, how many upqueries may be under way at once: at least one always may.
     pub upqueries: u32,
 }
 
@@ -231,16 +237,46 @@ fn settle(
 
 /// Runs a load: opens a map with a slot for each key, each reader and one more, a queue with room for
 /// a ticket of each key, and starts a thread for each reader and one for the dataflow. Each reader
-/// makes `gets` gets, of keys that it draws. The dataflow takes as many triggers as may be under way,
-/// and answers the oldest in each turn. All memory but a thread's own is asked for before the first
-/// one starts. A fault of one ends all, and each thread that was started is joined before
-/// the answer, of several faults the first named; `WrongRows` also where gets are missing and nothing
-/// tells why. Then all readers are gathered; the report is of one history that has all their calls,
-/// and in which each find found the row that the base had then.
+/// makes `gets` gets, of keys that it draws. The dataflow answers a trigger in each turn. All memory
+/// but a thread's own is asked for before the first one starts. A fault of one ends all, and each
+/// thread that was started is joined before the answer, of several faults the first named;
+/// `WrongRows` also where gets are missing and nothing tells why. Then all readers are gathered; the
+/// report is of one history that has all their calls, and in which each find found the row that the
+/// base had then.
 pub fn run_load<R: Threads + Wait + Sync, G: Gate + Sync>(
     rt: &R,
     alloc: Global,
     plan: &Plan,
+    gate: &G,
+) -> Result<LoadReport, LoadFault>
+    requires readers { (0 < plan.now.readers) × (plan.now.readers ≤ 1024) }
+    requires keys { (0 < plan.now.keys) × (plan.now.keys ≤ 65536) }
+    ensures { IfOk result (ComesTo plan.now) }
+{
+    run_with_window(rt, alloc, plan, 1, gate)
+}
+
+/// As `run_load`, but the dataflow takes as many triggers as may be under way, and answers the oldest
+/// in each turn.
+pub fn run_windowed_load<R: Threads + Wait + Sync, G: Gate + Sync>(
+    rt: &R,
+    alloc: Global,
+    windowed: &WindowedPlan,
+    gate: &G,
+) -> Result<LoadReport, LoadFault>
+    requires readers { (0 < windowed.now.plan.readers) × (windowed.now.plan.readers ≤ 1024) }
+    requires keys { (0 < windowed.now.plan.keys) × (windowed.now.plan.keys ≤ 65536) }
+    ensures { IfOk result (ComesTo windowed.now.plan) }
+{
+    run_with_window(rt, alloc, &windowed.plan, windowed.upqueries, gate)
+}
+
+// Runs a load with that many upqueries under way at once, or one where that is none.
+fn run_with_window<R: Threads + Wait + Sync, G: Gate + Sync>(
+    rt: &R,
+    alloc: Global,
+    plan: &Plan,
+    upqueries: u32,
     gate: &G,
 ) -> Result<LoadReport, LoadFault>
     requires readers { (0 < plan.now.readers) × (plan.now.readers ≤ 1024) }
@@ -270,6 +306,7 @@ pub fn run_load<R: Threads + Wait + Sync, G: Gate + Sync>(
     let shared = Shared {
         alloc,
         plan: *plan,
+        upqueries,
         service: Service::of(map, triggers, lobby),
     };
     let joined = serve_all(rt, gate, &shared, tokens, room.base, room.lists)?;

@@ -12,6 +12,8 @@ use std::alloc::Global;
 pub(crate) struct Shared {
     pub(crate) alloc: Global,
     pub(crate) plan: Plan,
+    /// How many upqueries may be under way at once.
+    pub(crate) upqueries: u32,
     pub(crate) service: Service,
     ghost keys: { (0 < service.map.shape.keys) × (service.map.shape.keys ≤ 65536) },
     ghost slots: { HasRoomForAll service.map },

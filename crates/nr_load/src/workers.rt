@@ -6,7 +6,7 @@ ghost use Rattle.nr_load.specs.Handed.{IsPosterOf};
 
 use crate::draws::Draws;
 use crate::fault::LoadFault;
-use crate::gets::{Worked, load_gets};
+use crate::gets::{Worked, make_gets};
 use crate::shared::Shared;
 use nr_map::Reader;
 use nr_serve::{Client, Gate, Guest};
@@ -76,10 +76,11 @@ fn work<R: Wait, G: Gate>(
         alloc,
         plan,
         service,
+        upqueries: _,
     } = shared;
     let mut draws = Draws::open(plan.seed, reader.number(), service.map().keys());
     let mut client = Client::of_service(service, reader, poster, gate);
-    let (worked, guest) = load_gets(
+    let (worked, guest) = make_gets(
         rt,
         *alloc,
         &mut client,

@@ -5,20 +5,12 @@ use Rattle.nr_prog.specs.declared.task.Task.TheVariants.{Load, Explain}
 use Rattle.nr_prog.specs.Tasks.{task}
 
 four_readers : task (codes "load" ∷ codes "7" ∷ codes "4" ∷ codes "8" ∷ codes "100" ∷ [])
-    ≡ Load (record { seed = 7; readers = 4; keys = 8; gets = 100; upqueries = 1 })
+    ≡ Load (record { seed = 7; readers = 4; keys = 8; gets = 100 })
 four_readers = refl
 
-sixty_four_upqueries : task (codes "load" ∷ codes "7" ∷ codes "4" ∷ codes "8" ∷ codes "100" ∷ codes "64" ∷ [])
-    ≡ Load (record { seed = 7; readers = 4; keys = 8; gets = 100; upqueries = 64 })
-sixty_four_upqueries = refl
-
-no_upquery : task (codes "load" ∷ codes "7" ∷ codes "4" ∷ codes "8" ∷ codes "100" ∷ codes "0" ∷ [])
-    ≡ Explain misuse.Upqueries
-no_upquery = refl
-
-an_upquery_too_many : task (codes "load" ∷ codes "1" ∷ codes "1" ∷ codes "1" ∷ codes "0" ∷ codes "65537" ∷ [])
-    ≡ Explain misuse.Upqueries
-an_upquery_too_many = refl
+a_word_too_many : task (codes "load" ∷ codes "7" ∷ codes "4" ∷ codes "8" ∷ codes "100" ∷ codes "64" ∷ [])
+    ≡ Explain misuse.Words
+a_word_too_many = refl
 
 no_reader : task (codes "load" ∷ codes "7" ∷ codes "0" ∷ codes "8" ∷ codes "100" ∷ []) ≡ Explain misuse.Readers
 no_reader = refl

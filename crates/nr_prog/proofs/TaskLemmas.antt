@@ -27,40 +27,23 @@ only_five (v ∷ w ∷ x ∷ y ∷ []) a b c d e five is_a is_b is_c is_d is_e =
 only_five (v ∷ w ∷ x ∷ y ∷ z ∷ []) a b c d e five is_a is_b is_c is_d is_e = rw (is_a, is_b, is_c, is_d, is_e) refl
 only_five (v ∷ w ∷ x ∷ y ∷ z ∷ next ∷ more) a b c d e five is_a is_b is_c is_d is_e = absurd (omega (arith, five))
 
--- the six elements
-pub only_six : {A : Type 0} (list : List A) (a b c d e f : A) → length list ≡ 6
-    → a ≡ get_or list 0 a → b ≡ get_or list 1 b → c ≡ get_or list 2 c → d ≡ get_or list 3 d → e ≡ get_or list 4 e
-    → f ≡ get_or list 5 f → list ≡ a ∷ b ∷ c ∷ d ∷ e ∷ f ∷ []
-only_six [] a b c d e f six is_a is_b is_c is_d is_e is_f = absurd (omega (arith, six))
-only_six (u ∷ []) a b c d e f six is_a is_b is_c is_d is_e is_f = absurd (omega (arith, six))
-only_six (u ∷ v ∷ []) a b c d e f six is_a is_b is_c is_d is_e is_f = absurd (omega (arith, six))
-only_six (u ∷ v ∷ w ∷ []) a b c d e f six is_a is_b is_c is_d is_e is_f = absurd (omega (arith, six))
-only_six (u ∷ v ∷ w ∷ x ∷ []) a b c d e f six is_a is_b is_c is_d is_e is_f = absurd (omega (arith, six))
-only_six (u ∷ v ∷ w ∷ x ∷ y ∷ []) a b c d e f six is_a is_b is_c is_d is_e is_f = absurd (omega (arith, six))
-only_six (u ∷ v ∷ w ∷ x ∷ y ∷ z ∷ []) a b c d e f six is_a is_b is_c is_d is_e is_f =
-    rw (is_a, is_b, is_c, is_d, is_e, is_f) refl
-only_six (u ∷ v ∷ w ∷ x ∷ y ∷ z ∷ next ∷ more) a b c d e f six is_a is_b is_c is_d is_e is_f =
-    absurd (omega (arith, six))
-
 pub others_explain : {A : Type 0} (spell : A → List ℕ) (list : List A) → length list ≢ 0 → length list ≢ 1
-    → length list ≢ 5 → length list ≢ 6 → Explain misuse.Words ≡ task (map spell list)
-others_explain spell [] some more_than_one not_five not_six = absurd (some refl)
-others_explain spell (u ∷ []) some more_than_one not_five not_six = absurd (more_than_one refl)
-others_explain spell (u ∷ v ∷ []) some more_than_one not_five not_six = refl
-others_explain spell (u ∷ v ∷ w ∷ []) some more_than_one not_five not_six = refl
-others_explain spell (u ∷ v ∷ w ∷ x ∷ []) some more_than_one not_five not_six = refl
-others_explain spell (u ∷ v ∷ w ∷ x ∷ y ∷ []) some more_than_one not_five not_six = absurd (not_five refl)
-others_explain spell (u ∷ v ∷ w ∷ x ∷ y ∷ z ∷ []) some more_than_one not_five not_six = absurd (not_six refl)
-others_explain spell (u ∷ v ∷ w ∷ x ∷ y ∷ z ∷ next ∷ more) some more_than_one not_five not_six = refl
+    → length list ≢ 5 → Explain misuse.Words ≡ task (map spell list)
+others_explain spell [] some more_than_one not_five = absurd (some refl)
+others_explain spell (v ∷ []) some more_than_one not_five = absurd (more_than_one refl)
+others_explain spell (v ∷ w ∷ []) some more_than_one not_five = refl
+others_explain spell (v ∷ w ∷ x ∷ []) some more_than_one not_five = refl
+others_explain spell (v ∷ w ∷ x ∷ y ∷ []) some more_than_one not_five = refl
+others_explain spell (v ∷ w ∷ x ∷ y ∷ z ∷ []) some more_than_one not_five = absurd (not_five refl)
+others_explain spell (v ∷ w ∷ x ∷ y ∷ z ∷ next ∷ more) some more_than_one not_five = refl
 
 -- of more words than any command has, what they ask for is told by the first of them
 pub first_tell : {A : Type 0} (spell : A → List ℕ) (list : List A)
     → task (map spell (take ROOM list)) ≡ task (map spell list)
 first_tell spell [] = refl
-first_tell spell (u ∷ []) = refl
-first_tell spell (u ∷ v ∷ []) = refl
-first_tell spell (u ∷ v ∷ w ∷ []) = refl
-first_tell spell (u ∷ v ∷ w ∷ x ∷ []) = refl
-first_tell spell (u ∷ v ∷ w ∷ x ∷ y ∷ []) = refl
-first_tell spell (u ∷ v ∷ w ∷ x ∷ y ∷ z ∷ []) = refl
-first_tell spell (u ∷ v ∷ w ∷ x ∷ y ∷ z ∷ next ∷ more) = refl
+first_tell spell (v ∷ []) = refl
+first_tell spell (v ∷ w ∷ []) = refl
+first_tell spell (v ∷ w ∷ x ∷ []) = refl
+first_tell spell (v ∷ w ∷ x ∷ y ∷ []) = refl
+first_tell spell (v ∷ w ∷ x ∷ y ∷ z ∷ []) = refl
+first_tell spell (v ∷ w ∷ x ∷ y ∷ z ∷ next ∷ more) = refl

@@ -25,7 +25,6 @@ line_of_misuse misuse.Seed = line (codes "nr: seed must be 0 to 1844674407370955
 line_of_misuse misuse.Readers = line (codes "nr: readers must be 1 to 1024")
 line_of_misuse misuse.Keys = line (codes "nr: keys must be 1 to 65536")
 line_of_misuse misuse.Gets = line (codes "nr: gets must be 0 to 1000000")
-line_of_misuse misuse.Upqueries = line (codes "nr: upqueries must be 1 to 65536")
 
 -- a line is written, all of it, or some where a write may fail
 abbrev pub TellsLine : Type 0 → Option (List ℕ) → Option (List ℕ) → List ℕ → Type 0

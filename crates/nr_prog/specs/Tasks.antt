@@ -15,31 +15,28 @@ if_within least most n = if nat_le least n && nat_le n most then Some n else Non
 abbrev pub number_within : ℕ → ℕ → List ℕ → Option ℕ
 number_within least most word = option_and_then (if_within least most) (number word)
 
--- a load of a seed, readers, keys, gets and upqueries under way; where one is missing, the first that is
-abbrev pub load_of : Option ℕ → Option ℕ → Option ℕ → Option ℕ → Option ℕ → Task
-load_of None readers keys gets upqueries = Explain misuse.Seed
-load_of (Some seed) None keys gets upqueries = Explain misuse.Readers
-load_of (Some seed) (Some readers) None gets upqueries = Explain misuse.Keys
-load_of (Some seed) (Some readers) (Some keys) None upqueries = Explain misuse.Gets
-load_of (Some seed) (Some readers) (Some keys) (Some gets) None = Explain misuse.Upqueries
-load_of (Some seed) (Some readers) (Some keys) (Some gets) (Some upqueries) =
-    Load (record { seed = seed; readers = readers; keys = keys; gets = gets; upqueries = upqueries })
+-- a load of a seed, readers, keys and gets; where one is missing, the first that is
+abbrev pub load_of : Option ℕ → Option ℕ → Option ℕ → Option ℕ → Task
+load_of None readers keys gets = Explain misuse.Seed
+load_of (Some seed) None keys gets = Explain misuse.Readers
+load_of (Some seed) (Some readers) None gets = Explain misuse.Keys
+load_of (Some seed) (Some readers) (Some keys) None = Explain misuse.Gets
+load_of (Some seed) (Some readers) (Some keys) (Some gets) =
+    Load (record { seed = seed; readers = readers; keys = keys; gets = gets })
 
 -- a load, where that is the word
-abbrev pub load_asked : (word seed readers keys gets : List ℕ) → Option ℕ → Task
-load_asked word seed readers keys gets upqueries =
+abbrev pub load_asked : (word seed readers keys gets : List ℕ) → Task
+load_asked word seed readers keys gets =
     if bytes_eq word (codes "load")
     then load_of (number seed) (number_within 1 1024 readers) (number_within 1 65536 keys)
-    (number_within 0 1000000 gets) upqueries
+    (number_within 0 1000000 gets)
     else Explain misuse.Words
 
--- what the words after the program's name ask for; one upquery at a time where no more are
+-- what the words after the program's name ask for
 abbrev pub task : List (List ℕ) → Task
 task [] = Script
 task (word ∷ []) = if bytes_eq word (codes "steps") then Schedule else Explain misuse.Words
-task (word ∷ seed ∷ readers ∷ keys ∷ gets ∷ []) = load_asked word seed readers keys gets (Some 1)
-task (word ∷ seed ∷ readers ∷ keys ∷ gets ∷ upqueries ∷ []) =
-    load_asked word seed readers keys gets (number_within 1 65536 upqueries)
+task (word ∷ seed ∷ readers ∷ keys ∷ gets ∷ []) = load_asked word seed readers keys gets
 task others = Explain misuse.Words
 
 -- what a process's arguments ask for, the program's name first; those that could not be read are no command

@@ -10,7 +10,7 @@ use std::env::Args;
 use std::io;
 
 /// One word more than the longest of the program's commands has, so that a word too many is seen.
-const ROOM: usize = 7;
+const ROOM: usize = 6;
 
 /// What the arguments ask for, of which the first is the program's name.
 pub(crate) fn task_given(alloc: Global, args: io::Result<Args>) -> Task

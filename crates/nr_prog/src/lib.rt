@@ -9,6 +9,7 @@ mod report;
 mod task;
 
 pub use nr_lines::RunFault;
+pub use nr_load::{Draws, LoadFault, LoadReport, Plan, Worked, load_gets, run_load};
 pub use nr_schedule::{laws, run_steps};
 pub use nr_script::{replies, run};
 pub use output::Output;

@@ -43,11 +43,10 @@ pub fn main_of<T: Threads + Wait + Sync + AllocGlobal, R: Read, O: Output>(
 /// Runs what the words after the program's name ask for, and answers the exit status.
 ///
 /// Without words a script from the reader to the output, with the word `steps` a schedule: 0, or 1
-/// after a fault, whose line it then writes as far as it can. With `load` and a seed, readers, keys,
-/// gets and, if it is given, how many upqueries may be under way, it runs a load with an open gate,
-/// and writes its report: 0 where each get was answered and the account balances, else 1. With any
-/// other words it writes the line on its usage, or on the first number of a load that is none or out
-/// of its limits: 2. A load and other words read nothing.
+/// after a fault, whose line it then writes as far as it can. With `load` and a seed, readers, keys and
+/// gets, it runs a load with an open gate, and writes its report: 0 where each get was answered and the
+/// account balances, else 1. With any other words it writes the line on its usage, or on the first
+/// number of a load that is none or out of its limits: 2. A load and other words read nothing.
 pub fn main_with<T: Threads + Wait + Sync, R: Read, O: Output>(
     rt: &T,
     alloc: Global,
@@ -155,6 +154,5 @@ fn line_of_misuse(misuse: Misuse) -> &'static [u8]
         Misuse::Readers => b"nr: readers must be 1 to 1024\n",
         Misuse::Keys => b"nr: keys must be 1 to 65536\n",
         Misuse::Gets => b"nr: gets must be 0 to 1000000\n",
-        Misuse::Upqueries => b"nr: upqueries must be 1 to 65536\n",
     }
 }

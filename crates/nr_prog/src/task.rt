@@ -10,9 +10,6 @@ use nr_text::number;
 /// The most gets of a reader.
 const MAX_GETS: u32 = 1_000_000;
 
-/// No more upqueries can be under way than a map has keys.
-const MAX_UPQUERIES: u32 = MAX_KEYS;
-
 /// What the program is to do.
 #[derive(Clone, Copy, Debug, PartialEq, Eq)]
 pub(crate) enum Task {
@@ -32,7 +29,6 @@ pub(crate) enum Misuse {
     Readers,
     Keys,
     Gets,
-    Upqueries,
 }
 
 /// What the words ask for.
@@ -43,11 +39,7 @@ pub(crate) fn task_of(args: &[String]) -> Task
     match args {
         [] => Task::Script,
         [only] => task_of_one(only),
-        [word, seed, readers, keys, gets] => load_asked(word, seed, readers, keys, gets, Some(1)),
-        [word, seed, readers, keys, gets, upqueries] => {
-            let upqueries = number_within(1, MAX_UPQUERIES, upqueries.as_bytes());
-            load_asked(word, seed, readers, keys, gets, upqueries)
-        }
+        [word, seed, readers, keys, gets] => load_asked(word, seed, readers, keys, gets),
         _ => Task::Explain(Misuse::Words),
     }
 }
@@ -63,16 +55,9 @@ fn task_of_one(word: &String) -> Task
     }
 }
 
-// A load of these words, and of how many upqueries may be under way.
-fn load_asked(
-    word: &String,
-    seed: &String,
-    readers: &String,
-    keys: &String,
-    gets: &String,
-    upqueries: Option<u32>,
-) -> Task
-    ensures task { result ≡ load_asked (string_bytes word.now) (string_bytes seed.now) (string_bytes readers.now) (string_bytes keys.now) (string_bytes gets.now) upqueries }
+// A load of these words.
+fn load_asked(word: &String, seed: &String, readers: &String, keys: &String, gets: &String) -> Task
+    ensures task { result ≡ load_asked (string_bytes word.now) (string_bytes seed.now) (string_bytes readers.now) (string_bytes keys.now) (string_bytes gets.now) }
     ensures runnable { IsRunnable result }
 {
     if word.as_str() == "load" {
@@ -81,7 +66,6 @@ fn load_asked(
             number_within(1, MAX_READERS, readers.as_bytes()),
             number_within(1, MAX_KEYS, keys.as_bytes()),
             number_within(0, MAX_GETS, gets.as_bytes()),
-            upqueries,
         )
     } else {
         Task::Explain(Misuse::Words)
@@ -104,16 +88,10 @@ fn number_within(least: u32, most: u32, word: &[u8]) -> Option<u32>
 }
 
 /// The load of these numbers, or which of them is missing first.
-fn load_of(
-    seed: Option<u64>,
-    readers: Option<u32>,
-    keys: Option<u32>,
-    gets: Option<u32>,
-    upqueries: Option<u32>,
-) -> Task
+fn load_of(seed: Option<u64>, readers: Option<u32>, keys: Option<u32>, gets: Option<u32>) -> Task
     requires readers { IfSome readers (λ n. (0 < n) × (n ≤ 1024)) }
     requires keys { IfSome keys (λ n. (0 < n) × (n ≤ 65536)) }
-    ensures task { result ≡ load_of seed readers keys gets upqueries }
+    ensures task { result ≡ load_of seed readers keys gets }
     ensures runnable { IsRunnable result }
 {
     let Some(seed) = seed else {
@@ -128,14 +106,10 @@ fn load_of(
     let Some(gets) = gets else {
         return Task::Explain(Misuse::Gets);
     };
-    let Some(upqueries) = upqueries else {
-        return Task::Explain(Misuse::Upqueries);
-    };
     Task::Load(Plan {
         seed,
         readers,
         keys,
         gets,
-        upqueries,
     })
 }

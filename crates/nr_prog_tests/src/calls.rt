@@ -24,6 +24,8 @@ const NEVER: usize = usize::MAX;
 
 const TWO_LINES: &[u8] = b"find 1 0\nfind 1 0\n";
 
+const USAGE: &str = "nr: usage: nr, nr steps, nr load SEED READERS KEYS GETS\n";
+
 const UNREAD: &str = "closed\nnr: the input could not be read\n";
 
 /// The program with these words, whose read of that number and whose write of that number fail, ends with this status,
@@ -85,22 +87,15 @@ fn a_line_that_can_not_be_written_is_left_out(rt: HostRuntime) {
 }
 
 #[test]
-fn upqueries_under_way_leave_the_report_as_it_is(rt: HostRuntime) {
+fn a_load_takes_four_numbers(rt: HostRuntime) {
     let told = (0, "gets 400\nanswered 400\nbalance ok\n");
     let words = &["load", "7", "4", "8", "100"];
     assert_ends(&rt, words, (b"", 0), NEVER, told);
-    for upqueries in ["1", "8", "64", "65536"] {
-        let words = &["load", "7", "4", "8", "100", upqueries];
-        assert_ends(&rt, words, (b"", 0), NEVER, told);
-    }
-}
-
-#[test]
-fn upqueries_are_refused_as_the_other_numbers_are(rt: HostRuntime) {
-    let told = (2, "nr: upqueries must be 1 to 65536\n");
-    for upqueries in ["0", "65537", "18446744073709551616", "x", ""] {
-        let words = &["load", "1", "1", "1", "1", upqueries];
-        assert_ends(&rt, words, (b"", 0), NEVER, told);
+    let usage = (2, USAGE);
+    assert_ends(&rt, &words[..4], (b"", 0), NEVER, usage);
+    for fifth in ["1", "64", ""] {
+        let words = &["load", "7", "4", "8", "100", fifth];
+        assert_ends(&rt, words, (b"", 0), NEVER, usage);
     }
 }
 
@@ -150,9 +145,8 @@ fn a_process_may_have_no_name(rt: HostRuntime) {
 
 #[test]
 fn arguments_that_can_not_be_read_are_told(rt: HostRuntime) {
-    let usage = "nr: usage: nr, nr steps, nr load SEED READERS KEYS GETS\n";
     let unknown = Err(ErrorKind::InvalidData.into());
-    assert_main(&rt, unknown, (2, usage));
+    assert_main(&rt, unknown, (2, USAGE));
 }
 
 #[test]

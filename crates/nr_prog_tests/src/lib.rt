@@ -18,4 +18,6 @@ mod same;
 #[cfg(test)]
 mod serving;
 #[cfg(test)]
+mod specified;
+#[cfg(test)]
 mod streams;

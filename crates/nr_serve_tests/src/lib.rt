@@ -31,6 +31,8 @@ mod scenes;
 #[cfg(test)]
 mod sleepers;
 #[cfg(test)]
+mod specified;
+#[cfg(test)]
 mod upqueries;
 #[cfg(test)]
 mod wakes;

@@ -1,7 +1,7 @@
 //! Whole loads. What is asserted does not depend on how the threads' steps fall.
 ghost use Rattle.std.specs.Prelude.{◌<◌, ◌≤◌};
 
-use nr_load::{Draws, LoadFault, LoadReport, Plan, run_load};
+use nr_load::{Draws, LoadFault, LoadReport, Plan, WindowedPlan, run_load, run_windowed_load};
 use nr_serve::{Gate, OpenGate};
 use std::process::Abort;
 use std::sync::Wait;
@@ -104,6 +104,22 @@ fn reported<R: Threads + Wait + Sync + Abort + AllocGlobal, G: Gate + Sync>(
     }
 }
 
+/// The report of a load that comes to its end, with that many upqueries under way.
+fn windowed<R: Threads + Wait + Sync + Abort + AllocGlobal>(
+    rt: &R,
+    plan: Plan,
+    upqueries: u32,
+) -> LoadReport
+    requires readers { (0 < plan.readers) × (plan.readers ≤ 1024) }
+    requires keys { (0 < plan.keys) × (plan.keys ≤ 65536) }
+{
+    let windowed = WindowedPlan { plan, upqueries };
+    match run_windowed_load(rt, rt.alloc(), &windowed, &OpenGate) {
+        Ok(report) => report,
+        Err(fault) => panic!(rt; "the load ended: {fault}"),
+    }
+}
+
 /// How many gets were made and answered, and whether the report is in balance.
 fn told(report: &LoadReport) -> (u64, u64, bool) {
     (report.gets, report.answered, report.balance())
@@ -117,7 +133,6 @@ fn two_readers_meet_in_one_get(rt: HostRuntime) {
         readers: 2,
         keys: 1,
         gets: 1,
-        upqueries: 1,
     };
     let report = reported(&rt, &plan, &meeting);
     let wanted = LoadReport {
@@ -138,7 +153,6 @@ fn two_readers_meet_in_each_of_fifty_gets(rt: HostRuntime) {
         readers: 2,
         keys: 8,
         gets: 50,
-        upqueries: 1,
     };
     let report = reported(&rt, &plan, &meeting);
     assert_eq!(rt;
@@ -182,15 +196,15 @@ fn of_three_keys(seed: u64) -> LoadReport {
 #[test]
 fn the_draws_are_the_same_however_many_upqueries_are_under_way(rt: HostRuntime) {
     for seed in 0..20 {
+        let plan = Plan {
+            seed,
+            readers: 1,
+            keys: 3,
+            gets: 4,
+        };
+        assert_eq!(rt; reported(&rt, &plan, &OpenGate), of_three_keys(seed));
         for upqueries in [0, 1, 8, 64, 65536] {
-            let plan = Plan {
-                seed,
-                readers: 1,
-                keys: 3,
-                gets: 4,
-                upqueries,
-            };
-            assert_eq!(rt; reported(&rt, &plan, &OpenGate), of_three_keys(seed));
+            assert_eq!(rt; windowed(&rt, plan, upqueries), of_three_keys(seed));
         }
     }
 }
@@ -203,9 +217,8 @@ fn many_upqueries_under_way_are_in_balance(rt: HostRuntime) {
             readers: 24,
             keys: 512,
             gets: 100,
-            upqueries,
         };
-        let report = reported(&rt, &plan, &OpenGate);
+        let report = windowed(&rt, plan, upqueries);
         assert_eq!(rt; told(&report), (2400, 2400, true));
         assert_eq!(rt; report.asked, 0);
     }
@@ -231,7 +244,6 @@ fn fills_of<R: Threads + Wait + Sync + Abort + AllocGlobal>(rt: &R, seed: u64) -
         readers: 1,
         keys: 8,
         gets: 400,
-        upqueries: 1,
     };
     let report = reported(rt, &plan, &Yielding);
     assert!(rt; report.fills <= 10 && report.asked == 0);
@@ -246,7 +258,6 @@ fn a_thousand_readers_on_one_key(rt: HostRuntime) {
         readers: 1024,
         keys: 1,
         gets: 2,
-        upqueries: 1,
     };
     match run_load(&rt, rt.alloc(), &plan, &OpenGate) {
         Ok(report) => assert_eq!(rt; told(&report), (2048, 2048, true)),
@@ -273,7 +284,6 @@ fn a_gate_that_never_opens_ends_the_load(rt: HostRuntime) {
         readers: 2,
         keys: 1,
         gets: 1,
-        upqueries: 1,
     };
     let ended = run_load(&rt, rt.alloc(), &plan, &ShutGate);
     assert_eq!(rt; ended, Err(LoadFault::Barred));
@@ -287,9 +297,9 @@ fn refused_memory_ends_a_load(rt: HostRuntime) {
         readers: 2,
         keys: 2,
         gets: 3,
-        upqueries: 8,
     };
-    match run_load(&rt, rt.alloc(), &plan, &OpenGate) {
+    let windowed = WindowedPlan { plan, upqueries: 8 };
+    match run_windowed_load(&rt, rt.alloc(), &windowed, &OpenGate) {
         Ok(report) => assert_eq!(rt; told(&report), (6, 6, true)),
         Err(fault) => assert!(rt; matches!(fault, LoadFault::Memory | LoadFault::Thread)),
     }

@@ -3,6 +3,7 @@
 ghost use Rattle.std.specs.Prelude.{◌≡◌, ◌<◌, ◌≤◌, ◌+◌, All};
 
 use crate::opened::two_readers;
+use crate::same::is_same;
 use nr_map::{Asked, Reader, ReaderMap, Shape, Ticket, Writer};
 use nr_model::OpenFault;
 use nr_trigger::{Poster, Taker, Triggers};
@@ -32,7 +33,7 @@ fn queue_of<R: Abort + AllocGlobal>(rt: &R) -> (Triggers, Taker, Poster, Poster)
     (triggers, taker, one, other)
 }
 
-fn sent(rt: &impl Abort, map: &ReaderMap, reader: &mut Reader, key: u32) -> Ticket
+pub(crate) fn sent(rt: &impl Abort, map: &ReaderMap, reader: &mut Reader, key: u32) -> Ticket
     requires own { reader.old.table ≡ map.now }
     requires key { key < map.now.shape.keys }
     ensures own { reader.new.table ≡ map.now }
@@ -100,6 +101,28 @@ fn refused_memory_is_told_and_opens_nothing(rt: HostRuntime) {
     assert!(rt; small_queue_of(rt.alloc(), 3, 2).is_ok());
     assert!(rt; large_queue_of(rt.alloc(), 65_537, 1_025).is_ok());
     assert!(rt; large_map_of(rt.alloc(), 131_073, 1_025).is_ok());
+}
+
+// How each opening of those sizes is refused, where it is.
+fn refused(alloc: Global, capacity: u32, posters: u32) -> [Option<OpenFault>; 2] {
+    [
+        small_queue_of(alloc, capacity, posters).err(),
+        large_queue_of(alloc, capacity, posters).err(),
+    ]
+}
+
+#[test]
+fn queues_have_limits(rt: HostRuntime) {
+    let bad = Some(OpenFault::BadSize);
+    for (capacity, posters) in [(1, 1), (65_536, 1), (1, 1_024)] {
+        is_same(&rt, &refused(rt.alloc(), capacity, posters), &[None, None]);
+    }
+    for (capacity, posters) in [(65_537, 1), (1, 1_025)] {
+        is_same(&rt, &refused(rt.alloc(), capacity, posters), &[bad, None]);
+    }
+    for (capacity, posters) in [(0, 1), (1, 0), (4_194_304, 1), (1, 65_536)] {
+        is_same(&rt, &refused(rt.alloc(), capacity, posters), &[bad, bad]);
+    }
 }
 
 // Posts the ticket, again whenever it comes back.

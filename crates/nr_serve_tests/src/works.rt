@@ -34,7 +34,7 @@ fn works<R: Wait>(rt: &R, alloc: Global, client: &mut Client<'_, OpenGate>, lobb
     ensures { client.new.map ≡ client.old.map }
 {
     let mut draws = Draws::open(1, 1, 1);
-    load_gets(rt, alloc, client, &mut draws, 5, lobby).0
+    load_gets(rt, alloc, client, &mut draws, 5, lobby)
 }
 
 // The worker's gets where a liar filled its key, and then in a closed lobby; and whether tokens kept something.

@@ -14,7 +14,7 @@ use Rattle.nr_load.proofs.workers.work.Goals as goal
 
 pub returns-clause-serves : goal.returns-clause-serves
 returns-clause-serves g c =
-    let load = c.load_gets-guest in
+    let load = c.make_gets-guest in
     let old = c.of_service-client.result.hands in
     let new = load.new.client.hands in
     let table : c.args.shared.now.service.map ≡ c.args.reader.table = sym c.requires.own in

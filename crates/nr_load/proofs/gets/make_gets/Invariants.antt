@@ -1,6 +1,6 @@
 use Rattle.std.proofs.Common.{◌≡◌, ◌≤◌, length, replicate}
 use Rattle.nr_load.proofs.Working.{Begins}
-use Rattle.nr_load.proofs.gets.load_gets.Given as goal
+use Rattle.nr_load.proofs.gets.make_gets.Given as goal
 
 abbrev pub invariant-loop-made : goal.invariant-loop-made
 invariant-loop-made g l = record {

@@ -6,7 +6,7 @@ use Rattle.nr_load.specs.declared.fault.LoadFault.{LoadFault}
 use Rattle.nr_load.specs.Drawn.{drawn, drawn_on}
 use Rattle.nr_load.specs.Works.{GetsKey, Judged, Works, answers, of_gets}
 use Rattle.nr_load.proofs.Working.{Begins, answers_one, ends, ends_with, goes_on, judged_long, judged_told}
-use Rattle.nr_load.proofs.gets.load_gets.Goals as goal
+use Rattle.nr_load.proofs.gets.make_gets.Goals as goal
 
 pub returns-then-is_closed_as-clause-works : goal.returns-then-is_closed_as-clause-works
 returns-then-is_closed_as-clause-works g c =

@@ -3,7 +3,7 @@ use Rattle.std.proofs.lemmas.Option.{get_or_from_slice_get}
 use Rattle.nr_core.specs.declared.shape.Shape.{Shape}
 use Rattle.nr_serve.specs.Services.{ServiceSeen}
 use Rattle.nr_trigger.specs.Tokens.{PosterSeen}
-use Rattle.nr_load.proofs.load.run_load.Goals as goal
+use Rattle.nr_load.proofs.load.run_with_window.Goals as goal
 
 pub serve_all-requires-clause-tokens : goal.serve_all-requires-clause-tokens
 serve_all-requires-clause-tokens g c κs within =
