@@ -1,4 +1,5 @@
 mod KnownWords
 mod ProgramLemmas
+mod ScheduleLemmas
 mod TaskLemmas
 mod WordLemmas

@@ -1,10 +1,10 @@
 -- The lines that the program writes of faults, and of words that it can do nothing with.
 use Rattle.std.specs.Prelude.{ℕ, ◌⊎◌, List, [], ◌∷◌, ◌++◌, Option, codes}
 use Rattle.std.specs.Io.KnownBytes.{Appends}
-use Rattle.nr_lines.specs.declared.fault.RunFault.{RunFault}
-use Rattle.nr_lines.specs.declared.fault.RunFault.TheVariants as faults
-use Rattle.nr_lines.specs.Lines.{line_feed}
-use Rattle.nr_lines.specs.Output.{AppendsSome}
+use Rattle.nr_text.specs.declared.fault.RunFault.{RunFault}
+use Rattle.nr_text.specs.declared.fault.RunFault.TheVariants as faults
+use Rattle.nr_text.specs.Lines.{line_feed}
+use Rattle.nr_text.specs.Output.{AppendsSome}
 use Rattle.nr_prog.specs.declared.task.Misuse.{Misuse}
 use Rattle.nr_prog.specs.declared.task.Misuse.TheVariants as misuse
 

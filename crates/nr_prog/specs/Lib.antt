@@ -1,3 +1,8 @@
+pub mod ScheduleCommands
+pub mod ScheduleOpened
+pub mod ScheduleSpelling
+pub mod ScheduleMachine
+pub mod ScheduleRuns
 pub mod Faults
 pub mod Tasks
 pub mod Loads

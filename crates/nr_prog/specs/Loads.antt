@@ -2,8 +2,8 @@
 use Rattle.std.specs.Prelude.{ℕ, ◌≡◌, ◌+◌, ◌==◌, ◌⊎◌, Bool, if◌then◌else◌, List, ◌++◌, codes, Option, Result, Ok, Err}
 use Rattle.std.specs.Fmt.{decimal}
 use Rattle.std.specs.Io.KnownBytes.{Appends}
-use Rattle.nr_lines.specs.declared.fault.RunFault.TheVariants as faults
-use Rattle.nr_lines.specs.Output.{AppendsSome}
+use Rattle.nr_text.specs.declared.fault.RunFault.TheVariants as faults
+use Rattle.nr_text.specs.Output.{AppendsSome}
 use Rattle.nr_load.specs.declared.fault.LoadFault.{LoadFault}
 use Rattle.nr_load.specs.declared.fault.LoadFault.TheVariants as load_faults
 use Rattle.nr_load.specs.declared.load.LoadReport.{LoadReport}

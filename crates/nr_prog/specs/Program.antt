@@ -1,9 +1,9 @@
 -- How the program ends: its exit status, and its last lines where it has some.
 use Rattle.std.specs.Prelude.{ℕ, ◌≡◌, ◌⊎◌, List, Option, Ok, Err}
-use Rattle.nr_lines.specs.declared.fault.RunFault.{RunFault}
-use Rattle.nr_lines.specs.Limits.{longest_input}
-use Rattle.nr_lines.specs.Run.{Runs}
-use Rattle.nr_schedule.specs.Machine.{schedule_text}
+use Rattle.nr_text.specs.declared.fault.RunFault.{RunFault}
+use Rattle.nr_text.specs.Limits.{longest_input}
+use Rattle.nr_text.specs.Run.{Runs}
+use Rattle.nr_prog.specs.ScheduleMachine.{schedule_text}
 use Rattle.nr_script.specs.Machine.{script_text}
 use Rattle.nr_prog.specs.declared.task.Task.{Task}
 use Rattle.nr_prog.specs.declared.task.Task.TheVariants.{Script, Schedule, Load, Explain}

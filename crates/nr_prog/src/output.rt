@@ -1,8 +1,8 @@
 //! Where the program's own lines go.
 ghost use Rattle.std.specs.Prelude.{OnErr};
-ghost use Rattle.nr_lines.specs.Output.{Sends};
+ghost use Rattle.nr_text.specs.Output.{Sends};
 
-use nr_lines::{RunFault, write_all};
+use nr_text::{RunFault, write_all};
 use std::io::Write;
 
 /// Where lines and reports go: any writer. Only where a write may fail is one cut short.

@@ -2,9 +2,9 @@
 ghost use Rattle.std.specs.Prelude.{◌≡◌, ◌<◌, ◌≤◌, IfOk, IfErr, OnOk, Ok, Err, string_bytes};
 ghost use Rattle.nr_prog.specs.Loads.{MayComeTo, balance_word, report_status, report_text};
 
-use nr_lines::set_text;
 use nr_load::{LoadFault, LoadReport, Plan, run_load};
 use nr_serve::OpenGate;
+use nr_text::set_text;
 use std::alloc::Global;
 use std::fmt;
 use std::fmt::Write;

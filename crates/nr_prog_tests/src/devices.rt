@@ -1,6 +1,6 @@
 //! A reader and a writer that behave badly, and what a run between them comes to.
 //! No writer here takes more bytes than it is given: a writer's contract forbids it.
-use nr_lines::{INPUT_LIMIT, RunFault};
+use nr_text::{INPUT_LIMIT, RunFault};
 use std::alloc::Global;
 use std::cell::Cell;
 use std::io;
@@ -161,7 +161,7 @@ impl<'a> Trial<'a> {
         };
         let end = match self.kind {
             Kind::Script => nr_script::run_within(alloc, self.limit, &mut source, &mut sink),
-            Kind::Schedule => nr_schedule::run_within(alloc, self.limit, &mut source, &mut sink),
+            Kind::Schedule => nr_prog::run_steps_within(alloc, self.limit, &mut source, &mut sink),
         };
         let written = self.text.len().checked_sub(sink.wanted.len());
         Outcome {

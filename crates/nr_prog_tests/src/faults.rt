@@ -2,7 +2,7 @@
 //! schedule are long enough for a slot to be pinned, or held, while its key goes on.
 use crate::devices::{Kind, Outcome, Trial};
 use crate::same::is_same;
-use nr_lines::RunFault;
+use nr_text::RunFault;
 use std::process::Abort;
 
 const SCRIPT: &[u8] = b"open 1 2 1\n\

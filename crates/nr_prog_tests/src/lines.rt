@@ -1,6 +1,6 @@
 //! Damaged lines, long lines, and inputs of 64 bytes where no more are allowed.
 use crate::devices::{Kind, Outcome, Trial};
-use nr_lines::RunFault;
+use nr_text::RunFault;
 use std::alloc::AllocError;
 use std::process::Abort;
 use std::test::Fail;

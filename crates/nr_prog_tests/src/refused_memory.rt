@@ -3,9 +3,9 @@
 use crate::devices::{Kind, Trial};
 use crate::same::is_same;
 use nr_core::{AskReply, Core};
-use nr_lines::RunFault;
 use nr_map::{Reader, ReaderMap, Writer};
 use nr_model::OpenFault;
+use nr_text::RunFault;
 use std::alloc::Global;
 use std::process::Abort;
 use std::test::Fail;

@@ -1,6 +1,6 @@
 //! What is served, read and written, by a responder with one answer.
 use crate::same::is_same;
-use nr_lines::{Responder, RunFault, serve};
+use nr_text::{Responder, RunFault, serve};
 use std::alloc::Global;
 use std::cell::Cell;
 use std::io;

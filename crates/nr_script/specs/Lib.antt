@@ -1,3 +1,12 @@
+pub mod Answers
+pub mod Said
+pub mod WriterCalls
+pub mod MapState
+pub mod Hands
+pub mod Rounds
+pub mod Alone
+pub mod Lines
+pub mod WriterMakes
 pub mod Commands
 pub mod Machine
 pub mod Opened

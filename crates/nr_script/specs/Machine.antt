@@ -1,14 +1,14 @@
 -- A script from its first line on: closed until it is opened; its reply to each line, and its text.
 use Rattle.std.specs.Prelude.{ℕ, if◌then◌else◌, Bool, false, List, Option, None, Some, Result, Ok, Err}
-use Rattle.nr_lines.specs.declared.fault.RunFault.{RunFault}
-use Rattle.nr_lines.specs.declared.fault.RunFault.TheVariants as faults
-use Rattle.nr_lines.specs.Dialogue.{answer_command, in_words}
-use Rattle.nr_lines.specs.Plain.{or_bad}
-use Rattle.nr_lines.specs.Text.{text}
+use Rattle.nr_text.specs.declared.fault.RunFault.{RunFault}
+use Rattle.nr_text.specs.declared.fault.RunFault.TheVariants as faults
+use Rattle.nr_text.specs.Dialogue.{answer_command, in_words}
+use Rattle.nr_text.specs.Plain.{or_bad}
+use Rattle.nr_text.specs.Text.{text}
 use Rattle.nr_text.specs.Grammar.{words}
 use Rattle.nr_text.specs.Opening.{is_in_limits}
-use Rattle.nr_alone.specs.Answers.{Answer}
-use Rattle.nr_alone.specs.Answers as answers
+use Rattle.nr_script.specs.Answers.{Answer}
+use Rattle.nr_script.specs.Answers as answers
 use Rattle.nr_script.specs.declared.answer.ScriptRefusal.{ScriptRefusal}
 use Rattle.nr_script.specs.declared.answer.ScriptRefusal.TheVariants as refusals
 use Rattle.nr_script.specs.declared.command.Command.{Command}

@@ -6,14 +6,14 @@ use Rattle.nr_model.specs.declared.rows.TooMany.{TooMany}
 use Rattle.nr_model.specs.declared.calls.Call.{Call}
 use Rattle.nr_model.specs.declared.calls.Call.TheVariants as calls
 use Rattle.nr_model.specs.Maps.{key_count, state_of, number_of}
-use Rattle.nr_alone.specs.Answers.{Answer}
-use Rattle.nr_alone.specs.declared.answer.PinRefusal.{PinRefusal as MapRefusal}
-use Rattle.nr_alone.specs.declared.answer.PinRefusal.TheVariants as map_refusals
-use Rattle.nr_alone.specs.MapState.{MapState, MapOutcome, answer_again, answer_call, answer_of_reader, answer_pinning}
-use Rattle.nr_alone.specs.MapState.{answer_show, answer_unpin, opened_map}
-use Rattle.nr_lines.specs.Dialogue.{IsOutcome}
-use Rattle.nr_lines.specs.declared.fault.LineError.{LineError}
-use Rattle.nr_lines.specs.declared.fault.LineError.TheVariants as errors
+use Rattle.nr_script.specs.Answers.{Answer}
+use Rattle.nr_script.specs.declared.alone.answer.PinRefusal.{PinRefusal as MapRefusal}
+use Rattle.nr_script.specs.declared.alone.answer.PinRefusal.TheVariants as map_refusals
+use Rattle.nr_script.specs.MapState.{MapState, MapOutcome, answer_again, answer_call, answer_of_reader, answer_pinning}
+use Rattle.nr_script.specs.MapState.{answer_show, answer_unpin, opened_map}
+use Rattle.nr_text.specs.Dialogue.{IsOutcome}
+use Rattle.nr_text.specs.declared.fault.LineError.{LineError}
+use Rattle.nr_text.specs.declared.fault.LineError.TheVariants as errors
 use Rattle.nr_names.specs.declared.faults.NameFault.{NameFault}
 use Rattle.nr_names.specs.declared.faults.NameFault.TheVariants as names
 use Rattle.nr_names.specs.declared.table.TheConstants.{LONGEST_NAME}

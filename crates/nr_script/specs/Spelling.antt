@@ -1,8 +1,8 @@
 -- How answers are spelled.
 use Rattle.std.specs.Prelude.{ℕ, List, codes, Result, Ok, Err}
 use Rattle.nr_text.specs.Spelling.{spelled_reply}
-use Rattle.nr_alone.specs.Answers.{Answer}
-use Rattle.nr_alone.specs.Answers as answer
+use Rattle.nr_script.specs.Answers.{Answer}
+use Rattle.nr_script.specs.Answers as answer
 use Rattle.nr_script.specs.declared.answer.ScriptRefusal.{ScriptRefusal}
 use Rattle.nr_script.specs.declared.answer.ScriptRefusal.TheVariants as refusal
 

@@ -1,7 +1,6 @@
 //! What a line is answered.
-use nr_alone::Said;
-use nr_lines::LineError;
-use nr_text::Rows;
+use crate::alone::{PinRefusal, Said};
+use nr_text::{LineError, Rows};
 use std::fmt;
 use std::fmt::Write;
 
@@ -19,23 +18,23 @@ pub(crate) enum ScriptRefusal {
     NotHolding,
 }
 
-impl From<nr_alone::PinRefusal> for ScriptRefusal {
+impl From<PinRefusal> for ScriptRefusal {
     ghost use Rattle.std.specs.Prelude.{◌≡◌};
     ghost use Rattle.nr_script.specs.Opened.{refused};
 
     ghost from_gives = { λ map_refusal refusal. refusal ≡ refused map_refusal };
 
-    fn from(refusal: nr_alone::PinRefusal) -> ScriptRefusal {
+    fn from(refusal: PinRefusal) -> ScriptRefusal {
         match refusal {
-            nr_alone::PinRefusal::Holding => ScriptRefusal::Holding,
-            nr_alone::PinRefusal::NotHolding => ScriptRefusal::NotHolding,
+            PinRefusal::Holding => ScriptRefusal::Holding,
+            PinRefusal::NotHolding => ScriptRefusal::NotHolding,
         }
     }
 }
 
 impl From<ScriptRefusal> for LineError<ScriptRefusal> {
     ghost use Rattle.std.specs.Prelude.{◌≡◌};
-    ghost use Rattle.nr_lines.specs.declared.fault.LineError.TheVariants.{Refused};
+    ghost use Rattle.nr_text.specs.declared.fault.LineError.TheVariants.{Refused};
 
     ghost from_gives = { λ refusal error. error ≡ Refused refusal };
 
@@ -50,7 +49,7 @@ pub(crate) struct AnswerWord<'a>(pub(crate) &'a Said<'a>);
 
 impl fmt::Display for AnswerWord<'_> {
     ghost use Rattle.std.specs.Prelude.{Some};
-    ghost use Rattle.nr_alone.specs.Said.{answer_said};
+    ghost use Rattle.nr_script.specs.Said.{answer_said};
     ghost use Rattle.nr_script.specs.Spelling.{spelled_script_answer};
 
     ghost output = { λ word. Some (spelled_script_answer (answer_said word.0.now)) };

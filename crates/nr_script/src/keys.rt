@@ -1,13 +1,12 @@
 //! What stands for a key on the lines of a script.
 ghost use Rattle.std.specs.Prelude.{◌≡◌, ◌<◌, ◌≤◌, IfOk, OnOk, Ok, Some};
-ghost use Rattle.nr_lines.specs.Dialogue.{IsOutcome};
+ghost use Rattle.nr_text.specs.Dialogue.{IsOutcome};
 ghost use Rattle.nr_script.specs.Opened.{NamesFit, adds_key, key_for_reader, keys_opened, name_error, numbered_key};
 
 use crate::answer::ScriptRefusal;
 use crate::command::KeyWord;
-use nr_lines::LineError;
 use nr_names::{NameFault, NameTable};
-use nr_text::MAX_KEYS;
+use nr_text::{LineError, MAX_KEYS};
 use std::alloc::{AllocError, Global};
 
 /// Keys stand on lines by their numbers, or by names.

@@ -1,17 +1,16 @@
 //! A script over a running map: closed until it is opened, and then a map.
 ghost use Rattle.std.specs.Prelude.{◌≡◌, None, Some};
-ghost use Rattle.nr_lines.specs.Dialogue.{IsOutcome};
+ghost use Rattle.nr_text.specs.Dialogue.{IsOutcome};
 ghost use Rattle.nr_script.specs.Commands.{script_command};
 ghost use Rattle.nr_script.specs.Machine.{answer_script_line, answer_closed_script, takes_memory};
 ghost use Rattle.nr_text.specs.Grammar.{words};
 
+use crate::alone::Answer;
 use crate::answer::{AnswerWord, ScriptRefusal};
 use crate::command::{Command, parse};
 use crate::opened::Opened;
-use nr_alone::Answer;
-use nr_lines::{LineError, Responder, RunFault, set_text};
 use nr_model::RowSet;
-use nr_text::LineRoom;
+use nr_text::{LineError, LineRoom, Responder, RunFault, set_text};
 use std::alloc::Global;
 
 /// A script's state. It begins closed. It can't be dropped: its map must be closed.

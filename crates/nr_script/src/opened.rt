@@ -1,20 +1,19 @@
 //! A script that was opened: a map, and what stands for its keys on the script's lines.
 ghost use Rattle.std.specs.Prelude.{◌≡◌, ◌<◌, ◌≤◌, ◌-◌, length, true, IfOk, OnOk, Ok};
-ghost use Rattle.nr_lines.specs.Dialogue.{IsOutcome};
+ghost use Rattle.nr_text.specs.Dialogue.{IsOutcome};
 ghost use Rattle.nr_model.specs.Maps.{SetFits, key_count};
 ghost use Rattle.nr_model.specs.declared.calls.Call.TheVariants as model;
-ghost use Rattle.nr_alone.specs.WriterCalls.{model_call, writer_key};
+ghost use Rattle.nr_script.specs.WriterCalls.{model_call, writer_key};
 ghost use Rattle.nr_script.specs.declared.command.Command.TheVariants as command;
 ghost use Rattle.nr_text.specs.Opening.{is_in_limits};
 ghost use Rattle.nr_script.specs.Opened.{AnswersCommand, adds_key, answer_opened_script, called, found_by_reader, found_key, found_reader, found_set, script_has_reader, with_found};
 
+use crate::alone::{Alone, Answer, WriterCall};
 use crate::answer::ScriptRefusal;
 use crate::command::{Command, KeyWord};
 use crate::keys::Keys;
-use nr_alone::{Alone, Answer, WriterCall};
-use nr_lines::LineError;
 use nr_model::{OpenFault, RowSet};
-use nr_text::{GivenRows, Opening};
+use nr_text::{GivenRows, LineError, Opening};
 use std::alloc::{AllocError, Global};
 use std::marker::Model;
 

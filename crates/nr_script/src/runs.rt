@@ -1,12 +1,12 @@
 //! A script, from a reader to a writer.
 ghost use Rattle.std.specs.Prelude.{◌≡◌, ◌<◌, ◌≤◌, ◌⊎◌, length, IfOk, OnOk, IfErr, Err};
-ghost use Rattle.nr_lines.specs.Limits.{longest_input};
-ghost use Rattle.nr_lines.specs.Lines.{lines};
-ghost use Rattle.nr_lines.specs.Run.{Runs};
+ghost use Rattle.nr_text.specs.Limits.{longest_input};
+ghost use Rattle.nr_text.specs.Lines.{lines};
+ghost use Rattle.nr_text.specs.Run.{Runs};
 ghost use Rattle.nr_script.specs.Machine.{replies_of, script_text};
 
 use crate::machine::ScriptMachine;
-use nr_lines::{INPUT_LIMIT, RunFault, serve};
+use nr_text::{INPUT_LIMIT, RunFault, serve};
 use std::alloc::Global;
 use std::io::{Read, Write};
 

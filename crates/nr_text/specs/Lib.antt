@@ -1,4 +1,12 @@
+pub mod Limits
+pub mod Plain
+pub mod Lines
+pub mod Dialogue
+pub mod Text
+pub mod Input
+pub mod Output
+pub mod Run
+pub mod Words
 pub mod Grammar
 pub mod Opening
 pub mod Spelling
-pub mod Words

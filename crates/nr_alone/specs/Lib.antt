@@ -1,9 +1,0 @@
-pub mod Answers
-pub mod Said
-pub mod WriterCalls
-pub mod MapState
-pub mod Hands
-pub mod Rounds
-pub mod Alone
-pub mod Lines
-pub mod WriterMakes

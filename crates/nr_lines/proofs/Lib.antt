@@ -1,4 +1,0 @@
-mod InputLemmas
-mod LineLemmas
-mod RunLemmas
-mod TextLemmas

@@ -1,0 +1,141 @@
+-- The history is exactly that of the calls that were made.
+use Rattle.std.proofs.Common.{◌≡◌, ◌≢◌, ◌<◌, ◌≤◌, ℕ, suc, ◌+◌, List, [], ◌∷◌, ◌++◌, Bool, cond, ◌==◌, length, map, take}
+use Rattle.std.proofs.Common.{drop, get_or, refl, sym, ap, ◌∙◌, subst, arith, eq-eqb, ne_eqb}
+use Rattle.std.proofs.lemmas.List.{append-nil, append_cancel_left, get_or-map, take-append-drop}
+use Rattle.std.proofs.lemmas.List.Elements.{filter-append}
+use Rattle.std.proofs.lemmas.List.Sums.{sum_by-cons}
+use Rattle.std.proofs.Math.Seq.{take-append_seam}
+use Rattle.std.specs.List.{count_by}
+use mathlib.Core.Logic.{dite}
+use native.Mathlib.Decide.{ℕ_discrete}
+use Rattle.nr_model.specs.Histories.{Entry, IsLegal, entries_of}
+use Rattle.nr_model.specs.Laws.{LegalBegins}
+use Rattle.nr_board.specs.Callers.{Caller, Table, map_at_opening}
+use Rattle.nr_board.proofs.Entries.{callers_before}
+use Rattle.nr_board.specs.Entries.{AreCallers}
+use Rattle.nr_map.specs.Rounds.{EntriesAreCallers}
+use Rattle.nr_board.specs.Rule.{StartsWith}
+use Rattle.nr_map.specs.Hands.{Handed, idle}
+use Rattle.nr_script.specs.Hands.{caller_in, mine_of}
+use Rattle.nr_script.specs.Rounds.{IsSoundWriter}
+use Rattle.nr_script.specs.Alone.{HasJust, IsHand, calls_of, log_of, made, one_each}
+
+pub entries_own : (entry : Entry) (log : List Entry) (caller : ℕ) → entry.caller ≡ caller
+    → entries_of (entry ∷ log) caller ≡ entry ∷ entries_of log caller
+entries_own entry log caller is =
+    ap (λ (b : Bool). cond b (entry ∷ entries_of log caller) (entries_of log caller)) (eq-eqb entry.caller caller is)
+
+pub entries_other : (entry : Entry) (log : List Entry) (caller : ℕ) → entry.caller ≢ caller
+    → entries_of (entry ∷ log) caller ≡ entries_of log caller
+entries_other entry log caller isnt =
+    ap (λ (b : Bool). cond b (entry ∷ entries_of log caller) (entries_of log caller)) (ne_eqb entry.caller caller isnt)
+
+abbrev head_or : Entry → List Entry → Entry
+head_or d [] = d
+head_or d (x ∷ xs) = x
+
+none_at_all : (xs : List Entry) → ((c : ℕ) → entries_of xs c ≡ []) → xs ≡ []
+none_at_all [] none = refl
+none_at_all (x ∷ xs) none =
+    let some_there : x ∷ entries_of xs x.caller ≡ [] = sym (entries_own x xs x.caller refl) ∙ none x.caller in
+    absurd (cc)
+
+same_entry : (x e : Entry) (xs : List Entry) → entries_of (x ∷ xs) x.caller ≡ entries_of (e ∷ []) x.caller → x ≡ e
+same_entry x e xs same = dite (ℕ_discrete e.caller x.caller)
+    (λ is. ap (head_or x) (sym (entries_own x xs x.caller refl) ∙ same ∙ entries_own e [] x.caller is))
+    (λ isnt.
+    let some_there : x ∷ entries_of xs x.caller ≡ []
+    = sym (entries_own x xs x.caller refl) ∙ same ∙ entries_other e [] x.caller isnt in
+    absurd (cc))
+
+-- the entries of one caller tell a history of at most one entry
+pub rest_is : (rest es : List Entry) → length es ≤ 1 → ((c : ℕ) → entries_of rest c ≡ entries_of es c) → rest ≡ es
+rest_is rest [] few same = none_at_all rest same
+rest_is [] (e ∷ []) few same =
+    let some_there : e ∷ [] ≡ [] = sym (entries_own e [] e.caller refl) ∙ sym (same e.caller) in
+    absurd (cc)
+rest_is (x ∷ xs) (e ∷ []) few same =
+    let is : x ≡ e = same_entry x e xs (same x.caller) in
+    let none : (c : ℕ) → entries_of xs c ≡ [] = λ c.
+    append_cancel_left (entries_of (x ∷ []) c) (entries_of xs c) []
+    (sym (filter-append (λ (k : Entry). k.caller == c) (x ∷ []) xs) ∙ same c
+    ∙ ap (λ (k : Entry). entries_of (k ∷ []) c) (sym is) ∙ sym (append-nil (entries_of (x ∷ []) c))) in
+    ap (λ (l : List Entry). x ∷ l) (none_at_all xs none) ∙ ap (λ (k : Entry). k ∷ []) is
+rest_is rest (e ∷ f ∷ es) few same = absurd (omega arith)
+
+-- a history that has exactly the calls, and one that has also those that were made since
+pub exact_step : (log later es : List Entry) → length es ≤ 1 → StartsWith later log → (before now : ℕ → List Entry)
+    → ((c : ℕ) → entries_of log c ≡ before c) → ((c : ℕ) → entries_of later c ≡ now c)
+    → ((c : ℕ) → now c ≡ before c ++ entries_of es c) → later ≡ log ++ es
+exact_step log later es few goes before now was is grown =
+    let same : (c : ℕ) → entries_of goes.rest c ≡ entries_of es c = λ c.
+    append_cancel_left (entries_of log c) (entries_of goes.rest c) (entries_of es c)
+    (sym (filter-append (λ (k : Entry). k.caller == c) log goes.rest)
+    ∙ ap (λ (l : List Entry). entries_of l c) (sym goes.is) ∙ is c ∙ grown c
+    ∙ ap (λ (l : List Entry). l ++ entries_of es c) (sym (was c))) in
+    goes.is ∙ ap (λ (l : List Entry). log ++ l) (rest_is goes.rest es few same)
+
+count_all : (xs : List Entry) → count_by one_each xs ≡ length xs
+count_all [] = refl
+count_all (x ∷ xs) = omega (arith, sum_by-cons (λ (y : Entry). cond (one_each y) 1 0) x xs, count_all xs)
+
+many_callers : (xs : List Handed) → length (map caller_in xs) ≡ length xs
+many_callers [] = refl
+many_callers (x ∷ xs) = ap suc (many_callers xs)
+
+pub many_mines : (xs : List Handed) → length (map mine_of xs) ≡ length xs
+many_mines [] = refl
+many_mines (x ∷ xs) = ap suc (many_mines xs)
+
+-- the calls of the caller at a place
+pub calls_at : (mine : List Entry) (hands : List Handed) (at : ℕ) (other : Handed) → at < length hands
+    → calls_of mine (map mine_of hands) (suc at) ≡ mine_of (get_or hands at other)
+calls_at mine hands at other low = get_or-map mine_of hands at other [] low
+
+next : (at : ℕ) → suc at ≡ at + 1
+next at = omega arith
+
+-- a history with exactly the calls that were made is as long as they are many
+pub as_many : EntriesAreCallers → LegalBegins
+    → (table : Table) (w : Caller) (hands : List Handed) (log : List Entry) → w.table ≡ table → w.number ≡ 0
+    → length hands ≡ table.shape.readers
+    → ((at : ℕ) (other : Handed) → at < length hands → IsHand table at (get_or hands at other))
+    → IsSoundWriter w → StartsWith w.seen log → HasJust log w hands → length log ≡ made w hands
+as_many entries begins table w hands log own zero_is count places sound goes just =
+    let size : length (map caller_in hands) ≡ length hands = many_callers hands in
+    let inside : (at : ℕ) → at < length (map caller_in hands) → at < length hands
+    = λ at low. omega (arith, size, low) in
+    sym (count_all log) ∙
+    entries (record w { seen = log }) (map caller_in hands) one_each (record {
+      number = zero_is;
+      own = ap (entries_of log) zero_is ∙ just 0;
+      legal =
+          begins (map_at_opening w.table) log goes.rest
+          (subst (λ (l : List Entry). IsLegal (map_at_opening w.table) l) goes.is sound.legal);
+      callers =
+          callers_before w.table.shape log goes.rest
+          (subst (λ (l : List Entry). AreCallers w.table.shape l) goes.is sound.callers);
+      count = size ∙ count ∙ ap (λ (t : Table). t.shape.readers) (sym own);
+      numbers = λ at other low.
+          ap (λ (r : Caller). r.number) (get_or-map caller_in hands at (idle other) other (inside at low))
+          ∙ (places at (idle other) (inside at low)).number ∙ next at;
+      each = λ at other low.
+          subst (λ (r : Caller). entries_of log r.number ≡ r.mine)
+          (sym (get_or-map caller_in hands at (idle other) other (inside at low)))
+          (ap (entries_of log) (places at (idle other) (inside at low)).number ∙ just (suc at)
+          ∙ calls_at w.mine hands at (idle other) (inside at low));
+    })
+
+-- so it is the one that the invariant names
+pub log_is : EntriesAreCallers → LegalBegins
+    → (table : Table) (w : Caller) (hands : List Handed) (log : List Entry) → w.table ≡ table → w.number ≡ 0
+    → length hands ≡ table.shape.readers
+    → ((at : ℕ) (other : Handed) → at < length hands → IsHand table at (get_or hands at other))
+    → IsSoundWriter w → StartsWith w.seen log → HasJust log w hands → log_of w hands ≡ log
+log_is entries begins table w hands log own zero_is count places sound goes just =
+    ap (λ (n : ℕ). take n w.seen)
+    (sym (as_many entries begins table w hands log own zero_is count places sound goes just))
+    ∙ ap (λ (l : List Entry). take (length log) l) goes.is ∙ take-append_seam log goes.rest
+
+pub log_begins : (w : Caller) (hands : List Handed) → StartsWith w.seen (log_of w hands)
+log_begins w hands = record { rest = drop (made w hands) w.seen; is = sym (take-append-drop (made w hands) w.seen) }

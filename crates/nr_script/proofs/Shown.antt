@@ -1,0 +1,132 @@
+-- The state that a history shows, as it goes on by a call.
+use Rattle.std.proofs.Common.{◌≡◌, ◌≢◌, ◌<◌, ℕ, suc, zero, ◌+◌, List, [], ◌∷◌, ◌++◌, true, false, cond, ◌==◌, ◌&&◌, map}
+use Rattle.std.proofs.Common.{set, refl, ap, ◌∙◌, arith, eq-eqb, ne_eqb, Ok}
+use Rattle.std.specs.List.{range_with_len}
+use Rattle.nr_model.specs.declared.calls.Call.{Call}
+use Rattle.nr_model.specs.declared.calls.Reply.{Reply}
+use Rattle.nr_model.specs.declared.calls.Reply.TheVariants as reply
+use Rattle.nr_model.specs.Histories.{Entry, is_done}
+use Rattle.nr_model.specs.Laws.{LegalGoesOn}
+use Rattle.nr_model.specs.Maps.{call_key, next, reply_to}
+use Rattle.nr_core.specs.declared.shape.Shape.{Shape}
+use Rattle.nr_core.specs.Story.{entry, map_after}
+use Rattle.nr_core.specs.Exact.{put_numbers}
+use Rattle.nr_core.specs.Puts.{put_count, put_number, puts_set}
+use Rattle.nr_core.specs.MarkLaws.{PutGoesOn}
+use Rattle.nr_board.specs.Callers.{Table, map_at_opening}
+use Rattle.nr_script.specs.Answers as answers
+use Rattle.nr_map.specs.Hands.{Handed}
+use Rattle.nr_script.specs.MapState.{MapOutcome, MapState, after_call, answer_call, is_full, put_count_after}
+use Rattle.nr_script.specs.MapState.{puts_after}
+use Rattle.nr_script.specs.Alone.{shown_after}
+
+-- a number in a range is changed at its place
+range_past : (g : ℕ → ℕ) (v key a n : ℕ) → key < a
+    → map (λ k. cond (key == k) v (g k)) (range_with_len a n) ≡ map g (range_with_len a n)
+range_past g v key a zero low = refl
+range_past g v key a (suc n) low =
+    let apart : key ≢ a = omega arith in
+    ap (λ b. cond b v (g a) ∷ map (λ k. cond (key == k) v (g k)) (range_with_len (a + 1) n)) (ne_eqb key a apart)
+    ∙ ap (λ l. g a ∷ l) (range_past g v key (a + 1) n (omega arith))
+
+range_set : (g : ℕ → ℕ) (v key a n i : ℕ) → key ≡ a + i
+    → map (λ k. cond (key == k) v (g k)) (range_with_len a n) ≡ set (map g (range_with_len a n)) i v
+range_set g v key a zero i is = refl
+range_set g v key a (suc n) zero is =
+    let same : key ≡ a = omega arith in
+    ap (λ b. cond b v (g a) ∷ map (λ k. cond (key == k) v (g k)) (range_with_len (a + 1) n)) (eq-eqb key a same)
+    ∙ ap (λ l. v ∷ l) (range_past g v key (a + 1) n (omega arith))
+range_set g v key a (suc n) (suc i) is =
+    let apart : key ≢ a = omega arith in
+    ap (λ b. cond b v (g a) ∷ map (λ k. cond (key == k) v (g k)) (range_with_len (a + 1) n)) (ne_eqb key a apart)
+    ∙ ap (λ l. g a ∷ l) (range_set g v key (a + 1) n i (omega arith))
+
+pub quiet_count : PutGoesOn → (log : List Entry) (e : Entry) → is_done e.reply ≡ false
+    → put_count (log ++ e ∷ []) ≡ put_count log
+quiet_count law log e quiet =
+    let none : puts_set e ≡ 0 = ap (λ b. cond {A = ℕ} b 1 0) quiet in
+    omega (arith, (law log e 0).0)
+
+pub quiet_number : PutGoesOn → (log : List Entry) (e : Entry) (key : ℕ) → is_done e.reply ≡ false
+    → put_number (log ++ e ∷ []) key ≡ put_number log key
+quiet_number law log e key quiet =
+    (law log e key).1 ∙ ap (λ b. cond (b && (call_key e.call == key)) (put_count log) (put_number log key)) quiet
+
+puts_done : PutGoesOn → (shape : Shape) (log : List Entry) (n : ℕ) (call : Call)
+    → put_numbers shape (log ++ entry n call reply.Done ∷ [])
+    ≡ set (put_numbers shape log) (call_key call) (put_count log)
+puts_done law shape log n call =
+    ap (λ (f : ℕ → ℕ). map f (range_with_len 0 shape.keys)) (λ j key. (law log (entry n call reply.Done) key).1 j)
+    ∙ range_set (put_number log) (put_count log) (call_key call) 0 shape.keys (call_key call) (omega arith)
+
+pub puts_quiet : PutGoesOn → (shape : Shape) (log : List Entry) (e : Entry) → is_done e.reply ≡ false
+    → put_numbers shape (log ++ e ∷ []) ≡ put_numbers shape log
+puts_quiet law shape log e quiet =
+    ap (λ (f : ℕ → ℕ). map f (range_with_len 0 shape.keys)) (λ j key. quiet_number law log e key quiet j)
+
+module _ (puts : PutGoesOn) (table : Table) (log : List Entry) (n : ℕ) (call : Call) (hands : List Handed) where
+  abbrev state : MapState
+  state = shown_after table log hands
+
+  puts_are : (r : Reply) → put_numbers table.shape (log ++ entry n call r ∷ []) ≡ puts_after r (call_key call) state
+  puts_are reply.Done = puts_done puts table.shape log n call
+  puts_are (reply.Rows rows) = puts_quiet puts table.shape log (entry n call (reply.Rows rows)) refl
+  puts_are reply.Hole = puts_quiet puts table.shape log (entry n call reply.Hole) refl
+  puts_are (reply.Send m) = puts_quiet puts table.shape log (entry n call (reply.Send m)) refl
+  puts_are reply.Waiting = puts_quiet puts table.shape log (entry n call reply.Waiting) refl
+  puts_are reply.Filled = puts_quiet puts table.shape log (entry n call reply.Filled) refl
+  puts_are reply.NotAsked = puts_quiet puts table.shape log (entry n call reply.NotAsked) refl
+  puts_are reply.Already = puts_quiet puts table.shape log (entry n call reply.Already) refl
+  puts_are reply.Dropped = puts_quiet puts table.shape log (entry n call reply.Dropped) refl
+  puts_are reply.NoRow = puts_quiet puts table.shape log (entry n call reply.NoRow) refl
+  puts_are reply.TooMany = puts_quiet puts table.shape log (entry n call reply.TooMany) refl
+  puts_are reply.Evicted = puts_quiet puts table.shape log (entry n call reply.Evicted) refl
+  puts_are reply.Nothing = puts_quiet puts table.shape log (entry n call reply.Nothing) refl
+  puts_are reply.Worn = puts_quiet puts table.shape log (entry n call reply.Worn) refl
+  puts_are reply.Cancelled = puts_quiet puts table.shape log (entry n call reply.Cancelled) refl
+  puts_are reply.Stale = puts_quiet puts table.shape log (entry n call reply.Stale) refl
+
+  count_is : (r : Reply) → put_count (log ++ entry n call r ∷ []) ≡ put_count_after r state
+  count_is reply.Done = (puts log (entry n call reply.Done) 0).0
+  count_is (reply.Rows rows) = quiet_count puts log (entry n call (reply.Rows rows)) refl
+  count_is reply.Hole = quiet_count puts log (entry n call reply.Hole) refl
+  count_is (reply.Send m) = quiet_count puts log (entry n call (reply.Send m)) refl
+  count_is reply.Waiting = quiet_count puts log (entry n call reply.Waiting) refl
+  count_is reply.Filled = quiet_count puts log (entry n call reply.Filled) refl
+  count_is reply.NotAsked = quiet_count puts log (entry n call reply.NotAsked) refl
+  count_is reply.Already = quiet_count puts log (entry n call reply.Already) refl
+  count_is reply.Dropped = quiet_count puts log (entry n call reply.Dropped) refl
+  count_is reply.NoRow = quiet_count puts log (entry n call reply.NoRow) refl
+  count_is reply.TooMany = quiet_count puts log (entry n call reply.TooMany) refl
+  count_is reply.Evicted = quiet_count puts log (entry n call reply.Evicted) refl
+  count_is reply.Nothing = quiet_count puts log (entry n call reply.Nothing) refl
+  count_is reply.Worn = quiet_count puts log (entry n call reply.Worn) refl
+  count_is reply.Cancelled = quiet_count puts log (entry n call reply.Cancelled) refl
+  count_is reply.Stale = quiet_count puts log (entry n call reply.Stale) refl
+
+  -- the map's reply to the call
+  abbrev pub reply_here : Reply
+  reply_here = reply_to (map_after table.shape log) call
+
+  pub goes_on : LegalGoesOn → shown_after table (log ++ entry n call reply_here ∷ []) hands ≡ after_call state call
+  goes_on law =
+      let maps : map_after table.shape (log ++ entry n call reply_here ∷ []) ≡ next (map_after table.shape log) call
+      = (law (map_at_opening table) log (entry n call reply_here)).0 in
+      λ j. record state { map = maps j; puts = puts_are reply_here j; put_count = count_is reply_here j }
+
+-- the call's answer is the map's reply, where no slot is needed or one is left
+pub answered : (state : MapState) (call : Call) → (is_done (reply_to state.map call) && is_full state) ≡ false
+    → answer_call state call ≡ (Ok (answers.Reply (reply_to state.map call)), after_call state call)
+answered state call none =
+    ap
+    (λ b. cond {A = MapOutcome} b (Ok answers.NoSlot, state)
+    (Ok (answers.Reply (reply_to state.map call)), after_call state call))
+    none
+
+pub lacking : (state : MapState) (call : Call) → (is_done (reply_to state.map call) && is_full state) ≡ true
+    → answer_call state call ≡ (Ok answers.NoSlot, state)
+lacking state call none =
+    ap
+    (λ b. cond {A = MapOutcome} b (Ok answers.NoSlot, state)
+    (Ok (answers.Reply (reply_to state.map call)), after_call state call))
+    none

@@ -1,0 +1,11 @@
+use Rattle.std.proofs.Common.{sym, ap, ◌∙◌}
+use Rattle.nr_script.specs.Alone.{log_of}
+use Rattle.nr_script.specs.MapState.{MapState}
+use Rattle.nr_script.proofs.Sizes.{bound_is}
+use Rattle.nr_script.proofs.alone.Alone.rows.Goals as goal
+
+pub returns-clause-value : goal.returns-clause-value
+returns-clause-value c =
+    let inside = c.self.inside in
+    c.rows.ensures.value ∙ sym (bound_is inside.map (log_of inside.writer inside.hands.items))
+    ∙ ap (λ (s : MapState). s.map.bound) c.self.view_is
