@@ -62,6 +62,26 @@ pub record Raises (places : List ℕ) (old new : GuestSeen) : Type 0 where
 abbrev pub IsNew : GuestSeen → Type 0
 IsNew guest = (guest.raised ≡ []) × (guest.closes ≡ 0)
 
+-- a guest that raised these counts, in that order, and did nothing else; and one that closed the lobby once
+abbrev pub RaisesOnly : List ℕ → GuestSeen → Type 0
+RaisesOnly places guest = (guest.raised ≡ places) × ((guest.closes ≡ 0) ⊎ IsNearLast guest)
+
+abbrev pub ClosesOnce : GuestSeen → Type 0
+ClosesOnce guest = (guest.raised ≡ []) × (guest.closes ≡ 1) × (0 < slice_index guest.seen closed_at)
+
+-- A guest that had seen and done just this has left its lobby. It stands shut: only the function that a guest leaves by
+-- tells it, of a guest that it takes.
+pub HasLeft : GuestSeen → Type 0
+HasLeft guest = Unit {0}
+
+pub has_left : (guest : GuestSeen) → HasLeft guest
+unfolding HasLeft
+has_left guest = tt
+
+-- a guest came to that lobby, and when it left this held of it
+abbrev pub Visits : TableId → (GuestSeen → Type 0) → Type 0
+Visits lobby holds = (guest : GuestSeen) × HasLeft guest × (guest.lobby ≡ lobby) × holds guest
+
 -- the index of the count of a key's group, and of the count of the whole lobby
 abbrev pub group_at : ℕ → ℕ
 group_at key = 8 * (key % 64)

@@ -1,7 +1,7 @@
 //! The counts of a lobby. Their table is private to this module, whose functions make one step each.
 ghost use Rattle.std.specs.Prelude.{◌≡◌, ◌≢◌, ◌<◌, ◌++◌, ◌∷◌, ◌+◌, [], IfOk, MatchBool, slice_index};
 ghost use Rattle.nr_serve.specs.Hands.{capped, last_count};
-ghost use Rattle.nr_serve.specs.Counts.{IsLaterOf, IsNew, OnlyLooks, closed_at};
+ghost use Rattle.nr_serve.specs.Counts.{HasLeft, IsLaterOf, IsNew, OnlyLooks, closed_at};
 
 use atomic_table::{Play, Seat, Table, TableRule};
 use std::alloc::{AllocError, Global};
@@ -71,6 +71,13 @@ impl Model for Guest {
     ghost Value = { GuestSeen };
 
     ghost view = { λ guest. record { lobby = guest.seat.table_id; seen = (view_of guest.seat).seen; raised = (view_of guest.seat).raised; closes = (view_of guest.seat).closes } };
+}
+
+impl Guest {
+    /// Ends its visit, of which contracts can tell from now on.
+    pub(crate) fn leave(self)
+        ensures { HasLeft self }
+    {}
 }
 
 /// The numbers that the guests of a lobby share.
