@@ -17,6 +17,8 @@ mod loads;
 #[cfg(test)]
 mod lobbies;
 #[cfg(test)]
+mod looks;
+#[cfg(test)]
 mod opened;
 #[cfg(test)]
 mod pairs;
@@ -32,6 +34,8 @@ mod scenes;
 mod sleepers;
 #[cfg(test)]
 mod specified;
+#[cfg(test)]
+mod specified_triggers;
 #[cfg(test)]
 mod upqueries;
 #[cfg(test)]

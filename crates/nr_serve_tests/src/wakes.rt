@@ -42,7 +42,7 @@ enum Cause {
 }
 
 // How long this thread has had a processor.
-fn busy<R: CpuClock>(rt: &R) -> Duration {
+pub(crate) fn busy<R: CpuClock>(rt: &R) -> Duration {
     rt.thread_cpu_time().unwrap_or(Duration::ZERO)
 }
 
