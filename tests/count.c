@@ -1,5 +1,5 @@
-/* Counts the bytes that the program asks for into which it is loaded. At the program's end the number stands in the file
-   that COUNT_TOLD names. It needs no header and no library to be built. */
+/* Counts the bytes that the program asks for into which it is loaded, and how often it yields. At the program's end both
+   numbers stand in the file that COUNT_TOLD names. It needs no header and no library to be built. */
 
 typedef unsigned long size;
 
@@ -10,10 +10,10 @@ int creat(const char *path, unsigned mode);
 long write(int file, const void *bytes, size count);
 
 static void *const NEXT = (void *)-1;
-static size counted;
+static size asked, yields;
 
 static void count(size bytes) {
-    __atomic_add_fetch(&counted, bytes, __ATOMIC_SEQ_CST);
+    __atomic_add_fetch(&asked, bytes, __ATOMIC_SEQ_CST);
 }
 
 void *malloc(size bytes) {
@@ -32,10 +32,18 @@ void *realloc(void *block, size bytes) {
     return next(block, bytes);
 }
 
+int sched_yield(void) {
+    static int (*next)(void);
+    if (!next)
+        next = (int (*)(void))dlsym(NEXT, "sched_yield");
+    __atomic_add_fetch(&yields, 1, __ATOMIC_SEQ_CST);
+    return next();
+}
+
 __attribute__((destructor)) static void tell(void) {
-    char text[32];
+    char text[64];
     const char *told = getenv("COUNT_TOLD");
-    int length = snprintf(text, sizeof text, "%lu\n", counted);
+    int length = snprintf(text, sizeof text, "%lu %lu\n", asked, yields);
     if (told)
         write(creat(told, 0600), text, length);
 }
