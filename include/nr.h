@@ -5,7 +5,8 @@
 
    A handle starts as zeros. It is live from the opening that answered NR_DONE until you close it, which leaves
    zeros in it. A call answers NR_CLOSED if a handle that it takes isn't live or is NULL, and NR_NO_KEY if the map, or
-   the queue, has no such key. Then it made no step and changed nothing, the caller's own values included.
+   the queue, has no such key. Then it made no step and changed nothing, the caller's own values included. A reader's
+   finds and requests answer NR_CLOSED too once its map's writer was closed, except for rows that are there still.
 
    What the caller owes to each function, and nothing tests:
    - You may move a live handle: copy it once, and then use the copy alone. Nobody else copies it or writes to it.
@@ -62,7 +63,8 @@ extern "C" {
 #define NR_HOLDING 28u   /* the reader holds a set, which must be released first */
 #define NR_NOT_HOLDING 29u /* the reader holds nothing */
 #define NR_ALL_FILLED 30u /* each slot is a filled key's, and no reader holds another */
-#define NR_CLOSED 31u    /* a handle isn't live: it was closed or never opened, or is NULL */
+#define NR_CLOSED 31u    /* a handle isn't live: it was closed or never opened, or is NULL; of a find without rows, and
+                            of a request: or its map's writer was closed */
 #define NR_LIVE 32u      /* the handle to open is live already */
 #define NR_IN_THE_WAY 33u /* another thread is within a call of its own: repeat this one */
 #define NR_GIVEN 34u     /* done, and a set came back, which nobody holds or can find: its rows are in `had` */
@@ -318,8 +320,8 @@ uint32_t nr_open_reader(nr_writer *writer, nr_reader *reader);
 uint32_t nr_return_reader(nr_writer *writer, nr_reader *reader);
 
 /* End a handle, which is then zeros; if it isn't live, they do nothing. The last handle frees the map's memory.
-   nr_close_reader releases what the reader holds; no handle gets that reader again. Readers aren't told that the writer
-   was closed: a request answers as before, so tell those who wait by a flag of your own. */
+   nr_close_reader releases what the reader holds; no handle gets that reader again. nr_close_writer tells the readers:
+   from its return on their finds answer NR_ROWS or NR_CLOSED, and their requests NR_CLOSED. So wake those who wait. */
 void nr_close_reader(nr_reader *reader);
 void nr_close_writer(nr_writer *writer);
 
@@ -338,7 +340,8 @@ void nr_close_remains(nr_remains *remains);
 
 /* WHAT A READER CALLS. nr_find, nr_find_each, nr_ask and nr_pin answer NR_HOLDING if the reader holds a set, and
    nr_row_at, nr_copy, nr_again and nr_release NR_NOT_HOLDING if it holds none. Then the call made no step and changed
-   nothing. */
+   nothing. Where nr_find, nr_find_kept, nr_pin or a find of nr_find_each finds a hole, 1 step more looks whether the
+   writer was closed, and the answer is NR_CLOSED if it was, and else NR_HOLE. */
 
 /* Looks a key up. NR_ROWS after 2n + 5 steps for n rows, and `rows` has them; NR_HOLE after 1 step, and `rows` stays as
    it was. If the writer wrote the key meanwhile, NR_ROWS comes after 2 or 4 steps more, and NR_HOLE after 4, 6 or 7. */
@@ -352,8 +355,9 @@ uint32_t nr_find(nr_reader *reader, uint32_t key, nr_rows *rows);
    maps this is faster than single finds. */
 uint32_t nr_find_each(nr_reader *reader, nr_wanted *wanted, size_t n);
 
-/* Requests a key, in 1 step. The first request since the key became a hole gets NR_SEND, and `number` is its ticket
-   number, which the fill has to name. NR_WAITING and NR_FILLED leave `number` as it was. */
+/* Requests a key, in 2 steps. The first request since the key became a hole gets NR_SEND, and `number` is its ticket
+   number, which the fill has to name. NR_WAITING and NR_FILLED leave `number` as it was, as does NR_CLOSED, after the
+   1 step that found the writer closed. */
 uint32_t nr_ask(nr_reader *reader, uint32_t key, uint64_t *number);
 
 /* Finds a key and holds its set, which stays as it is until the reader releases it, whatever the writer does meanwhile.
@@ -495,9 +499,11 @@ uint32_t nr_take(nr_taker *taker, uint32_t *key, uint64_t *number);
    or after eight choices that nr_evict_id answered NR_NOTHING, first fill or withdraw an upquery of the group.
    Dropping an id's rows, because the base changed. Withdraw its upquery, if one is open, and evict it: a late fill is
    NR_STALE. embed/c/ids.c is a whole program.
-   Holding. nr_find_id, nr_find_each_id and nr_pin_id answer NR_HOLDING if the reader holds a set, and nr_row_at_id,
-   nr_copy_id, nr_again_id and nr_release_id NR_NOT_HOLDING if it holds none. Then there was no step, and nothing has
-   changed. Hot ids, and rows that refer to data, are as those of keys. */
+   Holding. nr_find_id, nr_find_each_id, nr_pin_id and nr_pin_row_id answer NR_HOLDING if the reader holds a set, and
+   nr_row_at_id, nr_copy_id, nr_again_id and nr_release_id NR_NOT_HOLDING if it holds none. Then there was no step, and
+   nothing has changed. Hot ids, and rows that refer to data, are as those of keys.
+   A closed writer. Where a find or a pin finds no rows, 1 step more looks whether the writer was closed, and the answer
+   is NR_CLOSED if it was. */
 
 /* The two groups of an id in a map of that shape, from 0; a map of two groups or more gives it two. 0 if the shape has
    no groups, or too many. No step. */
@@ -514,8 +520,7 @@ uint32_t nr_open_id_reader(nr_id_writer *writer, nr_id_reader *reader);
 
 /* End a handle, which is then zeros; if it isn't live, they do nothing. A reader lets go what it holds. No handle
    gets a closed reader again, so a thread that ends passes its reader on. Closing the writer ends all open
-   upqueries; the last handle frees the memory. Readers aren't told of it: an id that was asked stays NR_ASKED, and a
-   request may still get NR_SEND. So tell those who wait by a flag of your own, before you wake them. */
+   upqueries and tells the readers, as nr_close_writer does; the last handle frees the memory. */
 void nr_close_id_reader(nr_id_reader *reader);
 void nr_close_id_writer(nr_id_writer *writer);
 
@@ -538,6 +543,10 @@ uint32_t nr_find_each_id(nr_id_reader *reader, nr_wanted_id *wanted, size_t n);
    nothing then, and `count` stays as it was. */
 uint32_t nr_pin_id(nr_id_reader *reader, uint64_t id, uint32_t *count);
 
+/* As nr_pin_id, and tells the first row of the set instead of their number: NR_ROWS, and `row` is that. It stays as it
+   was with any other answer, and if the set has no rows. */
+uint32_t nr_pin_row_id(nr_id_reader *reader, uint64_t id, nr_row *row);
+
 /* The row at index `place` of the held set, from 0: NR_ROWS. NR_NO_ROW if the set has no such row, and `row` stays
    as it was. No step. */
 uint32_t nr_row_at_id(nr_id_reader *reader, uint32_t place, nr_row *row);
@@ -557,9 +566,10 @@ uint32_t nr_find_kept_id(nr_id_reader *reader, uint64_t id, nr_rows *rows);
 /* Ends the hold, in 1 step: NR_DONE. */
 uint32_t nr_release_id(nr_id_reader *reader);
 
-/* Requests an id. NR_SEND after 18 steps: the caller has the claim of its group, and passes the id to the thread that
-   writes. Until that thread admits an id of the group others get NR_WAITING, after 1 or 18. NR_NAMED after W + 1.
-   NR_WORN after 1, once its group has had 2^61 claims. What the reader holds stays held. */
+/* Requests an id. NR_SEND after 19 steps: the caller has the claim of its group, and passes the id to the thread that
+   writes. Until that thread admits an id of the group others get NR_WAITING, after 2 or 19. NR_NAMED after W + 2.
+   NR_WORN after 2, once its group has had 2^61 claims. NR_CLOSED after the 1 step that found the writer closed. What the
+   reader holds stays held. */
 uint32_t nr_request_id(nr_id_reader *reader, uint64_t id);
 
 /* The writer's own find: as nr_find_id, but never NR_OTHER, and NR_ROWS after W + 2n + 4 steps. */

@@ -404,6 +404,51 @@ static void test_return(nr_writer *writer, nr_reader *reader) {
   WANTS(NR_DONE, nr_release(reader));
 }
 
+/* Once the writer is closed a reader finds what is there still, and is told of it by all else. */
+static void test_closed_writer(void) {
+  const nr_shape shape = {4, 8, 2, 2, 0, 0};
+  static nr_wanted wanted[3];
+  static nr_rows rows;
+  nr_writer writer = {0};
+  nr_reader reader = {0}, second = {0};
+  uint64_t number = 0;
+  uint32_t count = 77;
+  WANTS(NR_DONE, nr_open(&shape, &writer));
+  WANTS(NR_DONE, nr_open_reader(&writer, &reader));
+  WANTS(NR_DONE, nr_open_reader(&writer, &second));
+  WANTS(NR_SEND, nr_ask(&reader, 0, &number));
+  WANTS(NR_DONE, nr_fill(&writer, 0, number, &one, 1));
+  WANTS(NR_SEND, nr_ask(&reader, 1, &number));
+  WANTS(NR_WAITING, nr_ask(&reader, 1, &number));
+  WANTS(NR_HOLE, nr_find(&reader, 1, &rows));
+  WANTS(NR_DONE, nr_return_reader(&writer, &second));
+  WANTS(NR_DONE, nr_open_reader(&writer, &second));
+  WANTS(NR_HOLE, nr_find(&second, 2, &rows));
+  nr_close_writer(&writer);
+  number = 55;
+  rows.count = 99;
+  for (uint32_t key = 0; key < 3; key++) WANTS(NR_CLOSED, nr_ask(&reader, key, &number));
+  for (uint32_t key = 1; key < 3; key++) {
+    WANTS(NR_CLOSED, nr_find(&reader, key, &rows));
+    WANTS(NR_CLOSED, nr_find_kept(&reader, key, &rows));
+    WANTS(NR_CLOSED, nr_pin(&second, key, &count));
+    wanted[key].key = key;
+  }
+  WANTS(NR_NO_KEY, nr_find(&reader, 4, &rows));
+  WANTS(NR_NOT_HOLDING, nr_release(&second));
+  wants("values that stay", 99 + 55 + 77, (uint32_t)(rows.count + number) + count);
+  WANTS(NR_DONE, nr_find_each(&reader, wanted, 3));
+  for (int i = 0; i < 3; i++) wants("an answer of a find of many", i ? NR_CLOSED : NR_ROWS, wanted[i].answer);
+  WANTS(NR_ROWS, nr_find(&reader, 0, &rows));
+  WANTS(NR_ROWS, nr_pin(&second, 0, &count));
+  WANTS(NR_ROWS, nr_again(&second, 0));
+  WANTS(NR_OTHER, nr_again(&second, 1));
+  WANTS(NR_HOLDING, nr_ask(&second, 1, &number));
+  nr_close_reader(&second);
+  WANTS(NR_ROWS, nr_find_kept(&reader, 0, &rows));
+  nr_close_reader(&reader);
+}
+
 int main(void) {
   const nr_shape small = {2, 1, 1, 2, 0, 0}, few = {1, 3, 2, 2, 0, 0}, last = {2, 3, 1, 2, 0, 4194303}, bad = {2, 0, 1, 2, 0, 0};
   nr_writer writer = {0}, worn = {0}, giving = {0};
@@ -437,6 +482,7 @@ int main(void) {
   test_reclaiming(&giving, &holder, &remains);
   test_queue(&taker, &poster);
   test_strangers(&writer, &reader, &taker, &poster);
+  test_closed_writer();
   nr_close_reader(&reader);
   nr_close_reader(&other);
   nr_close_writer(&writer);

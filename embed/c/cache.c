@@ -51,11 +51,9 @@ static uint64_t id_of(const char *key) {
 /* Copies the value of a key. Another key may have its hash. */
 static bool find(int place, const char *key, char value[64]) {
   nr_id_reader *reader = &readers[place];
-  uint32_t rows;
   nr_row row;
-  if (nr_pin_id(reader, id_of(key), &rows) != NR_ROWS) return false;
+  if (nr_pin_row_id(reader, id_of(key), &row) != NR_ROWS) return false;
   NR_FOUND(&order);
-  want(nr_row_at_id(reader, 0, &row) == NR_ROWS, "an entry's row");
   const entry *found = (const entry *)(uintptr_t)row.b;
   bool is_its_own = !strcmp(found->key, key);
   if (is_its_own) strcpy(value, found->value);
@@ -160,10 +158,12 @@ static void try_some(void) {
 
 static void end(void) {
   static nr_rows had;
-  for (int place = 0; place < READERS; place++) nr_close_id_reader(&readers[place]);
   for (uint32_t way = 0; way < WAYS; way++) evict(way);
   while (nr_reap_id(&writer, &had) == NR_GIVEN) free_entry(&had);
   nr_close_id_writer(&writer);
+  /* Who comes too late is told so, and doesn't wait for an entry that nobody makes. */
+  want(nr_request_id(&readers[0], id_of("user 0")) == NR_CLOSED, "a request of a cache that is closed");
+  for (int place = 0; place < READERS; place++) nr_close_id_reader(&readers[place]);
   want(made == freed, "an entry was never freed");
 }
 

@@ -1,6 +1,8 @@
 /* A map over ids of 64 bits, of which few are resident: an id is claimed once, admitted, filled, changed and evicted, and
    a late answer fills no later absence. Each function gives each of its answers. */
 #include "../../include/nr.h"
+#include <pthread.h>
+#include <sched.h>
 #include <stdio.h>
 #include <stdlib.h>
 
@@ -173,12 +175,15 @@ static void test_holding(nr_id_writer *writer, nr_id_reader *reader) {
   WANTS(NR_HOLE, nr_find_kept_id(reader, USER, &rows));
   nr_upquery upquery = admitted(writer, reader, USER);
   WANTS(NR_ASKED, nr_pin_id(reader, USER, &count));
+  WANTS(NR_ASKED, nr_pin_row_id(reader, USER, &row));
   WANTS(NR_ASKED, nr_find_kept_id(reader, USER, &rows));
   if (count != 77 || rows.count != 99 || row.a != 5) WANTS(NR_ASKED, NR_ROWS);
   WANTS(NR_DONE, nr_fill_id(writer, &upquery, ORDERS, 2));
   WANTS(NR_ROWS, nr_pin_id(reader, USER, &count));
   if (count != 2) WANTS(NR_ROWS, NR_OTHER);
   WANTS(NR_HOLDING, nr_pin_id(reader, USER, &count));
+  WANTS(NR_HOLDING, nr_pin_row_id(reader, USER, &row));
+  if (row.a != 5) WANTS(NR_HOLDING, NR_ROWS);
   WANTS(NR_HOLDING, nr_find_id(reader, USER, &rows));
   nr_wanted_id wanted = {.id = USER, .answer = 55};
   WANTS(NR_HOLDING, nr_find_each_id(reader, &wanted, 1));
@@ -217,10 +222,23 @@ static void test_holding(nr_id_writer *writer, nr_id_reader *reader) {
   WANTS(NR_ROWS, nr_again_id(reader, 7));
   WANTS(NR_NO_KEY, nr_again_id(reader, 0));
   WANTS(NR_NO_KEY, nr_pin_id(reader, 0, &count));
+  WANTS(NR_NO_KEY, nr_pin_row_id(reader, 0, &row));
   WANTS(NR_NO_KEY, nr_find_kept_id(reader, 0, &rows));
   /* A find that finds nothing lets go what was held. */
   WANTS(NR_HOLE, nr_find_kept_id(reader, 12345, &rows));
   has(&rows, 2, 2);
+  WANTS(NR_NOT_HOLDING, nr_release_id(reader));
+  /* A pin that tells the first row, and of a set without rows none. */
+  WANTS(NR_ROWS, nr_pin_row_id(reader, 7, &row));
+  if (row.a != 1 || row.b != 5) WANTS(NR_ROWS, NR_OTHER);
+  WANTS(NR_ROWS, nr_row_at_id(reader, 1, &row));
+  WANTS(NR_DONE, nr_release_id(reader));
+  WANTS(NR_DONE, nr_replace_id(writer, 7, ORDERS, 0));
+  WANTS(NR_ROWS, nr_pin_row_id(reader, 7, &row));
+  if (row.a != 2 || row.b != 9) WANTS(NR_ROWS, NR_OTHER);
+  WANTS(NR_NO_ROW, nr_row_at_id(reader, 0, &row));
+  WANTS(NR_DONE, nr_release_id(reader));
+  WANTS(NR_HOLE, nr_pin_row_id(reader, 12345, &row));
   WANTS(NR_NOT_HOLDING, nr_release_id(reader));
   WANTS(NR_EVICTED, nr_evict_id(writer, USER));
   WANTS(NR_EVICTED, nr_evict_id(writer, 7));
@@ -368,6 +386,7 @@ static void test_closed(nr_id_writer *writer, nr_id_reader *reader) {
   uint64_t chosen;
   WANTS(NR_CLOSED, nr_find_each_id(reader, &wanted, 1));
   WANTS(NR_CLOSED, nr_pin_id(reader, USER, &count));
+  WANTS(NR_CLOSED, nr_pin_row_id(reader, USER, &row));
   WANTS(NR_CLOSED, nr_find_kept_id(reader, USER, &rows));
   WANTS(NR_CLOSED, nr_row_at_id(reader, 0, &row));
   WANTS(NR_CLOSED, nr_copy_id(reader, &rows));
@@ -410,6 +429,69 @@ static void test_slots(void) {
   nr_close_id_reader(&reader);
 }
 
+/* Waits for an id, as a reader does that doesn't sleep: requests it and finds again. */
+static void *wait_for_user(void *reader) {
+  static nr_rows found;
+  for (;;) {
+    uint32_t answer = nr_find_id(reader, USER, &found);
+    if (answer == NR_ROWS || answer == NR_CLOSED) return (void *)(uintptr_t)answer;
+    nr_request_id(reader, USER);
+    sched_yield();
+  }
+}
+
+/* Once the writer is closed a reader finds what is there still, and is told of it by all else. */
+static void test_closed_writer(void) {
+  const nr_id_shape shape = {.groups = 4, .slots = 40, .readers = 2, .rows = 3};
+  nr_wanted_id wanted[] = {{.id = 1}, {.id = 2}, {.id = 3}};
+  nr_id_writer writer = {0}, other_writer = {0};
+  nr_id_reader reader = {0}, waiting = {0}, other = {0};
+  nr_row row = {5, 5};
+  uint32_t count = 77;
+  pthread_t thread;
+  void *answer;
+  WANTS(NR_DONE, nr_open_ids(&shape, &writer));
+  WANTS(NR_DONE, nr_open_id_reader(&writer, &reader));
+  WANTS(NR_DONE, nr_open_id_reader(&writer, &waiting));
+  WANTS(NR_DONE, nr_open_ids(&shape, &other_writer));
+  WANTS(NR_DONE, nr_open_id_reader(&other_writer, &other));
+  nr_upquery upquery = admitted(&writer, &reader, 1);
+  WANTS(NR_DONE, nr_fill_id(&writer, &upquery, ORDERS, 2));
+  admitted(&writer, &reader, 2);
+  WANTS(NR_HOLE, nr_find_id(&reader, 3, &rows));
+  WANTS(NR_HOLE, nr_pin_row_id(&reader, 3, &row));
+  if (pthread_create(&thread, NULL, wait_for_user, &waiting)) WANTS(NR_DONE, NR_NO_MEMORY);
+  while (nr_admit(&writer, USER, &upquery) != NR_SEND) sched_yield();
+  nr_close_id_writer(&writer);
+  pthread_join(thread, &answer);
+  wants(NR_CLOSED, (uint32_t)(uintptr_t)answer, "a wait for an id whose map was closed");
+  rows.count = 99;
+  WANTS(NR_CLOSED, nr_find_id(&reader, 2, &rows));
+  WANTS(NR_CLOSED, nr_find_id(&reader, 3, &rows));
+  WANTS(NR_CLOSED, nr_find_kept_id(&reader, 2, &rows));
+  WANTS(NR_CLOSED, nr_pin_id(&reader, 3, &count));
+  WANTS(NR_CLOSED, nr_pin_row_id(&reader, 2, &row));
+  if (count != 77 || rows.count != 99 || row.a != 5) WANTS(NR_CLOSED, NR_ROWS);
+  for (uint64_t id = 1; id < 4; id++) WANTS(NR_CLOSED, nr_request_id(&reader, id));
+  WANTS(NR_NO_KEY, nr_request_id(&reader, 0));
+  WANTS(NR_DONE, nr_find_each_id(&reader, wanted, 3));
+  for (int i = 0; i < 3; i++) WANTS(i ? NR_CLOSED : NR_ROWS, wanted[i].answer);
+  WANTS(NR_ROWS, nr_find_id(&reader, 1, &rows));
+  has(&rows, 2, 2);
+  WANTS(NR_ROWS, nr_pin_row_id(&reader, 1, &row));
+  if (row.a != 1 || row.b != 5) WANTS(NR_ROWS, NR_OTHER);
+  WANTS(NR_ROWS, nr_again_id(&reader, 1));
+  WANTS(NR_OTHER, nr_again_id(&reader, 2));
+  WANTS(NR_ROWS, nr_find_kept_id(&reader, 1, &rows));
+  /* Another map's readers aren't told. */
+  WANTS(NR_HOLE, nr_find_id(&other, 3, &rows));
+  WANTS(NR_SEND, nr_request_id(&other, 3));
+  nr_close_id_reader(&reader);
+  nr_close_id_reader(&waiting);
+  nr_close_id_reader(&other);
+  nr_close_id_writer(&other_writer);
+}
+
 int main(void) {
   const nr_id_shape shape = {.groups = 2, .slots = 2 * 8 + 1 + 2, .readers = 1, .rows = 3, .key = 0x9e3779b97f4a7c15};
   const nr_id_shape none = {.groups = 0, .slots = 1, .readers = 1, .rows = 1};
@@ -432,6 +514,7 @@ int main(void) {
   nr_close_id_writer(&writer);
   test_closed(&writer, &reader);
   test_slots();
+  test_closed_writer();
   test_each();
   test_choices();
   test_all_asked();

@@ -110,6 +110,7 @@ static void call_ids(nr_id_writer *writer, nr_id_reader *reader) {
   nr_row row;
   want(nr_pin_id(reader, 1, &count) == NR_ROWS && nr_row_at_id(reader, 0, &row) == NR_ROWS, "a pin by id");
   want(nr_copy_id(reader, &found) == NR_ROWS && nr_again_id(reader, 1) == NR_ROWS, "a held set by id");
+  want(nr_release_id(reader) == NR_DONE && nr_pin_row_id(reader, 1, &row) == NR_ROWS, "a pin that tells a row");
   want(nr_find_kept_id(reader, 1, &found) == NR_ROWS && nr_release_id(reader) == NR_DONE, "a find by id that is kept");
   want(nr_uses_id(writer, 1) == NR_DONE, "a mark");
   nr_choose_id(writer, 1, &chosen);

@@ -4,3 +4,4 @@ pub mod HandleSend
 pub mod FindsMade
 pub mod IdleFinds
 pub mod LedgerLemmas
+pub mod ClosingSteps

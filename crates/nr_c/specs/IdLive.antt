@@ -1,12 +1,13 @@
 -- What a call by id from C keeps of a handle, and what its token gains.
-use Rattle.std.specs.Prelude.{ℕ, ◌≡◌, ◌<◌, ◌⊎◌, List, [], ◌∷◌}
+use Rattle.std.specs.Prelude.{ℕ, ◌≡◌, ◌<◌, ◌⊎◌, Bool, MatchBool, List, [], ◌∷◌}
 use Rattle.nr_idmap.specs.IdHands.{IdHanded, reader_of}
 use Rattle.nr_idmap.specs.Keepers.{IdCaller, Keeper, OwesSame}
 use Rattle.nr_c.specs.declared.id_reader_side.IdReaderSide.{IdReaderSide}
 use Rattle.nr_c.specs.declared.id_writer_side.IdWriterSide.{IdWriterSide}
+use Rattle.nr_c.specs.Closings.{Hears, Looks, Watched}
 use Rattle.nr_c.specs.Hands.{HoldsAnId, HoldsNoId}
 use Rattle.nr_c.specs.Live.{IsLive, RefusesHand, WhenLive}
-use Rattle.nr_c.specs.Numbers.{answer_holding, answer_no_key, answer_not_holding}
+use Rattle.nr_c.specs.Numbers.{answer_closed, answer_holding, answer_no_key, answer_not_holding}
 
 -- 0 is no id, which the code says, and nothing has changed
 abbrev pub RefusesZero : {Side : Type 0} → ℕ → Type 0 → List Side → List Side → ℕ → Type 0
@@ -35,15 +36,34 @@ abbrev pub ByIdleIdReader : ℕ → Type 0 → (List IdReaderSide → List IdRea
     → List IdReaderSide → ℕ → Type 0
 ByIdleIdReader id stays does = WhenLive stays (WithId id stays (WhenIdleById stays does))
 
--- the handle leads to one side, of the same map before and after, whose reader became another
-pub record IdHandTurns (became : IdHanded → IdHanded → ℕ → Type 0) (before after : List IdReaderSide) (code : ℕ) : Type
-    0 where
+-- the handle leads to one side, of the same map before and after, whose reader became another, and what it knows of its
+-- writer
+pub record IdSideTurns (became : IdHanded → IdHanded → Type 0) (heard : Watched → Watched → Type 0)
+    (before after : List IdReaderSide) : Type 0 where
   pub old : IdReaderSide
   pub new : IdReaderSide
   pub was : before ≡ old ∷ []
   pub is : after ≡ new ∷ []
   pub map : new.map ≡ old.map
-  pub made : became old.hand new.hand code
+  pub made : became old.hand new.hand
+  pub watch : heard old.watch new.watch
+
+-- a call that doesn't look whether the writer was closed
+abbrev pub IdHandTurns : (IdHanded → IdHanded → ℕ → Type 0) → List IdReaderSide → List IdReaderSide → ℕ → Type 0
+IdHandTurns became before after code =
+    IdSideTurns (λ old new. became old new code) (λ old new. new ≡ old) before after
+
+-- a find, whose answer is told unless the writer was closed
+abbrev pub IdHandHears : (IdHanded → IdHanded → ℕ → Type 0) → List IdReaderSide → List IdReaderSide → ℕ → Type 0
+IdHandHears became before after code =
+    (answer : ℕ) × IdSideTurns (λ old new. became old new answer) (Hears answer code) before after
+
+-- a request, which isn't made where the writer was closed
+abbrev pub IdHandAsks : (IdHanded → IdHanded → ℕ → Type 0) → List IdReaderSide → List IdReaderSide → ℕ → Type 0
+IdHandAsks became before after code =
+    (closed : Bool)
+    × IdSideTurns (λ old new. MatchBool closed ((code ≡ answer_closed) × (new ≡ old)) (became old new code))
+    (λ old new. Looks old new closed) before after
 
 -- so one that holds nothing became another such one
 pub record StaysIdle (became : IdCaller → IdCaller → ℕ → Type 0) (old new : IdHanded) (code : ℕ) : Type 0 where
@@ -51,20 +71,21 @@ pub record StaysIdle (became : IdCaller → IdCaller → ℕ → Type 0) (old ne
   pub is_idle : HoldsNoId new
   pub became_so : became (reader_of old) (reader_of new) code
 
-abbrev pub IdReaderCalls : (IdCaller → IdCaller → ℕ → Type 0) → List IdReaderSide → List IdReaderSide → ℕ → Type 0
-IdReaderCalls became before after code = IdHandTurns (StaysIdle became) before after code
+abbrev pub IdReaderHears : (IdCaller → IdCaller → ℕ → Type 0) → List IdReaderSide → List IdReaderSide → ℕ → Type 0
+IdReaderHears became before after code = IdHandHears (StaysIdle became) before after code
 
 -- the writer's tokens and the upqueries that are kept
 abbrev pub Turn : Type 1
 Turn = IdWriterSide → IdWriterSide → ℕ → Type 0
 
--- and the writer's, whose readers without a handle stay
+-- and the writer's, whose readers without a handle stay, and which isn't closed
 pub record IdWriterTurns (became : Turn) (before after : List IdWriterSide) (code : ℕ) : Type 0 where
   pub old : IdWriterSide
   pub new : IdWriterSide
   pub was : before ≡ old ∷ []
   pub is : after ≡ new ∷ []
   pub map : new.map ≡ old.map
+  pub watch : new.watch ≡ old.watch
   pub spare : new.spare ≡ old.spare
   pub made : became old new code
 

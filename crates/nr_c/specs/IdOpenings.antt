@@ -7,6 +7,7 @@ use Rattle.nr_idmap.specs.Keepers.{IdCaller}
 use Rattle.nr_c.specs.declared.id_reader_side.IdReaderSide.{IdReaderSide}
 use Rattle.nr_c.specs.declared.id_shape.NrIdShape.{NrIdShape}
 use Rattle.nr_c.specs.declared.id_writer_side.IdWriterSide.{IdWriterSide}
+use Rattle.nr_c.specs.Closings.{Closes, IsNewWatch, Watched}
 use Rattle.nr_c.specs.Hands.{EndsIdHand}
 use Rattle.nr_c.specs.Ledgers.{no_entries}
 use Rattle.nr_c.specs.Numbers.{answer_bad_size, answer_done, answer_no_memory, answer_no_reader}
@@ -27,6 +28,7 @@ id_shape_of shape =
 pub record IsNewIdWriter (shape : IdShape) (number : ℕ) (side : IdWriterSide) : Type 0 where
   pub opens : OpensIds shape side.map.value side.writer side.spare.items
   pub none_kept : side.ledger ≡ no_entries number side.map.value.map.shape.keys
+  pub watch : IsNewWatch side.watch
 
 -- the handle leads to the side of a new map, or nowhere
 abbrev pub LeadsToIds : IdShape → ℕ → List IdWriterSide → ℕ → Type 0
@@ -49,6 +51,7 @@ pub record KeepsIdWriter (before after : List IdWriterSide) (had has : List IdCa
   pub map : new.map ≡ old.map
   pub writer : new.writer ≡ old.writer
   pub ledger : new.ledger ≡ old.ledger
+  pub watch : new.watch ≡ old.watch
   pub had_spare : old.spare.items ≡ had
   pub has_spare : new.spare.items ≡ has
 
@@ -60,6 +63,8 @@ pub record LeadsToIdReader (before : List IdWriterSide) (reader : IdCaller) (han
   pub is : handle ≡ side ∷ []
   pub map : side.map.value ≡ held.map.value
   pub holds_none : side.hand ≡ idle_by_id reader
+  pub word : side.watch.word ≡ held.watch.word
+  pub watch : IsNewWatch side.watch
 
 -- no reader is without a handle; or the last one without gets one, or for want of memory stays without
 abbrev pub TakesIdReader : List IdWriterSide → List IdReaderSide → List IdWriterSide → List IdReaderSide → ℕ → Type 0
@@ -73,3 +78,7 @@ TakesIdReader before other after handle code =
 -- the reader that a handle led to was ended, with what it held
 abbrev pub EndsIdReader : List IdReaderSide → Type 0
 EndsIdReader before = (side : IdReaderSide) → before ≡ side ∷ [] → (reader : IdCaller) × EndsIdHand side.hand reader
+
+-- and the writer, of which the readers of its map are told
+abbrev pub EndsIdWriter : List IdWriterSide → Type 0
+EndsIdWriter before = (side : IdWriterSide) → before ≡ side ∷ [] → (watch : Watched) × Closes side.watch watch

@@ -1,5 +1,5 @@
 -- A reader by id that holds a set, as C calls it.
-use Rattle.std.specs.Prelude.{ℕ, ◌≡◌, ◌≤◌, ◌⊎◌, Bool, if◌then◌else◌, List, length, slice_get, Some}
+use Rattle.std.specs.Prelude.{ℕ, ◌≡◌, ◌≤◌, ◌⊎◌, Bool, if◌then◌else◌, List, [], ◌∷◌, length, slice_get, Some}
 use Rattle.nr_model.specs.declared.rows.Row.{Row}
 use Rattle.nr_idmap.specs.declared.finds.FoundId.{FoundId}
 use Rattle.nr_idmap.specs.declared.finds.FoundId.TheVariants as found
@@ -22,6 +22,23 @@ abbrev pub PinsIdByCode : ℕ → ℕ → ℕ → IdHanded → IdHanded → ℕ 
 PinsIdByCode id told tells old new code =
     (found : FoundId) × (code ≡ found_id_code found) × HoldsNoId old × PinsById id old new found
     × (tells ≡ count_told told found (rows_in_hand new))
+
+-- the first of some rows, or what stood there
+abbrev pub first_or : Row → List Row → Row
+first_or stood [] = stood
+first_or stood (first ∷ rest) = first
+
+-- which row a pin tells: the first that is held then, if there is one
+abbrev pub row_told : Row → FoundId → List Row → Row
+row_told stood found.Rows rows = first_or stood rows
+row_told stood found.Pending rows = stood
+row_told stood found.Moved rows = stood
+row_told stood found.Absent rows = stood
+
+abbrev pub PinsRowByCode : ℕ → Row → Row → IdHanded → IdHanded → ℕ → Type 0
+PinsRowByCode id stood stands old new code =
+    (found : FoundId) × (code ≡ found_id_code found) × HoldsNoId old × PinsById id old new found
+    × (stands ≡ row_told stood found (rows_in_hand new))
 
 -- a find that keeps its hold, by its code
 abbrev pub KeepsIdByCode : ℕ → NrRows → NrRows → IdHanded → IdHanded → ℕ → Type 0

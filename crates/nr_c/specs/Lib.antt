@@ -1,6 +1,7 @@
 pub mod Numbers
 pub mod Layout
 pub mod Codes
+pub mod Closings
 pub mod RowCells
 pub mod Rows
 pub mod Hands

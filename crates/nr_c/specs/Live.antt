@@ -1,5 +1,5 @@
 -- What a call from C keeps of a handle, and what its token gains.
-use Rattle.std.specs.Prelude.{ℕ, ◌+◌, ◌≡◌, ◌<◌, ◌≤◌, ◌⊎◌, List, [], ◌∷◌, None, ⊤}
+use Rattle.std.specs.Prelude.{ℕ, ◌+◌, ◌≡◌, ◌<◌, ◌≤◌, ◌⊎◌, Bool, MatchBool, List, [], ◌∷◌, None, ⊤}
 use Rattle.nr_map.specs.declared.answers.Asked.{Asked}
 use Rattle.nr_map.specs.declared.answers.Asked.TheVariants as asked
 use Rattle.nr_board.specs.declared.answers.Found.{Found}
@@ -9,6 +9,7 @@ use Rattle.nr_board.specs.Callers.{Caller}
 use Rattle.nr_c.specs.declared.reader_side.ReaderSide.{ReaderSide}
 use Rattle.nr_c.specs.declared.writer_side.WriterSide.{WriterSide}
 use Rattle.nr_c.specs.declared.rows.NrRows.{NrRows}
+use Rattle.nr_c.specs.Closings.{Hears, Looks, Watched}
 use Rattle.nr_c.specs.Codes.{ask_code, found_code}
 use Rattle.nr_c.specs.Hands.{HoldsNone, HoldsSome}
 use Rattle.nr_c.specs.Numbers.{answer_closed, answer_holding, answer_live, answer_no_key, answer_not_holding}
@@ -113,8 +114,10 @@ abbrev pub ByIdleReader : ℕ → Type 0 → (List ReaderSide → List ReaderSid
     → List ReaderSide → ℕ → Type 0
 ByIdleReader key stays does = WhenLive stays (WithKey reader_keys key stays (WhenIdle stays does))
 
--- the handle leads to one side, of the same map before and after, whose reader was in the one hand and is in the other
-pub record TurnsHand (before after : List ReaderSide) (was is : Handed) : Type 0 where
+-- the handle leads to one side, of the same map before and after, whose reader was in the one hand and is in the other,
+-- and what it knows of its writer
+pub record TurnsSide (heard : Watched → Watched → Type 0) (before after : List ReaderSide) (was is : Handed) : Type
+    0 where
   pub old : ReaderSide
   pub new : ReaderSide
   pub led : before ≡ old ∷ []
@@ -122,14 +125,29 @@ pub record TurnsHand (before after : List ReaderSide) (was is : Handed) : Type 0
   pub map : new.map ≡ old.map
   pub old_hand : old.hand ≡ was
   pub new_hand : new.hand ≡ is
+  pub watch : heard old.watch new.watch
+
+-- by a call that doesn't look whether the writer was closed, and by a find, whose answer is told unless it was
+abbrev pub TurnsHand : List ReaderSide → List ReaderSide → Handed → Handed → Type 0
+TurnsHand before after was is = TurnsSide (λ old new. new ≡ old) before after was is
+
+abbrev pub HearsHand : ℕ → ℕ → List ReaderSide → List ReaderSide → Handed → Handed → Type 0
+HearsHand answer code before after was is = TurnsSide (Hears answer code) before after was is
 
 -- so a reader that holds nothing became another such one
-abbrev pub ReaderCalls : (Caller → Caller → ℕ → Type 0) → List ReaderSide → List ReaderSide → ℕ → Type 0
-ReaderCalls became before after code =
-    (old new : Handed) × TurnsHand before after old new × HoldsNone old × HoldsNone new
-    × became old.reader new.reader code
+abbrev pub ReaderHears : (Caller → Caller → ℕ → Type 0) → List ReaderSide → List ReaderSide → ℕ → Type 0
+ReaderHears became before after code =
+    (answer : ℕ) × (old new : Handed) × HearsHand answer code before after old new × HoldsNone old × HoldsNone new
+    × became old.reader new.reader answer
 
--- and the writer's, whose readers without a handle stay
+-- by a request, which isn't made where the writer was closed, and then what it would tell stays
+abbrev pub ReaderAsks : Type 0 → (Caller → Caller → ℕ → Type 0) → List ReaderSide → List ReaderSide → ℕ → Type 0
+ReaderAsks stays became before after code =
+    (closed : Bool) × (old new : Handed) × TurnsSide (λ old new. Looks old new closed) before after old new
+    × HoldsNone old × HoldsNone new
+    × MatchBool closed ((code ≡ answer_closed) × (new ≡ old) × stays) (became old.reader new.reader code)
+
+-- and the writer's, whose readers without a handle stay, and which isn't closed
 pub record WriterCalls (became : Caller → Caller → ℕ → Type 0) (before after : List WriterSide) (code : ℕ) : Type
     0 where
   pub old : WriterSide
@@ -137,6 +155,7 @@ pub record WriterCalls (became : Caller → Caller → ℕ → Type 0) (before a
   pub was : before ≡ old ∷ []
   pub is : after ≡ new ∷ []
   pub map : new.map ≡ old.map
+  pub watch : new.watch ≡ old.watch
   pub spare : new.spare ≡ old.spare
   pub made : became old.writer new.writer code
 

@@ -3,18 +3,24 @@ use Rattle.std.specs.Prelude.{ℕ, ◌≡◌, ◌<◌, ◌+◌, ◌⊎◌, All, 
 use Rattle.nr_board.specs.declared.answers.Found.{Found}
 use Rattle.nr_map.specs.FindsEach.{loads_at, with_loads}
 use Rattle.nr_map.specs.Hands.{FindsKept, Handed, LetsGo}
+use Rattle.nr_c.specs.Closings.{Hears, Watched}
 use Rattle.nr_c.specs.Codes.{found_code}
 use Rattle.nr_c.specs.Hands.{HoldsNone}
 use Rattle.nr_c.specs.RowCells.{ShowsSet}
 use Rattle.nr_c.specs.declared.many.NrWanted.{NrWanted}
 use Rattle.nr_c.specs.declared.reader_side.ReaderSide.{ReaderSide}
-use Rattle.nr_c.specs.Live.{TurnsHand, reader_keys}
+use Rattle.nr_c.specs.Live.{reader_keys}
 use Rattle.nr_c.specs.Numbers.{answer_done, answer_no_key}
 
--- a find of one of the keys by a hand that keeps what it finds, by the answer beside the key
-abbrev pub FindsOneByCode : NrWanted → NrWanted → Handed → Handed → Type 0
-FindsOneByCode wanted told old new =
-    (told.key ≡ wanted.key) × (answer : Found) × (told.answer ≡ found_code answer)
+-- a reader's hand with what the reader knows of its writer
+abbrev pub Hearing : Type 0
+Hearing = Handed × Watched
+
+-- a find of one of the keys by a hand that keeps what it finds, whose answer is told beside the key unless the writer
+-- was closed
+abbrev pub FindsOneByCode : NrWanted → NrWanted → Hearing → Hearing → Type 0
+FindsOneByCode wanted told (old, knew) (new, knows) =
+    (told.key ≡ wanted.key) × (answer : Found) × Hears (found_code answer) told.answer knew knows
     × FindsKept ShowsSet wanted.key old wanted.rows new told.rows answer
 
 -- a hand after that many loads that tell nothing: it holds what it held
@@ -32,19 +38,25 @@ InOrder call place [] (done ∷ rest) old new = ⊥
 InOrder call place (one ∷ others) [] old new = ⊥
 
 -- the find of the key at an index, before it the loads for each of sixteen where sixteen begin there
-abbrev pub FindsAtByCode : ℕ → List NrWanted → NrWanted → NrWanted → Handed → Handed → Type 0
-FindsAtByCode place left wanted told old new =
-    FindsOneByCode wanted told (hand_with_loads (loads_at old.reader.table.shape.rows place (length left)) old) new
+abbrev pub FindsAtByCode : ℕ → List NrWanted → NrWanted → NrWanted → Hearing → Hearing → Type 0
+FindsAtByCode place left wanted told (old, knew) new =
+    FindsOneByCode wanted told (hand_with_loads (loads_at old.reader.table.shape.rows place (length left)) old, knew) new
 
 -- from the first key on, and then what the last find holds is let go
-abbrev pub FindsEachByCode : List NrWanted → List NrWanted → Handed → Handed → Type 0
-FindsEachByCode wanted told old new = (last : Handed) × InOrder FindsAtByCode 0 wanted told old last × LetsGo last new
+abbrev pub FindsEachByCode : List NrWanted → List NrWanted → Hearing → Hearing → Type 0
+FindsEachByCode wanted told old (new, knows) =
+    (last : Handed) × InOrder FindsAtByCode 0 wanted told old (last, knows) × LetsGo last new
 
 -- by a reader's handle
-abbrev pub FindsSome : List NrWanted → List NrWanted → List ReaderSide → List ReaderSide → ℕ → Type 0
-FindsSome wanted told before after code =
-    (code ≡ answer_done) × (old new : Handed) × TurnsHand before after old new × HoldsNone old
-    × FindsEachByCode wanted told old new
+pub record FindsSome (wanted told : List NrWanted) (before after : List ReaderSide) (code : ℕ) : Type 0 where
+  pub code_is : code ≡ answer_done
+  pub old : ReaderSide
+  pub new : ReaderSide
+  pub was : before ≡ old ∷ []
+  pub is : after ≡ new ∷ []
+  pub map : new.map ≡ old.map
+  pub was_idle : HoldsNone old.hand
+  pub finds : FindsEachByCode wanted told (old.hand, old.watch) (new.hand, new.watch)
 
 -- the map of the handle's reader has each of the keys
 abbrev pub AreKeysOf : ReaderSide → List NrWanted → Type 0

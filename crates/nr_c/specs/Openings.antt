@@ -5,14 +5,16 @@ use Rattle.nr_core.specs.declared.shape.Shape.{Shape}
 use Rattle.nr_board.specs.Callers.{Caller}
 use Rattle.nr_map.specs.Hands.{idle}
 use Rattle.nr_map.specs.Opened.{IsOpened, words_of_large}
+use Rattle.nr_c.specs.Closings.{Closes, IsNewWatch, Watched}
 use Rattle.nr_c.specs.Hands.{EndsHand}
 use Rattle.nr_c.specs.Numbers.{answer_bad_size, answer_done, answer_no_memory, answer_no_reader}
 use Rattle.nr_c.specs.declared.reader_side.ReaderSide.{ReaderSide}
 use Rattle.nr_c.specs.declared.writer_side.WriterSide.{WriterSide}
 
 -- the writer's side of a new map of that shape: its writer, and its readers, none of which has a handle
-abbrev pub IsNewWriter : Shape → WriterSide → Type 0
-IsNewWriter shape side = IsOpened shape (words_of_large shape) side.map.value side.writer side.spare.items
+pub record IsNewWriter (shape : Shape) (side : WriterSide) : Type 0 where
+  pub opened : IsOpened shape (words_of_large shape) side.map.value side.writer side.spare.items
+  pub watch : IsNewWatch side.watch
 
 -- the handle leads to the side of a new map, or nowhere
 abbrev pub OpensMap : Shape → List WriterSide → ℕ → Type 0
@@ -37,6 +39,7 @@ pub record KeepsWriter (before after : List WriterSide) (had has : List Caller) 
   pub is : after ≡ new ∷ []
   pub map : new.map ≡ old.map
   pub writer : new.writer ≡ old.writer
+  pub watch : new.watch ≡ old.watch
   pub had_spare : old.spare.items ≡ had
   pub has_spare : new.spare.items ≡ has
 
@@ -48,6 +51,8 @@ pub record LeadsToReader (before : List WriterSide) (reader : Caller) (handle : 
   pub is : handle ≡ side ∷ []
   pub map : side.map.value ≡ held.map.value
   pub holds_none : side.hand ≡ idle reader
+  pub word : side.watch.word ≡ held.watch.word
+  pub watch : IsNewWatch side.watch
 
 -- no reader is without a handle; or the last one without gets one, or for want of memory stays without
 abbrev pub TakesReader : List WriterSide → List ReaderSide → List WriterSide → List ReaderSide → ℕ → Type 0
@@ -69,3 +74,7 @@ ReturnsReader before other after handle code =
 -- the reader that a handle led to was ended, with what it held
 abbrev pub EndsReader : List ReaderSide → Type 0
 EndsReader before = (side : ReaderSide) → before ≡ side ∷ [] → (reader : Caller) × EndsHand side.hand reader
+
+-- and the writer, of which the readers of its map are told
+abbrev pub EndsWriter : List WriterSide → Type 0
+EndsWriter before = (side : WriterSide) → before ≡ side ∷ [] → (watch : Watched) × Closes side.watch watch

@@ -6,7 +6,7 @@ use Rattle.nr_c.specs.Numbers.{answer_done, answer_hole, answer_no_row, answer_o
 use Rattle.nr_c.specs.declared.reader_side.ReaderSide.{ReaderSide}
 use Rattle.nr_c.specs.declared.rows.NrRows.{NrRows}
 use Rattle.nr_c.specs.Hands.{HoldsNone, HoldsSome}
-use Rattle.nr_c.specs.Live.{TurnsHand}
+use Rattle.nr_c.specs.Live.{HearsHand, TurnsHand}
 use Rattle.nr_c.specs.RowCells.{ShowsSet}
 
 -- a pin by its code: the reader holds the set of the key, and how many rows it has is told; or the key was a hole
@@ -14,7 +14,7 @@ abbrev pub PinsCells : ℕ → ℕ → ℕ → List ReaderSide → List ReaderSi
 PinsCells key told tells before after code =
     ((code ≡ answer_rows) × (old new : Handed) × TurnsHand before after old new × HoldsNone old
     × PinsByHand key old new true × (tells ≡ length new.rows))
-    ⊎ ((code ≡ answer_hole) × (old new : Handed) × TurnsHand before after old new × HoldsNone old
+    ⊎ ((old new : Handed) × HearsHand answer_hole code before after old new × HoldsNone old
     × PinsByHand key old new false × (tells ≡ told))
 
 -- a row of the held set by its code; the reader holds the same set

@@ -11,6 +11,7 @@ use crate::codes::{NR_CLOSED, NR_DONE, NR_HOLDING, NR_NO_KEY};
 use crate::id_codes::of_found_id;
 use crate::id_reader_handle::NrIdReader;
 use crate::rows::NrRows;
+use crate::watch::Watch;
 use nr_idmap::{IdHand, IdMap};
 
 // For how many ids words are loaded ahead at a time.
@@ -45,7 +46,7 @@ pub extern "C" fn nr_find_each_id(reader: &mut NrIdReader, wanted: &mut [NrWante
     if side.holds() {
         return NR_HOLDING;
     }
-    find_all_ids(&side.map, &mut side.hand, wanted);
+    find_all_ids(&side.map, &mut side.hand, &mut side.watch, wanted);
     NR_DONE
 }
 
@@ -55,17 +56,17 @@ fn are_ids(wanted: &[NrWantedId]) -> bool
     wanted.iter().all(|one| one.id > 0)
 }
 
-fn find_all_ids(map: &IdMap, hand: &mut IdHand, wanted: &mut [NrWantedId])
+fn find_all_ids(map: &IdMap, hand: &mut IdHand, watch: &mut Watch, wanted: &mut [NrWantedId])
     requires own { hand_table_of hand.old ≡ map.now }
     requires idle { HoldsNoId hand.old }
     requires ids { AreIds wanted.old }
     ensures own { hand_table_of hand.new ≡ map.now }
     ensures idle { HoldsNoId hand.new }
-    ensures finds { InOrder FindsIdAt 0 wanted.old wanted.new (reader_of hand.old) (reader_of hand.new) }
+    ensures finds { InOrder FindsIdAt 0 wanted.old wanted.new (reader_of hand.old, watch.old) (reader_of hand.new, watch.new) }
 {
     for place in 0..wanted.len() {
         load_ids_from(map, hand, place, &wanted[place..]);
-        find_one_id(map, hand, &mut wanted[place]);
+        find_one_id(map, hand, watch, &mut wanted[place]);
     }
 }
 
@@ -96,13 +97,14 @@ fn copy_ids(group: &[NrWantedId], ids: &mut [u64; GROUP])
     }
 }
 
-fn find_one_id(map: &IdMap, hand: &mut IdHand, one: &mut NrWantedId)
+fn find_one_id(map: &IdMap, hand: &mut IdHand, watch: &mut Watch, one: &mut NrWantedId)
     requires own { hand_table_of hand.old ≡ map.now }
     requires idle { HoldsNoId hand.old }
     requires id { 0 < one.old.id }
     ensures own { hand_table_of hand.new ≡ map.now }
     ensures idle { HoldsNoId hand.new }
-    ensures finds { FindsOneId one.old one.new (reader_of hand.old) (reader_of hand.new) }
+    ensures finds { FindsOneId one.old one.new (reader_of hand.old, watch.old) (reader_of hand.new, watch.new) }
 {
-    one.answer = of_found_id(hand.find(map, one.id, &mut one.rows));
+    let answer = of_found_id(hand.find(map, one.id, &mut one.rows));
+    one.answer = watch.heard(answer);
 }

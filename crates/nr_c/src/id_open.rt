@@ -4,7 +4,8 @@ ghost use Rattle.nr_idmap.specs.IdHands.{idle_by_id};
 ghost use Rattle.nr_idmap.specs.IdOpenings.{IsBadIdShape};
 ghost use Rattle.nr_idmap.specs.Keepers.{id_table_of};
 ghost use Rattle.nr_c.specs.Live.{WhenEmpty, WhenOther};
-ghost use Rattle.nr_c.specs.IdOpenings.{EndsIdReader, IsNewIdWriter, OpensIdMap, TakesIdReader, id_shape_of};
+ghost use Rattle.nr_c.specs.Closings.{IsNewWatch};
+ghost use Rattle.nr_c.specs.IdOpenings.{EndsIdReader, EndsIdWriter, IsNewIdWriter, OpensIdMap, TakesIdReader, id_shape_of};
 
 use crate::codes::{NR_BAD_SIZE, NR_CLOSED, NR_DONE, NR_LIVE, NR_NO_MEMORY, NR_NO_READER};
 use crate::id_reader_handle::NrIdReader;
@@ -14,6 +15,7 @@ use crate::id_writer_handle::NrIdWriter;
 use crate::id_writer_side::IdWriterSide;
 use crate::ledger::Ledger;
 use crate::reader_side::APART;
+use crate::watch::Watch;
 use nr_idmap::{IdMap, IdReader};
 use nr_model::OpenFault;
 use std::alloc::Global;
@@ -60,12 +62,14 @@ fn opened_ids(
         return Err(OpenFault::Memory);
     };
     let map = Arc::new(alloc, map).map_err(|_| OpenFault::Memory)?;
+    let watch = Watch::open(alloc).map_err(|_| OpenFault::Memory)?;
     let side = IdWriterSide {
         apart: [0; APART],
         map,
         writer,
         spare,
         ledger,
+        watch,
     };
     Ok(Box::new(alloc, side).map_err(|_| OpenFault::Memory)?)
 }
@@ -91,7 +95,7 @@ pub extern "C" fn nr_open_id_reader(
     let Some(next) = side.spare.pop() else {
         return NR_NO_READER;
     };
-    match seated_by_id(alloc, &side.map, next) {
+    match seated_by_id(alloc, &side.map, &side.watch, next) {
         Ok(made) => {
             reader.lead_to(made);
             NR_DONE
@@ -107,16 +111,21 @@ pub extern "C" fn nr_open_id_reader(
 fn seated_by_id(
     alloc: Global,
     map: &Arc<IdMap, Global>,
+    writers: &Watch,
     reader: IdReader,
 ) -> Result<Box<IdReaderSide, Global>, IdReader>
     requires own { id_table_of reader ≡ map.now.value }
     ensures ok { IfOk result (λ side. (side.value.map.value ≡ map.now.value) × (side.value.hand ≡ idle_by_id reader)) }
+    ensures watch { IfOk result (λ side. (side.value.watch.word ≡ writers.now.word) × IsNewWatch side.value.watch) }
     ensures back { IfErr result (λ back. back ≡ reader) }
 {
     let Ok(map) = Arc::try_clone(map) else {
         return Err(reader);
     };
-    match Box::new(alloc, IdReaderSide::of(map, reader)) {
+    let Ok(watch) = writers.share() else {
+        return Err(reader);
+    };
+    match Box::new(alloc, IdReaderSide::of(map, reader, watch)) {
         Ok(side) => Ok(side),
         Err(failed) => Err(failed.value.end()),
     }
@@ -135,13 +144,15 @@ pub extern "C" fn nr_close_id_reader(alloc: Global, reader: &mut NrIdReader)
     drop(reader.close(alloc));
 }
 
-/// Ends the writer, and with it each upquery that is open. The memory of the map goes with the last
-/// handle. Nothing happens where the handle isn't live.
+/// Ends the writer, and with it each upquery that is open. Readers are told of it. The memory of the map goes
+/// with the last handle. Nothing happens where the handle isn't live.
 #[unsafe(no_mangle)]
 pub extern "C" fn nr_close_id_writer(alloc: Global, writer: &mut NrIdWriter)
-    ensures { writer.new.live ≡ [] }
+    ensures empty { writer.new.live ≡ [] }
+    ensures ends { EndsIdWriter writer.old.live }
 {
-    if writer.is_live() {
-        drop(writer.close(alloc));
+    if !writer.is_live() {
+        return;
     }
+    drop(writer.close(alloc).end());
 }

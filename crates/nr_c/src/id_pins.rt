@@ -1,12 +1,13 @@
 //! A reader by id that holds a set.
 ghost use Rattle.std.specs.Prelude.{◌≡◌, ⊤};
-ghost use Rattle.nr_c.specs.IdLive.{ByIdleIdReader, IdHandTurns, WhenHoldingById, WithId};
-ghost use Rattle.nr_c.specs.IdPins.{CopiesIdSet, FindsIdByHold, KeepsIdByCode, PinsIdByCode, ReadsIdRow, ReleasesId};
+ghost use Rattle.nr_c.specs.IdLive.{ByIdleIdReader, IdHandHears, IdHandTurns, WhenHoldingById, WithId};
+ghost use Rattle.nr_c.specs.IdPins.{CopiesIdSet, FindsIdByHold, KeepsIdByCode, PinsIdByCode, PinsRowByCode, ReadsIdRow, ReleasesId, count_told, row_told};
 ghost use Rattle.nr_c.specs.Live.{WhenLive};
+ghost use Rattle.nr_model.specs.Rows.{IsRowSet};
+ghost use Rattle.nr_model.specs.declared.rows.TheConstants.{MAX_ROWS};
 
 use crate::codes::{
-    NR_ASKED, NR_CLOSED, NR_DONE, NR_HOLDING, NR_HOLE, NR_NO_KEY, NR_NO_ROW, NR_NOT_HOLDING,
-    NR_OTHER, NR_ROWS,
+    NR_CLOSED, NR_DONE, NR_HOLDING, NR_NO_KEY, NR_NO_ROW, NR_NOT_HOLDING, NR_OTHER, NR_ROWS,
 };
 use crate::id_codes::of_found_id;
 use crate::id_reader_handle::NrIdReader;
@@ -20,7 +21,7 @@ use nr_model::Row;
 /// `NR_NO_KEY` for the id 0, or `NR_HOLDING` where it holds a set, with no step.
 #[unsafe(no_mangle)]
 pub extern "C" fn nr_pin_id(reader: &mut NrIdReader, id: u64, count: &mut u32) -> u32
-    ensures { ByIdleIdReader id (count.new ≡ count.old) (IdHandTurns (PinsIdByCode id count.old count.new)) reader.old.live reader.new.live result }
+    ensures { ByIdleIdReader id (count.new ≡ count.old) (IdHandHears (PinsIdByCode id count.old count.new)) reader.old.live reader.new.live result }
 {
     if !reader.is_live() {
         return NR_CLOSED;
@@ -32,14 +33,48 @@ pub extern "C" fn nr_pin_id(reader: &mut NrIdReader, id: u64, count: &mut u32) -
     if side.holds() {
         return NR_HOLDING;
     }
-    match side.hand.pin(&side.map, id) {
-        FoundId::Rows => {
-            *count = side.hand.rows().len() as u32;
-            NR_ROWS
-        }
-        FoundId::Pending => NR_ASKED,
-        FoundId::Moved => NR_OTHER,
-        FoundId::Absent => NR_HOLE,
+    let found = side.hand.pin(&side.map, id);
+    tell_count(&found, side.hand.rows(), count);
+    side.watch.heard(of_found_id(found))
+}
+
+/// As `nr_pin_id`, and in place of the number of rows it tells the first of them: `NR_ROWS`, and then `row` is
+/// that, and stays where the set has none; or as `nr_pin_id`, and then `row` stays.
+#[unsafe(no_mangle)]
+pub extern "C" fn nr_pin_row_id(reader: &mut NrIdReader, id: u64, row: &mut Row) -> u32
+    ensures { ByIdleIdReader id (row.new ≡ row.old) (IdHandHears (PinsRowByCode id row.old row.new)) reader.old.live reader.new.live result }
+{
+    if !reader.is_live() {
+        return NR_CLOSED;
+    }
+    if id == 0 {
+        return NR_NO_KEY;
+    }
+    let side = reader.side();
+    if side.holds() {
+        return NR_HOLDING;
+    }
+    let found = side.hand.pin(&side.map, id);
+    tell_first(&found, side.hand.rows(), row);
+    side.watch.heard(of_found_id(found))
+}
+
+// How many rows are held, where some were found.
+fn tell_count(found: &FoundId, held: &[Row], count: &mut u32)
+    requires few { IsRowSet MAX_ROWS held.now }
+    ensures { count.new ≡ count_told count.old found.now held.now }
+{
+    if let FoundId::Rows = found {
+        *count = held.len() as u32;
+    }
+}
+
+// And the first of them, where there is one.
+fn tell_first(found: &FoundId, held: &[Row], row: &mut Row)
+    ensures { row.new ≡ row_told row.old found.now held.now }
+{
+    if let (FoundId::Rows, Some(first)) = (found, held.first()) {
+        *row = *first;
     }
 }
 
@@ -49,7 +84,7 @@ pub extern "C" fn nr_pin_id(reader: &mut NrIdReader, id: u64, count: &mut u32) -
 /// `nr_find_id`; where that isn't `NR_ROWS`, nothing is held and the caller's cells stay.
 #[unsafe(no_mangle)]
 pub extern "C" fn nr_find_kept_id(reader: &mut NrIdReader, id: u64, rows: &mut NrRows) -> u32
-    ensures { WhenLive (rows.new ≡ rows.old) (WithId id (rows.new ≡ rows.old) (IdHandTurns (KeepsIdByCode id rows.old rows.new))) reader.old.live reader.new.live result }
+    ensures { WhenLive (rows.new ≡ rows.old) (WithId id (rows.new ≡ rows.old) (IdHandHears (KeepsIdByCode id rows.old rows.new))) reader.old.live reader.new.live result }
 {
     if !reader.is_live() {
         return NR_CLOSED;
@@ -58,7 +93,8 @@ pub extern "C" fn nr_find_kept_id(reader: &mut NrIdReader, id: u64, rows: &mut N
         return NR_NO_KEY;
     }
     let side = reader.side();
-    of_found_id(side.hand.find_kept(&side.map, id, rows))
+    let answer = of_found_id(side.hand.find_kept(&side.map, id, rows));
+    side.watch.heard(answer)
 }
 
 /// A row of the held set, from 0: `NR_ROWS`. `NR_NO_ROW` where it has no such row, and `row` stays.

@@ -6,6 +6,7 @@ ghost use Rattle.nr_idmap.specs.Keepers.{id_table_of};
 ghost use Rattle.nr_c.specs.Hands.{EndsIdHand, HoldsAnId, HoldsNoId};
 
 use crate::reader_side::APART;
+use crate::watch::Watch;
 use nr_idmap::{IdHand, IdMap, IdReader};
 use std::alloc::Global;
 use std::sync::Arc;
@@ -14,6 +15,7 @@ use std::sync::Arc;
 pub struct IdReaderSide {
     pub map: Arc<IdMap, Global>,
     pub hand: IdHand,
+    pub watch: Watch,
     /// Keeps what the calls of two threads write apart.
     pub apart: [u64; APART],
     ghost own: { hand_table_of hand ≡ map.value },
@@ -28,14 +30,16 @@ impl Drop for IdReaderSide {
 
 impl IdReaderSide {
     /// A side with a reader that holds nothing.
-    pub fn of(map: Arc<IdMap, Global>, reader: IdReader) -> IdReaderSide
+    pub fn of(map: Arc<IdMap, Global>, reader: IdReader, watch: Watch) -> IdReaderSide
         requires own { id_table_of reader ≡ map.value }
         ensures map { result.map ≡ map }
         ensures hand { result.hand ≡ idle_by_id reader }
+        ensures watch { result.watch ≡ watch }
     {
         IdReaderSide {
             map,
             hand: IdHand::of(reader),
+            watch,
             apart: [0; APART],
         }
     }
@@ -57,6 +61,7 @@ impl IdReaderSide {
         let IdReaderSide {
             map,
             hand,
+            watch: _,
             apart: _,
         } = self;
         hand.into_reader(&map)

@@ -1,6 +1,6 @@
 //! What a reader by id calls.
 ghost use Rattle.std.specs.Prelude.{◌≡◌, ⊤};
-ghost use Rattle.nr_c.specs.IdLive.{ByIdleIdReader, IdHandTurns, IdReaderCalls, WithId};
+ghost use Rattle.nr_c.specs.IdLive.{ByIdleIdReader, IdHandAsks, IdReaderHears, WithId};
 ghost use Rattle.nr_c.specs.IdReads.{FindsIdByCode, RequestsByCode};
 ghost use Rattle.nr_c.specs.Live.{WhenLive};
 
@@ -19,7 +19,7 @@ use crate::rows::NrRows;
 /// meanwhile, and 1 to mark it where rows were found and it isn't marked.
 #[unsafe(no_mangle)]
 pub extern "C" fn nr_find_id(reader: &mut NrIdReader, id: u64, rows: &mut NrRows) -> u32
-    ensures { ByIdleIdReader id (rows.new ≡ rows.old) (IdReaderCalls (FindsIdByCode id rows.old rows.new)) reader.old.live reader.new.live result }
+    ensures { ByIdleIdReader id (rows.new ≡ rows.old) (IdReaderHears (FindsIdByCode id rows.old rows.new)) reader.old.live reader.new.live result }
 {
     if !reader.is_live() {
         return NR_CLOSED;
@@ -31,7 +31,8 @@ pub extern "C" fn nr_find_id(reader: &mut NrIdReader, id: u64, rows: &mut NrRows
     if side.holds() {
         return NR_HOLDING;
     }
-    of_found_id(side.hand.find(&side.map, id, rows))
+    let answer = of_found_id(side.hand.find(&side.map, id, rows));
+    side.watch.heard(answer)
 }
 
 /// Requests an id that has no way. Answers `NR_SEND` where the claim of its group is this caller's, whose
@@ -42,7 +43,7 @@ pub extern "C" fn nr_find_id(reader: &mut NrIdReader, id: u64, rows: &mut NrRows
 /// the reader holds stays held.
 #[unsafe(no_mangle)]
 pub extern "C" fn nr_request_id(reader: &mut NrIdReader, id: u64) -> u32
-    ensures { WhenLive ⊤ (WithId id ⊤ (IdHandTurns (RequestsByCode id))) reader.old.live reader.new.live result }
+    ensures { WhenLive ⊤ (WithId id ⊤ (IdHandAsks (RequestsByCode id))) reader.old.live reader.new.live result }
 {
     if !reader.is_live() {
         return NR_CLOSED;
@@ -51,5 +52,8 @@ pub extern "C" fn nr_request_id(reader: &mut NrIdReader, id: u64) -> u32
         return NR_NO_KEY;
     }
     let side = reader.side();
+    if side.watch.is_closed() {
+        return NR_CLOSED;
+    }
     of_request(side.hand.request(&side.map, id))
 }

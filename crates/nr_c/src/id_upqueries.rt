@@ -96,6 +96,7 @@ pub fn take_back(side: &mut IdWriterSide, upquery: NrUpquery) -> u32
     ensures withdraws { WithdrawsByCode upquery side.old side.new result }
     ensures map { side.new.map ≡ side.old.map }
     ensures spare { side.new.spare ≡ side.old.spare }
+    ensures watch { side.new.watch ≡ side.old.watch }
 {
     let Some(opened) = side.ledger.give_up(upquery) else {
         return NR_STALE;

@@ -1,10 +1,12 @@
 //! What an id writer's handle leads to.
 ghost use Rattle.std.specs.Prelude.{◌≡◌, All};
 ghost use Rattle.nr_idmap.specs.Keepers.{id_table_of};
+ghost use Rattle.nr_c.specs.Closings.{Closes};
 ghost use Rattle.nr_c.specs.Ledgers.{AreOf};
 
 use crate::ledger::Ledger;
 use crate::reader_side::APART;
+use crate::watch::Watch;
 use nr_idmap::{IdMap, IdReader, IdWriter};
 use std::alloc::Global;
 use std::sync::Arc;
@@ -19,7 +21,27 @@ pub struct IdWriterSide {
     pub writer: IdWriter,
     pub spare: Vec<IdReader, Global>,
     pub ledger: Ledger,
+    pub watch: Watch,
     ghost own: { writer.table ≡ map.value },
     ghost spares: { All (λ reader. id_table_of reader ≡ map.value) spare.items },
     ghost owed: { AreOf map.value ledger },
+}
+
+impl IdWriterSide {
+    /// Tells the readers that the writer is closed, which ends with each open upquery, and with its share of the
+    /// map.
+    pub fn end(self) -> Watch
+        ensures { Closes self.watch result }
+    {
+        let IdWriterSide {
+            apart: _,
+            map: _,
+            writer: _,
+            spare: _,
+            ledger: _,
+            mut watch,
+        } = self;
+        watch.close();
+        watch
+    }
 }

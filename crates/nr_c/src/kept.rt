@@ -23,5 +23,6 @@ pub extern "C" fn nr_find_kept(reader: &mut NrReader, key: u32, rows: &mut NrRow
         return NR_NO_KEY;
     }
     side.hand.hold_for(key);
-    of_found(side.hand.find_kept(&side.map, key, rows))
+    let answer = of_found(side.hand.find_kept(&side.map, key, rows));
+    side.watch.heard(answer)
 }

@@ -61,6 +61,7 @@ mod taker_handle;
 mod taker_lend;
 mod taker_side;
 mod version;
+mod watch;
 mod writer_handle;
 mod writer_lend;
 mod writer_side;

@@ -9,6 +9,7 @@ use crate::codes::{NR_CLOSED, NR_DONE, NR_HOLDING, NR_NO_KEY, of_found};
 use crate::reader_handle::NrReader;
 use crate::reader_side::ReaderSide;
 use crate::rows::NrRows;
+use crate::watch::Watch;
 use nr_map::{Hand, ReaderMap};
 
 // How many keys' words are loaded ahead at a time.
@@ -44,7 +45,7 @@ pub extern "C" fn nr_find_each(reader: &mut NrReader, wanted: &mut [NrWanted]) -
     if side.holds() {
         return NR_HOLDING;
     }
-    find_all(&side.map, &mut side.hand, wanted);
+    find_all(&side.map, &mut side.hand, &mut side.watch, wanted);
     side.hand.release(&side.map);
     NR_DONE
 }
@@ -65,15 +66,15 @@ impl ReaderSide {
     }
 }
 
-fn find_all(map: &ReaderMap, hand: &mut Hand, wanted: &mut [NrWanted])
+fn find_all(map: &ReaderMap, hand: &mut Hand, watch: &mut Watch, wanted: &mut [NrWanted])
     requires own { hand.old.reader.table ≡ map.now }
     requires keys { All (λ one. one.key < map.now.shape.keys) wanted.old }
     ensures own { hand.new.reader.table ≡ map.now }
-    ensures finds { InOrder FindsAtByCode 0 wanted.old wanted.new hand.old hand.new }
+    ensures finds { InOrder FindsAtByCode 0 wanted.old wanted.new (hand.old, watch.old) (hand.new, watch.new) }
 {
     for place in 0..wanted.len() {
         load_from(map, hand, place, &wanted[place..]);
-        find_one(map, hand, &mut wanted[place]);
+        find_one(map, hand, watch, &mut wanted[place]);
     }
 }
 
@@ -101,11 +102,12 @@ fn copy_keys(group: &[NrWanted], keys: &mut [u32; GROUP])
     }
 }
 
-fn find_one(map: &ReaderMap, hand: &mut Hand, one: &mut NrWanted)
+fn find_one(map: &ReaderMap, hand: &mut Hand, watch: &mut Watch, one: &mut NrWanted)
     requires own { hand.old.reader.table ≡ map.now }
     requires key { one.old.key < map.now.shape.keys }
     ensures own { hand.new.reader.table ≡ map.now }
-    ensures finds { FindsOneByCode one.old one.new hand.old hand.new }
+    ensures finds { FindsOneByCode one.old one.new (hand.old, watch.old) (hand.new, watch.new) }
 {
-    one.answer = of_found(hand.find_kept(map, one.key, &mut one.rows));
+    let answer = of_found(hand.find_kept(map, one.key, &mut one.rows));
+    one.answer = watch.heard(answer);
 }

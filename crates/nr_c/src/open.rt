@@ -3,7 +3,8 @@ ghost use Rattle.std.specs.Prelude.{◌≡◌, ◌↔◌, [], Err, IfOk, IfErr};
 ghost use Rattle.nr_map.specs.Hands.{idle};
 ghost use Rattle.nr_map.specs.Opened.{IsOpened, words_of_large};
 ghost use Rattle.nr_c.specs.Live.{OneMap, WhenBothLive, WhenEmpty, WhenLive, WhenOther};
-ghost use Rattle.nr_c.specs.Openings.{EndsReader, IsNewWriter, IsRefused, Opens, ReturnsReader, TakesReader};
+ghost use Rattle.nr_c.specs.Closings.{IsNewWatch};
+ghost use Rattle.nr_c.specs.Openings.{EndsReader, EndsWriter, IsNewWriter, IsRefused, Opens, ReturnsReader, TakesReader};
 ghost use Rattle.nr_c.specs.Sizes.{TellsSizes, shape_of_sizes};
 
 use crate::codes::{NR_BAD_SIZE, NR_CLOSED, NR_DONE, NR_LIVE, NR_NO_MEMORY, NR_NO_READER};
@@ -11,6 +12,7 @@ use crate::reader_handle::NrReader;
 use crate::reader_side::{APART, ReaderSide};
 use crate::remains_side::RemainsSide;
 use crate::sizes::{NrShape, NrSizes};
+use crate::watch::Watch;
 use crate::writer_handle::NrWriter;
 use crate::writer_side::WriterSide;
 use nr_core::Shape;
@@ -57,12 +59,14 @@ fn opened(alloc: Global, shape: &NrShape) -> Result<Box<WriterSide, Global>, Ope
     let (map, writer, spare) = opened_map(alloc, &shape.shape())?;
     let map = Arc::new(alloc, map).map_err(|_| OpenFault::Memory)?;
     let room = Box::new(alloc, RemainsSide::empty()).map_err(|_| OpenFault::Memory)?;
+    let watch = Watch::open(alloc).map_err(|_| OpenFault::Memory)?;
     let side = WriterSide {
         map,
         apart: [0; APART],
         writer,
         spare,
         room,
+        watch,
     };
     Ok(Box::new(alloc, side).map_err(|_| OpenFault::Memory)?)
 }
@@ -84,7 +88,7 @@ pub extern "C" fn nr_open_reader(alloc: Global, writer: &mut NrWriter, reader: &
     let Some(next) = side.spare.pop() else {
         return NR_NO_READER;
     };
-    match seated(alloc, &side.map, next) {
+    match seated(alloc, &side.map, &side.watch, next) {
         Ok(made) => {
             reader.lead_to(made);
             NR_DONE
@@ -100,16 +104,21 @@ pub extern "C" fn nr_open_reader(alloc: Global, writer: &mut NrWriter, reader: &
 fn seated(
     alloc: Global,
     map: &Arc<ReaderMap, Global>,
+    writers: &Watch,
     reader: Reader,
 ) -> Result<Box<ReaderSide, Global>, Reader>
     requires own { reader.table ≡ map.now.value }
     ensures ok { IfOk result (λ side. (side.value.map.value ≡ map.now.value) × (side.value.hand ≡ idle reader)) }
+    ensures watch { IfOk result (λ side. (side.value.watch.word ≡ writers.now.word) × IsNewWatch side.value.watch) }
     ensures back { IfErr result (λ back. back ≡ reader) }
 {
     let Ok(map) = Arc::try_clone(map) else {
         return Err(reader);
     };
-    match Box::new(alloc, ReaderSide::of(map, reader)) {
+    let Ok(watch) = writers.share() else {
+        return Err(reader);
+    };
+    match Box::new(alloc, ReaderSide::of(map, reader, watch)) {
         Ok(side) => Ok(side),
         Err(failed) => Err(failed.value.end()),
     }
@@ -151,15 +160,17 @@ pub extern "C" fn nr_close_reader(alloc: Global, reader: &mut NrReader)
     drop(reader.close(alloc));
 }
 
-/// Ends the writer. The memory of the map goes with the last handle. Nothing happens where the handle
-/// isn't live.
+/// Ends the writer. Readers are told of it. The memory of the map goes with the last handle. Nothing happens
+/// where the handle isn't live.
 #[unsafe(no_mangle)]
 pub extern "C" fn nr_close_writer(alloc: Global, writer: &mut NrWriter)
-    ensures { writer.new.live ≡ [] }
+    ensures empty { writer.new.live ≡ [] }
+    ensures ends { EndsWriter writer.old.live }
 {
-    if writer.is_live() {
-        drop(writer.close(alloc));
+    if !writer.is_live() {
+        return;
     }
+    drop(writer.close(alloc).end());
 }
 
 /// The map's sizes: `NR_DONE`; or `NR_CLOSED`, and `sizes` stay.

@@ -30,7 +30,7 @@ pub extern "C" fn nr_pin(reader: &mut NrReader, key: u32, count: &mut u32) -> u3
         return NR_HOLDING;
     }
     if !side.hand.pin(&side.map, key) {
-        return NR_HOLE;
+        return side.watch.heard(NR_HOLE);
     }
     *count = side.hand.len();
     NR_ROWS

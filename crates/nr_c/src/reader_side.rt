@@ -4,6 +4,7 @@ ghost use Rattle.std.specs.Bool.{OnFalse, OnTrue};
 ghost use Rattle.nr_c.specs.Hands.{EndsHand, HoldsNone, HoldsSome};
 ghost use Rattle.nr_map.specs.Hands.{idle};
 
+use crate::watch::Watch;
 use nr_map::{Hand, Reader, ReaderMap};
 use std::alloc::Global;
 use std::sync::Arc;
@@ -17,6 +18,7 @@ pub const APART: usize = 28;
 pub struct ReaderSide {
     pub map: Arc<ReaderMap, Global>,
     pub hand: Hand,
+    pub watch: Watch,
     /// Keeps what the calls of two threads write apart.
     pub apart: [u64; APART],
     ghost own: { hand.reader.table ≡ map.value },
@@ -31,14 +33,16 @@ impl Drop for ReaderSide {
 
 impl ReaderSide {
     /// A side with a reader that holds nothing.
-    pub fn of(map: Arc<ReaderMap, Global>, reader: Reader) -> ReaderSide
+    pub fn of(map: Arc<ReaderMap, Global>, reader: Reader, watch: Watch) -> ReaderSide
         requires own { reader.table ≡ map.value }
         ensures map { result.map ≡ map }
         ensures hand { result.hand ≡ idle reader }
+        ensures watch { result.watch ≡ watch }
     {
         ReaderSide {
             map,
             hand: Hand::of(reader),
+            watch,
             apart: [0; APART],
         }
     }
@@ -68,6 +72,7 @@ impl ReaderSide {
         let ReaderSide {
             map,
             hand,
+            watch: _,
             apart: _,
         } = self;
         hand.into_reader(&map)

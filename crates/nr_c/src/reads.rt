@@ -1,6 +1,6 @@
 //! What a reader that holds nothing calls.
 ghost use Rattle.std.specs.Prelude.{◌≡◌};
-ghost use Rattle.nr_c.specs.Live.{AsksByCode, ByIdleReader, FindsByCode, ReaderCalls};
+ghost use Rattle.nr_c.specs.Live.{AsksByCode, ByIdleReader, FindsByCode, ReaderAsks, ReaderHears};
 
 use crate::codes::{NR_CLOSED, NR_FILLED, NR_HOLDING, NR_NO_KEY, NR_SEND, NR_WAITING, of_found};
 use crate::reader_handle::NrReader;
@@ -12,7 +12,7 @@ use nr_map::Asked;
 /// `NR_HOLDING` where the reader holds a set, with no step.
 #[unsafe(no_mangle)]
 pub extern "C" fn nr_find(reader: &mut NrReader, key: u32, rows: &mut NrRows) -> u32
-    ensures { ByIdleReader key (rows.new ≡ rows.old) (ReaderCalls (FindsByCode key rows.old rows.new)) reader.old.live reader.new.live result }
+    ensures { ByIdleReader key (rows.new ≡ rows.old) (ReaderHears (FindsByCode key rows.old rows.new)) reader.old.live reader.new.live result }
 {
     if !reader.is_live() {
         return NR_CLOSED;
@@ -24,7 +24,8 @@ pub extern "C" fn nr_find(reader: &mut NrReader, key: u32, rows: &mut NrRows) ->
     if side.holds() {
         return NR_HOLDING;
     }
-    of_found(side.hand.find(&side.map, key, rows))
+    let answer = of_found(side.hand.find(&side.map, key, rows));
+    side.watch.heard(answer)
 }
 
 /// Requests a key, in 1 step. Answers `NR_SEND`, and then `number` is the request's ticket number,
@@ -32,7 +33,7 @@ pub extern "C" fn nr_find(reader: &mut NrReader, key: u32, rows: &mut NrRows) ->
 /// or `NR_HOLDING` where the reader holds a set, with no step.
 #[unsafe(no_mangle)]
 pub extern "C" fn nr_ask(reader: &mut NrReader, key: u32, number: &mut u64) -> u32
-    ensures { ByIdleReader key (number.new ≡ number.old) (ReaderCalls (AsksByCode key number.old number.new)) reader.old.live reader.new.live result }
+    ensures { ByIdleReader key (number.new ≡ number.old) (ReaderAsks (number.new ≡ number.old) (AsksByCode key number.old number.new)) reader.old.live reader.new.live result }
 {
     if !reader.is_live() {
         return NR_CLOSED;
@@ -43,6 +44,9 @@ pub extern "C" fn nr_ask(reader: &mut NrReader, key: u32, number: &mut u64) -> u
     }
     if side.holds() {
         return NR_HOLDING;
+    }
+    if side.watch.is_closed() {
+        return NR_CLOSED;
     }
     match side.hand.ask(&side.map, key) {
         Asked::Send(ticket) => {

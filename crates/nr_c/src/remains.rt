@@ -38,6 +38,7 @@ pub extern "C" fn nr_take_apart(
         writer,
         spare,
         mut room,
+        watch: _,
     } = writer.close(alloc);
     let rest = map.leave(writer, spare);
     room.left = Some(LeftMap { map, rest });

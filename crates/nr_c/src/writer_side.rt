@@ -1,9 +1,11 @@
 //! What the writer's handle leads to.
 ghost use Rattle.std.specs.Prelude.{◌≡◌, ◌≢◌, ◌<◌, ◌≤◌, All, length};
 ghost use Rattle.std.specs.Bool.{OnFalse, OnTrue};
+ghost use Rattle.nr_c.specs.Closings.{Closes};
 
 use crate::reader_side::APART;
 use crate::remains_side::RemainsSide;
+use crate::watch::Watch;
 use nr_map::{Reader, ReaderMap, Writer};
 use std::alloc::Global;
 use std::sync::Arc;
@@ -20,11 +22,28 @@ pub struct WriterSide {
     pub spare: Vec<Reader, Global>,
     /// Where what remains will lie, once the map is taken apart.
     pub room: Box<RemainsSide, Global>,
+    pub watch: Watch,
     ghost own: { writer.table ≡ map.value },
     ghost spares: { All (λ reader. reader.table ≡ map.value) spare.items },
 }
 
 impl WriterSide {
+    /// Tells the readers that the writer is closed, which ends with this, and with it its share of the map.
+    pub fn end(self) -> Watch
+        ensures { Closes self.watch result }
+    {
+        let WriterSide {
+            map: _,
+            apart: _,
+            writer: _,
+            spare: _,
+            room: _,
+            mut watch,
+        } = self;
+        watch.close();
+        watch
+    }
+
     /// Whether its map has that key.
     pub fn has_key(&self, key: u32) -> bool
         ensures has { OnTrue result (key < self.now.map.value.shape.keys) }

@@ -22,6 +22,7 @@ fn read(mut reader: Reader, mut poster: Poster, lobby: &Lobby<Thread>, dataflow:
                 }
                 Asked::Waiting => {}
                 Asked::Filled => continue,
+                Asked::Closed => panic!("the dataflow is gone"),
             }
             thread::park();
         }

@@ -106,6 +106,8 @@ pub enum Asked {
     Waiting,
     /// The key is filled.
     Filled,
+    /// The writer was dropped, so nobody will fill the key.
+    Closed,
 }
 
 /// What a key is.

@@ -40,6 +40,7 @@ pub const NR_NO_READER: u32 = 22;
 pub const NR_FULL: u32 = 24;
 pub const NR_EMPTY: u32 = 25;
 pub const NR_ALL_FILLED: u32 = 30;
+pub const NR_CLOSED: u32 = 31;
 pub const NR_IN_THE_WAY: u32 = 33;
 pub const NR_GIVEN: u32 = 34;
 pub const NR_HELD: u32 = 35;
@@ -99,7 +100,7 @@ extern "C" {
     pub fn nr_close_id_reader(reader: *mut Handle);
     pub fn nr_close_id_writer(writer: *mut Handle);
     pub fn nr_pin_id(reader: *mut Handle, id: u64, count: *mut u32) -> u32;
-    pub fn nr_find_kept_id(reader: *mut Handle, id: u64, rows: *mut Rows) -> u32;
+    pub fn nr_pin_row_id(reader: *mut Handle, id: u64, row: *mut Row) -> u32;
     pub fn nr_release_id(reader: *mut Handle) -> u32;
     pub fn nr_request_id(reader: *mut Handle, id: u64) -> u32;
     pub fn nr_admit(writer: *mut Handle, id: u64, upquery: *mut Upquery) -> u32;

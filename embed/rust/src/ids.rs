@@ -77,17 +77,20 @@ pub struct IdReader {
 unsafe impl Send for IdReader {}
 
 impl IdReader {
-    /// The rows of an id, where it has some. The reader holds them until its next find or [`IdReader::let_go`].
-    pub fn hold<'a>(&mut self, id: u64, rows: &'a mut Rows) -> Option<&'a [Row]> {
-        // SAFETY: the handle is live, and the rows are laid out as the header's.
-        self.holds = unsafe { ffi::nr_find_kept_id(&mut self.handle, id, rows) } == ffi::NR_ROWS;
-        self.holds.then(|| rows.as_slice())
+    /// The first row of an id's set, where it has one: zeros of a set without rows. The reader holds the set until its next
+    /// find or [`IdReader::let_go`].
+    pub fn hold(&mut self, id: u64) -> Option<Row> {
+        self.let_go();
+        let mut row = Row::default();
+        // SAFETY: the handle is live and holds nothing, and the row is laid out as the header's.
+        self.holds = unsafe { ffi::nr_pin_row_id(&mut self.handle, id, &mut row) } == ffi::NR_ROWS;
+        self.holds.then_some(row)
     }
 
-    /// The same where the caller knows the rows: whether the id has some.
+    /// The same where the caller knows the row: whether the id has a set.
     pub fn pin(&mut self, id: u64) -> bool {
         self.let_go();
-        // SAFETY: the handle is live.
+        // SAFETY: the handle is live and holds nothing.
         self.holds = unsafe { ffi::nr_pin_id(&mut self.handle, id, &mut 0) } == ffi::NR_ROWS;
         self.holds
     }

@@ -34,6 +34,7 @@ const GROUPS: u32 = 64;
 ///                 Asked::Send(ticket) => posters[0].post_waiting(ticket),
 ///                 Asked::Waiting => {}
 ///                 Asked::Filled => continue,
+///                 Asked::Closed => panic!("the dataflow is gone"),
 ///             }
 ///             dataflow.unpark();
 ///             woken.recv().expect("the dataflow wakes it");
@@ -77,12 +78,12 @@ impl<W> Lobby<W> {
     }
 
     /// Requests a key, and puts the waiter on its list, unless the key is filled: then the waiter is dropped, and the
-    /// key is there to be found. Panics where the reader is of another map, or the map has no such key.
+    /// key is there to be found. It is dropped too once the writer is gone. Panics where the reader is of another map, or the map has no such key.
     pub fn ask(&self, reader: &mut Reader, key: u32, waiter: W) -> Asked {
         self.map.is_of(&reader.map);
         let mut lists = self.group(key).lists();
         let asked = reader.ask(key);
-        if asked != Asked::Filled {
+        if matches!(asked, Asked::Send(_) | Asked::Waiting) {
             lists.entry(key).or_default().push(waiter);
         }
         asked

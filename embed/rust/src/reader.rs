@@ -97,7 +97,8 @@ impl Reader {
         self.release();
     }
 
-    /// Requests a key. The first request since it became a hole is the one to be sent.
+    /// Requests a key. The first request since it became a hole is the one to be sent. Once the writer was dropped each is
+    /// answered [`Asked::Closed`].
     pub fn ask(&mut self, key: u32) -> Asked {
         self.release();
         let key = self.map.checked(key);
@@ -106,6 +107,7 @@ impl Reader {
         match unsafe { ffi::nr_ask(&mut self.handle, key, &mut number) } {
             ffi::NR_SEND => Asked::Send(Ticket::of(self.map.id, key, number)),
             ffi::NR_WAITING => Asked::Waiting,
+            ffi::NR_CLOSED => Asked::Closed,
             _ => Asked::Filled,
         }
     }

@@ -383,6 +383,26 @@ fn a_kept_find_holds_its_set_until_it_is_let_go() {
 }
 
 #[test]
+fn readers_are_told_that_the_writer_was_dropped() {
+    let ReaderMap { mut writer, mut readers } = ReaderMap::open(&Shape::new(3, 5, 1)).unwrap();
+    let lobby = Lobby::of(&writer);
+    let mut rows = Rows::new();
+    let Asked::Send(ticket) = readers[0].ask(0) else { panic!() };
+    writer.fill(ticket, &[ONE]).unwrap();
+    assert!(matches!(readers[0].ask(1), Asked::Send(_)));
+    assert_eq!((readers[0].ask(1), readers[0].ask(0)), (Asked::Waiting, Asked::Filled));
+    drop(writer);
+    for key in 0..3 {
+        assert_eq!(readers[0].ask(key), Asked::Closed);
+        assert_eq!(lobby.ask(&mut readers[0], key, "nobody would wake it"), Asked::Closed);
+        assert!(!lobby.is_awaited(key));
+    }
+    assert_eq!(readers[0].find(0, &mut rows), Some(&[ONE][..]));
+    assert_eq!(readers[0].find(1, &mut rows), None);
+    assert_eq!(readers[0].find_kept(2, &mut rows), None);
+}
+
+#[test]
 fn a_replacement_puts_a_whole_set() {
     // One key and two slots: a replacement needs the slot that isn't the key's.
     let ReaderMap { mut writer, mut readers } = ReaderMap::open(&Shape::new(1, 2, 1)).unwrap();

@@ -18,6 +18,7 @@ pub struct Session<'a> {
 
 const WRONG_COUNT: &str = "wrong number of arguments";
 const UNKNOWN: &str = "unknown command: there are GET, READ, PEEK, VOTE, UNVOTE, STATS, PING and COMMAND";
+const ENDED: &str = "the edge has ended";
 const NOT_REACHED: &str = "the edge has not come as far as the token: try again, or ask another edge";
 /// Its place, once it is committed: without a flush it isn't on the disk yet.
 const PLACE: &str = "SELECT CASE current_setting('synchronous_commit') WHEN 'off' THEN pg_current_wal_insert_lsn()
@@ -83,7 +84,7 @@ impl Session<'_> {
             }
             let (tell, told) = mpsc::channel();
             match key {
-                Some(key) => self.miss(key, tell),
+                Some(key) => self.miss(key, tell)?,
                 None => {
                     _ = [Count::Misses, Count::Upqueries].map(|what| self.shared.counts[self.number].up(what));
                     _ = self.events.send(Event::Asked(article.into(), tell));
@@ -123,16 +124,18 @@ impl Session<'_> {
     }
 
     /// Requests a key that was not filled, so that the dataflow tells its rows.
-    fn miss(&mut self, key: u32, tell: mpsc::Sender<Told>) {
+    fn miss(&mut self, key: u32, tell: mpsc::Sender<Told>) -> Result<(), String> {
         match self.shared.lobby.ask(&mut self.reader, key, tell) {
             Asked::Send(ticket) => self.poster.post_waiting(ticket),
             Asked::Waiting => {
                 self.shared.counts[self.number].up(Count::Waits);
                 _ = self.events.send(Event::Awaited(key));
             }
-            Asked::Filled => return,
+            Asked::Filled => return Ok(()),
+            Asked::Closed => return Err(ENDED.into()),
         }
         self.shared.counts[self.number].up(Count::Misses);
+        Ok(())
     }
 
     /// Writes to PostgreSQL, and answers with a token: a read that brings it sees what was written, at any edge.

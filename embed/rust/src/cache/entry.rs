@@ -52,7 +52,12 @@ pub(super) fn row_of<K, V>(entry: NonNull<Entry<K, V>>) -> Row {
     Row { a: 1, b: entry.as_ptr() as u64 }
 }
 
+/// The entry that a set's row refers to; a row of zeros refers to none.
+pub(super) fn entry_at<K, V>(row: Row) -> Option<NonNull<Entry<K, V>>> {
+    NonNull::new(row.b as *mut Entry<K, V>)
+}
+
 /// The entry that the rows of a set refer to; a set without rows has none.
 pub(super) fn entry_of<K, V>(rows: &[Row]) -> Option<NonNull<Entry<K, V>>> {
-    NonNull::new(rows.first()?.b as *mut Entry<K, V>)
+    entry_at(*rows.first()?)
 }

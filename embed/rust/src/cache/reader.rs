@@ -1,6 +1,6 @@
 //! What a thread finds and loads values with.
 use super::counts::Counts;
-use super::entry::{entry_of, Entry};
+use super::entry::{entry_at, Entry};
 use super::flights::End;
 use super::hold::Hold;
 use super::part::{Begun, Failing, Landed, Part};
@@ -9,7 +9,6 @@ use super::shared::{Desk, Shared};
 use super::store::Place;
 use super::Cache;
 use crate::ids::IdReader;
-use crate::Rows;
 use std::borrow::Borrow;
 use std::convert::Infallible;
 use std::error::Error;
@@ -30,14 +29,13 @@ pub struct CacheReader<K: Hash + Eq, V, S: BuildHasher> {
     /// The part in which it found last, and the only one in which it may still hold what was borrowed and forgotten.
     last: usize,
     number: usize,
-    rows: Box<Rows>,
     cache: Cache<K, V, S>,
 }
 
 impl<K: Hash + Eq, V, S: BuildHasher> CacheReader<K, V, S> {
     pub(super) fn of(desk: Desk, cache: Cache<K, V, S>) -> CacheReader<K, V, S> {
         let Desk { ids, number } = desk;
-        CacheReader { ids: ManuallyDrop::new(ids), last: 0, number, rows: Box::default(), cache }
+        CacheReader { ids: ManuallyDrop::new(ids), last: 0, number, cache }
     }
 
     /// The cache that it reads.
@@ -244,9 +242,9 @@ impl<K: Hash + Eq, V, S: BuildHasher> CacheReader<K, V, S> {
             self.ids[last].let_go();
         }
         let reader = &mut self.ids[at.part];
-        let rows = reader.hold(at.id, &mut self.rows)?;
+        let row = reader.hold(at.id)?;
         let hold = Hold::had(reader);
-        let place = entry_of::<K, V>(rows)?;
+        let place = entry_at::<K, V>(row)?;
         // SAFETY: the reader holds the entry's set, so the entry hasn't come back.
         let entry = unsafe { place.as_ref() };
         let now = part.expiry.now();

@@ -66,6 +66,7 @@ fn nobody_comes_onto_a_list_after_the_fill() {
                             Asked::Send(ticket) => poster.post_waiting(ticket),
                             Asked::Waiting => {}
                             Asked::Filled => break,
+                            Asked::Closed => panic!("the writer is there"),
                         }
                     }
                 }
@@ -114,6 +115,7 @@ fn get_all(mut client: Client, lobby: &Lobby<Sender<Row>>, dataflow: &thread::Th
             }
             Asked::Waiting => {}
             Asked::Filled => continue,
+            Asked::Closed => panic!("the writer is there"),
         }
         assert_eq!(told.recv(), Ok(wanted));
     }

@@ -37,6 +37,7 @@ returns-then-are_all_asked c =
         was = ap (λ handle. handle.live) (sym c.is_live.ensures.same) ∙ c.side-side.ensures.value;
         is = refl;
         map = refl;
+        watch = refl;
         spare = refl;
         made =
             inl
@@ -64,6 +65,7 @@ returns-in-Some c =
         was = ap (λ handle. handle.live) (sym c.is_live.ensures.same) ∙ c.side-side.ensures.value;
         is = refl;
         map = refl;
+        watch = refl;
         spare = refl;
         made =
             inr
@@ -94,6 +96,7 @@ returns-in-None c =
         was = ap (λ handle. handle.live) (sym c.is_live.ensures.same) ∙ c.side-side.ensures.value;
         is = refl;
         map = refl;
+        watch = refl;
         spare = refl;
         made =
             inr

@@ -67,6 +67,7 @@ returns-in-Some c =
         was = ap (λ handle. handle.live) (sym c.is_live.ensures.same) ∙ c.side-side.ensures.value;
         is = refl;
         map = c.take_back.ensures.map;
+        watch = c.take_back.ensures.watch;
         spare = c.take_back.ensures.spare;
         made =
             inl (
@@ -94,6 +95,7 @@ returns-in-None c =
         was = ap (λ handle. handle.live) (sym c.is_live.ensures.same) ∙ c.side-side.ensures.value;
         is = refl;
         map = refl;
+        watch = refl;
         spare = refl;
         made =
             inr (

@@ -9,5 +9,5 @@ abbrev pub invariant-loop-place : goal.invariant-loop-place
 invariant-loop-place l = record {
   own : hand_table_of l.hand ≡ l.map;
   idle : HoldsNoId l.hand;
-  made : Made FindsIdAt (reader_of l.fn.hand) l.fn.wanted l.place (reader_of l.hand) l.wanted;
+  made : Made FindsIdAt (reader_of l.fn.hand, l.fn.watch) l.fn.wanted l.place (reader_of l.hand, l.watch) l.wanted;
 }

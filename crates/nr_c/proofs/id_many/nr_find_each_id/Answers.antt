@@ -26,20 +26,16 @@ returns-then-holds c = inr (inr (
 pub returns : goal.returns
 returns c = inr (inr (
   c.are_ids.ensures.0 c.if-not-are_ids.false,
-  inr (
-    refl,
-    record {
-      old = c.side-side.result.now;
-      new = _;
-      was = ap (λ handle. handle.live) (sym c.is_live.ensures.same) ∙ c.side-side.ensures.value;
-      is = refl;
-      map = refl;
-      made =
-          record {
-            was_idle = c.if-holds.ensures.none;
-            is_idle = c.find_all_ids.ensures.idle;
-            became_so = c.find_all_ids.ensures.finds;
-          };
-    },
-  ),
+  inr
+      (record {
+        code_is = refl;
+        old = c.side-side.result.now;
+        new = _;
+        was = ap (λ handle. handle.live) (sym c.is_live.ensures.same) ∙ c.side-side.ensures.value;
+        is = refl;
+        map = refl;
+        was_idle = c.if-holds.ensures.none;
+        is_idle = c.find_all_ids.ensures.idle;
+        finds = c.find_all_ids.ensures.finds;
+      }),
 ))

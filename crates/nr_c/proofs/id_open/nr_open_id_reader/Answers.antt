@@ -35,6 +35,7 @@ returns-in_default c =
           was = was;
           is = refl;
           map = refl;
+          watch = refl;
           writer = refl;
           ledger = refl;
           had_spare = none;
@@ -78,6 +79,7 @@ returns-in-Ok c =
           was = was;
           is = refl;
           map = refl;
+          watch = refl;
           writer = refl;
           ledger = refl;
           had_spare = c.in-Some.ensures.items;
@@ -90,6 +92,8 @@ returns-in-Ok c =
           is = c.lead_to.ensures;
           map = shared;
           holds_none = reader;
+          word = c.in-Ok.ensures.watch.0;
+          watch = c.in-Ok.ensures.watch.1;
         },
       )),
     ))
@@ -115,6 +119,7 @@ returns-in-Err c =
           was = was;
           is = refl;
           map = refl;
+          watch = refl;
           writer = refl;
           ledger = refl;
           had_spare = c.in-Some.ensures.items;

@@ -18,5 +18,6 @@ returns c = inr (inr (record {
   was = ap (λ handle. handle.live) (sym c.is_live.ensures.same) ∙ c.side-side.ensures.value;
   is = refl;
   map = refl;
+  watch = refl;
   made = (refl, refl, c.copy_to.ensures.shows);
 }))

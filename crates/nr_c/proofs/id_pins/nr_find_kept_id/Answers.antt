@@ -13,12 +13,16 @@ returns-then-id-eq0 c = let (side, is) = c.if-not-is_live.ensures.live in inr (i
 pub returns : goal.returns
 returns c = inr (inr (
   omega (arith, c.if-id-eq0.false),
-  record {
-    old = c.side-side.result.now;
-    new = _;
-    was = ap (λ handle. handle.live) (sym c.is_live.ensures.same) ∙ c.side-side.ensures.value;
-    is = refl;
-    map = refl;
-    made = (c.find_kept.result, c.of_found_id.ensures, c.find_kept.ensures.finds);
-  },
+  (
+    c.of_found_id-answer.result,
+    record {
+      old = c.side-side.result.now;
+      new = _;
+      was = ap (λ handle. handle.live) (sym c.is_live.ensures.same) ∙ c.side-side.ensures.value;
+      is = refl;
+      map = refl;
+      made = (c.find_kept.result, c.of_found_id-answer.ensures, c.find_kept.ensures.finds);
+      watch = c.heard.ensures;
+    },
+  ),
 ))

@@ -1,5 +1,6 @@
-use Rattle.std.proofs.Common.{ap, arith, length, inl, inr, refl, sym, ◌∙◌}
-use Rattle.nr_idmap.specs.declared.finds.FoundId.TheVariants as found
+use Rattle.std.proofs.Common.{ap, arith, inl, inr, refl, sym, List, ◌∙◌}
+use Rattle.nr_model.specs.declared.rows.Row.{Row}
+use Rattle.nr_c.specs.IdPins.{count_told}
 use Rattle.nr_c.proofs.id_pins.nr_pin_id.Goals as goal
 
 pub returns-then-id-eq0 : goal.returns-then-id-eq0
@@ -24,54 +25,25 @@ returns-then-holds c = inr (inr (
   }),
 ))
 
-pub returns-in-Rows : goal.returns-in-Rows
-returns-in-Rows c = inr (inr (
+pub returns : goal.returns
+returns c = inr (inr (
   omega (arith, c.if-id-eq0.false),
-  inr (record {
-    old = c.side-side.result.now;
-    new = _;
-    was = ap (λ handle. handle.live) (sym c.is_live.ensures.same) ∙ c.side-side.ensures.value;
-    is = refl;
-    map = refl;
-    made = (found.Rows, refl, c.if-holds.ensures.none, c.in-Rows.ensures.pins, ap length c.rows.ensures.rows);
-  }),
-))
-
-pub returns-in-Pending : goal.returns-in-Pending
-returns-in-Pending c = inr (inr (
-  omega (arith, c.if-id-eq0.false),
-  inr (record {
-    old = c.side-side.result.now;
-    new = _;
-    was = ap (λ handle. handle.live) (sym c.is_live.ensures.same) ∙ c.side-side.ensures.value;
-    is = refl;
-    map = refl;
-    made = (found.Pending, refl, c.if-holds.ensures.none, c.in-Pending.ensures.pins, refl);
-  }),
-))
-
-pub returns-in-Moved : goal.returns-in-Moved
-returns-in-Moved c = inr (inr (
-  omega (arith, c.if-id-eq0.false),
-  inr (record {
-    old = c.side-side.result.now;
-    new = _;
-    was = ap (λ handle. handle.live) (sym c.is_live.ensures.same) ∙ c.side-side.ensures.value;
-    is = refl;
-    map = refl;
-    made = (found.Moved, refl, c.if-holds.ensures.none, c.in-Moved.ensures.pins, refl);
-  }),
-))
-
-pub returns-in-Absent : goal.returns-in-Absent
-returns-in-Absent c = inr (inr (
-  omega (arith, c.if-id-eq0.false),
-  inr (record {
-    old = c.side-side.result.now;
-    new = _;
-    was = ap (λ handle. handle.live) (sym c.is_live.ensures.same) ∙ c.side-side.ensures.value;
-    is = refl;
-    map = refl;
-    made = (found.Absent, refl, c.if-holds.ensures.none, c.in-Absent.ensures.pins, refl);
-  }),
+  inr (
+    c.of_found_id.result,
+    record {
+      old = c.side-side.result.now;
+      new = _;
+      was = ap (λ handle. handle.live) (sym c.is_live.ensures.same) ∙ c.side-side.ensures.value;
+      is = refl;
+      map = refl;
+      made = (
+        c.pin-found.result,
+        c.of_found_id.ensures,
+        c.if-holds.ensures.none,
+        c.pin-found.ensures.pins,
+        c.tell_count.ensures ∙ ap (λ (rows : List Row). count_told c.args.count.now c.pin-found.result rows) c.rows.ensures.rows,
+      );
+      watch = c.heard.ensures;
+    },
+  ),
 ))

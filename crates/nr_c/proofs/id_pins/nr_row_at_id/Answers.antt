@@ -21,6 +21,7 @@ returns-then-place-held c = inr (inr (record {
   was = ap (λ handle. handle.live) (sym c.is_live.ensures.same) ∙ c.side-side.ensures.value;
   is = refl;
   map = refl;
+  watch = refl;
   made = (refl, inr (refl, omega (arith, c.if-place-held.true, ap length c.rows-held.ensures.rows), refl));
 }))
 
@@ -31,6 +32,7 @@ returns c = inr (inr (record {
   was = ap (λ handle. handle.live) (sym c.is_live.ensures.same) ∙ c.side-side.ensures.value;
   is = refl;
   map = refl;
+  watch = refl;
   made = (
     refl,
     inl (

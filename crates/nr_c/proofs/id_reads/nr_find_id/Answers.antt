@@ -26,17 +26,21 @@ returns-then-holds c = inr (inr (
 pub returns : goal.returns
 returns c = inr (inr (
   omega (arith, c.if-id-eq0.false),
-  inr (record {
-    old = c.side-side.result.now;
-    new = _;
-    was = ap (λ handle. handle.live) (sym c.is_live.ensures.same) ∙ c.side-side.ensures.value;
-    is = refl;
-    map = refl;
-    made =
-        record {
-          was_idle = c.if-holds.ensures.none;
-          is_idle = c.find.ensures.idle;
-          became_so = (c.find.result, c.of_found_id.ensures, c.find.ensures.finds);
-        };
-  }),
+  inr (
+    c.of_found_id-answer.result,
+    record {
+      old = c.side-side.result.now;
+      new = _;
+      was = ap (λ handle. handle.live) (sym c.is_live.ensures.same) ∙ c.side-side.ensures.value;
+      is = refl;
+      map = refl;
+      made =
+          record {
+            was_idle = c.if-holds.ensures.none;
+            is_idle = c.find.ensures.idle;
+            became_so = (c.find.result, c.of_found_id-answer.ensures, c.find.ensures.finds);
+          };
+      watch = c.heard.ensures;
+    },
+  ),
 ))

@@ -16,6 +16,7 @@ returns-then-not-is_own c = inr (record {
   was = ap (λ handle. handle.live) (sym c.is_live.ensures.same) ∙ c.side-side.ensures.value;
   is = refl;
   map = refl;
+  watch = refl;
   spare = refl;
   made = inl (record {
     code_is = refl;
@@ -35,6 +36,7 @@ returns-in-Some c =
       was = ap (λ handle. handle.live) (sym c.is_live.ensures.same) ∙ c.side-side.ensures.value;
       is = refl;
       map = refl;
+      watch = refl;
       spare = refl;
       made = inr (
         c.if-not-is_own.ensures.own,
@@ -59,6 +61,7 @@ returns-in_default-give_up c =
       was = ap (λ handle. handle.live) (sym c.is_live.ensures.same) ∙ c.side-side.ensures.value;
       is = refl;
       map = refl;
+      watch = refl;
       spare = refl;
       made = inr (
         c.if-not-is_own.ensures.own,
@@ -78,6 +81,7 @@ returns-in-Ok c =
       was = ap (λ handle. handle.live) (sym c.is_live.ensures.same) ∙ c.side-side.ensures.value;
       is = refl;
       map = refl;
+      watch = refl;
       spare = refl;
       made = inr (
         c.if-not-is_own.ensures.own,
@@ -106,6 +110,7 @@ returns-in-Err-Closed c =
       was = ap (λ handle. handle.live) (sym c.is_live.ensures.same) ∙ c.side-side.ensures.value;
       is = refl;
       map = refl;
+      watch = refl;
       spare = refl;
       made = inr (
         c.if-not-is_own.ensures.own,
@@ -138,6 +143,7 @@ returns-in-Err-NoSlot c =
       was = ap (λ handle. handle.live) (sym c.is_live.ensures.same) ∙ c.side-side.ensures.value;
       is = refl;
       map = refl;
+      watch = refl;
       spare = refl;
       made = inr (
         c.if-not-is_own.ensures.own,

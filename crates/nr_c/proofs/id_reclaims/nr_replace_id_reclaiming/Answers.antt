@@ -25,6 +25,7 @@ returns-in-Some c =
         was = ap (λ handle. handle.live) (sym c.is_live.ensures.same) ∙ c.side-side.ensures.value;
         is = refl;
         map = refl;
+        watch = refl;
         spare = refl;
         made =
             record {
@@ -49,6 +50,7 @@ returns c = let bound = c.rows.ensures ∙ ap id_rows (c.deref.ensures ∙ sym c
     was = ap (λ handle. handle.live) (sym c.is_live.ensures.same) ∙ c.side-side.ensures.value;
     is = refl;
     map = refl;
+    watch = refl;
     spare = refl;
     made =
         record {

@@ -23,6 +23,7 @@ returns-in-Some c = inr (inr (
     was = ap (λ handle. handle.live) (sym c.is_live.ensures.same) ∙ c.side-side.ensures.value;
     is = refl;
     map = refl;
+    watch = refl;
     spare = refl;
     made = record { became_so = inl (c.in-Some.ensures, refl, refl); owes = λ way. refl; asker = refl; keeps = refl };
   },
@@ -37,6 +38,7 @@ returns c = inr (inr (
     was = ap (λ handle. handle.live) (sym c.is_live.ensures.same) ∙ c.side-side.ensures.value;
     is = refl;
     map = refl;
+    watch = refl;
     spare = refl;
     made =
         record {

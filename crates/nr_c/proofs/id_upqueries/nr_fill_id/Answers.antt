@@ -15,6 +15,7 @@ returns-then-not-is_own c = inr (record {
   was = ap (λ handle. handle.live) (sym c.is_live.ensures.same) ∙ c.side-side.ensures.value;
   is = refl;
   map = refl;
+  watch = refl;
   spare = refl;
   made = inl (record { code_is = refl; other = c.if-not-is_own.ensures.other; stays = refl; keeps = refl; told = tt });
 })
@@ -28,6 +29,7 @@ returns-in-Some c =
       was = ap (λ handle. handle.live) (sym c.is_live.ensures.same) ∙ c.side-side.ensures.value;
       is = refl;
       map = refl;
+      watch = refl;
       spare = refl;
       made = inr (
         c.if-not-is_own.ensures.own,
@@ -50,6 +52,7 @@ returns-in_default-give_up c =
       was = ap (λ handle. handle.live) (sym c.is_live.ensures.same) ∙ c.side-side.ensures.value;
       is = refl;
       map = refl;
+      watch = refl;
       spare = refl;
       made = inr (
         c.if-not-is_own.ensures.own,
@@ -69,6 +72,7 @@ returns-in-Ok c =
       was = ap (λ handle. handle.live) (sym c.is_live.ensures.same) ∙ c.side-side.ensures.value;
       is = refl;
       map = refl;
+      watch = refl;
       spare = refl;
       made = inr (
         c.if-not-is_own.ensures.own,
@@ -97,6 +101,7 @@ returns-in-Err-Closed c =
       was = ap (λ handle. handle.live) (sym c.is_live.ensures.same) ∙ c.side-side.ensures.value;
       is = refl;
       map = refl;
+      watch = refl;
       spare = refl;
       made = inr (
         c.if-not-is_own.ensures.own,
@@ -128,6 +133,7 @@ returns-in-Err-NoSlot c =
       was = ap (λ handle. handle.live) (sym c.is_live.ensures.same) ∙ c.side-side.ensures.value;
       is = refl;
       map = refl;
+      watch = refl;
       spare = refl;
       made = inr (
         c.if-not-is_own.ensures.own,

@@ -8,6 +8,7 @@ returns-then-not-is_own c = inr (record {
   was = ap (λ handle. handle.live) (sym c.is_live.ensures.same) ∙ c.side-side.ensures.value;
   is = refl;
   map = refl;
+  watch = refl;
   spare = refl;
   made = inl (record { code_is = refl; other = c.if-not-is_own.ensures.other; stays = refl; keeps = refl; told = tt });
 })
@@ -19,6 +20,7 @@ returns c = inr (record {
   was = ap (λ handle. handle.live) (sym c.is_live.ensures.same) ∙ c.side-side.ensures.value;
   is = refl;
   map = c.take_back.ensures.map;
+  watch = c.take_back.ensures.watch;
   spare = c.take_back.ensures.spare;
   made = inr (c.if-not-is_own.ensures.own, c.take_back.ensures.withdraws);
 })

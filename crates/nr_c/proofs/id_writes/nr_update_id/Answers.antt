@@ -22,6 +22,7 @@ returns-in-Some c = inr (inr (
     was = ap (λ handle. handle.live) (sym c.is_live.ensures.same) ∙ c.side-side.ensures.value;
     is = refl;
     map = refl;
+    watch = refl;
     spare = refl;
     made = record { became_so = inl (c.in-Some.ensures, refl); owes = λ way. refl; asker = refl; keeps = refl };
   },
@@ -36,6 +37,7 @@ returns c = let side = c.side-side.result.now in inr (inr (
     was = ap (λ handle. handle.live) (sym c.is_live.ensures.same) ∙ c.side-side.ensures.value;
     is = refl;
     map = refl;
+    watch = refl;
     spare = refl;
     made =
         record {

@@ -1,5 +1,6 @@
-use Rattle.std.proofs.Common.{refl, ◌∙◌, inl, inr, ap, subst, sym}
+use Rattle.std.proofs.Common.{refl, ◌∙◌, inl, inr, ap, subst, sym, ℕ}
 use Rattle.nr_map.specs.Hands.{FindsKept, Handed}
+use Rattle.nr_c.specs.Closings.{Hears}
 use Rattle.nr_c.specs.RowCells.{ShowsSet}
 use Rattle.nr_c.proofs.kept.nr_find_kept.Goals as goal
 
@@ -23,7 +24,6 @@ returns c = inr (inr (
   },
   (
     c.find_kept.result,
-    c.of_found.ensures,
     c.side-side.result.now.hand,
     c.find_kept.new.self,
     record {
@@ -32,12 +32,15 @@ returns c = inr (inr (
       led = ap (λ handle. handle.live) (sym c.is_live.ensures.same) ∙ c.side-side.ensures.value;
       leads = refl;
       map = refl;
+      watch = subst
+          (λ (answer : ℕ). Hears answer c.heard.result c.side-side.result.now.watch c.heard.new.self)
+          c.of_found-answer.ensures c.heard.ensures;
       old_hand = refl;
       new_hand = refl;
     },
     subst
-        (λ (h : Handed). FindsKept ShowsSet c.args.key h c.args.rows.now c.find_kept.new.self c.find_kept.new.rows
-        c.find_kept.result)
+        (λ (h : Handed). FindsKept ShowsSet c.args.key h c.args.rows.now c.find_kept.new.self
+        c.find_kept.new.rows c.find_kept.result)
         c.hold_for.ensures c.find_kept.ensures.finds,
   ),
 ))

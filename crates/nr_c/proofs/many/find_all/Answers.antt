@@ -19,15 +19,15 @@ find_one-requires-clause-key c =
     let one = get_or keys place blank in
     let low : place < length keys = omega (arith, c.loop-place-test.true, had.long) in
     let was
-    = as_wanted FindsAtByCode c.args.hand.now c.args.wanted.now place c.loop-place.hand keys had one
+    = as_wanted FindsAtByCode (c.args.hand.now, c.args.watch.now) c.args.wanted.now place (c.loop-place.hand, c.loop-place.watch) keys had one
     low (get_or_default keys place blank one low) in
     subst (λ (w : NrWanted). w.key < c.args.map.now.shape.keys) (sym was)
     (c.requires.keys place one (omega (arith, low, had.long)))
 
 pub returns-clause-finds : goal.returns-clause-finds
 returns-clause-finds c = let had = c.loop-place.invariant.made in
-    all_made FindsAtByCode c.args.hand.now c.args.wanted.now c.loop-place.place c.loop-place.hand
-    c.loop-place.wanted had (omega (arith, had.long, c.loop-place-test.false))
+    all_made FindsAtByCode (c.args.hand.now, c.args.watch.now) c.args.wanted.now c.loop-place.place
+    (c.loop-place.hand, c.loop-place.watch) c.loop-place.wanted had (omega (arith, had.long, c.loop-place-test.false))
 
 pub loop-place-preserved : goal.loop-place-preserved
 loop-place-preserved c =
@@ -47,8 +47,11 @@ loop-place-preserved c =
     (sym c.loop-place.invariant.own) in
     record {
       own = c.find_one.ensures.own;
-      made = one_more FindsAtByCode c.args.hand.now c.args.wanted.now place c.loop-place.hand keys had one low
-          (get_or_default keys place blank one low) c.find_one.new.hand c.find_one.new.one
-          (subst (λ (h : Handed). FindsOneByCode one c.find_one.new.one h c.find_one.new.hand) loaded
-          c.find_one.ensures.finds);
+      made = one_more FindsAtByCode (c.args.hand.now, c.args.watch.now) c.args.wanted.now place
+          (c.loop-place.hand, c.loop-place.watch) keys had one low (get_or_default keys place blank one low)
+          (c.find_one.new.hand, c.find_one.new.watch) c.find_one.new.one
+          (subst
+          (λ (h : Handed). FindsOneByCode one c.find_one.new.one (h, c.loop-place.watch)
+          (c.find_one.new.hand, c.find_one.new.watch))
+          loaded c.find_one.ensures.finds);
     }

@@ -36,20 +36,15 @@ returns c =
     let was = ap (λ handle. handle.live) (sym c.is_live.ensures.same) ∙ c.side-side.ensures.value in
     inr (inr (
       record { held = c.side-side.result.now; was = was; has = c.if-not-has_keys.ensures.all },
-      inr (
-        refl,
-        c.side-side.result.now.hand,
-        c.release.new.self,
-        record {
-          old = c.side-side.result.now;
-          new = _;
-          led = was;
-          leads = refl;
-          map = refl;
-          old_hand = refl;
-          new_hand = refl;
-        },
-        c.if-holds.ensures.none,
-        (c.find_all.new.hand, c.find_all.ensures.finds, c.release.ensures.lets_go),
-      ),
+      inr
+          (record {
+            code_is = refl;
+            old = c.side-side.result.now;
+            new = _;
+            was = was;
+            is = refl;
+            map = refl;
+            was_idle = c.if-holds.ensures.none;
+            finds = (c.find_all.new.hand, c.find_all.ensures.finds, c.release.ensures.lets_go);
+          }),
     ))

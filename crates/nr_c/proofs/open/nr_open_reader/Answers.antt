@@ -34,6 +34,7 @@ returns-in_default c =
           was = was;
           is = refl;
           map = refl;
+          watch = refl;
           writer = refl;
           had_spare = none;
           has_spare = left;
@@ -60,6 +61,7 @@ returns-in-Ok c =
           was = was;
           is = refl;
           map = refl;
+          watch = refl;
           writer = refl;
           had_spare = c.in-Some.ensures.items;
           has_spare = refl;
@@ -71,6 +73,8 @@ returns-in-Ok c =
           is = c.lead_to.ensures;
           map = shared;
           holds_none = reader;
+          word = c.in-Ok.ensures.watch.0;
+          watch = c.in-Ok.ensures.watch.1;
         },
       )),
     ))
@@ -96,6 +100,7 @@ returns-in-Err c =
           was = was;
           is = refl;
           map = refl;
+          watch = refl;
           writer = refl;
           had_spare = c.in-Some.ensures.items;
           has_spare = back;

@@ -52,6 +52,7 @@ returns-then-found c = inr (inr (
       led = ap (λ handle. handle.live) (sym c.is_live.ensures.same) ∙ c.side-side.ensures.value;
       leads = refl;
       map = refl;
+      watch = refl;
       old_hand = refl;
       new_hand = refl;
     },
@@ -79,6 +80,7 @@ returns-else-found c = inr (inr (
       led = ap (λ handle. handle.live) (sym c.is_live.ensures.same) ∙ c.side-side.ensures.value;
       leads = refl;
       map = refl;
+      watch = refl;
       old_hand = refl;
       new_hand = refl;
     },

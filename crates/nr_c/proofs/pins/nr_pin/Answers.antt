@@ -41,7 +41,6 @@ returns-then-not-pin c = inr (inr (
   },
   inr
       (inr (
-        refl,
         c.side-side.result.now.hand,
         c.pin.new.self,
         record {
@@ -52,6 +51,7 @@ returns-then-not-pin c = inr (inr (
           map = refl;
           old_hand = refl;
           new_hand = refl;
+          watch = c.heard.ensures;
         },
         c.if-holds.ensures.none,
         c.if-not-pin.ensures.pins,
@@ -77,6 +77,7 @@ returns c = inr (inr (
           led = ap (λ handle. handle.live) (sym c.is_live.ensures.same) ∙ c.side-side.ensures.value;
           leads = refl;
           map = refl;
+          watch = refl;
           old_hand = refl;
           new_hand = refl;
         },

@@ -25,6 +25,7 @@ returns-then-place-len c =
         led = ap (λ handle. handle.live) (sym c.is_live.ensures.same) ∙ c.side-side.ensures.value;
         leads = refl;
         map = refl;
+        watch = refl;
         old_hand = refl;
         new_hand = refl;
       },
@@ -46,6 +47,7 @@ returns c =
         led = ap (λ handle. handle.live) (sym c.is_live.ensures.same) ∙ c.side-side.ensures.value;
         leads = refl;
         map = refl;
+        watch = refl;
         old_hand = refl;
         new_hand = refl;
       },

@@ -1,4 +1,4 @@
-use Rattle.std.proofs.Common.{refl, inl, inr, ap, sym, ◌∙◌}
+use Rattle.std.proofs.Common.{ap, false, inl, inr, refl, sym, true, ◌∙◌}
 use Rattle.nr_map.specs.Hands.{Handed}
 use Rattle.nr_map.specs.declared.answers.Asked.TheVariants as asked
 use Rattle.nr_c.proofs.reads.nr_ask.Goals as goal
@@ -34,6 +34,33 @@ returns-then-holds c = inr (inr (
       }),
 ))
 
+pub returns-then-is_closed : goal.returns-then-is_closed
+returns-then-is_closed c = inr (inr (
+  record {
+    held = c.side-side.result.now;
+    was = ap (λ handle. handle.live) (sym c.is_live.ensures.same) ∙ c.side-side.ensures.value;
+    below = c.if-not-has_key.ensures.has;
+  },
+  inr (
+    true,
+    c.side-side.result.now.hand,
+    c.side-side.result.now.hand,
+    record {
+      old = c.side-side.result.now;
+      new = _;
+      led = ap (λ handle. handle.live) (sym c.is_live.ensures.same) ∙ c.side-side.ensures.value;
+      leads = refl;
+      map = refl;
+      old_hand = refl;
+      new_hand = refl;
+      watch = c.if-is_closed.ensures;
+    },
+    c.if-holds.ensures.none,
+    c.if-holds.ensures.none,
+    (refl, refl, refl),
+  ),
+))
+
 pub returns-in-Send : goal.returns-in-Send
 returns-in-Send c = inr (inr (
   record {
@@ -42,6 +69,7 @@ returns-in-Send c = inr (inr (
     below = c.if-not-has_key.ensures.has;
   },
   inr (
+    false,
     c.side-side.result.now.hand,
     c.ask.new.self,
     record {
@@ -52,6 +80,7 @@ returns-in-Send c = inr (inr (
       map = refl;
       old_hand = refl;
       new_hand = refl;
+      watch = c.if-is_closed.ensures;
     },
     c.if-holds.ensures.none,
     ap (λ (h : Handed). h.key) c.in-Send.ensures.idle.0,
@@ -67,6 +96,7 @@ returns-in-Waiting c = inr (inr (
     below = c.if-not-has_key.ensures.has;
   },
   inr (
+    false,
     c.side-side.result.now.hand,
     c.ask.new.self,
     record {
@@ -77,6 +107,7 @@ returns-in-Waiting c = inr (inr (
       map = refl;
       old_hand = refl;
       new_hand = refl;
+      watch = c.if-is_closed.ensures;
     },
     c.if-holds.ensures.none,
     ap (λ (h : Handed). h.key) c.in-Waiting.ensures.idle.0,
@@ -92,6 +123,7 @@ returns-in-Filled c = inr (inr (
     below = c.if-not-has_key.ensures.has;
   },
   inr (
+    false,
     c.side-side.result.now.hand,
     c.ask.new.self,
     record {
@@ -102,6 +134,7 @@ returns-in-Filled c = inr (inr (
       map = refl;
       old_hand = refl;
       new_hand = refl;
+      watch = c.if-is_closed.ensures;
     },
     c.if-holds.ensures.none,
     ap (λ (h : Handed). h.key) c.in-Filled.ensures.idle.0,

@@ -40,6 +40,7 @@ returns c =
     inr (inr (
       record { held = c.side-side.result.now; was = was; below = c.if-not-has_key.ensures.has },
       inr (
+        c.of_found-answer.result,
         hand,
         c.find.new.self,
         record {
@@ -50,10 +51,11 @@ returns c =
           map = refl;
           old_hand = refl;
           new_hand = refl;
+          watch = c.heard.ensures;
         },
         none,
         still_idle c.args.key hand c.find.new.self c.args.rows.now c.find.new.rows c.find.result finds,
-        finds_by_code c.args.key hand c.find.new.self c.args.rows.now c.find.new.rows c.find.result finds _
-            c.of_found.ensures none,
+        finds_by_code c.args.key hand c.find.new.self c.args.rows.now c.find.new.rows
+            c.find.result finds _ c.of_found-answer.ensures none,
       ),
     ))

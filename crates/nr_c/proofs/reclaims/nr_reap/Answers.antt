@@ -9,6 +9,7 @@ returns c = inr (record {
       ∙ c.side-side.ensures.value;
   is = refl;
   map = refl;
+  watch = refl;
   spare = refl;
   made = (c.reap.result, c.of_reaped.ensures, c.reap.ensures);
 })

@@ -30,6 +30,7 @@ returns-then-not-are_batch c = inr (let side = c.side-side.result.now in
         was = ap (λ handle. handle.live) (sym c.is_live.ensures.same) ∙ c.side-side.ensures.value;
         is = refl;
         map = refl;
+        watch = refl;
         spare = refl;
         made = inl ((refl, c.if-not-are_batch.ensures.none, refl), refl);
       },
@@ -56,6 +57,7 @@ returns c = inr (let side = c.side-side.result.now in let made = c.update_reclai
         was = ap (λ handle. handle.live) (sym c.is_live.ensures.same) ∙ c.side-side.ensures.value;
         is = refl;
         map = refl;
+        watch = refl;
         spare = refl;
         made = inr (c.if-not-are_batch.ensures.batch, made.result, c.of_update_reclaiming.ensures, updates);
       },

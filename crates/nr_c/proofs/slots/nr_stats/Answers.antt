@@ -9,6 +9,7 @@ returns c = inr (record {
       ∙ c.side-side.ensures.value;
   is = refl;
   map = refl;
+  watch = refl;
   spare = refl;
   made = (refl, c.slot_counts.result, c.of.ensures, c.slot_counts.ensures);
 })

@@ -27,6 +27,7 @@ returns c = inr (inr (
         ∙ c.side-side.ensures.value;
     is = refl;
     map = refl;
+    watch = refl;
     spare = refl;
     made = (c.cancel.result, c.of_cancel.ensures, c.cancel.ensures);
   },

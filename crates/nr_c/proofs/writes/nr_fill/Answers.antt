@@ -32,6 +32,7 @@ returns-in-Some c = inr (let side = c.side-side.result.now in
         was = ap (λ handle. handle.live) (sym c.is_live.ensures.same) ∙ c.side-side.ensures.value;
         is = refl;
         map = refl;
+        watch = refl;
         spare = refl;
         made = inl (refused, refl);
       },
@@ -54,6 +55,7 @@ returns c = inr (let side = c.side-side.result.now in
         was = ap (λ handle. handle.live) (sym c.is_live.ensures.same) ∙ c.side-side.ensures.value;
         is = refl;
         map = refl;
+        watch = refl;
         spare = refl;
         made = inr (rows, c.fill_rows.result, c.of_fill.ensures, c.fill_rows.ensures);
       },

@@ -27,6 +27,7 @@ returns c = inr (inr (
         ∙ c.side-side.ensures.value;
     is = refl;
     map = refl;
+    watch = refl;
     spare = refl;
     made = (c.look_into.result, c.of_found.ensures, c.look_into.ensures);
   },

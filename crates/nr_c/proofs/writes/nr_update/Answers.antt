@@ -29,6 +29,7 @@ returns-then-not-are_batch c = inr (inr (
         ∙ c.side-side.ensures.value;
     is = refl;
     map = refl;
+    watch = refl;
     spare = refl;
     made = inl (refl, c.if-not-are_batch.ensures.none, refl);
   },
@@ -55,6 +56,7 @@ returns c = inr (let side = c.side-side.result.now in
         was = ap (λ handle. handle.live) (sym c.is_live.ensures.same) ∙ c.side-side.ensures.value;
         is = refl;
         map = refl;
+        watch = refl;
         spare = refl;
         made = inr (c.if-not-are_batch.ensures.batch, c.update_rows.result, c.of_update.ensures, updates);
       },

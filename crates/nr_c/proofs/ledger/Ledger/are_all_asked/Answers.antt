@@ -1,4 +1,4 @@
-use Rattle.std.proofs.Common.{◌≡◌, ℕ, arith, inl, inr, subst, sym}
+use Rattle.std.proofs.Common.{◌≡◌, ℕ, arith, inl, inr, subst}
 use Rattle.std.proofs.lemmas.Bool.{cases_lt}
 use Rattle.nr_c.specs.Ledgers.{IsAsked}
 use Rattle.nr_c.proofs.ledger.Ledger.are_all_asked.Goals as goal

@@ -1,4 +1,4 @@
-use Rattle.std.proofs.Common.{◌≡◌, ◌<◌, ◌≤◌, ℕ}
+use Rattle.std.proofs.Common.{◌<◌, ◌≤◌, ℕ}
 use Rattle.nr_c.specs.Ledgers.{IsAsked}
 use Rattle.nr_c.proofs.ledger.Ledger.are_all_asked.Given as goal
 
