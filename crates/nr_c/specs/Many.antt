@@ -40,7 +40,8 @@ InOrder call place (one ∷ others) [] old new = ⊥
 -- the find of the key at an index, before it the loads for each of sixteen where sixteen begin there
 abbrev pub FindsAtByCode : ℕ → List NrWanted → NrWanted → NrWanted → Hearing → Hearing → Type 0
 FindsAtByCode place left wanted told (old, knew) new =
-    FindsOneByCode wanted told (hand_with_loads (loads_at old.reader.table.shape.rows place (length left)) old, knew) new
+    FindsOneByCode wanted told
+    (hand_with_loads (loads_at old.reader.table.shape.rows place (length left)) old, knew) new
 
 -- from the first key on, and then what the last find holds is let go
 abbrev pub FindsEachByCode : List NrWanted → List NrWanted → Hearing → Hearing → Type 0

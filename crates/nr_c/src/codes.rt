@@ -102,7 +102,8 @@ pub const NR_NOT_HOLDING: u32 = 29;
 /// To a fill, an update or a replacement: there is no slot, since each is a filled key's.
 pub const NR_ALL_FILLED: u32 = 30;
 
-/// To a call whose handle leads nowhere: it was closed, or never opened.
+/// To a call whose handle leads nowhere: it was closed, or never opened. To a find without rows and to a
+/// request: the writer was closed.
 pub const NR_CLOSED: u32 = 31;
 
 /// To an opening: the handle leads somewhere already.

@@ -2,7 +2,7 @@
 ghost use Rattle.std.specs.Prelude.{◌≡◌};
 ghost use Rattle.std.specs.Bool.{OnFalse, OnTrue};
 ghost use Rattle.nr_idmap.specs.IdHands.{hand_table_of, idle_by_id, reader_of};
-ghost use Rattle.nr_idmap.specs.Keepers.{id_table_of};
+ghost use Rattle.nr_idmap.specs.Keepers.{IdCaller, id_table_of};
 ghost use Rattle.nr_c.specs.Hands.{EndsIdHand, HoldsAnId, HoldsNoId};
 
 use crate::reader_side::APART;
@@ -23,7 +23,9 @@ pub struct IdReaderSide {
 
 // A reader that holds a set is released.
 impl Drop for IdReaderSide {
-    fn drop(self) {
+    fn drop(self)
+        ensures { (reader : IdCaller) × EndsIdHand self.hand reader }
+    {
         drop(self.end());
     }
 }

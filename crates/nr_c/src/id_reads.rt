@@ -16,7 +16,8 @@ use crate::rows::NrRows;
 /// holds a set. Takes 2 loads, 8 looks at the names of the id's group, and 8 more at those of its second
 /// group unless one of them was the id's; where a way had the name, 1 look at its mark, and then 1 where
 /// the way is a hole, 2n + 7 for n rows, and 7 where it has another id's, more where it is written
-/// meanwhile, and 1 to mark it where rows were found and it isn't marked.
+/// meanwhile, and 1 to mark it where rows were found and it isn't marked. Where none were found 1 more looks
+/// whether the writer was closed, and then the answer is `NR_CLOSED`.
 #[unsafe(no_mangle)]
 pub extern "C" fn nr_find_id(reader: &mut NrIdReader, id: u64, rows: &mut NrRows) -> u32
     ensures { ByIdleIdReader id (rows.new ≡ rows.old) (IdReaderHears (FindsIdByCode id rows.old rows.new)) reader.old.live reader.new.live result }
@@ -39,7 +40,8 @@ pub extern "C" fn nr_find_id(reader: &mut NrIdReader, id: u64, rows: &mut NrRows
 /// id goes to the writer; `NR_WAITING` where a claim of its group is open, or was within the call;
 /// `NR_NAMED` where the id has a way; `NR_WORN` where its group had the last of its claims; or
 /// `NR_NO_KEY` for the id 0, with no step. Takes 18 steps where the claim is granted or another was within
-/// the call; where a way has the name 9, or 17 where that is of the id's second group; else 1. A set that
+/// the call; where a way has the name 9, or 17 where that is of the id's second group; else 1; and before
+/// them 1 that looks whether the writer was closed: then it makes no other, and answers `NR_CLOSED`. A set that
 /// the reader holds stays held.
 #[unsafe(no_mangle)]
 pub extern "C" fn nr_request_id(reader: &mut NrIdReader, id: u64) -> u32

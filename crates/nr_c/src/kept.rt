@@ -9,8 +9,8 @@ use crate::rows::NrRows;
 
 /// Looks a key up and holds its set for the next call. Where the key still has the set that the
 /// reader holds, it takes 2n + 1 steps for n rows, which write no word. Else it finds and holds anew, in
-/// the steps of a hand's `find_kept`. Answers `NR_ROWS`, or `NR_HOLE`, and then nothing is held and the
-/// caller's cells stay; or `NR_NO_KEY` with no step.
+/// the steps of a hand's `find_kept`, with `nr_find`'s look at a hole. Answers `NR_ROWS`, or `NR_HOLE` or
+/// `NR_CLOSED`, and then nothing is held and the caller's cells stay; or `NR_NO_KEY` with no step.
 #[unsafe(no_mangle)]
 pub extern "C" fn nr_find_kept(reader: &mut NrReader, key: u32, rows: &mut NrRows) -> u32
     ensures { WhenLive (rows.new ≡ rows.old) (WithKey reader_keys key (rows.new ≡ rows.old) (KeepsByCode key rows.old rows.new)) reader.old.live reader.new.live result }

@@ -25,8 +25,8 @@ pub struct NrWanted {
 
 /// Looks each of the keys up, in their order, as a hand's `find_kept` does one, which lets go what it
 /// holds by the next announcement, and lets the last one's set go. A find of each is an entry of its own,
-/// also of a key that is wanted twice. Each has its answer beside it, `NR_ROWS` or `NR_HOLE`, and its rows
-/// in its own room, which stays as it is where the key is a hole. Takes the steps of all the finds; 1 if
+/// also of a key that is wanted twice. Each has its answer beside it, `NR_ROWS`, `NR_HOLE` or `NR_CLOSED`, and
+/// its rows in its own room, which stays as it is where the key is a hole. Takes the steps of all the finds; 1 if
 /// the last one found rows; and for each key 3 loads, and 1 more for each 4 rows, or part of 4, that a key
 /// may have above 4 and up to 16: these are made for 16 keys at a time before these are found.
 /// Answers `NR_DONE`; or, with no step, `NR_NO_KEY` where there is no such key as one of them, or

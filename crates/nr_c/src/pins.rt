@@ -12,8 +12,9 @@ use crate::rows::NrRows;
 use nr_model::Row;
 
 /// Finds a key, and holds its set, which stays as it is until the reader is released, whatever is
-/// filled, updated or evicted meanwhile. Takes the steps of the map's `pin`. Answers `NR_ROWS`, and then
-/// `count` is the number of its rows; or `NR_HOLE`, and then the reader holds nothing and `count` stays.
+/// filled, updated or evicted meanwhile. Takes the steps of the map's `pin`, and at a hole `nr_find`'s look.
+/// Answers `NR_ROWS`, and then `count` is the number of its rows; or `NR_HOLE` or `NR_CLOSED`, and then the
+/// reader holds nothing and `count` stays.
 /// `NR_NO_KEY`, or `NR_HOLDING` where it holds a set, with no step.
 #[unsafe(no_mangle)]
 pub extern "C" fn nr_pin(reader: &mut NrReader, key: u32, count: &mut u32) -> u32

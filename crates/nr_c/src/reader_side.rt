@@ -3,6 +3,7 @@ ghost use Rattle.std.specs.Prelude.{◌≡◌, ◌<◌, ◌≤◌};
 ghost use Rattle.std.specs.Bool.{OnFalse, OnTrue};
 ghost use Rattle.nr_c.specs.Hands.{EndsHand, HoldsNone, HoldsSome};
 ghost use Rattle.nr_map.specs.Hands.{idle};
+ghost use Rattle.nr_board.specs.Callers.{Caller};
 
 use crate::watch::Watch;
 use nr_map::{Hand, Reader, ReaderMap};
@@ -26,7 +27,9 @@ pub struct ReaderSide {
 
 // A reader that holds a set is released.
 impl Drop for ReaderSide {
-    fn drop(self) {
+    fn drop(self)
+        ensures { (reader : Caller) × EndsHand self.hand reader }
+    {
         drop(self.end());
     }
 }

@@ -8,7 +8,8 @@ use crate::rows::NrRows;
 use nr_map::Asked;
 
 /// Looks a key up, and puts its rows into the caller's cells, which stay as they are where the key
-/// is a hole. Takes the steps of the map's `find`. Answers `NR_ROWS` or `NR_HOLE`; or `NR_NO_KEY`, or
+/// is a hole. Takes the steps of the map's `find`, and at a hole 1 more, which looks whether the writer was
+/// closed. Answers `NR_ROWS` or `NR_HOLE`, and in place of that `NR_CLOSED` where it was; or `NR_NO_KEY`, or
 /// `NR_HOLDING` where the reader holds a set, with no step.
 #[unsafe(no_mangle)]
 pub extern "C" fn nr_find(reader: &mut NrReader, key: u32, rows: &mut NrRows) -> u32
@@ -28,9 +29,10 @@ pub extern "C" fn nr_find(reader: &mut NrReader, key: u32, rows: &mut NrRows) ->
     side.watch.heard(answer)
 }
 
-/// Requests a key, in 1 step. Answers `NR_SEND`, and then `number` is the request's ticket number,
-/// which the sender of the upquery hands on to the fill; or `NR_WAITING` or `NR_FILLED`. `NR_NO_KEY`,
-/// or `NR_HOLDING` where the reader holds a set, with no step.
+/// Requests a key, in 1 step after a look whether the writer was closed: then it makes none, and answers
+/// `NR_CLOSED`. Answers `NR_SEND`, and then `number` is the request's ticket number, which the sender of the
+/// upquery hands on to the fill; or `NR_WAITING` or `NR_FILLED`. `NR_NO_KEY`, or `NR_HOLDING` where the reader
+/// holds a set, with no step.
 #[unsafe(no_mangle)]
 pub extern "C" fn nr_ask(reader: &mut NrReader, key: u32, number: &mut u64) -> u32
     ensures { ByIdleReader key (number.new ≡ number.old) (ReaderAsks (number.new ≡ number.old) (AsksByCode key number.old number.new)) reader.old.live reader.new.live result }

@@ -17,11 +17,12 @@ find_one_id-requires-clause-id c =
     let one = get_or ones place blank in
     let low : place < length ones = omega (arith, c.loop-place-test.true, had.long) in
     let was
-    = as_wanted FindsIdAt (reader_of c.args.hand.now, c.args.watch.now) c.args.wanted.now place (reader_of c.loop-place.hand, c.loop-place.watch) ones had
-    one low (get_or_default ones place blank one low) in
+    = as_wanted FindsIdAt (reader_of c.args.hand.now, c.args.watch.now) c.args.wanted.now place
+    (reader_of c.loop-place.hand, c.loop-place.watch) ones had one low (get_or_default ones place blank one low) in
     subst (λ (w : NrWantedId). 0 < w.id) (sym was) (c.requires.ids place one (omega (arith, low, had.long)))
 
 pub returns-clause-finds : goal.returns-clause-finds
 returns-clause-finds c = let had = c.loop-place.invariant.made in
-    all_made FindsIdAt (reader_of c.args.hand.now, c.args.watch.now) c.args.wanted.now c.loop-place.place (reader_of c.loop-place.hand, c.loop-place.watch)
-    c.loop-place.wanted had (omega (arith, had.long, c.loop-place-test.false))
+    all_made FindsIdAt (reader_of c.args.hand.now, c.args.watch.now) c.args.wanted.now c.loop-place.place
+    (reader_of c.loop-place.hand, c.loop-place.watch) c.loop-place.wanted had
+    (omega (arith, had.long, c.loop-place-test.false))

@@ -41,7 +41,8 @@ returns c = inr (inr (
         c.of_found_id.ensures,
         c.if-holds.ensures.none,
         c.pin-found.ensures.pins,
-        c.tell_count.ensures ∙ ap (λ (rows : List Row). count_told c.args.count.now c.pin-found.result rows) c.rows.ensures.rows,
+        c.tell_count.ensures
+            ∙ ap (λ (rows : List Row). count_told c.args.count.now c.pin-found.result rows) c.rows.ensures.rows,
       );
       watch = c.heard.ensures;
     },

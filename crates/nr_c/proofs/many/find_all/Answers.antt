@@ -19,8 +19,8 @@ find_one-requires-clause-key c =
     let one = get_or keys place blank in
     let low : place < length keys = omega (arith, c.loop-place-test.true, had.long) in
     let was
-    = as_wanted FindsAtByCode (c.args.hand.now, c.args.watch.now) c.args.wanted.now place (c.loop-place.hand, c.loop-place.watch) keys had one
-    low (get_or_default keys place blank one low) in
+    = as_wanted FindsAtByCode (c.args.hand.now, c.args.watch.now) c.args.wanted.now place
+    (c.loop-place.hand, c.loop-place.watch) keys had one low (get_or_default keys place blank one low) in
     subst (λ (w : NrWanted). w.key < c.args.map.now.shape.keys) (sym was)
     (c.requires.keys place one (omega (arith, low, had.long)))
 
