@@ -276,7 +276,8 @@ typedef struct nr_wanted_id {
        sleep_on(answer);
      }
 
-   Both are from embed/c/wait.c, a whole program whose dataflow also sleeps while nothing is posted.
+   Both are from embed/c/wait.c, a whole program whose dataflow also sleeps while nothing is posted. Where the writer
+   may be closed before its readers, end the wait at NR_CLOSED too.
    No slot. Nothing has changed. After NR_NO_SLOT have readers release what they hold, or evict a key; after
    NR_ALL_FILLED evict a key. Then repeat the call. nr_stats counts the slots of either kind.
    Hot keys. A find writes its reader's own word, and nothing that readers share. A reader that serves one hot key
@@ -568,8 +569,8 @@ uint32_t nr_release_id(nr_id_reader *reader);
 
 /* Requests an id. NR_SEND after 19 steps: the caller has the claim of its group, and passes the id to the thread that
    writes. Until that thread admits an id of the group others get NR_WAITING, after 2 or 19. NR_NAMED after W + 2.
-   NR_WORN after 2, once its group has had 2^61 claims. NR_CLOSED after the 1 step that found the writer closed. What the
-   reader holds stays held. */
+   NR_WORN after 2, once its group has had 2^61 claims. NR_CLOSED after the 1 step that found the writer closed. What
+   the reader holds stays held. */
 uint32_t nr_request_id(nr_id_reader *reader, uint64_t id);
 
 /* The writer's own find: as nr_find_id, but never NR_OTHER, and NR_ROWS after W + 2n + 4 steps. */
