@@ -35,8 +35,6 @@ mod sleepers;
 #[cfg(test)]
 mod specified;
 #[cfg(test)]
-mod specified_triggers;
-#[cfg(test)]
 mod upqueries;
 #[cfg(test)]
 mod wakes;

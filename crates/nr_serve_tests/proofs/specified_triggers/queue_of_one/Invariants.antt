@@ -1,4 +1,0 @@
-use Rattle.nr_serve_tests.proofs.specified_triggers.queue_of_one.Given as goal
-
-abbrev pub ghost-open : goal.ghost-open
-ghost-open g a = 2
