@@ -16,13 +16,13 @@ unreachable-requires-then-not-take_value c =
     (λ way. c.in-Some.ensures.stays.owes way ∙ c.requires.owes way) choice.names.2 choice.names.1.has in
     c.if-not-take_value.ensures.takes.0 has.0 has.1
 
+pub returns-clause-free : goal.returns-clause-free
+returns-clause-free c =
+    room_is_free c.args.id c.in-Some.victim c.args.writer.now c.choose.new.writer c.take_value.new.writer
+    c.is_tied.ensures c.is_tied-2.ensures c.requires.id c.in-Some.ensures.chooses c.if-not-take_value.ensures.takes
+
 pub returns-clause-absent : goal.returns-clause-absent
 returns-clause-absent c =
     absent_still c.args.id c.in-Some.victim c.args.writer.now c.choose.new.writer c.take_value.new.writer
     c.is_tied.ensures c.is_tied-2.ensures c.requires.id c.in-Some.ensures.chooses c.if-not-take_value.ensures.takes
     c.requires.absent
-
-pub returns-clause-free : goal.returns-clause-free
-returns-clause-free c =
-    room_is_free c.args.id c.in-Some.victim c.args.writer.now c.choose.new.writer c.take_value.new.writer
-    c.is_tied.ensures c.is_tied-2.ensures c.requires.id c.in-Some.ensures.chooses c.if-not-take_value.ensures.takes
