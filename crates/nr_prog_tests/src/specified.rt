@@ -1,16 +1,9 @@
 //! Each public item of the program in the form that its callers rely on: where a name, a field, an argument
 //! or an answer changes, this file no longer compiles.
 use crate::same::{are_same, is_same};
-use nr_map::ReaderMap;
-use nr_prog::{
-    Draws, LoadFault, LoadReport, Plan, RunFault, Worked, load_gets, main_with, run, run_load,
-    run_steps,
-};
-use nr_serve::{Client, Lobby, OpenGate};
-use nr_trigger::Triggers;
+use nr_prog::{Draws, LoadFault, LoadReport, Plan, RunFault, main_with, run, run_load, run_steps};
+use nr_serve::OpenGate;
 use std::alloc::Global;
-use std::process::Abort;
-use std::sync::Wait;
 
 // What a run of a script, or of a schedule, comes to, and whether it wrote that text.
 fn ran(alloc: Global, are_steps: bool, text: &[u8], wanted: &[u8]) -> (Result<(), RunFault>, bool) {
@@ -69,37 +62,6 @@ fn a_worker_draws_its_keys(rt: HostRuntime) {
     let mut draws: Draws = Draws::open(7, 2, 10);
     let key: u32 = draws.next();
     assert!(rt; key < 10);
-}
-
-// What a worker comes to whose lobby is closed.
-fn worked<R: Abort + AllocGlobal + Wait>(rt: &R) -> Worked {
-    let alloc = rt.alloc();
-    let (map, _writer, mut readers) = ReaderMap::open(alloc, 1, 3, 1, 0).expect(rt, "a map");
-    let opened = Triggers::open_for(alloc, &map, 1, 1);
-    let (triggers, mut posters, _taker) = opened.expect(rt, "a queue");
-    let lobby = Lobby::open(alloc).expect(rt, "a lobby");
-    lobby.close(rt);
-    let reader = readers.pop().expect(rt, "a reader");
-    let poster = posters.pop().expect(rt, "a poster");
-    let mut client = Client::open(&map, reader, &triggers, poster, &lobby, &OpenGate);
-    let mut draws = Draws::open(1, 1, 1);
-    let worked: Worked = load_gets(rt, alloc, &mut client, &mut draws, 5, &lobby);
-    let (_reader, _poster, kept) = client.end();
-    if let Some(ticket) = kept {
-        ticket.into_key();
-    }
-    worked
-}
-
-#[test]
-fn a_worker_tells_what_it_made(rt: HostRuntime) {
-    let wanted = Worked {
-        made: 0,
-        answered: 0,
-        stopped: true,
-        fault: None,
-    };
-    is_same(&rt, &worked(&rt), &wanted);
 }
 
 // How a run and a load may end early, in the order in which it is told.
