@@ -27,11 +27,11 @@ pub(crate) struct Parts {
     ghost second: { (two.0.table ≡ map) × (two.1.queue ≡ triggers.id) × (two.1.keys ≡ 2) },
 }
 
-// The last of a queue's posters, which there is.
-fn next<R: Abort>(rt: &R, triggers: &Triggers, posters: &mut Vec<Poster>) -> Poster
-    requires { All (λ poster. (poster.queue ≡ triggers.now.id) × (poster.keys ≡ 2)) posters.old.items }
-    ensures next { (result.queue ≡ triggers.now.id) × (result.keys ≡ 2) }
-    ensures others { All (λ poster. (poster.queue ≡ triggers.now.id) × (poster.keys ≡ 2)) posters.new.items }
+// The last of the posters of a map's queue, which there is.
+fn next<R: Abort>(rt: &R, map: &ReaderMap, triggers: &Triggers, posters: &mut Vec<Poster>) -> Poster
+    requires { All (λ poster. (poster.queue ≡ triggers.now.id) × (poster.keys ≡ map.now.shape.keys)) posters.old.items }
+    ensures next { (result.queue ≡ triggers.now.id) × (result.keys ≡ map.now.shape.keys) }
+    ensures others { All (λ poster. (poster.queue ≡ triggers.now.id) × (poster.keys ≡ map.now.shape.keys)) posters.new.items }
 {
     posters.pop().expect(rt, "a poster")
 }
@@ -43,8 +43,8 @@ impl Parts {
             rt, "a queue",
         );
         let lobby = Lobby::open(rt.alloc()).expect(rt, "a lobby");
-        let second = next(rt, &triggers, &mut posters);
-        let first = next(rt, &triggers, &mut posters);
+        let second = next(rt, &map, &triggers, &mut posters);
+        let first = next(rt, &map, &triggers, &mut posters);
         Parts {
             map,
             triggers,
