@@ -7,7 +7,8 @@ use Rattle.nr_idmap.specs.Keepers.{IdCaller}
 use Rattle.nr_c.specs.declared.id_reader_side.IdReaderSide.{IdReaderSide}
 use Rattle.nr_c.specs.declared.id_shape.NrIdShape.{NrIdShape}
 use Rattle.nr_c.specs.declared.id_writer_side.IdWriterSide.{IdWriterSide}
-use Rattle.nr_c.specs.Closings.{Closes, IsNewWatch, Watched}
+use Rattle.nr_c.specs.Closings.{Closes, IsNewWatch}
+use Rattle.nr_c.specs.Endings.{Ends}
 use Rattle.nr_c.specs.Hands.{EndsIdHand}
 use Rattle.nr_c.specs.Ledgers.{no_entries}
 use Rattle.nr_c.specs.Numbers.{answer_bad_size, answer_done, answer_no_memory, answer_no_reader}
@@ -75,10 +76,10 @@ TakesIdReader before other after handle code =
     ⊎ ((code ≡ answer_no_memory) × (rest : List IdCaller) × (reader : IdCaller)
     × KeepsIdWriter before after (rest ++ reader ∷ []) (rest ++ reader ∷ []) × (handle ≡ other))
 
--- the reader that a handle led to was ended, with what it held
+-- the reader that a handle led to ended, having let go what it held
 abbrev pub EndsIdReader : List IdReaderSide → Type 0
-EndsIdReader before = (side : IdReaderSide) → before ≡ side ∷ [] → (reader : IdCaller) × EndsIdHand side.hand reader
+EndsIdReader before = (side : IdReaderSide) → before ≡ side ∷ [] → Ends (EndsIdHand side.hand)
 
--- and the writer, of which the readers of its map are told
+-- what the handle knew of the writer ended, having closed it, of which the readers of its map are told
 abbrev pub EndsIdWriter : List IdWriterSide → Type 0
-EndsIdWriter before = (side : IdWriterSide) → before ≡ side ∷ [] → (watch : Watched) × Closes side.watch watch
+EndsIdWriter before = (side : IdWriterSide) → before ≡ side ∷ [] → Ends (Closes side.watch)

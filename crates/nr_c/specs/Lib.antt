@@ -2,6 +2,7 @@ pub mod Numbers
 pub mod Layout
 pub mod Codes
 pub mod Closings
+pub mod Endings
 pub mod RowCells
 pub mod Rows
 pub mod Hands

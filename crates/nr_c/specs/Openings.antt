@@ -5,7 +5,8 @@ use Rattle.nr_core.specs.declared.shape.Shape.{Shape}
 use Rattle.nr_board.specs.Callers.{Caller}
 use Rattle.nr_map.specs.Hands.{idle}
 use Rattle.nr_map.specs.Opened.{IsOpened, words_of_large}
-use Rattle.nr_c.specs.Closings.{Closes, IsNewWatch, Watched}
+use Rattle.nr_c.specs.Closings.{Closes, IsNewWatch}
+use Rattle.nr_c.specs.Endings.{Ends}
 use Rattle.nr_c.specs.Hands.{EndsHand}
 use Rattle.nr_c.specs.Numbers.{answer_bad_size, answer_done, answer_no_memory, answer_no_reader}
 use Rattle.nr_c.specs.declared.reader_side.ReaderSide.{ReaderSide}
@@ -71,10 +72,10 @@ ReturnsReader before other after handle code =
     × EndsHand held.hand reader × KeepsWriter before after rest (rest ++ reader ∷ []) × (handle ≡ []))
     ⊎ ((code ≡ answer_no_memory) × (rest : List Caller) × KeepsWriter before after rest rest × (handle ≡ other))
 
--- the reader that a handle led to was ended, with what it held
+-- the reader that a handle led to ended, having let go what it held
 abbrev pub EndsReader : List ReaderSide → Type 0
-EndsReader before = (side : ReaderSide) → before ≡ side ∷ [] → (reader : Caller) × EndsHand side.hand reader
+EndsReader before = (side : ReaderSide) → before ≡ side ∷ [] → Ends (EndsHand side.hand)
 
--- and the writer, of which the readers of its map are told
+-- what the handle knew of the writer ended, having closed it, of which the readers of its map are told
 abbrev pub EndsWriter : List WriterSide → Type 0
-EndsWriter before = (side : WriterSide) → before ≡ side ∷ [] → (watch : Watched) × Closes side.watch watch
+EndsWriter before = (side : WriterSide) → before ≡ side ∷ [] → Ends (Closes side.watch)

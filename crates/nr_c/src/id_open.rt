@@ -9,7 +9,7 @@ ghost use Rattle.nr_c.specs.IdOpenings.{EndsIdReader, EndsIdWriter, IsNewIdWrite
 
 use crate::codes::{NR_BAD_SIZE, NR_CLOSED, NR_DONE, NR_LIVE, NR_NO_MEMORY, NR_NO_READER};
 use crate::id_reader_handle::NrIdReader;
-use crate::id_reader_side::IdReaderSide;
+use crate::id_reader_side::{IdReaderSide, leave_by_id};
 use crate::id_shape::NrIdShape;
 use crate::id_writer_handle::NrIdWriter;
 use crate::id_writer_side::IdWriterSide;
@@ -141,7 +141,7 @@ pub extern "C" fn nr_close_id_reader(alloc: Global, reader: &mut NrIdReader)
     if !reader.is_live() {
         return;
     }
-    drop(reader.close(alloc));
+    leave_by_id(reader.close(alloc));
 }
 
 /// Ends the writer, and with it each upquery that is open. Readers are told of it. The memory of the map goes
@@ -154,5 +154,5 @@ pub extern "C" fn nr_close_id_writer(alloc: Global, writer: &mut NrIdWriter)
     if !writer.is_live() {
         return;
     }
-    drop(writer.close(alloc).end());
+    writer.close(alloc).end().leave();
 }

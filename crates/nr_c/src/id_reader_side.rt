@@ -2,7 +2,8 @@
 ghost use Rattle.std.specs.Prelude.{◌≡◌};
 ghost use Rattle.std.specs.Bool.{OnFalse, OnTrue};
 ghost use Rattle.nr_idmap.specs.IdHands.{hand_table_of, idle_by_id, reader_of};
-ghost use Rattle.nr_idmap.specs.Keepers.{IdCaller, id_table_of};
+ghost use Rattle.nr_idmap.specs.Keepers.{id_table_of};
+ghost use Rattle.nr_c.specs.Endings.{Ends, HasEnded};
 ghost use Rattle.nr_c.specs.Hands.{EndsIdHand, HoldsAnId, HoldsNoId};
 
 use crate::reader_side::APART;
@@ -21,12 +22,17 @@ pub struct IdReaderSide {
     ghost own: { hand_table_of hand ≡ map.value },
 }
 
+/// Ends a reader, of which contracts can tell from now on.
+pub fn leave_by_id(reader: IdReader)
+    ensures { HasEnded reader }
+{}
+
 // A reader that holds a set is released.
 impl Drop for IdReaderSide {
     fn drop(self)
-        ensures { (reader : IdCaller) × EndsIdHand self.hand reader }
+        ensures { Ends (EndsIdHand self.hand) }
     {
-        drop(self.end());
+        leave_by_id(self.end());
     }
 }
 

@@ -9,7 +9,7 @@ ghost use Rattle.nr_c.specs.Sizes.{TellsSizes, shape_of_sizes};
 
 use crate::codes::{NR_BAD_SIZE, NR_CLOSED, NR_DONE, NR_LIVE, NR_NO_MEMORY, NR_NO_READER};
 use crate::reader_handle::NrReader;
-use crate::reader_side::{APART, ReaderSide};
+use crate::reader_side::{APART, ReaderSide, leave};
 use crate::remains_side::RemainsSide;
 use crate::sizes::{NrShape, NrSizes};
 use crate::watch::Watch;
@@ -157,7 +157,7 @@ pub extern "C" fn nr_close_reader(alloc: Global, reader: &mut NrReader)
     if !reader.is_live() {
         return;
     }
-    drop(reader.close(alloc));
+    leave(reader.close(alloc));
 }
 
 /// Ends the writer. Readers are told of it. The memory of the map goes with the last handle. Nothing happens
@@ -170,7 +170,7 @@ pub extern "C" fn nr_close_writer(alloc: Global, writer: &mut NrWriter)
     if !writer.is_live() {
         return;
     }
-    drop(writer.close(alloc).end());
+    writer.close(alloc).end().leave();
 }
 
 /// The map's sizes: `NR_DONE`; or `NR_CLOSED`, and `sizes` stay.

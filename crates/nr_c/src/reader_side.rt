@@ -1,9 +1,9 @@
 //! What a reader's handle leads to.
 ghost use Rattle.std.specs.Prelude.{◌≡◌, ◌<◌, ◌≤◌};
 ghost use Rattle.std.specs.Bool.{OnFalse, OnTrue};
+ghost use Rattle.nr_c.specs.Endings.{Ends, HasEnded};
 ghost use Rattle.nr_c.specs.Hands.{EndsHand, HoldsNone, HoldsSome};
 ghost use Rattle.nr_map.specs.Hands.{idle};
-ghost use Rattle.nr_board.specs.Callers.{Caller};
 
 use crate::watch::Watch;
 use nr_map::{Hand, Reader, ReaderMap};
@@ -25,12 +25,17 @@ pub struct ReaderSide {
     ghost own: { hand.reader.table ≡ map.value },
 }
 
+/// Ends a reader, of which contracts can tell from now on.
+pub fn leave(reader: Reader)
+    ensures { HasEnded reader }
+{}
+
 // A reader that holds a set is released.
 impl Drop for ReaderSide {
     fn drop(self)
-        ensures { (reader : Caller) × EndsHand self.hand reader }
+        ensures { Ends (EndsHand self.hand) }
     {
-        drop(self.end());
+        leave(self.end());
     }
 }
 

@@ -3,4 +3,5 @@ use Rattle.nr_c.proofs.open.nr_close_reader.Goals as goal
 
 pub returns-clause-ends : goal.returns-clause-ends
 returns-clause-ends c side led =
-    (c.close.result, c.close.ensures.ends side (ap (λ handle. handle.live) c.is_live.ensures.same ∙ led))
+    let ends = c.close.ensures.ends side (ap (λ handle. handle.live) c.is_live.ensures.same ∙ led) in
+    (c.close.result, c.leave.ensures, ends)

@@ -6,4 +6,5 @@ use Rattle.nr_c.proofs.open.nr_close_writer.Goals as goal
 pub returns-clause-ends : goal.returns-clause-ends
 returns-clause-ends c side led =
     let same = c.close.ensures.ends side (ap (λ handle. handle.live) c.is_live.ensures.same ∙ led) in
-    (c.end.result, subst (λ (held : WriterSide). Closes held.watch c.end.result) same c.end.ensures)
+    let closes = subst (λ (held : WriterSide). Closes held.watch c.end.result) same c.end.ensures in
+    (c.end.result, c.leave.ensures, closes)

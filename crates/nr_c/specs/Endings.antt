@@ -1,0 +1,14 @@
+-- How a call tells that a token ended: a reader, one by id, or what a handle knows of its map's writer.
+
+-- A token of which contracts saw just this has ended. It stands shut: only the functions that tokens end by tell it, of
+-- one that they take.
+pub HasEnded : {Seen : Type 0} → Seen → Type 0
+HasEnded seen = Unit {0}
+
+pub has_ended : {Seen : Type 0} → (seen : Seen) → HasEnded seen
+unfolding HasEnded
+has_ended seen = tt
+
+-- a token ended, and this held of it
+abbrev pub Ends : {Seen : Type 0} → (Seen → Type 0) → Type 0
+Ends {Seen = Seen} holds = (token : Seen) × HasEnded token × holds token
