@@ -9,6 +9,7 @@
 #![tactic(auto)]
 
 mod choices;
+mod counts;
 mod evictions;
 mod finds;
 mod hands;
@@ -32,7 +33,7 @@ pub use id_map::{IdMap, IdShape};
 pub use looks::Looked;
 pub use notes::IdNote;
 pub use nr_ids::{Claim, Refused, Requested};
-pub use nr_map::{Evict, NoSlot, Reaped, Reclaimed, ReplaceFault, UpdateFault};
+pub use nr_map::{Evict, NoSlot, Reaped, Reclaimed, ReplaceFault, SlotCounts, UpdateFault};
 pub use nr_model::OpenFault;
 pub use rows::{are_id_deltas, are_id_rows};
 pub use tokens::{IdReader, IdWriter};

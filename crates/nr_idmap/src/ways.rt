@@ -1,6 +1,6 @@
 //! What the writer knows of ways, which is exact.
 ghost use Rattle.std.specs.Prelude.{◌≡◌, ◌<◌};
-ghost use Rattle.nr_ids.specs.Answers.{FindsWay};
+ghost use Rattle.nr_ids.specs.Answers.{FindsId, FindsWay};
 ghost use Rattle.nr_idmap.specs.IdChoices.{StaysButClerk};
 
 use crate::id_map::IdMap;
@@ -16,5 +16,16 @@ impl IdMap {
         ensures stays { StaysButClerk writer.old writer.new }
     {
         self.directory.way_of(&mut writer.clerk, id)
+    }
+
+    /// The id that has a way, if one has it, in 1 step of the directory.
+    pub fn id_at(&self, writer: &mut IdWriter, way: u32) -> Option<u64>
+        requires own { writer.old.table ≡ self.now }
+        requires way { way < self.now.map.shape.keys }
+        ensures own { writer.new.table ≡ self.now }
+        ensures names { FindsId way writer.old.clerk writer.new.clerk result }
+        ensures stays { StaysButClerk writer.old writer.new }
+    {
+        self.directory.id_of(&mut writer.clerk, way)
     }
 }
