@@ -1,6 +1,6 @@
 -- An id's value that is taken was there, and is gone then.
 use Rattle.std.proofs.Common.{◌≡◌, ◌≢◌, ◌+◌, ◌<◌, ℕ, inl, inr, Bool, true, false, cond, ◌∷◌, [], Option, Some, None}
-use Rattle.std.proofs.Common.{sym, ap, ◌∙◌, subst, arith}
+use Rattle.std.proofs.Common.{refl, sym, ap, ◌∙◌, subst, arith}
 use Rattle.std.specs.Bool.{◌==◌}
 use Rattle.std.proofs.lemmas.Bool.{cases_eq, eq-eqb, ne_eqb}
 use Rattle.nr_board.specs.Callers.{Caller, Table, map_seen}
@@ -75,6 +75,10 @@ cond_is b x y e = ap (λ (t : Bool). cond t x y) e
 cond_not : (b : Bool) (x y : ℕ) → b ≡ false → cond b x y ≡ y
 cond_not b x y e = ap (λ (t : Bool). cond t x y) e
 
+cond_none : (b : Bool) (x : ℕ) → x ≡ 0 → cond b 0 x ≡ 0
+cond_none true x e = refl
+cond_none false x e = e
+
 -- the way has no name any more, and the others' names stay
 module _ (id way : ℕ) (old new : Keeper) (tied : IsTied old) (evicts : EvictsWay id way old new) where
   names : (k : ℕ) → name_at new k ≡ cond (way == k) 0 (name_at old k)
@@ -84,6 +88,10 @@ module _ (id way : ℕ) (old new : Keeper) (tied : IsTied old) (evicts : EvictsW
 
   pub unnamed_at : (k : ℕ) → k ≡ way → name_at new k ≡ 0
   unnamed_at k same = names k ∙ cond_is (way == k) 0 (name_at old k) (eq-eqb way k (sym same))
+
+  -- nor has one that had none
+  pub none_still : (k : ℕ) → name_at old k ≡ 0 → name_at new k ≡ 0
+  none_still k was = names k ∙ cond_none (way == k) (name_at old k) was
 
   pub named_before : (k name : ℕ) → 0 < name → name_at new k ≡ name → (k ≢ way) × (name_at old k ≡ name)
   named_before k name real named = elim (cases_eq way k) [

@@ -8,13 +8,14 @@ use Rattle.nr_core.proofs.Histories.{length-after}
 use Rattle.nr_core.specs.Story.{entry}
 use Rattle.nr_model.specs.declared.rows.Row.{Row}
 use Rattle.nr_model.specs.declared.calls.Call.{Call}
-use Rattle.nr_model.specs.declared.calls.Call.TheVariants.{Evict, Fill, Replace}
+use Rattle.nr_model.specs.declared.calls.Call.TheVariants.{Evict, Fill, Find, Replace}
 use Rattle.nr_model.specs.declared.calls.Reply.{Reply}
 use Rattle.nr_model.specs.declared.calls.Reply.TheVariants as reply
 use Rattle.nr_model.specs.declared.states.KeyState.{KeyState}
 use Rattle.nr_model.specs.declared.states.KeyState.TheVariants.{Hole, Asked, Rows}
 use Rattle.nr_model.specs.Histories.{IsLegal, after}
-use Rattle.nr_model.specs.Maps.{PartialMap, call_key, evict_reply, fill_reply, filled, replace_reply, replaced}
+use Rattle.nr_model.specs.Maps.{PartialMap, call_key, evict_reply, fill_reply, filled, find_reply, replace_reply}
+use Rattle.nr_model.specs.Maps.{replaced}
 use Rattle.nr_model.specs.Maps.{reply_at, state_after, state_of}
 use Rattle.nr_model.proofs.HistoryLemmas.{state_of-next_same}
 use Rattle.nr_model.proofs.LawLemmas.{legal_goes_on_lem}
@@ -62,12 +63,17 @@ named_has_rows way zero (Asked n) real agrees none = absurd (omega (arith, real)
 named_has_rows way (suc name) (Asked n) real agrees none = absurd (cc (none))
 named_has_rows way name (Rows n rows) real agrees none = (n, rows, refl)
 
--- and was neither passed over by an eviction nor by a replacement
+-- and was passed over neither by an eviction nor by a find nor by a replacement
 no_eviction : (n : ℕ) (rows : List Row) (state : KeyState) → reply.Nothing ≡ evict_reply state
     → state_after 0 (Evict 0) state ≡ Rows n rows → ⊥
 no_eviction n rows (Hole m) answered is = cc (is)
 no_eviction n rows (Asked m) answered is = cc (is)
 no_eviction n rows (Rows m had) answered is = cc (answered)
+
+no_hole : (n : ℕ) (rows : List Row) (state : KeyState) → reply.Hole ≡ find_reply state → state ≡ Rows n rows → ⊥
+no_hole n rows (Hole m) answered is = cc (is)
+no_hole n rows (Asked m) answered is = cc (is)
+no_hole n rows (Rows m had) answered is = cc (answered)
 
 no_replacement : (n : ℕ) (rows new : List Row) (state : KeyState) → reply.Dropped ≡ replace_reply state
     → replaced new state ≡ Rows n rows → ⊥
@@ -82,6 +88,11 @@ module _ (way name : ℕ) (new : Caller) (real : 0 < name) (agrees : Agrees name
     evicts_it last =
         let had = named_has_rows way name (state_of (map_seen new) way) real agrees none in
         no_eviction had.0 had.1 last.before last.answered (sym last.now ∙ had.2)
+
+    pub finds_it : LastCall (Find way) reply.Hole new → ⊥
+    finds_it last =
+        let had = named_has_rows way name (state_of (map_seen new) way) real agrees none in
+        no_hole had.0 had.1 last.before last.answered (sym last.now ∙ had.2)
 
     pub replaces_it : (rows : List Row) → LastCall (Replace way rows) reply.Dropped new → ⊥
     replaces_it rows last =
@@ -122,3 +133,14 @@ pub replaced_has : (way : ℕ) (rows : List Row) (new : Caller) → LastCall (Re
     → (n : ℕ) × (state_of (map_seen new) way ≡ Rows n rows)
 replaced_has way rows new last =
     let has = replace_has rows last.before last.answered in (has.0, last.now ∙ has.1)
+
+-- WHAT WAS FOUND IS THERE
+find_has : (rows : List Row) (state : KeyState) → reply.Rows rows ≡ find_reply state → HasRows rows state
+find_has rows (Hole n) found = absurd (cc (found))
+find_has rows (Asked n) found = absurd (cc (found))
+find_has rows (Rows n had) found = let same : had ≡ rows = cc (found) in (n, ap (Rows n) same)
+
+pub found_has : (way : ℕ) (rows : List Row) (new : Caller) → LastCall (Find way) (reply.Rows rows) new
+    → (n : ℕ) × (state_of (map_seen new) way ≡ Rows n rows)
+found_has way rows new last =
+    let has = find_has rows last.before last.answered in (has.0, last.now ∙ has.1)

@@ -1,11 +1,14 @@
 -- This crate's own.
 mod Lists
+mod Brought
 mod InOrder
 mod Quiets
 mod LastCalls
 mod Gone
 mod Admitting
 mod Placing
+mod AllGone
+mod LookingAt
 mod Older
 mod Seen
 mod Opening

@@ -1,5 +1,9 @@
 -- A new store: no upquery is open, and there is a slot for each way, each reader and one more.
-use Rattle.std.proofs.Common.{◌≡◌, ◌<◌, ◌-◌, List, ap, ◌∙◌, arith}
+use Rattle.std.proofs.Common.{◌≡◌, ◌<◌, ◌-◌, List, ap, sym, subst, ◌∙◌, arith}
+use Rattle.std.specs.List.{All}
+use Rattle.std.proofs.lemmas.List.Elements.{All-nil}
+use Rattle.nr_model.specs.Histories.{Entry}
+use Rattle.nr_board.specs.Callers.{Caller}
 use Rattle.nr_core.specs.declared.shape.Shape.{Shape}
 use Rattle.nr_ids.specs.Events.{Event, name_of}
 use Rattle.nr_idmap.specs.declared.id_map.IdShape.{IdShape}
@@ -9,6 +13,7 @@ use Rattle.nr_map.specs.SlotBounds.{HasRoomForAll}
 use Rattle.nr_cache.specs.declared.shape.StoreShape.{StoreShape}
 use Rattle.nr_cache.specs.Openings.{ids_of}
 use Rattle.nr_cache.specs.Places.{OwesNone}
+use Rattle.nr_cache.specs.Values.{BringsValue, BringsValues}
 
 pub opened_owes_none : (shape : IdShape) (table : IdTable) (keeper : Keeper) (readers : List IdCaller)
     → OpensIds shape table keeper readers → OwesNone keeper
@@ -33,3 +38,10 @@ pub opened_has_row : (shape : StoreShape) (table : IdTable) (keeper : Keeper) (r
     → OpensIds (ids_of shape) table keeper readers → 0 < keeper.table.map.shape.rows - 1
 opened_has_row shape table keeper readers opens =
     let rows = ap (λ (s : Shape). s.rows) (shape_is (ids_of shape) table keeper readers opens) in omega (arith, rows)
+
+-- the writer has brought no set
+pub opened_brings_none : (shape : IdShape) (table : IdTable) (keeper : Keeper) (readers : List IdCaller)
+    → OpensIds shape table keeper readers → BringsValues keeper
+opened_brings_none shape table keeper readers opens =
+    subst (λ (w : Caller). All (λ (e : Entry). BringsValue e.call) w.mine) (sym opens.opened.writes)
+    (All-nil (λ (e : Entry). BringsValue e.call))

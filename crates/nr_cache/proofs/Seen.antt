@@ -9,7 +9,8 @@ use Rattle.nr_cache.specs.declared.store.Landed.TheVariants as landed
 use Rattle.nr_cache.specs.Flights.{BeginsChange, Ends, Outdates, Underway, is_changing}
 use Rattle.nr_cache.specs.Places.{IsGone, TakesValue}
 use Rattle.nr_cache.specs.StoreSeen.{StoreSeen}
-use Rattle.nr_cache.specs.Stores.{BeginsFlight, ChangesId, HoldsOrNot, Invalidates, Lands, Puts, row_of}
+use Rattle.nr_cache.specs.Stores.{BeginsFlight, ChangesId, HoldsOrNot, Invalidates, Lands, Puts}
+use Rattle.nr_cache.specs.Values.{row_of}
 
 pub begins_from : (id mark : ℕ) (parts seen new : StoreSeen) (answer : Begun) → parts ≡ seen
     → BeginsFlight id mark parts new answer → BeginsFlight id mark seen new answer

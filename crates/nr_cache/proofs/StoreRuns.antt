@@ -6,11 +6,12 @@ use Rattle.nr_idmap.specs.Keepers.{Keeper}
 use Rattle.nr_map.specs.GivenBack as map
 use Rattle.nr_map.specs.GivenBack.{EachSetComesOutOnce}
 use Rattle.nr_map.specs.Remains.{Given}
+use Rattle.nr_cache.specs.declared.finds.FoundValue.{FoundValue}
 use Rattle.nr_cache.specs.declared.flights.Flight.{Flight}
 use Rattle.nr_cache.specs.declared.store.Begun.{Begun}
 use Rattle.nr_cache.specs.declared.store.Begun.TheVariants as begun
 use Rattle.nr_cache.specs.Flights.{Ends, Outdates, Underway}
-use Rattle.nr_cache.specs.Histories.{Began, ChangeBegan, ChangeEnded, Does, Ended, Event, Invalidated}
+use Rattle.nr_cache.specs.Histories.{AllInvalidated, Began, ChangeBegan, ChangeEnded, Does, Ended, Event, Invalidated}
 use Rattle.nr_cache.specs.Histories as flights
 use Rattle.nr_cache.specs.Moves.{Moves}
 use Rattle.nr_cache.specs.Moves as quiet
@@ -18,10 +19,13 @@ use Rattle.nr_cache.specs.StoreSeen.{StoreSeen}
 use Rattle.nr_cache.specs.StoreRuns as runs
 use Rattle.nr_cache.specs.StoreRuns.{Calls, EachValueComesOutOnce, HoldsFresh, StoreRun, StoresInOrder, began_by}
 use Rattle.nr_cache.specs.StoreRuns.{changed_by, ended_by}
-use Rattle.nr_cache.specs.Stores.{BeginsFlight, ChangesId, LandsOwn, OnlyLooksUp}
+use Rattle.nr_cache.specs.Stores.{BeginsFlight, ChangesId, LandsOwn, Looks, OnlyLooksUp, PutsOwn}
+use Rattle.nr_cache.specs.Swaps.{FindsOld}
 use Rattle.nr_cache.proofs.InOrder.{each_flight_ends_once_lem, held_is_fresh_lem}
+use Rattle.nr_cache.proofs.AllGone.{each_quiet}
+use Rattle.nr_cache.proofs.LookingAt.{look_quiet}
 use Rattle.nr_cache.proofs.Placing.{no_place_quiet, takes_quiet}
-use Rattle.nr_cache.proofs.Quiets.{goes_on_lem, quiet_moves, quiet_same}
+use Rattle.nr_cache.proofs.Quiets.{goes_on_lem, moves_then, quiet_moves, quiet_same}
 
 -- the flights after it, and the map's writer
 record Goes_on {Room : Type 0} (shows : Room → List Row → Type 0) (history : List Event) (put : List (List Row))
@@ -62,6 +66,13 @@ module _ {Room : Type 0} (shows : Room → List Row → Type 0) where
       one history (Invalidated id) old.underway new.underway run
       (does.found, subst (λ (b : Underway). Outdates id old.underway b does.found) (sym does.begins.1) does.outdates)
 
+  swapped_loads : (history : List Event) (id was : ℕ) (old mid new : StoreSeen) → FindsOld id was old mid
+      → flights.Run history old.underway → (found : Option Flight) → Outdates id mid.underway new.underway found
+      → flights.Run (Invalidated id ∷ history) new.underway
+  swapped_loads history id was old mid new finds run found outdates =
+      one history (Invalidated id) mid.underway new.underway
+      (none history old.underway mid.underway run finds.looks.1) (found, outdates)
+
   loads : {old new : StoreSeen} {events : List Event} {more : List (List Row)} {out : List Given} (history : List Event)
       → flights.Run history old.underway → Calls shows old events more out new → flights.Run (events ++ history)
       new.underway
@@ -81,6 +92,17 @@ module _ {Room : Type 0} (shows : Room → List Row → Type 0) where
   loads history run (runs.ChangeBegins id old new told does) = changed_loads history id old new told run does
   loads history run (runs.ChangeEnds id old new ends rest) =
       one history (ChangeEnded id) old.underway new.underway run ends
+  loads history run (runs.LooksIt id old new found looks) =
+      none history old.underway new.underway run looks.1
+  loads history run (runs.SwapsIt id was stamp value old new before room given swaps) =
+      swapped_loads history id was old swaps.mid new swaps.finds run swaps.puts.found swaps.puts.outdates
+  loads history run (runs.SwapsNone id was old new before room swaps) =
+      swapped_loads history id was old swaps.mid new swaps.finds run swaps.puts.found swaps.puts.outdates
+  loads history run (runs.EvictsIt id old new had evicts) =
+      none history old.underway new.underway run evicts.rest.0
+  loads history run (runs.InvalidatesEach old new does) =
+      one history AllInvalidated old.underway new.underway run does.outdates
+  loads history run (runs.CountsIt old new counts does) = none history old.underway new.underway run does.rest.0
   loads history run (runs.ReapsIt old new before room answer reaps) =
       none history old.underway new.underway run reaps.rest.0
 
@@ -116,6 +138,18 @@ module _ {Room : Type 0} (shows : Room → List Row → Type 0) where
         quiet_moves shows (no_place_quiet flight.id old.keeper old.asker new.keeper new.asker place)
   ]
 
+  put_own_sets : (id : ℕ) (old new : StoreSeen) (before room : Room) → PutsOwn shows id old before new room
+      → Moves shows old.keeper.writer [] [] new.keeper.writer
+  put_own_sets id old new before room puts =
+      elim puts.why [
+        | inl changed ↦ quiet_moves shows (takes_quiet id old.keeper new.keeper changed.1.0 changed.1.1)
+        | inr place ↦ quiet_moves shows (no_place_quiet id old.keeper old.asker new.keeper new.asker place.1)
+      ]
+
+  looked_sets : (id : ℕ) (old new : StoreSeen) (found : Option FoundValue) → Looks id old new found
+      → Moves shows old.keeper.writer [] [] new.keeper.writer
+  looked_sets id old new found looks = quiet_moves shows (look_quiet id old.keeper new.keeper found looks.0)
+
   sets : {old new : StoreSeen} {events : List Event} {more : List (List Row)} {out : List Given}
       → Calls shows old events more out new → Moves shows old.keeper.writer more out new.keeper.writer
   sets (runs.Begins id mark old new answer begins) = begun_sets id mark old new answer begins
@@ -125,13 +159,22 @@ module _ {Room : Type 0} (shows : Room → List Row → Type 0) where
   sets (runs.InvalidatesIt id old new had does) =
       quiet_moves shows (takes_quiet id old.keeper new.keeper had does.takes)
   sets (runs.PutsIt id stamp value old new before room given puts) = puts.holds.moves
-  sets (runs.PutsNone id old new before room puts) =
-      elim puts.why [
-        | inl changed ↦ quiet_moves shows (takes_quiet id old.keeper new.keeper changed.1.0 changed.1.1)
-        | inr place ↦ quiet_moves shows (no_place_quiet id old.keeper old.asker new.keeper new.asker place.1)
-      ]
+  sets (runs.PutsNone id old new before room puts) = put_own_sets id old new before room puts
   sets (runs.ChangeBegins id old new told does) = rests old new does.rest
   sets (runs.ChangeEnds id old new ends rest) = rests old new rest
+  sets (runs.LooksIt id old new found looks) = looked_sets id old new found looks
+  sets (runs.SwapsIt id was stamp value old new before room given swaps) =
+      moves_then shows (looked_sets id old swaps.mid (Some swaps.finds.found) swaps.finds.looks) swaps.puts.holds.moves
+  sets (runs.SwapsNone id was old new before room swaps) =
+      moves_then shows (looked_sets id old swaps.mid (Some swaps.finds.found) swaps.finds.looks)
+      (put_own_sets id swaps.mid new before room swaps.puts)
+  sets (runs.EvictsIt id old new had evicts) =
+      quiet_moves shows (takes_quiet id old.keeper new.keeper had evicts.takes)
+  sets (runs.InvalidatesEach old new does) = quiet_moves shows (each_quiet does.takes)
+  sets (runs.CountsIt old new counts does) =
+      quiet_moves shows
+      (quiet.LearnsMore 1 old.keeper.writer old.keeper.writer new.keeper.writer (quiet.Stays old.keeper.writer)
+      does.learns)
   sets (runs.ReapsIt old new before room answer reaps) = reaps.moves
 
   run_goes : {history : List Event} {put : List (List Row)} {given : List Given} {store : StoreSeen}

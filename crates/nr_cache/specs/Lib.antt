@@ -2,8 +2,11 @@ pub mod Flights
 pub mod Histories
 pub mod StoreSeen
 pub mod Moves
+pub mod Values
 pub mod Places
 pub mod Stores
+pub mod Swaps
+pub mod Counts
 pub mod StoreRuns
 pub mod Finds
 pub mod Openings

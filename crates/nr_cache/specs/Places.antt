@@ -1,5 +1,5 @@
 -- How a value comes into the map, and out of it.
-use Rattle.std.specs.Prelude.{◌≡◌, ◌≢◌, ◌⊎◌, ℕ, Bool, true, false, List, [], ◌∷◌, Option, Some, None, Result, Ok}
+use Rattle.std.specs.Prelude.{◌≡◌, ◌≢◌, ◌⊎◌, ◌+◌, ℕ, Bool, true, false, List, [], ◌∷◌, Option, Some, None, Result, Ok}
 use Rattle.nr_model.specs.declared.rows.Row.{Row}
 use Rattle.nr_board.specs.Callers.{Caller, map_seen}
 use Rattle.nr_board.specs.declared.answers.Evict.TheVariants as evict
@@ -9,16 +9,19 @@ use Rattle.nr_board.specs.Reclaiming.{ReplacesReclaiming}
 use Rattle.nr_ids.specs.declared.admissions.Refused.TheVariants as refused
 use Rattle.nr_ids.specs.declared.requests.Requested.{Requested}
 use Rattle.nr_ids.specs.declared.requests.Requested.TheVariants as requested
-use Rattle.nr_ids.specs.Answers.{FindsWay, Requests}
+use Rattle.nr_ids.specs.Answers.{FindsId, FindsWay, Requests}
 use Rattle.nr_ids.specs.Looking.{IsFull}
 use Rattle.nr_ids.specs.Tokens.{Granted}
 use Rattle.nr_idmap.specs.declared.writes.IdFault.{IdFault}
 use Rattle.nr_idmap.specs.IdChoices.{ChoosesId, StaysButClerk}
+use Rattle.nr_idmap.specs.IdLooks.{LooksInWay}
 use Rattle.nr_idmap.specs.IdWrites.{AdmitsId, CallsWay, EvictsId, FillsAndGives, RefusesId}
 use Rattle.nr_idmap.specs.Keepers.{IdCaller, Keeper, Owed, Sent, owed_at}
 use Rattle.nr_idmap.specs.Tags.{IsResident, tag_of}
 use Rattle.nr_map.specs.Remains.{Given}
+use Rattle.nr_cache.specs.declared.finds.FoundValue.{FoundValue}
 use Rattle.nr_cache.specs.Moves.{Moves, ShowsGiven}
+use Rattle.nr_cache.specs.Values.{row_of, set_of}
 
 -- in all that the writer has seen the id has a value, or has none
 abbrev pub HasValue : ℕ → Keeper → Type 0
@@ -40,11 +43,36 @@ pub record OwesOnly (owed : Owed) (keeper : Keeper) : Type 0 where
 abbrev pub LooksUp : ℕ → Keeper → Keeper → Option ℕ → Type 0
 LooksUp id old new way = FindsWay id old.clerk new.clerk way × StaysButClerk old new
 
+-- the id's value was found by a find of the writer's own in the id's way, or the id has none
+abbrev pub LooksAtValue : ℕ → Keeper → Keeper → Option FoundValue → Type 0
+LooksAtValue id old new (Some found) =
+    (way : ℕ) × LooksInWay id way (set_of id found.stamp found.value) old new × (new.asker ≡ old.asker)
+    × IsResident (map_seen new.writer) id (row_of found.stamp found.value ∷ [])
+LooksAtValue id old new None = LooksUp id old new None × IsGone id new
+
 -- OUT
 -- the id's value is evicted, or it had none
 abbrev pub TakesValue : ℕ → Keeper → Keeper → Bool → Type 0
 TakesValue id old new true = HasValue id old × EvictsId id old new evict.Evicted × (new.asker ≡ old.asker)
 TakesValue id old new false = IsGone id old × EvictsId id old new evict.Nothing × (new.asker ≡ old.asker)
+
+-- the id that has the way, if one has, loses its value
+abbrev pub TakesFrom : Option ℕ → Keeper → Keeper → Type 0
+TakesFrom None old new = new ≡ old
+TakesFrom (Some id) old new = TakesValue id old new true
+
+pub record TakesAt (way : ℕ) (old new : Keeper) : Type 0 where
+  pub named : Option ℕ
+  pub mid : Keeper
+  pub names : FindsId way old.clerk mid.clerk named
+  pub stays : StaysButClerk old mid
+  pub takes : TakesFrom named mid new
+
+-- so does that of each of the first so many ways, in turn
+pub data TakesEach : ℕ → Keeper → Keeper → Type 0 where
+  NoneTaken : (keeper : Keeper) → TakesEach 0 keeper keeper
+  OneMoreTaken : (ways : ℕ) (old mid new : Keeper) → TakesEach ways old mid → TakesAt ways mid new
+      → TakesEach (ways + 1) old new
 
 -- each of the id's ways was taken, and the value that the choice named is evicted
 pub record MakesRoom (id : ℕ) (old new : Keeper) : Type 0 where

@@ -6,14 +6,21 @@ use Rattle.nr_board.specs.declared.answers.Reclaimed.{Reclaimed}
 use Rattle.nr_map.specs.GivenBack as map
 use Rattle.nr_map.specs.GivenBack.{IsEachOnce}
 use Rattle.nr_map.specs.Remains.{AllComeOut, Given, Left, TakenApart}
+use Rattle.nr_cache.specs.declared.counts.Counts.{Counts}
+use Rattle.nr_cache.specs.declared.finds.FoundValue.{FoundValue}
 use Rattle.nr_cache.specs.declared.flights.Flight.{Flight}
 use Rattle.nr_cache.specs.declared.store.Begun.{Begun}
 use Rattle.nr_cache.specs.declared.store.Begun.TheVariants as begun
 use Rattle.nr_cache.specs.Flights.{EndsChange, none_under_way}
-use Rattle.nr_cache.specs.Histories.{Began, ChangeBegan, ChangeEnded, Ended, Event, Invalidated, IsFresh, IsInOrder}
+use Rattle.nr_cache.specs.Counts.{CountsStore}
+use Rattle.nr_cache.specs.Histories.{AllInvalidated, Began, ChangeBegan, ChangeEnded, Ended, Event, Invalidated}
+use Rattle.nr_cache.specs.Histories.{IsFresh, IsInOrder}
 use Rattle.nr_cache.specs.StoreSeen.{StoreSeen}
-use Rattle.nr_cache.specs.Stores.{BeginsFlight, ChangesId, Fails, Invalidates, LandsHeld, LandsOwn, PutsHeld, PutsOwn}
-use Rattle.nr_cache.specs.Stores.{Reaps, set_of}
+use Rattle.nr_cache.specs.Stores.{BeginsFlight, ChangesId, Evicts, Fails, Invalidates, InvalidatesAll, LandsHeld}
+use Rattle.nr_cache.specs.Stores.{LandsOwn, Looks, PutsHeld, PutsOwn}
+use Rattle.nr_cache.specs.Stores.{Reaps}
+use Rattle.nr_cache.specs.Swaps.{SwapsHeld, SwapsOwn}
+use Rattle.nr_cache.specs.Values.{set_of}
 
 -- what a call tells of the flights
 abbrev pub began_by : Begun → List Event
@@ -51,6 +58,17 @@ module _ {Room : Type 0} (shows : Room → List Row → Type 0) where
         → Calls old (changed_by id told) [] [] new
     ChangeEnds : (id : ℕ) (old new : StoreSeen) → EndsChange id old.underway new.underway true
         → new ≡ record old { underway = new.underway } → Calls old (ChangeEnded id ∷ []) [] [] new
+    -- a look; a swap that found another value or none is one, and else it puts or takes what was looked at
+    LooksIt : (id : ℕ) (old new : StoreSeen) (found : Option FoundValue) → Looks id old new found
+        → Calls old [] [] [] new
+    SwapsIt : (id was stamp value : ℕ) (old new : StoreSeen) (before room : Room) (given : Reclaimed)
+        → (swaps : SwapsHeld shows id was stamp value old before new room given)
+        → Calls old (Invalidated id ∷ []) (set_of id stamp value ∷ []) swaps.puts.holds.out new
+    SwapsNone : (id was : ℕ) (old new : StoreSeen) (before room : Room) → SwapsOwn shows id was old before new room
+        → Calls old (Invalidated id ∷ []) [] [] new
+    EvictsIt : (id : ℕ) (old new : StoreSeen) (had : Bool) → Evicts id old new had → Calls old [] [] [] new
+    InvalidatesEach : (old new : StoreSeen) → InvalidatesAll old new → Calls old (AllInvalidated ∷ []) [] [] new
+    CountsIt : (old new : StoreSeen) (counts : Counts) → CountsStore old new counts → Calls old [] [] [] new
     ReapsIt : (old new : StoreSeen) (before room : Room) (answer : Reaped)
         → (reaps : Reaps shows old before new room answer) → Calls old [] [] reaps.out new
 

@@ -1,31 +1,24 @@
 -- What each call of a store does.
-use Rattle.std.specs.Prelude.{◌≡◌, ℕ, ◌⊎◌, Bool, true, false, List, [], ◌∷◌, Option, Some, None}
+use Rattle.std.specs.Prelude.{◌≡◌, ℕ, ◌⊎◌, Bool, true, false, List, [], Option, Some, None}
 use Rattle.nr_model.specs.declared.rows.Row.{Row}
 use Rattle.nr_board.specs.declared.answers.Reclaimed.{Reclaimed}
 use Rattle.nr_board.specs.declared.answers.Reaped.{Reaped}
 use Rattle.nr_board.specs.Reaping.{ReapsIn}
 use Rattle.nr_idmap.specs.Keepers.{IdCaller, Keeper}
-use Rattle.nr_idmap.specs.Tags.{tag_of}
 use Rattle.nr_map.specs.Remains.{Given}
+use Rattle.nr_cache.specs.declared.finds.FoundValue.{FoundValue}
 use Rattle.nr_cache.specs.declared.flights.Flight.{Flight}
 use Rattle.nr_cache.specs.declared.flights.Fate.TheVariants as fate
 use Rattle.nr_cache.specs.declared.store.Begun.{Begun}
 use Rattle.nr_cache.specs.declared.store.Begun.TheVariants as begun
 use Rattle.nr_cache.specs.declared.store.Landed.{Landed}
 use Rattle.nr_cache.specs.declared.store.Landed.TheVariants as landed
-use Rattle.nr_cache.specs.Flights.{Begins, BeginsChange, Ends, FindsFlight, IsFree, IsFull, Outdates, Underway}
-use Rattle.nr_cache.specs.Flights.{is_changing}
+use Rattle.nr_cache.specs.Flights.{Begins, BeginsChange, Ends, FindsFlight, IsFree, IsFull, Outdates, OutdatesAll}
+use Rattle.nr_cache.specs.Flights.{Underway, is_changing}
 use Rattle.nr_cache.specs.Moves.{Moves, ShowsReaped}
-use Rattle.nr_cache.specs.Places.{HasNoPlace, HasValue, Holds, IsGone, LooksUp, TakesValue}
+use Rattle.nr_cache.specs.Places.{HasNoPlace, HasValue, Holds, IsGone, LooksAtValue, LooksUp, TakesEach, TakesValue}
 use Rattle.nr_cache.specs.StoreSeen.{StoreSeen}
-
--- the row of a value with its stamp
-abbrev pub row_of : ℕ → ℕ → Row
-row_of stamp value = record { a = stamp; b = value }
-
--- the set of an id's value
-abbrev pub set_of : ℕ → ℕ → ℕ → List Row
-set_of id stamp value = tag_of id ∷ row_of stamp value ∷ []
+use Rattle.nr_cache.specs.Values.{row_of}
 
 -- A MISS
 -- the id was looked up, and else nothing happened to the map
@@ -45,6 +38,19 @@ BeginsFlight id mark old new begun.Alone =
     IsFree id old.underway × IsGone id old.keeper × IsFull old.underway × (new.underway ≡ old.underway)
     × OnlyLooksUp id old new None
 
+-- A LOOK
+-- the id's value was looked at, and nothing else happened
+abbrev pub Looks : ℕ → StoreSeen → StoreSeen → Option FoundValue → Type 0
+Looks id old new found =
+    LooksAtValue id old.keeper new.keeper found × (new.underway ≡ old.underway) × (new.asker ≡ old.asker)
+
+-- AN ID IS EVICTED
+-- whether it had a value, and it has none any more; its flight stays
+pub record Evicts (id : ℕ) (old new : StoreSeen) (had : Bool) : Type 0 where
+  pub takes : TakesValue id old.keeper new.keeper had
+  pub gone : IsGone id new.keeper
+  pub rest : (new.underway ≡ old.underway) × (new.asker ≡ old.asker)
+
 -- AN ID IS INVALIDATED
 -- whether it had a value, and it has none any more; its flight is outdated
 pub record Invalidates (id : ℕ) (old new : StoreSeen) (had : Bool) : Type 0 where
@@ -52,6 +58,14 @@ pub record Invalidates (id : ℕ) (old new : StoreSeen) (had : Bool) : Type 0 wh
   pub outdates : Outdates id old.underway new.underway found
   pub takes : TakesValue id old.keeper new.keeper had
   pub gone : IsGone id new.keeper
+  pub rest : new.asker ≡ old.asker
+
+-- ALL ARE
+-- each value is taken, way by way, so that no id has one any more; each flight is outdated
+pub record InvalidatesAll (old new : StoreSeen) : Type 0 where
+  pub outdates : OutdatesAll old.underway new.underway
+  pub takes : TakesEach old.keeper.table.map.shape.keys old.keeper new.keeper
+  pub gone : (id : ℕ) → IsGone id new.keeper
   pub rest : new.asker ≡ old.asker
 
 module _ {Room : Type 0} (shows : Room → List Row → Type 0) where

@@ -28,7 +28,7 @@ pub fn find(map: &IdMap, hand: &mut IdHand, id: u64) -> Option<FoundValue>
     }
 }
 
-fn value_of(rows: &[Row]) -> Option<FoundValue>
+pub(crate) fn value_of(rows: &[Row]) -> Option<FoundValue>
     ensures { result ≡ tells_value rows.now }
 {
     match rows {

@@ -1,5 +1,5 @@
 //! The flights, which are the loads that are under way, and the changes of the base that are.
-ghost use Rattle.std.specs.Prelude.{◌≡◌, ◌<◌, IfOk, IfSome, is_some, position};
+ghost use Rattle.std.specs.Prelude.{◌≡◌, ◌<◌, IfOk, IfSome, is_some, length, position};
 ghost use Rattle.nr_cache.specs.Flights as spec;
 ghost use Rattle.nr_cache.specs.Flights.{has_number, is_id, is_of};
 
@@ -147,6 +147,20 @@ impl Flights {
         ensures { result ≡ spec.is_changing id self.now }
     {
         is_among(&self.changing, id)
+    }
+
+    /// How many are under way.
+    pub fn len(&self) -> usize
+        ensures { result ≡ length self.now.flights }
+    {
+        self.under_way.len()
+    }
+
+    /// How many changes are.
+    pub fn changes(&self) -> usize
+        ensures { result ≡ length self.now.changing }
+    {
+        self.changing.len()
     }
 
     /// The flights that are left.

@@ -14,14 +14,21 @@
 //! What an id had comes out by a later call, once no reader holds it (`EachValueComesOutOnce`).
 #![tactic(auto)]
 
+mod clearing;
+mod counts;
+mod evictions;
 mod finds;
 mod flights;
 pub mod laws;
+mod looks;
 mod shape;
 mod store;
+mod swaps;
 mod values;
 
+pub use counts::Counts;
 pub use finds::{FoundValue, find};
 pub use flights::{Fate, Flight};
 pub use shape::{MAX_STORE_GROUPS, MAX_STORE_READERS, StoreShape};
 pub use store::{Begun, Landed, Store};
+pub use swaps::Swapped;

@@ -5,6 +5,7 @@ ghost use Rattle.nr_cache.specs.Openings.{IsBadStoreShape, OpensStore};
 use crate::flights::{Flight, Flights};
 use crate::shape::StoreShape;
 use nr_idmap::{IdMap, IdReader, IdWriter, OpenFault, Reclaimed, laws};
+use nr_model::Pile;
 use std::alloc::Global;
 use std::marker::Model;
 
@@ -37,6 +38,8 @@ pub struct Store {
     /// Claims the groups of ids that get a value.
     pub(crate) asker: IdReader,
     pub(crate) flights: Flights,
+    /// The rows that a look found last.
+    pub(crate) found: Pile,
 }
 
 impl Model for Store {
@@ -44,13 +47,14 @@ impl Model for Store {
     ghost use Rattle.nr_idmap.specs.Keepers.{id_rows, id_table_of};
     ghost use Rattle.nr_cache.specs.Places.{OwesNone};
     ghost use Rattle.nr_cache.specs.StoreSeen.{StoreSeen};
+    ghost use Rattle.nr_cache.specs.Values.{BringsValues};
     ghost use Rattle.nr_map.specs.SlotBounds.{HasRoomForAll};
 
     ghost Value = { StoreSeen };
 
     ghost view = { λ store. record { keeper = store.writer; asker = store.asker; underway = store.flights } };
 
-    ghost invariant = { λ store. (id_table_of store.asker ≡ store.writer.table) × OwesNone store.writer × HasRoomForAll store.writer.table.map × (0 < id_rows store.writer.table) };
+    ghost invariant = { λ store. (id_table_of store.asker ≡ store.writer.table) × OwesNone store.writer × HasRoomForAll store.writer.table.map × (0 < id_rows store.writer.table) × BringsValues store.writer };
 }
 
 impl Store {
@@ -83,6 +87,7 @@ impl Store {
             writer,
             asker,
             flights,
+            found: Pile::new(),
         };
         Ok((map, store, readers))
     }
@@ -143,6 +148,7 @@ impl Store {
             writer: _,
             asker: _,
             flights,
+            found: _,
         } = self;
         flights.into_left()
     }

@@ -1,18 +1,19 @@
 //! How values come into a store, and out of it.
 ghost use Rattle.std.specs.Prelude.{◌≡◌, ◌<◌, ◌∷◌, [], Some, IfNone, IfSome};
 ghost use Rattle.nr_ids.specs.Events.{IsAbsent};
-ghost use Rattle.nr_ids.specs.Looking.{IsFull};
 ghost use Rattle.nr_idmap.specs.Keepers.{id_rows, id_table_of};
 ghost use Rattle.nr_map.specs.SlotBounds.{HasRoomForAll};
 ghost use Rattle.nr_idmap.specs.IdWrites.{FillsAndGives};
-ghost use Rattle.nr_cache.specs.Places.{AdmitsOrNot, ClaimsOr, IsGone, MakesRoom, OwesNone, OwesOnly, TakesValue};
+ghost use Rattle.nr_cache.specs.Places.{AdmitsOrNot, ClaimsOr, OwesNone, OwesOnly};
 ghost use Rattle.nr_cache.specs.Stores.{HoldsOrNot};
+ghost use Rattle.nr_cache.specs.Values.{BringsValues};
 
+use crate::evictions::{make_room, take_value};
 use crate::flights::Fate;
 use crate::store::{Landed, Store};
 use nr_idmap::{
-    Evict, IdFault, IdMap, IdReader, IdWriter, Reaped, Reclaimed, Refused, Requested, Unfilled,
-    Upquery, laws,
+    IdFault, IdMap, IdReader, IdWriter, Reaped, Reclaimed, Refused, Requested, Unfilled, Upquery,
+    laws,
 };
 use nr_model::{Row, RowRoom};
 
@@ -92,27 +93,6 @@ impl Store {
     }
 }
 
-// Takes an id's value: whether there was one.
-fn take_value(map: &IdMap, writer: &mut IdWriter, id: u64) -> bool
-    requires own { writer.old.table ≡ map.now }
-    requires owes { OwesNone writer.old }
-    requires id { 0 < id }
-    ensures own { writer.new.table ≡ map.now }
-    ensures owes { OwesNone writer.new }
-    ensures takes { TakesValue id writer.old writer.new result }
-    ensures gone { IsGone id writer.new }
-{
-    laws::unnamed_is_absent();
-    laws::named_is_owed_or_resident();
-    writer.is_tied();
-    let answer = map.evict(writer, id);
-    writer.is_tied();
-    match answer {
-        Evict::Evicted => true,
-        Evict::Nothing => false,
-    }
-}
-
 // Puts a row in place of an id's, or gives the id a way and fills it.
 fn put_value<R: RowRoom>(
     map: &IdMap,
@@ -124,12 +104,14 @@ fn put_value<R: RowRoom>(
 ) -> Landed
     requires own { (writer.old.table ≡ map.now) × (id_table_of asker.old ≡ map.now) }
     requires owes { OwesNone writer.old }
+    requires values { BringsValues writer.old }
     requires slots { HasRoomForAll map.now.map }
     requires rows { 0 < id_rows map.now }
     requires id { 0 < id }
     requires stamp { 0 < row.a }
     ensures own { (writer.new.table ≡ map.now) × (id_table_of asker.new ≡ map.now) }
     ensures owes { OwesNone writer.new }
+    ensures values { BringsValues writer.new }
     ensures puts { HoldsOrNot R.shows id row writer.old asker.old had.old writer.new asker.new had.new result }
 {
     nr_map::laws::room_for_replacements();
@@ -176,9 +158,11 @@ fn claim(map: &IdMap, asker: &mut IdReader, id: u64) -> bool
 fn admit(map: &IdMap, writer: &mut IdWriter, id: u64) -> Option<Upquery>
     requires own { writer.old.table ≡ map.now }
     requires owes { OwesNone writer.old }
+    requires values { BringsValues writer.old }
     requires id { 0 < id }
     requires absent { IsAbsent writer.old.clerk.seen id }
     ensures own { writer.new.table ≡ map.now }
+    ensures values { BringsValues writer.new }
     ensures admits { AdmitsOrNot id writer.old writer.new result }
     ensures upquery { IfSome result (λ upquery. (upquery.table ≡ map.now) × OwesOnly upquery.owed writer.new) }
     ensures none { IfNone result (OwesNone writer.new × IsAbsent writer.new.clerk.seen id) }
@@ -202,32 +186,6 @@ fn admit(map: &IdMap, writer: &mut IdWriter, id: u64) -> Option<Upquery>
     }
 }
 
-// Takes the value of one of an id's group, where each of the id's ways is taken.
-fn make_room(map: &IdMap, writer: &mut IdWriter, id: u64)
-    requires own { writer.old.table ≡ map.now }
-    requires owes { OwesNone writer.old }
-    requires id { 0 < id }
-    requires absent { IsAbsent writer.old.clerk.seen id }
-    requires full { IsFull id writer.old.clerk }
-    ensures own { writer.new.table ≡ map.now }
-    ensures owes { OwesNone writer.new }
-    ensures absent { IsAbsent writer.new.clerk.seen id }
-    ensures room { MakesRoom id writer.old writer.new }
-    ensures free { IsFull id writer.new.clerk → ⊥ }
-{
-    laws::named_is_owed_or_resident();
-    writer.is_tied();
-    let Some(victim) = map.choose(writer, id) else {
-        // Each of the group's ways has a name.
-        unreachable!()
-    };
-    writer.is_tied();
-    // A way that has a name has a value.
-    if !take_value(map, writer, victim) {
-        unreachable!()
-    }
-}
-
 // Fills an upquery that was just opened.
 fn fill<R: RowRoom>(
     map: &IdMap,
@@ -238,11 +196,13 @@ fn fill<R: RowRoom>(
 ) -> Reclaimed
     requires own { (writer.old.table ≡ map.now) × (upquery.table ≡ map.now) }
     requires owes { OwesOnly upquery.owed writer.old }
+    requires values { BringsValues writer.old }
     requires slots { HasRoomForAll map.now.map }
     requires rows { 0 < id_rows map.now }
     requires stamp { 0 < row.a }
     ensures own { writer.new.table ≡ map.now }
     ensures owes { OwesNone writer.new }
+    ensures values { BringsValues writer.new }
     ensures asker { writer.new.asker ≡ writer.old.asker }
     ensures fills { FillsAndGives R.shows upquery.owed (row ∷ []) writer.old had.old writer.new had.new result }
 {

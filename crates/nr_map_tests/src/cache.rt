@@ -2,7 +2,9 @@
 ghost use Rattle.std.specs.Prelude.{◌≡◌, ◌<◌};
 
 use crate::ids::view::{is_same, is_set, row};
-use nr_cache::{Begun, Flight, FoundValue, Landed, MAX_STORE_GROUPS, Store, StoreShape, find};
+use nr_cache::{
+    Begun, Counts, Flight, FoundValue, Landed, MAX_STORE_GROUPS, Store, StoreShape, Swapped, find,
+};
 use nr_idmap::{IdHand, IdMap, OpenFault, Reaped, Reclaimed};
 use nr_model::{Row, RowSet};
 use std::marker::Model;
@@ -118,6 +120,37 @@ impl Shelf {
         is_same(rt, &found, &wanted);
     }
 
+    /// The value that the store itself finds.
+    fn looks<R: Abort>(&mut self, rt: &R, id: u64, value: Option<u64>)
+        requires { 0 < id }
+    {
+        let found = self.store.look(&self.map, id);
+        let wanted = value.map(|value| FoundValue { stamp: 1, value });
+        is_same(rt, &found, &wanted);
+    }
+
+    fn swaps(&mut self, id: u64, old: u64, value: u64) -> Swapped
+        requires { 0 < id }
+    {
+        self.store.swap(&self.map, id, old, 1, value, &mut self.had)
+    }
+
+    fn evicts(&mut self, id: u64) -> bool
+        requires { 0 < id }
+    {
+        self.store.evict(&self.map, id)
+    }
+
+    fn counts<R: Abort>(&mut self, rt: &R, values: u32, flights: usize, changes: usize) {
+        let counts = self.store.count(&self.map);
+        let wanted = Counts {
+            values,
+            flights,
+            changes,
+        };
+        is_same(rt, &counts, &wanted);
+    }
+
     fn invalidates(&mut self, id: u64) -> bool
         requires { 0 < id }
     {
@@ -196,6 +229,66 @@ fn what_is_loaded_during_a_change_is_its_loaders_own(rt: HostRuntime) {
     let after = shelf.loads(&rt, 7, 72);
     assert!(&rt; shelf.lands(after, 703));
     shelf.finds(&rt, 7, Some(703));
+    shelf.closes(&rt, &[]);
+}
+
+#[test]
+fn a_value_is_swapped_while_it_is_there(rt: HostRuntime) {
+    let mut shelf = Shelf::open(&rt);
+    assert!(&rt; matches!(shelf.swaps(7, 70, 71), Swapped::Absent));
+    shelf.looks(&rt, 7, None);
+    assert!(&rt; matches!(shelf.puts(7, 70), Landed::Held(_)));
+    assert!(&rt;
+        matches!(
+            shelf.swaps(7, 71, 72),
+            Swapped::Other(FoundValue {
+                stamp: 1,
+                value: 70
+            })
+        )
+    );
+    shelf.looks(&rt, 7, Some(70));
+    assert!(&rt; matches!(shelf.swaps(7, 70, 71), Swapped::Held(Reclaimed::Nothing)));
+    shelf.finds(&rt, 7, Some(71));
+    shelf.reaps(&rt, Reaped::Set);
+    shelf.gave_out(&rt, &[row(0, 7), row(1, 70)]);
+    // During a change the value that was there goes, and none comes.
+    assert!(&rt; shelf.store.begin_change(7));
+    assert!(&rt; matches!(shelf.swaps(7, 70, 72), Swapped::Other(_)));
+    assert!(&rt; matches!(shelf.swaps(7, 71, 72), Swapped::Own));
+    shelf.looks(&rt, 7, None);
+    assert!(&rt; shelf.store.end_change(7));
+    shelf.closes(&rt, &[]);
+}
+
+#[test]
+fn an_eviction_leaves_the_flight(rt: HostRuntime) {
+    let mut shelf = Shelf::open(&rt);
+    let number = shelf.loads(&rt, 7, 70);
+    assert!(&rt; !shelf.evicts(7));
+    assert!(&rt; shelf.lands(number, 700));
+    assert!(&rt; shelf.evicts(7));
+    shelf.finds(&rt, 7, None);
+    shelf.closes(&rt, &[]);
+}
+
+#[test]
+fn all_is_counted_and_invalidated(rt: HostRuntime) {
+    let mut shelf = Shelf::open(&rt);
+    shelf.counts(&rt, 0, 0, 0);
+    for id in 1..6u64 {
+        assert!(&rt; matches!(shelf.puts(id, 10 * id), Landed::Held(_)));
+    }
+    let number = shelf.loads(&rt, 6, 60);
+    assert!(&rt; shelf.store.begin_change(7));
+    shelf.counts(&rt, 5, 1, 1);
+    shelf.store.invalidate_all(&shelf.map);
+    shelf.counts(&rt, 0, 1, 1);
+    for id in 1..6u64 {
+        shelf.looks(&rt, id, None);
+    }
+    assert!(&rt; !shelf.lands(number, 60));
+    shelf.counts(&rt, 0, 0, 1);
     shelf.closes(&rt, &[]);
 }
 

@@ -6,6 +6,7 @@ use Rattle.nr_idmap.specs.Keepers.{IdTable}
 use Rattle.nr_idmap.specs.Tags.{tag_of}
 use Rattle.nr_map.specs.SlotBounds.{HasRoomForAll}
 use Rattle.nr_cache.proofs.Admitting.{closes_only}
+use Rattle.nr_cache.proofs.Brought.{fill_brings}
 use Rattle.nr_cache.proofs.values.fill.Goals as goal
 
 pub unreachable-requires-in-Err-NoSlot : goal.unreachable-requires-in-Err-NoSlot
@@ -23,3 +24,8 @@ pub returns-clause-owes : goal.returns-clause-owes
 returns-clause-owes g c =
     closes_only c.args.upquery.owed c.args.writer.now c.fill_reclaiming.new.writer c.requires.owes
     c.in-Ok.ensures.fills.closes
+
+pub returns-clause-values : goal.returns-clause-values
+returns-clause-values g c =
+    fill_brings g.R.RowRoom.shows c.args.upquery.owed c.args.row c.args.writer.now c.args.had.now
+    c.fill_reclaiming.new.writer c.fill_reclaiming.new.had c.in-Ok.given c.in-Ok.ensures.fills c.requires.values

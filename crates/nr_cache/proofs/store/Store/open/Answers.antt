@@ -4,7 +4,7 @@ use Rattle.nr_idmap.specs.declared.id_map.IdShape.{IdShape}
 use Rattle.nr_idmap.specs.IdOpenings.{OpensIds}
 use Rattle.nr_idmap.specs.Keepers.{IdCaller, id_table_of}
 use Rattle.nr_cache.specs.Openings.{ids_of}
-use Rattle.nr_cache.proofs.Opening.{opened_has_room, opened_has_row, opened_owes_none}
+use Rattle.nr_cache.proofs.Opening.{opened_brings_none, opened_has_room, opened_has_row, opened_owes_none}
 use Rattle.nr_cache.proofs.store.Store.open.Goals as goal
 
 pub invariant_of-store : goal.invariant_of-store
@@ -17,4 +17,5 @@ invariant_of-store c =
       opened_owes_none (ids_of c.args.shape.now) c.in-Ok.map c.in-Ok.writer c.in-Ok.readers.items opens,
       opened_has_room c.args.shape.now c.in-Ok.map c.in-Ok.writer c.in-Ok.readers.items opens,
       opened_has_row c.args.shape.now c.in-Ok.map c.in-Ok.writer c.in-Ok.readers.items opens,
+      opened_brings_none (ids_of c.args.shape.now) c.in-Ok.map c.in-Ok.writer c.in-Ok.readers.items opens,
     )

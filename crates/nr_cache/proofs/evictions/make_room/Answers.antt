@@ -1,7 +1,7 @@
 use Rattle.std.proofs.Common.{◌∙◌}
 use Rattle.nr_cache.proofs.Admitting.{absent_still, chooses_one, room_is_free}
 use Rattle.nr_cache.proofs.Gone.{has_value}
-use Rattle.nr_cache.proofs.values.make_room.Goals as goal
+use Rattle.nr_cache.proofs.evictions.make_room.Goals as goal
 
 pub unreachable-requires : goal.unreachable-requires
 unreachable-requires c =

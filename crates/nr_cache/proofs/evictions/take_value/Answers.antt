@@ -1,8 +1,9 @@
 use Rattle.std.proofs.Common.{◌∙◌, subst, true, false}
 use Rattle.nr_board.specs.declared.answers.Evict.{Evict}
 use Rattle.nr_idmap.specs.IdWrites.{EvictsId}
+use Rattle.nr_cache.proofs.Brought.{evict_brings}
 use Rattle.nr_cache.proofs.Gone.{gone_after, takes_none, takes_some}
-use Rattle.nr_cache.proofs.values.take_value.Goals as goal
+use Rattle.nr_cache.proofs.evictions.take_value.Goals as goal
 
 pub returns-in-Evicted-clause-takes : goal.returns-in-Evicted-clause-takes
 returns-in-Evicted-clause-takes c =
@@ -31,3 +32,13 @@ returns-in-Nothing-clause-gone c =
     gone_after c.unnamed_is_absent.ensures c.args.id c.args.writer.now c.evict-answer.new.writer false c.is_tied.ensures
     c.is_tied-2.ensures (λ way. c.evict-answer.ensures.owes way ∙ c.requires.owes way) c.requires.id
     (returns-in-Nothing-clause-takes c)
+
+pub returns-in-Evicted-clause-values : goal.returns-in-Evicted-clause-values
+returns-in-Evicted-clause-values c =
+    evict_brings c.args.id c.args.writer.now c.evict-answer.new.writer c.evict-answer.result
+    c.evict-answer.ensures.evicts c.requires.values
+
+pub returns-in-Nothing-clause-values : goal.returns-in-Nothing-clause-values
+returns-in-Nothing-clause-values c =
+    evict_brings c.args.id c.args.writer.now c.evict-answer.new.writer c.evict-answer.result
+    c.evict-answer.ensures.evicts c.requires.values

@@ -1,0 +1,34 @@
+use Rattle.std.proofs.Common.{◌≡◌, ◌≤◌, ◌∙◌, ℕ, ap, arith, below_more}
+use Rattle.nr_board.specs.Callers.{Table}
+use Rattle.nr_idmap.specs.Keepers.{IdTable, name_at}
+use Rattle.nr_cache.specs.Places as places
+use Rattle.nr_cache.proofs.AllGone.{all_gone}
+use Rattle.nr_cache.proofs.clearing.take_all.Goals as goal
+
+pub loop-way-init : goal.loop-way-init
+loop-way-init c = record {
+  own = c.requires.own;
+  owes = c.requires.owes;
+  values = c.requires.values;
+  takes = places.NoneTaken c.args.writer.now;
+  none = λ other low. absurd (omega arith);
+}
+
+pub loop-way-preserved : goal.loop-way-preserved
+loop-way-preserved c = record {
+  own = c.take_at.ensures.own;
+  owes = c.take_at.ensures.owes;
+  values = c.take_at.ensures.values;
+  takes = places.OneMoreTaken c.loop-way.way c.args.writer.now c.loop-way.writer c.take_at.new.writer
+      c.loop-way.invariant.takes c.take_at.ensures.takes;
+  none = below_more (λ (other : ℕ). name_at c.take_at.new.writer other ≡ 0) c.loop-way.way
+      (λ other low. c.take_at.ensures.others other (c.loop-way.invariant.none other low)) c.take_at.ensures.none;
+}
+
+pub returns-clause-gone : goal.returns-clause-gone
+returns-clause-gone c =
+    let keys =
+    ap (λ (t : Table). t.shape.keys)
+    (c.is_tied.ensures.writes.0 ∙ ap (λ (t : IdTable). t.map) c.loop-way.invariant.own) in
+    let all : c.loop-way.writer.writer.table.shape.keys ≤ c.loop-way.way = omega (arith, keys) in
+    all_gone c.loop-way.writer c.loop-way.way c.is_tied.ensures all c.loop-way.invariant.none
