@@ -1,6 +1,6 @@
 //! The lobby's calls for a caller without a guest. Each makes a guest for its length, and contracts are told what
 //! that guest saw and did.
-ghost use Rattle.std.specs.Prelude.{◌≡◌, ◌<◌, ◌≤◌, ◌⊎◌, ◌++◌, ◌∷◌, ◌↔◌, [], IsTrue, slice_index};
+ghost use Rattle.std.specs.Prelude.{◌≡◌, ◌<◌, ◌⊎◌, ◌++◌, ◌∷◌, ◌↔◌, [], IsTrue, slice_index};
 ghost use Rattle.nr_serve.specs.Counts.{ClosesOnce, IsNew, RaisesOnly, Visits, closed_at, groups_below, whole_at};
 
 use crate::lobby::Lobby;
@@ -28,14 +28,15 @@ impl Lobby {
     }
 
     /// Sleeps while the count of the whole lobby is at most `n` and it isn't closed, and tells the
-    /// count.
+    /// count after that.
     pub fn wait_past<R: Wait>(&self, rt: &R, n: u64) -> u64
-        ensures { Visits self.now (λ guest. IsNew guest × (result ≤ slice_index guest.seen whole_at) × ((n < result) ⊎ (0 < slice_index guest.seen closed_at))) }
+        ensures { Visits self.now (λ guest. IsNew guest × (slice_index guest.seen whole_at ≡ result) × ((n < result) ⊎ (0 < slice_index guest.seen closed_at))) }
     {
         let mut guest = self.guest();
-        let count = self.wait_past_as(rt, &mut guest, n);
+        self.wait_past_as(rt, &mut guest, n);
+        let raised = self.count_as(&mut guest);
         guest.leave();
-        count
+        raised
     }
 
     /// Closes it for good and wakes all sleepers; from now on nobody sleeps here.
