@@ -135,6 +135,7 @@ recounted steps sum before after old new count learns = record {
   says = learns.says;
   marks = learns.marks;
   heard = learns.heard;
+  loaded_ahead = learns.loaded_ahead;
   news = learns.news;
   pasts = learns.pasts;
 }

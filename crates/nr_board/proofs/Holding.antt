@@ -40,6 +40,7 @@ rests_grows m n sum a b entries c is first then = record {
   callers = subst (λ (t : Table). AreCallers t.shape c.seen) first.table then.callers;
   steps_made = omega (arith, first.steps_made, then.steps_made);
   pasts = then.pasts ∙ first.pasts;
+  loaded_ahead = then.loaded_ahead ∙ first.loaded_ahead;
 }
 
 module _ (m n sum : ℕ) (a b c : Caller) (call : Call) (answer : Reply) (is : sum ≡ m + n) where

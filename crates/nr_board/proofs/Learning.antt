@@ -134,6 +134,7 @@ module _ (shape : Shape) (id : ℕ) (me : Me (Unit {0}) View) (at : ℕ) (near :
           says = refl;
           marks = grown.0;
           heard = refl;
+          loaded_ahead = refl;
           news = marked.news;
           pasts = refl;
         };

@@ -40,6 +40,7 @@ learned view after seen entries marks news = record {
   told_pasts = view.told_pasts;
   says = view.says;
   heard = heard_after view.role view.heard;
+  loaded_ahead = view.loaded_ahead;
 }
 
 abbrev pub waited : View → Role → Marks → List Past → View
@@ -57,6 +58,7 @@ waited view after marks news = record {
   told_pasts = view.told_pasts;
   says = view.says;
   heard = view.heard;
+  loaded_ahead = view.loaded_ahead;
 }
 
 -- after the writer's step a key names what it did, or a slot of which nothing is heard
@@ -149,6 +151,7 @@ module _ (shape : Shape) (log : List Entry) (view : View) (fits : Fits shape log
       callers = subst (λ (g : Shape). AreCallers g (log ++ entries)) (sym sized) callers;
       steps_made = refl;
       pasts = ap (λ (l : List Past). l ++ view.pasts) no_news;
+      loaded_ahead = refl;
     }
 
     pub waited_waits : (marks : Marks) (news : List Past) → news ≡ [] → Waits view (waited view after marks news)
@@ -160,6 +163,7 @@ module _ (shape : Shape) (log : List Entry) (view : View) (fits : Fits shape log
           mine = refl;
           steps_made = refl;
           pasts = ap (λ (l : List Past). l ++ view.pasts) no_news;
+          loaded_ahead = refl;
         }
 
 -- The two ways in which a step of the core becomes one of the token.

@@ -17,10 +17,9 @@ use Rattle.nr_core.specs.declared.roles.Role.{Role}
 use Rattle.nr_core.specs.declared.roles.Role.TheVariants.{Note, Writer}
 use Rattle.nr_core.specs.declared.shape.Shape.{Shape}
 use Rattle.nr_core.specs.Slots.{name_number}
-use Rattle.nr_board.specs.Ahead.{after_look, ahead, has_loaded, has_looked_ahead}
+use Rattle.nr_board.specs.Ahead.{after_load, after_look, ahead, has_loaded, has_looked_ahead, with_load}
 use Rattle.nr_board.proofs.Tokens.{MapSeat}
 use Rattle.nr_board.specs.Callers.{caller_of, token}
-use Rattle.nr_board.specs.Meetings.{with_step}
 use Rattle.nr_board.specs.Notes.{has_noted, note_of, retold, spent, told_by_note, with_note}
 use Rattle.nr_core.proofs.Knowing.{knowing_set, knowing_snoc, told_since}
 use Rattle.nr_core.proofs.ListPlaces.{no_places}
@@ -214,11 +213,13 @@ module _ (shape : Shape) (id : ℕ) (view : View) (state : State (Unit {0}) View
       adds_note shape (record maker { role = Writer no_desk; seen = view.told; pasts = view.told_pasts }) counted makes
       (makes.fits id maker there).told (makes.told_pasts id maker there)
 
--- a load that tells nothing leaves the words, and its token counts the step
+-- a load that tells nothing of the map leaves the words, and its token counts the step and says what it loaded
 pub loads_so : (shape : Shape) (slots id : ℕ) (me : Me (Unit {0}) View) (place : ℕ)
     → Allows (Kept shape) slots id me place (λ word. word) (has_loaded (step slots place 0 0 none) me)
 loads_so shape slots id me place state kept homes at bounded =
-    let view = me.0 in let next = has_noted view in let fits = kept.fits id view at in
+    let view = me.0 in
+    let next = with_load place (get_or state.words place 0) view in
+    let fits = kept.fits id view at in
     let own : Fits shape kept.log next
     = record {
       begins = fits.begins;
@@ -277,9 +278,9 @@ pub ahead_token : (seat next : MapSeat) (key named : ℕ) → next.table_id ≡ 
 ahead_token seat next key named same told = λ j. caller_of (same j) (told j)
 
 -- as contracts see the token
-pub loaded_token : (seat next : MapSeat) → next.table_id ≡ seat.table_id → next.me.0 ≡ has_noted seat.me.0
-    → token next ≡ with_step (token seat)
-loaded_token seat next same told = λ j. caller_of (same j) (told j)
+pub loaded_token : (seat next : MapSeat) (place word : ℕ) → next.table_id ≡ seat.table_id
+    → next.me.0 ≡ with_load place word seat.me.0 → token next ≡ after_load place word (token seat)
+loaded_token seat next place word same told = λ j. caller_of (same j) (told j)
 
 -- the hearer is told what the note tells, and then what is left of the note tells nothing
 pub takes_so : (shape : Shape) (id : ℕ) (view : View) (steps other : ℕ) (note : View) → note.role ≡ Note

@@ -79,6 +79,7 @@ module _ (table : Table) (spare : Spare) (flags : List Bool) (before now : MapSe
     mine = ap (λ (v : View). v.mine) scanned.rest;
     steps_made = ap (λ (v : View). v.steps) scanned.rest;
     pasts = ap (λ (v : View). v.pasts) scanned.rest;
+    loaded_ahead = ap (λ (v : View). v.loaded_ahead) scanned.rest;
   }
 
   base_is : scan_base table.announcers now.me.0.marks.polls ≡ now.me.0.marks.polls

@@ -54,6 +54,7 @@ grows_none caller knows = record {
   callers = knows.callers;
   steps_made = omega arith;
   pasts = refl;
+  loaded_ahead = refl;
 }
 
 -- the search so far

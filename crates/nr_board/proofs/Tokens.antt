@@ -25,7 +25,15 @@ seat_rests before after same waits =
 
 pub rests_none : (caller : Caller) → Rests 0 caller caller
 rests_none caller =
-    record { table = refl; number = refl; seen = refl; mine = refl; steps_made = omega arith; pasts = refl }
+    record {
+      table = refl;
+      number = refl;
+      seen = refl;
+      mine = refl;
+      steps_made = omega arith;
+      pasts = refl;
+      loaded_ahead = refl;
+    }
 
 pub rests_both : (m n sum : ℕ) (a b c : Caller) → sum ≡ m + n → Rests m a b → Rests n b c → Rests sum a c
 rests_both m n sum a b c is first then = record {
@@ -35,6 +43,7 @@ rests_both m n sum a b c is first then = record {
   mine = then.mine ∙ first.mine;
   steps_made = omega (arith, first.steps_made, then.steps_made);
   pasts = then.pasts ∙ first.pasts;
+  loaded_ahead = then.loaded_ahead ∙ first.loaded_ahead;
 }
 
 pub grows_rests : (m n sum : ℕ) (a : Caller) (entries : List Entry) (b c : Caller) → sum ≡ m + n → Grows m entries a b
@@ -50,6 +59,7 @@ grows_rests m n sum a entries b c is first then = record {
   callers = subst (AreCallers a.table.shape) (sym then.seen) first.callers;
   steps_made = omega (arith, first.steps_made, then.steps_made);
   pasts = then.pasts ∙ first.pasts;
+  loaded_ahead = then.loaded_ahead ∙ first.loaded_ahead;
 }
 
 pub grows_both : (m n sum : ℕ) (a b : Caller) (entries : List Entry) (c : Caller) → sum ≡ m + n → Grows m [] a b
@@ -68,4 +78,5 @@ grows_both m n sum a b entries c is first then = record {
   callers = subst (λ (t : Table). AreCallers t.shape c.seen) first.table then.callers;
   steps_made = omega (arith, first.steps_made, then.steps_made);
   pasts = then.pasts ∙ first.pasts;
+  loaded_ahead = then.loaded_ahead ∙ first.loaded_ahead;
 }

@@ -57,6 +57,7 @@ grows_later steps made old mid entries grows = record {
   callers = grows.callers;
   steps_made = omega (arith, grows.steps_made);
   pasts = grows.pasts;
+  loaded_ahead = grows.loaded_ahead;
 }
 
 -- the steps are its own
@@ -73,6 +74,7 @@ grows_with steps made sum old entries new is grows = record {
   callers = grows.callers;
   steps_made = omega (arith, grows.steps_made);
   pasts = grows.pasts;
+  loaded_ahead = grows.loaded_ahead;
 }
 
 writes_later : (table : Table) (desk : Desk) (mid new : MapSeat) (steps : ℕ) → new.table_id ≡ mid.table_id
@@ -176,6 +178,7 @@ set_later {table = table} {made = made} {before = before} {mid = mid} steps set 
         callers = grows.callers;
         steps_made = omega (arith, grows.steps_made);
         pasts = grows.pasts;
+        loaded_ahead = grows.loaded_ahead;
       };
       marks = set.marks;
       heard = set.heard;

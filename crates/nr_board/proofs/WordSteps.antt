@@ -294,6 +294,7 @@ saying_waits view next says waits table =
       mine = rests.mine;
       steps_made = rests.steps_made;
       pasts = rests.pasts;
+      loaded_ahead = rests.loaded_ahead;
     }
 
 -- THE ANNOUNCEMENT, AND ITS END

@@ -11,7 +11,7 @@ use Rattle.nr_core.specs.declared.places.Retired.{Retired}
 use Rattle.nr_core.specs.Story.{entry, opening_map}
 use Rattle.nr_core.specs.Marks.{Marks, Past, gripped}
 use Rattle.nr_board.specs.Entries.{AreCallers}
-use Rattle.nr_board.specs.Views.{View, desk_of, grip_of, caller_number, view_of}
+use Rattle.nr_board.specs.Views.{Loaded, View, desk_of, grip_of, caller_number, view_of}
 
 -- which map it is, its sizes, and how many of its readers, the first ones, have a word of their own
 pub record Table : Type 0 where
@@ -45,6 +45,8 @@ pub record Caller : Type 0 where
   pub says : ℕ
   -- of each slot how many readers, the first ones, the writer found not to announce it since a key named it last
   pub heard : List ℕ
+  -- the words that it loaded ahead of finds, in their order
+  pub loaded_ahead : List Loaded
 
 abbrev pub caller_of : TableId → View → Caller
 caller_of id view = record {
@@ -61,6 +63,7 @@ caller_of id view = record {
   pasts = view.pasts;
   says = view.says;
   heard = view.heard;
+  loaded_ahead = view.loaded_ahead;
 }
 
 abbrev pub token : Seat (Unit {0}) View → Caller
@@ -88,8 +91,9 @@ pub record Grows (steps : ℕ) (entries : List Entry) (old new : Caller) : Type 
   -- sets of the map
   pub callers : AreCallers old.table.shape new.seen
   pub steps_made : new.steps ≡ old.steps + steps
-  -- it learnt nothing of readers
+  -- it learnt nothing of readers, and loaded nothing ahead
   pub pasts : new.pasts ≡ old.pasts
+  pub loaded_ahead : new.loaded_ahead ≡ old.loaded_ahead
 
 -- the caller's call was answered so, and is one entry of that history
 abbrev pub Gains : ℕ → Call → Caller → Caller → Reply → Type 0
@@ -103,6 +107,7 @@ pub record Rests (steps : ℕ) (old new : Caller) : Type 0 where
   pub mine : new.mine ≡ old.mine
   pub steps_made : new.steps ≡ old.steps + steps
   pub pasts : new.pasts ≡ old.pasts
+  pub loaded_ahead : new.loaded_ahead ≡ old.loaded_ahead
 
 -- the caller's own entries are those that it knows of itself
 abbrev pub KnowsOwn : Caller → Type 0

@@ -33,6 +33,7 @@ gives_none source =
         mine = refl;
         steps_made = omega arith;
         pasts = refl;
+        loaded_ahead = refl;
       };
     }
 
@@ -53,5 +54,6 @@ gives_more first mid last count a b = record {
     mine = b.rests.mine ∙ a.rests.mine;
     steps_made = b.rests.steps_made ∙ omega (arith, a.rests.steps_made);
     pasts = b.rests.pasts ∙ a.rests.pasts;
+    loaded_ahead = b.rests.loaded_ahead ∙ a.rests.loaded_ahead;
   };
 }

@@ -31,7 +31,7 @@ pub record Learns (steps : ℕ) (old new : Caller) : Type 0 where
   -- sets of the map
   pub callers : AreCallers old.table.shape new.seen
   pub steps_made : new.steps ≡ old.steps + steps
-  -- the writer's slots and its list of numbers, a reader's hold and word, and the marks stay
+  -- the writer's slots and its list of numbers, a reader's hold and word, the marks, and what was loaded ahead stay
   pub fresh : new.fresh ≡ old.fresh
   pub retired : new.retired ≡ old.retired
   pub numbers : new.numbers ≡ old.numbers
@@ -39,6 +39,7 @@ pub record Learns (steps : ℕ) (old new : Caller) : Type 0 where
   pub says : new.says ≡ old.says
   pub marks : new.marks ≡ old.marks
   pub heard : new.heard ≡ old.heard
+  pub loaded_ahead : new.loaded_ahead ≡ old.loaded_ahead
   -- it forgets nothing that it knew of readers
   pub news : List Past
   pub pasts : new.pasts ≡ news ++ old.pasts

@@ -31,6 +31,7 @@ note_of view =
       told_pasts = [];
       says = 0;
       heard = [];
+      loaded_ahead = [];
     }
 
 -- a note that says again what the note told which the token took in last
@@ -50,6 +51,7 @@ retold view =
       told_pasts = [];
       says = 0;
       heard = [];
+      loaded_ahead = [];
     }
 
 -- the seat of a note that nobody has taken in
@@ -82,4 +84,5 @@ spent =
       told_pasts = [];
       says = 0;
       heard = [];
+      loaded_ahead = [];
     })

@@ -16,6 +16,11 @@ use Rattle.nr_core.specs.States.{opening_desk}
 use Rattle.nr_core.specs.Marks.{Marks, Past, no_marks, opening_marks}
 use Rattle.nr_board.specs.declared.board.Plan.{Plan}
 
+-- a word that was loaded ahead: its place in the table, and what was found there
+pub record Loaded : Type 0 where
+  pub place : ℕ
+  pub word : ℕ
+
 pub record View : Type 0 where
   pub role : Role
   pub shape : Shape
@@ -37,6 +42,8 @@ pub record View : Type 0 where
   pub says : ℕ
   -- of each slot how many readers, the first ones, the writer found not to say it since a key named it last
   pub heard : List ℕ
+  -- the words that it loaded ahead, in their order
+  pub loaded_ahead : List Loaded
 
 module _ {S V : Type 0} where
   abbrev pub view_in : Me S V → V
@@ -115,6 +122,7 @@ opener plan =
       told_pasts = [];
       says = 0;
       heard = replicate plan.shape.slots 0;
+      loaded_ahead = [];
     }
 
 -- the writer makes the next reader
@@ -137,4 +145,5 @@ next_reader view =
       told_pasts = [];
       says = 0;
       heard = [];
+      loaded_ahead = [];
     }

@@ -30,10 +30,10 @@ ghost use Rattle.nr_board.specs.Announcing.{says_at};
 ghost use Rattle.nr_board.specs.Plays.{IsIdle};
 ghost use Rattle.nr_board.specs.WordPlays.{HasWord, HoldsByWord, IsOwn, let_go};
 ghost use Rattle.nr_board.specs.Notes.{IsCaller, IsNote, has_noted, note_of, retold, with_note};
-ghost use Rattle.nr_board.specs.Ahead.{after_look};
+ghost use Rattle.nr_board.specs.Ahead.{after_load, after_look};
 ghost use Rattle.nr_board.specs.Kinds.{kind_of, kind_shown};
 ghost use Rattle.nr_board.specs.Learning.{HearsOf};
-ghost use Rattle.nr_board.specs.Meetings.{HasPut, HearsNote, Learns, known_to, with_step};
+ghost use Rattle.nr_board.specs.Meetings.{HasPut, HearsNote, Learns, known_to};
 ghost use Rattle.nr_board.specs.Reaping.{ProbesAt, ProbesTo};
 ghost use Rattle.nr_board.specs.Recalls.{IsWordOf, RecallsAt};
 ghost use Rattle.nr_board.specs.SearchSeats.{Ends, HearsWord, IsSearching, ScansAt, SearchesOn, TriesAt, TriesTo};
@@ -352,11 +352,12 @@ impl Board {
         words.fetch_add::<Departs>(seat, place as usize, 1);
     }
 
-    /// Loads the word of a key that will be found, so that it is near then. The load tells nothing.
+    /// Loads the word of a key that will be found, so that it is near then: the word. The load tells
+    /// nothing of the map.
     pub fn load_key(&self, seat: &mut Seat, key: u32) -> u64
         requires own { (token seat.old).table ≡ self.now }
         requires key { key < self.now.shape.keys }
-        ensures step { token seat.new ≡ with_step (token seat.old) }
+        ensures step { token seat.new ≡ after_load key result (token seat.old) }
         ensures role { (view_of seat.new).role ≡ (view_of seat.old).role }
         ensures says { (view_of seat.new).says ≡ (view_of seat.old).says }
     {
@@ -377,11 +378,12 @@ impl Board {
         words.load::<LooksAhead>(seat, key as usize)
     }
 
-    /// Loads a word of a set that will be read, so that it is near then. The load tells nothing.
+    /// Loads a word of a set that will be read, so that it is near then: the word. The load tells nothing
+    /// of the map.
     pub fn load_word(&self, seat: &mut Seat, place: u64) -> u64
         requires own { (token seat.old).table ≡ self.now }
         requires place { place < total_of (layout self.now.shape) }
-        ensures step { token seat.new ≡ with_step (token seat.old) }
+        ensures step { token seat.new ≡ after_load place result (token seat.old) }
         ensures role { (view_of seat.new).role ≡ (view_of seat.old).role }
         ensures says { (view_of seat.new).says ≡ (view_of seat.old).says }
     {

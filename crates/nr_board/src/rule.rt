@@ -143,7 +143,7 @@ impl Play<(), View> for Sees {
     ghost then = { has_learned };
 }
 
-/// A load that tells its token nothing.
+/// A load ahead, of which its token keeps what was loaded.
 pub struct Nears;
 
 impl Play<(), View> for Nears {

@@ -1,7 +1,7 @@
 -- Finds of many keys by one call from C.
-use Rattle.std.specs.Prelude.{ℕ, ◌≡◌, ◌<◌, ◌+◌, ◌⊎◌, All, List, [], ◌∷◌, length}
+use Rattle.std.specs.Prelude.{ℕ, ◌≡◌, ◌<◌, ◌+◌, ◌%◌, ◌==◌, ◌⊎◌, All, Bool, true, false, List, [], ◌∷◌, map, take}
 use Rattle.nr_board.specs.declared.answers.Found.{Found}
-use Rattle.nr_map.specs.FindsEach.{loads_at, with_loads}
+use Rattle.nr_map.specs.LoadsAhead.{LoadsAhead}
 use Rattle.nr_map.specs.Hands.{FindsKept, Handed, LetsGo}
 use Rattle.nr_c.specs.Closings.{Hears, Watched}
 use Rattle.nr_c.specs.Codes.{found_code}
@@ -23,9 +23,14 @@ FindsOneByCode wanted told (old, knew) (new, knows) =
     (told.key ≡ wanted.key) × (answer : Found) × Hears (found_code answer) told.answer knew knows
     × FindsKept ShowsSet wanted.key old wanted.rows new told.rows answer
 
--- a hand after that many loads that tell nothing: it holds what it held
-abbrev pub hand_with_loads : ℕ → Handed → Handed
-hand_with_loads loads hand = record hand { reader = with_loads loads hand.reader }
+abbrev pub keys_wanted : List NrWanted → List ℕ
+keys_wanted wanted = map (λ (one : NrWanted). one.key) wanted
+
+-- before the first of sixteen the loads for each of them, of these that are left; the hand holds what it held
+abbrev pub LoadsKeysAhead : Bool → List NrWanted → Handed → Handed → Type 0
+LoadsKeysAhead true left old new =
+    LoadsAhead (keys_wanted (take 16 left)) old.reader new.reader × (new.key ≡ old.key) × (new.rows ≡ old.rows)
+LoadsKeysAhead false left old new = new ≡ old
 
 -- calls for those of a list from that index on, one after another: each is told what is left of the list, and makes of
 -- its first one another
@@ -40,8 +45,8 @@ InOrder call place (one ∷ others) [] old new = ⊥
 -- the find of the key at an index, before it the loads for each of sixteen where sixteen begin there
 abbrev pub FindsAtByCode : ℕ → List NrWanted → NrWanted → NrWanted → Hearing → Hearing → Type 0
 FindsAtByCode place left wanted told (old, knew) new =
-    FindsOneByCode wanted told
-    (hand_with_loads (loads_at old.reader.table.shape.rows place (length left)) old, knew) new
+    (loaded : Handed) × LoadsKeysAhead (place % 16 == 0) left old loaded
+    × FindsOneByCode wanted told (loaded, knew) new
 
 -- from the first key on, and then what the last find holds is let go
 abbrev pub FindsEachByCode : List NrWanted → List NrWanted → Hearing → Hearing → Type 0

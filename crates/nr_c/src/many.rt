@@ -1,9 +1,8 @@
 //! Finds of many keys by one call.
-ghost use Rattle.std.specs.Prelude.{◌≡◌, ◌<◌, ◌≤◌, ◌*◌, ℕ, All, length, take};
+ghost use Rattle.std.specs.Prelude.{◌≡◌, ◌<◌, ◌≤◌, ◌%◌, ◌==◌, All, length, take};
 ghost use Rattle.std.specs.Bool.{OnFalse, OnTrue};
-ghost use Rattle.nr_map.specs.FindsEach.{loads_at};
 ghost use Rattle.nr_c.specs.Live.{WhenIdle, WhenLive};
-ghost use Rattle.nr_c.specs.Many.{AreKeysOf, FindsAtByCode, FindsOneByCode, FindsSome, InOrder, WithKeys, hand_with_loads};
+ghost use Rattle.nr_c.specs.Many.{AreKeysOf, FindsAtByCode, FindsOneByCode, FindsSome, InOrder, LoadsKeysAhead, WithKeys, keys_wanted};
 
 use crate::codes::{NR_CLOSED, NR_DONE, NR_HOLDING, NR_NO_KEY, of_found};
 use crate::reader_handle::NrReader;
@@ -82,7 +81,8 @@ fn find_all(map: &ReaderMap, hand: &mut Hand, watch: &mut Watch, wanted: &mut [N
 fn load_from(map: &ReaderMap, hand: &mut Hand, place: usize, left: &[NrWanted])
     requires own { hand.old.reader.table ≡ map.now }
     requires keys { All (λ one. one.key < map.now.shape.keys) left.now }
-    ensures { hand.new ≡ hand_with_loads (loads_at map.now.shape.rows place (length left.now)) hand.old }
+    ensures own { hand.new.reader.table ≡ map.now }
+    ensures loads { LoadsKeysAhead (place % 16 == 0) left.now hand.old hand.new }
 {
     if place % GROUP == 0 {
         let group = &left[..left.len().min(GROUP)];
@@ -95,7 +95,7 @@ fn load_from(map: &ReaderMap, hand: &mut Hand, place: usize, left: &[NrWanted])
 // Writes the keys of a group over the first ones there.
 fn copy_keys(group: &[NrWanted], keys: &mut [u32; GROUP])
     requires few { length group.now ≤ 16 }
-    ensures { (bound : ℕ) → All (λ one. one.key < bound) group.now → All (λ key. key < bound) (take (length group.now) keys.new) }
+    ensures { take (length group.now) keys.new ≡ keys_wanted group.now }
 {
     for place in 0..group.len() {
         keys[place] = group[place].key;

@@ -57,6 +57,7 @@ learnt steps old new rested learns =
       callers = learns.callers;
       steps_made = learns.steps_made;
       pasts = refl;
+      loaded_ahead = learns.loaded_ahead;
     } in let on = stayed steps old like rested grows in record {
       rested = record {
         number = on.rested.number;
@@ -93,6 +94,7 @@ none_learnt steps old new rested learns =
       callers = learns.callers;
       steps_made = learns.steps_made;
       pasts = refl;
+      loaded_ahead = learns.loaded_ahead;
     } in
     ap (entries_of learns.seen.rest) (sym rested.number)
     ∙ none_between steps old [] like rested.sound.own refl grows

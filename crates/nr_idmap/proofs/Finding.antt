@@ -1,16 +1,18 @@
 -- What a find by id says, by what the map's find found in the id's way.
-use Rattle.std.proofs.Common.{◌≡◌, ℕ, List, sym, subst, Some}
+use Rattle.std.proofs.Common.{◌≡◌, ◌*◌, ℕ, List, [], ◌∷◌, ap, sym, subst, Some, ◌∙◌}
 use Rattle.nr_model.specs.declared.rows.Row.{Row}
 use Rattle.nr_board.specs.Callers.{Caller}
-use Rattle.nr_map.specs.FindsEach.{with_loads}
+use Rattle.nr_map.specs.LoadsAhead.{LoadsKey, load_of, with_loads}
 use Rattle.nr_map.specs.Tagged.{FindsTagged}
 use Rattle.nr_map.specs.declared.tagged.Tagged.{Tagged}
 use Rattle.nr_map.specs.declared.tagged.Tagged.TheVariants as tagged
+use Rattle.nr_ids.specs.Groups.{group_of}
+use Rattle.nr_ids.specs.declared.plan.Plan.{Plan}
 use Rattle.nr_ids.specs.Tokens.{Token}
 use Rattle.nr_idmap.specs.declared.finds.FoundId.{FoundId}
 use Rattle.nr_idmap.specs.declared.finds.FoundId.TheVariants as found
 use Rattle.nr_idmap.specs.declared.finds.NamedWay.{NamedWay}
-use Rattle.nr_idmap.specs.IdFinds.{FindsById, FindsByName, LooksAlone, with_line}
+use Rattle.nr_idmap.specs.IdFinds.{FindsById, FindsByName, LooksAlone, line_of, with_line}
 use Rattle.nr_idmap.specs.IdFindsEach.{FindsInside, MarksTold, answer_told}
 use Rattle.nr_idmap.specs.Keepers.{IdCaller}
 use Rattle.nr_idmap.specs.Tags.{tag_of}
@@ -33,17 +35,30 @@ finds_by_way shows id at old new looked before after found.Moved looks finds = (
 )
 finds_by_way shows id at old new looked before after found.Absent looks finds = absurd finds
 
+-- the first way of the id's group, by the plan of the directory
+pub line_is : (id first : ℕ) (plan : Plan) (ids : Token) → first ≡ 8 * group_of plan id → plan ≡ ids.directory.plan
+    → first ≡ line_of id ids
+line_is id first plan ids is same = is ∙ ap (λ (p : Plan). 8 * group_of p id) same
+
+-- a load of the line's word, by its key
+pub line_loaded : (id key : ℕ) (ids : Token) (old near : Caller) → key ≡ line_of id ids
+    → (loaded : LoadsKey key old near) → near ≡ with_loads (load_of (line_of id ids) loaded.0 ∷ []) old
+line_loaded id key ids old near line loaded =
+    loaded.1 ∙ ap (λ (place : ℕ). with_loads (load_of place loaded.0 ∷ []) old) line
+
 -- and with the line of the id's key loaded before that
 pub finds_by_id : {Room : Type 0} (shows : Room → List Row → Type 0) (id : ℕ) (at : NamedWay) (old now new : IdCaller)
-    (near : Caller) (looked : Token) (before after : Room) (result : FoundId) → old ≡ now
-    → near ≡ with_loads 1 old.caller → LooksAlone id old.ids looked (Some at)
+    (key : ℕ) (near : Caller) (looked : Token) (before after : Room) (result : FoundId) → old ≡ now
+    → key ≡ line_of id old.ids → LoadsKey key old.caller near → LooksAlone id old.ids looked (Some at)
     → FindsInside shows id at (record { caller = near; ids = looked }) before new after result
     → FindsById shows id now before new after result
-finds_by_id shows id at old now new near looked before after result is loaded looks finds =
-    subst (λ (o : IdCaller). FindsById shows id o before new after result) is
-    (finds_by_way shows id at (with_line old) new looked before after result looks
-    (subst (λ (c : Caller). FindsInside shows id at (record { caller = c; ids = looked }) before new after result)
-    loaded finds))
+finds_by_id shows id at old now new key near looked before after result is line loaded looks finds =
+    subst (λ (o : IdCaller). FindsById shows id o before new after result) is (
+      loaded.0,
+      finds_by_way shows id at (with_line id loaded.0 old) new looked before after result looks
+          (subst (λ (c : Caller). FindsInside shows id at (record { caller = c; ids = looked }) before new after result)
+          (line_loaded id key old.ids old.caller near line loaded) finds),
+    )
 
 -- by what the map found there
 by_told : {Room : Type 0} (shows : Room → List Row → Type 0) (id : ℕ) (at : NamedWay) (old : IdCaller) (caller : Caller)

@@ -177,8 +177,8 @@ module _ (law : FindsWhatItHeard) (old new : IdHanded) (id way number : ℕ) (ro
   anew_rows : (asked : IdHanded) (answer : FoundId) → Asked old asked → HoldsAnew id asked new answer
       → Unnamed ⊎ (answer ≡ found.Rows)
   anew_rows asked answer first anew =
-      named_rows (with_line_loaded asked) answer
-      (record { table = first.table; more = first.more; seen = first.seen; ids = first.ids }) anew
+      named_rows (with_line_loaded id anew.0 asked) answer
+      (record { table = first.table; more = first.more; seen = first.seen; ids = first.ids }) anew.1
 
   by_answer : (answer : FoundId) → PinsById id old new answer → Unnamed ⊎ (answer ≡ found.Rows)
   by_answer answer pins = ⊎_elim

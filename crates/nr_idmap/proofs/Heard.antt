@@ -26,9 +26,9 @@ some_way : (a b : ℕ) → Some a ≡ Some b → a ≡ b
 some_way a b e = cc (e)
 
 -- the load of a line tells nothing
-heard_with_line : (old asking : IdCaller) (note : IdKnown) → HeardIdBefore note old asking
-    → HeardIdBefore note old (with_line asking)
-heard_with_line old asking note heard = record {
+heard_with_line : (id word : ℕ) (old asking : IdCaller) (note : IdKnown) → HeardIdBefore note old asking
+    → HeardIdBefore note old (with_line id word asking)
+heard_with_line id word old asking note heard = record {
   map =
       record {
         steps = heard.map.steps;
@@ -98,7 +98,8 @@ module _ {Room : Type 0} (shows : Room → List Row → Type 0) (of_map : FindsW
       ⊎_elim
       (λ gone. inl gone)
       (λ (found : FindsIdPut shows
-      (record { id = id; way = way; old = old; written = before ++ put ∷ []; since = since }) (with_line asking) new
+      (record { id = id; way = way; old = old; written = before ++ put ∷ []; since = since })
+      (with_line id finds.0 asking) new
       after answer).
       inr
       (record {
@@ -108,5 +109,5 @@ module _ {Room : Type 0} (shows : Room → List Row → Type 0) (of_map : FindsW
         seen = found.seen;
         finds = found.finds;
       }))
-      (by_answer old (with_line asking) note id way before since put near real named told puts
-      (heard_with_line old asking note heard) new room after answer finds)
+      (by_answer old (with_line id finds.0 asking) note id way before since put near real named told puts
+      (heard_with_line id finds.0 old asking note heard) new room after answer finds.1)

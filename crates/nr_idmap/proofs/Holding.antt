@@ -32,38 +32,45 @@ pub kept_set : (way : ℕ) (old new : Handed) (before set : List Row) → KeepsI
 kept_set way old new before set keeps = ⊎_elim (λ again. again.1 ∙ sym again.0.rows) (λ anew. anew.1.1) keeps
 
 module _ (id : ℕ) (at : NamedWay) (old now : IdHanded) (is : old ≡ now) (ids : Token)
-    (looks : LooksAlone id old.ids ids (Some at)) (hand : Handed) (before set : List Row) where
-  pub holds_pending : KeepsIn at.way (with_line_loaded old).hand before hand set answer.Hole →
+    (looks : LooksAlone id old.ids ids (Some at)) (word : ℕ) (hand : Handed) (before set : List Row) where
+  pub holds_pending : KeepsIn at.way (with_line_loaded id word old).hand before hand set answer.Hole →
       HoldsAnew id now (record { hand = hand; ids = ids; id = None }) found.Pending
   holds_pending keeps =
       subst (λ (o : IdHanded). HoldsAnew id o (record { hand = hand; ids = ids; id = None }) found.Pending) is
-      (at, looks, (before, set, keeps), refl)
+      (word, (at, looks, (before, set, keeps), refl))
 
-  module _ (keeps : KeepsIn at.way (with_line_loaded old).hand before hand set answer.Rows) (slice : List Row)
+  module _ (keeps : KeepsIn at.way (with_line_loaded id word old).hand before hand set answer.Rows) (slice : List Row)
       (same : slice ≡ set) where
     pub holds_rows : HasTag id slice → (marked : Token) → SetsMark at.way at.is_marked ids marked →
         HoldsAnew id now (record { hand = hand; ids = marked; id = Some id }) found.Rows
     holds_rows tag marked marks =
         subst (λ (o : IdHanded). HoldsAnew id o (record { hand = hand; ids = marked; id = Some id }) found.Rows) is (
-          at,
-          tag.0,
-          ids,
-          looks,
-          (before, set, keeps),
-          sym (same ∙ kept_set at.way (with_line_loaded old).hand hand before set keeps) ∙ tag.1,
-          marks,
-          refl,
+          word,
+          (
+            at,
+            tag.0,
+            ids,
+            looks,
+            (before, set, keeps),
+            sym (same ∙ kept_set at.way (with_line_loaded id word old).hand hand before set keeps) ∙ tag.1,
+            marks,
+            refl,
+          ),
         )
 
     pub holds_moved : (HasTag id slice → ⊥) → (left : Handed) → LetsGo hand left →
         HoldsAnew id now (record { hand = left; ids = ids; id = None }) found.Moved
     holds_moved other left lets =
         subst (λ (o : IdHanded). HoldsAnew id o (record { hand = left; ids = ids; id = None }) found.Moved) is (
-          at,
-          hand,
-          looks,
-          (before, set, keeps),
-          λ rows e. other (rows, same ∙ kept_set at.way (with_line_loaded old).hand hand before set keeps ∙ e),
-          lets,
-          refl,
+          word,
+          (
+            at,
+            hand,
+            looks,
+            (before, set, keeps),
+            λ rows e.
+                other (rows, same ∙ kept_set at.way (with_line_loaded id word old).hand hand before set keeps ∙ e),
+            lets,
+            refl,
+          ),
         )

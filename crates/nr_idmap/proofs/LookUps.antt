@@ -1,6 +1,7 @@
 -- Look-ups of ids and of their ways' marks.
 use Rattle.std.proofs.Common.{◌≡◌, ℕ, ◌<◌, ◌⊎◌, ⊎_elim, inl, inr, List, [], ◌∷◌, ◌++◌, refl, sym, ap, ◌∙◌, subst}
 use Rattle.std.proofs.Common.{append_assoc, Bool, true, false, Option, Some, None}
+use Rattle.std.specs.Prelude.{IfSome}
 use Rattle.nr_ids.specs.Events.{Event, name_of, unnamed}
 use Rattle.nr_ids.specs.Laws.{FindsWhatItHeard}
 use Rattle.nr_ids.specs.Marks.{SetsMark}
@@ -8,16 +9,25 @@ use Rattle.nr_ids.specs.Rule.{BeginsWith}
 use Rattle.nr_ids.specs.Tokens.{Grows, Known, Token}
 use Rattle.nr_idmap.specs.declared.finds.NamedWay.{NamedWay}
 use Rattle.nr_idmap.specs.IdFinds.{LooksAlone, LooksForWay}
+use Rattle.nr_idmap.specs.IdFindsEach.{key_named}
 use Rattle.nr_idmap.specs.IdHeard.{IsUnnamedSince}
 use Rattle.nr_idmap.specs.IdLoads.{LooksUpEach}
 
-pub one_more_looked : (ids : List ℕ) (id : ℕ) (found : Option NamedWay) (old mid new : Token) → LooksUpEach ids old mid
-    → LooksForWay id mid new found →
-    LooksUpEach (ids ++ id ∷ []) old new
-one_more_looked [] id found old mid new looked looks =
-    (found, new, subst (λ (t : Token). LooksForWay id t new found) looked looks, refl)
-one_more_looked (first ∷ ids) id found old mid new looked looks =
-    (looked.0, looked.1, looked.2, one_more_looked ids id found looked.1 mid new looked.3 looks)
+pub one_more_looked : (ids keys : List ℕ) (id key : ℕ) (found : Option NamedWay) (old mid new : Token)
+    → LooksUpEach ids keys old mid → key ≡ key_named found → LooksForWay id mid new found
+    → LooksUpEach (ids ++ id ∷ []) (keys ++ key ∷ []) old new
+one_more_looked [] [] id key found old mid new looked is looks =
+    (found, is, new, subst (λ (t : Token). LooksForWay id t new found) looked looks, refl)
+one_more_looked (first ∷ ids) (at ∷ keys) id key found old mid new looked is looks =
+    (looked.0, looked.1, looked.2, looked.3, one_more_looked ids keys id key found looked.2 mid new looked.4 is looks)
+one_more_looked [] (at ∷ keys) id key found old mid new looked is looks = absurd looked
+one_more_looked (first ∷ ids) [] id key found old mid new looked is looks = absurd looked
+
+-- a way that the map has a key for has that key
+pub key_inside : (bound : ℕ) (at : Option NamedWay) → 0 < bound → IfSome at (λ named. named.way < bound)
+    → key_named at < bound
+key_inside bound None some near = some
+key_inside bound (Some at) some near = near
 
 -- where an id's name stands
 abbrev pub way_named : Option NamedWay → Option ℕ

@@ -1,9 +1,9 @@
 -- What a reader's call says of its two tokens, by its answer.
-use Rattle.std.specs.Prelude.{◌≡◌, ◌≢◌, ℕ, ◌+◌, ◌*◌, min, List, ◌∷◌, length, Option, Some, None}
+use Rattle.std.specs.Prelude.{◌≡◌, ◌≢◌, ℕ, ◌+◌, ◌*◌, min, List, [], ◌∷◌, length, Option, Some, None}
 use Rattle.nr_model.specs.declared.rows.Row.{Row}
 use Rattle.nr_board.specs.Holds.{FindsHole, FindsRows}
 use Rattle.nr_board.specs.Callers.{Caller}
-use Rattle.nr_map.specs.FindsEach.{with_loads}
+use Rattle.nr_map.specs.LoadsAhead.{load_of, with_loads}
 use Rattle.nr_ids.specs.Answers as ids
 use Rattle.nr_ids.specs.Looking.{group_for}
 use Rattle.nr_ids.specs.Marks.{LoadsMarks, LooksAtMark, SetsMark}
@@ -14,9 +14,14 @@ use Rattle.nr_idmap.specs.declared.finds.NamedWay.{NamedWay}
 use Rattle.nr_idmap.specs.Keepers.{IdCaller}
 use Rattle.nr_idmap.specs.Tags.{tag_of}
 
--- a word of the line that has the words of the id's group was loaded, which tells nothing
-abbrev pub with_line : IdCaller → IdCaller
-with_line reader = record reader { caller = with_loads 1 reader.caller }
+-- the word of the first way of the id's group, in whose line the others lie
+abbrev pub line_of : ℕ → Token → ℕ
+line_of id reader = 8 * group_for reader id
+
+-- that word was loaded, which tells nothing
+abbrev pub with_line : ℕ → ℕ → IdCaller → IdCaller
+with_line id word reader =
+    record reader { caller = with_loads (load_of (line_of id reader.ids) word ∷ []) reader.caller }
 
 -- a look-up of an id's name, and where a way has it one look at that way's mark
 abbrev pub LooksForWay : ℕ → Token → Token → Option NamedWay → Type 0
@@ -55,4 +60,5 @@ FindsByName shows id old before new room found.Absent =
 -- a find by id: with the line that it will need on its way, the look-up of its name, and the find there
 abbrev pub FindsById : {Room : Type 0} → (Room → List Row → Type 0) → ℕ → IdCaller → Room → IdCaller → Room → FoundId
     → Type 0
-FindsById shows id old before new room told = FindsByName shows id (with_line old) before new room told
+FindsById shows id old before new room told =
+    (word : ℕ) × FindsByName shows id (with_line id word old) before new room told

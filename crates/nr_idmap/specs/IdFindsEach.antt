@@ -2,8 +2,9 @@
 use Rattle.std.specs.Prelude.{◌≡◌, ◌≢◌, ℕ, zero, suc, ◌+◌, ◌*◌, ◌/◌, ◌<◌, min, List, [], ◌∷◌, length, map, take, drop}
 use Rattle.std.specs.Prelude.{Option, Some, None, IfSome}
 use Rattle.nr_model.specs.declared.rows.Row.{Row}
+use Rattle.nr_board.specs.Callers.{Caller}
 use Rattle.nr_board.specs.Holds.{FindsHole, FindsRows}
-use Rattle.nr_map.specs.FindsEach.{loads_of_key, with_loads}
+use Rattle.nr_map.specs.LoadsAhead.{LoadsAhead}
 use Rattle.nr_map.specs.declared.tagged.Tagged.{Tagged}
 use Rattle.nr_map.specs.declared.tagged.Tagged.TheVariants as tagged
 use Rattle.nr_ids.specs.Marks.{LoadsNames, SetsMark}
@@ -66,6 +67,14 @@ IsInside keys wanted = IfSome wanted.at (λ at. at.way < keys)
 abbrev pub ids_of : {Room : Type 0} → List (WantedId Room) → List ℕ
 ids_of {Room = Room} wanted = map (λ (one : WantedId Room). one.id) wanted
 
+-- the key of a way, and 0 in place of none
+abbrev pub key_named : Option NamedWay → ℕ
+key_named None = 0
+key_named (Some at) = at.way
+
+abbrev pub keys_of : {Room : Type 0} → List (WantedId Room) → List ℕ
+keys_of {Room = Room} wanted = map (λ (one : WantedId Room). key_named one.at) wanted
+
 -- of at most sixteen: the first name of each one's group was loaded ahead; all were looked up in turn; the words that
 -- finds in their ways need were loaded ahead; and all were found in turn
 pub record FindsBatch {Room : Type 0} (shows : Room → List Row → Type 0) (old : IdCaller)
@@ -75,12 +84,9 @@ pub record FindsBatch {Room : Type 0} (shows : Room → List Row → Type 0) (ol
   pub looked : Token
   pub ways : List (WantedId Room)
   pub looks : InTurn LooksUpWanted ahead wanted looked ways
-  pub finds : InTurn (FindsWantedId shows)
-      (record {
-        caller = with_loads (loads_of_key old.caller.table.shape.rows * length wanted) old.caller;
-        ids = looked;
-      })
-      ways new told
+  pub ready : Caller
+  pub loads_words : LoadsAhead (keys_of ways) old.caller ready
+  pub finds : InTurn (FindsWantedId shows) (record { caller = ready; ids = looked }) ways new told
 
 -- a list in so many batches of sixteen, of which the last has what is left
 abbrev pub batches : {One : Type 0} → ℕ → List One → List (List One)

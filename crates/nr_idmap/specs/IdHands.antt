@@ -4,7 +4,7 @@ use Rattle.nr_model.specs.declared.rows.Row.{Row}
 use Rattle.nr_model.specs.Rows.{IsRowSet}
 use Rattle.nr_board.specs.declared.answers.Found.{Found}
 use Rattle.nr_board.specs.declared.answers.Found.TheVariants as answer
-use Rattle.nr_map.specs.FindsEach.{with_loads}
+use Rattle.nr_map.specs.LoadsAhead.{load_of, with_loads}
 use Rattle.nr_map.specs.Hands.{AsksInVain, FindsHeld, FindsKept, Handed, LetsGo, idle}
 use Rattle.nr_ids.specs.Marks.{Marks, SetsMark}
 use Rattle.nr_ids.specs.Tokens.{Token}
@@ -12,7 +12,7 @@ use Rattle.nr_idmap.specs.declared.finds.FoundId.{FoundId}
 use Rattle.nr_idmap.specs.declared.finds.FoundId.TheVariants as found
 use Rattle.nr_idmap.specs.declared.finds.NamedWay.{NamedWay}
 use Rattle.nr_idmap.specs.declared.hands.Holding.{Holding}
-use Rattle.nr_idmap.specs.IdFinds.{LooksAlone}
+use Rattle.nr_idmap.specs.IdFinds.{LooksAlone, line_of}
 use Rattle.nr_idmap.specs.Keepers.{IdCaller, IdTable}
 use Rattle.nr_idmap.specs.Tags.{rows_behind, tag_of}
 
@@ -118,12 +118,15 @@ HoldsByName id old new found.Moved =
 HoldsByName id old new found.Absent =
     LooksAlone id old.ids new.ids None × LetsGo old.hand new.hand × (new.id ≡ None)
 
--- a word of the line that has the words of the id's group was loaded, as by a find
-abbrev pub with_line_loaded : IdHanded → IdHanded
-with_line_loaded old = record old { hand = record old.hand { reader = with_loads 1 old.hand.reader } }
+-- the word of the first way of the id's group was loaded, as by a find
+abbrev pub with_line_loaded : ℕ → ℕ → IdHanded → IdHanded
+with_line_loaded id word old =
+    record old {
+      hand = record old.hand { reader = with_loads (load_of (line_of id old.ids) word ∷ []) old.hand.reader };
+    }
 
 abbrev pub HoldsAnew : ℕ → IdHanded → IdHanded → FoundId → Type 0
-HoldsAnew id old new told = HoldsByName id (with_line_loaded old) new told
+HoldsAnew id old new told = (word : ℕ) × HoldsByName id (with_line_loaded id word old) new told
 
 -- the way whose set is held is marked as found unless it is
 pub record MarksHeld (old new : IdHanded) : Type 0 where

@@ -56,7 +56,7 @@ impl IdMap {
         requires ids { All (λ id. 0 < id) ids.now }
         requires few { length ids.now ≤ 16 }
         ensures own { reader.new.directory ≡ self.now.directory }
-        ensures looks { LooksUpEach ids.now reader.old reader.new }
+        ensures looks { LooksUpEach ids.now (take (length ids.now) keys.new) reader.old reader.new }
         ensures keys { All (λ key. key < self.now.map.shape.keys) (take (length ids.now) keys.new) }
     {
         // A directory has ways, so the map has keys.

@@ -1,10 +1,10 @@
 //! Finds of many ids by one call.
-ghost use Rattle.std.specs.Prelude.{◌≡◌, ◌+◌, ◌<◌, ◌≤◌, ◌*◌, ℕ, All, IfSome, length, min, take};
+ghost use Rattle.std.specs.Prelude.{◌≡◌, ◌+◌, ◌<◌, ◌≤◌, All, length, min, take};
 ghost use Rattle.nr_board.specs.Callers.{Caller};
 ghost use Rattle.nr_ids.specs.Marks.{LoadsNames};
-ghost use Rattle.nr_map.specs.FindsEach.{loads_of_key, with_loads};
+ghost use Rattle.nr_map.specs.LoadsAhead.{LoadsAhead};
 ghost use Rattle.nr_idmap.specs.declared.finds.FoundId.TheVariants.{Absent};
-ghost use Rattle.nr_idmap.specs.IdFindsEach.{FindsBatch, FindsEachId, FindsWantedId, IsInside, LooksUpWanted, ids_of};
+ghost use Rattle.nr_idmap.specs.IdFindsEach.{FindsBatch, FindsEachId, FindsWantedId, IsInside, LooksUpWanted, ids_of, key_named, keys_of};
 ghost use Rattle.nr_idmap.specs.InTurn.{InTurn};
 ghost use Rattle.nr_idmap.specs.Keepers.{id_table_of};
 
@@ -113,7 +113,8 @@ impl IdMap {
         requires own { reader.old.table ≡ self.now.map }
         requires inside { All (IsInside self.now.map.shape.keys) wanted.now }
         requires few { length wanted.now ≤ 16 }
-        ensures { reader.new ≡ with_loads (loads_of_key self.now.map.shape.rows * length wanted.now) reader.old }
+        ensures own { reader.new.table ≡ self.now.map }
+        ensures loads { LoadsAhead (keys_of wanted.now) reader.old reader.new }
     {
         // A directory has ways, so the map has keys.
         self.directory.plan();
@@ -159,7 +160,7 @@ fn copy_ids<R>(wanted: &[WantedId<R>], ids: &mut [u64; BATCH])
 // Writes the ids' ways over the first ones there, a key in place of none.
 fn copy_keys<R>(wanted: &[WantedId<R>], keys: &mut [u32; BATCH])
     requires few { length wanted.now ≤ 16 }
-    ensures { (bound : ℕ) → 0 < bound → All (IsInside bound) wanted.now → All (λ key. key < bound) (take (length wanted.now) keys.new) }
+    ensures { take (length wanted.now) keys.new ≡ keys_of wanted.now }
 {
     for place in 0..wanted.len() {
         keys[place] = key_of(wanted[place].at);
@@ -168,7 +169,7 @@ fn copy_keys<R>(wanted: &[WantedId<R>], keys: &mut [u32; BATCH])
 
 /// The key of a way, and 0 in place of none.
 pub(crate) fn key_of(at: Option<NamedWay>) -> u32
-    ensures { (bound : ℕ) → 0 < bound → IfSome at (λ at. at.way < bound) → result < bound }
+    ensures { result ≡ key_named at }
 {
     match at {
         Some(at) => at.way,

@@ -183,13 +183,15 @@ find_none : {Room : Type 0} (shows : Room → List Row → Type 0) (id : ℕ) (o
     (new : IdCaller) (after : Room) (answer : FoundId)
     → FindsById shows id old before new after answer
     → Claims old.ids [] new.ids
-find_none shows id old before new after found.Rows finds =
+find_none shows id old before new after found.Rows (word, finds) =
     claims_both old.ids finds.2 new.ids []
     [] (alone_none id old.ids finds.2 (Some finds.0) finds.3.0)
     (mark_none finds.0.way finds.0.is_marked finds.2 new.ids finds.4)
-find_none shows id old before new after found.Pending finds = alone_none id old.ids new.ids (Some finds.0) finds.1
-find_none shows id old before new after found.Moved finds = alone_none id old.ids new.ids (Some finds.0) finds.2.0
-find_none shows id old before new after found.Absent finds = alone_none id old.ids new.ids None finds.0
+find_none shows id old before new after found.Pending (word, finds) =
+    alone_none id old.ids new.ids (Some finds.0) finds.1
+find_none shows id old before new after found.Moved (word, finds) =
+    alone_none id old.ids new.ids (Some finds.0) finds.2.0
+find_none shows id old before new after found.Absent (word, finds) = alone_none id old.ids new.ids None finds.0
 
 abbrev requested_ids : Requested → List ℕ
 requested_ids (requested.Granted claim) = claim.id ∷ []

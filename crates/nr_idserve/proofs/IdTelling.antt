@@ -54,7 +54,7 @@ find_goes : {Room : Type 0} (shows : Room → List Row → Type 0) (id : ℕ) (o
     → FindsById shows id old before new after answer
     → Goes old.caller new.caller
 find_goes shows id old before new after answer finds =
-    let goes = named_goes shows id (with_line old) before new after answer finds in
+    let goes = named_goes shows id (with_line id finds.0 old) before new after answer finds.1 in
     record { table = goes.table; seen = goes.seen }
 
 request_stays : (capacity id : ℕ) (old : IdHands) (said : Missed) (new : IdHands)
@@ -114,10 +114,10 @@ miss_since capacity id old said new tried =
 as_find : {Room : Type 0} (shows : Room → List Row → Type 0) (id : ℕ) (old : IdCaller) (room : Room) (new : IdCaller)
     (answer : FoundId)
     → FindsNothing id old new answer → FindsById shows id old room new room answer
-as_find shows id old room new found.Rows finds = absurd finds.5
-as_find shows id old room new found.Pending finds = (finds.0, finds.1, finds.2, refl)
-as_find shows id old room new found.Moved finds = (finds.0, finds.1, finds.2, finds.3, refl)
-as_find shows id old room new found.Absent finds = (finds.0, finds.1, refl)
+as_find shows id old room new found.Rows (word, finds) = absurd finds.5
+as_find shows id old room new found.Pending (word, finds) = (word, (finds.0, finds.1, finds.2, refl))
+as_find shows id old room new found.Moved (word, finds) = (word, (finds.0, finds.1, finds.2, finds.3, refl))
+as_find shows id old room new found.Absent (word, finds) = (word, (finds.0, finds.1, refl))
 
 module _ {Room : Type 0} (shows : Room → List Row → Type 0) (law : FindsIdHeard shows) (old heard : IdCaller)
     (note : IdKnown) (hears : HearsIdNote note (with_steps_of_split old) heard)

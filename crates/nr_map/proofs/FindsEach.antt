@@ -4,10 +4,9 @@ use Rattle.std.proofs.Common.{ap, ◌∙◌, subst, arith, append-nil}
 use Rattle.std.proofs.lemmas.List.{drop_all, drop_more, drop-set-lt, length-set, take_all, take_more_set}
 use Rattle.std.proofs.Math.Seq.{append_snoc}
 use Rattle.nr_model.specs.declared.rows.Row.{Row}
-use Rattle.nr_board.specs.Callers.{Caller, token}
-use Rattle.nr_board.specs.WriterSeats.{MapSeat}
+use Rattle.nr_board.specs.Callers.{Caller}
 use Rattle.nr_map.specs.declared.wanted.Wanted.{Wanted}
-use Rattle.nr_map.specs.FindsEach.{FindsList, FindsWanted, LoadsNear, with_loads}
+use Rattle.nr_map.specs.FindsEach.{FindsList, FindsWanted}
 
 -- that many finds were made: finds of the other keys, which stand there as before, make finds of all
 pub record Begun {Room : Type 0} (shows : Room → List Row → Type 0) (first : Caller) (wanted : List (Wanted Room))
@@ -60,20 +59,3 @@ module _ {Room : Type 0} (shows : Room → List Row → Type 0) (first : Caller)
         (begun.on now
         [] (subst (λ (l : List (Wanted Room)). FindsList shows now l now [])
         (sym (drop_all made wanted (omega (arith, begun.long)))) refl))
-
--- loads add up
-pub no_loads : (caller : Caller) → caller ≡ with_loads 0 caller
-no_loads caller = ap (λ (steps : ℕ). record caller { steps = steps }) (omega arith)
-
-pub loads_both : (first then sum : ℕ) (caller : Caller) → first + then ≡ sum
-    → with_loads then (with_loads first caller) ≡ with_loads sum caller
-loads_both first then sum caller is = ap (λ (steps : ℕ). record caller { steps = steps }) (omega (arith, is))
-
--- loads and then others
-pub loads_then : (first then sum : ℕ) (old between new : MapSeat) → first + then ≡ sum → LoadsNear first old between
-    → LoadsNear then between new → LoadsNear sum old new
-loads_then first then sum old between new is here there = (
-  there.0 ∙ ap (λ (caller : Caller). with_loads then caller) here.0 ∙ loads_both first then sum (token old) is,
-  there.1 ∙ here.1,
-  there.2 ∙ here.2,
-)

@@ -1,14 +1,15 @@
 -- Finds of many keys, as a loop makes them group by group.
-use Rattle.std.proofs.Common.{◌≡◌, ℕ, suc, ◌+◌, ◌*◌, ◌%◌, ◌<◌, ◌≤◌, Bool, cond, min, List, [], ◌∷◌, ◌++◌, length, take}
+use Rattle.std.proofs.Common.{◌≡◌, ℕ, zero, suc, ◌+◌, ◌*◌, ◌%◌, ◌<◌, ◌≤◌, Bool, min, List, [], ◌∷◌, ◌++◌, length, take}
 use Rattle.std.proofs.Common.{drop, refl, sym, ap, ◌∙◌, subst, arith, append_assoc, append-nil, eq-eqb, ne_eqb}
 use Rattle.std.proofs.Common.{length-append}
+use Rattle.std.proofs.lemmas.List.{length-map, map-append}
 use Rattle.std.proofs.lemmas.List.{drop-drop, drop_all, take_all, take-append-drop, length-take-le}
 use Rattle.std.proofs.Math.Seq.{drop-append_seam, take-append_seam}
 use Rattle.nr_model.specs.declared.rows.Row.{Row}
 use Rattle.nr_board.specs.Callers.{Caller}
-use Rattle.nr_map.proofs.FindsEach.{no_loads}
 use Rattle.nr_map.specs.declared.wanted.Wanted.{Wanted}
-use Rattle.nr_map.specs.FindsEach.{FindsEach, FindsFrom, FindsList, FindsWanted, loads_at, loads_of_key, with_loads}
+use Rattle.nr_map.specs.FindsEach.{FindsEach, FindsFrom, FindsGroup, FindsList, keys_of}
+use Rattle.nr_map.specs.LoadsAhead.{LoadsAhead, LoadsAt, LoadsIf}
 
 -- that many keys were found: finds of the other keys, which stand there as before, make finds of all
 pub record Grouped {Room : Type 0} (shows : Room → List Row → Type 0) (first : Caller) (wanted : List (Wanted Room))
@@ -28,10 +29,36 @@ module _ {Room : Type 0} (shows : Room → List Row → Type 0) where
   finds_length now (one ∷ group) next [] finds = absurd finds
 
   -- no loads stand before a find within a group
-  no_loads_within : (rows groups at left : ℕ) → 0 < at → at < 16 → loads_at rows (groups * 16 + at) left ≡ 0
-  no_loads_within rows groups at left some few =
-      ap (λ (b : Bool). cond {A = ℕ} b (loads_of_key rows * min left 16) 0)
-      (ne_eqb ((groups * 16 + at) % 16) 0 (λ e. absurd (omega (arith, e, some, few))))
+  no_loads_within : (groups at : ℕ) (keys : List ℕ) (now : Caller) → 0 < at → at < 16
+      → LoadsAt (groups * 16 + at) keys now now
+  no_loads_within groups at keys now some few =
+      subst (λ (b : Bool). LoadsIf b keys now now)
+      (sym (ne_eqb ((groups * 16 + at) % 16) 0 (λ e. absurd (omega (arith, e, some, few))))) refl
+
+  -- the first ones of a list, of which there are as many as there can be
+  take_first : {A : Type 0} (most : ℕ) (first rest : List A) → min (length (first ++ rest)) most ≡ length first
+      → take most (first ++ rest) ≡ first
+  take_first zero [] rest all = refl
+  take_first (suc most) [] [] all = refl
+  take_first (suc most) [] (one ∷ rest) all = absurd (omega (arith, all))
+  take_first zero (one ∷ first) rest all = absurd (omega (arith, all))
+  take_first {A = A} (suc most) (one ∷ first) rest all =
+      ap (λ (l : List A). one ∷ l) (take_first most first rest (omega (arith, all)))
+
+  -- but the loads for the group before its first one
+  loads_before : (groups : ℕ) (group rest : List (Wanted Room)) (now ready : Caller)
+      → min (length (group ++ rest)) 16 ≡ length group → LoadsAhead (keys_of group) now ready
+      → LoadsAt (groups * 16) (keys_of (group ++ rest)) now ready
+  loads_before groups group rest now ready most loads =
+      let both = map-append (λ (one : Wanted Room). one.key) group rest in
+      let long = length-map group (λ (one : Wanted Room). one.key) in
+      let more = length-map (group ++ rest) (λ (one : Wanted Room). one.key) in
+      let first : take 16 (keys_of (group ++ rest)) ≡ keys_of group
+      = ap (λ (l : List ℕ). take 16 l) both
+      ∙ take_first 16 (keys_of group) (keys_of rest) (omega (arith, ap length both, long, more, most)) in
+      subst (λ (b : Bool). LoadsIf b (keys_of (group ++ rest)) now ready)
+      (sym (eq-eqb ((groups * 16) % 16) 0 (omega arith)))
+      (subst (λ (keys : List ℕ). LoadsAhead keys now ready) (sym first) loads)
 
   -- the finds of a group but the first ones
   others_of_group : (groups at : ℕ) (group found rest more : List (Wanted Room)) (now next last : Caller) → 0 < at
@@ -42,11 +69,11 @@ module _ {Room : Type 0} (shows : Room → List Row → Type 0) where
       subst (λ (now : Caller). FindsFrom shows (groups * 16 + at) now rest last more) finds
       (subst (λ (place : ℕ). FindsFrom shows place next rest last more) (omega arith) so)
   others_of_group groups at (one ∷ group) (it ∷ found) rest more now next last some few finds so =
-      let left : ℕ = length (one ∷ (group ++ rest)) in let long : length (one ∷ group) ≡ suc (length group) = refl in
-      let none = no_loads_within now.table.shape.rows groups at left some (omega (arith, few, long)) in (
+      let long : length (one ∷ group) ≡ suc (length group) = refl in (
+        now,
+        no_loads_within groups at (keys_of (one ∷ (group ++ rest))) now some (omega (arith, few, long)),
         finds.0,
-        subst (λ (now : Caller). FindsWanted shows now one finds.0 it)
-            (no_loads now ∙ ap (λ (loads : ℕ). with_loads loads now) (sym none)) finds.1,
+        finds.1,
         subst (λ (place : ℕ). FindsFrom shows place finds.0 (group ++ rest) last (found ++ more)) (omega arith)
             (others_of_group groups (at + 1) group found rest more finds.0 next last (omega arith)
             (omega (arith, few, long)) finds.2
@@ -56,23 +83,19 @@ module _ {Room : Type 0} (shows : Room → List Row → Type 0) where
   others_of_group groups at (one ∷ group) [] rest more now next last some few finds so = absurd finds
 
   -- the finds of a group, with its loads before them
-  of_group : (groups : ℕ) (group found rest more : List (Wanted Room)) (now next last : Caller) → 0 < length group
-      → length group ≤ 16 → min (length (group ++ rest)) 16 ≡ length group
-      → FindsList shows (with_loads (loads_of_key now.table.shape.rows * length group) now) group next found
+  of_group : (groups : ℕ) (group found rest more : List (Wanted Room)) (now ready next last : Caller)
+      → 0 < length group → length group ≤ 16 → min (length (group ++ rest)) 16 ≡ length group
+      → LoadsAhead (keys_of group) now ready → FindsList shows ready group next found
       → FindsFrom shows (groups * 16 + length group) next rest last more
       → FindsFrom shows (groups * 16) now (group ++ rest) last (found ++ more)
-  of_group groups [] found rest more now next last some few most finds so = absurd (omega (arith, some))
-  of_group groups (one ∷ group) [] rest more now next last some few most finds so = absurd finds
-  of_group groups (one ∷ group) (it ∷ found) rest more now next last some few most finds so =
-      let left : ℕ = length (one ∷ (group ++ rest)) in
-      let long : length (one ∷ group) ≡ suc (length group) = refl in
-      let each : ℕ = loads_of_key now.table.shape.rows in
-      let all : loads_at now.table.shape.rows (groups * 16) left ≡ each * length (one ∷ group) =
-      ap (λ (b : Bool). cond {A = ℕ} b (each * min left 16) 0) (eq-eqb ((groups * 16) % 16) 0 (omega arith))
-      ∙ ap (λ (n : ℕ). each * n) most in (
+  of_group groups [] found rest more now ready next last some few most loads finds so = absurd (omega (arith, some))
+  of_group groups (one ∷ group) [] rest more now ready next last some few most loads finds so = absurd finds
+  of_group groups (one ∷ group) (it ∷ found) rest more now ready next last some few most loads finds so =
+      let long : length (one ∷ group) ≡ suc (length group) = refl in (
+        ready,
+        loads_before groups (one ∷ group) rest now ready most loads,
         finds.0,
-        subst (λ (now : Caller). FindsWanted shows now one finds.0 it)
-            (ap (λ (loads : ℕ). with_loads loads now) (sym all)) finds.1,
+        finds.1,
         others_of_group groups 1 group found rest more finds.0 next last (omega arith) (omega (arith, few, long))
             finds.2 (subst (λ (place : ℕ). FindsFrom shows place next rest last more) (omega (arith, long)) so),
       )
@@ -87,7 +110,7 @@ module _ {Room : Type 0} (shows : Room → List Row → Type 0) where
         → end ≡ min (groups * 16 + 16) (length keys)
         → (next : Caller) (found : List (Wanted Room)) → (group : List (Wanted Room))
         → group ++ drop end keys ≡ drop (groups * 16) keys → length group + groups * 16 ≡ end
-        → FindsList shows (with_loads (loads_of_key now.table.shape.rows * length group) now) group next found
+        → FindsGroup shows now group next found
         → Grouped shows first wanted end next (take (groups * 16) keys ++ (found ++ drop end keys))
     group_more groups end now keys grouped low end_is next found group whole size finds = record {
       long = long_front ∙ grouped.long;
@@ -101,9 +124,8 @@ module _ {Room : Type 0} (shows : Room → List Row → Type 0) where
           (grouped.on last (found ++ more)
           (subst (λ (l : List (Wanted Room)). FindsFrom shows begin now l last (found ++ more))
           (ap (λ (l : List (Wanted Room)). group ++ l) (sym same_rest) ∙ whole ∙ grouped.rest)
-          (of_group groups group found (drop end wanted) more now next last (omega (arith, size, end_is, low))
-          (omega (arith, size, end_is)) most
-          finds
+          (of_group groups group found (drop end wanted) more now finds.ready next last
+          (omega (arith, size, end_is, low)) (omega (arith, size, end_is)) most finds.loads finds.finds
           (subst (λ (place : ℕ). FindsFrom shows place next (drop end wanted) last more) (omega (arith, size))
           so))));
     }
@@ -118,7 +140,7 @@ module _ {Room : Type 0} (shows : Room → List Row → Type 0) where
         split = append_assoc (take begin keys) found (drop end keys)
 
         many : length found ≡ length group
-        many = finds_length (with_loads (loads_of_key now.table.shape.rows * length group) now) group next found finds
+        many = finds_length finds.ready group next found finds.finds
 
         front_size : length front ≡ end
         front_size =

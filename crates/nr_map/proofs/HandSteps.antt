@@ -289,7 +289,15 @@ module _ (key word other : ℕ) (old ahead new : Handed) (held : old.key ≡ Som
   rests : Rests 1 old.reader ahead.reader
   rests =
       subst (Rests 1 old.reader) (sym look)
-      (record { table = refl; number = refl; seen = refl; mine = refl; steps_made = refl; pasts = refl })
+      (record {
+        table = refl;
+        number = refl;
+        seen = refl;
+        mine = refl;
+        steps_made = refl;
+        pasts = refl;
+        loaded_ahead = refl;
+      })
 
   gains_on : (answer : Reply) (m sum : ℕ) → sum ≡ 1 + m → Gains m (model.Find key) ahead.reader new.reader answer
       → Gains sum (model.Find key) old.reader new.reader answer

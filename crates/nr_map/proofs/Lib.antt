@@ -9,6 +9,7 @@ pub mod HandSteps
 pub mod Pinning
 pub mod Tagging
 pub mod CountedFinds
+pub mod Loading
 pub mod FindsEach
 pub mod FindsGroups
 pub mod RowBounds

@@ -7,6 +7,7 @@ pub mod Written
 pub mod Opened
 pub mod Tickets
 pub mod Answers
+pub mod LoadsAhead
 pub mod FindsEach
 pub mod ExactPlaces
 pub mod SlotBounds

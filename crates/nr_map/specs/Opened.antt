@@ -23,6 +23,7 @@ newcomer table number marks =
       pasts = [];
       says = 0;
       heard = [];
+      loaded_ahead = [];
     }
 
 -- the writer's view after it made that many readers

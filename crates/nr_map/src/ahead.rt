@@ -1,10 +1,10 @@
 //! Loads of words that finds of many keys will need, by which these words are near then.
-ghost use Rattle.std.specs.Prelude.{◌≡◌, ◌<◌, ◌≤◌, ◌+◌, ◌*◌, All, length};
+ghost use Rattle.std.specs.Prelude.{◌≡◌, ◌<◌, ◌≤◌, ◌+◌, ◌-◌, ◌*◌, All, length, min, take};
 ghost use Rattle.nr_model.specs.declared.rows.TheConstants.{MAX_ROWS};
 ghost use Rattle.nr_words.specs.Places.{total_of};
 ghost use Rattle.nr_core.specs.Slots.{layout};
 ghost use Rattle.nr_board.specs.Callers.{token};
-ghost use Rattle.nr_map.specs.FindsEach.{LoadsNear, loads_of_key, more_lines, with_loads};
+ghost use Rattle.nr_map.specs.LoadsAhead.{LoadsAhead, LoadsKey, LoadsKeys, LoadsLines, LoadsOfSets, LoadsPlaces, LoadsSets, LoadsTwo, Stays, begin_of, line_places, more_lines, more_of};
 
 use crate::hand::Hand;
 use crate::reader::Reader;
@@ -32,7 +32,8 @@ impl Hand {
         requires own { self.old.reader.table ≡ map.now }
         requires keys { All (λ key. key < map.now.shape.keys) keys.now }
         requires few { length keys.now ≤ 16 }
-        ensures reader { self.new.reader ≡ with_loads (loads_of_key map.now.shape.rows * length keys.now) self.old.reader }
+        ensures own { self.new.reader.table ≡ map.now }
+        ensures loads { LoadsAhead keys.now self.old.reader self.new.reader }
         ensures held { (self.new.key ≡ self.old.key) × (self.new.rows ≡ self.old.rows) }
     {
         map.load_for(&mut self.caller.seat, keys);
@@ -42,7 +43,8 @@ impl Hand {
     pub fn load_key(&mut self, map: &ReaderMap, key: u32)
         requires own { self.old.reader.table ≡ map.now }
         requires key { key < map.now.shape.keys }
-        ensures reader { self.new.reader ≡ with_loads 1 self.old.reader }
+        ensures own { self.new.reader.table ≡ map.now }
+        ensures loads { LoadsKey key self.old.reader self.new.reader }
         ensures held { (self.new.key ≡ self.old.key) × (self.new.rows ≡ self.old.rows) }
     {
         map.board.load_key(&mut self.caller.seat, key);
@@ -55,7 +57,8 @@ impl ReaderMap {
     pub fn load_key(&self, reader: &mut Reader, key: u32)
         requires own { reader.old.table ≡ self.now }
         requires key { key < self.now.shape.keys }
-        ensures { reader.new ≡ with_loads 1 reader.old }
+        ensures own { reader.new.table ≡ self.now }
+        ensures loads { LoadsKey key reader.old reader.new }
     {
         self.board.load_key(&mut reader.caller.seat, key);
     }
@@ -69,7 +72,8 @@ impl ReaderMap {
         requires own { reader.old.table ≡ self.now }
         requires keys { All (λ key. key < self.now.shape.keys) keys.now }
         requires few { length keys.now ≤ 16 }
-        ensures { reader.new ≡ with_loads (loads_of_key self.now.shape.rows * length keys.now) reader.old }
+        ensures own { reader.new.table ≡ self.now }
+        ensures loads { LoadsAhead keys.now reader.old reader.new }
     {
         self.load_for(&mut reader.caller.seat, keys);
     }
@@ -78,7 +82,8 @@ impl ReaderMap {
         requires own { (token seat.old).table ≡ self.now }
         requires keys { All (λ key. key < self.now.shape.keys) keys.now }
         requires few { length keys.now ≤ 16 }
-        ensures { LoadsNear (loads_of_key self.now.shape.rows * length keys.now) seat.old seat.new }
+        ensures loads { LoadsAhead keys.now (token seat.old) (token seat.new) }
+        ensures stays { Stays seat.old seat.new }
     {
         let mut words = [0; GROUP];
         self.load_keys(seat, keys, &mut words);
@@ -89,7 +94,8 @@ impl ReaderMap {
         requires own { (token seat.old).table ≡ self.now }
         requires keys { All (λ key. key < self.now.shape.keys) keys.now }
         requires few { length keys.now ≤ 16 }
-        ensures { LoadsNear (length keys.now) seat.old seat.new }
+        ensures loads { LoadsKeys keys.now (take (length keys.now) words.new) (token seat.old) (token seat.new) }
+        ensures stays { Stays seat.old seat.new }
     {
         for place in 0..keys.len() {
             words[place] = self.board.load_key(seat, keys[place]);
@@ -100,7 +106,8 @@ impl ReaderMap {
     fn load_sets(&self, seat: &mut Seat, words: &[u64])
         requires own { (token seat.old).table ≡ self.now }
         requires few { length words.now ≤ 16 }
-        ensures { LoadsNear ((2 + more_lines self.now.shape.rows) * length words.now) seat.old seat.new }
+        ensures loads { LoadsOfSets (layout self.now.shape) words.now (token seat.old) (token seat.new) }
+        ensures stays { Stays seat.old seat.new }
     {
         let sizes = self.board.layout();
         let mut counts = [0; GROUP];
@@ -117,7 +124,8 @@ impl ReaderMap {
         requires keys { 0 < sizes.keys }
         requires rows { sizes.rows ≤ MAX_ROWS }
         requires few { length words.now ≤ 16 }
-        ensures { LoadsNear (2 * length words.now) seat.old seat.new }
+        ensures loads { LoadsSets sizes words.now (take (length words.now) counts.new) (token seat.old) (token seat.new) }
+        ensures stays { Stays seat.old seat.new }
     {
         for place in 0..words.len() {
             let span = span_named(sizes, words[place]);
@@ -129,7 +137,8 @@ impl ReaderMap {
         requires own { (token seat.old).table ≡ self.now }
         requires order { span.first ≤ span.last }
         requires within { span.last < total_of (layout self.now.shape) }
-        ensures { LoadsNear 2 seat.old seat.new }
+        ensures loads { LoadsTwo span.first (span.first + min 8 (span.last - span.first)) result (token seat.old) (token seat.new) }
+        ensures stays { Stays seat.old seat.new }
     {
         let count = self.board.load_word(seat, span.first);
         let more = LINE.min(span.last - span.first);
@@ -145,7 +154,8 @@ impl ReaderMap {
         requires some { 0 < sizes.rows }
         requires rows { sizes.rows ≤ MAX_ROWS }
         requires few { length words.now ≤ 16 }
-        ensures { LoadsNear (more_lines self.now.shape.rows * length words.now) seat.old seat.new }
+        ensures loads { LoadsLines sizes words.now (take (length words.now) counts.now) (token seat.old) (token seat.new) }
+        ensures stays { Stays seat.old seat.new }
     {
         for place in 0..words.len() {
             let span = span_named(sizes, words[place]);
@@ -160,7 +170,8 @@ impl ReaderMap {
         requires some { 0 < rows }
         requires order { span.first ≤ span.last }
         requires within { span.last < total_of (layout self.now.shape) }
-        ensures { LoadsNear (more_lines self.now.shape.rows) seat.old seat.new }
+        ensures loads { LoadsPlaces (line_places span.first (min (2 * min count rows) (span.last - span.first)) (more_lines rows)) (token seat.old) (token seat.new) }
+        ensures stays { Stays seat.old seat.new }
     {
         let set = 2 * count.min(u64::from(rows));
         let last = set.min(span.last - span.first);
@@ -177,6 +188,8 @@ fn span_named(sizes: Layout, word: u64) -> Span
     requires keys { 0 < sizes.keys }
     requires rows { sizes.rows ≤ MAX_ROWS }
     ensures order { result.first ≤ result.last }
+    ensures first { result.first ≡ begin_of sizes word }
+    ensures last { result.last ≡ begin_of sizes word + more_of sizes word }
     ensures within { result.last < total_of sizes }
 {
     let found = parts(word);

@@ -1,6 +1,7 @@
 //! Finds of many keys by one call.
-ghost use Rattle.std.specs.Prelude.{◌≡◌, ℕ, ◌+◌, ◌*◌, ◌<◌, ◌≤◌, All, length, min, take};
+ghost use Rattle.std.specs.Prelude.{◌≡◌, ◌+◌, ◌<◌, ◌≤◌, All, length, min, take};
 ghost use Rattle.nr_board.specs.declared.answers.Found.TheVariants.{Hole};
+ghost use Rattle.nr_map.specs.FindsEach.{keys_of};
 
 use crate::ahead::GROUP;
 use crate::reader::Reader;
@@ -32,7 +33,8 @@ impl<R> Wanted<R> {
 }
 
 impl ReaderMap {
-    ghost use Rattle.nr_map.specs.FindsEach.{FindsEach, FindsList, FindsWanted, loads_of_key, with_loads};
+    ghost use Rattle.nr_map.specs.FindsEach.{FindsEach, FindsGroup, FindsWanted};
+    ghost use Rattle.nr_map.specs.LoadsAhead.{LoadsAhead};
 
     /// Looks each key up, in their order, as `find_into` does one: a find of each is an entry of its
     /// own, also of a key that is wanted twice. Each key's rows go to its own room, which stays as it
@@ -58,7 +60,7 @@ impl ReaderMap {
         requires keys { All (λ one. one.key < self.now.shape.keys) group.old }
         requires few { length group.old ≤ 16 }
         ensures own { reader.new.table ≡ self.now }
-        ensures finds { FindsList R.shows (with_loads (loads_of_key self.now.shape.rows * length group.old) reader.old) group.old reader.new group.new }
+        ensures finds { FindsGroup R.shows reader.old group.old reader.new group.new }
     {
         self.load_group(reader, group);
         for one in group.iter_mut() {
@@ -79,7 +81,8 @@ impl ReaderMap {
         requires own { reader.old.table ≡ self.now }
         requires keys { All (λ one. one.key < self.now.shape.keys) group.now }
         requires few { length group.now ≤ 16 }
-        ensures { reader.new ≡ with_loads (loads_of_key self.now.shape.rows * length group.now) reader.old }
+        ensures own { reader.new.table ≡ self.now }
+        ensures loads { LoadsAhead (keys_of group.now) reader.old reader.new }
     {
         let mut keys = [0; GROUP];
         copy_keys(group, &mut keys);
@@ -90,7 +93,7 @@ impl ReaderMap {
 // Writes the keys of a group over the first ones there.
 fn copy_keys<R>(group: &[Wanted<R>], keys: &mut [u32; GROUP])
     requires few { length group.now ≤ 16 }
-    ensures { (bound : ℕ) → All (λ one. one.key < bound) group.now → All (λ key. key < bound) (take (length group.now) keys.new) }
+    ensures { take (length group.now) keys.new ≡ keys_of group.now }
 {
     for place in 0..group.len() {
         keys[place] = group[place].key;

@@ -26,6 +26,7 @@ hears_after_steps many old new note hears = let learns = hears.learns in let ste
     says = learns.says;
     marks = learns.marks;
     heard = learns.heard;
+    loaded_ahead = learns.loaded_ahead;
     news = learns.news;
     pasts = learns.pasts;
   };

@@ -1,7 +1,6 @@
-use Rattle.std.specs.Prelude.{◌≡◌, ◌<◌, ℕ, All, length, take}
+use Rattle.std.specs.Prelude.{◌≡◌, length, take}
+use Rattle.nr_c.specs.Many.{keys_wanted}
 use Rattle.nr_c.proofs.many.copy_keys.Given as goal
 
 abbrev pub invariant-loop-place : goal.invariant-loop-place
-invariant-loop-place l =
-    ((bound : ℕ) → All (λ one. one.key < bound) l.group → All (λ key. key < bound) (take l.place l.keys))
-    × (length l.keys ≡ 16)
+invariant-loop-place l = (take l.place l.keys ≡ keys_wanted (take l.place l.group)) × (length l.keys ≡ 16)

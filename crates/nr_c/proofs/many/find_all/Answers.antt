@@ -1,10 +1,7 @@
-use Rattle.std.proofs.Common.{◌≡◌, ◌<◌, ◌-◌, List, [], ap, arith, drop, get_or, length, subst, sym, take, ◌∙◌}
+use Rattle.std.proofs.Common.{◌≡◌, ◌<◌, ◌-◌, ◌%◌, ◌==◌, List, [], arith, drop, get_or, length, subst, sym, take}
 use Rattle.std.proofs.lemmas.List.{get_or_default, length-drop, take_all}
 use Rattle.nr_c.specs.declared.many.NrWanted.{NrWanted}
-use Rattle.nr_board.specs.Callers.{Table}
-use Rattle.nr_map.specs.FindsEach.{loads_at}
-use Rattle.nr_map.specs.Hands.{Handed}
-use Rattle.nr_c.specs.Many.{FindsAtByCode, FindsOneByCode, hand_with_loads}
+use Rattle.nr_c.specs.Many.{FindsAtByCode, LoadsKeysAhead}
 use Rattle.nr_c.proofs.FindsMade.{all_made, as_wanted, one_more}
 use Rattle.nr_c.proofs.many.find_all.Goals as goal
 
@@ -40,18 +37,12 @@ loop-place-preserved c =
     let whole : take (length keys - place) left ≡ left
     = take_all (length keys - place) left (omega (arith, length-drop place keys)) in
     let loaded
-    = c.load_from.ensures
-    ∙ ap (λ (l : List NrWanted). hand_with_loads (loads_at c.args.map.now.shape.rows place (length l))
-    c.loop-place.hand) whole
-    ∙ ap (λ (t : Table). hand_with_loads (loads_at t.shape.rows place (length left)) c.loop-place.hand)
-    (sym c.loop-place.invariant.own) in
+    = subst (λ (l : List NrWanted). LoadsKeysAhead (place % 16 == 0) l c.loop-place.hand c.load_from.new.hand) whole
+    c.load_from.ensures.loads in
     record {
       own = c.find_one.ensures.own;
       made = one_more FindsAtByCode (c.args.hand.now, c.args.watch.now) c.args.wanted.now place
           (c.loop-place.hand, c.loop-place.watch) keys had one low (get_or_default keys place blank one low)
           (c.find_one.new.hand, c.find_one.new.watch) c.find_one.new.one
-          (subst
-          (λ (h : Handed). FindsOneByCode one c.find_one.new.one (h, c.loop-place.watch)
-          (c.find_one.new.hand, c.find_one.new.watch))
-          loaded c.find_one.ensures.finds);
+          (c.load_from.new.hand, loaded, c.find_one.ensures.finds);
     }

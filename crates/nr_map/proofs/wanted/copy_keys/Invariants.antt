@@ -1,7 +1,6 @@
-use Rattle.std.specs.Prelude.{◌≡◌, ◌<◌, ℕ, All, length, take}
+use Rattle.std.specs.Prelude.{◌≡◌, length, take}
+use Rattle.nr_map.specs.FindsEach.{keys_of}
 use Rattle.nr_map.proofs.wanted.copy_keys.Given as goal
 
 abbrev pub invariant-loop-place : goal.invariant-loop-place
-invariant-loop-place g l =
-    ((bound : ℕ) → All (λ one. one.key < bound) l.group → All (λ key. key < bound) (take l.place l.keys))
-    × (length l.keys ≡ 16)
+invariant-loop-place g l = (take l.place l.keys ≡ keys_of (take l.place l.group)) × (length l.keys ≡ 16)

@@ -15,7 +15,7 @@ load-requires c = let shared = c.self.inside.table.shared in let seat = c.args.s
 pub returns : goal.returns
 returns c =
     record {
-      step = loaded_token c.args.seat.now c.load.new.seat c.load.ensures.0 c.load.ensures.2;
+      step = loaded_token c.args.seat.now c.load.new.seat c.args.key c.load.result c.load.ensures.0 c.load.ensures.2;
       role = ap (λ (v : View). v.role) c.load.ensures.2;
       says = ap (λ (v : View). v.says) c.load.ensures.2;
     }

@@ -18,7 +18,7 @@ load-requires c =
 pub returns : goal.returns
 returns c =
     record {
-      step = loaded_token c.args.seat.now c.load.new.seat c.load.ensures.0 c.load.ensures.2;
+      step = loaded_token c.args.seat.now c.load.new.seat c.args.place c.load.result c.load.ensures.0 c.load.ensures.2;
       role = ap (λ (v : View). v.role) c.load.ensures.2;
       says = ap (λ (v : View). v.says) c.load.ensures.2;
     }

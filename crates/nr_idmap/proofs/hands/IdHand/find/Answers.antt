@@ -1,9 +1,11 @@
-use Rattle.std.proofs.Common.{◌≡◌, refl, ap, ◌∙◌, List, Option, Some, None}
+use Rattle.std.proofs.Common.{◌≡◌, refl, ap, subst, sym, ◌∙◌, List, Option, Some, None}
 use Rattle.nr_model.specs.declared.rows.Row.{Row}
 use Rattle.nr_map.specs.Hands.{Handed}
 use Rattle.nr_idmap.specs.declared.hands.Holding.{Holding}
 use Rattle.nr_idmap.specs.IdHands.{IdHanded, IsIdHand, id_held, reader_of}
-use Rattle.nr_idmap.proofs.Finding.{finds_by_id, finds_inside}
+use Rattle.nr_idmap.specs.Keepers.{IdTable}
+use Rattle.nr_map.specs.LoadsAhead.{LoadsKey}
+use Rattle.nr_idmap.proofs.Finding.{finds_by_id, finds_inside, line_is}
 use Rattle.nr_idmap.proofs.hands.IdHand.find.Goals as goal
 
 -- a hand that holds no id's set holds none of the map
@@ -16,13 +18,20 @@ pub returns-clause-finds : goal.returns-clause-finds
 returns-clause-finds g c =
     let own : IdHanded
     = record { hand = c.self.inside.hand; ids = c.self.inside.ids; id = id_held c.self.inside.held } in
+    let line
+    = line_is c.args.id c.first_way-first.result c.plan.result.now own.ids c.first_way-first.ensures.value
+    (c.plan.ensures.value ∙ ap (λ (t : IdTable). t.directory.plan) (c.map.view_is ∙ sym c.requires.own)
+    ∙ sym (ap (λ (h : IdHanded). h.ids.directory.plan) c.self.view_is)) in
     let there = c.find_tagged-found.ensures.finds in
     let none = holds_none own.hand c.self.inside.pile c.self.inside.held c.self.invariant
     (ap (λ (h : IdHanded). h.id) c.self.view_is ∙ c.requires.idle) in
     finds_by_id g.R.RowRoom.shows c.args.id c.in-Some.at (reader_of own) (reader_of c.args.self.now)
-    (record { caller = c.find_tagged-found.new.self.reader; ids = c.tell.new.ids }) there.reader
+    (record { caller = c.find_tagged-found.new.self.reader; ids = c.tell.new.ids }) c.first_way-first.result
+    there.reader
     c.look_up_alone.new.ids c.args.rows.now c.find_tagged-found.new.rows c.tell.result (ap reader_of c.self.view_is)
-    (there.was_idle (c.load_key.ensures.held.0 ∙ none) ∙ c.load_key.ensures.reader) c.in-Some.ensures.looks
+    line
+    (subst (LoadsKey c.first_way-first.result own.hand.reader) (sym (there.was_idle (c.load_key.ensures.held.0 ∙ none)))
+    c.load_key.ensures.loads) c.in-Some.ensures.looks
     (finds_inside g.R.RowRoom.shows c.args.id c.in-Some.at
     (record { caller = there.reader; ids = c.look_up_alone.new.ids })
     (record { caller = there.reader; ids = c.look_up_alone.new.ids }) c.find_tagged-found.new.self.reader c.tell.new.ids

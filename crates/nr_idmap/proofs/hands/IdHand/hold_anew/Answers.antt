@@ -1,40 +1,55 @@
-use Rattle.std.proofs.Common.{◌≡◌, ℕ, List, true, false, subst}
+use Rattle.std.proofs.Common.{◌≡◌, ℕ, List, true, false, ap, subst, sym, ◌∙◌}
 use Rattle.nr_model.specs.declared.rows.Row.{Row}
 use Rattle.nr_board.specs.declared.answers.Found.{Found}
 use Rattle.nr_board.specs.declared.answers.Found.TheVariants as answer
-use Rattle.nr_map.specs.FindsEach.{with_loads}
+use Rattle.nr_map.specs.LoadsAhead.{LoadsKey}
 use Rattle.nr_map.specs.Hands.{Handed}
 use Rattle.nr_idmap.specs.IdHands.{IdHanded, id_held, with_line_loaded}
+use Rattle.nr_idmap.specs.IdFinds.{line_of}
+use Rattle.nr_idmap.specs.Keepers.{IdTable}
+use Rattle.nr_idmap.proofs.Finding.{line_is, line_loaded}
 use Rattle.nr_idmap.proofs.Holding.{KeepsIn, hand_is, holds_moved, holds_pending, holds_rows}
 use Rattle.nr_idmap.proofs.hands.IdHand.hold_anew.Goals as goal
 
 -- the hand that loaded the line keeps what it finds
-kept : (own : IdHanded) (loaded : Handed) (way : ℕ) (new : Handed) (before set : List Row) (told : Found)
-    → loaded.reader ≡ with_loads 1 own.hand.reader → (loaded.key ≡ own.hand.key) × (loaded.rows ≡ own.hand.rows)
-    → KeepsIn way loaded before new set told → KeepsIn way (with_line_loaded own).hand before new set told
-kept own loaded way new before set told reader held keeps =
+kept : (own : IdHanded) (id key : ℕ) (loaded : Handed) (way : ℕ) (new : Handed) (before set : List Row) (told : Found)
+    → key ≡ line_of id own.ids → (loads : LoadsKey key own.hand.reader loaded.reader)
+    → (loaded.key ≡ own.hand.key) × (loaded.rows ≡ own.hand.rows)
+    → KeepsIn way loaded before new set told → KeepsIn way (with_line_loaded id loads.0 own).hand before new set told
+kept own id key loaded way new before set told line loads held keeps =
     subst (λ (h : Handed). KeepsIn way h before new set told)
-    (hand_is loaded (with_loads 1 own.hand.reader) own.hand.key own.hand.rows reader held.0 held.1) keeps
+    (hand_is loaded (with_line_loaded id loads.0 own).hand.reader own.hand.key own.hand.rows
+    (line_loaded id key own.ids own.hand.reader loaded.reader line loads) held.0 held.1) keeps
 
 pub returns-in-Hole-clause-holds : goal.returns-in-Hole-clause-holds
 returns-in-Hole-clause-holds c =
     let own : IdHanded
     = record { hand = c.self.inside.hand; ids = c.self.inside.ids; id = id_held c.self.inside.held } in
+    let line
+    = line_is c.args.id c.first_way-first.result c.plan.result.now own.ids c.first_way-first.ensures.value
+    (c.plan.ensures.value ∙ ap (λ (t : IdTable). t.directory.plan) (c.map.view_is ∙ sym c.requires.own)
+    ∙ sym (ap (λ (h : IdHanded). h.ids.directory.plan) c.self.view_is)) in
     holds_pending c.args.id c.in-Some.at own c.args.self.now c.self.view_is c.look_up_alone.new.ids
     c.in-Some.ensures.looks
-    c.find_kept.new.self c.self.inside.pile c.find_kept.new.rows
-    (kept own c.load_key.new.self c.in-Some.at.way c.find_kept.new.self c.self.inside.pile c.find_kept.new.rows
-    answer.Hole c.load_key.ensures.reader c.load_key.ensures.held c.in-Hole.ensures.finds)
+    c.load_key.ensures.loads.0 c.find_kept.new.self c.self.inside.pile c.find_kept.new.rows
+    (kept own c.args.id c.first_way-first.result c.load_key.new.self c.in-Some.at.way c.find_kept.new.self
+    c.self.inside.pile c.find_kept.new.rows
+    answer.Hole line c.load_key.ensures.loads c.load_key.ensures.held c.in-Hole.ensures.finds)
 
 pub returns-then-has_tag-clause-holds : goal.returns-then-has_tag-clause-holds
 returns-then-has_tag-clause-holds c =
     let own : IdHanded
     = record { hand = c.self.inside.hand; ids = c.self.inside.ids; id = id_held c.self.inside.held } in
+    let line
+    = line_is c.args.id c.first_way-first.result c.plan.result.now own.ids c.first_way-first.ensures.value
+    (c.plan.ensures.value ∙ ap (λ (t : IdTable). t.directory.plan) (c.map.view_is ∙ sym c.requires.own)
+    ∙ sym (ap (λ (h : IdHanded). h.ids.directory.plan) c.self.view_is)) in
     holds_rows c.args.id c.in-Some.at own c.args.self.now c.self.view_is c.look_up_alone.new.ids
     c.in-Some.ensures.looks
-    c.find_kept.new.self c.self.inside.pile c.find_kept.new.rows
-    (kept own c.load_key.new.self c.in-Some.at.way c.find_kept.new.self c.self.inside.pile c.find_kept.new.rows
-    answer.Rows c.load_key.ensures.reader c.load_key.ensures.held c.in-Rows.ensures.finds)
+    c.load_key.ensures.loads.0 c.find_kept.new.self c.self.inside.pile c.find_kept.new.rows
+    (kept own c.args.id c.first_way-first.result c.load_key.new.self c.in-Some.at.way c.find_kept.new.self
+    c.self.inside.pile c.find_kept.new.rows
+    answer.Rows line c.load_key.ensures.loads c.load_key.ensures.held c.in-Rows.ensures.finds)
     c.as_slice.result.now c.as_slice.ensures.value
     (c.has_tag.ensures.0 c.if-has_tag.true) c.mark.new.reader c.mark.ensures.marks
 
@@ -42,11 +57,16 @@ pub returns-else-has_tag-clause-holds : goal.returns-else-has_tag-clause-holds
 returns-else-has_tag-clause-holds c =
     let own : IdHanded
     = record { hand = c.self.inside.hand; ids = c.self.inside.ids; id = id_held c.self.inside.held } in
+    let line
+    = line_is c.args.id c.first_way-first.result c.plan.result.now own.ids c.first_way-first.ensures.value
+    (c.plan.ensures.value ∙ ap (λ (t : IdTable). t.directory.plan) (c.map.view_is ∙ sym c.requires.own)
+    ∙ sym (ap (λ (h : IdHanded). h.ids.directory.plan) c.self.view_is)) in
     holds_moved c.args.id c.in-Some.at own c.args.self.now c.self.view_is c.look_up_alone.new.ids
     c.in-Some.ensures.looks
-    c.find_kept.new.self c.self.inside.pile c.find_kept.new.rows
-    (kept own c.load_key.new.self c.in-Some.at.way c.find_kept.new.self c.self.inside.pile c.find_kept.new.rows
-    answer.Rows c.load_key.ensures.reader c.load_key.ensures.held c.in-Rows.ensures.finds)
+    c.load_key.ensures.loads.0 c.find_kept.new.self c.self.inside.pile c.find_kept.new.rows
+    (kept own c.args.id c.first_way-first.result c.load_key.new.self c.in-Some.at.way c.find_kept.new.self
+    c.self.inside.pile c.find_kept.new.rows
+    answer.Rows line c.load_key.ensures.loads c.load_key.ensures.held c.in-Rows.ensures.finds)
     c.as_slice.result.now c.as_slice.ensures.value
     (λ tag.
     let yes : c.has_tag.result ≡ true = c.has_tag.ensures.1 tag in

@@ -5,7 +5,7 @@ use Rattle.nr_idmap.proofs.id_map.IdMap.look_up_all.Given as goal
 abbrev pub invariant-loop-place : goal.invariant-loop-place
 invariant-loop-place l = record {
   own : l.reader.directory ≡ l.self.directory;
-  looks : LooksUpEach (take l.place l.ids) l.fn.reader l.reader;
+  looks : LooksUpEach (take l.place l.ids) (take l.place l.keys) l.fn.reader l.reader;
   keys : All (λ key. key < l.self.map.shape.keys) (take l.place l.keys);
   long : length l.keys ≡ 16;
 }

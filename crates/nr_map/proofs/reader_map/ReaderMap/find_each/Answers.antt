@@ -2,9 +2,7 @@ use Rattle.std.proofs.Common.{ℕ, ◌≡◌, ◌+◌, ◌-◌, ◌*◌, ◌<◌
 use Rattle.std.proofs.Common.{sym, take}
 use Rattle.std.proofs.lemmas.Grind.{div_ceil_times}
 use Rattle.std.proofs.lemmas.List.{drop-drop, length-take-le, length-append, take-append-drop}
-use Rattle.nr_board.specs.Callers.{Table}
 use Rattle.nr_map.specs.declared.wanted.Wanted.{Wanted}
-use Rattle.nr_map.specs.FindsEach.{FindsList, loads_of_key, with_loads}
 use Rattle.nr_map.proofs.FindsGroups.{Grouped, all_grouped, group_more}
 use Rattle.nr_map.proofs.reader_map.ReaderMap.find_each.Goals as goal
 
@@ -50,15 +48,11 @@ loop-group-preserved g c =
     let up : begin ≤ end = omega (arith, end_is, low) in let fits : end ≤ length keys = omega (arith, end_is) in
     let found : List (Wanted g.row.R.Denot) = c.find_group.new.group in
     let group : List (Wanted g.row.R.Denot) = take (end - begin) (drop begin keys) in
-    let finds
-    = subst
-    (λ (t : Table). FindsList shows (with_loads (loads_of_key t.shape.rows * length group) c.loop-group.reader)
-    group c.find_group.new.reader found)
-    (sym c.loop-group.invariant.own) c.find_group.ensures.finds in
     let more : Grouped shows first wanted end c.find_group.new.reader (take begin keys ++ (found ++ drop end keys)) =
     group_more shows first wanted c.loop-group.group end c.loop-group.reader keys
     (subst (λ (made : ℕ). Grouped shows first wanted made c.loop-group.reader keys) here had) low end_is
-    c.find_group.new.reader found group (part_whole keys begin end up fits) (part_size keys begin end up fits) finds in
+    c.find_group.new.reader found group (part_whole keys begin end up fits) (part_size keys begin end up fits)
+    c.find_group.ensures.finds in
     record {
       own = c.find_group.ensures.own;
       grouped =

@@ -1,15 +1,24 @@
-use Rattle.std.proofs.Common.{◌≡◌, ◌+◌, ◌*◌, ℕ, arith, length, subst, take}
-use Rattle.std.proofs.lemmas.List.{length-take-le}
-use Rattle.nr_map.proofs.FindsEach.{loads_then}
-use Rattle.nr_map.specs.FindsEach.{LoadsNear, more_lines}
+use Rattle.std.proofs.Common.{◌≡◌, List, ℕ, length, subst, sym, take}
+use Rattle.nr_core.specs.Slots.{layout}
+use Rattle.nr_board.specs.Callers.{Table, token}
+use Rattle.nr_map.specs.LoadsAhead.{LoadsOfSets}
+use Rattle.nr_map.proofs.Loading.{ahead_count}
 use Rattle.nr_map.proofs.reader_map.ReaderMap.load_for.Goals as goal
 
-pub returns : goal.returns
-returns c =
-    let many : ℕ = length c.args.keys.now in
-    let more : ℕ = more_lines c.args.self.now.shape.rows in
-    let words = c.load_keys.new.words in
-    let all : length (take many words) ≡ many = length-take-le many words (omega (arith, c.requires.few)) in
-    loads_then many ((2 + more) * many) ((3 + more) * many) c.args.seat.now c.load_keys.new.seat c.load_sets.new.seat
-    (omega arith) c.load_keys.ensures
-    (subst (λ (n : ℕ). LoadsNear ((2 + more) * n) c.load_keys.new.seat c.load_sets.new.seat) all c.load_sets.ensures)
+pub returns-clause-loads : goal.returns-clause-loads
+returns-clause-loads c =
+    let old = token c.args.seat.now in
+    let named = token c.load_keys.new.seat in
+    let new = token c.load_sets.new.seat in
+    let keys : List ℕ = c.args.keys.now in
+    let words : List ℕ = take (length keys) c.load_keys.new.words in
+    let sets : LoadsOfSets (layout old.table.shape) words named new
+    = subst (λ (t : Table). LoadsOfSets (layout t.shape) words named new) (sym c.requires.own)
+    c.load_sets.ensures.loads in record {
+      words = words;
+      named = named;
+      of_keys = c.load_keys.ensures.loads;
+      of_sets = sets;
+      steps_made =
+          ahead_count (layout old.table.shape) keys words old named new c.load_keys.ensures.loads sets;
+    }

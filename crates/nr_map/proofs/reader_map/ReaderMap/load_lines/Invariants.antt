@@ -1,6 +1,10 @@
-use Rattle.std.specs.Prelude.{◌*◌}
-use Rattle.nr_map.specs.FindsEach.{LoadsNear, more_lines}
+use Rattle.std.specs.Prelude.{take}
+use Rattle.nr_board.specs.Callers.{token}
+use Rattle.nr_map.specs.LoadsAhead.{LoadsLines, Stays}
 use Rattle.nr_map.proofs.reader_map.ReaderMap.load_lines.Given as goal
 
 abbrev pub invariant-loop-place : goal.invariant-loop-place
-invariant-loop-place l = LoadsNear (more_lines l.self.shape.rows * l.place) l.fn.seat l.seat
+invariant-loop-place l = record {
+  loads : LoadsLines l.sizes (take l.place l.words) (take l.place l.counts) (token l.fn.seat) (token l.seat);
+  stays : Stays l.fn.seat l.seat;
+}

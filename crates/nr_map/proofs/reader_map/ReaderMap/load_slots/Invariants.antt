@@ -1,6 +1,11 @@
-use Rattle.std.specs.Prelude.{◌≡◌, ◌*◌, length}
-use Rattle.nr_map.specs.FindsEach.{LoadsNear}
+use Rattle.std.specs.Prelude.{◌≡◌, length, take}
+use Rattle.nr_board.specs.Callers.{token}
+use Rattle.nr_map.specs.LoadsAhead.{LoadsSets, Stays}
 use Rattle.nr_map.proofs.reader_map.ReaderMap.load_slots.Given as goal
 
 abbrev pub invariant-loop-place : goal.invariant-loop-place
-invariant-loop-place l = LoadsNear (2 * l.place) l.fn.seat l.seat × (length l.counts ≡ 16)
+invariant-loop-place l = record {
+  loads : LoadsSets l.sizes (take l.place l.words) (take l.place l.counts) (token l.fn.seat) (token l.seat);
+  stays : Stays l.fn.seat l.seat;
+  room : length l.counts ≡ 16;
+}
