@@ -3,6 +3,7 @@ mod Lists
 mod InOrder
 mod Quiets
 mod LastCalls
+mod Shown
 mod Gone
 mod Admitting
 mod Placing

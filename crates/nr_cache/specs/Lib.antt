@@ -6,4 +6,5 @@ pub mod Places
 pub mod Stores
 pub mod StoreRuns
 pub mod Finds
+pub mod GivenValues
 pub mod Openings

@@ -16,6 +16,7 @@
 
 mod finds;
 mod flights;
+mod given;
 pub mod laws;
 mod shape;
 mod store;
@@ -23,5 +24,6 @@ mod values;
 
 pub use finds::{FoundValue, find};
 pub use flights::{Fate, Flight};
+pub use given::GivenValue;
 pub use shape::{MAX_STORE_GROUPS, MAX_STORE_READERS, StoreShape};
 pub use store::{Begun, Landed, Store};
