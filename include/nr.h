@@ -74,6 +74,7 @@ extern "C" {
 #define NR_BAD_ROW 38u   /* a row of an id has an `a` of 0 */
 #define NR_STRANGER 39u  /* the handles are of two maps, or of two queues, or the upquery is another map's */
 #define NR_ALL_ASKED 40u /* each way of the id's group has an open upquery */
+#define NR_OWN 41u /* the value is the caller's own */
 
 /* An answer as text. */
 static inline const char *nr_strerror(uint32_t answer) {
@@ -119,6 +120,7 @@ static inline const char *nr_strerror(uint32_t answer) {
   case NR_BAD_ROW: return "a row's first number is 0";
   case NR_STRANGER: return "what was given is of two maps or queues";
   case NR_ALL_ASKED: return "each way of the group is asked for";
+  case NR_OWN: return "the value is the caller's own";
   default: return "no answer of this library";
   }
 }
@@ -250,6 +252,43 @@ typedef struct nr_wanted_id {
   uint32_t answer;
   nr_rows rows;
 } nr_wanted_id;
+
+/* The sizes of a cache. A group holds at most eight values, and there are 1 to 516,000; 1 to 65,533 readers; and room
+   for so many loads (flights), and so many changes of the base, that are under way. `key` is as of an nr_id_shape. */
+typedef struct nr_cache_shape {
+  uint32_t groups;
+  uint32_t readers;
+  uint32_t flights;
+  uint32_t changes;
+  uint64_t key;
+} nr_cache_shape;
+
+typedef struct nr_cache {
+  void *at;
+} nr_cache;
+
+typedef struct nr_cache_reader {
+  void *at;
+} nr_cache_reader;
+
+/* A value that was found, with the stamp that it came with. */
+typedef struct nr_cache_value {
+  uint64_t stamp;
+  uint64_t value;
+} nr_cache_value;
+
+/* A load of an id that is under way: which of all it is, from 1 on, and the number that it was begun with. */
+typedef struct nr_flight {
+  uint64_t number;
+  uint64_t mark;
+} nr_flight;
+
+/* A value that came out of a cache, the id that had it, and its stamp. */
+typedef struct nr_given {
+  uint64_t id;
+  uint64_t stamp;
+  uint64_t value;
+} nr_given;
 
 /* WORKING WITH IT
 
@@ -627,6 +666,79 @@ uint32_t nr_uses_id(nr_id_writer *writer, uint64_t id);
    After eight such choices the ids that could be evicted are being found all the time. NR_ALL_ASKED without a step, if
    each way of the group has an open upquery, and `chosen` stays as it was. */
 uint32_t nr_choose_id(nr_id_writer *writer, uint64_t id, uint64_t *chosen);
+
+/* A CACHE
+
+   A cache holds values, numbers of the caller's such as addresses, by ids above 0, each with a stamp above 0, which
+   comes back with it. It decides which loads are under way, whether a loaded value is held, and whose value goes to
+   make room. Readers, one a thread, find without a lock. All other calls are for one thread at a time, as under a
+   mutex of the caller's; no call blocks, and none but those that open takes memory. NR_NO_KEY for the id 0, NR_BAD_ROW
+   for the stamp 0, with no step.
+   A miss. Begin a load. Who gets NR_SEND queries the base and lands the value, or ends the load without one; then wake
+   those that wait, by the mark. Who gets NR_WAITING waits for that load, and finds again. At NR_FULL load, and use the
+   value without landing it.
+   A write in the base. Invalidate the id afterwards; or begin a change before it and end it afterwards, so that a load
+   that began meanwhile isn't held either.
+   A value that went. It comes out once no reader holds it: from a later landing or put (NR_GIVEN), or from
+   nr_cache_reap. Reap after each call while it answers NR_GIVEN, and free what comes out. A value of NR_OWN never was
+   in the cache, and is its caller's to free. */
+
+/* Opens a cache, and makes its handle live: NR_DONE. NR_LIVE if it is live already, NR_BAD_SIZE or NR_NO_MEMORY leave
+   it as it was. */
+uint32_t nr_open_cache(const nr_cache_shape *shape, nr_cache *cache);
+
+/* Makes a reader's handle live: NR_DONE. NR_LIVE if `reader` is live already, NR_NO_READER or NR_NO_MEMORY leave it as
+   it was. */
+uint32_t nr_open_cache_reader(nr_cache *cache, nr_cache_reader *reader);
+
+/* End a handle, which is then zeros; if it isn't live, they do nothing. A reader lets go what it holds, and no handle
+   gets it again. Closing the cache ends the loads that are under way and tells the readers; the last handle frees the
+   memory. What is still held does not come out then: invalidate it, and reap, before. */
+void nr_close_cache_reader(nr_cache_reader *reader);
+void nr_close_cache(nr_cache *cache);
+
+/* Finds the value of an id, which the reader holds until its next find or nr_cache_release; until then it doesn't come
+   out. NR_ROWS, and `found` has it. NR_HOLE if the id has none: nothing is held, and `found` stays as it was. NR_CLOSED
+   instead of NR_HOLE once the cache was closed. */
+uint32_t nr_cache_find(nr_cache_reader *reader, uint64_t id, nr_cache_value *found);
+
+/* Ends the hold, in 1 step: NR_DONE. NR_NOT_HOLDING without a step, if the reader holds nothing. */
+uint32_t nr_cache_release(nr_cache_reader *reader);
+
+/* What a miss of an id comes to. NR_SEND: the caller loads it, and `flight` is the load that begins, with `mark`.
+   NR_WAITING: `flight` is the one that is under way. NR_ROWS: the id has a value by now. NR_FULL: as many loads are
+   under way as there is room for. The last two leave `flight` as it was. */
+uint32_t nr_cache_begin(nr_cache *cache, uint64_t id, uint64_t mark, nr_flight *flight);
+
+/* Ends the load of that number by its value. NR_DONE: the id has it now. NR_GIVEN: so it has, and a value that nobody
+   can see any more came out; `given` tells it. NR_OWN: the value is the caller's own, since the id was invalidated, put
+   or changed since the load began, or was being changed then, or no load of that number is under way, or there is no
+   place for it. NR_DONE and NR_OWN leave `given` as it was. */
+uint32_t nr_cache_land(nr_cache *cache, uint64_t number, uint64_t stamp, uint64_t value, nr_given *given);
+
+/* Ends the load of that number without a value: NR_DONE, and `flight` is that. NR_NOTHING if none of that number is
+   under way, and `flight` stays as it was. */
+uint32_t nr_cache_fail(nr_cache *cache, uint64_t number, nr_flight *flight);
+
+/* Puts a value in place of what the id has. Answers as nr_cache_land; the value of a load of the id that is under way
+   will be its loader's own. NR_OWN while the id is being changed: it has no value then. */
+uint32_t nr_cache_put(nr_cache *cache, uint64_t id, uint64_t stamp, uint64_t value, nr_given *given);
+
+/* Takes an id's value, as after a write in the base: NR_EVICTED, or NR_NOTHING if it had none. The value of a load of
+   the id that is under way will be its loader's own. */
+uint32_t nr_cache_invalidate(nr_cache *cache, uint64_t id);
+
+/* Begins a change of an id in the base: NR_DONE, or NR_FULL if as many changes are under way as there is room for.
+   Until it ends, the values of loads of the id that are under way, or begin, are their loaders' own. What the id has
+   stays. */
+uint32_t nr_cache_begin_change(nr_cache *cache, uint64_t id);
+
+/* Ends one: NR_DONE, or NR_NOTHING if no change of the id is under way. */
+uint32_t nr_cache_end_change(nr_cache *cache, uint64_t id);
+
+/* Gives out a value that nobody can see any more: NR_GIVEN, and `given` tells it. NR_HELD if readers hold all that
+   wait, NR_NOTHING if none waits; both leave `given` as it was. */
+uint32_t nr_cache_reap(nr_cache *cache, nr_given *given);
 
 #ifdef __cplusplus
 }

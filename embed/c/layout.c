@@ -63,6 +63,24 @@ TAKES(nr_wanted_id, 8 + 8 + 8 + 255 * 16);
 LIES(nr_wanted_id, id, 0);
 LIES(nr_wanted_id, answer, 8);
 LIES(nr_wanted_id, rows, 16);
+TAKES(nr_cache_shape, 24);
+LIES(nr_cache_shape, groups, 0);
+LIES(nr_cache_shape, readers, 4);
+LIES(nr_cache_shape, flights, 8);
+LIES(nr_cache_shape, changes, 12);
+LIES(nr_cache_shape, key, 16);
+TAKES(nr_cache, 8);
+TAKES(nr_cache_reader, 8);
+TAKES(nr_cache_value, 16);
+LIES(nr_cache_value, stamp, 0);
+LIES(nr_cache_value, value, 8);
+TAKES(nr_flight, 16);
+LIES(nr_flight, number, 0);
+LIES(nr_flight, mark, 8);
+TAKES(nr_given, 24);
+LIES(nr_given, id, 0);
+LIES(nr_given, stamp, 8);
+LIES(nr_given, value, 16);
 
 static void wants(const char *what, uint64_t wanted, uint64_t got) {
   if (wanted == got) return;
@@ -75,7 +93,8 @@ static void test_struct_sizes(void) {
   const size_t sizes[] = {sizeof(nr_row), sizeof(nr_rows), sizeof(nr_wanted), sizeof(nr_delta), sizeof(nr_shape),
     sizeof(nr_size), sizeof(nr_slots), sizeof(nr_writer), sizeof(nr_reader), sizeof(nr_remains), sizeof(nr_taker),
     sizeof(nr_poster), sizeof(nr_id_shape), sizeof(nr_upquery), sizeof(nr_id_writer), sizeof(nr_id_reader),
-    sizeof(nr_wanted_id)};
+    sizeof(nr_wanted_id), sizeof(nr_cache_shape), sizeof(nr_cache), sizeof(nr_cache_reader), sizeof(nr_cache_value),
+    sizeof(nr_flight), sizeof(nr_given)};
   const uint32_t structs = sizeof sizes / sizeof sizes[0];
   for (uint32_t place = 0; place < structs; place++) wants("a struct's size", sizes[place], nr_struct_size(place));
   wants("no struct's size", 0, nr_struct_size(structs));
@@ -211,7 +230,7 @@ static void test_closing(void) {
 
 /* Each answer has words of its own, and the library is of this header's version. */
 static void test_words(void) {
-  const uint32_t answers = NR_ALL_ASKED + 1;
+  const uint32_t answers = NR_OWN + 1;
   for (uint32_t one = 0; one < answers; one++)
     for (uint32_t other = one + 1; other <= answers; other++)
       wants("two answers in the same words", 1, strcmp(nr_strerror(one), nr_strerror(other)) != 0);

@@ -119,6 +119,20 @@ static void call_ids(nr_id_writer *writer, nr_id_reader *reader) {
   want(nr_evict_id(writer, 1) == NR_EVICTED, "an eviction by id");
 }
 
+static void call_cache(nr_cache *cache, nr_cache_reader *reader) {
+  nr_cache_value found;
+  nr_flight flight;
+  nr_given given;
+  want(nr_cache_begin(cache, 1, 1, &flight) == NR_SEND, "a load");
+  want(nr_cache_land(cache, flight.number, 1, 5, &given) == NR_DONE, "a landing");
+  want(nr_cache_find(reader, 1, &found) == NR_ROWS && nr_cache_release(reader) == NR_DONE, "a find in a cache");
+  want(nr_cache_put(cache, 1, 1, 6, &given) == NR_DONE && nr_cache_reap(cache, &given) == NR_GIVEN, "a put");
+  want(nr_cache_begin_change(cache, 1) == NR_DONE && nr_cache_end_change(cache, 1) == NR_DONE, "a change");
+  want(nr_cache_invalidate(cache, 1) == NR_EVICTED && nr_cache_reap(cache, &given) == NR_GIVEN, "an invalidation");
+  want(nr_cache_begin(cache, 1, 1, &flight) == NR_SEND, "a second load");
+  want(nr_cache_fail(cache, flight.number, &flight) == NR_DONE, "a load that fails");
+}
+
 /* All openings with one refusal, after that many grants; whether there was one. */
 static bool refuse(long after) {
   const nr_shape shape = {3, 6, 2, 4, 0, 0};
@@ -129,6 +143,9 @@ static bool refuse(long after) {
   const nr_id_shape ids = {2, 8, 1, 4, 0, 0};
   nr_id_writer id_writer = {0};
   nr_id_reader id_reader = {0};
+  const nr_cache_shape cached = {2, 1, 1, 1, 0};
+  nr_cache cache = {0};
+  nr_cache_reader cache_reader = {0};
   refusals = 0;
   grants = after;
   while (again(nr_open(&shape, &writer), &writer.at, "a map")) {
@@ -144,10 +161,15 @@ static bool refuse(long after) {
   }
   while (again(nr_open_id_reader(&id_writer, &id_reader), &id_reader.at, "a reader by id")) {
   }
+  while (again(nr_open_cache(&cached, &cache), &cache.at, "a cache")) {
+  }
+  while (again(nr_open_cache_reader(&cache, &cache_reader), &cache_reader.at, "a reader of a cache")) {
+  }
   want(refusals == (grants < 0), "one answer of no memory for one refusal");
   long before = requests;
   call_all(&writer, &readers[0], &taker, &poster);
   call_ids(&id_writer, &id_reader);
+  call_cache(&cache, &cache_reader);
   want(nr_return_reader(&writer, &readers[1]) == NR_DONE, "a reader that is returned");
   want(nr_return_poster(&taker, &poster) == NR_DONE, "a poster that is returned");
   want(requests == before, "calls that ask for no memory");
@@ -157,13 +179,15 @@ static bool refuse(long after) {
   nr_close_taker(&taker);
   nr_close_id_reader(&id_reader);
   nr_close_id_writer(&id_writer);
+  nr_close_cache_reader(&cache_reader);
+  nr_close_cache(&cache);
   return refusals;
 }
 
 int main(void) {
   long refused = 0;
   while (refuse(refused)) refused++;
-  want(refused >= 5, "a request for memory by each opening");
+  want(refused >= 7, "a request for memory by each opening");
   puts("each refused request for memory was told, and was made again");
   return 0;
 }

@@ -9,14 +9,21 @@ use Rattle.nr_c.specs.Hands.{HoldsAnId, HoldsNoId}
 use Rattle.nr_c.specs.Live.{IsLive, RefusesHand, WhenLive}
 use Rattle.nr_c.specs.Numbers.{answer_closed, answer_holding, answer_no_key, answer_not_holding}
 
--- 0 is no id, which the code says, and nothing has changed
-abbrev pub RefusesZero : {Side : Type 0} → ℕ → Type 0 → List Side → List Side → ℕ → Type 0
-RefusesZero id stays before after code = (code ≡ answer_no_key) × (id ≡ 0) × stays × IsLive before × (after ≡ before)
+-- 0 is no such number, which the code says, and nothing has changed
+abbrev pub RefusesZero : {Side : Type 0} → ℕ → ℕ → Type 0 → List Side → List Side → ℕ → Type 0
+RefusesZero answer number stays before after code =
+    (code ≡ answer) × (number ≡ 0) × stays × IsLive before × (after ≡ before)
 
--- a call with an id: it is refused for 0, and else does what it does
+-- a call with a number above 0: it is refused for 0, and else does what it does
+abbrev pub WithNumber : {Side : Type 0} → ℕ → ℕ → Type 0 → (List Side → List Side → ℕ → Type 0) → List Side → List Side
+    → ℕ → Type 0
+WithNumber answer number stays does before after code =
+    RefusesZero answer number stays before after code ⊎ ((0 < number) × does before after code)
+
+-- and with an id
 abbrev pub WithId : {Side : Type 0} → ℕ → Type 0 → (List Side → List Side → ℕ → Type 0) → List Side → List Side → ℕ
     → Type 0
-WithId id stays does before after code = RefusesZero id stays before after code ⊎ ((0 < id) × does before after code)
+WithId id = WithNumber answer_no_key id
 
 -- a call of a reader that holds nothing, or of one that holds a set: it is refused by the other
 abbrev pub WhenIdleById : Type 0 → (List IdReaderSide → List IdReaderSide → ℕ → Type 0) → List IdReaderSide

@@ -41,3 +41,7 @@ pub mod IdWrites
 pub mod IdUpqueries
 pub mod IdInvalidations
 pub mod IdReclaims
+pub mod CacheReaderFollows
+pub mod CacheFollows
+pub mod CacheOpenings
+pub mod Caches

@@ -124,6 +124,9 @@ answer_stranger = 39
 abbrev pub answer_all_asked : ℕ
 answer_all_asked = 40
 
+abbrev pub answer_own : ℕ
+answer_own = 41
+
 -- the version 0.3.0, whose numbers have 8 bits each
 abbrev pub version : ℕ
 version = 768

@@ -134,6 +134,9 @@ pub const NR_STRANGER: u32 = 39;
 /// To a choice by id: each way of the group has an open upquery.
 pub const NR_ALL_ASKED: u32 = 40;
 
+/// To a value that a cache is given: it is the caller's own.
+pub const NR_OWN: u32 = 41;
+
 /// The number of a find's answer.
 pub fn of_found(found: Found) -> u32
     ensures { result ≡ found_code found }

@@ -107,8 +107,8 @@ pub extern "C" fn nr_open_id_reader(
     }
 }
 
-// A reader's side. The reader comes back where there is no memory.
-fn seated_by_id(
+/// A reader's side. The reader comes back where there is no memory.
+pub fn seated_by_id(
     alloc: Global,
     map: &Arc<IdMap, Global>,
     writers: &Watch,

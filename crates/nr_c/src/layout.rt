@@ -3,6 +3,10 @@
 ghost use Rattle.std.specs.Prelude.{◌≡◌};
 ghost use Rattle.nr_c.specs.Layout.{struct_size};
 
+use crate::cache_flight::NrFlight;
+use crate::cache_handle::NrCache;
+use crate::cache_reader_handle::NrCacheReader;
+use crate::cache_shape::NrCacheShape;
 use crate::id_many::NrWantedId;
 use crate::id_reader_handle::NrIdReader;
 use crate::id_shape::NrIdShape;
@@ -17,6 +21,7 @@ use crate::sizes::{NrShape, NrSizes};
 use crate::slots::NrSlots;
 use crate::taker_handle::NrTaker;
 use crate::writer_handle::NrWriter;
+use nr_cache::{FoundValue, GivenValue};
 use nr_model::{Delta, Row};
 use std::mem::{align_of, size_of};
 
@@ -54,6 +59,18 @@ const _: () = prove!(size_of::<NrIdReader>() == 8);
 
 const _: () = prove!(size_of::<NrWantedId>() == 8 + 8 + 8 + 255 * 16);
 
+const _: () = prove!(size_of::<NrCacheShape>() == 24);
+
+const _: () = prove!(size_of::<NrCache>() == 8);
+
+const _: () = prove!(size_of::<NrCacheReader>() == 8);
+
+const _: () = prove!(size_of::<FoundValue>() == 16);
+
+const _: () = prove!(size_of::<NrFlight>() == 16);
+
+const _: () = prove!(size_of::<GivenValue>() == 24);
+
 const _: () = prove!(align_of::<NrRows>() == 8);
 
 /// How many bytes the struct takes that has this place among the header's, from 0; 0 beyond the last. No step.
@@ -79,6 +96,12 @@ pub extern "C" fn nr_struct_size(place: u32) -> u32
         14 => size_of::<NrIdWriter>(),
         15 => size_of::<NrIdReader>(),
         16 => size_of::<NrWantedId>(),
+        17 => size_of::<NrCacheShape>(),
+        18 => size_of::<NrCache>(),
+        19 => size_of::<NrCacheReader>(),
+        20 => size_of::<FoundValue>(),
+        21 => size_of::<NrFlight>(),
+        22 => size_of::<GivenValue>(),
         _ => 0,
     };
     size as u32

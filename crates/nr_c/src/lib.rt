@@ -11,6 +11,18 @@
 //! What costs next to nothing to test is tested, as whether a handle is live and a key one of the map's.
 #![tactic(auto)]
 
+mod cache_codes;
+mod cache_finds;
+mod cache_flight;
+mod cache_flights;
+mod cache_handle;
+mod cache_lend;
+mod cache_open;
+mod cache_reader_handle;
+mod cache_reader_lend;
+mod cache_shape;
+mod cache_side;
+mod cache_values;
 mod codes;
 mod handle;
 mod handle_lend;

@@ -4,6 +4,7 @@ mod Brought
 mod InOrder
 mod Quiets
 mod LastCalls
+mod Shown
 mod Gone
 mod Admitting
 mod Placing

@@ -9,4 +9,5 @@ pub mod Swaps
 pub mod Counts
 pub mod StoreRuns
 pub mod Finds
+pub mod GivenValues
 pub mod Openings

@@ -7,6 +7,7 @@ use nr_idmap::{FoundId, IdHand, IdMap};
 use nr_model::Row;
 
 /// A value that a reader holds, with the stamp that it came with.
+#[repr(C)]
 #[derive(Clone, Copy, Debug, PartialEq, Eq)]
 pub struct FoundValue {
     pub stamp: u64,

@@ -1,0 +1,14 @@
+use Rattle.std.proofs.Common.{ap, inr, refl, sym, ◌∙◌}
+use Rattle.nr_c.proofs.cache_flights.nr_cache_fail.Goals as goal
+
+pub returns : goal.returns
+returns c = inr (record {
+  old = c.side-side.result.now;
+  new = _;
+  was = ap (λ handle. handle.live) (sym c.is_live.ensures.same) ∙ c.side-side.ensures.value;
+  is = refl;
+  map = refl;
+  watch = refl;
+  spare = refl;
+  made = (c.fail-ended.result, c.of_ended.ensures.code, c.fail-ended.ensures, c.of_ended.ensures.told);
+})

@@ -1,0 +1,7 @@
+use Rattle.std.proofs.Common.{ap, sym, ◌∙◌}
+use Rattle.nr_c.proofs.cache_reader_handle.NrCacheReader.close.Goals as goal
+
+pub take-requires : goal.take-requires
+take-requires c =
+    let (side, is) = c.requires in
+    (side, sym (ap (λ handle. handle.live) c.handle.ensures.value) ∙ is)

@@ -1,0 +1,115 @@
+-- A cache as C calls it.
+use Rattle.std.specs.Prelude.{ℕ, ◌≡◌, Bool, if◌then◌else◌, List, [], ◌∷◌, Option, Some, None}
+use Rattle.nr_board.specs.declared.answers.Reaped.{Reaped}
+use Rattle.nr_cache.specs.declared.finds.FoundValue.{FoundValue}
+use Rattle.nr_cache.specs.declared.flights.Flight.{Flight}
+use Rattle.nr_cache.specs.declared.given.GivenValue.{GivenValue}
+use Rattle.nr_cache.specs.declared.store.Begun.{Begun}
+use Rattle.nr_cache.specs.declared.store.Begun.TheVariants as begun
+use Rattle.nr_cache.specs.declared.store.Landed.{Landed}
+use Rattle.nr_cache.specs.declared.store.Landed.TheVariants as landed
+use Rattle.nr_cache.specs.Finds.{FindsValue}
+use Rattle.nr_cache.specs.Flights.{EndsChange}
+use Rattle.nr_cache.specs.GivenValues.{ShowsValue}
+use Rattle.nr_cache.specs.StoreSeen.{StoreSeen}
+use Rattle.nr_cache.specs.Stores.{BeginsFlight, ChangesId, Fails, Invalidates, Lands, Puts, Reaps}
+use Rattle.nr_idmap.specs.IdHands.{IdHanded}
+use Rattle.nr_c.specs.declared.cache_flight.NrFlight.{NrFlight}
+use Rattle.nr_c.specs.declared.cache_side.CacheSide.{CacheSide}
+use Rattle.nr_c.specs.Codes.{reaped_code, reclaimed_code}
+use Rattle.nr_c.specs.Numbers.{answer_done, answer_evicted, answer_full, answer_hole, answer_nothing, answer_own}
+use Rattle.nr_c.specs.Numbers.{answer_rows, answer_send, answer_waiting}
+
+-- the handle leads to one side, of the same map, whose store made the call; its readers without a handle stay, and it
+-- isn't closed
+pub record CacheCalls (became : StoreSeen → StoreSeen → ℕ → Type 0) (before after : List CacheSide) (code : ℕ) : Type
+    0 where
+  pub old : CacheSide
+  pub new : CacheSide
+  pub was : before ≡ old ∷ []
+  pub is : after ≡ new ∷ []
+  pub map : new.map ≡ old.map
+  pub watch : new.watch ≡ old.watch
+  pub spare : new.spare ≡ old.spare
+  pub made : became old.store new.store code
+
+-- A FIND
+abbrev pub found_value_code : Option FoundValue → ℕ
+found_value_code (Some found) = answer_rows
+found_value_code None = answer_hole
+
+-- the value that was found, or what stood there
+abbrev pub value_told : FoundValue → Option FoundValue → FoundValue
+value_told stood (Some found) = found
+value_told stood None = stood
+
+abbrev pub FindsValueByCode : ℕ → FoundValue → FoundValue → IdHanded → IdHanded → ℕ → Type 0
+FindsValueByCode id stood stands old new code =
+    (value : Option FoundValue) × (code ≡ found_value_code value) × FindsValue id old new value
+    × (stands ≡ value_told stood value)
+
+-- A MISS, AND A FLIGHT'S END WITHOUT A VALUE
+abbrev pub flight_of : Flight → NrFlight
+flight_of flight = record { number = flight.number; mark = flight.mark }
+
+abbrev pub begun_code : Begun → ℕ
+begun_code begun.Held = answer_rows
+begun_code (begun.Wait flight) = answer_waiting
+begun_code (begun.Load flight) = answer_send
+begun_code begun.Alone = answer_full
+
+-- the flight that is told, or what stood there
+abbrev pub begun_told : NrFlight → Begun → NrFlight
+begun_told stood begun.Held = stood
+begun_told stood (begun.Wait flight) = flight_of flight
+begun_told stood (begun.Load flight) = flight_of flight
+begun_told stood begun.Alone = stood
+
+abbrev pub BeginsByCode : ℕ → ℕ → NrFlight → NrFlight → StoreSeen → StoreSeen → ℕ → Type 0
+BeginsByCode id mark stood stands old new code =
+    (answer : Begun) × (code ≡ begun_code answer) × BeginsFlight id mark old new answer
+    × (stands ≡ begun_told stood answer)
+
+abbrev pub ended_code : Option Flight → ℕ
+ended_code (Some flight) = answer_done
+ended_code None = answer_nothing
+
+abbrev pub flight_told : NrFlight → Option Flight → NrFlight
+flight_told stood (Some flight) = flight_of flight
+flight_told stood None = stood
+
+abbrev pub FailsByCode : ℕ → NrFlight → NrFlight → StoreSeen → StoreSeen → ℕ → Type 0
+FailsByCode number stood stands old new code =
+    (ended : Option Flight) × (code ≡ ended_code ended) × Fails number old new ended
+    × (stands ≡ flight_told stood ended)
+
+-- CHANGES OF THE BASE
+abbrev pub ChangesByCode : ℕ → StoreSeen → StoreSeen → ℕ → Type 0
+ChangesByCode id old new code =
+    (begun : Bool) × (code ≡ (if begun then answer_done else answer_full)) × ChangesId id old new begun
+
+abbrev pub EndsChangeByCode : ℕ → StoreSeen → StoreSeen → ℕ → Type 0
+EndsChangeByCode id old new code =
+    (ended : Bool) × (code ≡ (if ended then answer_done else answer_nothing))
+    × EndsChange id old.underway new.underway ended × (new ≡ record old { underway = new.underway })
+
+-- VALUES
+abbrev pub landed_code : Landed → ℕ
+landed_code (landed.Held given) = reclaimed_code given
+landed_code landed.Own = answer_own
+
+abbrev pub LandsByCode : ℕ → ℕ → ℕ → GivenValue → GivenValue → StoreSeen → StoreSeen → ℕ → Type 0
+LandsByCode number stamp value before after old new code =
+    (answer : Landed) × (code ≡ landed_code answer) × Lands ShowsValue number stamp value old before new after answer
+
+abbrev pub PutsByCode : ℕ → ℕ → ℕ → GivenValue → GivenValue → StoreSeen → StoreSeen → ℕ → Type 0
+PutsByCode id stamp value before after old new code =
+    (answer : Landed) × (code ≡ landed_code answer) × Puts ShowsValue id stamp value old before new after answer
+
+abbrev pub InvalidatesByCode : ℕ → StoreSeen → StoreSeen → ℕ → Type 0
+InvalidatesByCode id old new code =
+    (had : Bool) × (code ≡ (if had then answer_evicted else answer_nothing)) × Invalidates id old new had
+
+abbrev pub ReapsByCode : GivenValue → GivenValue → StoreSeen → StoreSeen → ℕ → Type 0
+ReapsByCode before after old new code =
+    (answer : Reaped) × (code ≡ reaped_code answer) × Reaps ShowsValue old before new after answer

@@ -1,0 +1,54 @@
+//! A cache's handle. Its type has no parameter, so that C may hold it, and all that is done with it is
+//! done with the `Handle` that it is lent as.
+ghost use Rattle.std.specs.Prelude.{◌≡◌, List, [], ◌∷◌};
+ghost use Rattle.std.specs.Bool.{OnFalse, OnTrue};
+ghost use base.Stored.{coded_list};
+ghost use Rattle.nr_c.specs.contracts.cache_side.CacheSide.{the_row};
+ghost use Rattle.nr_c.specs.declared.cache_side.CacheSide.{CacheSide};
+ghost use Rattle.nr_c.specs.Handles.{handle_owns, side_coded};
+
+use crate::cache_side::CacheSide;
+use std::alloc::Global;
+use std::marker::Model;
+
+/// C starts one as zeros, which leads nowhere, as does one that was closed; it never copies one that
+/// leads somewhere. It can't be dropped: its owner ends what it leads to. That it may go to another
+/// thread isn't shown: the kit shows it of no type that can't be dropped, as a store's.
+#[repr(C)]
+pub struct NrCache {
+    ptr: *mut u8,
+    alloc: Global,
+    pub ghost live: { List CacheSide } by { coded_list (side_coded the_row) },
+}
+
+impl Model for NrCache {
+    ghost also_owns = { λ s. handle_owns the_row s.alloc s.ptr s.live };
+}
+
+impl NrCache {
+    /// Makes an empty handle lead to a side.
+    pub fn lead_to(&mut self, b: Box<CacheSide, Global>)
+        requires empty { self.old.live ≡ [] }
+        ensures { self.new.live ≡ b.value ∷ [] }
+    {
+        self.handle().lead_to(b)
+    }
+
+    /// Whether it leads somewhere.
+    pub fn is_live(&mut self) -> bool
+        ensures same { self.new ≡ self.old }
+        ensures live { OnTrue result ((side : CacheSide) × (self.new.live ≡ side ∷ [])) }
+        ensures empty { OnFalse result (self.new.live ≡ []) }
+    {
+        self.handle().is_live()
+    }
+
+    /// Gives back what the handle leads to. It leads nowhere then.
+    pub fn close(&mut self, alloc: Global) -> CacheSide
+        requires { (side : CacheSide) × (self.old.live ≡ side ∷ []) }
+        ensures ends { (side : CacheSide) → self.old.live ≡ side ∷ [] → result ≡ side }
+        ensures empty { self.new.live ≡ [] }
+    {
+        Box::into_inner(self.handle().take(alloc))
+    }
+}

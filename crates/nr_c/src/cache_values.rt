@@ -1,0 +1,93 @@
+//! How values come into a cache, and out of it. One thread at a time.
+ghost use Rattle.std.specs.Prelude.{◌≡◌, ⊤};
+ghost use Rattle.nr_c.specs.Caches.{CacheCalls, InvalidatesByCode, LandsByCode, PutsByCode, ReapsByCode};
+ghost use Rattle.nr_c.specs.IdLive.{WithId, WithNumber};
+ghost use Rattle.nr_c.specs.Live.{WhenLive};
+ghost use Rattle.nr_c.specs.Numbers.{answer_bad_row};
+
+use crate::cache_codes::{either, of_landed};
+use crate::cache_handle::NrCache;
+use crate::codes::{NR_BAD_ROW, NR_CLOSED, NR_EVICTED, NR_NO_KEY, NR_NOTHING, of_reaped};
+use nr_cache::GivenValue;
+
+/// Ends the flight of that number by its value, with a stamp above 0. It is held unless its id was invalidated, put
+/// or changed since the flight began, or was being changed then: `NR_DONE`, or `NR_GIVEN` where a value that nobody
+/// can see any more came out, and `given` tells it. `NR_OWN` where it is the caller's own, and `given` stays.
+/// `NR_BAD_ROW` for the stamp 0.
+#[unsafe(no_mangle)]
+pub extern "C" fn nr_cache_land(
+    cache: &mut NrCache,
+    number: u64,
+    stamp: u64,
+    value: u64,
+    given: &mut GivenValue,
+) -> u32
+    ensures { WhenLive (given.new ≡ given.old) (WithNumber answer_bad_row stamp (given.new ≡ given.old) (CacheCalls (LandsByCode number stamp value given.old given.new))) cache.old.live cache.new.live result }
+{
+    if !cache.is_live() {
+        return NR_CLOSED;
+    }
+    if stamp == 0 {
+        return NR_BAD_ROW;
+    }
+    let side = cache.side();
+    let landed = side.store.land(&side.map, number, stamp, value, given);
+    of_landed(landed)
+}
+
+/// Puts a value, with a stamp above 0, in place of what the id has; its flight is outdated. Answers as
+/// `nr_cache_land`; while the id is being changed the value is the caller's own, and the id has none. `NR_NO_KEY`
+/// for the id 0.
+#[unsafe(no_mangle)]
+pub extern "C" fn nr_cache_put(
+    cache: &mut NrCache,
+    id: u64,
+    stamp: u64,
+    value: u64,
+    given: &mut GivenValue,
+) -> u32
+    ensures { WhenLive (given.new ≡ given.old) (WithId id (given.new ≡ given.old) (WithNumber answer_bad_row stamp (given.new ≡ given.old) (CacheCalls (PutsByCode id stamp value given.old given.new)))) cache.old.live cache.new.live result }
+{
+    if !cache.is_live() {
+        return NR_CLOSED;
+    }
+    if id == 0 {
+        return NR_NO_KEY;
+    }
+    if stamp == 0 {
+        return NR_BAD_ROW;
+    }
+    let side = cache.side();
+    let landed = side.store.put(&side.map, id, stamp, value, given);
+    of_landed(landed)
+}
+
+/// Takes an id's value, and outdates its flight, as after a write in the base: `NR_EVICTED`; or `NR_NOTHING` where it
+/// had none. `NR_NO_KEY` for the id 0.
+#[unsafe(no_mangle)]
+pub extern "C" fn nr_cache_invalidate(cache: &mut NrCache, id: u64) -> u32
+    ensures { WhenLive ⊤ (WithId id ⊤ (CacheCalls (InvalidatesByCode id))) cache.old.live cache.new.live result }
+{
+    if !cache.is_live() {
+        return NR_CLOSED;
+    }
+    if id == 0 {
+        return NR_NO_KEY;
+    }
+    let side = cache.side();
+    let had = side.store.invalidate(&side.map, id);
+    either(had, NR_EVICTED, NR_NOTHING)
+}
+
+/// Gives out a value that nobody can see any more, where no reader holds it: `NR_GIVEN`, and `given` tells it.
+/// `NR_HELD` where readers hold all that wait, and `NR_NOTHING` where none waits; then `given` stays.
+#[unsafe(no_mangle)]
+pub extern "C" fn nr_cache_reap(cache: &mut NrCache, given: &mut GivenValue) -> u32
+    ensures { WhenLive (given.new ≡ given.old) (CacheCalls (ReapsByCode given.old given.new)) cache.old.live cache.new.live result }
+{
+    if !cache.is_live() {
+        return NR_CLOSED;
+    }
+    let side = cache.side();
+    of_reaped(side.store.reap(&side.map, given))
+}

@@ -1,0 +1,223 @@
+/* A cache of numbers by ids: each function gives each of its answers, and what an answer leaves as it was stays. */
+#include "../../include/nr.h"
+#include <stdbool.h>
+#include <stdio.h>
+#include <stdlib.h>
+
+#define WANTS(answer, call) wants(answer, call, #call)
+#define IS(what) is(what, #what)
+
+enum { USER = 7, OTHER = 8 };
+
+static nr_cache cache;
+static nr_cache_reader reader, second;
+static nr_cache_value found;
+static nr_flight flight;
+static nr_given given;
+
+static void wants(uint32_t wanted, uint32_t got, const char *call) {
+  if (wanted == got) return;
+  fprintf(stderr, "caches: %s: wanted \"%s\", got \"%s\"\n", call, nr_strerror(wanted), nr_strerror(got));
+  exit(1);
+}
+
+static void is(bool is_so, const char *what) {
+  if (is_so) return;
+  fprintf(stderr, "caches: not so: %s\n", what);
+  exit(1);
+}
+
+static bool has(uint64_t id, uint64_t stamp, uint64_t value) {
+  bool is_there = nr_cache_find(&reader, id, &found) == NR_ROWS && found.stamp == stamp && found.value == value;
+  if (is_there) WANTS(NR_DONE, nr_cache_release(&reader));
+  return is_there;
+}
+
+static bool lacks(uint64_t id) {
+  found = (nr_cache_value){1, 2};
+  return nr_cache_find(&reader, id, &found) == NR_HOLE && found.stamp == 1 && found.value == 2;
+}
+
+static bool came_out(uint64_t id, uint64_t stamp, uint64_t value) {
+  return given.id == id && given.stamp == stamp && given.value == value;
+}
+
+/* The load of an id that has neither value nor load. */
+static uint64_t begun(uint64_t id, uint64_t mark) {
+  WANTS(NR_SEND, nr_cache_begin(&cache, id, mark, &flight));
+  IS(flight.mark == mark);
+  return flight.number;
+}
+
+static void test_miss(void) {
+  IS(lacks(USER));
+  uint64_t number = begun(USER, 55);
+  flight = (nr_flight){0, 0};
+  WANTS(NR_WAITING, nr_cache_begin(&cache, USER, 66, &flight));
+  IS(flight.number == number && flight.mark == 55);
+  given = (nr_given){1, 2, 3};
+  WANTS(NR_DONE, nr_cache_land(&cache, number, 9, 100, &given));
+  IS(came_out(1, 2, 3) && has(USER, 9, 100));
+  flight = (nr_flight){3, 4};
+  WANTS(NR_ROWS, nr_cache_begin(&cache, USER, 66, &flight));
+  IS(flight.number == 3 && flight.mark == 4);
+  /* It has landed. */
+  WANTS(NR_OWN, nr_cache_land(&cache, number, 9, 101, &given));
+  WANTS(NR_NOTHING, nr_cache_fail(&cache, number, &flight));
+  IS(came_out(1, 2, 3) && flight.number == 3 && has(USER, 9, 100));
+}
+
+static void test_failure(void) {
+  uint64_t number = begun(OTHER, 5);
+  flight = (nr_flight){0, 0};
+  WANTS(NR_DONE, nr_cache_fail(&cache, number, &flight));
+  IS(flight.number == number && flight.mark == 5 && lacks(OTHER));
+  IS(begun(OTHER, 6) == number + 1);
+  WANTS(NR_DONE, nr_cache_fail(&cache, number + 1, &flight));
+}
+
+/* What was queried before a write in the base isn't held. */
+static void test_invalidation(void) {
+  WANTS(NR_EVICTED, nr_cache_invalidate(&cache, USER));
+  IS(lacks(USER));
+  WANTS(NR_NOTHING, nr_cache_invalidate(&cache, USER));
+  uint64_t number = begun(USER, 1);
+  WANTS(NR_NOTHING, nr_cache_invalidate(&cache, USER));
+  WANTS(NR_OWN, nr_cache_land(&cache, number, 9, 102, &given));
+  IS(lacks(USER));
+  WANTS(NR_GIVEN, nr_cache_reap(&cache, &given));
+  IS(came_out(USER, 9, 100));
+  WANTS(NR_NOTHING, nr_cache_reap(&cache, &given));
+  IS(came_out(USER, 9, 100));
+}
+
+static void test_change(void) {
+  uint64_t before = begun(USER, 1);
+  WANTS(NR_DONE, nr_cache_begin_change(&cache, USER));
+  WANTS(NR_OWN, nr_cache_land(&cache, before, 9, 103, &given));
+  uint64_t within = begun(USER, 2);
+  WANTS(NR_OWN, nr_cache_land(&cache, within, 9, 104, &given));
+  WANTS(NR_OWN, nr_cache_put(&cache, USER, 9, 105, &given));
+  IS(lacks(USER));
+  WANTS(NR_DONE, nr_cache_begin_change(&cache, OTHER));
+  WANTS(NR_FULL, nr_cache_begin_change(&cache, OTHER));
+  WANTS(NR_DONE, nr_cache_end_change(&cache, USER));
+  WANTS(NR_NOTHING, nr_cache_end_change(&cache, USER));
+  WANTS(NR_DONE, nr_cache_end_change(&cache, OTHER));
+  WANTS(NR_DONE, nr_cache_land(&cache, begun(USER, 3), 9, 106, &given));
+  IS(has(USER, 9, 106));
+}
+
+/* A value that a reader holds doesn't come out until it lets go, whatever happens to the id. */
+static void test_hold(void) {
+  WANTS(NR_NOT_HOLDING, nr_cache_release(&reader));
+  WANTS(NR_ROWS, nr_cache_find(&reader, USER, &found));
+  WANTS(NR_DONE, nr_cache_put(&cache, USER, 10, 107, &given));
+  WANTS(NR_HELD, nr_cache_reap(&cache, &given));
+  WANTS(NR_ROWS, nr_cache_find(&second, USER, &found));
+  IS(found.stamp == 10 && found.value == 107);
+  WANTS(NR_DONE, nr_cache_release(&reader));
+  WANTS(NR_GIVEN, nr_cache_reap(&cache, &given));
+  IS(came_out(USER, 9, 106));
+  /* A find lets go what the reader held before. */
+  WANTS(NR_HOLE, nr_cache_find(&second, OTHER, &found));
+  WANTS(NR_NOT_HOLDING, nr_cache_release(&second));
+}
+
+static void test_room(void) {
+  uint64_t first = begun(100, 1), other = begun(101, 2);
+  flight = (nr_flight){3, 4};
+  WANTS(NR_FULL, nr_cache_begin(&cache, 102, 3, &flight));
+  IS(flight.number == 3 && flight.mark == 4);
+  WANTS(NR_DONE, nr_cache_fail(&cache, first, &flight));
+  WANTS(NR_DONE, nr_cache_fail(&cache, other, &flight));
+}
+
+/* Once the cache is full, a landing makes room, and each value comes out once. */
+static void test_full(void) {
+  enum { VALUES = 100 };
+  unsigned out[VALUES] = {0}, are_there = 0;
+  WANTS(NR_EVICTED, nr_cache_invalidate(&cache, USER));
+  while (nr_cache_reap(&cache, &given) == NR_GIVEN) {
+  }
+  for (uint64_t id = 1; id <= VALUES; id++) {
+    uint32_t answer = nr_cache_land(&cache, begun(id, id), 1, 1000 + id, &given);
+    if (answer != NR_GIVEN) WANTS(NR_DONE, answer);
+    if (answer == NR_GIVEN) out[given.id - 1]++;
+    while (nr_cache_reap(&cache, &given) == NR_GIVEN) out[given.id - 1]++;
+  }
+  for (uint64_t id = 1; id <= VALUES; id++) {
+    bool is_there = nr_cache_find(&reader, id, &found) == NR_ROWS;
+    IS(!is_there || found.value == 1000 + id);
+    IS(out[id - 1] == !is_there);
+    are_there += is_there;
+  }
+  IS(are_there == 8);
+  nr_cache_release(&reader);
+}
+
+static void test_refusals(void) {
+  WANTS(NR_NO_KEY, nr_cache_find(&reader, 0, &found));
+  WANTS(NR_NO_KEY, nr_cache_begin(&cache, 0, 1, &flight));
+  WANTS(NR_NO_KEY, nr_cache_put(&cache, 0, 0, 1, &given));
+  WANTS(NR_NO_KEY, nr_cache_invalidate(&cache, 0));
+  WANTS(NR_NO_KEY, nr_cache_begin_change(&cache, 0));
+  WANTS(NR_NO_KEY, nr_cache_end_change(&cache, 0));
+  WANTS(NR_BAD_ROW, nr_cache_put(&cache, 1, 0, 1, &given));
+  uint64_t number = begun(200, 1);
+  WANTS(NR_BAD_ROW, nr_cache_land(&cache, number, 0, 1, &given));
+  WANTS(NR_DONE, nr_cache_fail(&cache, number, &flight));
+}
+
+static void test_openings(const nr_cache_shape *shape) {
+  nr_cache_reader third = {0};
+  nr_cache none = {0};
+  WANTS(NR_LIVE, nr_open_cache(shape, &cache));
+  WANTS(NR_LIVE, nr_open_cache_reader(&cache, &reader));
+  WANTS(NR_NO_READER, nr_open_cache_reader(&cache, &third));
+  WANTS(NR_CLOSED, nr_open_cache_reader(&none, &third));
+  const nr_cache_shape bad[] = {{0, 1, 1, 1, 0}, {516001, 1, 1, 1, 0}, {1, 0, 1, 1, 0}, {1, 65534, 1, 1, 0}};
+  for (size_t at = 0; at < sizeof bad / sizeof *bad; at++) WANTS(NR_BAD_SIZE, nr_open_cache(&bad[at], &none));
+  WANTS(NR_CLOSED, nr_cache_begin(&none, 1, 1, &flight));
+  WANTS(NR_CLOSED, nr_cache_find(&third, 1, &found));
+  WANTS(NR_CLOSED, nr_cache_release(&third));
+  WANTS(NR_CLOSED, nr_cache_release(NULL));
+  WANTS(NR_CLOSED, nr_cache_invalidate(NULL, 1));
+}
+
+/* What readers find stays found, and no other id is. */
+static void test_closed(void) {
+  WANTS(NR_DONE, nr_cache_put(&cache, USER, 1, 5, &given));
+  nr_close_cache(&cache);
+  nr_close_cache(&cache);
+  IS(has(USER, 1, 5));
+  WANTS(NR_CLOSED, nr_cache_find(&reader, OTHER, &found));
+  WANTS(NR_CLOSED, nr_cache_land(&cache, 1, 1, 1, &given));
+  WANTS(NR_CLOSED, nr_cache_fail(&cache, 1, &flight));
+  WANTS(NR_CLOSED, nr_cache_put(&cache, 1, 1, 1, &given));
+  WANTS(NR_CLOSED, nr_cache_begin_change(&cache, 1));
+  WANTS(NR_CLOSED, nr_cache_end_change(&cache, 1));
+  WANTS(NR_CLOSED, nr_cache_reap(&cache, &given));
+  nr_close_cache_reader(&reader);
+  nr_close_cache_reader(&second);
+  nr_close_cache_reader(&second);
+}
+
+int main(void) {
+  const nr_cache_shape shape = {.groups = 1, .readers = 2, .flights = 2, .changes = 2, .key = 0};
+  WANTS(NR_DONE, nr_open_cache(&shape, &cache));
+  WANTS(NR_DONE, nr_open_cache_reader(&cache, &reader));
+  WANTS(NR_DONE, nr_open_cache_reader(&cache, &second));
+  test_openings(&shape);
+  test_miss();
+  test_failure();
+  test_invalidation();
+  test_change();
+  test_hold();
+  test_room();
+  test_full();
+  test_refusals();
+  test_closed();
+  puts("each answer of a cache came");
+  return 0;
+}
