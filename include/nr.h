@@ -277,6 +277,13 @@ typedef struct nr_cache_value {
   uint64_t value;
 } nr_cache_value;
 
+/* How many values a cache holds, and how many loads and changes are under way. */
+typedef struct nr_cache_counts {
+  uint64_t values;
+  uint64_t flights;
+  uint64_t changes;
+} nr_cache_counts;
+
 /* A load of an id that is under way: which of all it is, from 1 on, and the number that it was begun with. */
 typedef struct nr_flight {
   uint64_t number;
@@ -693,7 +700,7 @@ uint32_t nr_open_cache_reader(nr_cache *cache, nr_cache_reader *reader);
 
 /* End a handle, which is then zeros; if it isn't live, they do nothing. A reader lets go what it holds, and no handle
    gets it again. Closing the cache ends the loads that are under way and tells the readers; the last handle frees the
-   memory. What is still held does not come out then: invalidate it, and reap, before. */
+   memory. What the cache still holds doesn't come out then: nr_cache_invalidate_all, and reap, before. */
 void nr_close_cache_reader(nr_cache_reader *reader);
 void nr_close_cache(nr_cache *cache);
 
@@ -724,9 +731,24 @@ uint32_t nr_cache_fail(nr_cache *cache, uint64_t number, nr_flight *flight);
    will be its loader's own. NR_OWN while the id is being changed: it has no value then. */
 uint32_t nr_cache_put(nr_cache *cache, uint64_t id, uint64_t stamp, uint64_t value, nr_given *given);
 
+/* Puts a value in place of the id's where that is `old` still, as nr_cache_put. NR_OTHER if the id has another value,
+   NR_HOLE if it has none: nothing else happened, and `given` stays as it was. */
+uint32_t nr_cache_swap(nr_cache *cache, uint64_t id, uint64_t old, uint64_t stamp, uint64_t value, nr_given *given);
+
+/* The cache's own find, by which nothing is held: NR_ROWS, and `found` has the value; NR_HOLE if the id has none, and
+   `found` stays as it was. */
+uint32_t nr_cache_look(nr_cache *cache, uint64_t id, nr_cache_value *found);
+
 /* Takes an id's value, as after a write in the base: NR_EVICTED, or NR_NOTHING if it had none. The value of a load of
    the id that is under way will be its loader's own. */
 uint32_t nr_cache_invalidate(nr_cache *cache, uint64_t id);
+
+/* Takes the value of every id, and outdates every load that is under way: NR_DONE. Changes stay under way. */
+uint32_t nr_cache_invalidate_all(nr_cache *cache);
+
+/* Takes an id's value to make room, and nothing else: NR_EVICTED, or NR_NOTHING if it had none. The value of a load of
+   the id that is under way will be held. */
+uint32_t nr_cache_evict(nr_cache *cache, uint64_t id);
 
 /* Begins a change of an id in the base: NR_DONE, or NR_FULL if as many changes are under way as there is room for.
    Until it ends, the values of loads of the id that are under way, or begin, are their loaders' own. What the id has
@@ -739,6 +761,9 @@ uint32_t nr_cache_end_change(nr_cache *cache, uint64_t id);
 /* Gives out a value that nobody can see any more: NR_GIVEN, and `given` tells it. NR_HELD if readers hold all that
    wait, NR_NOTHING if none waits; both leave `given` as it was. */
 uint32_t nr_cache_reap(nr_cache *cache, nr_given *given);
+
+/* Counts, in 1 step: NR_DONE. */
+uint32_t nr_cache_count(nr_cache *cache, nr_cache_counts *counts);
 
 #ifdef __cplusplus
 }

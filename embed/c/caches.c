@@ -124,6 +124,54 @@ static void test_hold(void) {
   WANTS(NR_NOT_HOLDING, nr_cache_release(&second));
 }
 
+/* A value in place of one that is there still. */
+static void test_swap(void) {
+  given = (nr_given){1, 2, 3};
+  WANTS(NR_HOLE, nr_cache_swap(&cache, OTHER, 1, 9, 2, &given));
+  WANTS(NR_OTHER, nr_cache_swap(&cache, USER, 1, 9, 2, &given));
+  IS(came_out(1, 2, 3) && has(USER, 10, 107) && lacks(OTHER));
+  WANTS(NR_DONE, nr_cache_swap(&cache, USER, 107, 11, 108, &given));
+  IS(has(USER, 11, 108));
+  WANTS(NR_DONE, nr_cache_begin_change(&cache, USER));
+  WANTS(NR_OWN, nr_cache_swap(&cache, USER, 108, 12, 109, &given));
+  IS(lacks(USER));
+  WANTS(NR_DONE, nr_cache_end_change(&cache, USER));
+  WANTS(NR_DONE, nr_cache_put(&cache, USER, 13, 110, &given));
+}
+
+/* A look tells what is there, and a count how much. */
+static void test_looks(void) {
+  nr_cache_counts counts;
+  found = (nr_cache_value){1, 2};
+  WANTS(NR_HOLE, nr_cache_look(&cache, OTHER, &found));
+  IS(found.stamp == 1 && found.value == 2);
+  WANTS(NR_ROWS, nr_cache_look(&cache, USER, &found));
+  IS(found.stamp == 13 && found.value == 110);
+  uint64_t number = begun(OTHER, 1);
+  WANTS(NR_DONE, nr_cache_begin_change(&cache, 9));
+  WANTS(NR_DONE, nr_cache_count(&cache, &counts));
+  IS(counts.values == 1 && counts.flights == 1 && counts.changes == 1);
+  WANTS(NR_DONE, nr_cache_end_change(&cache, 9));
+  /* An eviction leaves the load, whose value is held. */
+  WANTS(NR_NOTHING, nr_cache_evict(&cache, OTHER));
+  WANTS(NR_EVICTED, nr_cache_evict(&cache, USER));
+  WANTS(NR_DONE, nr_cache_land(&cache, number, 1, 111, &given));
+  IS(lacks(USER) && has(OTHER, 1, 111));
+}
+
+static void test_all(void) {
+  nr_cache_counts counts;
+  WANTS(NR_DONE, nr_cache_put(&cache, USER, 1, 112, &given));
+  uint64_t number = begun(9, 1);
+  WANTS(NR_DONE, nr_cache_invalidate_all(&cache));
+  IS(lacks(USER) && lacks(OTHER));
+  WANTS(NR_OWN, nr_cache_land(&cache, number, 1, 113, &given));
+  while (nr_cache_reap(&cache, &given) == NR_GIVEN) {
+  }
+  WANTS(NR_DONE, nr_cache_count(&cache, &counts));
+  IS(!counts.values && !counts.flights && !counts.changes);
+}
+
 static void test_room(void) {
   uint64_t first = begun(100, 1), other = begun(101, 2);
   flight = (nr_flight){3, 4};
@@ -137,9 +185,6 @@ static void test_room(void) {
 static void test_full(void) {
   enum { VALUES = 100 };
   unsigned out[VALUES] = {0}, are_there = 0;
-  WANTS(NR_EVICTED, nr_cache_invalidate(&cache, USER));
-  while (nr_cache_reap(&cache, &given) == NR_GIVEN) {
-  }
   for (uint64_t id = 1; id <= VALUES; id++) {
     uint32_t answer = nr_cache_land(&cache, begun(id, id), 1, 1000 + id, &given);
     if (answer != NR_GIVEN) WANTS(NR_DONE, answer);
@@ -160,10 +205,14 @@ static void test_refusals(void) {
   WANTS(NR_NO_KEY, nr_cache_find(&reader, 0, &found));
   WANTS(NR_NO_KEY, nr_cache_begin(&cache, 0, 1, &flight));
   WANTS(NR_NO_KEY, nr_cache_put(&cache, 0, 0, 1, &given));
+  WANTS(NR_NO_KEY, nr_cache_swap(&cache, 0, 1, 0, 1, &given));
+  WANTS(NR_NO_KEY, nr_cache_look(&cache, 0, &found));
+  WANTS(NR_NO_KEY, nr_cache_evict(&cache, 0));
   WANTS(NR_NO_KEY, nr_cache_invalidate(&cache, 0));
   WANTS(NR_NO_KEY, nr_cache_begin_change(&cache, 0));
   WANTS(NR_NO_KEY, nr_cache_end_change(&cache, 0));
   WANTS(NR_BAD_ROW, nr_cache_put(&cache, 1, 0, 1, &given));
+  WANTS(NR_BAD_ROW, nr_cache_swap(&cache, 1, 1, 0, 1, &given));
   uint64_t number = begun(200, 1);
   WANTS(NR_BAD_ROW, nr_cache_land(&cache, number, 0, 1, &given));
   WANTS(NR_DONE, nr_cache_fail(&cache, number, &flight));
@@ -187,6 +236,9 @@ static void test_openings(const nr_cache_shape *shape) {
 
 /* What readers find stays found, and no other id is. */
 static void test_closed(void) {
+  WANTS(NR_DONE, nr_cache_invalidate_all(&cache));
+  while (nr_cache_reap(&cache, &given) == NR_GIVEN) {
+  }
   WANTS(NR_DONE, nr_cache_put(&cache, USER, 1, 5, &given));
   nr_close_cache(&cache);
   nr_close_cache(&cache);
@@ -195,6 +247,11 @@ static void test_closed(void) {
   WANTS(NR_CLOSED, nr_cache_land(&cache, 1, 1, 1, &given));
   WANTS(NR_CLOSED, nr_cache_fail(&cache, 1, &flight));
   WANTS(NR_CLOSED, nr_cache_put(&cache, 1, 1, 1, &given));
+  WANTS(NR_CLOSED, nr_cache_swap(&cache, 1, 1, 1, 1, &given));
+  WANTS(NR_CLOSED, nr_cache_look(&cache, 1, &found));
+  WANTS(NR_CLOSED, nr_cache_evict(&cache, 1));
+  WANTS(NR_CLOSED, nr_cache_invalidate_all(&cache));
+  WANTS(NR_CLOSED, nr_cache_count(&cache, &(nr_cache_counts){0}));
   WANTS(NR_CLOSED, nr_cache_begin_change(&cache, 1));
   WANTS(NR_CLOSED, nr_cache_end_change(&cache, 1));
   WANTS(NR_CLOSED, nr_cache_reap(&cache, &given));
@@ -214,6 +271,9 @@ int main(void) {
   test_invalidation();
   test_change();
   test_hold();
+  test_swap();
+  test_looks();
+  test_all();
   test_room();
   test_full();
   test_refusals();

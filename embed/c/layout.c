@@ -74,6 +74,10 @@ TAKES(nr_cache_reader, 8);
 TAKES(nr_cache_value, 16);
 LIES(nr_cache_value, stamp, 0);
 LIES(nr_cache_value, value, 8);
+TAKES(nr_cache_counts, 24);
+LIES(nr_cache_counts, values, 0);
+LIES(nr_cache_counts, flights, 8);
+LIES(nr_cache_counts, changes, 16);
 TAKES(nr_flight, 16);
 LIES(nr_flight, number, 0);
 LIES(nr_flight, mark, 8);
@@ -94,7 +98,7 @@ static void test_struct_sizes(void) {
     sizeof(nr_size), sizeof(nr_slots), sizeof(nr_writer), sizeof(nr_reader), sizeof(nr_remains), sizeof(nr_taker),
     sizeof(nr_poster), sizeof(nr_id_shape), sizeof(nr_upquery), sizeof(nr_id_writer), sizeof(nr_id_reader),
     sizeof(nr_wanted_id), sizeof(nr_cache_shape), sizeof(nr_cache), sizeof(nr_cache_reader), sizeof(nr_cache_value),
-    sizeof(nr_flight), sizeof(nr_given)};
+    sizeof(nr_cache_counts), sizeof(nr_flight), sizeof(nr_given)};
   const uint32_t structs = sizeof sizes / sizeof sizes[0];
   for (uint32_t place = 0; place < structs; place++) wants("a struct's size", sizes[place], nr_struct_size(place));
   wants("no struct's size", 0, nr_struct_size(structs));

@@ -1,6 +1,7 @@
 -- A cache as C calls it.
 use Rattle.std.specs.Prelude.{ℕ, ◌≡◌, Bool, if◌then◌else◌, List, [], ◌∷◌, Option, Some, None}
 use Rattle.nr_board.specs.declared.answers.Reaped.{Reaped}
+use Rattle.nr_cache.specs.declared.counts.Counts.{Counts}
 use Rattle.nr_cache.specs.declared.finds.FoundValue.{FoundValue}
 use Rattle.nr_cache.specs.declared.flights.Flight.{Flight}
 use Rattle.nr_cache.specs.declared.given.GivenValue.{GivenValue}
@@ -8,17 +9,23 @@ use Rattle.nr_cache.specs.declared.store.Begun.{Begun}
 use Rattle.nr_cache.specs.declared.store.Begun.TheVariants as begun
 use Rattle.nr_cache.specs.declared.store.Landed.{Landed}
 use Rattle.nr_cache.specs.declared.store.Landed.TheVariants as landed
+use Rattle.nr_cache.specs.declared.swaps.Swapped.{Swapped}
+use Rattle.nr_cache.specs.declared.swaps.Swapped.TheVariants as swapped
+use Rattle.nr_cache.specs.Counts.{CountsStore}
 use Rattle.nr_cache.specs.Finds.{FindsValue}
 use Rattle.nr_cache.specs.Flights.{EndsChange}
 use Rattle.nr_cache.specs.GivenValues.{ShowsValue}
 use Rattle.nr_cache.specs.StoreSeen.{StoreSeen}
-use Rattle.nr_cache.specs.Stores.{BeginsFlight, ChangesId, Fails, Invalidates, Lands, Puts, Reaps}
+use Rattle.nr_cache.specs.Stores.{BeginsFlight, ChangesId, Evicts, Fails, Invalidates, InvalidatesAll, Lands, Looks}
+use Rattle.nr_cache.specs.Stores.{Puts, Reaps}
+use Rattle.nr_cache.specs.Swaps.{Swaps}
 use Rattle.nr_idmap.specs.IdHands.{IdHanded}
 use Rattle.nr_c.specs.declared.cache_flight.NrFlight.{NrFlight}
+use Rattle.nr_c.specs.declared.cache_looks.NrCacheCounts.{NrCacheCounts}
 use Rattle.nr_c.specs.declared.cache_side.CacheSide.{CacheSide}
 use Rattle.nr_c.specs.Codes.{reaped_code, reclaimed_code}
-use Rattle.nr_c.specs.Numbers.{answer_done, answer_evicted, answer_full, answer_hole, answer_nothing, answer_own}
-use Rattle.nr_c.specs.Numbers.{answer_rows, answer_send, answer_waiting}
+use Rattle.nr_c.specs.Numbers.{answer_done, answer_evicted, answer_full, answer_hole, answer_nothing, answer_other}
+use Rattle.nr_c.specs.Numbers.{answer_own, answer_rows, answer_send, answer_waiting}
 
 -- the handle leads to one side, of the same map, whose store made the call; its readers without a handle stay, and it
 -- isn't closed
@@ -33,7 +40,7 @@ pub record CacheCalls (became : StoreSeen → StoreSeen → ℕ → Type 0) (bef
   pub spare : new.spare ≡ old.spare
   pub made : became old.store new.store code
 
--- A FIND
+-- A FIND, AND A LOOK
 abbrev pub found_value_code : Option FoundValue → ℕ
 found_value_code (Some found) = answer_rows
 found_value_code None = answer_hole
@@ -47,6 +54,18 @@ abbrev pub FindsValueByCode : ℕ → FoundValue → FoundValue → IdHanded →
 FindsValueByCode id stood stands old new code =
     (value : Option FoundValue) × (code ≡ found_value_code value) × FindsValue id old new value
     × (stands ≡ value_told stood value)
+
+abbrev pub LooksByValueCode : ℕ → FoundValue → FoundValue → StoreSeen → StoreSeen → ℕ → Type 0
+LooksByValueCode id stood stands old new code =
+    (value : Option FoundValue) × (code ≡ found_value_code value) × Looks id old new value
+    × (stands ≡ value_told stood value)
+
+abbrev pub counts_of : Counts → NrCacheCounts
+counts_of counts = record { values = counts.values; flights = counts.flights; changes = counts.changes }
+
+abbrev pub CountsByCode : NrCacheCounts → StoreSeen → StoreSeen → ℕ → Type 0
+CountsByCode told old new code =
+    (counts : Counts) × (code ≡ answer_done) × CountsStore old new counts × (told ≡ counts_of counts)
 
 -- A MISS, AND A FLIGHT'S END WITHOUT A VALUE
 abbrev pub flight_of : Flight → NrFlight
@@ -106,6 +125,16 @@ abbrev pub PutsByCode : ℕ → ℕ → ℕ → GivenValue → GivenValue → St
 PutsByCode id stamp value before after old new code =
     (answer : Landed) × (code ≡ landed_code answer) × Puts ShowsValue id stamp value old before new after answer
 
+abbrev pub swapped_code : Swapped → ℕ
+swapped_code (swapped.Held given) = reclaimed_code given
+swapped_code swapped.Own = answer_own
+swapped_code (swapped.Other found) = answer_other
+swapped_code swapped.Absent = answer_hole
+
+abbrev pub SwapsByCode : ℕ → ℕ → ℕ → ℕ → GivenValue → GivenValue → StoreSeen → StoreSeen → ℕ → Type 0
+SwapsByCode id was stamp value before after old new code =
+    (answer : Swapped) × (code ≡ swapped_code answer) × Swaps ShowsValue id was stamp value old before new after answer
+
 abbrev pub InvalidatesByCode : ℕ → StoreSeen → StoreSeen → ℕ → Type 0
 InvalidatesByCode id old new code =
     (had : Bool) × (code ≡ (if had then answer_evicted else answer_nothing)) × Invalidates id old new had
@@ -113,3 +142,10 @@ InvalidatesByCode id old new code =
 abbrev pub ReapsByCode : GivenValue → GivenValue → StoreSeen → StoreSeen → ℕ → Type 0
 ReapsByCode before after old new code =
     (answer : Reaped) × (code ≡ reaped_code answer) × Reaps ShowsValue old before new after answer
+
+abbrev pub EvictsValueByCode : ℕ → StoreSeen → StoreSeen → ℕ → Type 0
+EvictsValueByCode id old new code =
+    (had : Bool) × (code ≡ (if had then answer_evicted else answer_nothing)) × Evicts id old new had
+
+abbrev pub InvalidatesAllByCode : StoreSeen → StoreSeen → ℕ → Type 0
+InvalidatesAllByCode old new code = (code ≡ answer_done) × InvalidatesAll old new

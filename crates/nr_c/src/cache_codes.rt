@@ -1,12 +1,13 @@
 //! The numbers that stand for a cache's answers, and what C is told beside them.
 ghost use Rattle.std.specs.Prelude.{◌≡◌, if◌then◌else◌};
-ghost use Rattle.nr_c.specs.Caches.{begun_code, begun_told, ended_code, flight_told, found_value_code, landed_code, value_told};
+ghost use Rattle.nr_c.specs.Caches.{begun_code, begun_told, ended_code, flight_told, found_value_code, landed_code, swapped_code, value_told};
 
 use crate::cache_flight::NrFlight;
 use crate::codes::{
-    NR_DONE, NR_FULL, NR_HOLE, NR_NOTHING, NR_OWN, NR_ROWS, NR_SEND, NR_WAITING, of_reclaimed,
+    NR_DONE, NR_FULL, NR_HOLE, NR_NOTHING, NR_OTHER, NR_OWN, NR_ROWS, NR_SEND, NR_WAITING,
+    of_reclaimed,
 };
-use nr_cache::{Begun, Flight, FoundValue, Landed};
+use nr_cache::{Begun, Flight, FoundValue, Landed, Swapped};
 
 /// The number of a find's answer, and the value that was found.
 pub fn of_value(value: Option<FoundValue>, told: &mut FoundValue) -> u32
@@ -62,6 +63,18 @@ pub fn of_landed(landed: Landed) -> u32
     match landed {
         Landed::Held(given) => of_reclaimed(given),
         Landed::Own => NR_OWN,
+    }
+}
+
+/// The number of what becomes of a value that is to take another's place.
+pub fn of_swapped(swapped: Swapped) -> u32
+    ensures { result ≡ swapped_code swapped }
+{
+    match swapped {
+        Swapped::Held(given) => of_reclaimed(given),
+        Swapped::Own => NR_OWN,
+        Swapped::Other(_found) => NR_OTHER,
+        Swapped::Absent => NR_HOLE,
     }
 }
 

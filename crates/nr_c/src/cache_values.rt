@@ -1,13 +1,13 @@
-//! How values come into a cache, and out of it. One thread at a time.
-ghost use Rattle.std.specs.Prelude.{◌≡◌, ⊤};
-ghost use Rattle.nr_c.specs.Caches.{CacheCalls, InvalidatesByCode, LandsByCode, PutsByCode, ReapsByCode};
+//! How values come into a cache. One thread at a time.
+ghost use Rattle.std.specs.Prelude.{◌≡◌};
+ghost use Rattle.nr_c.specs.Caches.{CacheCalls, LandsByCode, PutsByCode, SwapsByCode};
 ghost use Rattle.nr_c.specs.IdLive.{WithId, WithNumber};
 ghost use Rattle.nr_c.specs.Live.{WhenLive};
 ghost use Rattle.nr_c.specs.Numbers.{answer_bad_row};
 
-use crate::cache_codes::{either, of_landed};
+use crate::cache_codes::{of_landed, of_swapped};
 use crate::cache_handle::NrCache;
-use crate::codes::{NR_BAD_ROW, NR_CLOSED, NR_EVICTED, NR_NO_KEY, NR_NOTHING, of_reaped};
+use crate::codes::{NR_BAD_ROW, NR_CLOSED, NR_NO_KEY};
 use nr_cache::GivenValue;
 
 /// Ends the flight of that number by its value, with a stamp above 0. It is held unless its id was invalidated, put
@@ -62,11 +62,18 @@ pub extern "C" fn nr_cache_put(
     of_landed(landed)
 }
 
-/// Takes an id's value, and outdates its flight, as after a write in the base: `NR_EVICTED`; or `NR_NOTHING` where it
-/// had none. `NR_NO_KEY` for the id 0.
+/// As `nr_cache_put` where the id's value is `old` still. Else nothing happens: `NR_OTHER` where it has another, and
+/// `NR_HOLE` where it has none; then `given` stays.
 #[unsafe(no_mangle)]
-pub extern "C" fn nr_cache_invalidate(cache: &mut NrCache, id: u64) -> u32
-    ensures { WhenLive ⊤ (WithId id ⊤ (CacheCalls (InvalidatesByCode id))) cache.old.live cache.new.live result }
+pub extern "C" fn nr_cache_swap(
+    cache: &mut NrCache,
+    id: u64,
+    old: u64,
+    stamp: u64,
+    value: u64,
+    given: &mut GivenValue,
+) -> u32
+    ensures { WhenLive (given.new ≡ given.old) (WithId id (given.new ≡ given.old) (WithNumber answer_bad_row stamp (given.new ≡ given.old) (CacheCalls (SwapsByCode id old stamp value given.old given.new)))) cache.old.live cache.new.live result }
 {
     if !cache.is_live() {
         return NR_CLOSED;
@@ -74,20 +81,10 @@ pub extern "C" fn nr_cache_invalidate(cache: &mut NrCache, id: u64) -> u32
     if id == 0 {
         return NR_NO_KEY;
     }
-    let side = cache.side();
-    let had = side.store.invalidate(&side.map, id);
-    either(had, NR_EVICTED, NR_NOTHING)
-}
-
-/// Gives out a value that nobody can see any more, where no reader holds it: `NR_GIVEN`, and `given` tells it.
-/// `NR_HELD` where readers hold all that wait, and `NR_NOTHING` where none waits; then `given` stays.
-#[unsafe(no_mangle)]
-pub extern "C" fn nr_cache_reap(cache: &mut NrCache, given: &mut GivenValue) -> u32
-    ensures { WhenLive (given.new ≡ given.old) (CacheCalls (ReapsByCode given.old given.new)) cache.old.live cache.new.live result }
-{
-    if !cache.is_live() {
-        return NR_CLOSED;
+    if stamp == 0 {
+        return NR_BAD_ROW;
     }
     let side = cache.side();
-    of_reaped(side.store.reap(&side.map, given))
+    let swapped = side.store.swap(&side.map, id, old, stamp, value, given);
+    of_swapped(swapped)
 }

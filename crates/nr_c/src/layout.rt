@@ -5,6 +5,7 @@ ghost use Rattle.nr_c.specs.Layout.{struct_size};
 
 use crate::cache_flight::NrFlight;
 use crate::cache_handle::NrCache;
+use crate::cache_looks::NrCacheCounts;
 use crate::cache_reader_handle::NrCacheReader;
 use crate::cache_shape::NrCacheShape;
 use crate::id_many::NrWantedId;
@@ -67,6 +68,8 @@ const _: () = prove!(size_of::<NrCacheReader>() == 8);
 
 const _: () = prove!(size_of::<FoundValue>() == 16);
 
+const _: () = prove!(size_of::<NrCacheCounts>() == 24);
+
 const _: () = prove!(size_of::<NrFlight>() == 16);
 
 const _: () = prove!(size_of::<GivenValue>() == 24);
@@ -100,8 +103,9 @@ pub extern "C" fn nr_struct_size(place: u32) -> u32
         18 => size_of::<NrCache>(),
         19 => size_of::<NrCacheReader>(),
         20 => size_of::<FoundValue>(),
-        21 => size_of::<NrFlight>(),
-        22 => size_of::<GivenValue>(),
+        21 => size_of::<NrCacheCounts>(),
+        22 => size_of::<NrFlight>(),
+        23 => size_of::<GivenValue>(),
         _ => 0,
     };
     size as u32

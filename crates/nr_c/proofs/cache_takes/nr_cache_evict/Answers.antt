@@ -1,5 +1,5 @@
 use Rattle.std.proofs.Common.{ap, arith, inl, inr, refl, sym, ◌∙◌}
-use Rattle.nr_c.proofs.cache_values.nr_cache_invalidate.Goals as goal
+use Rattle.nr_c.proofs.cache_takes.nr_cache_evict.Goals as goal
 
 pub returns-then-id-eq0 : goal.returns-then-id-eq0
 returns-then-id-eq0 c = let (side, is) = c.if-not-is_live.ensures.live in inr (inl (
@@ -21,6 +21,6 @@ returns c = inr (inr (
     map = refl;
     watch = refl;
     spare = refl;
-    made = (c.invalidate-had.result, c.either.ensures, c.invalidate-had.ensures.invalidates);
+    made = (c.evict-had.result, c.either.ensures, c.evict-had.ensures.evicts);
   },
 ))

@@ -1,5 +1,5 @@
 use Rattle.std.proofs.Common.{ap, inr, refl, sym, ◌∙◌}
-use Rattle.nr_c.proofs.cache_values.nr_cache_reap.Goals as goal
+use Rattle.nr_c.proofs.cache_looks.nr_cache_count.Goals as goal
 
 pub returns : goal.returns
 returns c = inr (record {
@@ -10,5 +10,5 @@ returns c = inr (record {
   map = refl;
   watch = refl;
   spare = refl;
-  made = (c.reap.result, c.of_reaped.ensures, c.reap.ensures.reaps);
+  made = (c.count-counted.result, refl, c.count-counted.ensures.counts, c.of.ensures);
 })
