@@ -4,8 +4,8 @@
 //! one whichever language its callers are written in.
 //!
 //! C has a handle for each reader, one for the writer and one for what remains of a map, of a queue
-//! of requests one for each poster and one for the taker, and of a map over ids one for each reader and
-//! one for the writer. A handle is one word, the place of a
+//! of requests one for each poster and one for the taker, of a map over ids one for each reader and
+//! one for the writer, and of a cache one for each reader and one for its store. A handle is one word, the place of a
 //! token on the heap or none, and contracts see the token. What C owes is each function's
 //! `requires`, and stands beside it in the header too: a handle is in the hands of one call at a time.
 //! What costs next to nothing to test is tested, as whether a handle is live and a key one of the map's.
