@@ -14,6 +14,7 @@ loop-way-init c = record {
   none = λ other low. absurd (omega arith);
 }
 
+-- one way more
 pub loop-way-preserved : goal.loop-way-preserved
 loop-way-preserved c = record {
   own = c.take_at.ensures.own;
