@@ -4,7 +4,7 @@ ghost use Rattle.nr_cache.specs.Openings.{IsBadStoreShape, OpensStore};
 
 use crate::flights::{Flight, Flights};
 use crate::shape::StoreShape;
-use nr_idmap::{IdMap, IdReader, IdWriter, OpenFault, Reclaimed, laws};
+use nr_idmap::{IdMap, IdReader, IdWriter, OpenFault, ReadersOut, Reclaimed, Rest, laws};
 use nr_model::Pile;
 use std::alloc::Global;
 use std::marker::Model;
@@ -58,6 +58,7 @@ impl Model for Store {
 }
 
 impl Store {
+    ghost use Rattle.nr_map.specs.Remains.{TakenApart};
     ghost use Rattle.nr_cache.specs.Flights.{EndsChange, none_under_way};
     ghost use Rattle.nr_cache.specs.Stores.{BeginsFlight, ChangesId, Fails};
 
@@ -140,7 +141,7 @@ impl Store {
         self.flights.end_change(id)
     }
 
-    /// The flights that are under way end with the store.
+    /// The flights that are under way end with the store. What values are left stays in the map.
     pub fn close(self) -> Vec<Flight>
         ensures { result.items ≡ self.underway.flights }
     {
@@ -151,5 +152,24 @@ impl Store {
             found: _,
         } = self;
         flights.into_left()
+    }
+
+    /// The same once all the readers that were handed out are back, so that two are out, the store's own and
+    /// its writer's: the values that are left come out of the rest, by the map's `next_of`.
+    pub fn leave(self, map: &IdMap, mut out: ReadersOut) -> (Vec<Flight>, Rest)
+        requires own { (self.keeper.table ≡ map.now) × (out.table ≡ map.now.map) }
+        requires all { out.count ≡ 2 }
+        ensures flights { let (flights, _) = result in flights.items ≡ self.underway.flights }
+        ensures own { let (_, rest) = result in rest.writer.table ≡ map.now.map }
+        ensures left { let (_, rest) = result in TakenApart self.keeper.writer rest }
+    {
+        let Store {
+            writer,
+            asker,
+            flights,
+            found: _,
+        } = self;
+        map.take_back(&mut out, asker);
+        (flights.into_left(), map.leave(writer, out))
     }
 }

@@ -20,6 +20,7 @@ mod looks;
 mod notes;
 mod openings;
 mod reclaiming;
+mod remains;
 mod rows;
 mod tokens;
 mod upqueries;
@@ -33,7 +34,9 @@ pub use id_map::{IdMap, IdShape};
 pub use looks::Looked;
 pub use notes::IdNote;
 pub use nr_ids::{Claim, Refused, Requested};
-pub use nr_map::{Evict, NoSlot, Reaped, Reclaimed, ReplaceFault, SlotCounts, UpdateFault};
+pub use nr_map::{
+    Evict, NoSlot, ReadersOut, Reaped, Reclaimed, ReplaceFault, Rest, SlotCounts, UpdateFault,
+};
 pub use nr_model::OpenFault;
 pub use rows::{are_id_deltas, are_id_rows};
 pub use tokens::{IdReader, IdWriter};

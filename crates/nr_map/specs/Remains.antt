@@ -6,7 +6,7 @@ use Rattle.nr_model.specs.declared.rows.Row.{Row}
 use Rattle.nr_model.specs.Rows.{IsRowSet}
 use Rattle.nr_core.specs.Marks.{Marks, is_reaped, set_in}
 use Rattle.nr_core.specs.Puts.{put_count}
-use Rattle.nr_board.specs.Callers.{Caller}
+use Rattle.nr_board.specs.Callers.{Caller, Table}
 use Rattle.nr_board.specs.Meetings.{with_steps}
 use Rattle.nr_map.specs.Reclaims.{Ledger}
 
@@ -14,6 +14,11 @@ use Rattle.nr_map.specs.Reclaims.{Ledger}
 pub record Left : Type 0 where
   pub writer : Caller
   pub next : ℕ
+
+-- of a map's readers so many are not back yet
+pub record Out : Type 0 where
+  pub table : Table
+  pub count : ℕ
 
 -- none has come out yet
 pub record TakenApart (writer : Caller) (left : Left) : Type 0 where

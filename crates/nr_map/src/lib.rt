@@ -42,6 +42,7 @@ mod notes;
 mod pin;
 mod reader;
 mod reader_map;
+mod readers_out;
 mod reclaiming;
 mod remains;
 mod slot_counts;
@@ -62,6 +63,7 @@ pub use nr_core::{MAX_LARGE_READERS, MAX_LARGE_SLOTS, MAX_READERS, MAX_SLOTS, No
 pub use pin::Pin;
 pub use reader::Reader;
 pub use reader_map::ReaderMap;
+pub use readers_out::ReadersOut;
 pub use remains::{Remains, Rest};
 pub use slot_counts::SlotCounts;
 pub use tagged::Tagged;

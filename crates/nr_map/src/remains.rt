@@ -71,6 +71,15 @@ impl ReaderMap {
         ensures { TakenApart writer result }
     {
         drop(readers);
+        Rest::of(writer)
+    }
+}
+
+impl Rest {
+    // What is left of a writer, of which no set has come out.
+    pub(crate) fn of(writer: Writer) -> Rest
+        ensures { TakenApart writer result }
+    {
         let Writer {
             seat,
             spare,
@@ -83,9 +92,7 @@ impl ReaderMap {
             next: 0,
         }
     }
-}
 
-impl Rest {
     /// Writes the next set into the caller's room, in 2n + 1 steps for n rows. False where all have
     /// come out; then the room stays as it is.
     pub fn next_of<R: RowRoom>(&mut self, map: &ReaderMap, rows: &mut R) -> bool
