@@ -2,7 +2,6 @@
 mod configuration;
 mod needs;
 #[allow(dead_code)]
-#[path = "../../examples/edges/src/pq.rs"]
 mod pq;
 
 use clap::{Parser, Subcommand};
