@@ -35,7 +35,8 @@ pub struct Description<'a> {
 pub struct Change<'a>(&'a [u8]);
 
 impl<'a> Change<'a> {
-    /// The row that was there, and the one that is. None where that can't be understood, as where what was is told in part.
+    /// The row that was there, and the one that is. None where that can't be understood, as where what was is told in
+    /// part.
     pub fn rows(&self) -> Option<(Option<Cells<'a>>, Option<Cells<'a>>)> {
         let (mut bytes, mut was, mut is) = (Bytes(self.0), None, None);
         while let Some(kind) = bytes.byte() {

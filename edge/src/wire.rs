@@ -1,4 +1,5 @@
-//! The Redis protocol: a command is an array of words (RESP2) or a line of them; replies go before a read that may wait.
+//! The Redis protocol: a command is an array of words (RESP2) or a line of them; replies go before a read that may
+//! wait.
 use std::io::{self, BufRead, BufReader, ErrorKind, Read, Write};
 use std::net::{Shutdown, TcpStream};
 use std::os::unix::net::UnixStream;
@@ -141,7 +142,8 @@ impl Wire {
         self.0.get_mut().flush()
     }
 
-    /// Replies to what is no command, and reads on for a while as long as the client sends, or else it might not see it.
+    /// Replies to what is no command, and reads on for a while as long as the client sends, or else it might not see
+    /// it.
     pub fn end(mut self, fault: io::Error) -> io::Result<()> {
         self.reply(Err(format!("Protocol error: {fault}")));
         let client = self.0.get_mut();
@@ -176,7 +178,8 @@ impl Wire {
     }
 }
 
-/// Whether a line is a browser's, which a web page has send what it likes: the body of such a request may have commands.
+/// Whether a line is a browser's, which a web page has send what it likes: the body of such a request may have
+/// commands.
 fn is_http(words: &[&[u8]]) -> bool {
     let is = |place: usize, name: &str| words.get(place).is_some_and(|word| word.eq_ignore_ascii_case(name.as_bytes()));
     is(0, "POST") || is(0, "Host:") || is(0, "GET") && words.get(1).is_some_and(|path| path.starts_with(b"/"))
