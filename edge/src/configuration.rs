@@ -1,11 +1,17 @@
-//! What an operator writes: where the rows are, and which views of them an edge holds.
+//! What an operator writes: where the rows are, which views of them an edge holds, and where it is asked for them.
 use serde::Deserialize;
-use std::{collections::HashSet, fs, path::PathBuf, str::FromStr};
+use std::{
+    collections::HashSet, fs, net::IpAddr, net::SocketAddr, path::Path, path::PathBuf, str::FromStr, time::Duration,
+};
 
 #[derive(Debug, Deserialize)]
 #[serde(deny_unknown_fields)]
 pub struct Configuration {
     pub source: Source,
+    #[serde(default)]
+    pub cache: Room,
+    #[serde(default)]
+    pub listen: Listen,
     #[serde(rename = "view", default)]
     pub views: Vec<View>,
 }
@@ -20,10 +26,101 @@ pub struct Source {
     /// By which the database tells its changes.
     #[serde(default = "edge")]
     pub publication: String,
+    /// By which missing keys are asked for.
+    #[serde(default = "four")]
+    pub connections: u8,
+    /// Seconds that one statement and its client wait at most.
+    #[serde(default = "five")]
+    deadline: u32,
+    /// Seconds without word of the stream, after which PostgreSQL is asked for what is held.
+    max_staleness: Option<u32>,
 }
 
 fn edge() -> String {
     "edge".into()
+}
+
+fn four() -> u8 {
+    4
+}
+
+fn five() -> u32 {
+    5
+}
+
+/// How much an edge holds, of all views.
+#[derive(Debug, Deserialize)]
+#[serde(deny_unknown_fields, default)]
+pub struct Room {
+    pub keys: u32,
+    /// Of rows and values.
+    pub limit_bytes: u64,
+}
+
+impl Default for Room {
+    fn default() -> Room {
+        Room { keys: 100_000, limit_bytes: 256 << 20 }
+    }
+}
+
+/// Where clients come, and what they may. Times are in seconds.
+#[derive(Debug, Deserialize)]
+#[serde(deny_unknown_fields, default)]
+pub struct Listen {
+    pub address: IpAddr,
+    /// 0 stands for a free one.
+    pub port: u16,
+    pub unix_socket: Option<PathBuf>,
+    pub clients: u16,
+    idle: u32,
+    half_command: u32,
+    /// How long a token is waited for.
+    token_wait: u32,
+    /// Its first line is the clients' password.
+    password_file: Option<PathBuf>,
+    /// Where /metrics and /healthz are answered.
+    pub metrics: Option<SocketAddr>,
+}
+
+impl Default for Listen {
+    fn default() -> Listen {
+        Listen {
+            address: [127, 0, 0, 1].into(),
+            port: 6390,
+            unix_socket: None,
+            clients: 64,
+            idle: 300,
+            half_command: 10,
+            token_wait: 10,
+            password_file: None,
+            metrics: None,
+        }
+    }
+}
+
+impl Listen {
+    pub fn idle(&self) -> Duration {
+        Duration::from_secs(self.idle.into())
+    }
+
+    pub fn half_command(&self) -> Duration {
+        Duration::from_secs(self.half_command.into())
+    }
+
+    pub fn token_wait(&self) -> Duration {
+        Duration::from_secs(self.token_wait.into())
+    }
+
+    pub fn password(&self) -> Result<Option<String>, String> {
+        let password = self.password_file.as_deref().map(first_line).transpose()?;
+        let is_empty = password.as_ref().is_some_and(String::is_empty);
+        (!is_empty).then_some(password).ok_or("the clients' password is empty".into())
+    }
+
+    fn check(&self) -> Result<(), String> {
+        let is_right = self.clients > 0 && self.idle > 0 && self.half_command > 0;
+        is_right.then_some(()).ok_or("clients, idle and half_command are 1 or more each".into())
+    }
 }
 
 /// The rows of a table by the texts of some of its columns.
@@ -35,6 +132,19 @@ pub struct View {
     pub table: String,
     pub key: Vec<String>,
     pub columns: Vec<String>,
+    #[serde(default)]
+    pub encoding: Encoding,
+    /// Of its rows and values; no more than those of all views may have.
+    pub limit_bytes: Option<u64>,
+}
+
+/// What a row is in a value.
+#[derive(Clone, Copy, Debug, Default, Deserialize, PartialEq, Eq)]
+#[serde(rename_all = "lowercase")]
+pub enum Encoding {
+    #[default]
+    Objects,
+    Arrays,
 }
 
 impl FromStr for Configuration {
@@ -58,6 +168,13 @@ impl Configuration {
         if !is_name(&self.source.publication) {
             return Err("the publication's name is lowercase letters, digits and _".into());
         }
+        if self.source.connections == 0 || self.source.deadline == 0 || self.source.max_staleness == Some(0) {
+            return Err("connections, deadline and max_staleness are 1 or more each".into());
+        }
+        if !(1..=2_000_000).contains(&self.cache.keys) {
+            return Err("the keys are 1 to 2000000".into());
+        }
+        self.listen.check()?;
         if self.views.is_empty() {
             return Err("there is no [[view]]".into());
         }
@@ -75,10 +192,24 @@ impl Configuration {
     pub fn address(&self) -> Result<String, String> {
         let Source { address, password_file, .. } = &self.source;
         let Some(path) = password_file else { return Ok(address.clone()) };
-        let text = fs::read_to_string(path).map_err(|fault| format!("{}: {fault}", path.display()))?;
-        let password = text.lines().next().unwrap_or_default().replace('\\', "\\\\").replace('\'', "\\'");
+        let password = first_line(path)?.replace('\\', "\\\\").replace('\'', "\\'");
         Ok(format!("{address} password='{password}'"))
     }
+}
+
+impl Source {
+    pub fn deadline(&self) -> Duration {
+        Duration::from_secs(self.deadline.into())
+    }
+
+    pub fn max_staleness(&self) -> Option<Duration> {
+        self.max_staleness.map(|seconds| Duration::from_secs(seconds.into()))
+    }
+}
+
+fn first_line(path: &Path) -> Result<String, String> {
+    let text = fs::read_to_string(path).map_err(|fault| format!("{}: {fault}", path.display()))?;
+    Ok(text.lines().next().unwrap_or_default().into())
 }
 
 impl View {
@@ -149,6 +280,9 @@ mod tests {
             (with("address = 'postgres://here'", VIEW), "no URI"),
             (with("address = 'host=here password=x'", VIEW), "stands in a file"),
             (with("address = ''\npublication = 'A'", VIEW), "publication's name"),
+            (with(&format!("{here}\nmax_staleness = 0"), VIEW), "1 or more each"),
+            (with(here, &format!("[listen]\nclients = 0\n{VIEW}")), "1 or more each"),
+            (with(here, &format!("[cache]\nkeys = 0\n{VIEW}")), "1 to 2000000"),
             (with(here, ""), "no [[view]]"),
             (with(here, &format!("{VIEW}{VIEW}")), "two views votes"),
             (with(here, &VIEW.replace("'votes'", "'1'")), "its name is"),

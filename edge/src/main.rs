@@ -1,16 +1,43 @@
-//! Looks whether a database has what an edge needs, and tells the SQL that makes it so.
+//! An edge: it holds a part of some tables of a PostgreSQL database, follows their changes, and serves clients of
+//! Redis.
+mod base;
 mod configuration;
+mod dataflow;
+mod ending;
+mod fault;
+mod fresh;
+mod json;
+mod key;
+mod listener;
+mod log;
+mod lsn;
+mod metrics;
 mod needs;
+mod parts;
+mod pgoutput;
 #[allow(dead_code)]
-#[path = "../../examples/edges/src/pq.rs"]
 mod pq;
+mod residents;
+mod resp;
+mod serve;
+mod session;
+mod shared;
+mod slot;
+mod snapshot;
+mod stats;
+mod stream;
+mod tables;
+mod upquery;
+mod value;
+#[allow(dead_code)]
+mod wire;
 
 use clap::{Parser, Subcommand};
 use configuration::Configuration;
 use needs::Lack;
-use std::{fs, path::PathBuf, process::ExitCode};
+use std::{collections::HashSet, fs, path::Path, path::PathBuf, process::ExitCode};
 
-/// Looks whether a PostgreSQL database has what an edge needs.
+/// Serves parts of PostgreSQL's tables to clients of Redis, and looks whether a database has what that needs.
 #[derive(Parser)]
 struct Command {
     #[command(subcommand)]
@@ -19,6 +46,8 @@ struct Command {
 
 #[derive(Subcommand)]
 enum What {
+    /// Serves the views until SIGTERM. The status is 1 where something lacks, and 2 where PostgreSQL can't be reached.
+    Serve { configuration: PathBuf },
     /// Says what lacks, a line each. The status is 0 where nothing does.
     Check { configuration: PathBuf },
     /// Tells the SQL that makes what lacks.
@@ -30,35 +59,43 @@ enum What {
     },
 }
 
-fn lacks(path: &PathBuf) -> Result<Vec<Lack>, String> {
+fn read(path: &Path) -> Result<Configuration, String> {
     let text = fs::read_to_string(path).map_err(|fault| format!("{}: {fault}", path.display()))?;
-    let configuration: Configuration = text.parse().map_err(|why| format!("{}: {why}", path.display()))?;
+    text.parse().map_err(|why| format!("{}: {why}", path.display()))
+}
+
+fn lacks(path: &Path) -> Result<Vec<Lack>, String> {
+    let configuration = read(path)?;
     let mut connection = pq::Connection::open(&configuration.address()?).map_err(|fault| fault.to_string())?;
     needs::lacking(&configuration, &mut connection).map_err(|fault| fault.to_string())
 }
 
-fn run(what: &What) -> Result<bool, String> {
+fn run(what: &What) -> Result<ExitCode, String> {
     match what {
+        What::Serve { configuration } => serve::serve(read(configuration)?),
         What::Check { configuration } => {
             let lacks = lacks(configuration)?;
             lacks.iter().for_each(|lack| println!("{}", lack.says));
-            Ok(lacks.is_empty())
+            Ok(if lacks.is_empty() { ExitCode::SUCCESS } else { ExitCode::FAILURE })
         }
         What::Setup { configuration, .. } => {
             let lacks = lacks(configuration)?;
-            lacks.iter().for_each(|lack| println!("-- {}\n{}", lack.says, lack.sql));
-            Ok(true)
+            // What two views of a table lack is made once.
+            let mut made = HashSet::new();
+            for Lack { says, sql } in &lacks {
+                println!("-- {says}");
+                if made.insert(sql) {
+                    println!("{sql}");
+                }
+            }
+            Ok(ExitCode::SUCCESS)
         }
     }
 }
 
 fn main() -> ExitCode {
-    match run(&Command::parse().what) {
-        Ok(true) => ExitCode::SUCCESS,
-        Ok(false) => ExitCode::FAILURE,
-        Err(why) => {
-            eprintln!("edge: {why}");
-            ExitCode::from(2)
-        }
-    }
+    run(&Command::parse().what).unwrap_or_else(|why| {
+        eprintln!("edge: {why}");
+        ExitCode::from(2)
+    })
 }

@@ -61,7 +61,7 @@ CREATE EVENT TRIGGER {publication}_changed ON ddl_command_end
 ];
 
 /// Of a view's table, which has the number `source`. In their SQL `{table}` stands for its name.
-const OF_VIEW: [Need; 9] = [
+const OF_VIEW: [Need; 10] = [
     (
         "EXISTS (SELECT FROM pg_class WHERE oid = source AND relkind = 'r' AND relpersistence = 'p' AND NOT relispartition)",
         "there is no such table, or it is none that is logged and whole: no view, no partition",
@@ -72,6 +72,12 @@ const OF_VIEW: [Need; 9] = [
         = cardinality(key || columns)",
         "the table lacks a column of the view",
         "-- The columns are the application's to make.",
+    ),
+    (
+        "NOT EXISTS (SELECT FROM pg_attribute
+        WHERE attrelid = source AND attname = ANY (key || columns) AND attgenerated <> '')",
+        "a column of the view is generated, which no change tells",
+        "-- What is generated can't be in a view.",
     ),
     (
         "NOT EXISTS (SELECT FROM pg_attribute WHERE attrelid = source AND attname = ANY (key) AND NOT attnotnull)",
@@ -157,7 +163,7 @@ fn lacks_of(needs: &[Need], holds: &[String], names: &[(&str, &str)]) -> Vec<Lac
 }
 
 /// PostgreSQL's text of an array.
-fn array(names: &[String]) -> String {
+pub fn array(names: &[String]) -> String {
     let quoted = |name: &String| format!("\"{}\"", name.replace('\\', "\\\\").replace('"', "\\\""));
     format!("{{{}}}", names.iter().map(quoted).collect::<Vec<_>>().join(","))
 }

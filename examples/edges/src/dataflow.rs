@@ -4,9 +4,8 @@ use crate::fresh::Fresh;
 use crate::log::{Changes, Log, Transaction};
 use crate::lsn::Lsn;
 use crate::residents::Residents;
-use crate::snapshot::Snapshot;
-use crate::table::TableId;
-use crate::upquery::{Answer, Asker, Request, Seen, Told};
+use crate::snapshot::{Seen, Snapshot, TableId};
+use crate::upquery::{Answer, Asker, Request, Told};
 use crate::{parts, pq, stats::Count, Shared};
 use nr::{Arrival, Delta, Fault, InboxTaker, Row, Ticket};
 use std::collections::{HashMap, HashSet};
@@ -54,7 +53,7 @@ pub struct Dataflow<'a> {
 #[derive(Default)]
 pub struct Order {
     log: Log,
-    fresh: Fresh,
+    fresh: Fresh<u32>,
     /// What the slot began with.
     first: Option<Snapshot>,
     table: TableId,
@@ -123,7 +122,7 @@ impl Dataflow<'_> {
         self.shared.told.fetch_max(transaction.end.0, SeqCst);
         for (article, deltas) in &transaction.changes {
             match self.shared.names.key(article, false) {
-                Some(key) if self.order.fresh.has(key, transaction.xid) => self.shared.work.up(Count::Skips),
+                Some(key) if self.order.fresh.has(&key, transaction.xid) => self.shared.work.up(Count::Skips),
                 Some(key) => self.residents.update(key, deltas),
                 None => {}
             }
@@ -190,7 +189,7 @@ impl Dataflow<'_> {
             return requests.into_iter().for_each(|request| self.request_again(request));
         }
         self.shared.told.fetch_max(seen.place.0, SeqCst);
-        let unseen = self.order.log.unseen_by(&seen.snapshot, &requests);
+        let unseen = self.order.log.unseen_by(&seen.snapshot, requests.iter().map(|request| &request.article));
         let seen = Arc::new(seen);
         requests.into_iter().zip(rows).for_each(|(request, rows)| self.bring(request, rows, &seen, &unseen));
         if !is_late {
@@ -244,7 +243,7 @@ impl Dataflow<'_> {
             }
             self.take_back(unfilled.ticket);
         } else if seen.place > self.order.applied {
-            self.order.fresh.filled(key, seen);
+            self.order.fresh.filled(&key, seen);
         }
         self.tell(key, &Told::Rows(rows.into()));
     }

@@ -36,6 +36,8 @@ pub fn serve(listener: TcpListener, sessions: Vec<Session>, end: impl FnOnce()) 
                 _ = client.write_all(b"-ERR each reader of the map has a client\r\n");
                 continue;
             };
+            // Replies go at once.
+            _ = client.set_nodelay(true);
             let (number, client) = (session.number, Arc::new(client));
             clients.lock().unwrap().insert(number, Arc::clone(&client));
             let (place, its_client) = (Arc::new(Mutex::new(Some(session))), Arc::clone(&client));

@@ -1,87 +1,9 @@
-//! The log: the transactions that were applied and that a snapshot may not see yet.
-use crate::lsn::{Lsn, Xid};
-use crate::{parts, snapshot::Snapshot, upquery::Request};
+//! The log of a rule over articles and signed rows.
 use nr::Delta;
-use std::collections::{BTreeSet, HashMap, HashSet, VecDeque};
 
-/// Signed rows by their articles.
-pub type Changes = HashMap<Box<str>, Vec<Delta>>;
+#[path = "../../../edge/src/log.rs"]
+mod of_keys;
 
-/// A transaction, as the stream brings it.
-pub struct Transaction {
-    pub xid: Xid,
-    /// Where it ends in PostgreSQL's log.
-    pub end: Lsn,
-    pub changes: Changes,
-}
-
-#[derive(Default)]
-pub struct Log {
-    transactions: VecDeque<Logged>,
-    /// The number of the last request that was sent, and the numbers of those that aren't answered.
-    sent: u64,
-    under_way: BTreeSet<u64>,
-}
-
-struct Logged {
-    transaction: Transaction,
-    /// Where an answer saw it: the last request that was sent by then. Each later one sees it too.
-    seen_after: Option<u64>,
-}
-
-impl Log {
-    pub fn push(&mut self, transaction: Transaction) {
-        if parts::LOG && !transaction.changes.is_empty() {
-            self.transactions.push_back(Logged { transaction, seen_after: None });
-        }
-    }
-
-    pub fn len(&self) -> usize {
-        self.transactions.len()
-    }
-
-    pub fn clear(&mut self) {
-        self.transactions.clear();
-    }
-
-    /// The number of a request that is being sent.
-    pub fn send(&mut self) -> u64 {
-        self.sent += 1;
-        self.under_way.insert(self.sent);
-        self.sent
-    }
-
-    pub fn last_sent(&self) -> u64 {
-        self.sent
-    }
-
-    pub fn is_awaited(&self) -> bool {
-        !self.under_way.is_empty()
-    }
-
-    /// What a snapshot lacks of what was applied, of the articles that were asked for.
-    pub fn unseen_by(&self, snapshot: &Snapshot, requests: &[Request]) -> Changes {
-        let asked: HashSet<_> = requests.iter().map(|request| &request.article).collect();
-        let unseen = self.transactions.iter().filter(|it| !snapshot.sees(it.transaction.xid));
-        let mut changes = Changes::new();
-        for (article, deltas) in unseen.flat_map(|it| &it.transaction.changes).filter(|it| asked.contains(it.0)) {
-            changes.entry(article.clone()).or_default().extend(deltas);
-        }
-        changes
-    }
-
-    /// Requests were answered, and no longer count as under way.
-    pub fn answered(&mut self, numbers: impl Iterator<Item = u64>) {
-        numbers.for_each(|number| _ = self.under_way.remove(&number));
-    }
-
-    /// An answer came whose snapshot this is: what it saw goes, once each request that was sent before it is answered.
-    pub fn prune(&mut self, snapshot: &Snapshot) {
-        let sent = self.sent;
-        for logged in self.transactions.iter_mut().filter(|it| it.seen_after.is_none()) {
-            logged.seen_after = snapshot.sees(logged.transaction.xid).then_some(sent);
-        }
-        let first = self.under_way.first().copied().filter(|_| parts::PRUNING_RULE).unwrap_or(u64::MAX);
-        self.transactions.retain(|it| it.seen_after.is_none_or(|sent| sent >= first));
-    }
-}
+pub type Changes = of_keys::Changes<Box<str>, Delta>;
+pub type Transaction = of_keys::Transaction<Box<str>, Delta>;
+pub type Log = of_keys::Log<Box<str>, Delta>;

@@ -2,10 +2,12 @@
 use crate::dataflow::{Event, First};
 use crate::log::{Changes, Transaction};
 use crate::lsn::Lsn;
-use crate::pgoutput::{Columns, Message};
+use crate::pgoutput::Message;
 use crate::pq::{quoted, Connection, Fault};
 use crate::slot::Slot;
-use crate::table::{self, TableId};
+use crate::snapshot::TableId;
+use crate::table;
+use crate::votes::Columns;
 use crate::Shared;
 use nr::EventSender;
 use std::sync::atomic::Ordering::SeqCst;
@@ -171,6 +173,8 @@ impl Stream<'_> {
     }
 }
 
+/// What the database's own trigger writes to the log when a table is changed.
+const CHANGED: &str = "edges: changed";
 const NO_CHANGE_OF_ROWS: &str = "the table was emptied or changed, or a change of it can't be understood";
 
 /// Where the stream is.
@@ -197,21 +201,26 @@ impl Place {
     }
 
     fn changed(&mut self, message: &[u8]) -> Option<Option<Event>> {
-        match Message::of(message, self.table, self.columns.as_ref())? {
+        match Message::of(message)? {
             Message::Begin(xid) => self.open = Some(Transaction { xid, end: Lsn(0), changes: Changes::new() }),
-            Message::Changes(changes) => {
+            Message::Change(table, change) if table == self.table => {
                 let known = &mut self.open.as_mut()?.changes;
-                changes.into_iter().for_each(|it| known.entry(it.article).or_default().push(it.delta));
+                let deltas = self.columns.as_ref()?.deltas(&change)?;
+                deltas.into_iter().for_each(|(article, delta)| known.entry(article).or_default().push(delta));
             }
-            Message::Columns(columns) if self.columns.as_ref().is_none_or(|known| *known == columns) => {
-                self.columns = Some(columns)
+            Message::Table(told) if told.table == self.table => {
+                let columns = Columns::of(&told)?;
+                let is_changed = self.columns.as_ref().is_some_and(|known| *known != columns);
+                self.columns = (!is_changed).then_some(columns);
+                self.columns.as_ref()?;
             }
             Message::Commit(end) => {
                 self.reached = end;
                 return Some(Some(Event::Transaction(Transaction { end, ..self.open.take()? })));
             }
-            Message::Columns(_) | Message::Changed => return None,
-            Message::Other => {}
+            Message::Truncate(tables) if tables.contains(&self.table) => return None,
+            Message::Note(CHANGED) => return None,
+            _ => {}
         }
         Some(None)
     }

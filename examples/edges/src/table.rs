@@ -1,10 +1,7 @@
 //! The table, and what an edge needs of its database so that the stream brings each change of the table.
 use crate::pq::Connection;
+use crate::snapshot::TableId;
 use crate::stream::End;
-
-/// The table, by PostgreSQL's number of it. Another one that takes its name has another number.
-#[derive(Clone, Copy, Debug, Default, PartialEq, Eq)]
-pub struct TableId(pub u32);
 
 /// What is to hold of the table with the number `votes`, and what is said where it doesn't.
 const NEEDS: [(&str, &str); 12] = [

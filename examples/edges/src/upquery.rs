@@ -2,8 +2,7 @@
 use crate::dataflow::Event;
 use crate::lsn::Lsn;
 use crate::pq::{quoted, Connection, Fault, Table};
-use crate::snapshot::Snapshot;
-use crate::table::TableId;
+use crate::snapshot::{Seen, TableId};
 use nr::{EventSender, Row, Ticket};
 use std::sync::{mpsc, Arc, Mutex};
 use std::{thread, time::Duration};
@@ -36,13 +35,6 @@ pub enum Told {
     Again,
     /// PostgreSQL can't be asked.
     Fault(Arc<str>),
-}
-
-/// What a statement saw: all that its snapshot sees was committed before this place in the log.
-pub struct Seen {
-    pub snapshot: Snapshot,
-    pub place: Lsn,
-    pub table: TableId,
 }
 
 /// What PostgreSQL answers to the requests of one statement: for each its rows, in no order.

@@ -2,7 +2,7 @@
 //!   cases PROGRAM ADDRESS RESTART [CASE]    RESTART is a command that ends PostgreSQL at once and starts it again
 mod edges;
 mod operator;
-#[path = "../src/pq.rs"]
+#[path = "../../../edge/src/pq.rs"]
 mod pq;
 use edges::{last, rows_in_table, signal, token, until, Edge};
 use pq::Connection;

@@ -5,7 +5,7 @@
 //!   load changes ADDRESS RATE SECONDS             that many one-row transactions a second, in turn a vote more and less
 //!   load visible ADDRESS SECONDS RATE PORT..      from a commit until every edge answers with it, beside changes
 mod edges;
-#[path = "../src/pq.rs"]
+#[path = "../../../edge/src/pq.rs"]
 mod pq;
 use edges::Client;
 use pq::Connection;

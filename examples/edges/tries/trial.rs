@@ -2,7 +2,7 @@
 //! and at quiet moments what each edge holds is what the table has.
 //!   trial PROGRAM ADDRESS RESTART EDGES SECONDS SEED
 mod edges;
-#[path = "../src/pq.rs"]
+#[path = "../../../edge/src/pq.rs"]
 mod pq;
 use edges::{last, token, until, Client, Edge};
 use pq::Connection;

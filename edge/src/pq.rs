@@ -1,7 +1,7 @@
 //! A connection to PostgreSQL, through libpq's C functions.
 use std::ffi::{c_char, c_int, c_ulong, c_void, CStr, CString};
 use std::ptr::{null, null_mut};
-use std::{fmt, slice};
+use std::{fmt, slice, time::Duration, time::Instant};
 
 type Handle = *mut c_void;
 type Text = *const c_char;
@@ -26,12 +26,23 @@ extern "C" {
         formats: *const c_int,
         format: c_int,
     ) -> c_int;
+    fn PQsendQueryPrepared(
+        connection: Handle,
+        name: Text,
+        count: c_int,
+        values: *const Text,
+        lengths: *const c_int,
+        formats: *const c_int,
+        format: c_int,
+    ) -> c_int;
+    fn PQconsumeInput(connection: Handle) -> c_int;
     fn PQgetResult(connection: Handle) -> Handle;
     fn PQresultStatus(result: Handle) -> c_int;
     fn PQresultErrorField(result: Handle, field: c_int) -> Text;
     fn PQntuples(result: Handle) -> c_int;
     fn PQnfields(result: Handle) -> c_int;
     fn PQgetvalue(result: Handle, row: c_int, column: c_int) -> Text;
+    fn PQgetisnull(result: Handle, row: c_int, column: c_int) -> c_int;
     fn PQclear(result: Handle);
     fn PQgetCopyData(connection: Handle, to: *mut *mut u8, at_once: c_int) -> c_int;
     fn PQputCopyData(connection: Handle, bytes: *const u8, length: c_int) -> c_int;
@@ -69,6 +80,8 @@ const FIELD_OF_STATE: c_int = b'C' as c_int;
 
 /// The rows of a statement, their columns as texts.
 pub type Table = Vec<Vec<String>>;
+/// The same, where NULL is told from an empty text.
+pub type Cells = Vec<Vec<Option<String>>>;
 
 /// What PostgreSQL or the connection to it says is wrong.
 #[derive(Clone, Debug)]
@@ -154,6 +167,23 @@ impl Connection {
         tables.pop().ok_or_else(|| self.fault())
     }
 
+    /// Runs a statement that was prepared by this name, with texts for its parameters.
+    pub fn run_prepared(&mut self, name: &str, parameters: &[&str]) -> Result<Cells, Fault> {
+        let (name, parameters) = (text(name), parameters.iter().map(|it| text(it)).collect::<Vec<_>>());
+        let values: Vec<_> = parameters.iter().map(|it| it.as_ptr()).collect();
+        let count = values.len() as c_int;
+        // SAFETY: the connection is there, each text ends with a zero, and there are as many as are told.
+        let is_sent = unsafe { PQsendQueryPrepared(self.0, name.as_ptr(), count, values.as_ptr(), null(), null(), 0) };
+        if is_sent == 0 {
+            return Err(self.fault());
+        }
+        let mut cells = Err(self.fault());
+        while let Some(answer) = self.next_answer() {
+            cells = answer.cells(self);
+        }
+        cells
+    }
+
     /// Sends one or more statements at once, and gives a table of each. One that begins a copy is the last.
     pub fn run(&mut self, sql: &str) -> Result<Vec<Table>, Fault> {
         let sql = text(sql);
@@ -183,9 +213,38 @@ impl Connection {
 
     /// The next message of a copy, which is waited for.
     pub fn message(&mut self) -> Result<Vec<u8>, Fault> {
+        let message = self.copied(false)?;
+        message.ok_or_else(|| self.fault())
+    }
+
+    /// The next message of a copy, or none where so long none comes.
+    pub fn message_within(&mut self, wait: Duration) -> Result<Option<Vec<u8>>, Fault> {
+        let until = Instant::now() + wait;
+        loop {
+            let message = self.copied(true)?;
+            let left = until.saturating_duration_since(Instant::now());
+            if message.is_some() || left.is_zero() {
+                return Ok(message);
+            }
+            // SAFETY: the connection is there.
+            let mut socket = Socket { number: unsafe { PQsocket(self.0) }, wanted: READ, came: 0 };
+            // SAFETY: there is one socket, or a number below 0, which the system passes over.
+            unsafe { poll(&mut socket, 1, left.as_millis().clamp(1, 60_000) as c_int) };
+            // SAFETY: the connection is there.
+            if unsafe { PQconsumeInput(self.0) } == 0 {
+                return Err(self.fault());
+            }
+        }
+    }
+
+    /// The next message of a copy, or none where there is none at once.
+    fn copied(&mut self, at_once: bool) -> Result<Option<Vec<u8>>, Fault> {
         let mut bytes = null_mut();
         // SAFETY: the connection is there, and there is room for an address.
-        let length = unsafe { PQgetCopyData(self.0, &mut bytes, 0) };
+        let length = unsafe { PQgetCopyData(self.0, &mut bytes, at_once.into()) };
+        if length == 0 {
+            return Ok(None);
+        }
         if length == END_OF_COPY {
             return Err(self.end_of_copy());
         }
@@ -194,7 +253,7 @@ impl Connection {
         let message = unsafe { slice::from_raw_parts(bytes, length) }.to_vec();
         // SAFETY: it gave the bytes, which are not used again.
         unsafe { PQfreemem(bytes) };
-        Ok(message)
+        Ok(Some(message))
     }
 
     /// What PostgreSQL says is wrong, where it has ended a copy since something was.
@@ -233,6 +292,11 @@ impl Answer {
     }
 
     fn table(&self, connection: &Connection) -> Result<Table, Fault> {
+        let cells = self.cells(connection)?;
+        Ok(cells.into_iter().map(|row| row.into_iter().map(Option::unwrap_or_default).collect()).collect())
+    }
+
+    fn cells(&self, connection: &Connection) -> Result<Cells, Fault> {
         if !matches!(self.status(), COMMAND_DONE | ROWS | COPY_BOTH_WAYS) {
             // SAFETY: the answer is there or null, which has no fields.
             let state = unsafe { PQresultErrorField(self.0, FIELD_OF_STATE) };
@@ -242,10 +306,15 @@ impl Answer {
         }
         // SAFETY: the answer is there.
         let (rows, columns) = unsafe { (PQntuples(self.0), PQnfields(self.0)) };
-        // SAFETY: the answer has that row and that column, and their text is its own.
-        let cell = |row, column| unsafe { CStr::from_ptr(PQgetvalue(self.0, row, column)) };
-        let row_of = |row| (0..columns).map(|column| cell(row, column).to_string_lossy().into_owned()).collect();
-        Ok((0..rows).map(row_of).collect())
+        Ok((0..rows).map(|row| (0..columns).map(|column| self.cell(row, column)).collect()).collect())
+    }
+
+    /// Of a row and a column that the answer has.
+    fn cell(&self, row: c_int, column: c_int) -> Option<String> {
+        // SAFETY: the answer has that row and that column.
+        let is_null = unsafe { PQgetisnull(self.0, row, column) } == 1;
+        // SAFETY: as above, and their text is the answer's.
+        (!is_null).then(|| unsafe { CStr::from_ptr(PQgetvalue(self.0, row, column)) }.to_string_lossy().into_owned())
     }
 }
 

@@ -1,6 +1,17 @@
 //! Which transactions a statement sees.
-use crate::lsn::Xid;
+use crate::lsn::{Lsn, Xid};
 use std::str::FromStr;
+
+/// A table, by PostgreSQL's number of it. Another one that takes its name has another number.
+#[derive(Clone, Copy, Debug, Default, PartialEq, Eq, Hash)]
+pub struct TableId(pub u32);
+
+/// What a statement saw: all that its snapshot sees was committed before this place in the log.
+pub struct Seen {
+    pub snapshot: Snapshot,
+    pub place: Lsn,
+    pub table: TableId,
+}
 
 /// What `pg_current_snapshot()` tells. A snapshot sees the committed transactions below `next` but those that were
 /// running. The numbers are those of whole transactions, as the stream's are: parts of one need no care.

@@ -16,8 +16,8 @@ impl FromStr for Lsn {
 }
 
 impl Lsn {
-    /// A place that PostgreSQL tells with the size of its log's files. Where it is the end of a page's header, this is the
-    /// page's begin: a stream comes as far, and no farther until more is written.
+    /// A place that PostgreSQL tells with the size of its log's files. Where it is the end of a page's header, this is
+    /// the page's begin: a stream comes as far, and no farther until more is written.
     pub fn before_header(place: &str, size: &str) -> Result<Lsn, String> {
         let (Lsn(place), size) = (place.parse()?, size.parse::<u64>().map_err(|fault| fault.to_string())?);
         let header = if place % size < PAGE { FIRST_HEADER } else { HEADER };

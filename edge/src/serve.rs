@@ -1,0 +1,134 @@
+//! How the parts of an edge are put together.
+use crate::base::Base;
+use crate::configuration::Configuration;
+use crate::dataflow::{Dataflow, Event};
+use crate::ending::{self, Ending};
+use crate::fault::End;
+use crate::listener::{self, Door, Listener};
+use crate::pq::Fault;
+use crate::resp::Version;
+use crate::session::Session;
+use crate::shared::Shared;
+use crate::stats::Count;
+use crate::upquery::{self, Queue};
+use crate::wire::Socket;
+use crate::{metrics, slot, stream::Stream, tables};
+use std::net::TcpListener;
+use std::sync::{atomic::Ordering::SeqCst, mpsc, mpsc::SyncSender, Arc};
+use std::{fs, process, process::ExitCode, thread, thread::Builder, time::Duration};
+
+/// The most events that the dataflow hasn't taken: who has more waits.
+const EVENTS: usize = 1024;
+/// How long clients, and then PostgreSQL, are waited for at the end.
+const GRACE: Duration = Duration::from_secs(3);
+
+/// Until the edge is told to end. The status is 1 where something lacks, and no edge begins.
+pub fn serve(configuration: Configuration) -> Result<ExitCode, String> {
+    let base = Base::new(&configuration.address()?, configuration.source.deadline());
+    let shared = match shared(configuration, base) {
+        Err(End::Refused(why)) => {
+            eprintln!("edge: {why}");
+            return Ok(ExitCode::FAILURE);
+        }
+        Err(End::Broken(why) | End::Lost(why)) => return Err(why),
+        Err(End::Over) => return Ok(ExitCode::SUCCESS),
+        Ok(shared) => shared,
+    };
+    let listeners = Listener::all(&shared.configuration.listen)?;
+    let metrics = shared.configuration.listen.metrics.map(TcpListener::bind).transpose();
+    let metrics = metrics.map_err(|fault| format!("the address of metrics: {fault}"))?;
+    let ending = Ending::new().map_err(|fault| fault.to_string())?;
+    // They are there until the process ends, whatever waits then.
+    Ok(run(Box::leak(Box::new(shared)), Box::leak(listeners.into()), metrics, &ending))
+}
+
+fn shared(configuration: Configuration, base: Base) -> Result<Shared, End> {
+    let mut connection = base.as_it_is()?;
+    slot::checked(&configuration, &mut connection)?;
+    let tables = tables::of_views(&configuration.views, &mut connection)?;
+    Shared::new(configuration, base, tables).map_err(End::Broken)
+}
+
+fn run(
+    shared: &'static Shared,
+    listeners: &'static [Listener],
+    metrics: Option<TcpListener>,
+    ending: &Ending,
+) -> ExitCode {
+    let queue: &Queue = Box::leak(Box::default());
+    let door: &Door = Box::leak(Box::new(Door::new(shared.configuration.listen.clients)));
+    let (events, taken) = mpsc::sync_channel(EVENTS);
+    for _ in 0..shared.configuration.source.connections {
+        let events = events.clone();
+        thread::spawn(move || upquery::run(shared, queue, events));
+    }
+    let stream = Stream::new(shared, events.clone());
+    thread::spawn(move || stream.run());
+    for listener in listeners {
+        let session = session(shared, events.clone());
+        thread::spawn(move || listener::run(listener, door, session, || shared.work.up(Count::Refused)));
+    }
+    if let Some(listener) = metrics {
+        thread::spawn(move || metrics::run(&listener, shared));
+    }
+    let dataflow = Builder::new().spawn(move || {
+        if let Err(why) = Dataflow::new(shared, queue).run(taken) {
+            eprintln!("edge: {why}");
+            process::exit(end(shared, door, 1));
+        }
+    });
+    if let Err(fault) = dataflow {
+        eprintln!("edge: {fault}");
+        return ExitCode::from(2);
+    }
+    ending::notify("READY=1");
+    ending.wait();
+    ending::notify("STOPPING=1");
+    process::exit(end(shared, door, 0))
+}
+
+/// Serves a client by a session with a reader of its own.
+fn session(shared: &'static Shared, events: SyncSender<Event>) -> impl Fn(usize, Arc<dyn Socket>) + Clone + Send {
+    move |number, client| {
+        let Some(reader) = shared.cache.reader() else { return };
+        let (events, may_read) = (events.clone(), shared.password.is_none());
+        shared.counts[number].up(Count::Clients);
+        let mut session =
+            Session { number, shared, reader, events, version: Version::Two, may_read, name: String::new() };
+        // That a client breaks off is no fault.
+        _ = session.serve(client);
+    }
+}
+
+/// Clients have their last replies, and the slot goes. The status with which to end.
+fn end(shared: &'static Shared, door: &Door, status: i32) -> i32 {
+    shared.is_over.store(true, SeqCst);
+    door.shut(GRACE);
+    if let Some(path) = &shared.configuration.listen.unix_socket {
+        _ = fs::remove_file(path);
+    }
+    let (done, is_done) = mpsc::channel();
+    thread::spawn(move || done.send(leave(shared)));
+    match is_done.recv_timeout(GRACE) {
+        Ok(Ok(())) => {}
+        Ok(Err(fault)) => eprintln!("edge: the slot goes when PostgreSQL sees that the edge is gone: {fault}"),
+        Err(_) => eprintln!("edge: the slot goes when PostgreSQL sees that the edge is gone: it doesn't answer"),
+    }
+    status
+}
+
+/// Ends PostgreSQL's process that brings the changes, and with it the slot.
+fn leave(shared: &Shared) -> Result<(), Fault> {
+    let process = shared.stream.swap(0, SeqCst);
+    if process == 0 {
+        return Ok(());
+    }
+    let mut connection = shared.base.as_it_is()?;
+    let names = format!("edge_{}_%", process::id());
+    connection.run_with("SELECT pg_terminate_backend($1::integer)", &[&process.to_string()])?;
+    let is_there = "SELECT 1 FROM pg_replication_slots WHERE slot_name LIKE $1 AND active_pid = $2::integer";
+    while !connection.run_with(is_there, &[&names, &process.to_string()])?.is_empty() {
+        thread::sleep(Duration::from_millis(10));
+    }
+    Ok(())
+}

@@ -1,0 +1,95 @@
+//! What the threads share.
+use crate::base::Base;
+use crate::configuration::Configuration;
+use crate::key::Key;
+use crate::stats::{Counts, Now};
+use crate::tables::Table;
+use crate::value::Value;
+use nr::{Cache, Progress};
+use std::sync::atomic::{AtomicBool, AtomicI32, AtomicU64, Ordering::Relaxed, Ordering::SeqCst};
+use std::sync::{Arc, PoisonError, RwLock};
+use std::time::{Duration, Instant};
+
+pub struct Shared {
+    pub configuration: Configuration,
+    pub base: Base,
+    pub password: Option<String>,
+    pub cache: Cache<Key, Arc<Value>>,
+    /// The place in PostgreSQL's log whose changes are applied.
+    pub progress: Progress,
+    /// All that clients were told was committed before this place. It never falls.
+    pub told: AtomicU64,
+    /// Those of the sessions, and those of all other threads.
+    pub counts: Vec<Counts>,
+    pub work: Counts,
+    pub now: Now,
+    /// PostgreSQL's process that brings the changes, or 0.
+    pub stream: AtomicI32,
+    /// Another table has the name of one that the stream brings.
+    pub has_other_table: AtomicBool,
+    /// The edge ends, and what is broken then stays so.
+    pub is_over: AtomicBool,
+    tables: RwLock<Arc<[Table]>>,
+    begun: Instant,
+    is_following: AtomicBool,
+    /// When word of the stream came last, in milliseconds since the begin.
+    heard: AtomicU64,
+    max_staleness: Option<Duration>,
+}
+
+impl Shared {
+    pub fn new(configuration: Configuration, base: Base, tables: Vec<Table>) -> Result<Shared, String> {
+        let (clients, keys) = (configuration.listen.clients, configuration.cache.keys as usize);
+        // It is in parts: with some room, none is full while the keys are fewer than they may be.
+        let cache = Cache::builder().capacity(keys + keys / 4 + 128).threads(clients.into());
+        Ok(Shared {
+            base,
+            password: configuration.listen.password()?,
+            cache: cache.open().map_err(|fault| format!("the cache: {fault}"))?,
+            progress: Progress::new(),
+            told: AtomicU64::new(0),
+            counts: (0..clients).map(|_| Counts::default()).collect(),
+            work: Counts::default(),
+            now: Now::default(),
+            stream: AtomicI32::new(0),
+            has_other_table: AtomicBool::new(false),
+            is_over: AtomicBool::new(false),
+            tables: RwLock::new(tables.into()),
+            begun: Instant::now(),
+            is_following: AtomicBool::new(false),
+            heard: AtomicU64::new(0),
+            max_staleness: configuration.source.max_staleness(),
+            configuration,
+        })
+    }
+
+    pub fn tables(&self) -> Arc<[Table]> {
+        Arc::clone(&self.tables.read().unwrap_or_else(PoisonError::into_inner))
+    }
+
+    pub fn has_tables(&self, tables: Vec<Table>) {
+        *self.tables.write().unwrap_or_else(PoisonError::into_inner) = tables.into();
+    }
+
+    pub fn follows(&self, is_following: bool) {
+        self.is_following.store(is_following, SeqCst);
+    }
+
+    pub fn is_following(&self) -> bool {
+        self.is_following.load(SeqCst)
+    }
+
+    pub fn hears(&self) {
+        self.heard.store(self.begun.elapsed().as_millis() as u64, Relaxed);
+    }
+
+    /// Since word of the stream came.
+    pub fn silence(&self) -> Duration {
+        self.begun.elapsed().saturating_sub(Duration::from_millis(self.heard.load(Relaxed)))
+    }
+
+    /// Whether PostgreSQL is to be asked also for what is held.
+    pub fn is_stale(&self) -> bool {
+        self.max_staleness.is_some_and(|most| self.silence() > most)
+    }
+}

@@ -1,0 +1,221 @@
+//! The stream: one thread that reads a slot's changes and sends whole transactions to the dataflow.
+use crate::dataflow::{Changes, Event, Transaction};
+use crate::fault::End;
+use crate::key;
+use crate::lsn::Lsn;
+use crate::pgoutput::{Change, Description, Message};
+use crate::pq::Connection;
+use crate::residents::Delta;
+use crate::shared::Shared;
+use crate::slot;
+use crate::snapshot::TableId;
+use crate::tables::Table;
+use std::collections::HashMap;
+use std::convert::Infallible;
+use std::sync::{atomic::Ordering::SeqCst, mpsc::SyncSender, Arc};
+use std::{thread, time::Duration, time::Instant};
+
+const SHORTEST_PAUSE: Duration = Duration::from_millis(50);
+const LONGEST_PAUSE: Duration = Duration::from_secs(5);
+/// How often PostgreSQL is told how far the stream is, and asked whether it is there.
+const BEAT: Duration = Duration::from_secs(1);
+/// A connection that is silent for so long is broken.
+const SILENT: Duration = Duration::from_secs(30);
+/// What the database's own trigger writes to the log when a table is changed.
+const CHANGED: &str = "edges: changed";
+
+pub struct Stream<'a> {
+    pub shared: &'a Shared,
+    pub events: SyncSender<Event>,
+    said: String,
+    pause: Duration,
+}
+
+impl Stream<'_> {
+    pub fn new(shared: &Shared, events: SyncSender<Event>) -> Stream<'_> {
+        Stream { shared, events, said: String::new(), pause: SHORTEST_PAUSE }
+    }
+
+    pub fn run(mut self) {
+        loop {
+            let end = match self.follow() {
+                Ok(never) => match never {},
+                Err(end) => end,
+            };
+            self.shared.stream.store(0, SeqCst);
+            if self.shared.is_over.load(SeqCst) {
+                return;
+            }
+            let line = end.to_string();
+            let event = match end {
+                End::Broken(_) => Event::Broken,
+                End::Lost(_) => Event::Lost,
+                // Its line is the last one.
+                End::Refused(why) => {
+                    _ = self.events.send(Event::Refused(why));
+                    return;
+                }
+                End::Over => return,
+            };
+            self.says(line);
+            if self.events.send(event).is_err() {
+                return;
+            }
+            thread::sleep(self.pause.mul_f64(0.5 + (slot::random() % 1000) as f64 / 2000.0));
+            self.pause = (self.pause * 2).min(LONGEST_PAUSE);
+        }
+    }
+
+    /// A line for each change of the stream's state.
+    fn says(&mut self, line: String) {
+        if line != self.said {
+            eprintln!("edge: {line}");
+            self.said = line;
+        }
+    }
+
+    fn follow(&mut self) -> Result<Infallible, End> {
+        let mut connection = self.shared.base.for_changes()?;
+        self.shared.stream.store(connection.process(), SeqCst);
+        let (slot, first, tables) = slot::make(self.shared, &mut connection)?;
+        let publication = &self.shared.configuration.source.publication;
+        let options = format!("proto_version '1', publication_names '{publication}', messages 'true'");
+        connection.run(&format!("START_REPLICATION SLOT {slot} LOGICAL 0/0 ({options})"))?;
+        self.shared.has_tables(tables);
+        self.shared.has_other_table.store(false, SeqCst);
+        self.tell(Event::Begun(first))?;
+        self.says(format!("follows by the slot {slot}"));
+        self.pause = SHORTEST_PAUSE;
+        self.read(connection)
+    }
+
+    fn tell(&self, event: Event) -> Result<(), End> {
+        self.events.send(event).map_err(|_| End::Over)
+    }
+
+    fn read(&self, mut connection: Connection) -> Result<Infallible, End> {
+        let max_staleness = self.shared.configuration.source.max_staleness();
+        let beat = max_staleness.map_or(BEAT, |most| BEAT.min(most / 4));
+        let mut place = Place::new(self.shared);
+        let (mut confirmed, mut heard) = (Instant::now(), Instant::now());
+        loop {
+            if let Some(message) = connection.message_within(beat.saturating_sub(confirmed.elapsed()))? {
+                heard = Instant::now();
+                let event = place.after(&message).ok_or_else(|| End::Lost(place.lacks.into()))?;
+                event.map_or(Ok(()), |event| self.tell(event))?;
+            }
+            if self.shared.has_other_table.swap(false, SeqCst) {
+                return Err(End::Lost("another table has the name of a view's".into()));
+            }
+            if heard.elapsed() > SILENT {
+                return Err(End::Broken("the stream is silent".into()));
+            }
+            if confirmed.elapsed() >= beat {
+                connection.send(&place.confirmation())?;
+                confirmed = Instant::now();
+            }
+        }
+    }
+}
+
+/// Where the stream is.
+struct Place<'a> {
+    shared: &'a Shared,
+    /// Those of the views.
+    tables: Arc<[Table]>,
+    known: HashMap<TableId, Known>,
+    reached: Lsn,
+    open: Option<Transaction>,
+    /// Why it can't go on, where it can't.
+    lacks: &'static str,
+}
+
+/// A table as the stream has told it: of each view that is of it the places of the key's columns, and of the others.
+struct Known {
+    description: Vec<u8>,
+    views: Vec<(usize, Vec<usize>, Vec<usize>)>,
+}
+
+impl Place<'_> {
+    fn new(shared: &Shared) -> Place<'_> {
+        let lacks = "a message of PostgreSQL's isn't understood";
+        Place { shared, tables: shared.tables(), known: HashMap::new(), reached: Lsn(0), open: None, lacks }
+    }
+
+    /// What a message brings. None where changes are missing from here on.
+    fn after(&mut self, message: &[u8]) -> Option<Option<Event>> {
+        match message.split_first()? {
+            (b'w', rest) => self.changed(rest.get(24..)?),
+            (b'k', rest) => {
+                let end = Lsn(u64::from_be_bytes(*rest.first_chunk()?));
+                if self.open.is_none() {
+                    self.reached = self.reached.max(end);
+                }
+                Some(Some(Event::Reached(self.reached)))
+            }
+            _ => Some(None),
+        }
+    }
+
+    fn changed(&mut self, message: &[u8]) -> Option<Option<Event>> {
+        match Message::of(message)? {
+            Message::Begin(xid) => self.open = Some(Transaction { xid, end: Lsn(0), changes: Changes::new() }),
+            Message::Change(table, change) if self.is_of_views(table) => self.change(table, change)?,
+            Message::Table(description) if self.is_of_views(description.table) => self.know(description)?,
+            Message::Commit(end) => {
+                self.reached = end;
+                return Some(Some(Event::Transaction(Transaction { end, ..self.open.take()? })));
+            }
+            Message::Truncate(tables) if tables.iter().any(|table| self.is_of_views(*table)) => {
+                self.lacks = "a table was emptied by TRUNCATE";
+                return None;
+            }
+            Message::Note(CHANGED) => {
+                self.lacks = "a table of the database was changed by its owner";
+                return None;
+            }
+            _ => {}
+        }
+        Some(None)
+    }
+
+    fn is_of_views(&self, table: TableId) -> bool {
+        self.tables.iter().any(|it| it.id == table)
+    }
+
+    fn change(&mut self, table: TableId, change: Change) -> Option<()> {
+        let (was, is) = change.rows()?;
+        let changes = &mut self.open.as_mut()?.changes;
+        for (view, key, columns) in &self.known.get(&table)?.views {
+            let name = &self.shared.configuration.views[*view].name;
+            for (is_plus, cells) in [(false, &was), (true, &is)] {
+                let Some(cells) = cells else { continue };
+                let parts: Vec<&str> = key.iter().map(|place| *cells.get(*place)?).collect::<Option<_>>()?;
+                let columns = columns.iter().map(|place| cells.get(*place).copied().flatten());
+                let delta = Delta { is_plus, row: self.tables[*view].shape.row(columns) };
+                changes.entry(key::written(name, &parts)).or_default().push(delta);
+            }
+        }
+        Some(())
+    }
+
+    fn know(&mut self, description: Description) -> Option<()> {
+        let place = |name: &String| description.columns.iter().position(|column| column == name);
+        let places = |names: &[String]| names.iter().map(place).collect::<Option<Vec<_>>>();
+        let views = self.shared.configuration.views.iter().enumerate().zip(self.tables.iter());
+        let of_table = views.filter(|(_, table)| table.id == description.table);
+        let views: Option<Vec<_>> =
+            of_table.map(|((number, view), _)| Some((number, places(&view.key)?, places(&view.columns)?))).collect();
+        let known = Known { description: description.bytes.to_vec(), views: views? };
+        let before = self.known.get(&description.table);
+        let is_changed = before.is_some_and(|before| before.description != known.description);
+        self.lacks = if is_changed { "a table was changed" } else { self.lacks };
+        (description.is_told_whole && !is_changed).then(|| _ = self.known.insert(description.table, known))
+    }
+
+    /// That PostgreSQL need not keep what came, since the edge has it, and wants to be heard.
+    fn confirmation(&self) -> Vec<u8> {
+        let place = self.reached.0;
+        [b"r", [place, place, place, 0].map(u64::to_be_bytes).as_flattened(), &[1]].concat()
+    }
+}

@@ -1,0 +1,13 @@
+CREATE TABLE orders (id bigint PRIMARY KEY, client text NOT NULL, day date NOT NULL, total numeric, paid boolean, note jsonb);
+CREATE INDEX ON orders (client, day);
+INSERT INTO orders VALUES
+    (1, 'acme', '2026-01-01', 1.50, true, '{"a": 1}'),
+    (2, 'acme', '2026-01-01', NULL, false, NULL),
+    (3, 'a:b\', '2026-01-02', 'NaN', NULL, '"two\nlines \"é\""'),
+    (4, 'a:b\', '2026-01-03', NULL, NULL, NULL);
+CREATE TABLE prices (price numeric NOT NULL, what text);
+INSERT INTO prices VALUES (1.0, 'one'), (1.00, 'two');
+CREATE TABLE times (at timestamptz NOT NULL, what text);
+INSERT INTO times VALUES ('2026-01-01 12:00:00+02', 'then');
+CREATE TABLE other (id int PRIMARY KEY);
+INSERT INTO other VALUES (1);
