@@ -24,8 +24,10 @@ use Rattle.nr_c.specs.declared.cache_flight.NrFlight.{NrFlight}
 use Rattle.nr_c.specs.declared.cache_looks.NrCacheCounts.{NrCacheCounts}
 use Rattle.nr_c.specs.declared.cache_side.CacheSide.{CacheSide}
 use Rattle.nr_c.specs.Codes.{reaped_code, reclaimed_code}
-use Rattle.nr_c.specs.Numbers.{answer_done, answer_evicted, answer_full, answer_hole, answer_nothing, answer_other}
-use Rattle.nr_c.specs.Numbers.{answer_own, answer_rows, answer_send, answer_waiting}
+use Rattle.nr_c.specs.IdLive.{WithId, WithNumber}
+use Rattle.nr_c.specs.Live.{WhenLive}
+use Rattle.nr_c.specs.Numbers.{answer_bad_row, answer_done, answer_evicted, answer_full, answer_hole, answer_nothing}
+use Rattle.nr_c.specs.Numbers.{answer_other, answer_own, answer_rows, answer_send, answer_waiting}
 
 -- the handle leads to one side, of the same map, whose store made the call; its readers without a handle stay, and it
 -- isn't closed
@@ -39,6 +41,12 @@ pub record CacheCalls (became : StoreSeen → StoreSeen → ℕ → Type 0) (bef
   pub watch : new.watch ≡ old.watch
   pub spare : new.spare ≡ old.spare
   pub made : became old.store new.store code
+
+-- a call that brings a value of an id: it is refused for the id 0, and then for the stamp 0
+abbrev pub BringsValue : ℕ → ℕ → Type 0 → (StoreSeen → StoreSeen → ℕ → Type 0) → List CacheSide → List CacheSide → ℕ
+    → Type 0
+BringsValue id stamp stays does =
+    WhenLive stays (WithId id stays (WithNumber answer_bad_row stamp stays (CacheCalls does)))
 
 -- A FIND, AND A LOOK
 abbrev pub found_value_code : Option FoundValue → ℕ
@@ -63,8 +71,8 @@ LooksByValueCode id stood stands old new code =
 abbrev pub counts_of : Counts → NrCacheCounts
 counts_of counts = record { values = counts.values; flights = counts.flights; changes = counts.changes }
 
-abbrev pub CountsByCode : NrCacheCounts → StoreSeen → StoreSeen → ℕ → Type 0
-CountsByCode told old new code =
+abbrev pub CountsCache : NrCacheCounts → StoreSeen → StoreSeen → ℕ → Type 0
+CountsCache told old new code =
     (counts : Counts) × (code ≡ answer_done) × CountsStore old new counts × (told ≡ counts_of counts)
 
 -- A MISS, AND A FLIGHT'S END WITHOUT A VALUE

@@ -1,6 +1,6 @@
 //! What a cache tells its caller of itself. One thread at a time.
 ghost use Rattle.std.specs.Prelude.{◌≡◌};
-ghost use Rattle.nr_c.specs.Caches.{CacheCalls, CountsByCode, LooksByValueCode, counts_of};
+ghost use Rattle.nr_c.specs.Caches.{CacheCalls, CountsCache, LooksByValueCode, counts_of};
 ghost use Rattle.nr_c.specs.IdLive.{WithId};
 ghost use Rattle.nr_c.specs.Live.{WhenLive};
 
@@ -50,7 +50,7 @@ pub extern "C" fn nr_cache_look(cache: &mut NrCache, id: u64, found: &mut FoundV
 /// Counts, in 1 step: `NR_DONE`.
 #[unsafe(no_mangle)]
 pub extern "C" fn nr_cache_count(cache: &mut NrCache, counts: &mut NrCacheCounts) -> u32
-    ensures { WhenLive (counts.new ≡ counts.old) (CacheCalls (CountsByCode counts.new)) cache.old.live cache.new.live result }
+    ensures { WhenLive (counts.new ≡ counts.old) (CacheCalls (CountsCache counts.new)) cache.old.live cache.new.live result }
 {
     if !cache.is_live() {
         return NR_CLOSED;
