@@ -686,6 +686,9 @@ uint32_t nr_choose_id(nr_id_writer *writer, uint64_t id, uint64_t *chosen);
    value without landing it.
    A write in the base. Invalidate the id afterwards; or begin a change before it and end it afterwards, so that a load
    that began meanwhile isn't held either.
+   Room. A value stands in one of its id's two groups, which have eight places each. If all sixteen are taken, a value
+   of the first group goes, by nr_choose_id, and no other group's: without places to spare, ids that are found often may
+   push each other out while others stay.
    A value that went. It comes out once no reader holds it: from a later landing or put (NR_GIVEN), or from
    nr_cache_reap. Reap after each call while it answers NR_GIVEN, and free what comes out. A value of NR_OWN never was
    in the cache, and is its caller's to free. */
