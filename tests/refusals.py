@@ -25,6 +25,7 @@ from typing import NamedTuple
 import kit
 from functions import files_of
 
+PART = 36  # wrong bodies, at most
 HEAD = re.compile(r"[^#/]*\bfn \w+")
 TOLD = re.compile(r"(?:note: )?(?:\./)?(\S+?):(\d+):\d+: (.*)")
 # Of these crates' wrong bodies it isn't known yet of which only a proof's text is refused: there that is told, and passes.
@@ -250,8 +251,20 @@ def try_alone(rt, crate, edit, kept):
     return (Refusal(False, text.partition(": ")[2]), None) if is_refused else (None, text)
 
 
+def parts(edits):
+    """The wrong bodies of a crate in parts, which are tried side by side: else the crate that has most would be waited for. One
+    part takes every so many, since those that stand beside each other often have one function."""
+    count = -(-len(edits) // PART)
+    return [edits[at::count] for at in range(count)]
+
+
+def try_part(rt, crate, edits):
+    with tempfile.TemporaryDirectory(prefix="rt-edits-") as kept:
+        return try_all(rt, crate, edits, kept)
+
+
 def try_all(rt, crate, edits, kept):
-    """Tries the wrong bodies of a crate in turn, says what comes of each, and counts them: those that are refused, those that
+    """Tries wrong bodies of a crate in turn, says what comes of each, and counts them: those that are refused, those that
     aren't, those of which only a proof's text is, and those that had a check of the whole crate."""
     found, left = {}, [it for number, edit in enumerate(edits) if (it := read(rt, crate, edit, number))]
     is_waiting = True
