@@ -36,7 +36,7 @@ impl Model for Shelf {
 
     ghost view = { λ shelf. shelf.map };
 
-    ghost invariant = { λ shelf. (shelf.store.keeper.table ≡ shelf.map) × (hand_table_of shelf.hand ≡ shelf.map) };
+    ghost invariant = { λ shelf. (shelf.store.keeper.table ≡ shelf.map) × (hand_table_of shelf.hand ≡ shelf.map) × (shelf.map.map.shape.readers ≡ 3) };
 }
 
 impl Shelf {
@@ -65,6 +65,24 @@ impl Shelf {
         for (flight, mark) in left.iter().zip(marks) {
             is_same(rt, &flight.mark, mark);
         }
+    }
+
+    /// Its reader comes back, and these two sets come out of what is left.
+    fn leaves<R: Abort>(self, rt: &R, first: &[Row], second: &[Row]) {
+        let Shelf {
+            map,
+            store,
+            hand,
+            mut had,
+        } = self;
+        let mut out = map.readers_out();
+        map.take_back(&mut out, hand.into_reader(&map));
+        let (_flights, mut rest) = store.leave(&map, out);
+        assert!(rt; map.next_of(&mut rest, &mut had));
+        is_set(rt, had.as_slice(), first);
+        assert!(rt; map.next_of(&mut rest, &mut had));
+        is_set(rt, had.as_slice(), second);
+        assert!(rt; !map.next_of(&mut rest, &mut had));
     }
 
     /// The id's flight begins: its number.
@@ -290,6 +308,19 @@ fn all_is_counted_and_invalidated(rt: HostRuntime) {
     assert!(&rt; !shelf.lands(number, 60));
     shelf.counts(&rt, 0, 0, 1);
     shelf.closes(&rt, &[]);
+}
+
+#[test]
+fn what_is_left_comes_out(rt: HostRuntime) {
+    let mut shelf = Shelf::open(&rt);
+    assert!(&rt; matches!(shelf.puts(7, 70), Landed::Held(_)));
+    assert!(&rt; matches!(shelf.puts(8, 80), Landed::Held(_)));
+    assert!(&rt; matches!(shelf.puts(9, 90), Landed::Held(_)));
+    // One came out before, and one waits.
+    assert!(&rt; shelf.evicts(7));
+    shelf.reaps(&rt, Reaped::Set);
+    assert!(&rt; shelf.evicts(8));
+    shelf.leaves(&rt, &[row(0, 8), row(1, 80)], &[row(0, 9), row(1, 90)]);
 }
 
 #[test]

@@ -1,6 +1,7 @@
 use Rattle.std.proofs.Common.{◌≡◌, ◌∷◌, ◌++◌, [], refl, Some, ap, subst, ◌∙◌}
 use Rattle.std.proofs.lemmas.List.Elements.{All-pop}
 use Rattle.std.specs.Prelude.{IfOk, IfSome, Ok, Option, Result}
+use Rattle.nr_core.specs.declared.shape.Shape.{Shape}
 use Rattle.nr_idmap.specs.IdHands.{IdHanded, hand_table_of}
 use Rattle.nr_idmap.specs.Keepers.{IdCaller, id_table_of}
 use Rattle.nr_cache.specs.Openings.{OpensStore}
@@ -26,4 +27,5 @@ invariant_of-result g c =
       opened.opens.writes,
       ap (λ (hand : IdHanded). hand_table_of hand) c.of.ensures
           ∙ subst (λ (o : Option IdCaller). IfSome o (λ (r : IdCaller). id_table_of r ≡ map)) is left.1,
+      ap (λ (s : Shape). s.readers) opened.opens.opened.sizes,
     )
