@@ -37,9 +37,10 @@ pub struct Residents<'a> {
     size: u64,
 }
 
-/// In bytes, about: what a key takes beside its texts, here and in the cache, and what a row does.
-const OF_KEY: usize = 400;
-const OF_ROW: usize = 32;
+/// In bytes, about, with what the allocator takes: what a key takes beside its texts, here and in the cache, and what a
+/// row does.
+const OF_KEY: usize = 640;
+const OF_ROW: usize = 48;
 
 impl Residents<'_> {
     pub fn new(shared: &Shared) -> Residents<'_> {

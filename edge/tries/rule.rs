@@ -356,7 +356,7 @@ fn a_bound_in_bytes_holds_for_rows_and_values() {
         trial.fill(&format!("key {number}"), "10:10:", &[&row]);
         assert!(trial.shared.now.bytes.load(Relaxed) <= 10_000);
     }
-    assert_eq!(trial.shared.cache.len(), 4);
+    assert_eq!(trial.shared.cache.len(), 3);
     // One that grows has others go, and goes itself where it is too large.
     for number in 0..4 {
         trial.commit(12 + number, 210 + u64::from(number), "key 99", &[plus(&row)]);
