@@ -148,3 +148,19 @@ fn a_reap_gives_out_a_set_before_its_slot_is_taken(rt: HostRuntime) {
     } = filled(&rt);
     reaps_beside_a_pin(&rt, &map, &mut writer, reader);
 }
+
+#[test]
+fn readers_come_back_one_by_one(rt: HostRuntime) {
+    let Worked {
+        map,
+        writer,
+        reader,
+    } = Worked::open(&rt, 1, 3, 1, 0);
+    let mut out = map.readers_out();
+    assert!(&rt; out.count() == 1);
+    map.take_back(&mut out, reader);
+    assert!(&rt; out.count() == 0);
+    let mut rest = map.leave_by(writer, out);
+    let mut had = RowSet::new();
+    assert!(&rt; !rest.next_of(&map, &mut had));
+}

@@ -239,7 +239,9 @@ impl View {
         let mut rows = RowSet::new();
         let seen = self.map.look(&mut self.writer, id, &mut rows);
         is_same(rt, &seen, &Looked::Rows);
-        is_same(rt, &self.map.way_of(&mut self.writer, id).is_some(), &true);
+        let way = self.map.way_of(&mut self.writer, id).expect(rt, "a way");
+        assert!(rt; way < self.map.ways());
+        is_same(rt, &self.map.id_at(&mut self.writer, way), &Some(id));
         is_set(rt, rows.as_slice(), wanted);
     }
 
