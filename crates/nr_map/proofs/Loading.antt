@@ -72,9 +72,6 @@ keys_count keys words a b so =
 
 -- SETS
 module _ (sizes : Layout) where
-  pub sets_none : (caller : Caller) → LoadsSets sizes [] [] caller caller
-  sets_none caller = record { loads = []; at = refl; counts_are = refl; made = loads_none caller }
-
   pub sets_more : (words counts : List ℕ) (word count : ℕ) (a b c : Caller) → LoadsSets sizes words counts a b
       → LoadsTwo (begin_of sizes word) (begin_of sizes word + min 8 (more_of sizes word)) count b c
       → LoadsSets sizes (words ++ word ∷ []) (counts ++ count ∷ []) a c
@@ -121,9 +118,6 @@ module _ (sizes : Layout) where
   zip_more (w ∷ words) [] word count long = absurd (omega (arith, long))
   zip_more (w ∷ words) (c ∷ counts) word count long =
       ap (λ (l : List (ℕ × ℕ)). (w, c) ∷ l) (zip_more words counts word count (omega (arith, long)))
-
-  pub lines_none : (caller : Caller) → LoadsLines sizes [] [] caller caller
-  lines_none caller = places_none caller
 
   pub lines_more : (words counts : List ℕ) (word count : ℕ) (a b c : Caller) → length words ≡ length counts
       → LoadsLines sizes words counts a b → LoadsPlaces (further_places sizes (word, count)) b c
