@@ -1,4 +1,5 @@
--- How a call tells that a token ended: a reader, one by id, or what a handle knows of its map's writer.
+-- How a call tells that a token ended: a reader, one by id, or all that a handle led to.
+use Rattle.std.specs.Prelude.{◌≡◌, List, [], ◌∷◌}
 
 -- A token of which contracts saw just this has ended. It stands shut: only the functions that tokens end by tell it, of
 -- one that they take.
@@ -12,3 +13,7 @@ has_ended seen = tt
 -- a token ended, and this held of it
 abbrev pub Ends : {Seen : Type 0} → (Seen → Type 0) → Type 0
 Ends {Seen = Seen} holds = (token : Seen) × HasEnded token × holds token
+
+-- all that a handle led to ended
+abbrev pub EndsSide : {Side : Type 0} → List Side → Type 0
+EndsSide {Side = Side} before = (side : Side) → before ≡ side ∷ [] → HasEnded side

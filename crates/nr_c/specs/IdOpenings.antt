@@ -80,6 +80,14 @@ TakesIdReader before other after handle code =
 abbrev pub EndsIdReader : List IdReaderSide → Type 0
 EndsIdReader before = (side : IdReaderSide) → before ≡ side ∷ [] → Ends (EndsIdHand side.hand)
 
--- what the handle knew of the writer ended, having closed it, of which the readers of its map are told
+-- the writer is closed, of which the readers of its map are told; all else that its handle led to is as it was
+pub record ClosesIdSide (old new : IdWriterSide) : Type 0 where
+  pub map : new.map ≡ old.map
+  pub writer : new.writer ≡ old.writer
+  pub spare : new.spare ≡ old.spare
+  pub ledger : new.ledger ≡ old.ledger
+  pub watch : Closes old.watch new.watch
+
+-- all that the handle led to ended, once the writer was closed
 abbrev pub EndsIdWriter : List IdWriterSide → Type 0
-EndsIdWriter before = (side : IdWriterSide) → before ≡ side ∷ [] → Ends (Closes side.watch)
+EndsIdWriter before = (side : IdWriterSide) → before ≡ side ∷ [] → Ends (ClosesIdSide side)

@@ -76,6 +76,14 @@ ReturnsReader before other after handle code =
 abbrev pub EndsReader : List ReaderSide → Type 0
 EndsReader before = (side : ReaderSide) → before ≡ side ∷ [] → Ends (EndsHand side.hand)
 
--- what the handle knew of the writer ended, having closed it, of which the readers of its map are told
+-- the writer is closed, of which the readers of its map are told; all else that its handle led to is as it was
+pub record ClosesSide (old new : WriterSide) : Type 0 where
+  pub map : new.map ≡ old.map
+  pub writer : new.writer ≡ old.writer
+  pub spare : new.spare ≡ old.spare
+  pub room : new.room ≡ old.room
+  pub watch : Closes old.watch new.watch
+
+-- all that the handle led to ended, once the writer was closed
 abbrev pub EndsWriter : List WriterSide → Type 0
-EndsWriter before = (side : WriterSide) → before ≡ side ∷ [] → Ends (Closes side.watch)
+EndsWriter before = (side : WriterSide) → before ≡ side ∷ [] → Ends (ClosesSide side)

@@ -154,5 +154,7 @@ pub extern "C" fn nr_close_id_writer(alloc: Global, writer: &mut NrIdWriter)
     if !writer.is_live() {
         return;
     }
-    writer.close(alloc).end().leave();
+    let mut side = writer.close(alloc);
+    side.watch.close();
+    side.leave();
 }

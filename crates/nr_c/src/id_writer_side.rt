@@ -1,7 +1,7 @@
 //! What an id writer's handle leads to.
 ghost use Rattle.std.specs.Prelude.{◌≡◌, All};
 ghost use Rattle.nr_idmap.specs.Keepers.{id_table_of};
-ghost use Rattle.nr_c.specs.Closings.{Closes};
+ghost use Rattle.nr_c.specs.Endings.{HasEnded};
 ghost use Rattle.nr_c.specs.Ledgers.{AreOf};
 
 use crate::ledger::Ledger;
@@ -28,20 +28,8 @@ pub struct IdWriterSide {
 }
 
 impl IdWriterSide {
-    /// Tells the readers that the writer is closed, which ends with each open upquery, and with its share of the
-    /// map.
-    pub fn end(self) -> Watch
-        ensures { Closes self.watch result }
-    {
-        let IdWriterSide {
-            apart: _,
-            map: _,
-            writer: _,
-            spare: _,
-            ledger: _,
-            mut watch,
-        } = self;
-        watch.close();
-        watch
-    }
+    /// Ends it, of which contracts can tell from now on.
+    pub fn leave(self)
+        ensures { HasEnded self }
+    {}
 }

@@ -170,7 +170,9 @@ pub extern "C" fn nr_close_writer(alloc: Global, writer: &mut NrWriter)
     if !writer.is_live() {
         return;
     }
-    writer.close(alloc).end().leave();
+    let mut side = writer.close(alloc);
+    side.watch.close();
+    side.leave();
 }
 
 /// The map's sizes: `NR_DONE`; or `NR_CLOSED`, and `sizes` stay.

@@ -8,7 +8,6 @@ ghost use Rattle.nr_c.specs.declared.poster_side.PosterSide.{PosterSide};
 ghost use Rattle.nr_c.specs.Handles.{handle_owns, side_coded};
 
 use crate::poster_side::PosterSide;
-use nr_trigger::Poster;
 use std::alloc::Global;
 use std::marker::Model;
 
@@ -46,13 +45,12 @@ impl NrPoster {
         self.handle().is_live()
     }
 
-    /// Ends the poster, and its share of the queue. The handle leads nowhere then.
-    pub fn close(&mut self, alloc: Global) -> Poster
+    /// Gives back what the handle leads to. It leads nowhere then.
+    pub fn close(&mut self, alloc: Global) -> PosterSide
         requires { (side : PosterSide) × (self.old.live ≡ side ∷ []) }
-        ensures ends { (side : PosterSide) → self.old.live ≡ side ∷ [] → result ≡ side.poster }
+        ensures ends { (side : PosterSide) → self.old.live ≡ side ∷ [] → result ≡ side }
         ensures empty { self.new.live ≡ [] }
     {
-        let side = Box::into_inner(self.handle().take(alloc));
-        side.poster
+        Box::into_inner(self.handle().take(alloc))
     }
 }

@@ -2,6 +2,7 @@
 ghost use Rattle.std.specs.Prelude.{◌≡◌, ◌↔◌, ◌⊎◌, ℕ, [], Err, IfOk, IfErr};
 ghost use Rattle.nr_model.specs.Sizes.{IsBadSize};
 ghost use Rattle.nr_core.specs.declared.shape.TheConstants.{MAX_LARGE_READERS, MAX_LARGE_SLOTS};
+ghost use Rattle.nr_c.specs.Endings.{EndsSide};
 ghost use Rattle.nr_c.specs.Live.{WhenBothLive, WhenEmpty, WhenOther};
 ghost use Rattle.nr_c.specs.Queues.{IsNewQueue, OneQueue, OpensQueue, ReturnsPoster, TakesPoster};
 
@@ -142,27 +143,31 @@ pub extern "C" fn nr_return_poster(alloc: Global, taker: &mut NrTaker, poster: &
     if side.spare.try_reserve(1).is_err() {
         return NR_NO_MEMORY;
     }
-    side.spare.push_reserved(poster.close(alloc));
+    side.spare.push_reserved(poster.close(alloc).poster);
     NR_DONE
 }
 
 /// Ends a poster, which no handle gets again. Nothing happens where the handle isn't live.
 #[unsafe(no_mangle)]
 pub extern "C" fn nr_close_poster(alloc: Global, poster: &mut NrPoster)
-    ensures { poster.new.live ≡ [] }
+    ensures empty { poster.new.live ≡ [] }
+    ensures ends { EndsSide poster.old.live }
 {
-    if poster.is_live() {
-        drop(poster.close(alloc));
+    if !poster.is_live() {
+        return;
     }
+    poster.close(alloc).leave();
 }
 
 /// Ends the taker. The memory of the queue goes with the last handle. Nothing happens where the handle
 /// isn't live.
 #[unsafe(no_mangle)]
 pub extern "C" fn nr_close_taker(alloc: Global, taker: &mut NrTaker)
-    ensures { taker.new.live ≡ [] }
+    ensures empty { taker.new.live ≡ [] }
+    ensures ends { EndsSide taker.old.live }
 {
-    if taker.is_live() {
-        drop(taker.close(alloc));
+    if !taker.is_live() {
+        return;
     }
+    taker.close(alloc).leave();
 }

@@ -1,5 +1,6 @@
 //! A map that is taken apart, and the sets that come out of what remains.
 ghost use Rattle.std.specs.Prelude.{◌≡◌, []};
+ghost use Rattle.nr_c.specs.Endings.{EndsSide};
 ghost use Rattle.nr_c.specs.Live.{WhenLive, WhenOther};
 ghost use Rattle.nr_c.specs.Remains.{NextByCode, TakesApart};
 
@@ -73,9 +74,11 @@ pub extern "C" fn nr_next(remains: &mut NrRemains, had: &mut NrRows) -> u32
 /// happens where the handle isn't live.
 #[unsafe(no_mangle)]
 pub extern "C" fn nr_close_remains(alloc: Global, remains: &mut NrRemains)
-    ensures { remains.new.live ≡ [] }
+    ensures empty { remains.new.live ≡ [] }
+    ensures ends { EndsSide remains.old.live }
 {
-    if remains.is_live() {
-        remains.close(alloc);
+    if !remains.is_live() {
+        return;
     }
+    remains.close(alloc).leave();
 }

@@ -45,11 +45,12 @@ impl NrRemains {
         self.handle().is_live()
     }
 
-    /// Ends what remains, and its share of the map. The handle leads nowhere then.
-    pub fn close(&mut self, alloc: Global)
+    /// Gives back what the handle leads to. It leads nowhere then.
+    pub fn close(&mut self, alloc: Global) -> RemainsSide
         requires { (side : RemainsSide) × (self.old.live ≡ side ∷ []) }
-        ensures { self.new.live ≡ [] }
+        ensures ends { (side : RemainsSide) → self.old.live ≡ side ∷ [] → result ≡ side }
+        ensures empty { self.new.live ≡ [] }
     {
-        drop(self.handle().take(alloc));
+        Box::into_inner(self.handle().take(alloc))
     }
 }

@@ -8,7 +8,6 @@ ghost use Rattle.nr_c.specs.declared.taker_side.TakerSide.{TakerSide};
 ghost use Rattle.nr_c.specs.Handles.{handle_owns, side_coded};
 
 use crate::taker_side::TakerSide;
-use nr_trigger::Taker;
 use std::alloc::Global;
 use std::marker::Model;
 
@@ -46,13 +45,12 @@ impl NrTaker {
         self.handle().is_live()
     }
 
-    /// Ends the taker, and its share of the queue. The handle leads nowhere then.
-    pub fn close(&mut self, alloc: Global) -> Taker
+    /// Gives back what the handle leads to. It leads nowhere then.
+    pub fn close(&mut self, alloc: Global) -> TakerSide
         requires { (side : TakerSide) × (self.old.live ≡ side ∷ []) }
-        ensures ends { (side : TakerSide) → self.old.live ≡ side ∷ [] → result ≡ side.taker }
+        ensures ends { (side : TakerSide) → self.old.live ≡ side ∷ [] → result ≡ side }
         ensures empty { self.new.live ≡ [] }
     {
-        let side = Box::into_inner(self.handle().take(alloc));
-        side.taker
+        Box::into_inner(self.handle().take(alloc))
     }
 }

@@ -2,7 +2,6 @@
 //! functions make one step each.
 ghost use Rattle.std.specs.Prelude.{◌≡◌, IfOk};
 ghost use Rattle.nr_c.specs.Closings.{Closes, Hears, IsNewWatch, Looks};
-ghost use Rattle.nr_c.specs.Endings.{HasEnded};
 
 use crate::codes::{NR_CLOSED, NR_ROWS};
 use atomic_table::{Play, Seat, Table, TableRule};
@@ -134,9 +133,4 @@ impl Watch {
     {
         self.word.table.shared.store::<Close>(&mut self.seat, 0, 1);
     }
-
-    /// Ends it, of which contracts can tell from now on.
-    pub fn leave(self)
-        ensures { HasEnded self }
-    {}
 }

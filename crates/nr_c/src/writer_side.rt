@@ -1,7 +1,7 @@
 //! What the writer's handle leads to.
 ghost use Rattle.std.specs.Prelude.{◌≡◌, ◌≢◌, ◌<◌, ◌≤◌, All, length};
 ghost use Rattle.std.specs.Bool.{OnFalse, OnTrue};
-ghost use Rattle.nr_c.specs.Closings.{Closes};
+ghost use Rattle.nr_c.specs.Endings.{HasEnded};
 
 use crate::reader_side::APART;
 use crate::remains_side::RemainsSide;
@@ -28,21 +28,10 @@ pub struct WriterSide {
 }
 
 impl WriterSide {
-    /// Tells the readers that the writer is closed, which ends with this, and with it its share of the map.
-    pub fn end(self) -> Watch
-        ensures { Closes self.watch result }
-    {
-        let WriterSide {
-            map: _,
-            apart: _,
-            writer: _,
-            spare: _,
-            room: _,
-            mut watch,
-        } = self;
-        watch.close();
-        watch
-    }
+    /// Ends it, of which contracts can tell from now on.
+    pub fn leave(self)
+        ensures { HasEnded self }
+    {}
 
     /// Whether its map has that key.
     pub fn has_key(&self, key: u32) -> bool

@@ -1,5 +1,5 @@
 use Rattle.std.proofs.Common.{◌≡◌, [], ◌∷◌, ◌++◌, ap, inl, inr, refl, sym, ◌∙◌}
-use Rattle.nr_trigger.specs.Tokens.{PosterSeen}
+use Rattle.nr_c.specs.declared.poster_side.PosterSide.{PosterSide}
 use Rattle.nr_c.proofs.queues.nr_return_poster.Goals as goal
 
 pub returns-then-is_err : goal.returns-then-is_err
@@ -33,8 +33,8 @@ returns c =
     let was : c.args.taker.now.live ≡ side ∷ []
     = ap (λ handle. handle.live) (sym c.is_live.ensures.same) ∙ c.side-side.ensures.value in
     let back : c.push_reserved.new.self.items ≡ side.spare.items ++ held.poster ∷ [] = c.push_reserved.ensures.items
-    ∙ ap (λ items. items ++ c.close.result ∷ []) c.try_reserve.ensures.items
-    ∙ ap (λ (one : PosterSeen). side.spare.items ++ one ∷ [])
+    ∙ ap (λ items. items ++ c.close.result.poster ∷ []) c.try_reserve.ensures.items
+    ∙ ap (λ (one : PosterSide). side.spare.items ++ one.poster ∷ [])
     (c.close.ensures.ends held led) in
     inr (
       (side, was),
