@@ -20,6 +20,7 @@ returns-in-Err-Full-clause-admits g c =
       asked.2,
     )
 
+-- Of these two the claim needs no upquery.
 pub returns-in-Err-NoClaim-clause-admits : goal.returns-in-Err-NoClaim-clause-admits
 returns-in-Err-NoClaim-clause-admits g c =
     let asked = c.in-Err-NoClaim.ensures.admits in (
