@@ -19,6 +19,16 @@ returns-in-Evicted-clause-gone c =
     c.is_tied-2.ensures (λ way. c.evict-answer.ensures.owes way ∙ c.requires.owes way) c.requires.id
     (returns-in-Evicted-clause-takes c)
 
+pub returns-in-Evicted-clause-values : goal.returns-in-Evicted-clause-values
+returns-in-Evicted-clause-values c =
+    evict_brings c.args.id c.args.writer.now c.evict-answer.new.writer c.evict-answer.result
+    c.evict-answer.ensures.evicts c.requires.values
+
+pub returns-in-Nothing-clause-values : goal.returns-in-Nothing-clause-values
+returns-in-Nothing-clause-values c =
+    evict_brings c.args.id c.args.writer.now c.evict-answer.new.writer c.evict-answer.result
+    c.evict-answer.ensures.evicts c.requires.values
+
 pub returns-in-Nothing-clause-takes : goal.returns-in-Nothing-clause-takes
 returns-in-Nothing-clause-takes c =
     takes_none c.named_is_owed_or_resident.ensures c.unnamed_is_absent.ensures c.args.id c.args.writer.now
@@ -32,13 +42,3 @@ returns-in-Nothing-clause-gone c =
     gone_after c.unnamed_is_absent.ensures c.args.id c.args.writer.now c.evict-answer.new.writer false c.is_tied.ensures
     c.is_tied-2.ensures (λ way. c.evict-answer.ensures.owes way ∙ c.requires.owes way) c.requires.id
     (returns-in-Nothing-clause-takes c)
-
-pub returns-in-Evicted-clause-values : goal.returns-in-Evicted-clause-values
-returns-in-Evicted-clause-values c =
-    evict_brings c.args.id c.args.writer.now c.evict-answer.new.writer c.evict-answer.result
-    c.evict-answer.ensures.evicts c.requires.values
-
-pub returns-in-Nothing-clause-values : goal.returns-in-Nothing-clause-values
-returns-in-Nothing-clause-values c =
-    evict_brings c.args.id c.args.writer.now c.evict-answer.new.writer c.evict-answer.result
-    c.evict-answer.ensures.evicts c.requires.values
