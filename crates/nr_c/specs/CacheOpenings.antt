@@ -68,6 +68,13 @@ TakesCacheReader before other after handle code =
     ⊎ ((code ≡ answer_no_memory) × (rest : List IdCaller) × (reader : IdCaller)
     × KeepsCache before after (rest ++ reader ∷ []) (rest ++ reader ∷ []) × (handle ≡ other))
 
--- what the handle knew of the cache ended, having closed it, of which its readers are told
+-- the cache is closed, of which its readers are told; all else that its handle led to is as it was
+pub record ClosesCacheSide (old new : CacheSide) : Type 0 where
+  pub map : new.map ≡ old.map
+  pub store : new.store ≡ old.store
+  pub spare : new.spare ≡ old.spare
+  pub watch : Closes old.watch new.watch
+
+-- all that the handle led to ended, once the cache was closed
 abbrev pub EndsCache : List CacheSide → Type 0
-EndsCache before = (side : CacheSide) → before ≡ side ∷ [] → Ends (Closes side.watch)
+EndsCache before = (side : CacheSide) → before ≡ side ∷ [] → Ends (ClosesCacheSide side)

@@ -123,5 +123,7 @@ pub extern "C" fn nr_close_cache(alloc: Global, cache: &mut NrCache)
     if !cache.is_live() {
         return;
     }
-    cache.close(alloc).end().leave();
+    let mut side = cache.close(alloc);
+    side.watch.close();
+    side.leave();
 }

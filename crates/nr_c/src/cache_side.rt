@@ -1,8 +1,7 @@
 //! What a cache's handle leads to.
 ghost use Rattle.std.specs.Prelude.{◌≡◌, All};
 ghost use Rattle.nr_idmap.specs.Keepers.{id_table_of};
-ghost use Rattle.nr_c.specs.Closings.{Closes};
-ghost use Rattle.nr_c.specs.Endings.{Ends};
+ghost use Rattle.nr_c.specs.Endings.{HasEnded};
 
 use crate::reader_side::APART;
 use crate::watch::Watch;
@@ -25,28 +24,21 @@ pub struct CacheSide {
 
 // A store is closed.
 impl Drop for CacheSide {
-    fn drop(self)
-        ensures { Ends (Closes self.watch) }
-    {
-        self.end().leave();
-    }
-}
-
-impl CacheSide {
-    /// Tells the readers that the store is closed, which ends with each flight that is under way, and with its
-    /// share of the map.
-    pub fn end(self) -> Watch
-        ensures { Closes self.watch result }
-    {
+    fn drop(self) {
         let CacheSide {
             apart: _,
             map: _,
             store,
             spare: _,
-            mut watch,
+            watch: _,
         } = self;
         store.close();
-        watch.close();
-        watch
     }
+}
+
+impl CacheSide {
+    /// Ends it, of which contracts can tell from now on.
+    pub fn leave(self)
+        ensures { HasEnded self }
+    {}
 }
