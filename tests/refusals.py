@@ -30,7 +30,7 @@ TOLD = re.compile(r"(?:note: )?(?:\./)?(\S+?):(\d+):\d+: (.*)")
 # Of these crates' wrong bodies it isn't known yet of which only a proof's text is refused: there that is told, and passes.
 UNSORTED = set(
     "nr_board nr_map nr_idmap nr_serve nr_idserve nr_c"
-    " nr_load nr_script".split()
+    " nr_load".split()
 )
 # What the prover says of a goal that it tried, or that a tactic of its proof did.
 OPEN = re.compile(r"it is not proved that|: no proof of |does not follow|found no proof")
