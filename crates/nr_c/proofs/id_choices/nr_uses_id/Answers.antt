@@ -12,7 +12,7 @@ returns-then-id-eq0 c = let (side, is) = c.if-not-is_live.ensures.live in inr (i
 ))
 
 pub returns-then-used : goal.returns-then-used
-returns-then-used c = inr (inr (
+returns-then-used c = let has = c.uses-used.ensures.uses in inr (inr (
   omega (arith, c.if-id-eq0.false),
   record {
     old = c.side-side.result.now;
@@ -27,7 +27,7 @@ returns-then-used c = inr (inr (
           became_so = (
             c.uses-used.result,
             ap (λ (b : Bool). cond {A = ℕ} b answer_done answer_nothing) (sym c.if-used.true),
-            c.uses-used.ensures.uses,
+            has,
             c.uses-used.ensures.stays,
           );
           owes = c.uses-used.ensures.stays.owes;
@@ -38,7 +38,7 @@ returns-then-used c = inr (inr (
 ))
 
 pub returns-else-used : goal.returns-else-used
-returns-else-used c = inr (inr (
+returns-else-used c = let lacks = c.uses-used.ensures.uses in inr (inr (
   omega (arith, c.if-id-eq0.false),
   record {
     old = c.side-side.result.now;
@@ -53,7 +53,7 @@ returns-else-used c = inr (inr (
           became_so = (
             c.uses-used.result,
             ap (λ (b : Bool). cond {A = ℕ} b answer_done answer_nothing) (sym c.if-used.false),
-            c.uses-used.ensures.uses,
+            lacks,
             c.uses-used.ensures.stays,
           );
           owes = c.uses-used.ensures.stays.owes;

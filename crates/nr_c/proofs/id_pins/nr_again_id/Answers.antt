@@ -25,7 +25,7 @@ returns-then-not-holds c = inr (inr (
 ))
 
 pub returns-then-found : goal.returns-then-found
-returns-then-found c = inr (inr (
+returns-then-found c = let has = c.again-found.ensures.again in inr (inr (
   omega (arith, c.if-id-eq0.false),
   inr (record {
     old = c.side-side.result.now;
@@ -38,13 +38,13 @@ returns-then-found c = inr (inr (
       c.again-found.result,
       ap (λ (b : Bool). cond {A = ℕ} b answer_rows answer_other) (sym c.if-found.true),
       c.if-not-holds.ensures.some,
-      c.again-found.ensures.again,
+      has,
     );
   }),
 ))
 
 pub returns-else-found : goal.returns-else-found
-returns-else-found c = inr (inr (
+returns-else-found c = let lacks = c.again-found.ensures.again in inr (inr (
   omega (arith, c.if-id-eq0.false),
   inr (record {
     old = c.side-side.result.now;
@@ -57,7 +57,7 @@ returns-else-found c = inr (inr (
       c.again-found.result,
       ap (λ (b : Bool). cond {A = ℕ} b answer_rows answer_other) (sym c.if-found.false),
       c.if-not-holds.ensures.some,
-      c.again-found.ensures.again,
+      lacks,
     );
   }),
 ))
