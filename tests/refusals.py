@@ -28,8 +28,6 @@ from functions import files_of
 PART = 36  # wrong bodies, at most
 HEAD = re.compile(r"[^#/]*\bfn \w+")
 TOLD = re.compile(r"(?:note: )?(?:\./)?(\S+?):(\d+):\d+: (.*)")
-# Of these crates' wrong bodies it isn't known yet of which only a proof's text is refused: there that is told, and passes.
-UNSORTED = set("nr_c".split())
 # What the prover says of a goal that it tried, or that a tactic of its proof did.
 OPEN = re.compile(r"it is not proved that|: no proof of |does not follow|found no proof")
 
@@ -289,9 +287,8 @@ def try_all(rt, crate, edits, kept):
         else:
             kit.say(told)
     by_goal = sum(it.is_open for it in found.values())
-    by_text = len(found) - by_goal
-    passed = len(edits) - by_goal - (by_text if crate.name in UNSORTED else 0)
-    return collections.Counter(refused=by_goal, passed=passed, by_text=by_text, alone=len(alone))
+    counts = {"refused": by_goal, "passed": len(edits) - by_goal, "by_text": len(found) - by_goal, "alone": len(alone)}
+    return collections.Counter(counts)
 
 
 def tell(counts):
