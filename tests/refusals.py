@@ -28,10 +28,7 @@ from functions import files_of
 HEAD = re.compile(r"[^#/]*\bfn \w+")
 TOLD = re.compile(r"(?:note: )?(?:\./)?(\S+?):(\d+):\d+: (.*)")
 # Of these crates' wrong bodies it isn't known yet of which only a proof's text is refused: there that is told, and passes.
-UNSORTED = set(
-    "nr_board nr_map nr_idmap nr_serve nr_idserve nr_c"
-    " nr_load".split()
-)
+UNSORTED = set("nr_board nr_map nr_idmap nr_serve nr_idserve nr_load".split())
 # What the prover says of a goal that it tried, or that a tactic of its proof did.
 OPEN = re.compile(r"it is not proved that|: no proof of |does not follow|found no proof")
 
