@@ -131,8 +131,8 @@ static inline const char *nr_strerror(uint32_t answer) {
 uint32_t nr_version(void);
 
 /* How many bytes a struct takes in the library, for programs in another language, or linked to another library, that
-   compare it with what they have. The structs below count from nr_row, 0, to nr_wanted_id, 16; beyond these the answer
-   is 0. */
+   compare it with what they have. The structs below count from nr_row, 0, to nr_given, 23; beyond these the answer is
+   0. */
 uint32_t nr_struct_size(uint32_t place);
 
 /* VALUES */

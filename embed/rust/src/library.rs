@@ -14,9 +14,9 @@ macro_rules! version {
 /// What is said of any other.
 pub const IS_ANOTHER: &str = concat!("the library that is linked isn't that of version ", version!());
 
-/// What the header's structs take here, in its order: five of them are handles, as are the last two but one. The last has an id
-/// and its answer before its rows; no call of this crate takes it.
-const SIZES: [usize; 17] = [
+/// What the header's structs take here, in its order: five of them are handles, as are two by id. The one behind these has an
+/// id and its answer before its rows. That and those of C's cache no call of this crate takes.
+const SIZES: [usize; 24] = [
     size_of::<Row>(),
     size_of::<Rows>(),
     size_of::<Wanted>(),
@@ -34,6 +34,13 @@ const SIZES: [usize; 17] = [
     size_of::<Handle>(),
     size_of::<Handle>(),
     size_of::<[u64; 2]>() + size_of::<Rows>(),
+    size_of::<[u64; 3]>(),
+    size_of::<Handle>(),
+    size_of::<Handle>(),
+    size_of::<[u64; 2]>(),
+    size_of::<[u64; 3]>(),
+    size_of::<[u64; 2]>(),
+    size_of::<[u64; 3]>(),
 ];
 
 /// Refuses a library of another version, or one whose structs have other sizes.
