@@ -14,6 +14,10 @@ has_ended seen = tt
 abbrev pub Ends : {Seen : Type 0} → (Seen → Type 0) → Type 0
 Ends {Seen = Seen} holds = (token : Seen) × HasEnded token × holds token
 
+-- so did a share of a map, and what was known of its writer
+abbrev pub EndsShare : {Map Knows : Type 0} → Map → Knows → Type 0
+EndsShare map watch = HasEnded map × HasEnded watch
+
 -- all that a handle led to ended
 abbrev pub EndsSide : {Side : Type 0} → List Side → Type 0
 EndsSide {Side = Side} before = (side : Side) → before ≡ side ∷ [] → HasEnded side

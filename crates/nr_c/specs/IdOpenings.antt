@@ -8,7 +8,7 @@ use Rattle.nr_c.specs.declared.id_reader_side.IdReaderSide.{IdReaderSide}
 use Rattle.nr_c.specs.declared.id_shape.NrIdShape.{NrIdShape}
 use Rattle.nr_c.specs.declared.id_writer_side.IdWriterSide.{IdWriterSide}
 use Rattle.nr_c.specs.Closings.{Closes, IsNewWatch}
-use Rattle.nr_c.specs.Endings.{Ends}
+use Rattle.nr_c.specs.Endings.{Ends, EndsShare}
 use Rattle.nr_c.specs.Hands.{EndsIdHand}
 use Rattle.nr_c.specs.Ledgers.{no_entries}
 use Rattle.nr_c.specs.Numbers.{answer_bad_size, answer_done, answer_no_memory, answer_no_reader}
@@ -76,9 +76,10 @@ TakesIdReader before other after handle code =
     ⊎ ((code ≡ answer_no_memory) × (rest : List IdCaller) × (reader : IdCaller)
     × KeepsIdWriter before after (rest ++ reader ∷ []) (rest ++ reader ∷ []) × (handle ≡ other))
 
--- the reader that a handle led to ended, having let go what it held
+-- the reader that a handle led to ended, having let go what it held, and its share of the map
 abbrev pub EndsIdReader : List IdReaderSide → Type 0
-EndsIdReader before = (side : IdReaderSide) → before ≡ side ∷ [] → Ends (EndsIdHand side.hand)
+EndsIdReader before =
+    (side : IdReaderSide) → before ≡ side ∷ [] → Ends (EndsIdHand side.hand) × EndsShare side.map side.watch
 
 -- the writer is closed, of which the readers of its map are told; all else that its handle led to is as it was
 pub record ClosesIdSide (old new : IdWriterSide) : Type 0 where

@@ -6,7 +6,7 @@ use Rattle.nr_board.specs.Callers.{Caller}
 use Rattle.nr_map.specs.Hands.{idle}
 use Rattle.nr_map.specs.Opened.{IsOpened, words_of_large}
 use Rattle.nr_c.specs.Closings.{Closes, IsNewWatch}
-use Rattle.nr_c.specs.Endings.{Ends}
+use Rattle.nr_c.specs.Endings.{Ends, EndsShare}
 use Rattle.nr_c.specs.Hands.{EndsHand}
 use Rattle.nr_c.specs.Numbers.{answer_bad_size, answer_done, answer_no_memory, answer_no_reader}
 use Rattle.nr_c.specs.declared.reader_side.ReaderSide.{ReaderSide}
@@ -69,12 +69,14 @@ TakesReader before other after handle code =
 abbrev pub ReturnsReader : List WriterSide → List ReaderSide → List WriterSide → List ReaderSide → ℕ → Type 0
 ReturnsReader before other after handle code =
     ((code ≡ answer_done) × (rest : List Caller) × (reader : Caller) × (held : ReaderSide) × (other ≡ held ∷ [])
-    × EndsHand held.hand reader × KeepsWriter before after rest (rest ++ reader ∷ []) × (handle ≡ []))
+    × EndsHand held.hand reader × EndsShare held.map held.watch
+    × KeepsWriter before after rest (rest ++ reader ∷ []) × (handle ≡ []))
     ⊎ ((code ≡ answer_no_memory) × (rest : List Caller) × KeepsWriter before after rest rest × (handle ≡ other))
 
--- the reader that a handle led to ended, having let go what it held
+-- the reader that a handle led to ended, having let go what it held, and its share of the map
 abbrev pub EndsReader : List ReaderSide → Type 0
-EndsReader before = (side : ReaderSide) → before ≡ side ∷ [] → Ends (EndsHand side.hand)
+EndsReader before =
+    (side : ReaderSide) → before ≡ side ∷ [] → Ends (EndsHand side.hand) × EndsShare side.map side.watch
 
 -- the writer is closed, of which the readers of its map are told; all else that its handle led to is as it was
 pub record ClosesSide (old new : WriterSide) : Type 0 where

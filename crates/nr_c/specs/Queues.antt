@@ -3,6 +3,7 @@ use Rattle.std.specs.Prelude.{ℕ, ◌≡◌, ◌↔◌, ◌⊎◌, List, [], �
 use Rattle.nr_model.specs.Sizes.{IsBadSize}
 use Rattle.nr_core.specs.declared.shape.TheConstants.{MAX_LARGE_READERS, MAX_LARGE_SLOTS}
 use Rattle.nr_trigger.specs.Tokens.{IsOpenedQueue, PosterSeen}
+use Rattle.nr_c.specs.Endings.{HasEnded}
 use Rattle.nr_c.specs.Numbers.{answer_bad_size, answer_done, answer_no_memory, answer_no_poster}
 use Rattle.nr_c.specs.declared.poster_side.PosterSide.{PosterSide}
 use Rattle.nr_c.specs.declared.taker_side.TakerSide.{TakerSide}
@@ -64,5 +65,5 @@ OneQueue [] poster = ⊤
 abbrev pub ReturnsPoster : List TakerSide → List PosterSide → List TakerSide → List PosterSide → ℕ → Type 0
 ReturnsPoster before other after handle code =
     ((code ≡ answer_done) × (rest : List PosterSeen) × (held : PosterSide) × (other ≡ held ∷ [])
-    × KeepsTaker before after rest (rest ++ held.poster ∷ []) × (handle ≡ []))
+    × HasEnded held.queue × KeepsTaker before after rest (rest ++ held.poster ∷ []) × (handle ≡ []))
     ⊎ ((code ≡ answer_no_memory) × (rest : List PosterSeen) × KeepsTaker before after rest rest × (handle ≡ other))

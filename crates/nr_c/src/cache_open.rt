@@ -10,8 +10,8 @@ use crate::cache_reader_handle::NrCacheReader;
 use crate::cache_shape::NrCacheShape;
 use crate::cache_side::CacheSide;
 use crate::codes::{NR_BAD_SIZE, NR_CLOSED, NR_DONE, NR_LIVE, NR_NO_MEMORY, NR_NO_READER};
+use crate::ending::leave;
 use crate::id_open::seated_by_id;
-use crate::id_reader_side::leave_by_id;
 use crate::reader_side::APART;
 use crate::watch::Watch;
 use nr_cache::Store;
@@ -110,7 +110,7 @@ pub extern "C" fn nr_close_cache_reader(alloc: Global, reader: &mut NrCacheReade
     if !reader.is_live() {
         return;
     }
-    leave_by_id(reader.close(alloc));
+    leave(reader.close(alloc));
 }
 
 /// Ends the cache, and with it each flight that is under way. Readers are told of it. The memory of the map
@@ -125,5 +125,5 @@ pub extern "C" fn nr_close_cache(alloc: Global, cache: &mut NrCache)
     }
     let mut side = cache.close(alloc);
     side.watch.close();
-    side.leave();
+    leave(side);
 }

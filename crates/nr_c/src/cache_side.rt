@@ -1,7 +1,6 @@
 //! What a cache's handle leads to.
 ghost use Rattle.std.specs.Prelude.{◌≡◌, All};
 ghost use Rattle.nr_idmap.specs.Keepers.{id_table_of};
-ghost use Rattle.nr_c.specs.Endings.{HasEnded};
 
 use crate::reader_side::APART;
 use crate::watch::Watch;
@@ -34,11 +33,4 @@ impl Drop for CacheSide {
         } = self;
         store.close();
     }
-}
-
-impl CacheSide {
-    /// Ends it, of which contracts can tell from now on.
-    pub fn leave(self)
-        ensures { HasEnded self }
-    {}
 }

@@ -8,8 +8,9 @@ ghost use Rattle.nr_c.specs.Closings.{IsNewWatch};
 ghost use Rattle.nr_c.specs.IdOpenings.{EndsIdReader, EndsIdWriter, IsNewIdWriter, OpensIdMap, TakesIdReader, id_shape_of};
 
 use crate::codes::{NR_BAD_SIZE, NR_CLOSED, NR_DONE, NR_LIVE, NR_NO_MEMORY, NR_NO_READER};
+use crate::ending::leave;
 use crate::id_reader_handle::NrIdReader;
-use crate::id_reader_side::{IdReaderSide, leave_by_id};
+use crate::id_reader_side::IdReaderSide;
 use crate::id_shape::NrIdShape;
 use crate::id_writer_handle::NrIdWriter;
 use crate::id_writer_side::IdWriterSide;
@@ -141,7 +142,7 @@ pub extern "C" fn nr_close_id_reader(alloc: Global, reader: &mut NrIdReader)
     if !reader.is_live() {
         return;
     }
-    leave_by_id(reader.close(alloc));
+    leave(reader.close(alloc));
 }
 
 /// Ends the writer, and with it each upquery that is open. Readers are told of it. The memory of the map goes
@@ -156,5 +157,5 @@ pub extern "C" fn nr_close_id_writer(alloc: Global, writer: &mut NrIdWriter)
     }
     let mut side = writer.close(alloc);
     side.watch.close();
-    side.leave();
+    leave(side);
 }

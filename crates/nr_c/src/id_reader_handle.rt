@@ -6,6 +6,7 @@ ghost use base.Stored.{coded_list};
 ghost use Rattle.nr_c.specs.contracts.id_reader_side.IdReaderSide.{the_row};
 ghost use Rattle.nr_c.specs.declared.id_reader_side.IdReaderSide.{IdReaderSide};
 ghost use Rattle.nr_c.specs.Hands.{EndsIdHand};
+ghost use Rattle.nr_c.specs.Endings.{EndsShare};
 ghost use Rattle.nr_c.specs.Handles.{handle_owns, side_coded};
 
 use crate::id_reader_side::IdReaderSide;
@@ -52,6 +53,7 @@ impl NrIdReader {
     pub fn close(&mut self, alloc: Global) -> IdReader
         requires { (side : IdReaderSide) × (self.old.live ≡ side ∷ []) }
         ensures ends { (side : IdReaderSide) → self.old.live ≡ side ∷ [] → EndsIdHand side.hand result }
+        ensures share { (side : IdReaderSide) → self.old.live ≡ side ∷ [] → EndsShare side.map side.watch }
         ensures empty { self.new.live ≡ [] }
     {
         Box::into_inner(self.handle().take(alloc)).end()

@@ -3,9 +3,10 @@ ghost use Rattle.std.specs.Prelude.{◌≡◌};
 ghost use Rattle.std.specs.Bool.{OnFalse, OnTrue};
 ghost use Rattle.nr_idmap.specs.IdHands.{hand_table_of, idle_by_id, reader_of};
 ghost use Rattle.nr_idmap.specs.Keepers.{id_table_of};
-ghost use Rattle.nr_c.specs.Endings.{Ends, HasEnded};
+ghost use Rattle.nr_c.specs.Endings.{Ends, EndsShare};
 ghost use Rattle.nr_c.specs.Hands.{EndsIdHand, HoldsAnId, HoldsNoId};
 
+use crate::ending::leave;
 use crate::reader_side::APART;
 use crate::watch::Watch;
 use nr_idmap::{IdHand, IdMap, IdReader};
@@ -22,17 +23,13 @@ pub struct IdReaderSide {
     ghost own: { hand_table_of hand ≡ map.value },
 }
 
-/// Ends a reader, of which contracts can tell from now on.
-pub fn leave_by_id(reader: IdReader)
-    ensures { HasEnded reader }
-{}
-
 // A reader that holds a set is released.
 impl Drop for IdReaderSide {
     fn drop(self)
-        ensures { Ends (EndsIdHand self.hand) }
+        ensures ends { Ends (EndsIdHand self.hand) }
+        ensures share { EndsShare self.map self.watch }
     {
-        leave_by_id(self.end());
+        leave(self.end());
     }
 }
 
@@ -60,18 +57,22 @@ impl IdReaderSide {
         self.hand.id().is_some()
     }
 
-    /// The reader, which holds nothing any more. Its share of the map ends.
+    /// The reader, which holds nothing any more. Its share of the map ends, and what it knows of the writer.
     pub fn end(self) -> IdReader
         ensures ends { EndsIdHand self.hand result }
         ensures own { id_table_of result ≡ self.map.value }
+        ensures share { EndsShare self.map self.watch }
         ensures back { HoldsNoId self.hand → result ≡ reader_of self.hand }
     {
         let IdReaderSide {
             map,
             hand,
-            watch: _,
+            watch,
             apart: _,
         } = self;
-        hand.into_reader(&map)
+        let reader = hand.into_reader(&map);
+        leave(map);
+        leave(watch);
+        reader
     }
 }

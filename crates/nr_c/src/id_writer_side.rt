@@ -1,7 +1,6 @@
 //! What an id writer's handle leads to.
 ghost use Rattle.std.specs.Prelude.{◌≡◌, All};
 ghost use Rattle.nr_idmap.specs.Keepers.{id_table_of};
-ghost use Rattle.nr_c.specs.Endings.{HasEnded};
 ghost use Rattle.nr_c.specs.Ledgers.{AreOf};
 
 use crate::ledger::Ledger;
@@ -25,11 +24,4 @@ pub struct IdWriterSide {
     ghost own: { writer.table ≡ map.value },
     ghost spares: { All (λ reader. id_table_of reader ≡ map.value) spare.items },
     ghost owed: { AreOf map.value ledger },
-}
-
-impl IdWriterSide {
-    /// Ends it, of which contracts can tell from now on.
-    pub fn leave(self)
-        ensures { HasEnded self }
-    {}
 }

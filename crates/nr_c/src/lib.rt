@@ -26,6 +26,7 @@ mod cache_side;
 mod cache_takes;
 mod cache_values;
 mod codes;
+mod ending;
 mod handle;
 mod handle_lend;
 mod id_choices;

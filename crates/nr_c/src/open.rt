@@ -8,8 +8,9 @@ ghost use Rattle.nr_c.specs.Openings.{EndsReader, EndsWriter, IsNewWriter, IsRef
 ghost use Rattle.nr_c.specs.Sizes.{TellsSizes, shape_of_sizes};
 
 use crate::codes::{NR_BAD_SIZE, NR_CLOSED, NR_DONE, NR_LIVE, NR_NO_MEMORY, NR_NO_READER};
+use crate::ending::leave;
 use crate::reader_handle::NrReader;
-use crate::reader_side::{APART, ReaderSide, leave};
+use crate::reader_side::{APART, ReaderSide};
 use crate::remains_side::RemainsSide;
 use crate::sizes::{NrShape, NrSizes};
 use crate::watch::Watch;
@@ -172,7 +173,7 @@ pub extern "C" fn nr_close_writer(alloc: Global, writer: &mut NrWriter)
     }
     let mut side = writer.close(alloc);
     side.watch.close();
-    side.leave();
+    leave(side);
 }
 
 /// The map's sizes: `NR_DONE`; or `NR_CLOSED`, and `sizes` stay.

@@ -1,6 +1,5 @@
 //! What a poster's handle leads to.
 ghost use Rattle.std.specs.Prelude.{◌≡◌};
-ghost use Rattle.nr_c.specs.Endings.{HasEnded};
 
 use nr_trigger::{Poster, Triggers};
 use std::alloc::Global;
@@ -16,11 +15,4 @@ pub struct PosterSide {
     pub keys: u32,
     ghost own: { poster.queue ≡ queue.value.id },
     ghost below: { poster.keys ≡ keys },
-}
-
-impl PosterSide {
-    /// Ends it, of which contracts can tell from now on.
-    pub fn leave(self)
-        ensures { HasEnded self }
-    {}
 }

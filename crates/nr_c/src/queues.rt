@@ -7,6 +7,7 @@ ghost use Rattle.nr_c.specs.Live.{WhenBothLive, WhenEmpty, WhenOther};
 ghost use Rattle.nr_c.specs.Queues.{IsNewQueue, OneQueue, OpensQueue, ReturnsPoster, TakesPoster};
 
 use crate::codes::{NR_BAD_SIZE, NR_CLOSED, NR_DONE, NR_LIVE, NR_NO_MEMORY, NR_NO_POSTER};
+use crate::ending::leave;
 use crate::poster_handle::NrPoster;
 use crate::poster_side::PosterSide;
 use crate::taker_handle::NrTaker;
@@ -143,7 +144,13 @@ pub extern "C" fn nr_return_poster(alloc: Global, taker: &mut NrTaker, poster: &
     if side.spare.try_reserve(1).is_err() {
         return NR_NO_MEMORY;
     }
-    side.spare.push_reserved(poster.close(alloc).poster);
+    let PosterSide {
+        queue,
+        poster,
+        keys: _,
+    } = poster.close(alloc);
+    leave(queue);
+    side.spare.push_reserved(poster);
     NR_DONE
 }
 
@@ -156,7 +163,7 @@ pub extern "C" fn nr_close_poster(alloc: Global, poster: &mut NrPoster)
     if !poster.is_live() {
         return;
     }
-    poster.close(alloc).leave();
+    leave(poster.close(alloc));
 }
 
 /// Ends the taker. The memory of the queue goes with the last handle. Nothing happens where the handle
@@ -169,5 +176,5 @@ pub extern "C" fn nr_close_taker(alloc: Global, taker: &mut NrTaker)
     if !taker.is_live() {
         return;
     }
-    taker.close(alloc).leave();
+    leave(taker.close(alloc));
 }

@@ -6,6 +6,7 @@ ghost use base.Stored.{coded_list};
 ghost use Rattle.nr_c.specs.contracts.reader_side.ReaderSide.{the_row};
 ghost use Rattle.nr_c.specs.declared.reader_side.ReaderSide.{ReaderSide};
 ghost use Rattle.nr_c.specs.Hands.{EndsHand};
+ghost use Rattle.nr_c.specs.Endings.{EndsShare};
 ghost use Rattle.nr_c.specs.Handles.{handle_owns, side_coded};
 
 use crate::reader_side::ReaderSide;
@@ -52,6 +53,7 @@ impl NrReader {
     pub fn close(&mut self, alloc: Global) -> Reader
         requires { (side : ReaderSide) × (self.old.live ≡ side ∷ []) }
         ensures ends { (side : ReaderSide) → self.old.live ≡ side ∷ [] → EndsHand side.hand result }
+        ensures share { (side : ReaderSide) → self.old.live ≡ side ∷ [] → EndsShare side.map side.watch }
         ensures own { (side : ReaderSide) → self.old.live ≡ side ∷ [] → result.table ≡ side.map.value }
         ensures empty { self.new.live ≡ [] }
     {

@@ -1,10 +1,11 @@
 //! What a reader's handle leads to.
 ghost use Rattle.std.specs.Prelude.{◌≡◌, ◌<◌, ◌≤◌};
 ghost use Rattle.std.specs.Bool.{OnFalse, OnTrue};
-ghost use Rattle.nr_c.specs.Endings.{Ends, HasEnded};
+ghost use Rattle.nr_c.specs.Endings.{Ends, EndsShare};
 ghost use Rattle.nr_c.specs.Hands.{EndsHand, HoldsNone, HoldsSome};
 ghost use Rattle.nr_map.specs.Hands.{idle};
 
+use crate::ending::leave;
 use crate::watch::Watch;
 use nr_map::{Hand, Reader, ReaderMap};
 use std::alloc::Global;
@@ -25,15 +26,11 @@ pub struct ReaderSide {
     ghost own: { hand.reader.table ≡ map.value },
 }
 
-/// Ends a reader, of which contracts can tell from now on.
-pub fn leave(reader: Reader)
-    ensures { HasEnded reader }
-{}
-
 // A reader that holds a set is released.
 impl Drop for ReaderSide {
     fn drop(self)
-        ensures { Ends (EndsHand self.hand) }
+        ensures ends { Ends (EndsHand self.hand) }
+        ensures share { EndsShare self.map self.watch }
     {
         leave(self.end());
     }
@@ -71,18 +68,22 @@ impl ReaderSide {
         self.hand.key().is_some()
     }
 
-    /// The reader, which holds nothing any more. Its share of the map ends.
+    /// The reader, which holds nothing any more. Its share of the map ends, and what it knows of the writer.
     pub fn end(self) -> Reader
         ensures ends { EndsHand self.hand result }
         ensures own { result.table ≡ self.map.value }
+        ensures share { EndsShare self.map self.watch }
         ensures back { HoldsNone self.hand → result ≡ self.hand.reader }
     {
         let ReaderSide {
             map,
             hand,
-            watch: _,
+            watch,
             apart: _,
         } = self;
-        hand.into_reader(&map)
+        let reader = hand.into_reader(&map);
+        leave(map);
+        leave(watch);
+        reader
     }
 }

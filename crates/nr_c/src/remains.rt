@@ -5,6 +5,7 @@ ghost use Rattle.nr_c.specs.Live.{WhenLive, WhenOther};
 ghost use Rattle.nr_c.specs.Remains.{NextByCode, TakesApart};
 
 use crate::codes::{NR_CLOSED, NR_DONE, NR_GIVEN, NR_LIVE, NR_NOTHING, NR_READERS_OUT};
+use crate::ending::leave;
 use crate::remains_handle::NrRemains;
 use crate::remains_side::LeftMap;
 use crate::rows::NrRows;
@@ -39,8 +40,9 @@ pub extern "C" fn nr_take_apart(
         writer,
         spare,
         mut room,
-        watch: _,
+        watch,
     } = writer.close(alloc);
+    leave(watch);
     let rest = map.leave(writer, spare);
     room.left = Some(LeftMap { map, rest });
     remains.lead_to(room);
@@ -80,5 +82,5 @@ pub extern "C" fn nr_close_remains(alloc: Global, remains: &mut NrRemains)
     if !remains.is_live() {
         return;
     }
-    remains.close(alloc).leave();
+    leave(remains.close(alloc));
 }

@@ -1,6 +1,5 @@
 //! What the handle of what remains of a map leads to.
 ghost use Rattle.std.specs.Prelude.{◌≡◌, None};
-ghost use Rattle.nr_c.specs.Endings.{HasEnded};
 
 use nr_map::{ReaderMap, Rest};
 use std::alloc::Global;
@@ -26,9 +25,4 @@ impl RemainsSide {
     {
         RemainsSide { left: None }
     }
-
-    /// Ends it, of which contracts can tell from now on.
-    pub fn leave(self)
-        ensures { HasEnded self }
-    {}
 }

@@ -1,6 +1,5 @@
 //! What the taker's handle leads to.
 ghost use Rattle.std.specs.Prelude.{◌≡◌, All};
-ghost use Rattle.nr_c.specs.Endings.{HasEnded};
 
 use nr_trigger::{Poster, Taker, Triggers};
 use std::alloc::Global;
@@ -20,11 +19,4 @@ pub struct TakerSide {
     ghost spares: { All (λ poster. poster.queue ≡ queue.value.id) spare.items },
     ghost below: { taker.keys ≡ keys },
     ghost each_below: { All (λ poster. poster.keys ≡ keys) spare.items },
-}
-
-impl TakerSide {
-    /// Ends it, of which contracts can tell from now on.
-    pub fn leave(self)
-        ensures { HasEnded self }
-    {}
 }

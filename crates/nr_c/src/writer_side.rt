@@ -1,7 +1,6 @@
 //! What the writer's handle leads to.
 ghost use Rattle.std.specs.Prelude.{◌≡◌, ◌≢◌, ◌<◌, ◌≤◌, All, length};
 ghost use Rattle.std.specs.Bool.{OnFalse, OnTrue};
-ghost use Rattle.nr_c.specs.Endings.{HasEnded};
 
 use crate::reader_side::APART;
 use crate::remains_side::RemainsSide;
@@ -28,11 +27,6 @@ pub struct WriterSide {
 }
 
 impl WriterSide {
-    /// Ends it, of which contracts can tell from now on.
-    pub fn leave(self)
-        ensures { HasEnded self }
-    {}
-
     /// Whether its map has that key.
     pub fn has_key(&self, key: u32) -> bool
         ensures has { OnTrue result (key < self.now.map.value.shape.keys) }

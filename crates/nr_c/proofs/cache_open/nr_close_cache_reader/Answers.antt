@@ -3,5 +3,5 @@ use Rattle.nr_c.proofs.cache_open.nr_close_cache_reader.Goals as goal
 
 pub returns-clause-ends : goal.returns-clause-ends
 returns-clause-ends c side led =
-    let ends = c.close.ensures.ends side (ap (λ handle. handle.live) c.is_live.ensures.same ∙ led) in
-    (c.close.result, c.leave_by_id.ensures, ends)
+    let was = ap (λ handle. handle.live) c.is_live.ensures.same ∙ led in
+    ((c.close.result, c.leave.ensures, c.close.ensures.ends side was), c.close.ensures.share side was)

@@ -42,6 +42,7 @@ returns c =
         held,
         ap (λ handle. handle.live) (sym c.is_live-else-not-is_live.ensures.same) ∙ led,
         c.close.ensures.ends held led,
+        c.close.ensures.share held led,
         record {
           old = side;
           new = _;

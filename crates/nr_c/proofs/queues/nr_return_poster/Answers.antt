@@ -1,4 +1,5 @@
-use Rattle.std.proofs.Common.{◌≡◌, [], ◌∷◌, ◌++◌, ap, inl, inr, refl, sym, ◌∙◌}
+use Rattle.std.proofs.Common.{◌≡◌, [], ◌∷◌, ◌++◌, ap, inl, inr, refl, subst, sym, ◌∙◌}
+use Rattle.nr_c.specs.Endings.{HasEnded}
 use Rattle.nr_c.specs.declared.poster_side.PosterSide.{PosterSide}
 use Rattle.nr_c.proofs.queues.nr_return_poster.Goals as goal
 
@@ -33,9 +34,9 @@ returns c =
     let was : c.args.taker.now.live ≡ side ∷ []
     = ap (λ handle. handle.live) (sym c.is_live.ensures.same) ∙ c.side-side.ensures.value in
     let back : c.push_reserved.new.self.items ≡ side.spare.items ++ held.poster ∷ [] = c.push_reserved.ensures.items
-    ∙ ap (λ items. items ++ c.close.result.poster ∷ []) c.try_reserve.ensures.items
+    ∙ ap (λ items. items ++ c.close-queue.result.poster ∷ []) c.try_reserve.ensures.items
     ∙ ap (λ (one : PosterSide). side.spare.items ++ one.poster ∷ [])
-    (c.close.ensures.ends held led) in
+    (c.close-queue.ensures.ends held led) in
     inr (
       (side, was),
       (held, ap (λ handle. handle.live) (sym c.is_live-else-not-is_live.ensures.same) ∙ led),
@@ -44,6 +45,7 @@ returns c =
         side.spare.items,
         held,
         ap (λ handle. handle.live) (sym c.is_live-else-not-is_live.ensures.same) ∙ led,
+        subst (λ (one : PosterSide). HasEnded one.queue) (c.close-queue.ensures.ends held led) c.leave.ensures,
         record {
           old = side;
           new = _;
@@ -54,6 +56,6 @@ returns c =
           had_spare = refl;
           has_spare = back;
         },
-        c.close.ensures.empty,
+        c.close-queue.ensures.empty,
       ),
     )

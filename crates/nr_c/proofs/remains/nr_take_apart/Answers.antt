@@ -1,5 +1,6 @@
 use Rattle.std.proofs.Common.{◌≡◌, ◌∙◌, [], ◌∷◌, inl, inr, refl, subst, sym, ap}
 use Rattle.nr_map.specs.Remains.{TakenApart}
+use Rattle.nr_c.specs.Endings.{HasEnded}
 use Rattle.nr_c.specs.declared.writer_side.WriterSide.{WriterSide}
 use Rattle.nr_c.proofs.remains.nr_take_apart.Goals as goal
 
@@ -58,5 +59,6 @@ returns c =
         is = refl;
         map = ap (λ (held : WriterSide). held.map) same;
         apart = subst (λ (held : WriterSide). TakenApart held.writer c.leave-rest.result) same c.leave-rest.ensures;
+        watch = subst (λ (held : WriterSide). HasEnded held.watch) same c.leave.ensures;
       }),
     ))

@@ -1,5 +1,0 @@
-use Rattle.nr_c.specs.Endings.{has_ended}
-use Rattle.nr_c.proofs.poster_side.PosterSide.leave.Goals as goal
-
-pub returns : goal.returns
-returns c = has_ended _
