@@ -253,8 +253,9 @@ typedef struct nr_wanted_id {
   nr_rows rows;
 } nr_wanted_id;
 
-/* The sizes of a cache. A group holds at most eight values, and there are 1 to 516,000; 1 to 65,533 readers; and room
-   for so many loads (flights), and so many changes of the base, that are under way. `key` is as of an nr_id_shape. */
+/* The sizes of a cache: 1 to 516,000 groups, each of which holds at most eight values, and 1 to 65,533 readers.
+   `flights` is how many loads may be under way at a time, and `changes` how many changes of the base. `key` is as in an
+   nr_id_shape. */
 typedef struct nr_cache_shape {
   uint32_t groups;
   uint32_t readers;

@@ -43,9 +43,9 @@ pub record CacheCalls (became : StoreSeen → StoreSeen → ℕ → Type 0) (bef
   pub made : became old.store new.store code
 
 -- a call that brings a value of an id: it is refused for the id 0, and then for the stamp 0
-abbrev pub BringsValue : ℕ → ℕ → Type 0 → (StoreSeen → StoreSeen → ℕ → Type 0) → List CacheSide → List CacheSide → ℕ
+abbrev pub BringsToCache : ℕ → ℕ → Type 0 → (StoreSeen → StoreSeen → ℕ → Type 0) → List CacheSide → List CacheSide → ℕ
     → Type 0
-BringsValue id stamp stays does =
+BringsToCache id stamp stays does =
     WhenLive stays (WithId id stays (WithNumber answer_bad_row stamp stays (CacheCalls does)))
 
 -- A FIND, AND A LOOK

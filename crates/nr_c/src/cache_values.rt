@@ -1,6 +1,6 @@
 //! How values come into a cache. One thread at a time.
 ghost use Rattle.std.specs.Prelude.{◌≡◌};
-ghost use Rattle.nr_c.specs.Caches.{BringsValue, CacheCalls, LandsByCode, PutsByCode, SwapsByCode};
+ghost use Rattle.nr_c.specs.Caches.{BringsToCache, CacheCalls, LandsByCode, PutsByCode, SwapsByCode};
 ghost use Rattle.nr_c.specs.IdLive.{WithNumber};
 ghost use Rattle.nr_c.specs.Live.{WhenLive};
 ghost use Rattle.nr_c.specs.Numbers.{answer_bad_row};
@@ -46,7 +46,7 @@ pub extern "C" fn nr_cache_put(
     value: u64,
     given: &mut GivenValue,
 ) -> u32
-    ensures { BringsValue id stamp (given.new ≡ given.old) (PutsByCode id stamp value given.old given.new) cache.old.live cache.new.live result }
+    ensures { BringsToCache id stamp (given.new ≡ given.old) (PutsByCode id stamp value given.old given.new) cache.old.live cache.new.live result }
 {
     if !cache.is_live() {
         return NR_CLOSED;
@@ -73,7 +73,7 @@ pub extern "C" fn nr_cache_swap(
     value: u64,
     given: &mut GivenValue,
 ) -> u32
-    ensures { BringsValue id stamp (given.new ≡ given.old) (SwapsByCode id old stamp value given.old given.new) cache.old.live cache.new.live result }
+    ensures { BringsToCache id stamp (given.new ≡ given.old) (SwapsByCode id old stamp value given.old given.new) cache.old.live cache.new.live result }
 {
     if !cache.is_live() {
         return NR_CLOSED;
