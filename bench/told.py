@@ -21,6 +21,14 @@ def number(text):
     return int(text) if text.lstrip("-").isdigit() else float(text)
 
 
+def over_processes(told):
+    """Of one process the median and the quartiles that it printed; of several those of their medians."""
+    if len(told) == 1:
+        return told[0]
+    medians, last = sorted(middle for middle, _, _ in told), len(told) - 1
+    return tuple(medians[int(part * last + 0.5)] for part in (0.5, 0.25, 0.75))
+
+
 def cells_of(run):
     """By what was measured, rows, kind, keys, draw, threads and writer: of each map the median and the quartiles."""
     cells = {}
@@ -29,8 +37,8 @@ def cells_of(run):
         if len(fields) == 11:
             what, rows, kind, keys, drawn, threads, writer, name, *values = fields
             key = (what, int(rows), kind, int(keys), drawn, int(threads), number(writer))
-            cells.setdefault(key, {})[name] = tuple(float(it) for it in values)
-    return cells
+            cells.setdefault(key, {}).setdefault(name, []).append(tuple(float(it) for it in values))
+    return {key: {name: over_processes(told) for name, told in maps.items()} for key, maps in cells.items()}
 
 
 def spread(cells):

@@ -156,6 +156,13 @@ typedef struct nr_wanted {
   nr_rows rows;
 } nr_wanted;
 
+/* A key that nr_find_each_rows finds, the answer, and how many rows its set has. */
+typedef struct nr_found {
+  uint32_t key;
+  uint32_t answer;
+  uint32_t count;
+} nr_found;
+
 /* A signed row: one to add if `plus` is true, else one to take away. */
 typedef struct nr_delta {
   nr_row row;
@@ -216,7 +223,7 @@ typedef struct nr_poster {
 /* The sizes of a map over ids: 1 to 536,870,911 groups of eight ways, 1 to 4,194,303 slots and 1 to 65,534
    readers. An id may have `rows` rows, 1 to 254. `key` decides which group an id has: draw it at random where strangers
    choose ids. Ticket numbers begin at `first_number`: set it to 0. With 8 * groups + readers + 2 slots no fill or
-   replacement answers NR_NO_SLOT or NR_ALL_FILLED. A group takes 528 bytes, a slot 16 * rows + 50, and a
+   replacement answers NR_NO_SLOT or NR_ALL_FILLED. A group takes 536 bytes, a slot 16 * rows + 50, and a
    reader 10,640. */
 typedef struct nr_id_shape {
   uint32_t groups;
@@ -253,11 +260,19 @@ typedef struct nr_wanted_id {
   nr_rows rows;
 } nr_wanted_id;
 
-/* The sizes of a cache: 1 to 516,000 groups, each of which holds at most eight values, and 1 to 65,533 readers.
-   `flights` is how many loads may be under way at a time, and `changes` how many changes of the base. `key` is as in an
-   nr_id_shape. */
+/* An id that nr_find_each_rows_id finds, the answer, and how many rows it has. */
+typedef struct nr_found_id {
+  uint64_t id;
+  uint32_t answer;
+  uint32_t count;
+} nr_found_id;
+
+/* The sizes of a cache: 1 to 516,000 groups of eight places, at most `capacity` values, of which each group can have
+   eight at most, and 1 to 65,533 readers. `flights` is how many loads may be under way at a time, and `changes` how many
+   changes of the base. `key` is as in an nr_id_shape. */
 typedef struct nr_cache_shape {
   uint32_t groups;
+  uint32_t capacity;
   uint32_t readers;
   uint32_t flights;
   uint32_t changes;
@@ -386,10 +401,10 @@ uint32_t nr_next(nr_remains *remains, nr_rows *had);
    live, this does nothing. */
 void nr_close_remains(nr_remains *remains);
 
-/* WHAT A READER CALLS. nr_find, nr_find_each, nr_ask and nr_pin answer NR_HOLDING if the reader holds a set, and
-   nr_row_at, nr_copy, nr_again and nr_release NR_NOT_HOLDING if it holds none. Then the call made no step and changed
-   nothing. Where nr_find, nr_find_kept, nr_pin or a find of nr_find_each finds a hole, 1 step more looks whether the
-   writer was closed, and the answer is NR_CLOSED if it was, and else NR_HOLE. */
+/* WHAT A READER CALLS. nr_find, nr_find_each, nr_find_each_rows, nr_ask and nr_pin answer NR_HOLDING if the reader holds
+   a set, and nr_row_at, nr_copy, nr_again and nr_release NR_NOT_HOLDING if it holds none. Then the call made no step and
+   changed nothing. Where nr_find, nr_find_kept, nr_pin or a find of many by one call finds a hole, 1 step more looks
+   whether the writer was closed, and the answer is NR_CLOSED if it was, and else NR_HOLE. */
 
 /* Looks a key up. NR_ROWS after 2n + 5 steps for n rows, and `rows` has them; NR_HOLE after 1 step, and `rows` stays as
    it was. If the writer wrote the key meanwhile, NR_ROWS comes after 2 or 4 steps more, and NR_HOLE after 4, 6 or 7. */
@@ -400,8 +415,16 @@ uint32_t nr_find(nr_reader *reader, uint32_t key, nr_rows *rows);
    NR_NO_KEY, and no look-up, if the map lacks one of the keys. Besides the finds' steps it makes 1 at the end if the
    last key had rows, and 3 loads a key, and 1 more for each 4 rows, or part of 4, that a key may have above 4 and up to
    16. It makes these for 16 keys before it finds them, so that the caches fetch what 16 finds need at once. In large
-   maps this is faster than single finds. */
+   maps this is faster than single finds. For many keys of few rows take nr_find_each_rows. */
 uint32_t nr_find_each(nr_reader *reader, nr_wanted *wanted, size_t n);
+
+/* As nr_find_each, but all rows go to one array of yours, of `all` rows: each key has all / n of them, in the keys'
+   order, so that the key at index i has those from i * (all / n) on. `count` is how many rows the set has, 0 unless the
+   answer is NR_ROWS; if that is more than the key's part takes, the first ones are there. What isn't written stays as
+   it was. Of a set only the rows that are written are read. For many keys take this call where few rows a key are
+   enough: it is faster, since an nr_wanted takes 4,096 bytes, so that the rows of many share a few sets of the
+   processor's first cache. */
+uint32_t nr_find_each_rows(nr_reader *reader, nr_found *wanted, size_t n, nr_row *rows, size_t all);
 
 /* Requests a key, in 2 steps. The first request since the key became a hole gets NR_SEND, and `number` is its ticket
    number, which the fill has to name. NR_WAITING and NR_FILLED leave `number` as it was, as does NR_CLOSED, after the
@@ -547,9 +570,9 @@ uint32_t nr_take(nr_taker *taker, uint32_t *key, uint64_t *number);
    or after eight choices that nr_evict_id answered NR_NOTHING, first fill or withdraw an upquery of the group.
    Dropping an id's rows, because the base changed. Withdraw its upquery, if one is open, and evict it: a late fill is
    NR_STALE. embed/c/ids.c is a whole program.
-   Holding. nr_find_id, nr_find_each_id, nr_pin_id and nr_pin_row_id answer NR_HOLDING if the reader holds a set, and
-   nr_row_at_id, nr_copy_id, nr_again_id and nr_release_id NR_NOT_HOLDING if it holds none. Then there was no step, and
-   nothing has changed. Hot ids, and rows that refer to data, are as those of keys.
+   Holding. nr_find_id, nr_find_each_id, nr_find_each_rows_id, nr_pin_id and nr_pin_row_id answer NR_HOLDING if the
+   reader holds a set, and nr_row_at_id, nr_copy_id, nr_again_id and nr_release_id NR_NOT_HOLDING if it holds none. Then
+   there was no step, and nothing has changed. Hot ids, and rows that refer to data, are as those of keys.
    A closed writer. Where a find or a pin finds no rows, 1 step more looks whether the writer was closed, and the answer
    is NR_CLOSED if it was. */
 
@@ -572,19 +595,26 @@ uint32_t nr_open_id_reader(nr_id_writer *writer, nr_id_reader *reader);
 void nr_close_id_reader(nr_id_reader *reader);
 void nr_close_id_writer(nr_id_writer *writer);
 
-/* Looks an id up. It takes 2 steps, and W for names that it looks at: 8 if one of the id's group is the id's, else 16,
-   with those of its second group. NR_HOLE then, if no name was the id's: it had no way at a moment within the call.
-   Else 1 more at the use bit of the way with that name: NR_ROWS after 2n + 7 more for n rows, and 1 if the bit wasn't
-   set, and `rows` has them; NR_ASKED after 1 more, if its upquery is open or it was evicted within the call; NR_OTHER
-   after 7 more, if its way became another id's within the call. If the writer wrote the way meanwhile, these take more
-   steps as nr_find does. Any answer but NR_ROWS leaves `rows` as it was. */
+/* Looks an id up. It takes 2 steps, and W in its groups: 1 at the hints of the id's group, and 1 at the name of each
+   way that has the id's hint, until one is the id's; if none is, the same in its second group. So W is mostly 2 for an
+   id that has a way, and 2 for one that has none. NR_HOLE then, if no name was the id's: it had no way at a moment
+   within the call. Else 1 more at the use bit of the way with that name: NR_ROWS after 2n + 7 more for n rows, and 1 if
+   the bit wasn't set, and `rows` has them; NR_ASKED after 1 more, if its upquery is open or it was evicted within the
+   call; NR_OTHER after 7 more, if its way became another id's within the call. If the writer wrote the way meanwhile,
+   these take more steps as nr_find does. Any answer but NR_ROWS leaves `rows` as it was. */
 uint32_t nr_find_id(nr_id_reader *reader, uint64_t id, nr_rows *rows);
 
-/* Finds n ids, as nr_find_id does, in the given order: NR_DONE, and each nr_wanted_id has its answer and its rows. An
-   id may be there twice. Takes the finds' steps, and for each id its W and the look at the use bit once more, 4 loads,
-   and 1 more for each 4 rows that an id may have up to 12; these are made before the finds, for 16 ids at a time.
-   NR_NO_KEY without a step, if one of the ids is 0. */
+/* Finds n ids in the given order: NR_DONE, and each nr_wanted_id has its answer, as nr_find_id gives it, and its rows.
+   An id may be there twice. Takes for each id W and the look at the use bit, 4 loads, and 1 more for each 4 rows that an
+   id may have up to 12, which are made before the finds, for 16 ids at a time; then the steps of nr_find_kept for the
+   id's set, which has a row more, or for the first row of another id's, and 1 if the use bit wasn't set. So the reader's
+   announcement goes on from set to set, and 1 step at the end lets the last one go. NR_NO_KEY without a step, if one
+   of the ids is 0. For many ids of few rows take nr_find_each_rows_id, which needs less memory. */
 uint32_t nr_find_each_id(nr_id_reader *reader, nr_wanted_id *wanted, size_t n);
+
+/* As nr_find_each_id, with all rows in one array of yours, as nr_find_each_rows has them. For many ids of few rows take
+   this call: beside its rows an id needs 16 bytes, where an nr_wanted_id takes 4,104. */
+uint32_t nr_find_each_rows_id(nr_id_reader *reader, nr_found_id *wanted, size_t n, nr_row *rows, size_t all);
 
 /* Finds an id and holds its set, as nr_pin: NR_ROWS after the steps of nr_find_id but 1, and `count` is the number of
    rows. Else as nr_find_id, but NR_OTHER after 2n + 7 in place of 7, for the other id's n rows; the reader holds
@@ -614,18 +644,18 @@ uint32_t nr_find_kept_id(nr_id_reader *reader, uint64_t id, nr_rows *rows);
 /* Ends the hold, in 1 step: NR_DONE. */
 uint32_t nr_release_id(nr_id_reader *reader);
 
-/* Requests an id. NR_SEND after 19 steps: the caller has the claim of its group, and passes the id to the thread that
-   writes. Until that thread admits an id of the group others get NR_WAITING, after 2 or 19. NR_NAMED after W + 2.
-   NR_WORN after 2, once its group has had 2^61 claims. NR_CLOSED after the 1 step that found the writer closed. What
-   the reader holds stays held. */
+/* Requests an id. NR_SEND after W + 3 steps: the caller has the claim of its group, and passes the id to the thread
+   that writes. Until that thread admits an id of the group others get NR_WAITING, after 2 or W + 3. NR_NAMED after
+   W + 2. NR_WORN after 2, once its group has had 2^61 claims. NR_CLOSED after the 1 step that found the writer closed.
+   What the reader holds stays held. */
 uint32_t nr_request_id(nr_id_reader *reader, uint64_t id);
 
 /* The writer's own find: as nr_find_id, but never NR_OTHER, and NR_ROWS after W + 2n + 4 steps. */
 uint32_t nr_look_id(nr_id_writer *writer, uint64_t id, nr_rows *rows);
 
-/* Gives an id of a claimed group a way, and opens an upquery for it: NR_SEND after 24 steps, and `upquery` has its
-   numbers. NR_NOT_ASKED after 1, if no claim of the group is open; NR_NAMED after 2 to 17; NR_FULL after 17, if each
-   way of the id's two groups is another's. These three leave `upquery` as it was. */
+/* Gives an id of a claimed group a way, and opens an upquery for it: NR_SEND after W + 12 steps, and `upquery` has
+   its numbers. NR_NOT_ASKED after 1, if no claim of the group is open; NR_NAMED after W + 1; NR_FULL after W + 3, if
+   each way of the id's two groups is another's. These three leave `upquery` as it was. */
 uint32_t nr_admit(nr_id_writer *writer, uint64_t id, nr_upquery *upquery);
 
 /* Fills an open upquery's id with n rows in ascending order, each `a` above 0. Without a step NR_STRANGER, if another
@@ -634,12 +664,12 @@ uint32_t nr_admit(nr_id_writer *writer, uint64_t id, nr_upquery *upquery);
    upquery stays open. So an answer that comes a second time is NR_STALE, also after an eviction and a new admission. */
 uint32_t nr_fill_id(nr_id_writer *writer, const nr_upquery *upquery, const nr_row *rows, size_t n);
 
-/* Takes an open upquery and its id's way back. NR_CANCELLED after W + 3 steps: wake those who wait for the id.
+/* Takes an open upquery and its id's way back. NR_CANCELLED after W + 5 steps: wake those who wait for the id.
    NR_STRANGER and NR_STALE as of nr_fill_id. NR_WORN after W + 1: it has the last ticket number, and only its own fill
    ends it. */
 uint32_t nr_withdraw_id(nr_id_writer *writer, const nr_upquery *upquery);
 
-/* As nr_update and nr_replace, of an id's rows, each `a` above 0: else NR_BAD_ROW without a step. NR_NOTHING after 16
+/* As nr_update and nr_replace, of an id's rows, each `a` above 0: else NR_BAD_ROW without a step. NR_NOTHING after W
    if the id has no way; NR_DROPPED if its upquery is open. */
 uint32_t nr_update_id(nr_id_writer *writer, uint64_t id, const nr_delta *deltas, size_t n);
 uint32_t nr_replace_id(nr_id_writer *writer, uint64_t id, const nr_row *rows, size_t n);
@@ -656,7 +686,7 @@ uint32_t nr_replace_id_reclaiming(nr_id_writer *writer, uint64_t id, const nr_ro
 /* Gives out a set that no id has any more, as nr_reap. */
 uint32_t nr_reap_id(nr_id_writer *writer, nr_rows *had);
 
-/* Takes an id's rows and its way: NR_EVICTED after W + 3 steps. NR_NOTHING after W or W + 1, if the id has no way or an
+/* Takes an id's rows and its way: NR_EVICTED after W + 5 steps. NR_NOTHING after W or W + 1, if the id has no way or an
    open upquery. */
 uint32_t nr_evict_id(nr_id_writer *writer, uint64_t id);
 
@@ -665,7 +695,7 @@ uint32_t nr_evict_id(nr_id_writer *writer, uint64_t id);
 uint32_t nr_invalidate_id(nr_id_writer *writer, uint64_t id);
 
 /* Two hints for a choice of what to evict. Whether the id's rows were found since this was asked last, by anything but
-   nr_again_id: NR_DONE after W + 2 steps, and NR_NOTHING after W + 1, or 16 if the id has no way. */
+   nr_again_id: NR_DONE after W + 2 steps, and NR_NOTHING after W + 1, or W if the id has no way. */
 uint32_t nr_uses_id(nr_id_writer *writer, uint64_t id);
 
 /* The id of a way of that id's group, by second chance: NR_DONE after 3 steps, and `chosen` is the first from the last
@@ -687,9 +717,12 @@ uint32_t nr_choose_id(nr_id_writer *writer, uint64_t id, uint64_t *chosen);
    value without landing it.
    A write in the base. Invalidate the id afterwards; or begin a change before it and end it afterwards, so that a load
    that began meanwhile isn't held either.
-   Room. A value stands in one of its id's two groups, which have eight places each. If all sixteen are taken, a value
-   of the first group goes, by nr_choose_id, and no other group's: without places to spare, ids that are found often may
-   push each other out while others stay.
+   Room. Where there are as many values as the capacity, one goes for each id that gets one, of whichever group. A hand
+   goes round all places: of the next eight the first value goes whose stamp is below the call's `bound`, and else the
+   next one to which the hand comes, which passes up to sixteen that were found since it came there last. With the times
+   at which values expire as their stamps, and the time as the bound, what has expired goes first; the bound 0 is none.
+   A value stands in one of its id's two groups, of eight places each. If all sixteen are taken, a value of the first
+   group goes, however many there are: with eight places for each five values that is rare.
    A value that went. It comes out once no reader holds it: from a later landing or put (NR_GIVEN), or from
    nr_cache_reap. Reap after each call while it answers NR_GIVEN, and free what comes out. A value of NR_OWN never was
    in the cache, and is its caller's to free. */
@@ -723,9 +756,10 @@ uint32_t nr_cache_begin(nr_cache *cache, uint64_t id, uint64_t mark, nr_flight *
 
 /* Ends the load of that number by its value. NR_DONE: the id has it now. NR_GIVEN: so it has, and a value that nobody
    can see any more came out; `given` tells it. NR_OWN: the value is the caller's own, since the id was invalidated, put
-   or changed since the load began, or was being changed then, or no load of that number is under way, or there is no
-   place for it. NR_DONE and NR_OWN leave `given` as it was. */
-uint32_t nr_cache_land(nr_cache *cache, uint64_t number, uint64_t stamp, uint64_t value, nr_given *given);
+   or changed since the load began, or was being changed then, or no load of that number is under way, or 2^61 values
+   came into the id's group. NR_DONE and NR_OWN leave `given` as it was. */
+uint32_t nr_cache_land(nr_cache *cache, uint64_t number, uint64_t stamp, uint64_t value, uint64_t bound,
+  nr_given *given);
 
 /* Ends the load of that number without a value: NR_DONE, and `flight` is that. NR_NOTHING if none of that number is
    under way, and `flight` stays as it was. */
@@ -733,7 +767,7 @@ uint32_t nr_cache_fail(nr_cache *cache, uint64_t number, nr_flight *flight);
 
 /* Puts a value in place of what the id has. Answers as nr_cache_land; the value of a load of the id that is under way
    will be its loader's own. NR_OWN while the id is being changed: it has no value then. */
-uint32_t nr_cache_put(nr_cache *cache, uint64_t id, uint64_t stamp, uint64_t value, nr_given *given);
+uint32_t nr_cache_put(nr_cache *cache, uint64_t id, uint64_t stamp, uint64_t value, uint64_t bound, nr_given *given);
 
 /* Puts a value in place of the id's where that is `old` still, as nr_cache_put. NR_OTHER if the id has another value,
    NR_HOLE if it has none: nothing else happened, and `given` stays as it was. */

@@ -88,8 +88,14 @@ class File:
                 kept.append(part)
             i += 1
 
-    def names(self):
-        return {function.name.rpartition(":")[2] for function in self.functions}
+    def names(self, beyond=False):
+        """The names of its functions; or of those alone that other crates may call, the public ones and each trait's."""
+        return {it.name.rpartition(":")[2] for it in self.functions if not beyond or self.is_public(it)}
+
+    def is_public(self, function):
+        around = function.owner
+        is_of_trait = around is not None and (self.words[around] == "trait" or "for" in self.head_of(around))
+        return is_of_trait or self.words[function.start - 1] == "pub"
 
     def is_within(self, i, *kinds):
         return any(kind in kinds and start < i < end for kind, start, end in self.spans)

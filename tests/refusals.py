@@ -5,8 +5,8 @@ but those that they call. A wrong body stands in a copy of its function, with th
 that the others call the right one. A function of a trait is edited in its place, by one body a check. A wrong body is
 refused where a goal of its own function is open: the prover tried it, and found no proof. Where it stands in no function, or
 another one's goal shows it, a line `refused in: NAME` of the edit, which rt passes over, names that one, and the wrong body
-has a check for itself. What isn't refused so is tried on the whole crate. Where a crate has several checks, each keeps what
-it proved in one folder, for the next.
+has a check for itself. What isn't refused so is tried on the whole crate. A check begins with what the crate's own proof
+left in its library, and so proves no function again that a wrong body calls. Each keeps what it proved, for the next.
 
 Where the text of the proof alone doesn't fit the wrong body, by a type, by a name that is gone, or by a path that `rw` doesn't
 find, nothing is known of its goal: so that is no refusal here, as it is one of rt. Such an edit brings its proof's text with
@@ -212,15 +212,14 @@ def put(rt, room, group):
 
 
 def try_group(rt, crate, group, kept):
-    """How each wrong body is refused that is, all being tried by one check, over what is kept, if anything is."""
+    """How each wrong body is refused that is, all being tried by one check, over what is kept."""
     with tempfile.TemporaryDirectory(prefix="rt-edit-") as room:
         for part in rt.rtlib.PARTS:
             if os.path.isdir(f"{crate.folder}/{part}"):
                 shutil.copytree(f"{crate.folder}/{part}", f"{room}/{part}")
         tried, later = put(rt, room, group)
         only = [word for body in tried for name in body.functions for word in ("--only", name)]
-        over = ["--incremental", kept] if kept else []
-        words = [rt.rtlib.RATTLE, "check", *crate.words(["--jobs", "1", *only], keeps=False), *over]
+        words = [rt.rtlib.RATTLE, "check", *crate.words(["--jobs", "1", *only], keeps=False), "--incremental", kept]
         how = {"cwd": room, "stdin": subprocess.DEVNULL, "stdout": subprocess.PIPE, "stderr": subprocess.STDOUT}
         ran = subprocess.run([*rt.rtlib.guarded(), *words], text=True, errors="replace", **how)
     said = ran.stdout.split("\n")
@@ -253,8 +252,19 @@ def parts(edits):
     return [edits[at::count] for at in range(count)]
 
 
+def unpack(rt, crate, kept):
+    """Puts what is proved in the crate's library where checks keep what they proved: in the folder of the prover's build."""
+    build = re.search(r"^rattle-build (.*)$", pathlib.Path(crate.rlib, "format").read_text(), re.M)
+    place = pathlib.Path(kept, build[1].replace("/", "_"))
+    place.mkdir()
+    unpacker = f"{rt.rtlib.KIT}/toolchain/bin/llvm-ar"
+    subprocess.run([unpacker, "x", f"{crate.rlib}/toolchain/checked.a"], cwd=place, check=True)
+
+
 def try_part(rt, crate, edits):
     with tempfile.TemporaryDirectory(prefix="rt-edits-") as kept:
+        if os.path.isdir(crate.rlib):
+            unpack(rt, crate, kept)
         return try_all(rt, crate, edits, kept)
 
 
@@ -273,10 +283,8 @@ def try_all(rt, crate, edits, kept):
     # A function's goals wait for those that it calls, so where one of these had a wrong body in its place, it is tried again
     # after it. No function calls a copy.
     while left and is_waiting:
-        tries = groups(left)
-        for group in tries:
-            # What one check keeps takes it longer, and serves only the next.
-            say(try_group(rt, crate, group, kept if len(tries) > 1 else None))
+        for group in groups(left):
+            say(try_group(rt, crate, group, kept))
         is_waiting = any(it.edit in found and not it.copy for it in left)
         left = [it for it in left if it.edit not in found]
     alone = [edit for edit in edits if edit not in found]

@@ -7,12 +7,13 @@ pub struct Base {
     deadline: Duration,
 }
 
-/// So that a connection to a machine that is gone breaks. What the operator's address says goes before it.
-const WATCHED: &str =
-    "application_name=edge keepalives_idle=10 keepalives_interval=5 keepalives_count=3 tcp_user_timeout=20000";
+/// So that a connection to a machine that is gone breaks, and none is to a standby, which has no slots. What the operator's
+/// address says goes before it.
+const WATCHED: &str = "application_name=edge keepalives_idle=10 keepalives_interval=5 keepalives_count=3
+    tcp_user_timeout=20000 target_session_attrs=primary";
 const ONE_TEXT: &str = "SET search_path = pg_catalog; SET client_encoding = 'UTF8'; SET timezone = 'UTC';
     SET datestyle = 'ISO, MDY'; SET intervalstyle = 'postgres'; SET extra_float_digits = 1; SET bytea_output = 'hex';
-    SET lc_monetary = 'C'; SET standard_conforming_strings = on";
+    SET lc_monetary = 'C'; SET standard_conforming_strings = on; SET row_security = off";
 
 impl Base {
     pub fn new(address: &str, deadline: Duration) -> Base {

@@ -1,4 +1,5 @@
 //! What an operator writes: where the rows are, which views of them an edge holds, and where it is asked for them.
+use crate::query::{Item, Query};
 use serde::Deserialize;
 use std::{
     collections::HashSet, fs, net::IpAddr, net::SocketAddr, path::Path, path::PathBuf, str::FromStr, time::Duration,
@@ -32,6 +33,9 @@ pub struct Source {
     /// Seconds that one statement and its client wait at most.
     #[serde(default = "five")]
     deadline: u32,
+    /// Seconds after which it is looked again whether the database has what an edge needs.
+    #[serde(default = "sixty")]
+    recheck: u32,
     /// Seconds without word of the stream, after which PostgreSQL is asked for what is held.
     max_staleness: Option<u32>,
 }
@@ -46,6 +50,10 @@ fn four() -> u8 {
 
 fn five() -> u32 {
     5
+}
+
+fn sixty() -> u32 {
+    60
 }
 
 /// How much an edge holds, of all views.
@@ -123,15 +131,23 @@ impl Listen {
     }
 }
 
-/// The rows of a table by the texts of some of its columns.
+/// The rows of a table by the texts of some of its columns, or what a query makes of them.
 #[derive(Debug, Deserialize)]
 #[serde(deny_unknown_fields)]
 pub struct View {
     pub name: String,
+    /// In place of a table, a key and columns, which it then gives.
+    query: Option<String>,
     /// As SQL names it, with its schema where that isn't on the way by which names are found.
+    #[serde(default)]
     pub table: String,
+    #[serde(default)]
     pub key: Vec<String>,
+    #[serde(default)]
     pub columns: Vec<String>,
+    /// Of a query, with their names.
+    #[serde(skip)]
+    pub items: Vec<(String, Item)>,
     #[serde(default)]
     pub encoding: Encoding,
     /// Of its rows and values; no more than those of all views may have.
@@ -145,6 +161,10 @@ pub enum Encoding {
     #[default]
     Objects,
     Arrays,
+    /// Of the Redis protocol.
+    Map,
+    /// That of its one column.
+    Text,
 }
 
 impl FromStr for Configuration {
@@ -157,7 +177,7 @@ impl FromStr for Configuration {
 }
 
 impl Configuration {
-    fn checked(self) -> Result<Configuration, String> {
+    fn checked(mut self) -> Result<Configuration, String> {
         let address = &self.source.address;
         if address.contains("://") {
             return Err("the address is words such as host=localhost, and no URI".into());
@@ -168,8 +188,9 @@ impl Configuration {
         if !is_name(&self.source.publication) {
             return Err("the publication's name is lowercase letters, digits and _".into());
         }
-        if self.source.connections == 0 || self.source.deadline == 0 || self.source.max_staleness == Some(0) {
-            return Err("connections, deadline and max_staleness are 1 or more each".into());
+        let Source { connections, deadline, recheck, max_staleness, .. } = &self.source;
+        if *connections == 0 || *deadline == 0 || *recheck == 0 || *max_staleness == Some(0) {
+            return Err("connections, deadline, recheck and max_staleness are 1 or more each".into());
         }
         if !(1..=2_000_000).contains(&self.cache.keys) {
             return Err("the keys are 1 to 2000000".into());
@@ -179,7 +200,7 @@ impl Configuration {
             return Err("there is no [[view]]".into());
         }
         let mut names = HashSet::new();
-        for view in &self.views {
+        for view in &mut self.views {
             view.check().map_err(|why| format!("the view {}: {why}", view.name))?;
             if !names.insert(&view.name) {
                 return Err(format!("there are two views {}", view.name));
@@ -202,6 +223,10 @@ impl Source {
         Duration::from_secs(self.deadline.into())
     }
 
+    pub fn recheck(&self) -> Duration {
+        Duration::from_secs(self.recheck.into())
+    }
+
     pub fn max_staleness(&self) -> Option<Duration> {
         self.max_staleness.map(|seconds| Duration::from_secs(seconds.into()))
     }
@@ -213,18 +238,40 @@ fn first_line(path: &Path) -> Result<String, String> {
 }
 
 impl View {
-    fn check(&self) -> Result<(), String> {
-        let columns = self.key.iter().chain(&self.columns);
+    fn check(&mut self) -> Result<(), String> {
         if !is_name(&self.name) {
             return Err("its name is lowercase letters, digits and _".into());
         }
-        if self.key.is_empty() || self.columns.is_empty() {
-            return Err("its key and its columns are one or more each".into());
+        if let Some(query) = &self.query {
+            if !(self.table.is_empty() && self.key.is_empty() && self.columns.is_empty()) {
+                return Err("a query gives the table, the key and the columns".into());
+            }
+            let Query { table, key, columns, items } = query.parse()?;
+            (self.table, self.key, self.columns, self.items) = (table, key, columns, items);
+            return self.check_encoding(self.items.len());
+        }
+        let columns = self.key.iter().chain(&self.columns);
+        if self.table.is_empty() || self.key.is_empty() || self.columns.is_empty() {
+            return Err("it has a query, or a table, and a key and columns of one or more each".into());
         }
         if columns.clone().collect::<HashSet<_>>().len() < columns.count() {
             return Err("it names a column twice".into());
         }
-        Ok(())
+        self.check_encoding(self.columns.len())
+    }
+
+    fn check_encoding(&self, columns: usize) -> Result<(), String> {
+        let is_right = self.encoding != Encoding::Text || columns == 1;
+        is_right.then_some(()).ok_or("the encoding text is of one column".into())
+    }
+
+    pub fn is_query(&self) -> bool {
+        self.query.is_some()
+    }
+
+    /// The columns of which a query has such items.
+    pub fn columns_of(&self, is_such: impl Fn(Item) -> Option<usize>) -> Vec<String> {
+        self.items.iter().filter_map(|(_, item)| is_such(*item)).map(|place| self.columns[place].clone()).collect()
     }
 }
 
@@ -287,7 +334,11 @@ mod tests {
             (with(here, &format!("{VIEW}{VIEW}")), "two views votes"),
             (with(here, &VIEW.replace("'votes'", "'1'")), "its name is"),
             (with(here, &VIEW.replace("['article']", "[]")), "one or more"),
+            (with(here, &format!("{VIEW}query = 'SELECT a FROM t GROUP BY a'\n")), "a query gives the table"),
+            (with(here, "[[view]]\nname = 'a'\nquery = 'SELECT a FROM t, u'\n"), "the view a: the query isn't"),
             (with(here, &VIEW.replace("'weight'", "'article'")), "twice"),
+            (with(here, &format!("{VIEW}encoding = 'text'\n")), "of one column"),
+            (with(here, &format!("{VIEW}encoding = 'xml'\n")), "unknown variant `xml`"),
         ] {
             assert!(told.contains(why), "{told}");
         }

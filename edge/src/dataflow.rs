@@ -1,21 +1,22 @@
 //! The dataflow: the one thread that fills and changes what sessions find. It puts the answers of upqueries and the
 //! stream's transactions into an order in which each change of a key counts once, and never waits for PostgreSQL.
+use crate::changes::Changes;
+use crate::content::{Content, Lack};
 use crate::fresh::Fresh;
 use crate::key::Key;
 use crate::log::{self, Log};
 use crate::lsn::Lsn;
 use crate::pq::Fault;
-use crate::residents::{changed, Delta, Residents};
+use crate::residents::Residents;
 use crate::shared::Shared;
 use crate::snapshot::{Seen, Snapshot, TableId};
-use crate::upquery::{Answer, Asked, Queue, Request, Rows};
+use crate::upquery::{self, Answer, Asked, Queue, Request};
 use crate::{parts, stats::Count, value::Value};
 use std::collections::HashMap;
 use std::sync::atomic::Ordering::{Relaxed, SeqCst};
 use std::sync::{mpsc, Arc};
 
-pub type Changes = log::Changes<Key, Delta>;
-pub type Transaction = log::Transaction<Key, Delta>;
+pub type Transaction = log::Transaction<Changes>;
 
 pub enum Event {
     /// A client waits for a key of a view.
@@ -70,7 +71,7 @@ pub struct Dataflow<'a> {
     queue: &'a Queue,
     residents: Residents<'a>,
     waiting: HashMap<Key, Waiting>,
-    log: Log<Key, Delta>,
+    log: Log<Changes>,
     fresh: Fresh<Key>,
     /// What the slot began with, while it stands.
     first: Option<First>,
@@ -161,15 +162,17 @@ impl<'a> Dataflow<'a> {
         self.shared.work.up(Count::Transactions);
         // Before a client can find what changes.
         self.shared.told.fetch_max(transaction.end.0, SeqCst);
-        for (key, deltas) in &transaction.changes {
-            if self.fresh.has(key, transaction.xid) {
+        for key in self.residents.changed_by(&transaction.changes) {
+            if self.fresh.has(&key, transaction.xid) {
                 self.shared.work.up(Count::Skips);
             } else {
-                self.residents.update(key, deltas);
+                self.residents.update(&key, &transaction.changes);
             }
         }
         let end = transaction.end;
-        self.log.push(transaction);
+        if !transaction.changes.is_empty() {
+            self.log.push(transaction);
+        }
         if self.log.len() >= LONG_LOG && !self.log.is_awaited() {
             let number = self.log.send();
             self.queue.push(Request { number, asked: Asked::Snapshot, is_again: false });
@@ -220,14 +223,14 @@ impl<'a> Dataflow<'a> {
         self.shared.follows(true);
     }
 
-    fn take_answer(&mut self, Answer { requests, rows }: Answer) {
+    fn take_answer(&mut self, Answer { requests, told }: Answer) {
         self.shared.work.up(Count::Statements);
         self.log.answered(requests.iter().map(|request| request.number));
         // An answer of before a new begin tells nothing: another server may give the numbers of transactions anew.
         if requests.iter().all(|request| request.number <= self.emptied_after) {
             return;
         }
-        let (seen, rows) = match rows {
+        let (seen, told) = match told {
             Ok(answer) => answer,
             Err(fault) => return self.refuse_all(&requests, &fault),
         };
@@ -240,14 +243,12 @@ impl<'a> Dataflow<'a> {
             return requests.into_iter().for_each(|request| self.request_again(request));
         }
         self.shared.told.fetch_max(seen.place.0, SeqCst);
-        let keys = requests.iter().filter_map(|request| match &request.asked {
-            Asked::Key { key, .. } => Some(key),
-            Asked::Snapshot => None,
-        });
-        let unseen = self.log.unseen_by(&seen.snapshot, keys);
-        let seen = Arc::new(seen);
-        requests.iter().zip(rows).for_each(|(request, rows)| self.bring(request, rows, &seen, &unseen));
+        let unseen: Vec<&Changes> = self.log.unseen_by(&seen.snapshot).collect();
+        let brought: Vec<_> =
+            requests.iter().zip(told).map(|(request, told)| replayed(request, told, &unseen)).collect();
         self.log.prune(&seen.snapshot);
+        let seen = Arc::new(seen);
+        requests.iter().zip(brought).for_each(|(request, brought)| self.bring(request, brought, &seen));
     }
 
     /// Another table has the name now. What is held and the log are of the one before, which the stream still brings.
@@ -263,30 +264,31 @@ impl<'a> Dataflow<'a> {
         parts::FIRST_SNAPSHOT && self.first.as_ref().is_some_and(lacks)
     }
 
-    /// The rows of a key as a statement saw them, with the changes that it didn't see.
-    fn bring(&mut self, request: &Request, rows: Rows, seen: &Arc<Seen>, unseen: &Changes) {
+    /// What a key has.
+    fn bring(&mut self, request: &Request, Brought { told, is_replayed }: Brought, seen: &Arc<Seen>) {
         let Asked::Key { key, view } = &request.asked else { return };
         if self.current(request).is_none() {
             return;
         }
-        let lacking = unseen.get(key).map_or(&[][..], Vec::as_slice);
-        if !lacking.is_empty() {
+        if is_replayed {
             self.shared.work.up(Count::Replays);
         }
-        let told = match rows.map(|rows| changed(&rows, lacking)) {
+        let told = match told {
             Err(why) => Told::Fault(why.into()),
-            Ok(None) => {
+            // PostgreSQL shows it soon.
+            Ok(Err(Lack::Untold)) => return self.request_again(request.clone()),
+            Ok(Err(Lack::Disagreement)) => {
                 self.shared.work.up(Count::Disagreements);
                 Told::Fault("the rows and the changes disagree".into())
             }
-            Ok(Some(rows)) if self.first.is_some() => {
-                let value = self.residents.fill(*view, key, rows);
+            Ok(Ok(content)) if self.first.is_some() => {
+                let value = self.residents.fill(*view, key, content);
                 if seen.place > self.applied {
                     self.fresh.filled(key, seen);
                 }
                 Told::Value(value)
             }
-            Ok(Some(rows)) => Told::Value(Arc::new(Value::of(&rows))),
+            Ok(Ok(content)) => Told::Value(Arc::new(Value::of(&content, self.shared.encoding(*view)))),
         };
         self.tell(request, &told);
     }
@@ -307,6 +309,24 @@ impl<'a> Dataflow<'a> {
         }
         clients.iter().for_each(|client| _ = client.send(told.clone()));
     }
+}
+
+/// What a statement saw of a key, with the changes that it didn't see, or why that isn't known.
+struct Brought {
+    told: Result<Result<Content, Lack>, String>,
+    is_replayed: bool,
+}
+
+fn replayed(request: &Request, told: upquery::Told, unseen: &[&Changes]) -> Brought {
+    let mut brought = Brought { told: told.map(Ok), is_replayed: false };
+    let Asked::Key { key, .. } = &request.asked else { return brought };
+    for changes in unseen {
+        let Ok(Ok(content)) = &brought.told else { break };
+        if content.is_of(key, changes) {
+            brought = Brought { told: Ok(content.changed(key, changes)), is_replayed: true };
+        }
+    }
+    brought
 }
 
 #[cfg(test)]

@@ -1,5 +1,6 @@
-//! Rows and values as JSON, made of the texts that PostgreSQL writes.
+//! Rows and values as JSON, and otherwise, made of the texts that PostgreSQL writes.
 use crate::configuration::Encoding;
+use crate::wire::bulk;
 use std::fmt::Write;
 
 /// What a column's texts are in JSON. NULL is null in each.
@@ -24,7 +25,7 @@ impl Kind {
 }
 
 /// How the columns of a view stand in a row.
-#[derive(Debug)]
+#[derive(Clone, Debug)]
 pub struct Shape {
     encoding: Encoding,
     columns: Vec<(String, Kind)>,
@@ -35,8 +36,22 @@ impl Shape {
         Shape { encoding, columns }
     }
 
-    /// A row of its cells, of which NULL has no text. Rows are equal where their cells are.
+    /// A row of its cells, of which NULL has no text. Rows are equal where their cells are, but for a text, which is empty
+    /// also of NULL.
     pub fn row<'a>(&self, cells: impl Iterator<Item = Option<&'a str>>) -> Box<str> {
+        match self.encoding {
+            Encoding::Objects | Encoding::Arrays => self.json(cells).into(),
+            Encoding::Map => {
+                let names = self.columns.iter().map(|(name, _)| bulk(name));
+                let cells = cells.map(|cell| cell.map_or("_\r\n".into(), bulk));
+                let pairs: String = names.zip(cells).flat_map(|(name, cell)| [name, cell]).collect();
+                format!("%{}\r\n{pairs}", self.columns.len()).into()
+            }
+            Encoding::Text => cells.flatten().collect::<String>().into(),
+        }
+    }
+
+    fn json<'a>(&self, cells: impl Iterator<Item = Option<&'a str>>) -> String {
         let is_of_objects = self.encoding == Encoding::Objects;
         let mut row = String::from(if is_of_objects { "{" } else { "[" });
         for ((name, kind), cell) in self.columns.iter().zip(cells) {
@@ -50,7 +65,7 @@ impl Shape {
             push_cell(&mut row, *kind, cell);
         }
         row.push(if is_of_objects { '}' } else { ']' });
-        row.into()
+        row
     }
 }
 
@@ -80,9 +95,13 @@ pub fn push_text(to: &mut String, text: &str) {
     to.push('"');
 }
 
-/// The value of a key: all of its rows.
-pub fn array(rows: &[Box<str>]) -> Box<str> {
-    format!("[{}]", rows.join(",")).into()
+/// All rows of a key, as clients are told them.
+pub fn rows(encoding: Encoding, rows: &[&str]) -> Box<str> {
+    match encoding {
+        Encoding::Objects | Encoding::Arrays => format!("[{}]", rows.join(",")).into(),
+        Encoding::Map => format!("*{}\r\n{}", rows.len(), rows.concat()).into(),
+        Encoding::Text => rows.join("\n").into(),
+    }
 }
 
 #[cfg(test)]
@@ -99,6 +118,17 @@ mod tests {
         assert_eq!(*row, *r#"{"a":1.50,"b":"NaN","c":true,"d":{"x": 1},"e":"a\"\\\n\u0001é","f":null}"#);
         let row = Shape::new(Encoding::Arrays, columns).row(cells());
         assert_eq!(*row, *r#"[1.50,"NaN",true,{"x": 1},"a\"\\\n\u0001é",null]"#);
-        assert_eq!(*array(&["1".into(), "2".into()]), *"[1,2]");
+        assert_eq!(*rows(Encoding::Arrays, &["1", "2"]), *"[1,2]");
+    }
+
+    #[test]
+    fn a_row_is_a_map_or_a_text() {
+        let columns = vec![("a".into(), Kind::Number), ("bé".into(), Kind::Text)];
+        let row = Shape::new(Encoding::Map, columns).row([Some("1"), None].into_iter());
+        assert_eq!(*row, *"%2\r\n$1\r\na\r\n$1\r\n1\r\n$3\r\nbé\r\n_\r\n");
+        assert_eq!(*rows(Encoding::Map, &["%0\r\n"]), *"*1\r\n%0\r\n");
+        let shape = Shape::new(Encoding::Text, vec![("a".into(), Kind::Text)]);
+        assert_eq!([shape.row([Some("x y")].into_iter()), shape.row([None].into_iter())], ["x y".into(), "".into()]);
+        assert_eq!(*rows(Encoding::Text, &["1", "2"]), *"1\n2");
     }
 }

@@ -1,42 +1,38 @@
 //! The log: the transactions that were applied and that a snapshot may not see yet.
 use crate::lsn::{Lsn, Xid};
 use crate::{parts, snapshot::Snapshot};
-use std::collections::{BTreeSet, HashMap, VecDeque};
-use std::hash::Hash;
-
-/// Signed rows by their keys.
-pub type Changes<K, D> = HashMap<K, Vec<D>>;
+use std::collections::{BTreeSet, VecDeque};
 
 /// A transaction, as the stream brings it.
-pub struct Transaction<K, D> {
+pub struct Transaction<C> {
     pub xid: Xid,
     /// Where it ends in PostgreSQL's log.
     pub end: Lsn,
-    pub changes: Changes<K, D>,
+    pub changes: C,
 }
 
-pub struct Log<K, D> {
-    transactions: VecDeque<Logged<K, D>>,
+pub struct Log<C> {
+    transactions: VecDeque<Logged<C>>,
     /// The number of the last request that was sent, and the numbers of those that aren't answered.
     sent: u64,
     under_way: BTreeSet<u64>,
 }
 
-struct Logged<K, D> {
-    transaction: Transaction<K, D>,
+struct Logged<C> {
+    transaction: Transaction<C>,
     /// Where an answer saw it: the last request that was sent by then. Each later one sees it too.
     seen_after: Option<u64>,
 }
 
-impl<K, D> Default for Log<K, D> {
-    fn default() -> Log<K, D> {
+impl<C> Default for Log<C> {
+    fn default() -> Log<C> {
         Log { transactions: VecDeque::new(), sent: 0, under_way: BTreeSet::new() }
     }
 }
 
-impl<K: Hash + Eq + Clone, D: Clone> Log<K, D> {
-    pub fn push(&mut self, transaction: Transaction<K, D>) {
-        if parts::LOG && !transaction.changes.is_empty() {
+impl<C> Log<C> {
+    pub fn push(&mut self, transaction: Transaction<C>) {
+        if parts::LOG {
             self.transactions.push_back(Logged { transaction, seen_after: None });
         }
     }
@@ -64,15 +60,9 @@ impl<K: Hash + Eq + Clone, D: Clone> Log<K, D> {
         !self.under_way.is_empty()
     }
 
-    /// What a snapshot lacks of what was applied, of the keys that were asked for.
-    pub fn unseen_by<'a>(&self, snapshot: &Snapshot, asked: impl Iterator<Item = &'a K>) -> Changes<K, D>
-    where
-        K: 'a,
-    {
-        let unseen: Vec<_> = self.transactions.iter().filter(|it| !snapshot.sees(it.transaction.xid)).collect();
-        let lacked =
-            |key: &K| unseen.iter().filter_map(|it| it.transaction.changes.get(key)).flatten().cloned().collect();
-        asked.map(|key| (key.clone(), lacked(key))).collect()
+    /// What a snapshot lacks of what was applied, in its order.
+    pub fn unseen_by<'a>(&'a self, snapshot: &'a Snapshot) -> impl Iterator<Item = &'a C> {
+        self.transactions.iter().map(|it| &it.transaction).filter(|it| !snapshot.sees(it.xid)).map(|it| &it.changes)
     }
 
     /// Requests were answered, and no longer count as under way.

@@ -1,11 +1,14 @@
 //! An edge: it holds a part of some tables of a PostgreSQL database, follows their changes, and serves clients of
 //! Redis.
 mod base;
+mod changes;
 mod configuration;
+mod content;
 mod dataflow;
 mod ending;
 mod fault;
 mod fresh;
+mod group;
 mod json;
 mod key;
 mod listener;
@@ -17,6 +20,7 @@ mod parts;
 mod pgoutput;
 #[allow(dead_code)]
 mod pq;
+mod query;
 mod residents;
 mod resp;
 mod serve;

@@ -1,6 +1,8 @@
 //! What an edge needs of its database so that the stream brings each change of each view, and the SQL that makes it so.
 use crate::configuration::{Configuration, View};
 use crate::pq::{Connection, Fault};
+use crate::query::Item;
+use crate::tables::IDENTITY;
 
 /// Something that an edge needs and that isn't there.
 pub struct Lack {
@@ -11,6 +13,14 @@ pub struct Lack {
 
 /// When it holds, what is said where it doesn't, and what makes it so.
 type Need = (&'static str, &'static str, &'static str);
+
+/// The commands that may change what a view has without a change of a row.
+macro_rules! tags {
+    () => {
+        "'ALTER TABLE', 'DROP TABLE', 'CREATE TABLE', 'ALTER PUBLICATION', 'DROP PUBLICATION', 'ALTER SCHEMA',
+        'DROP SCHEMA', 'ALTER TYPE', 'DROP TYPE', 'ALTER DOMAIN', 'DROP DOMAIN', 'DROP EXTENSION', 'DROP OWNED'"
+    };
+}
 
 /// Of the database. In their SQL `{publication}` and `{role}` stand for names.
 const OF_DATABASE: [Need; 7] = [
@@ -46,30 +56,42 @@ const OF_DATABASE: [Need; 7] = [
         "ALTER PUBLICATION {publication} SET (publish = 'insert, update, delete, truncate');",
     ),
     (
-        "EXISTS (SELECT FROM pg_event_trigger WHERE evtname = publication || '_changed' AND evtenabled IN ('O', 'A')
-        AND evttags @> '{ALTER TABLE,DROP TABLE,ALTER PUBLICATION,DROP PUBLICATION,ALTER SCHEMA,DROP SCHEMA}')",
+        concat!(
+            "EXISTS (SELECT FROM pg_event_trigger WHERE evtname = publication || '_changed' AND evtenabled = 'A'
+            AND evttags @> ARRAY[",
+            tags!(),
+            "])"
+        ),
         "no event trigger tells of a table that is changed, which the stream tells no row of",
-        "DROP EVENT TRIGGER IF EXISTS {publication}_changed;
+        concat!(
+            "DROP EVENT TRIGGER IF EXISTS {publication}_changed;
 CREATE OR REPLACE FUNCTION tell_{publication}() RETURNS event_trigger LANGUAGE plpgsql AS $$
 BEGIN
-    PERFORM pg_logical_emit_message(true, 'edges: changed', '');
+    -- Of new tables those that inherit from another one are told.
+    IF tg_tag <> 'CREATE TABLE'
+        OR EXISTS (SELECT FROM pg_event_trigger_ddl_commands() AS made JOIN pg_inherits ON inhrelid = made.objid) THEN
+        PERFORM pg_logical_emit_message(true, 'edges: changed', '');
+    END IF;
 END $$;
 CREATE EVENT TRIGGER {publication}_changed ON ddl_command_end
-    WHEN TAG IN ('ALTER TABLE', 'DROP TABLE', 'ALTER PUBLICATION', 'DROP PUBLICATION', 'ALTER SCHEMA', 'DROP SCHEMA')
-    EXECUTE FUNCTION tell_{publication}();",
+    WHEN TAG IN (",
+            tags!(),
+            ")
+    EXECUTE FUNCTION tell_{publication}();
+ALTER EVENT TRIGGER {publication}_changed ENABLE ALWAYS;"
+        ),
     ),
 ];
 
 /// Of a view's table, which has the number `source`. In their SQL `{table}` stands for its name.
-const OF_VIEW: [Need; 10] = [
+const OF_VIEW: [Need; 14] = [
     (
         "EXISTS (SELECT FROM pg_class WHERE oid = source AND relkind = 'r' AND relpersistence = 'p' AND NOT relispartition)",
         "there is no such table, or it is none that is logged and whole: no view, no partition",
         "-- The table is the application's to make.",
     ),
     (
-        "(SELECT count(*) FROM pg_attribute WHERE attrelid = source AND attnum > 0 AND attname = ANY (key || columns))
-        = cardinality(key || columns)",
+        "key || columns <@ ARRAY(SELECT attname FROM pg_attribute WHERE attrelid = source AND attnum > 0)",
         "the table lacks a column of the view",
         "-- The columns are the application's to make.",
     ),
@@ -103,9 +125,34 @@ const OF_VIEW: [Need; 10] = [
         "GRANT SELECT ON {table} TO {role}; ALTER TABLE {table} DISABLE ROW LEVEL SECURITY;",
     ),
     (
-        "EXISTS (SELECT FROM pg_class WHERE oid = source AND relreplident = 'f')",
-        "a change needs to tell the row that was: REPLICA IDENTITY FULL",
+        "is_told_whole OR identity <> '{}' OR NOT has_primary_key",
+        "a change doesn't tell which row was there: REPLICA IDENTITY DEFAULT",
+        "ALTER TABLE {table} REPLICA IDENTITY DEFAULT;",
+    ),
+    (
+        "is_told_whole OR identity <> '{}' OR has_primary_key",
+        "a change doesn't tell which row was there, and there is no primary key: REPLICA IDENTITY FULL",
         "ALTER TABLE {table} REPLICA IDENTITY FULL;",
+    ),
+    (
+        "NOT is_query OR is_told_whole OR identity @> (key || columns)",
+        "a change needs to tell the row that was, of which the query takes more than the primary key: REPLICA IDENTITY FULL",
+        "ALTER TABLE {table} REPLICA IDENTITY FULL;",
+    ),
+    (
+        "NOT is_query OR NOT EXISTS (SELECT FROM pg_attribute JOIN pg_type ON pg_type.oid = atttypid
+        WHERE attrelid = source AND attname = ANY (key) AND typtype <> 'e' AND NOT (typname = 'numeric' AND atttypmod > 0)
+        AND typname NOT IN ('bool', 'int2', 'int4', 'int8', 'oid', 'text', 'varchar', 'uuid', 'date', 'timestamp', 'timestamptz'))",
+        "a column of GROUP BY has a type of which a value may have two texts",
+        "-- Such as integers, numeric with a scale, text, dates and times have one.",
+    ),
+    (
+        "NOT EXISTS (SELECT FROM pg_attribute JOIN pg_type ON pg_type.oid = atttypid WHERE attrelid = source
+        AND (attname = ANY (sums) AND typname NOT IN ('int2', 'int4', 'int8') AND NOT (typname = 'numeric' AND atttypmod > 0)
+        OR attname = ANY (maxima) AND typname NOT IN ('int2', 'int4', 'int8', 'date', 'timestamp', 'timestamptz')
+        AND NOT (typname = 'numeric' AND atttypmod > 0)))",
+        "a sum is kept of integers and numeric with a scale, and a maximum of these, dates and timestamps",
+        "-- What is summed needs another type.",
     ),
     (
         "EXISTS (SELECT FROM pg_publication_tables JOIN pg_namespace ON nspname = schemaname
@@ -144,11 +191,20 @@ pub fn lacking(configuration: &Configuration, connection: &mut Connection) -> Re
 
 /// The table's name, and whether each need holds.
 fn of_view(view: &View, publication: &str, connection: &mut Connection) -> Result<Vec<String>, Fault> {
-    let of =
-        "(SELECT to_regclass($1)::oid AS source, $2::text AS publication, $3::name[] AS key, $4::name[] AS columns)";
-    let sql = select(&OF_VIEW, "coalesce(source::regclass::text, '')", of);
-    let [key, columns] = [&view.key, &view.columns].map(|names| array(names));
-    connection.run_with(&sql, &[&view.table, publication, &key, &columns]).map(|mut table| table.remove(0))
+    let of = format!(
+        "(SELECT *, ARRAY({IDENTITY}) AS identity,
+            EXISTS (SELECT FROM pg_class WHERE oid = source AND relreplident = 'f') AS is_told_whole,
+            EXISTS (SELECT FROM pg_index WHERE indrelid = source AND indisprimary AND indimmediate) AS has_primary_key
+        FROM (SELECT to_regclass($1)::oid AS source, $2::text AS publication, $3::name[] AS key, $4::name[] AS columns,
+            $5::name[] AS sums, $6::name[] AS maxima, $7::boolean AS is_query) AS it)"
+    );
+    let sql = select(&OF_VIEW, "coalesce(source::regclass::text, '')", &of);
+    let sums = view.columns_of(|item| if let Item::Sum(place) = item { Some(place) } else { None });
+    let maxima = view.columns_of(|item| if let Item::Max(place) = item { Some(place) } else { None });
+    let [key, columns, sums, maxima] = [&view.key, &view.columns, &sums, &maxima].map(|names| array(names));
+    let is_query = view.is_query().to_string();
+    let told = [&*view.table, publication, &key, &columns, &sums, &maxima, &is_query];
+    connection.run_with(&sql, &told).map(|mut table| table.remove(0))
 }
 
 fn select(needs: &[Need], first: &str, of: &str) -> String {

@@ -1,22 +1,16 @@
-//! The keys that an edge holds: their rows, the cache that sessions read, and clocks that tell which key goes.
+//! The keys that an edge holds: what they have, the cache that sessions read, and clocks that tell which key goes.
+use crate::changes::{Changes, RowId};
 use crate::configuration::Room;
+use crate::content::{Content, Lack};
 use crate::key::Key;
 use crate::shared::Shared;
 use crate::{parts, stats::Count, value::Value};
-use std::collections::{HashMap, VecDeque};
+use std::collections::{HashMap, HashSet, VecDeque};
 use std::sync::{atomic::Ordering::Relaxed, Arc};
-
-/// A row that a key gets or loses.
-#[derive(Clone, Debug)]
-pub struct Delta {
-    pub is_plus: bool,
-    pub row: Box<str>,
-}
 
 struct Resident {
     view: usize,
-    /// In ascending order.
-    rows: Vec<Box<str>>,
+    content: Content,
     value: Arc<Value>,
     size: usize,
 }
@@ -32,34 +26,34 @@ struct Clock {
 pub struct Residents<'a> {
     shared: &'a Shared,
     held: HashMap<Key, Resident>,
+    /// The keys that have a row. While one is ahead of the stream there may be several.
+    of_rows: HashMap<RowId, Vec<Key>>,
     clocks: Vec<Clock>,
     /// Of all views.
     size: u64,
 }
 
-/// In bytes, about, with what the allocator takes: what a key takes beside its texts, here and in the cache, and what a
-/// row does.
+/// In bytes, about, with what the allocator takes: what a key takes beside its texts, here and in the cache.
 const OF_KEY: usize = 640;
-const OF_ROW: usize = 48;
 
 impl Residents<'_> {
     pub fn new(shared: &Shared) -> Residents<'_> {
         let most = shared.configuration.cache.limit_bytes;
         let clock = |limit: Option<u64>| Clock { limit: limit.unwrap_or(most).min(most), ..Clock::default() };
         let clocks = shared.configuration.views.iter().map(|view| clock(view.limit_bytes)).collect();
-        Residents { shared, held: HashMap::new(), clocks, size: 0 }
+        Residents { shared, held: HashMap::new(), of_rows: HashMap::new(), clocks, size: 0 }
     }
 
-    /// Puts a key's rows in place of those that it has, unless they are too large: what clients are to be told.
-    pub fn fill(&mut self, view: usize, key: &Key, rows: Vec<Box<str>>) -> Arc<Value> {
-        let value = Arc::new(Value::of(&rows));
-        let size = size(key, &rows, &value);
+    /// Puts what a key has in place of what is held of it, unless it is too large: what clients are to be told.
+    pub fn fill(&mut self, view: usize, key: &Key, content: Content) -> Arc<Value> {
+        let value = Arc::new(Value::of(&content, self.shared.encoding(view)));
+        let size = size(key, &content, &value);
         if size as u64 > self.clocks[view].limit {
             self.shared.work.up(Count::TooLarge);
             self.evict(key);
         } else {
             self.shared.work.up(Count::Fills);
-            self.put(key, Resident { view, rows, value: Arc::clone(&value), size });
+            self.put(key, Resident { view, content, value: Arc::clone(&value), size });
         }
         value
     }
@@ -67,7 +61,16 @@ impl Residents<'_> {
     fn put(&mut self, key: &Key, resident: Resident) {
         let (view, size) = (resident.view, resident.size as u64);
         self.shared.cache.insert(Arc::clone(key), Arc::clone(&resident.value));
-        let was = match self.held.insert(Arc::clone(key), resident) {
+        let before = self.held.remove(key);
+        let had = |id: &&RowId| before.as_ref().is_some_and(|before| before.content.has(id));
+        for id in resident.content.ids().filter(|id| !had(id)) {
+            self.of_rows.entry(Arc::clone(id)).or_default().push(Arc::clone(key));
+        }
+        if let Some(before) = &before {
+            self.forget_rows(key, before.content.ids().filter(|id| !resident.content.has(id)));
+        }
+        self.held.insert(Arc::clone(key), resident);
+        let was = match before {
             Some(before) => before.size as u64,
             None => {
                 self.clocks[view].keys.push_back(Arc::clone(key));
@@ -88,20 +91,48 @@ impl Residents<'_> {
         Some(value)
     }
 
-    /// Applies a transaction's signed rows of a key. A key whose rows disagree goes.
-    pub fn update(&mut self, key: &Key, deltas: &[Delta]) {
-        let Some(resident) = self.held.get_mut(key) else { return };
-        let Some(rows) = changed(&resident.rows, deltas) else {
-            self.shared.work.up(Count::Disagreements);
-            eprintln!("edge: the rows of {key} and its changes disagree, and it is no longer held");
-            return self.evict(key);
+    fn forget_rows<'r>(&mut self, key: &Key, ids: impl Iterator<Item = &'r RowId>) {
+        for id in ids {
+            let Some(keys) = self.of_rows.get_mut(id) else { continue };
+            keys.retain(|other| other != key);
+            if keys.is_empty() {
+                self.of_rows.remove(id);
+            }
+        }
+    }
+
+    #[cfg(test)]
+    pub fn rows(&self) -> usize {
+        self.of_rows.len()
+    }
+
+    /// The keys that a transaction may change.
+    pub fn changed_by(&self, changes: &Changes) -> HashSet<Key> {
+        let with_rows = changes.rows.keys().filter_map(|id| self.of_rows.get(id)).flatten();
+        changes.of_keys.keys().filter(|key| self.held.contains_key(*key)).chain(with_rows).cloned().collect()
+    }
+
+    /// Applies what a transaction changes of a key. One that isn't known then goes.
+    pub fn update(&mut self, key: &Key, changes: &Changes) {
+        let Some(resident) = self.held.get(key) else { return };
+        let content = match resident.content.changed(key, changes) {
+            Ok(content) => content,
+            Err(Lack::Untold) => {
+                self.shared.work.up(Count::Untold);
+                return self.evict(key);
+            }
+            Err(Lack::Disagreement) => {
+                self.shared.work.up(Count::Disagreements);
+                eprintln!("edge: the rows of {key} and its changes disagree, and it is no longer held");
+                return self.evict(key);
+            }
         };
-        let value = Arc::new(Value::of(&rows));
+        let value = Arc::new(Value::of(&content, self.shared.encoding(resident.view)));
         if resident.value.was_read() {
             value.is_read();
         }
-        let (view, size) = (resident.view, size(key, &rows, &value));
-        self.put(key, Resident { view, rows, value, size });
+        let (view, size) = (resident.view, size(key, &content, &value));
+        self.put(key, Resident { view, content, value, size });
         self.shared.work.up(Count::Updates);
     }
 
@@ -110,6 +141,7 @@ impl Residents<'_> {
             self.shared.cache.invalidate_all();
             self.held.iter().for_each(|_| self.shared.work.up(Count::Evictions));
             self.held.clear();
+            self.of_rows.clear();
             self.clocks.iter_mut().for_each(|clock| *clock = Clock { limit: clock.limit, ..Clock::default() });
             self.size = 0;
         }
@@ -144,6 +176,7 @@ impl Residents<'_> {
     fn evict(&mut self, key: &Key) {
         let Some(resident) = self.held.remove(key) else { return };
         self.shared.cache.invalidate(key);
+        self.forget_rows(key, resident.content.ids());
         let clock = &mut self.clocks[resident.view];
         clock.size -= resident.size as u64;
         self.size -= resident.size as u64;
@@ -162,18 +195,6 @@ impl Residents<'_> {
     }
 }
 
-fn size(key: &str, rows: &[Box<str>], value: &Value) -> usize {
-    rows.iter().map(|row| row.len() + OF_ROW).sum::<usize>() + OF_KEY + 2 * key.len() + value.size()
-}
-
-/// Rows after a change, in ascending order. None where one that is lost is neither there nor among those that come.
-pub fn changed(rows: &[Box<str>], deltas: &[Delta]) -> Option<Vec<Box<str>>> {
-    let of_sign = |is_plus| deltas.iter().filter(move |delta| delta.is_plus == is_plus).map(|delta| delta.row.clone());
-    let mut rows: Vec<Box<str>> = rows.iter().cloned().chain(of_sign(true)).collect();
-    let mut lost: Vec<Box<str>> = of_sign(false).collect();
-    rows.sort();
-    lost.sort();
-    let mut lost = lost.into_iter().peekable();
-    rows.retain(|row| lost.next_if_eq(row).is_none());
-    lost.next().is_none().then_some(rows)
+fn size(key: &str, content: &Content, value: &Value) -> usize {
+    content.size() + OF_KEY + 2 * key.len() + value.size()
 }

@@ -42,6 +42,23 @@ impl Reply<'_> {
         }
     }
 
+    /// What was made for version 3.
+    pub fn made(&mut self, text: &str) {
+        let mut rest = if self.version == Version::Three { "" } else { text };
+        self.to.extend(&text.as_bytes()[rest.len()..]);
+        while let Some((line, after)) = rest.split_once("\r\n") {
+            let count: usize = line[1..].parse().unwrap_or_default();
+            let bytes = if line.starts_with('$') { count + 2 } else { 0 };
+            match &line[..1] {
+                "%" => self.map(count),
+                "*" => self.array(count),
+                "$" => self.bulk(&after[..count]),
+                _ => self.nil(),
+            }
+            rest = &after[bytes..];
+        }
+    }
+
     pub fn bulk(&mut self, text: &str) {
         self.to.push(b'$');
         self.to.extend(text.len().to_string().into_bytes());
@@ -55,5 +72,22 @@ impl Reply<'_> {
             Version::Two => &b"$-1\r\n"[..],
             Version::Three => b"_\r\n",
         });
+    }
+}
+
+#[cfg(test)]
+mod tests {
+    use super::*;
+
+    #[test]
+    fn what_was_made_for_version_3_is_told_in_version_2() {
+        let made = "*2\r\n%1\r\n$1\r\na\r\n$4\r\n\r\né\r\n%1\r\n$1\r\na\r\n_\r\n";
+        let told = |version| {
+            let mut to = Vec::new();
+            Reply { to: &mut to, version }.made(made);
+            String::from_utf8(to).unwrap()
+        };
+        assert_eq!(told(Version::Three), made);
+        assert_eq!(told(Version::Two), made.replace("%1", "*2").replace("_\r\n", "$-1\r\n"));
     }
 }

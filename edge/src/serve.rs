@@ -62,6 +62,8 @@ fn run(
         let events = events.clone();
         thread::spawn(move || upquery::run(shared, queue, events));
     }
+    let for_watch = events.clone();
+    thread::spawn(move || watch(shared, for_watch));
     let stream = Stream::new(shared, events.clone());
     thread::spawn(move || stream.run());
     for listener in listeners {
@@ -85,6 +87,19 @@ fn run(
     ending.wait();
     ending::notify("STOPPING=1");
     process::exit(end(shared, door, 0))
+}
+
+/// What the edge needs may go without a word of the stream, as the event trigger that has it tell of others: so it is
+/// looked for now and then.
+fn watch(shared: &Shared, events: SyncSender<Event>) {
+    loop {
+        thread::sleep(shared.configuration.source.recheck());
+        let Ok(mut beside) = shared.base.as_it_is() else { continue };
+        if let Err(End::Refused(why)) = slot::checked(&shared.configuration, &mut beside) {
+            _ = events.send(Event::Refused(why));
+            return;
+        }
+    }
 }
 
 /// Serves a client by a session with a reader of its own.

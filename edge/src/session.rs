@@ -7,7 +7,6 @@ use crate::shared::Shared;
 use crate::wire::{Limits, Socket, Wire};
 use crate::{stats, stats::Count, value::Value};
 use nr::CacheReader;
-use std::hash::RandomState;
 use std::sync::{atomic::Ordering::SeqCst, mpsc, mpsc::SyncSender, Arc};
 use std::{io, time::Instant};
 
@@ -15,7 +14,7 @@ pub struct Session<'a> {
     /// Of the counts.
     pub number: usize,
     pub shared: &'a Shared,
-    pub reader: CacheReader<Key, Arc<Value>, RandomState>,
+    pub reader: CacheReader<Key, Arc<Value>>,
     pub events: SyncSender<Event>,
     pub version: Version,
     pub may_read: bool,
@@ -185,7 +184,7 @@ impl Session<'_> {
     fn get(&mut self, key: &str, reply: &mut Reply) -> Result<(), Fault> {
         if !self.hit(key, reply) {
             let asked = self.miss(key)?;
-            push(&*self.told(key, asked)?, reply);
+            self.told(key, asked)?.push(reply);
         }
         Ok(())
     }
@@ -201,12 +200,12 @@ impl Session<'_> {
     /// The missing keys are asked for together.
     fn get_many(&mut self, keys: &[&str], mut reply: Reply) -> Result<(), Fault> {
         reply.array(keys.len());
-        self.values(keys)?.iter().for_each(|value| push(value, &mut reply));
+        self.values(keys)?.iter().for_each(|value| value.push(&mut reply));
         Ok(())
     }
 
     fn exist(&mut self, keys: &[&str], mut reply: Reply) -> Result<(), Fault> {
-        let count = self.values(keys)?.iter().filter(|value| value.json.is_some()).count();
+        let count = self.values(keys)?.iter().filter(|value| value.text.is_some()).count();
         reply.number(count);
         Ok(())
     }
@@ -227,7 +226,7 @@ impl Session<'_> {
         let Some(value) = self.reader.get(key) else { return false };
         self.shared.counts[self.number].up(Count::Hits);
         value.is_read();
-        push(&value, reply);
+        value.push(reply);
         true
     }
 
@@ -267,11 +266,4 @@ impl Session<'_> {
 
 fn ok(mut reply: Reply) {
     reply.simple("OK");
-}
-
-fn push(value: &Value, reply: &mut Reply) {
-    match &value.json {
-        Some(json) => reply.bulk(json),
-        None => reply.nil(),
-    }
 }

@@ -1,6 +1,6 @@
 //! What the threads share.
 use crate::base::Base;
-use crate::configuration::Configuration;
+use crate::configuration::{Configuration, Encoding};
 use crate::key::Key;
 use crate::stats::{Counts, Now};
 use crate::tables::Table;
@@ -69,6 +69,10 @@ impl Shared {
 
     pub fn has_tables(&self, tables: Vec<Table>) {
         *self.tables.write().unwrap_or_else(PoisonError::into_inner) = tables.into();
+    }
+
+    pub fn encoding(&self, view: usize) -> Encoding {
+        self.configuration.views[view].encoding
     }
 
     pub fn follows(&self, is_following: bool) {

@@ -15,7 +15,7 @@ macro_rules! counts {
 counts!(
     Hits "hits", Misses "misses", Waits "waits", Upqueries "upqueries", Statements "statements", Fills "fills",
     Evictions "evictions", TooLarge "too_large", Transactions "transactions", Updates "updates", Repeats "repeats",
-    Skips "skips", Replays "replays", Again "again", Losses "losses", Disagreements "disagreements", Clients "clients",
+    Skips "skips", Replays "replays", Again "again", Losses "losses", Untold "untold", Disagreements "disagreements", Clients "clients",
     Refused "refused_clients"
 );
 

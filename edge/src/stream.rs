@@ -1,11 +1,11 @@
 //! The stream: one thread that reads a slot's changes and sends whole transactions to the dataflow.
-use crate::dataflow::{Changes, Event, Transaction};
+use crate::changes::{Changes, Columns};
+use crate::configuration::View;
+use crate::dataflow::{Event, Transaction};
 use crate::fault::End;
-use crate::key;
 use crate::lsn::Lsn;
 use crate::pgoutput::{Change, Description, Message};
 use crate::pq::Connection;
-use crate::residents::Delta;
 use crate::shared::Shared;
 use crate::slot;
 use crate::snapshot::TableId;
@@ -130,10 +130,12 @@ struct Place<'a> {
     lacks: &'static str,
 }
 
-/// A table as the stream has told it: of each view that is of it the places of the key's columns, and of the others.
+/// A table as the stream has told it, with the views that are of it.
 struct Known {
     description: Vec<u8>,
-    views: Vec<(usize, Vec<usize>, Vec<usize>)>,
+    /// Which columns are told of a row that was.
+    identity: Vec<bool>,
+    views: Vec<(usize, Columns)>,
 }
 
 impl Place<'_> {
@@ -159,7 +161,7 @@ impl Place<'_> {
 
     fn changed(&mut self, message: &[u8]) -> Option<Option<Event>> {
         match Message::of(message)? {
-            Message::Begin(xid) => self.open = Some(Transaction { xid, end: Lsn(0), changes: Changes::new() }),
+            Message::Begin(xid) => self.open = Some(Transaction { xid, end: Lsn(0), changes: Changes::default() }),
             Message::Change(table, change) if self.is_of_views(table) => self.change(table, change)?,
             Message::Table(description) if self.is_of_views(description.table) => self.know(description)?,
             Message::Commit(end) => {
@@ -184,33 +186,34 @@ impl Place<'_> {
     }
 
     fn change(&mut self, table: TableId, change: Change) -> Option<()> {
-        let (was, is) = change.rows()?;
-        let changes = &mut self.open.as_mut()?.changes;
-        for (view, key, columns) in &self.known.get(&table)?.views {
-            let name = &self.shared.configuration.views[*view].name;
-            for (is_plus, cells) in [(false, &was), (true, &is)] {
-                let Some(cells) = cells else { continue };
-                let parts: Vec<&str> = key.iter().map(|place| *cells.get(*place)?).collect::<Option<_>>()?;
-                let columns = columns.iter().map(|place| cells.get(*place).copied().flatten());
-                let delta = Delta { is_plus, row: self.tables[*view].shape.row(columns) };
-                changes.entry(key::written(name, &parts)).or_default().push(delta);
-            }
-        }
-        Some(())
+        let (known, changes) = (self.known.get(&table)?, &mut self.open.as_mut()?.changes);
+        let (was, is) = change.rows(&known.identity)?;
+        let mut views = known.views.iter();
+        views.try_for_each(|(view, columns)| changes.tell(&self.tables[*view], columns, was.as_deref(), is.as_deref()))
     }
 
     fn know(&mut self, description: Description) -> Option<()> {
         let place = |name: &String| description.columns.iter().position(|column| column == name);
         let places = |names: &[String]| names.iter().map(place).collect::<Option<Vec<_>>>();
-        let views = self.shared.configuration.views.iter().enumerate().zip(self.tables.iter());
-        let of_table = views.filter(|(_, table)| table.id == description.table);
-        let views: Option<Vec<_>> =
-            of_table.map(|((number, view), _)| Some((number, places(&view.key)?, places(&view.columns)?))).collect();
-        let known = Known { description: description.bytes.to_vec(), views: views? };
-        let before = self.known.get(&description.table);
-        let is_changed = before.is_some_and(|before| before.description != known.description);
-        self.lacks = if is_changed { "a table was changed" } else { self.lacks };
-        (description.is_told_whole && !is_changed).then(|| _ = self.known.insert(description.table, known))
+        let columns = |(view, table): (&View, &Table)| {
+            let identity = places(table.identity.as_deref().unwrap_or_default())?;
+            // Else it has another identity than when the edge asked for it.
+            let is_told = |column: usize| table.identity.is_none() || identity.contains(&column);
+            let is_as_asked = description.is_told_whole == table.identity.is_none()
+                && (0..).zip(&description.identity).all(|(column, is)| *is == is_told(column));
+            is_as_asked.then_some(Columns { key: places(&view.key)?, row: places(&view.columns)?, identity })
+        };
+        let views = self.shared.configuration.views.iter().zip(self.tables.iter()).enumerate();
+        let of_table = views.filter(|(_, (_, table))| table.id == description.table);
+        let views: Option<Vec<_>> = of_table.map(|(number, it)| Some((number, columns(it)?))).collect();
+        let is_changed = |before: &Known| before.description != description.bytes;
+        if views.is_none() || self.known.get(&description.table).is_some_and(is_changed) {
+            self.lacks = "a table was changed";
+            return None;
+        }
+        let known = Known { description: description.bytes.to_vec(), identity: description.identity, views: views? };
+        self.known.insert(description.table, known);
+        Some(())
     }
 
     /// That PostgreSQL need not keep what came, since the edge has it, and wants to be heard.

@@ -1,4 +1,5 @@
 //! Upqueries: threads that each ask PostgreSQL, by a connection of their own, for the rows of many keys at once.
+use crate::content::Content;
 use crate::dataflow::Event;
 use crate::key::{self, Key};
 use crate::lsn::Lsn;
@@ -40,13 +41,13 @@ impl Asked {
     }
 }
 
-/// A key's rows in ascending order, or why it has none to tell.
-pub type Rows = Result<Vec<Box<str>>, String>;
+/// What a key has, or why it has none to tell.
+pub type Told = Result<Content, String>;
 
-/// What PostgreSQL answers to the requests of one statement: for each its rows.
+/// What PostgreSQL answers to the requests of one statement: of each key what it has.
 pub struct Answer {
     pub requests: Vec<Request>,
-    pub rows: Result<(Seen, Vec<Rows>), Fault>,
+    pub told: Result<(Seen, Vec<Told>), Fault>,
 }
 
 /// The requests that wait for a connection.
@@ -117,16 +118,16 @@ pub fn run(shared: &Shared, queue: &Queue, events: SyncSender<Event>) {
 fn answers(shared: &Shared, at: &mut Option<Prepared>, requests: Vec<Request>) -> Vec<Answer> {
     // A connection may have broken since its last use, so another is tried.
     let is_broken = |fault: &Fault| fault.is_of_connection() && fault.state != CANCELLED;
-    let rows = match rows(shared, at, &requests) {
-        Err(fault) if is_broken(&fault) => self::rows(shared, at, &requests),
-        rows => rows,
+    let told = match told(shared, at, &requests) {
+        Err(fault) if is_broken(&fault) => self::told(shared, at, &requests),
+        told => told,
     };
     let is_of_a_value = |fault: &Fault| OF_A_VALUE.iter().any(|class| fault.state.starts_with(class));
-    match rows {
+    match told {
         Err(fault) if is_of_a_value(&fault) && requests.len() > 1 => {
             requests.into_iter().flat_map(|request| answers(shared, at, vec![request])).collect()
         }
-        rows => vec![Answer { requests, rows }],
+        told => vec![Answer { requests, told }],
     }
 }
 
@@ -134,17 +135,17 @@ const CANCELLED: &str = "57014";
 /// A text that is none of its type, or not of its domain.
 const OF_A_VALUE: [&str; 2] = ["22", "23"];
 
-fn rows(shared: &Shared, at: &mut Option<Prepared>, requests: &[Request]) -> Result<(Seen, Vec<Rows>), Fault> {
+fn told(shared: &Shared, at: &mut Option<Prepared>, requests: &[Request]) -> Result<(Seen, Vec<Told>), Fault> {
     let tables = shared.tables();
     let mut prepared = match at.take() {
         Some(prepared) if Arc::ptr_eq(&prepared.tables, &tables) => prepared,
         _ => prepared(shared, tables)?,
     };
     let answer = match requests.first().and_then(|request| request.asked.view()) {
-        Some(view) => rows_of(shared, &mut prepared, view, requests),
+        Some(view) => told_of(shared, &mut prepared, view, requests),
         None => prepared.connection.run(ONLY_SEEN).and_then(|tables| {
             let line: Vec<_> = tables.concat().pop().unwrap_or_default().into_iter().map(Some).collect();
-            understood(seen(&line).map(|seen| (seen, vec![Ok(Vec::new())])))
+            understood(seen(&line).map(|seen| (seen, Vec::new())))
         }),
     };
     // After a refusal of a key the connection is as good as before.
@@ -154,13 +155,13 @@ fn rows(shared: &Shared, at: &mut Option<Prepared>, requests: &[Request]) -> Res
     answer
 }
 
-fn rows_of(shared: &Shared, at: &mut Prepared, view: usize, requests: &[Request]) -> Result<(Seen, Vec<Rows>), Fault> {
+fn told_of(shared: &Shared, at: &mut Prepared, view: usize, requests: &[Request]) -> Result<(Seen, Vec<Told>), Fault> {
     let parts: Vec<Vec<String>> = requests.iter().map(|request| parts(shared, request)).collect();
     let column = |place: usize| array(&parts.iter().map(|parts| parts[place].clone()).collect::<Vec<_>>());
     let columns: Vec<String> = (0..shared.configuration.views[view].key.len()).map(column).collect();
     let columns: Vec<&str> = columns.iter().map(String::as_str).collect();
     let cells = at.connection.run_prepared(&tables::statement_of(view), &columns)?;
-    understood(told(cells, &parts, &at.tables[view]))
+    understood(contents(&cells, &parts, &at.tables[view]))
 }
 
 fn prepared(shared: &Shared, tables: Arc<[Table]>) -> Result<Prepared, Fault> {
@@ -189,21 +190,25 @@ fn seen(line: &[Option<String>]) -> Option<Seen> {
     Some(Seen { snapshot: cell(1)?.parse().ok()?, place, table: TableId(cell(4)?.parse().ok()?) })
 }
 
-/// Each line of the answer is a row of a key, or says that the key has none.
-fn told(cells: Cells, parts: &[Vec<String>], table: &Table) -> Option<(Seen, Vec<Rows>)> {
+/// Each line of the answer is a row of a key or its group, or says that the key has none.
+fn contents(cells: &Cells, parts: &[Vec<String>], table: &Table) -> Option<(Seen, Vec<Told>)> {
     let seen = seen(cells.first()?)?;
-    let mut rows: Vec<Rows> = parts.iter().map(|_| Ok(Vec::new())).collect();
+    let mut lines: Vec<Result<Vec<&[Option<String>]>, String>> = parts.iter().map(|_| Ok(Vec::new())).collect();
     for line in cells {
         let place = line.first()?.as_deref()?.parse::<usize>().ok()?.checked_sub(1)?;
-        let asked = parts.get(place)?;
-        let (key, row) = line.get(6..)?.split_at_checked(asked.len())?;
+        let (asked, of_key) = (parts.get(place)?, lines.get_mut(place)?);
+        let (key, cells) = line.get(6..)?.split_at_checked(asked.len())?;
         if !asked.iter().zip(key).all(|(asked, key)| Some(asked) == key.as_ref()) {
             let key: Vec<_> = key.iter().map(|it| it.as_deref().unwrap_or_default()).collect();
-            *rows.get_mut(place)? = Err(format!("PostgreSQL writes this key {}", key.join(":")));
-        } else if let (Some("t"), Ok(rows)) = (line.get(5)?.as_deref(), rows.get_mut(place)?) {
-            rows.push(table.shape.row(row.iter().map(Option::as_deref)));
+            *of_key = Err(format!("PostgreSQL writes this key {}", key.join(":")));
+        } else if let (Some("t"), Ok(lines)) = (line.get(5)?.as_deref(), of_key) {
+            lines.push(cells);
         }
     }
-    rows.iter_mut().flatten().for_each(|rows| rows.sort());
-    Some((seen, rows))
+    let content = |(key, lines): (&Vec<String>, Result<Vec<_>, String>)| match lines {
+        Ok(lines) => Content::of(table, key, &lines).map(Ok),
+        Err(why) => Some(Err(why)),
+    };
+    let told = parts.iter().zip(lines).map(content).collect::<Option<_>>()?;
+    Some((seen, told))
 }

@@ -2,6 +2,7 @@
 //! is a test that fails where the part is left out.
 use super::*;
 use crate::base::Base;
+use crate::changes::{Delta, Place};
 use crate::lsn::Xid;
 use std::collections::VecDeque;
 use std::thread;
@@ -68,10 +69,26 @@ impl Trial {
     }
 
     fn answer_of(&mut self, table: TableId, request: Request, snapshot: &str, rows: &[&str]) {
-        let seen = Seen { snapshot: snapshot.parse().unwrap(), place: Lsn(200), table };
         let rows = rows.iter().map(|row| (*row).into()).collect();
-        let answer = Answer { requests: vec![request], rows: Ok((seen, vec![Ok(rows)])) };
+        self.answer_with(table, request, snapshot, Content::Whole(rows));
+    }
+
+    fn answer_with(&mut self, table: TableId, request: Request, snapshot: &str, content: Content) {
+        let seen = Seen { snapshot: snapshot.parse().unwrap(), place: Lsn(200), table };
+        let answer = Answer { requests: vec![request], told: Ok((seen, vec![Ok(content)])) };
         self.dataflow.handle(Event::Answer(answer));
+    }
+
+    /// The same of rows by their identities, which are their texts' first signs.
+    fn answer_identified(&mut self, request: Request, snapshot: &str, rows: &[&str]) {
+        let rows = rows.iter().map(|row| (row[..1].into(), (*row).into())).collect();
+        self.answer_with(TABLE, request, snapshot, Content::Identified(rows));
+    }
+
+    fn fill_identified(&mut self, key: &str, snapshot: &str, rows: &[&str]) -> mpsc::Receiver<Told> {
+        let (request, client) = self.ask(key);
+        self.answer_identified(request, snapshot, rows);
+        client
     }
 
     fn fill(&mut self, key: &str, snapshot: &str, rows: &[&str]) {
@@ -80,7 +97,30 @@ impl Trial {
     }
 
     fn commit(&mut self, xid: u32, end: u64, key: &str, deltas: &[Delta]) {
-        let changes = Changes::from([(key.into(), deltas.to_vec())]);
+        let of_keys = [(key.into(), deltas.to_vec())].into();
+        self.commit_all(xid, end, Changes { of_keys, ..Changes::default() });
+    }
+
+    /// Rows that are of these keys from here on; an empty key is none, and ? one that isn't told.
+    fn commit_moves(&mut self, xid: u32, end: u64, moves: &[(&str, &str)]) {
+        let mut changes = Changes::default();
+        for (row, key) in moves {
+            let (id, key): (Key, Key) = (row[..1].into(), (*key).into());
+            let place = match &*key {
+                "" => Place::Gone,
+                "?" => Place::Untold,
+                _ => {
+                    let row = (!row.ends_with('?')).then(|| (*row).into());
+                    changes.of_keys.entry(key.clone()).or_default().push(Delta::Comes { id: id.clone(), row });
+                    Place::Of(key)
+                }
+            };
+            changes.rows.insert(id, place);
+        }
+        self.commit_all(xid, end, changes);
+    }
+
+    fn commit_all(&mut self, xid: u32, end: u64, changes: Changes) {
         self.dataflow.handle(Event::Transaction(Transaction { xid: Xid(xid), end: Lsn(end), changes }));
     }
 
@@ -93,15 +133,15 @@ impl Trial {
 }
 
 fn plus(row: &str) -> Delta {
-    Delta { is_plus: true, row: row.into() }
+    Delta::Row { is_plus: true, row: row.into() }
 }
 
 fn minus(row: &str) -> Delta {
-    Delta { is_plus: false, row: row.into() }
+    Delta::Row { is_plus: false, row: row.into() }
 }
 
 fn text(value: &Value) -> String {
-    value.json.as_deref().unwrap_or("none").into()
+    value.text.as_deref().unwrap_or("none").into()
 }
 
 fn told(told: &mpsc::Receiver<Told>) -> String {
@@ -317,7 +357,7 @@ fn a_fault_is_told_and_the_next_client_asks_again() {
     let (request, client) = trial.ask("a");
     let other = trial.wait("a");
     assert!(trial.sent().is_none(), "one request serves both");
-    let answer = Answer { requests: vec![request], rows: Err(String::from("gone").into()) };
+    let answer = Answer { requests: vec![request], told: Err(String::from("gone").into()) };
     trial.dataflow.handle(Event::Answer(answer));
     assert_eq!([told(&client), told(&other)], ["gone", "gone"]);
     trial.fill("a", "10:10:", &[ONE]);
@@ -332,6 +372,75 @@ fn rows_that_disagree_with_their_changes_go() {
     assert_eq!(trial.held("a"), None);
     trial.fill("a", "13:13:", &[ONE]);
     is(trial.held("a"), "[1]");
+}
+
+#[test]
+fn a_row_leaves_the_key_that_has_it() {
+    let mut trial = Trial::following();
+    trial.fill_identified("a", "10:10:", &["1x", "2x"]);
+    trial.fill_identified("b", "10:10:", &["3x"]);
+    // Of a row that was its identity alone is told.
+    trial.commit_moves(12, 210, &[("1y", "b"), ("2z", "a")]);
+    is(trial.held("a"), "[2z]");
+    is(trial.held("b"), "[1y,3x]");
+    // To a key that isn't held, and away.
+    trial.commit_moves(13, 220, &[("1y", "c"), ("3x", "")]);
+    is(trial.held("a"), "[2z]");
+    is(trial.held("b"), "none");
+    trial.commit_moves(14, 230, &[("1w", "a")]);
+    is(trial.held("a"), "[1w,2z]");
+    assert_eq!(trial.dataflow.residents.rows(), 2);
+    trial.commit_moves(15, 240, &[("1?", "a")]);
+    assert_eq!((trial.held("a"), trial.dataflow.residents.rows()), (None, 0));
+}
+
+#[test]
+fn a_row_of_two_keys_leaves_the_one_that_is_behind() {
+    let mut trial = Trial::following();
+    trial.fill_identified("a", "10:10:", &["1x"]);
+    // It saw that 12 has moved the row.
+    trial.fill_identified("b", "13:13:", &["1x"]);
+    trial.commit_moves(12, 110, &[("1x", "b")]);
+    assert_eq!([trial.held("a").as_deref(), trial.held("b").as_deref()], [Some("none"), Some("[1x]")]);
+    trial.commit_moves(13, 120, &[("1x", "")]);
+    is(trial.held("b"), "none");
+}
+
+#[test]
+fn a_row_that_moves_twice_is_of_the_last_key() {
+    let mut trial = Trial::following();
+    let (request, client) = trial.ask("a");
+    let (other, _) = trial.ask("b");
+    trial.commit_moves(12, 110, &[("1x", "a"), ("2x", "a"), ("2y", "b"), ("3x", "b"), ("3x", "")]);
+    trial.commit_moves(13, 120, &[("1y", "b")]);
+    trial.answer_identified(request, "12:14:12,13", &["4x"]);
+    trial.answer_identified(other, "12:14:12,13", &[]);
+    assert_eq!(told(&client), "[4x]");
+    is(trial.held("b"), "[1y,2y]");
+}
+
+#[test]
+fn a_row_that_is_told_in_part_is_asked_for() {
+    let mut trial = Trial::following();
+    trial.fill_identified("a", "10:10:", &["1x"]);
+    trial.fill_identified("b", "10:10:", &["2x"]);
+    trial.fill_identified("c", "10:10:", &["3x"]);
+    trial.commit_moves(12, 210, &[("1?", "a"), ("2x", "?")]);
+    assert_eq!((trial.held("a"), trial.held("b")), (None, None));
+    is(trial.held("c"), "[3x]");
+    // A snapshot that doesn't see it fills nothing.
+    let asked = ["a", "b"].map(|key| trial.ask(key));
+    let clients = asked.map(|(request, client)| {
+        trial.answer_identified(request, "12:13:12", &["1x", "2x"]);
+        assert_eq!(told(&client), "nothing");
+        client
+    });
+    assert_eq!((trial.held("a"), trial.held("b")), (None, None));
+    for client in clients {
+        let again = trial.sent().expect("PostgreSQL is asked again");
+        trial.answer_identified(again, "13:13:", &["1z"]);
+        assert_eq!(told(&client), "[1z]");
+    }
 }
 
 #[test]

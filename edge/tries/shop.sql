@@ -11,3 +11,7 @@ CREATE TABLE times (at timestamptz NOT NULL, what text);
 INSERT INTO times VALUES ('2026-01-01 12:00:00+02', 'then');
 CREATE TABLE other (id int PRIMARY KEY);
 INSERT INTO other VALUES (1);
+CREATE TABLE sales (id bigint PRIMARY KEY, client text NOT NULL, day date NOT NULL, total numeric(8, 2));
+INSERT INTO sales SELECT id, client, day, nullif(total, 'NaN') FROM orders;
+CREATE TABLE votes (article bigint, voter bigint, PRIMARY KEY (article, voter));
+INSERT INTO votes SELECT it % 3, it FROM generate_series(1, 9) AS it;

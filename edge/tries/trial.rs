@@ -1,6 +1,6 @@
-//! Changes and reads of a view side by side, beside faults: what an edge answers who has a token is what PostgreSQL
-//! has.
-//!   trial PORT ADDRESS SECONDS
+//! Changes and reads of a table's rows and of another's sums side by side, beside faults: what an edge answers who has a
+//! token is what PostgreSQL has.
+//!   trial ADDRESS SECONDS PORT..
 use std::io::{BufRead, BufReader, Lines, Read, Write};
 use std::net::TcpStream;
 use std::process::{exit, Child, ChildStdout, Command, Stdio};
@@ -10,6 +10,9 @@ use std::{env, thread};
 
 /// As many clients have a key each.
 const KEYS: u64 = 12;
+
+/// However long these take.
+const FEWEST: u64 = 200;
 
 struct Base {
     psql: Child,
@@ -80,17 +83,30 @@ fn rows(base: &mut Base, client: u64) -> String {
     base.run(&format!("SELECT {all} FROM orders WHERE client = 'c{client}' AND day = '2026-01-01'"))
 }
 
+/// Of a table that is changed as that of rows is.
+fn sums(base: &mut Base, client: u64) -> String {
+    let cells = "client, count(*), count(total), coalesce(sum(total)::text, 'null'), coalesce(max(total)::text, 'null'), max(day)";
+    let row = r#"'[{"client":"%s","sales":%s,"priced":%s,"sum":%s,"max":%s,"last":"%s"}]'"#;
+    base.run(&format!("SELECT format({row}, {cells}) FROM sales WHERE client = 'c{client}' GROUP BY client"))
+}
+
 /// Changes rows and looks whether who has the change's token reads them. How often it did.
-fn change(port: &str, address: &str, end: Instant) -> u64 {
-    let (mut base, mut edge, mut numbers, mut count) = (Base::open(address), Edge::open(port), Numbers(7), 0);
-    while Instant::now() < end {
+fn change(ports: &[String], address: &str, end: Instant) -> u64 {
+    let (mut base, mut numbers, mut count) = (Base::open(address), Numbers(7), 0);
+    let mut edges: Vec<_> = ports.iter().map(|port| Edge::open(port)).collect();
+    while Instant::now() < end || count < FEWEST {
         let statements: Vec<_> = (0..=numbers.below(4)).map(|_| statement(&mut numbers)).collect();
         let last = if numbers.below(10) == 0 { "ROLLBACK" } else { "COMMIT" };
-        base.run(&format!("BEGIN; {}; {last}", statements.join("; ")));
+        let statements = statements.join("; ");
+        base.run(&format!("BEGIN; {statements}; {}; {last}", statements.replace("orders", "sales")));
         let token = base.run("SELECT pg_current_wal_flush_lsn()");
         for _ in 0..3 {
+            let edge = &mut edges[numbers.below(ports.len() as u64) as usize];
             let client = numbers.below(KEYS);
-            let (wanted, key) = (rows(&mut base, client), format!("orders:c{client}:2026-01-01"));
+            let (wanted, key) = match numbers.below(2) {
+                0 => (rows(&mut base, client), format!("orders:c{client}:2026-01-01")),
+                _ => (sums(&mut base, client), format!("sums:c{client}")),
+            };
             let mut got = edge.ask(&["GET", &key, &token]);
             // While its connections are ended an edge may say so.
             for _ in 0..100 {
@@ -101,7 +117,7 @@ fn change(port: &str, address: &str, end: Instant) -> u64 {
                 got = edge.ask(&["GET", &key, &token]);
             }
             if got != wanted {
-                eprintln!("{key} at {token} after {statements:?}: wanted '{wanted}', got '{got}'");
+                eprintln!("{key} at {token} after '{statements}': wanted '{wanted}', got '{got}'");
                 exit(1);
             }
             count += 1;
@@ -110,11 +126,12 @@ fn change(port: &str, address: &str, end: Instant) -> u64 {
     count
 }
 
-fn disturb(address: &str, is_over: &AtomicBool) {
+/// The more edges there are, the longer each needs for a new slot, and so it has the time.
+fn disturb(address: &str, edges: u64, is_over: &AtomicBool) {
     let (mut base, mut numbers) = (Base::open(address), Numbers(3));
     let end = "SELECT count(pg_terminate_backend(pid)) FROM pg_stat_activity WHERE application_name = 'edge' AND backend_type";
     while !is_over.load(SeqCst) {
-        thread::sleep(Duration::from_millis(200 + numbers.below(600)));
+        thread::sleep(Duration::from_millis(edges * (200 + numbers.below(600))));
         base.run(&match numbers.below(5) {
             0 => format!("{end} = 'walsender'"),
             1 | 2 => format!("{end} = 'client backend'"),
@@ -126,22 +143,24 @@ fn disturb(address: &str, is_over: &AtomicBool) {
 
 fn main() {
     let words: Vec<String> = env::args().skip(1).collect();
-    let [port, address, seconds] = &words[..] else { panic!("PORT ADDRESS SECONDS") };
+    let [address, seconds, ports @ ..] = &words[..] else { panic!("ADDRESS SECONDS PORT..") };
     let end = Instant::now() + Duration::from_secs(seconds.parse().unwrap());
     let (is_over, reads) = (AtomicBool::new(false), AtomicU64::new(0));
     let checked = thread::scope(|scope| {
         for seed in 0..4 {
             let (is_over, reads) = (&is_over, &reads);
             scope.spawn(move || {
-                let (mut edge, mut numbers) = (Edge::open(port), Numbers(seed));
+                let (mut edge, mut numbers) = (Edge::open(&ports[seed as usize % ports.len()]), Numbers(seed));
                 while !is_over.load(SeqCst) {
-                    edge.ask(&["GET", &format!("orders:c{}:2026-01-01", numbers.below(KEYS))]);
+                    let client = numbers.below(KEYS);
+                    edge.ask(&["GET", &format!("orders:c{client}:2026-01-01")]);
+                    edge.ask(&["GET", &format!("sums:c{client}")]);
                     reads.fetch_add(1, SeqCst);
                 }
             });
         }
-        scope.spawn(|| disturb(address, &is_over));
-        let checked = change(port, address, end);
+        scope.spawn(|| disturb(address, ports.len() as u64, &is_over));
+        let checked = change(ports, address, end);
         is_over.store(true, SeqCst);
         checked
     });

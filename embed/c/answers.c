@@ -131,6 +131,19 @@ static void test_each(nr_reader *reader) {
   WANTS(NR_ROWS, wanted[2].answer);
   wants("rows that stay", 99, (uint32_t)wanted[1].rows.count);
   wants("rows that were found", 2, (uint32_t)wanted[2].rows.count);
+  nr_found found[3] = {{0, 66, 99}, {1, 66, 99}, {0, 66, 99}};
+  nr_row each[3] = {{5, 5}, {6, 6}, {7, 7}};
+  WANTS(NR_DONE, nr_find_each_rows(reader, found, 3, each, 3));
+  WANTS(NR_ROWS, found[0].answer);
+  WANTS(NR_HOLE, found[1].answer);
+  WANTS(NR_ROWS, found[2].answer);
+  wants("a count of rows above the room", 2, found[0].count);
+  wants("a hole's count", 0, found[1].count);
+  wants("the first row of the set", 1, (uint32_t)each[0].a);
+  wants("a row that stays at a hole", 6, (uint32_t)each[1].a);
+  WANTS(NR_DONE, nr_find_each_rows(reader, found, 0, each, 3));
+  WANTS(NR_DONE, nr_find_each_rows(reader, found, 3, each, 0));
+  wants("a count without room", 2, found[2].count);
 }
 
 /* Who gives a key that the map and the queue haven't. */
@@ -146,6 +159,10 @@ static void test_no_key(nr_writer *writer, nr_reader *reader, nr_poster *poster)
   wanted[0].answer = 66;
   WANTS(NR_NO_KEY, nr_find_each(reader, wanted, 2));
   wants("an answer that stays", 66, wanted[0].answer);
+  nr_found found[2] = {{0, 66, 99}, {2, 66, 99}};
+  nr_row each[2] = {{5, 5}, {5, 5}};
+  WANTS(NR_NO_KEY, nr_find_each_rows(reader, found, 2, each, 2));
+  wants("what stays of a find into rows", 66 + 99 + 5, (uint32_t)each[0].a + found[0].answer + found[0].count);
   WANTS(NR_NO_KEY, nr_ask(reader, 2, &number));
   WANTS(NR_NO_KEY, nr_pin(reader, 2, &count));
   WANTS(NR_NO_KEY, nr_look(writer, 2, &rows));
@@ -183,6 +200,9 @@ static void test_holding(nr_reader *reader) {
   WANTS(NR_HOLDING, nr_find(reader, 0, &rows));
   static nr_wanted wanted;
   WANTS(NR_HOLDING, nr_find_each(reader, &wanted, 1));
+  nr_found found = {0, 66, 99};
+  WANTS(NR_HOLDING, nr_find_each_rows(reader, &found, 1, &row, 1));
+  wants("a find into rows that stays", 66 + 99 + 5, found.answer + found.count + (uint32_t)row.a);
   WANTS(NR_HOLDING, nr_ask(reader, 1, &number));
   wants("rows that stay", 99, (uint32_t)rows.count);
   wants("a count that stays", 77, count);
@@ -309,6 +329,10 @@ static void test_closed(nr_writer *writer, nr_reader *reader, nr_remains *remain
   WANTS(NR_CLOSED, nr_find_kept(reader, 0, &rows));
   static nr_wanted wanted;
   WANTS(NR_CLOSED, nr_find_each(reader, &wanted, 1));
+  nr_found found = {0, 66, 99};
+  WANTS(NR_CLOSED, nr_find_each_rows(reader, &found, 1, &row, 1));
+  WANTS(NR_CLOSED, nr_find_each_rows(NULL, &found, 1, &row, 1));
+  wants("an answer that stays where the handle is closed", 66, found.answer);
   WANTS(NR_CLOSED, nr_ask(reader, 0, &number));
   WANTS(NR_CLOSED, nr_pin(reader, 0, &count));
   WANTS(NR_CLOSED, nr_row_at(reader, 0, &row));
@@ -439,6 +463,10 @@ static void test_closed_writer(void) {
   wants("values that stay", 99 + 55 + 77, (uint32_t)(rows.count + number) + count);
   WANTS(NR_DONE, nr_find_each(&reader, wanted, 3));
   for (int i = 0; i < 3; i++) wants("an answer of a find of many", i ? NR_CLOSED : NR_ROWS, wanted[i].answer);
+  nr_found found[3] = {{0, 66, 99}, {1, 66, 99}, {2, 66, 99}};
+  nr_row each[3];
+  WANTS(NR_DONE, nr_find_each_rows(&reader, found, 3, each, 3));
+  for (int i = 0; i < 3; i++) wants("an answer of a find into rows", i ? NR_CLOSED : NR_ROWS, found[i].answer);
   WANTS(NR_ROWS, nr_find(&reader, 0, &rows));
   WANTS(NR_ROWS, nr_pin(&second, 0, &count));
   WANTS(NR_ROWS, nr_again(&second, 0));

@@ -7,7 +7,7 @@
 #define WANTS(answer, call) wants(answer, call, #call)
 #define IS(what) is(what, #what)
 
-enum { USER = 7, OTHER = 8 };
+enum { USER = 7, OTHER = 8, HELD = 5 };
 
 static nr_cache cache;
 static nr_cache_reader reader, second;
@@ -56,13 +56,13 @@ static void test_miss(void) {
   WANTS(NR_WAITING, nr_cache_begin(&cache, USER, 66, &flight));
   IS(flight.number == number && flight.mark == 55);
   given = (nr_given){1, 2, 3};
-  WANTS(NR_DONE, nr_cache_land(&cache, number, 9, 100, &given));
+  WANTS(NR_DONE, nr_cache_land(&cache, number, 9, 100, 0, &given));
   IS(came_out(1, 2, 3) && has(USER, 9, 100));
   flight = (nr_flight){3, 4};
   WANTS(NR_ROWS, nr_cache_begin(&cache, USER, 66, &flight));
   IS(flight.number == 3 && flight.mark == 4);
   /* It has landed. */
-  WANTS(NR_OWN, nr_cache_land(&cache, number, 9, 101, &given));
+  WANTS(NR_OWN, nr_cache_land(&cache, number, 9, 101, 0, &given));
   WANTS(NR_NOTHING, nr_cache_fail(&cache, number, &flight));
   IS(came_out(1, 2, 3) && flight.number == 3 && has(USER, 9, 100));
 }
@@ -83,7 +83,7 @@ static void test_invalidation(void) {
   WANTS(NR_NOTHING, nr_cache_invalidate(&cache, USER));
   uint64_t number = begun(USER, 1);
   WANTS(NR_NOTHING, nr_cache_invalidate(&cache, USER));
-  WANTS(NR_OWN, nr_cache_land(&cache, number, 9, 102, &given));
+  WANTS(NR_OWN, nr_cache_land(&cache, number, 9, 102, 0, &given));
   IS(lacks(USER));
   WANTS(NR_GIVEN, nr_cache_reap(&cache, &given));
   IS(came_out(USER, 9, 100));
@@ -94,17 +94,17 @@ static void test_invalidation(void) {
 static void test_change(void) {
   uint64_t before = begun(USER, 1);
   WANTS(NR_DONE, nr_cache_begin_change(&cache, USER));
-  WANTS(NR_OWN, nr_cache_land(&cache, before, 9, 103, &given));
+  WANTS(NR_OWN, nr_cache_land(&cache, before, 9, 103, 0, &given));
   uint64_t within = begun(USER, 2);
-  WANTS(NR_OWN, nr_cache_land(&cache, within, 9, 104, &given));
-  WANTS(NR_OWN, nr_cache_put(&cache, USER, 9, 105, &given));
+  WANTS(NR_OWN, nr_cache_land(&cache, within, 9, 104, 0, &given));
+  WANTS(NR_OWN, nr_cache_put(&cache, USER, 9, 105, 0, &given));
   IS(lacks(USER));
   WANTS(NR_DONE, nr_cache_begin_change(&cache, OTHER));
   WANTS(NR_FULL, nr_cache_begin_change(&cache, OTHER));
   WANTS(NR_DONE, nr_cache_end_change(&cache, USER));
   WANTS(NR_NOTHING, nr_cache_end_change(&cache, USER));
   WANTS(NR_DONE, nr_cache_end_change(&cache, OTHER));
-  WANTS(NR_DONE, nr_cache_land(&cache, begun(USER, 3), 9, 106, &given));
+  WANTS(NR_DONE, nr_cache_land(&cache, begun(USER, 3), 9, 106, 0, &given));
   IS(has(USER, 9, 106));
 }
 
@@ -112,7 +112,7 @@ static void test_change(void) {
 static void test_hold(void) {
   WANTS(NR_NOT_HOLDING, nr_cache_release(&reader));
   WANTS(NR_ROWS, nr_cache_find(&reader, USER, &found));
-  WANTS(NR_DONE, nr_cache_put(&cache, USER, 10, 107, &given));
+  WANTS(NR_DONE, nr_cache_put(&cache, USER, 10, 107, 0, &given));
   WANTS(NR_HELD, nr_cache_reap(&cache, &given));
   WANTS(NR_ROWS, nr_cache_find(&second, USER, &found));
   IS(found.stamp == 10 && found.value == 107);
@@ -136,7 +136,7 @@ static void test_swap(void) {
   WANTS(NR_OWN, nr_cache_swap(&cache, USER, 108, 12, 109, &given));
   IS(lacks(USER));
   WANTS(NR_DONE, nr_cache_end_change(&cache, USER));
-  WANTS(NR_DONE, nr_cache_put(&cache, USER, 13, 110, &given));
+  WANTS(NR_DONE, nr_cache_put(&cache, USER, 13, 110, 0, &given));
 }
 
 /* A look tells what is there, and a count how much. */
@@ -155,17 +155,17 @@ static void test_looks(void) {
   /* An eviction leaves the load, whose value is held. */
   WANTS(NR_NOTHING, nr_cache_evict(&cache, OTHER));
   WANTS(NR_EVICTED, nr_cache_evict(&cache, USER));
-  WANTS(NR_DONE, nr_cache_land(&cache, number, 1, 111, &given));
+  WANTS(NR_DONE, nr_cache_land(&cache, number, 1, 111, 0, &given));
   IS(lacks(USER) && has(OTHER, 1, 111));
 }
 
 static void test_all(void) {
   nr_cache_counts counts;
-  WANTS(NR_DONE, nr_cache_put(&cache, USER, 1, 112, &given));
+  WANTS(NR_DONE, nr_cache_put(&cache, USER, 1, 112, 0, &given));
   uint64_t number = begun(9, 1);
   WANTS(NR_DONE, nr_cache_invalidate_all(&cache));
   IS(lacks(USER) && lacks(OTHER));
-  WANTS(NR_OWN, nr_cache_land(&cache, number, 1, 113, &given));
+  WANTS(NR_OWN, nr_cache_land(&cache, number, 1, 113, 0, &given));
   while (nr_cache_reap(&cache, &given) == NR_GIVEN) {
   }
   WANTS(NR_DONE, nr_cache_count(&cache, &counts));
@@ -181,15 +181,18 @@ static void test_room(void) {
   WANTS(NR_DONE, nr_cache_fail(&cache, other, &flight));
 }
 
-/* Once the cache is full, a landing makes room, and each value comes out once. */
+/* Once the cache is full, a landing lets one value go, and each comes out once. */
 static void test_full(void) {
   enum { VALUES = 100 };
   unsigned out[VALUES] = {0}, are_there = 0;
+  nr_cache_counts counts;
   for (uint64_t id = 1; id <= VALUES; id++) {
-    uint32_t answer = nr_cache_land(&cache, begun(id, id), 1, 1000 + id, &given);
+    uint32_t answer = nr_cache_land(&cache, begun(id, id), 1, 1000 + id, 0, &given);
     if (answer != NR_GIVEN) WANTS(NR_DONE, answer);
     if (answer == NR_GIVEN) out[given.id - 1]++;
     while (nr_cache_reap(&cache, &given) == NR_GIVEN) out[given.id - 1]++;
+    WANTS(NR_DONE, nr_cache_count(&cache, &counts));
+    IS(counts.values == (id < HELD ? id : HELD));
   }
   for (uint64_t id = 1; id <= VALUES; id++) {
     bool is_there = nr_cache_find(&reader, id, &found) == NR_ROWS;
@@ -197,24 +200,44 @@ static void test_full(void) {
     IS(out[id - 1] == !is_there);
     are_there += is_there;
   }
-  IS(are_there == 8);
+  IS(are_there == HELD);
   nr_cache_release(&reader);
+}
+
+/* What is below the bound goes first, though it was found and the others were not. */
+static void test_bound(void) {
+  const nr_cache_shape shape = {.groups = 1, .capacity = 4, .readers = 1, .flights = 1, .changes = 1, .key = 0};
+  for (uint64_t stale = 1; stale <= 4; stale++)
+    for (uint64_t bound = 4; bound <= 5; bound++) {
+      nr_cache small = {0};
+      nr_cache_reader finder = {0};
+      WANTS(NR_DONE, nr_open_cache(&shape, &small));
+      WANTS(NR_DONE, nr_open_cache_reader(&small, &finder));
+      for (uint64_t id = 1; id <= 4; id++)
+        WANTS(NR_DONE, nr_cache_put(&small, id, id == stale ? 4 : 9, id, 0, &given));
+      WANTS(NR_ROWS, nr_cache_find(&finder, stale, &found));
+      WANTS(NR_DONE, nr_cache_release(&finder));
+      WANTS(NR_DONE, nr_cache_put(&small, 5, 9, 5, bound, &given));
+      WANTS(bound == 5 ? NR_HOLE : NR_ROWS, nr_cache_look(&small, stale, &found));
+      nr_close_cache_reader(&finder);
+      nr_close_cache(&small);
+    }
 }
 
 static void test_refusals(void) {
   WANTS(NR_NO_KEY, nr_cache_find(&reader, 0, &found));
   WANTS(NR_NO_KEY, nr_cache_begin(&cache, 0, 1, &flight));
-  WANTS(NR_NO_KEY, nr_cache_put(&cache, 0, 0, 1, &given));
+  WANTS(NR_NO_KEY, nr_cache_put(&cache, 0, 0, 1, 0, &given));
   WANTS(NR_NO_KEY, nr_cache_swap(&cache, 0, 1, 0, 1, &given));
   WANTS(NR_NO_KEY, nr_cache_look(&cache, 0, &found));
   WANTS(NR_NO_KEY, nr_cache_evict(&cache, 0));
   WANTS(NR_NO_KEY, nr_cache_invalidate(&cache, 0));
   WANTS(NR_NO_KEY, nr_cache_begin_change(&cache, 0));
   WANTS(NR_NO_KEY, nr_cache_end_change(&cache, 0));
-  WANTS(NR_BAD_ROW, nr_cache_put(&cache, 1, 0, 1, &given));
+  WANTS(NR_BAD_ROW, nr_cache_put(&cache, 1, 0, 1, 0, &given));
   WANTS(NR_BAD_ROW, nr_cache_swap(&cache, 1, 1, 0, 1, &given));
   uint64_t number = begun(200, 1);
-  WANTS(NR_BAD_ROW, nr_cache_land(&cache, number, 0, 1, &given));
+  WANTS(NR_BAD_ROW, nr_cache_land(&cache, number, 0, 1, 0, &given));
   WANTS(NR_DONE, nr_cache_fail(&cache, number, &flight));
 }
 
@@ -225,7 +248,8 @@ static void test_openings(const nr_cache_shape *shape) {
   WANTS(NR_LIVE, nr_open_cache_reader(&cache, &reader));
   WANTS(NR_NO_READER, nr_open_cache_reader(&cache, &third));
   WANTS(NR_CLOSED, nr_open_cache_reader(&none, &third));
-  const nr_cache_shape bad[] = {{0, 1, 1, 1, 0}, {516001, 1, 1, 1, 0}, {1, 0, 1, 1, 0}, {1, 65534, 1, 1, 0}};
+  const nr_cache_shape bad[] = {{0, 1, 1, 1, 1, 0}, {516001, 1, 1, 1, 1, 0}, {1, 1, 0, 1, 1, 0}, {1, 1, 65534, 1, 1, 0},
+    {1, 0, 1, 1, 1, 0}, {1, 9, 1, 1, 1, 0}};
   for (size_t at = 0; at < sizeof bad / sizeof *bad; at++) WANTS(NR_BAD_SIZE, nr_open_cache(&bad[at], &none));
   WANTS(NR_CLOSED, nr_cache_begin(&none, 1, 1, &flight));
   WANTS(NR_CLOSED, nr_cache_find(&third, 1, &found));
@@ -239,14 +263,14 @@ static void test_closed(void) {
   WANTS(NR_DONE, nr_cache_invalidate_all(&cache));
   while (nr_cache_reap(&cache, &given) == NR_GIVEN) {
   }
-  WANTS(NR_DONE, nr_cache_put(&cache, USER, 1, 5, &given));
+  WANTS(NR_DONE, nr_cache_put(&cache, USER, 1, 5, 0, &given));
   nr_close_cache(&cache);
   nr_close_cache(&cache);
   IS(has(USER, 1, 5));
   WANTS(NR_CLOSED, nr_cache_find(&reader, OTHER, &found));
-  WANTS(NR_CLOSED, nr_cache_land(&cache, 1, 1, 1, &given));
+  WANTS(NR_CLOSED, nr_cache_land(&cache, 1, 1, 1, 0, &given));
   WANTS(NR_CLOSED, nr_cache_fail(&cache, 1, &flight));
-  WANTS(NR_CLOSED, nr_cache_put(&cache, 1, 1, 1, &given));
+  WANTS(NR_CLOSED, nr_cache_put(&cache, 1, 1, 1, 0, &given));
   WANTS(NR_CLOSED, nr_cache_swap(&cache, 1, 1, 1, 1, &given));
   WANTS(NR_CLOSED, nr_cache_look(&cache, 1, &found));
   WANTS(NR_CLOSED, nr_cache_evict(&cache, 1));
@@ -261,7 +285,7 @@ static void test_closed(void) {
 }
 
 int main(void) {
-  const nr_cache_shape shape = {.groups = 1, .readers = 2, .flights = 2, .changes = 2, .key = 0};
+  const nr_cache_shape shape = {.groups = 2, .capacity = HELD, .readers = 2, .flights = 2, .changes = 2, .key = 0};
   WANTS(NR_DONE, nr_open_cache(&shape, &cache));
   WANTS(NR_DONE, nr_open_cache_reader(&cache, &reader));
   WANTS(NR_DONE, nr_open_cache_reader(&cache, &second));
@@ -276,6 +300,7 @@ int main(void) {
   test_all();
   test_room();
   test_full();
+  test_bound();
   test_refusals();
   test_closed();
   puts("each answer of a cache came");

@@ -13,7 +13,7 @@ static void done(uint32_t answer, const char *call) {
 int main(int arguments, char **argument) {
   const nr_shape shape = {.keys = 2, .slots = 4, .readers = 1, .rows = 1};
   const nr_id_shape id_shape = {.groups = 1, .slots = 4, .readers = 1, .rows = 1};
-  const nr_cache_shape cache_shape = {.groups = 1, .readers = 1, .flights = 1, .changes = 1};
+  const nr_cache_shape cache_shape = {.groups = 1, .capacity = 8, .readers = 1, .flights = 1, .changes = 1};
   int open = arguments > 1 ? atoi(argument[1]) : -1;
   nr_writer writer = {0}, apart = {0};
   nr_reader reader = {0};

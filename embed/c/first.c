@@ -1,22 +1,28 @@
-/* An id is missing, is requested once, is found once it is filled, and goes when the base changes. README.md shows it. */
+/* An id is missing, is loaded once, is found, and goes when the base changes. README.md shows it. */
 #include "../../include/nr.h"
 #include <stdio.h>
 
+static const char *query(void) {
+  return "what the base has of alice";
+}
+
 int main(void) {
-  nr_id_writer writer = {0};
-  nr_id_reader reader = {0};
-  nr_upquery upquery;
-  nr_row answer[] = {{3, 9}, {7, 1}};
-  nr_rows rows;
-  uint64_t user = 0xfeedfacecafebeef; /* a keyed hash of a name, say */
-  nr_id_shape shape = {.groups = 100, .slots = 8 * 100 + 1 + 2, .readers = 1, .rows = 15};
-  if (nr_open_ids(&shape, &writer) != NR_DONE || nr_open_id_reader(&writer, &reader) != NR_DONE) return 1;
-  if (nr_find_id(&reader, user, &rows) == NR_HOLE && nr_request_id(&reader, user) == NR_SEND)
-    /* The thread that writes admits the id, queries the base, and fills. */
-    if (nr_admit(&writer, user, &upquery) == NR_SEND && nr_fill_id(&writer, &upquery, answer, 2) != NR_DONE) return 1;
-  if (nr_find_id(&reader, user, &rows) != NR_ROWS || rows.count != 2) return 1;
-  if (nr_invalidate_id(&writer, user) != NR_EVICTED) return 1; /* the base changed */
-  nr_close_id_reader(&reader);
-  nr_close_id_writer(&writer);
-  puts("found");
+  nr_cache cache = {0};
+  nr_cache_reader reader = {0};
+  nr_cache_value found;
+  nr_flight flight;
+  nr_given given;
+  uint64_t alice = 0xfeedfacecafebeef; /* a keyed hash of a name, say */
+  nr_cache_shape shape = {.groups = 2000, .capacity = 10000, .readers = 8, .flights = 100, .changes = 100};
+  if (nr_open_cache(&shape, &cache) != NR_DONE || nr_open_cache_reader(&cache, &reader) != NR_DONE) return 1;
+  if (nr_cache_find(&reader, alice, &found) == NR_HOLE && nr_cache_begin(&cache, alice, 0, &flight) == NR_SEND)
+    /* Who misses her meanwhile is told NR_WAITING. The value is an address; nothing expires here. */
+    if (nr_cache_land(&cache, flight.number, 1, (uintptr_t)query(), 0, &given) != NR_DONE) return 1;
+  if (nr_cache_find(&reader, alice, &found) != NR_ROWS) return 1;
+  puts((const char *)(uintptr_t)found.value); /* it stays until this reader's next find or release */
+  nr_cache_release(&reader);
+  if (nr_cache_invalidate(&cache, alice) != NR_EVICTED) return 1; /* the base changed */
+  if (nr_cache_reap(&cache, &given) != NR_GIVEN || given.id != alice) return 1; /* nobody sees the old value: free it */
+  nr_close_cache_reader(&reader);
+  nr_close_cache(&cache);
 }

@@ -188,6 +188,9 @@ static void test_holding(nr_id_writer *writer, nr_id_reader *reader) {
   nr_wanted_id wanted = {.id = USER, .answer = 55};
   WANTS(NR_HOLDING, nr_find_each_id(reader, &wanted, 1));
   if (wanted.answer != 55) WANTS(NR_HOLDING, NR_ROWS);
+  nr_found_id found = {USER, 55, 99};
+  WANTS(NR_HOLDING, nr_find_each_rows_id(reader, &found, 1, &row, 1));
+  if (found.answer != 55 || found.count != 99 || row.a != 5) WANTS(NR_HOLDING, NR_ROWS);
   WANTS(NR_ROWS, nr_again_id(reader, USER));
   WANTS(NR_OTHER, nr_again_id(reader, USER + 1));
   WANTS(NR_DONE, nr_update_id(writer, USER, &batch, 1));
@@ -244,9 +247,32 @@ static void test_holding(nr_id_writer *writer, nr_id_reader *reader) {
   WANTS(NR_EVICTED, nr_evict_id(writer, 7));
 }
 
+enum { IDS = 40 };
+
+/* The same ids into one array, of which each has that many rows. */
+static void each_into_rows(nr_id_reader *reader, size_t room) {
+  nr_found_id found[IDS];
+  nr_row each[IDS * 4];
+  for (size_t at = 0; at < IDS * 4; at++) each[at] = (nr_row){77, 77};
+  for (int i = 0; i < IDS; i++) found[i] = (nr_found_id){(uint64_t)(IDS - i), 55, 99};
+  WANTS(NR_DONE, nr_find_each_rows_id(reader, found, IDS, each, IDS * room + IDS - 1));
+  for (size_t i = 0; i < IDS; i++) {
+    const bool has_row = found[i].id % 2 == 0;
+    WANTS(has_row ? NR_ROWS : found[i].id == 33 ? NR_ASKED : NR_HOLE, found[i].answer);
+    if (found[i].count != has_row) WANTS(NR_HOLE, NR_ROWS);
+    for (size_t place = 0; place < room; place++)
+      if (each[i * room + place].a != (has_row && !place ? found[i].id : 77)) WANTS(NR_HOLE, NR_ROWS);
+  }
+  for (size_t at = IDS * room; at < IDS * 4; at++)
+    if (each[at].a != 77) WANTS(NR_HOLE, NR_ROWS);
+  found[IDS - 1].id = 0;
+  found[0].answer = 55;
+  WANTS(NR_NO_KEY, nr_find_each_rows_id(reader, found, IDS, each, IDS));
+  if (found[0].answer != 55) WANTS(NR_NO_KEY, NR_DONE);
+}
+
 /* More ids than are found at a time: every second one has a row, its own number. */
 static void test_each(void) {
-  enum { IDS = 40 };
   const nr_id_shape shape = {.groups = 64, .slots = 64, .readers = 1, .rows = 20, .key = 5};
   static nr_wanted_id wanted[IDS];
   nr_id_writer writer = {0};
@@ -272,6 +298,7 @@ static void test_each(void) {
   WANTS(NR_NO_KEY, nr_find_each_id(&reader, wanted, IDS));
   if (wanted[0].answer != 55) WANTS(NR_NO_KEY, NR_DONE);
   WANTS(NR_DONE, nr_find_each_id(&reader, wanted, 0));
+  for (size_t room = 0; room < 4; room++) each_into_rows(&reader, room);
   nr_close_id_reader(&reader);
   nr_close_id_writer(&writer);
 }
@@ -385,6 +412,9 @@ static void test_closed(nr_id_writer *writer, nr_id_reader *reader) {
   uint32_t count;
   uint64_t chosen;
   WANTS(NR_CLOSED, nr_find_each_id(reader, &wanted, 1));
+  nr_found_id found = {.id = USER};
+  WANTS(NR_CLOSED, nr_find_each_rows_id(reader, &found, 1, &row, 1));
+  WANTS(NR_CLOSED, nr_find_each_rows_id(NULL, &found, 1, &row, 1));
   WANTS(NR_CLOSED, nr_pin_id(reader, USER, &count));
   WANTS(NR_CLOSED, nr_pin_row_id(reader, USER, &row));
   WANTS(NR_CLOSED, nr_find_kept_id(reader, USER, &rows));
@@ -476,6 +506,10 @@ static void test_closed_writer(void) {
   WANTS(NR_NO_KEY, nr_request_id(&reader, 0));
   WANTS(NR_DONE, nr_find_each_id(&reader, wanted, 3));
   for (int i = 0; i < 3; i++) WANTS(i ? NR_CLOSED : NR_ROWS, wanted[i].answer);
+  nr_found_id found[] = {{.id = 1}, {.id = 2}, {.id = 3}};
+  nr_row each[3];
+  WANTS(NR_DONE, nr_find_each_rows_id(&reader, found, 3, each, 3));
+  for (int i = 0; i < 3; i++) WANTS(i ? NR_CLOSED : NR_ROWS, found[i].answer);
   WANTS(NR_ROWS, nr_find_id(&reader, 1, &rows));
   has(&rows, 2, 2);
   WANTS(NR_ROWS, nr_pin_row_id(&reader, 1, &row));

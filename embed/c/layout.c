@@ -20,6 +20,10 @@ TAKES(nr_wanted, 8 + 8 + 255 * 16);
 LIES(nr_wanted, key, 0);
 LIES(nr_wanted, answer, 4);
 LIES(nr_wanted, rows, 8);
+TAKES(nr_found, 12);
+LIES(nr_found, key, 0);
+LIES(nr_found, answer, 4);
+LIES(nr_found, count, 8);
 TAKES(nr_delta, 24);
 LIES(nr_delta, row, 0);
 LIES(nr_delta, plus, 16);
@@ -63,12 +67,17 @@ TAKES(nr_wanted_id, 8 + 8 + 8 + 255 * 16);
 LIES(nr_wanted_id, id, 0);
 LIES(nr_wanted_id, answer, 8);
 LIES(nr_wanted_id, rows, 16);
-TAKES(nr_cache_shape, 24);
+TAKES(nr_found_id, 16);
+LIES(nr_found_id, id, 0);
+LIES(nr_found_id, answer, 8);
+LIES(nr_found_id, count, 12);
+TAKES(nr_cache_shape, 32);
 LIES(nr_cache_shape, groups, 0);
-LIES(nr_cache_shape, readers, 4);
-LIES(nr_cache_shape, flights, 8);
-LIES(nr_cache_shape, changes, 12);
-LIES(nr_cache_shape, key, 16);
+LIES(nr_cache_shape, capacity, 4);
+LIES(nr_cache_shape, readers, 8);
+LIES(nr_cache_shape, flights, 12);
+LIES(nr_cache_shape, changes, 16);
+LIES(nr_cache_shape, key, 24);
 TAKES(nr_cache, 8);
 TAKES(nr_cache_reader, 8);
 TAKES(nr_cache_value, 16);
@@ -98,7 +107,7 @@ static void test_struct_sizes(void) {
     sizeof(nr_size), sizeof(nr_slots), sizeof(nr_writer), sizeof(nr_reader), sizeof(nr_remains), sizeof(nr_taker),
     sizeof(nr_poster), sizeof(nr_id_shape), sizeof(nr_upquery), sizeof(nr_id_writer), sizeof(nr_id_reader),
     sizeof(nr_wanted_id), sizeof(nr_cache_shape), sizeof(nr_cache), sizeof(nr_cache_reader), sizeof(nr_cache_value),
-    sizeof(nr_cache_counts), sizeof(nr_flight), sizeof(nr_given)};
+    sizeof(nr_cache_counts), sizeof(nr_flight), sizeof(nr_given), sizeof(nr_found), sizeof(nr_found_id)};
   const uint32_t structs = sizeof sizes / sizeof sizes[0];
   for (uint32_t place = 0; place < structs; place++) wants("a struct's size", sizes[place], nr_struct_size(place));
   wants("no struct's size", 0, nr_struct_size(structs));

@@ -1,5 +1,6 @@
 /* Finds of many keys by one call give what finds of each give, in any order of the keys, with keys wanted twice and
-   holes between: each key's own rows, in its own room, and the room of a hole as it was. The queue of a large map has
+   holes between: each key's own rows, in its own room, and the room of a hole as it was; and the same in one array for
+   all keys' rows, of which each key has too few, as many as it needs, or more. The queue of a large map has
    room for the requests of all its keys. */
 #include "../../include/nr.h"
 #include <stdio.h>
@@ -59,6 +60,31 @@ static void find(nr_reader *reader, size_t n, uint32_t *drawn) {
   }
 }
 
+/* The same into one array, whose last rows are too few for one more each. */
+static void find_rows(nr_reader *reader, size_t n, size_t room, uint32_t *drawn) {
+  enum { ROOM = SEVERAL + 2 };
+  static nr_found found[WANTED];
+  static nr_row rows[WANTED * ROOM];
+  const nr_row before = {77, 78};
+  const size_t all = n * room + (n ? n - 1 : 7);
+  for (size_t at = 0; at < WANTED * ROOM; at++) rows[at] = before;
+  for (size_t i = 0; i < n; i++) {
+    *drawn = *drawn * 1664525 + 1013904223;
+    found[i] = (nr_found){i % 4 == 3 ? found[i - 1].key : (*drawn >> 8) % KEYS, 66, 99};
+  }
+  want(nr_find_each_rows(reader, found, n, rows, all) == NR_DONE, "finds of many keys into one array");
+  for (size_t i = 0; i < n; i++) {
+    const uint32_t key = found[i].key, count = is_hole(key) ? 0 : key % 4;
+    want(found[i].answer == (is_hole(key) ? NR_HOLE : NR_ROWS), "each answer beside its key, into one array");
+    want(found[i].count == count, "how many rows the key has, however many its part takes");
+    for (size_t place = 0; place < room; place++) {
+      const nr_row wanted = place < count ? (nr_row){key, place} : before, *is = &rows[i * room + place];
+      want(is->a == wanted.a && is->b == wanted.b, "the key's own rows in its part, and behind them what was there");
+    }
+  }
+  for (size_t at = n * room; at < WANTED * ROOM; at++) want(rows[at].a == 77, "what is no key's part as it was");
+}
+
 int main(void) {
   const nr_shape shape = {KEYS, KEYS + 2, 1, SEVERAL, 0, 0};
   nr_writer writer = {0};
@@ -72,7 +98,10 @@ int main(void) {
   fill_all(&writer, &reader, &poster, &taker);
   uint32_t drawn = 1;
   for (size_t n = 0; n <= WANTED; n++)
-    for (int round = 0; round < 20; round++) find(&reader, n, &drawn);
+    for (size_t round = 0; round < 20; round++) {
+      find(&reader, n, &drawn);
+      find_rows(&reader, n, round % (SEVERAL + 2), &drawn);
+    }
   nr_close_reader(&reader);
   nr_close_writer(&writer);
   nr_close_poster(&poster);

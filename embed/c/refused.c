@@ -71,6 +71,8 @@ static void call_all(nr_writer *writer, nr_reader *reader, nr_taker *taker, nr_p
   static nr_wanted wanted;
   wanted.key = key;
   want(nr_find_each(reader, &wanted, 1) == NR_DONE && wanted.answer == NR_ROWS, "finds by one call");
+  nr_found one = {.key = key};
+  want(nr_find_each_rows(reader, &one, 1, &row, 1) == NR_DONE && one.count == 3, "finds by one call into rows");
   want(nr_pin(reader, key, &count) == NR_ROWS && nr_row_at(reader, 2, &row) == NR_ROWS, "a pin");
   want(nr_copy(reader, &found) == NR_ROWS && found.count == 3, "a copy of a held set");
   want(nr_again(reader, key) == NR_ROWS, "a find again");
@@ -105,6 +107,9 @@ static void call_ids(nr_id_writer *writer, nr_id_reader *reader) {
   static nr_wanted_id wanted;
   wanted.id = 1;
   want(nr_find_each_id(reader, &wanted, 1) == NR_DONE && wanted.answer == NR_ROWS, "finds by one call by id");
+  nr_found_id one = {.id = 1};
+  nr_row each[2];
+  want(nr_find_each_rows_id(reader, &one, 1, each, 2) == NR_DONE && one.count == 1, "finds by id into rows");
   uint32_t count;
   uint64_t chosen;
   nr_row row;
@@ -124,9 +129,9 @@ static void call_cache(nr_cache *cache, nr_cache_reader *reader) {
   nr_flight flight;
   nr_given given;
   want(nr_cache_begin(cache, 1, 1, &flight) == NR_SEND, "a load");
-  want(nr_cache_land(cache, flight.number, 1, 5, &given) == NR_DONE, "a landing");
+  want(nr_cache_land(cache, flight.number, 1, 5, 0, &given) == NR_DONE, "a landing");
   want(nr_cache_find(reader, 1, &found) == NR_ROWS && nr_cache_release(reader) == NR_DONE, "a find in a cache");
-  want(nr_cache_put(cache, 1, 1, 6, &given) == NR_DONE && nr_cache_reap(cache, &given) == NR_GIVEN, "a put");
+  want(nr_cache_put(cache, 1, 1, 6, 0, &given) == NR_DONE && nr_cache_reap(cache, &given) == NR_GIVEN, "a put");
   want(nr_cache_begin_change(cache, 1) == NR_DONE && nr_cache_end_change(cache, 1) == NR_DONE, "a change");
   want(nr_cache_invalidate(cache, 1) == NR_EVICTED && nr_cache_reap(cache, &given) == NR_GIVEN, "an invalidation");
   want(nr_cache_begin(cache, 1, 1, &flight) == NR_SEND, "a second load");
@@ -143,7 +148,7 @@ static bool refuse(long after) {
   const nr_id_shape ids = {2, 8, 1, 4, 0, 0};
   nr_id_writer id_writer = {0};
   nr_id_reader id_reader = {0};
-  const nr_cache_shape cached = {2, 1, 1, 1, 0};
+  const nr_cache_shape cached = {2, 16, 1, 1, 1, 0};
   nr_cache cache = {0};
   nr_cache_reader cache_reader = {0};
   refusals = 0;

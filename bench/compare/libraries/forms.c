@@ -3,9 +3,11 @@
    of a reader's word are released in place of sequentially consistent, and finds of sixteen keys announce in sixteen words.
    With VERSIONED a find reads the set without an announcement, and looks afterwards whether the key was written meanwhile.
    With TAGGED the keys are ids: an id has the number of its way for a key, its set begins with a row that is its tag, and a
-   find looks at its way's mark. With HANDLES a find is a function of a library, as in nr.h: it takes a handle that leads to
-   the map. One thread writes. */
+   find looks at its way's mark. Which way of a group has the id, a word of hints tells, one of 8 bits for each way, which is
+   never 0 and is written before the name: only names whose hint is the id's are looked at. With HANDLES a find is a function
+   of a library, as in nr.h: it takes a handle that leads to the map. One thread writes. */
 #include "ways.h"
+#include <emmintrin.h>
 #include <stdatomic.h>
 
 #ifndef ANNOUNCES
@@ -29,6 +31,9 @@ enum { STORES = memory_order_seq_cst };
 
 enum { STRIDE = 2 * (ROWS + TAGGED) + 2, LINE = 8, TRIES = 2, SPARE = 64, READERS = 4 * MOST_READERS };
 
+/* The words of a group: eight names, marks, hints, and the turn of its claims, which nobody takes here. */
+enum { GROUP_WORDS = WAYS + 3 };
+
 /* No way has the id. */
 #define NO_WAY UINT64_MAX
 
@@ -49,9 +54,9 @@ typedef struct {
 } retired;
 
 typedef struct {
-  /* Of ids. */
+  /* Of ids: all names, behind them each group's marks with its hints, and then the turns. */
   grouping groups;
-  word *name, *mark;
+  word *name;
   uint64_t keys, slots, fresh;
   word *key, *slot;
   /* What each reader has announced, a slot's number and 1: a word of a line, or sixteen of two. */
@@ -110,22 +115,50 @@ static inline uint32_t second_group(grouping g, uint64_t id) {
 
 static two_groups groups_in_form(grouping g, uint64_t id) { return (two_groups){own_group(g, id), second_group(g, id)}; }
 
-/* The way of the group that has the id's name. */
-static inline uint64_t way_in(map *m, uint32_t group, uint64_t id) {
-  uint64_t first = (uint64_t)WAYS * group;
-  unsigned found = 0;
-  for (unsigned i = 0; i < WAYS; i++) found |= (unsigned)(load(&m->name[first + i]) == id) << i;
-  return found ? first + (unsigned)__builtin_ctz(found) : NO_WAY;
+static inline uint8_t hint_of(grouping g, uint64_t id) {
+  uint8_t bits = (uint8_t)(hashed(g, id) >> 32);
+  return bits ? bits : 1;
 }
 
-/* The place of a key's word. */
+static word *marks_of(map *m, uint32_t group) { return &m->name[(uint64_t)WAYS * m->groups.groups + 2 * (uint64_t)group]; }
+
+static word *hints_of(map *m, uint32_t group) { return marks_of(m, group) + 1; }
+
+/* The places at which these hints have that one, a bit each: eight bytes are compared at once. */
+static inline unsigned fitting(uint64_t hints, uint8_t hint) {
+  __m128i are = _mm_cvtsi64_si128((long long)hints);
+  return (unsigned)_mm_movemask_epi8(_mm_cmpeq_epi8(are, _mm_set1_epi8((char)hint))) & 255;
+}
+
+/* The way of the group that has the id's name: one of those that have its hint. */
+static inline uint64_t way_in(map *m, uint32_t group, uint64_t id) {
+  unsigned left = fitting(load(hints_of(m, group)), hint_of(m->groups, id));
+  for (; left; left &= left - 1) {
+    uint64_t way = (uint64_t)WAYS * group + (unsigned)__builtin_ctz(left);
+    if (load(&m->name[way]) == id) return way;
+  }
+  return NO_WAY;
+}
+
+/* The way of either group. */
+static inline uint64_t way_of(map *m, uint64_t id) {
+  uint64_t way = way_in(m, own_group(m->groups, id), id);
+  return way == NO_WAY ? way_in(m, second_group(m->groups, id), id) : way;
+}
+
+/* The place of a key's word, whose line, and that of the marks, are fetched while the way is looked for. */
 static inline uint64_t place_of(map *m, uint64_t key) {
   if (!TAGGED) return key;
   uint32_t own = own_group(m->groups, key);
   load(word_of(m, (uint64_t)WAYS * own));
-  load(&m->mark[own]);
-  uint64_t way = way_in(m, own, key);
-  return way == NO_WAY ? way_in(m, second_group(m->groups, key), key) : way;
+  load(marks_of(m, own));
+  return way_of(m, key);
+}
+
+static void name_way(map *m, uint32_t group, unsigned place, uint64_t id) {
+  uint64_t hint = (uint64_t)hint_of(m->groups, id) << 8 * place;
+  atomic_store(hints_of(m, group), load(hints_of(m, group)) | hint);
+  atomic_store(&m->name[(uint64_t)WAYS * group + place], id);
 }
 
 static void name_ids(map *m, const plan *p) {
@@ -134,7 +167,7 @@ static void name_ids(map *m, const plan *p) {
   for (uint64_t i = 0; i < p->keys; i++) {
     uint64_t id = key_at(p, i);
     uint32_t group = group_given(given, groups_in_form(m->groups, id));
-    atomic_store(&m->name[WAYS * (uint64_t)group + given[group]++], id);
+    name_way(m, group, given[group]++, id);
   }
   free(given);
 }
@@ -159,8 +192,7 @@ static void *opened(const plan *p) {
   if (TAGGED) {
     m->groups = fewest_groups(p, groups_in_form);
     keys = (uint64_t)WAYS * m->groups.groups;
-    m->name = words(keys);
-    m->mark = words(m->groups.groups);
+    m->name = words((uint64_t)GROUP_WORDS * m->groups.groups);
     name_ids(m, p);
   }
   m->keys = keys;
@@ -245,7 +277,11 @@ static inline const uint64_t *find_at(map *m, reader *r, uint64_t place, uint64_
   return find_counted(m, place, key, to);
 }
 
-static inline bool is_marked(map *m, uint64_t way) { return load(&m->mark[way / WAYS]) >> way % WAYS & 1; }
+static inline bool is_marked(map *m, uint64_t way) { return load(marks_of(m, (uint32_t)(way / WAYS))) >> way % WAYS & 1; }
+
+static inline void mark(map *m, uint64_t way) {
+  atomic_fetch_or(marks_of(m, (uint32_t)(way / WAYS)), (uint64_t)1 << way % WAYS);
+}
 
 static inline const uint64_t *find_into(map *m, reader *r, uint64_t key, value *to) {
   uint64_t place = place_of(m, key);
@@ -253,7 +289,7 @@ static inline const uint64_t *find_into(map *m, reader *r, uint64_t key, value *
   if (place == NO_WAY) return NULL;
   bool marked = is_marked(m, place);
   const uint64_t *found = find_at(m, r, place, key, to);
-  if (found && !marked) atomic_fetch_or(&m->mark[place / WAYS], (uint64_t)1 << place % WAYS);
+  if (found && !marked) mark(m, place);
   return found;
 }
 
@@ -328,22 +364,29 @@ static inline void find_in_turn(map *m, reader *r, const uint64_t *place, const 
 }
 #endif
 
+/* Of keys that are there. */
 static void find_each(void *of, void *by, const uint64_t *key, const uint64_t **found) {
   map *m = of;
   reader *r = by;
   uint64_t place[GROUP], named[GROUP];
+  bool marked[GROUP];
   if (TAGGED)
     for (int i = 0; i < GROUP; i++) load(&m->name[(uint64_t)WAYS * own_group(m->groups, key[i])]);
-  for (int i = 0; i < GROUP; i++) place[i] = place_of(m, key[i]);
+  for (int i = 0; i < GROUP; i++) {
+    place[i] = TAGGED ? way_of(m, key[i]) : key[i];
+    marked[i] = !TAGGED || is_marked(m, place[i]);
+  }
   for (int i = 0; i < GROUP; i++) named[i] = load(word_of(m, place[i]));
   load_ahead(m, named);
 #if RELEASES
   find_together(m, r, place, named, key, found);
-#elif ANNOUNCES && !TAGGED
+#elif ANNOUNCES
   find_in_turn(m, r, place, key, found);
 #else
   for (int i = 0; i < GROUP; i++) found[i] = find_at(m, r, place[i], key[i], &r->to[i]);
 #endif
+  for (int i = 0; TAGGED && i < GROUP; i++)
+    if (found[i] && !marked[i]) mark(m, place[i]);
 }
 #endif
 

@@ -1,9 +1,9 @@
 /* Measures maps of several libraries in one process: bursts of reads by pinned threads, in rounds, each of which has them
-   in another order of chance. Prints lines of fields between tabs: what was measured, rows, kind and number of the keys,
-   how they are drawn, reading threads, the writer's updates a second (0: none, -1: as many as it can), the map, the
-   median, and the quartiles.
+   in another order of chance; in which order they are opened, chance decides too, by the seed. Prints lines of fields
+   between tabs: what was measured, rows, kind and number of the keys, how they are drawn, reading threads, the writer's
+   updates a second (0: none, -1: as many as it can), the map, the median, and the quartiles.
    Usage: libraries reads|bytes|checks keys=N [ids] [rounds=N] [burst=MS] [threads=1,2,3,4] [writer=0|-1|N]
-     [drawn=even,zipf,hot,absent] [timed] [fifo] [cpus=0,2,1,3] [NAME ..] */
+     [drawn=even,zipf,hot,absent] [timed] [fifo] [cpus=0,2,1,3] [seed=N] [NAME ..] */
 #define _GNU_SOURCE
 #include "bursts.h"
 #include <sys/wait.h>
@@ -12,17 +12,18 @@ enum { MOST = 32 };
 
 /* Of a library that isn't there the object isn't linked. */
 #define MAYBE __attribute__((weak))
-extern const contestant this_map, this_map_kept, this_map_each, plain, plain_each, lock_a_key, counted, counted_each, announcing,
-    announcing_each, handled, releasing, releasing_each, versioned;
-extern const contestant this_ids, this_ids_each, counted_ids, counted_each_ids, announcing_ids, announcing_each_ids, handled_ids,
-    releasing_ids, releasing_each_ids;
+extern const contestant this_map, this_map_kept, this_map_each, this_map_each_rows, plain, plain_each, lock_a_key, counted,
+    counted_each, announcing, announcing_each, handled, releasing, releasing_each, versioned;
+extern const contestant this_ids, this_ids_each, this_ids_each_rows, counted_ids, counted_each_ids, announcing_ids,
+    announcing_each_ids, handled_ids, releasing_ids, releasing_each_ids;
 extern const contestant this_map_behind MAYBE, qsbr_array MAYBE, qsbr_table MAYBE, memb_array MAYBE, memb_table MAYBE,
     arc_swaps MAYBE, dashmaps MAYBE, tbb_map MAYBE, cuckoo MAYBE, michael MAYBE;
 
-static const contestant *const all[] = {&this_map, &this_map_kept, &this_map_each, &counted, &counted_each, &announcing,
-    &announcing_each, &handled, &releasing, &releasing_each, &versioned, &this_ids, &this_ids_each, &counted_ids, &counted_each_ids,
-    &announcing_ids, &announcing_each_ids, &handled_ids, &releasing_ids, &releasing_each_ids, &qsbr_array, &memb_array, &arc_swaps,
-    &lock_a_key, &plain, &plain_each, &qsbr_table, &memb_table, &dashmaps, &tbb_map, &cuckoo, &michael, &this_map_behind};
+static const contestant *const all[] = {&this_map, &this_map_kept, &this_map_each, &this_map_each_rows, &counted,
+    &counted_each, &announcing, &announcing_each, &handled, &releasing, &releasing_each, &versioned, &this_ids, &this_ids_each,
+    &this_ids_each_rows, &counted_ids, &counted_each_ids, &announcing_ids, &announcing_each_ids, &handled_ids, &releasing_ids,
+    &releasing_each_ids, &qsbr_array, &memb_array, &arc_swaps, &lock_a_key, &plain, &plain_each, &qsbr_table, &memb_table,
+    &dashmaps, &tbb_map, &cuckoo, &michael, &this_map_behind};
 
 typedef enum { EVEN, ZIPF, HOT, ABSENT, DRAWS } draw;
 static const char *const drawn_so[DRAWS] = {"even", "zipf", "hot", "absent"};
@@ -228,18 +229,26 @@ static bool is_named(const contestant *c, char **name) {
 
 static bool fits(const contestant *c) { return c->keys == BOTH || (c->keys == IDS) == keys.ids; }
 
+/* Whose map it reads: another's, if that is measured too. */
+static running *owner_of(running *r) {
+  for (int m = 0; m < count && r->is->map_of; m++)
+    if (runs[m].is == r->is->map_of) return &runs[m];
+  return r;
+}
+
+/* In an order of chance, since the first may get huge pages that the last one doesn't. */
 static void open_all(char **name) {
-  for (size_t i = 0; i < sizeof all / sizeof *all; i++) {
-    const contestant *c = all[i];
-    if (!c || !fits(c) || !is_named(c, name)) continue;
-    running *r = &runs[count++];
-    r->is = c;
-    for (int m = 0; m < count - 1 && c->map_of; m++)
-      if (runs[m].is == c->map_of) r->map = runs[m].map;
-    if (!r->map) r->map = c->open(&keys);
-    for (int t = 0; t < MOST_READERS; t++) r->reader[t] = c->reader(r->map);
-  }
+  for (size_t i = 0; i < sizeof all / sizeof *all; i++)
+    if (all[i] && fits(all[i]) && is_named(all[i], name)) runs[count++].is = all[i];
   if (!count) stop_for("there is no such map");
+  int place[MOST];
+  in_chance_order(place, count);
+  for (int i = 0; i < count; i++) {
+    running *r = &runs[place[i]], *owner = owner_of(r);
+    if (!owner->map) owner->map = owner->is->open(&keys);
+    r->map = owner->map;
+    for (int t = 0; t < MOST_READERS; t++) r->reader[t] = r->is->reader(r->map);
+  }
 }
 
 static double resident(void) {
@@ -285,6 +294,7 @@ int main(int words, char **word) {
     else if (!strcmp(w, "timed")) timed = true;
     else if (!strncmp(w, "rounds=", 7)) rounds = atoi(w + 7);
     else if (!strcmp(w, "fifo")) first_come = true;
+    else if (!strncmp(w, "seed=", 5)) seed ^= mixed(strtoull(w + 5, NULL, 10));
     else if (!strncmp(w, "burst=", 6)) burst_ns = atof(w + 6) * 1e6;
     else if (!strncmp(w, "threads=", 8)) threads = numbers(w + 8, thread, MOST_READERS);
     else if (!strncmp(w, "writer=", 7)) per_second = atof(w + 7);

@@ -12,6 +12,8 @@ typedef struct {
   nr_id_reader handle;
   nr_rows rows;
   nr_wanted_id wanted[GROUP];
+  nr_found_id found[GROUP];
+  nr_row row[GROUP][ROWS];
 } reader;
 
 static void rows_of(uint64_t id, uint64_t version, nr_row row[ROWS]) {
@@ -71,6 +73,15 @@ static void find_each(void *of, void *by, const uint64_t *id, const uint64_t **f
   for (int i = 0; i < GROUP; i++) found[i] = r->wanted[i].answer == NR_ROWS ? &r->wanted[i].rows.row[0].a : NULL;
 }
 
+static void find_each_rows(void *of, void *by, const uint64_t *id, const uint64_t **found) {
+  (void)of;
+  reader *r = by;
+  for (int i = 0; i < GROUP; i++) r->found[i].id = id[i];
+  if (nr_find_each_rows_id(&r->handle, r->found, GROUP, r->row[0], GROUP * ROWS) != NR_DONE)
+    stop_for("finds of ids into one array");
+  for (int i = 0; i < GROUP; i++) found[i] = r->found[i].answer == NR_ROWS ? &r->row[i][0].a : NULL;
+}
+
 static void update(void *of, uint64_t id, uint64_t version) {
   map *m = of;
   nr_row row[ROWS];
@@ -82,3 +93,6 @@ const contestant this_ids = {.name = "this map", .keys = IDS, .open = opened, .r
   .begin = no_thread, .end = no_thread, .find = find, .update = update};
 const contestant this_ids_each = {.name = "this map, 16 at once", .keys = IDS, .map_of = &this_ids, .open = opened,
   .reader = new_reader, .begin = no_thread, .end = no_thread, .find = find, .find_each = find_each, .update = update};
+const contestant this_ids_each_rows = {.name = "this map, 16 at once, rows of the caller's", .keys = IDS, .map_of = &this_ids,
+  .open = opened, .reader = new_reader, .begin = no_thread, .end = no_thread, .find = find, .find_each = find_each_rows,
+  .update = update};

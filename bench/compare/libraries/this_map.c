@@ -13,6 +13,8 @@ typedef struct {
   bool holds;
   nr_rows rows;
   nr_wanted wanted[GROUP];
+  nr_found found[GROUP];
+  nr_row row[GROUP][ROWS];
 } reader;
 
 static void rows_of(uint64_t key, uint64_t version, nr_row row[ROWS]) {
@@ -35,7 +37,7 @@ static void *opened(const plan *p) {
     if (nr_ask(&first, at, &number) != NR_SEND) stop_for("a request");
     if (nr_fill(&m->writer, at, number, row, ROWS) != NR_DONE) stop_for("a fill");
   }
-  nr_close_reader(&first);
+  nr_return_reader(&m->writer, &first);
   return m;
 }
 
@@ -75,6 +77,14 @@ static void find_each(void *of, void *by, const uint64_t *key, const uint64_t **
   for (int i = 0; i < GROUP; i++) found[i] = r->wanted[i].answer == NR_ROWS ? &r->wanted[i].rows.row[0].a : NULL;
 }
 
+static void find_each_rows(void *of, void *by, const uint64_t *key, const uint64_t **found) {
+  (void)of;
+  reader *r = by;
+  for (int i = 0; i < GROUP; i++) r->found[i].key = (uint32_t)key[i];
+  if (nr_find_each_rows(&r->handle, r->found, GROUP, r->row[0], GROUP * ROWS) != NR_DONE) stop_for("finds into one array");
+  for (int i = 0; i < GROUP; i++) found[i] = r->found[i].answer == NR_ROWS ? &r->row[i][0].a : NULL;
+}
+
 static void update(void *of, uint64_t key, uint64_t version) {
   map *m = of;
   nr_row row[ROWS];
@@ -88,3 +98,6 @@ const contestant this_map_kept = {.name = "this map, kept", .keys = NUMBERS, .ma
   .begin = no_thread, .end = let_go, .find = find_kept, .update = update};
 const contestant this_map_each = {.name = "this map, 16 at once", .keys = NUMBERS, .map_of = &this_map, .open = opened,
   .reader = new_reader, .begin = no_thread, .end = no_thread, .find = find, .find_each = find_each, .update = update};
+const contestant this_map_each_rows = {.name = "this map, 16 at once, rows of the caller's", .keys = NUMBERS, .map_of = &this_map,
+  .open = opened, .reader = new_reader, .begin = no_thread, .end = no_thread, .find = find, .find_each = find_each_rows,
+  .update = update};

@@ -2,6 +2,8 @@ pub mod HandleBox
 pub mod HandleLent
 pub mod HandleSend
 pub mod FindsMade
+pub mod PartsPut
 pub mod IdleFinds
+pub mod LookedUp
 pub mod LedgerLemmas
 pub mod ClosingSteps

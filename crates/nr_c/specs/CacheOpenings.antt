@@ -15,6 +15,7 @@ abbrev pub cache_shape_of : NrCacheShape → StoreShape
 cache_shape_of shape =
     record {
       groups = shape.groups;
+      capacity = shape.capacity;
       key = shape.key;
       readers = shape.readers;
       flights = shape.flights;

@@ -125,13 +125,15 @@ abbrev pub landed_code : Landed → ℕ
 landed_code (landed.Held given) = reclaimed_code given
 landed_code landed.Own = answer_own
 
-abbrev pub LandsByCode : ℕ → ℕ → ℕ → GivenValue → GivenValue → StoreSeen → StoreSeen → ℕ → Type 0
-LandsByCode number stamp value before after old new code =
-    (answer : Landed) × (code ≡ landed_code answer) × Lands ShowsValue number stamp value old before new after answer
+abbrev pub LandsByCode : ℕ → ℕ → ℕ → ℕ → GivenValue → GivenValue → StoreSeen → StoreSeen → ℕ → Type 0
+LandsByCode number stamp value bound before after old new code =
+    (answer : Landed) × (code ≡ landed_code answer)
+    × Lands ShowsValue number stamp value bound old before new after answer
 
-abbrev pub PutsByCode : ℕ → ℕ → ℕ → GivenValue → GivenValue → StoreSeen → StoreSeen → ℕ → Type 0
-PutsByCode id stamp value before after old new code =
-    (answer : Landed) × (code ≡ landed_code answer) × Puts ShowsValue id stamp value old before new after answer
+abbrev pub PutsByCode : ℕ → ℕ → ℕ → ℕ → GivenValue → GivenValue → StoreSeen → StoreSeen → ℕ → Type 0
+PutsByCode id stamp value bound before after old new code =
+    (answer : Landed) × (code ≡ landed_code answer)
+    × Puts ShowsValue id stamp value bound old before new after answer
 
 abbrev pub swapped_code : Swapped → ℕ
 swapped_code (swapped.Held given) = reclaimed_code given

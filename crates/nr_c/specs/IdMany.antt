@@ -1,39 +1,56 @@
 -- Finds of many ids by one call from C.
-use Rattle.std.specs.Prelude.{ℕ, ◌≡◌, ◌<◌, ◌%◌, ◌==◌, ◌⊎◌, All, Bool, true, false, List, [], ◌∷◌, map, take}
-use Rattle.nr_idmap.specs.IdHands.{reader_of}
-use Rattle.nr_idmap.specs.IdLoads.{LoadsAheadById}
-use Rattle.nr_idmap.specs.Keepers.{IdCaller}
+use Rattle.std.specs.Prelude.{ℕ, ◌≡◌, ◌<◌, ◌%◌, ◌==◌, ◌⊎◌, All, Bool, true, false, List, [], ◌∷◌, length, map, take}
+use Rattle.std.specs.Prelude.{Option, Some, None, replicate, slice_get}
+use Rattle.nr_idmap.specs.declared.finds.FoundId.{FoundId}
+use Rattle.nr_idmap.specs.declared.finds.NamedWay.{NamedWay}
+use Rattle.nr_idmap.specs.IdHands.{IdHanded, LetsGoById}
+use Rattle.nr_idmap.specs.IdLoads.{LooksAhead}
+use Rattle.nr_idmap.specs.IdWalks.{FindsOn}
 use Rattle.nr_c.specs.declared.id_many.NrWantedId.{NrWantedId}
 use Rattle.nr_c.specs.declared.id_reader_side.IdReaderSide.{IdReaderSide}
 use Rattle.nr_c.specs.Closings.{Hears, Watched}
 use Rattle.nr_c.specs.Hands.{HoldsNoId}
-use Rattle.nr_c.specs.IdReads.{FindsIdByCode}
+use Rattle.nr_c.specs.IdCodes.{found_id_code}
 use Rattle.nr_c.specs.Live.{IsLive}
 use Rattle.nr_c.specs.Many.{InOrder}
 use Rattle.nr_c.specs.Numbers.{answer_done, answer_no_key}
+use Rattle.nr_c.specs.RowCells.{ShowsSet}
 
 abbrev pub ids_wanted : List NrWantedId → List ℕ
 ids_wanted wanted = map (λ (one : NrWantedId). one.id) wanted
 
--- before the first of sixteen the loads for each of them, of these that are left
-abbrev pub LoadsIds : Bool → List NrWantedId → IdCaller → IdCaller → Type 0
-LoadsIds true left old new = LoadsAheadById (ids_wanted (take 16 left)) old new
-LoadsIds false left old new = new ≡ old
+-- a reader's hand with the ways that were looked up last, and with what it knows of its writer
+abbrev pub Seeking : Type 0
+Seeking = IdHanded × List (Option NamedWay)
 
--- a reader with what it knows of its writer
-abbrev pub Hearer : Type 0
-Hearer = IdCaller × Watched
+abbrev pub Seeker : Type 0
+Seeker = Seeking × Watched
 
--- a find of one of the ids, whose answer is told beside it unless the writer was closed
-abbrev pub FindsOneId : NrWantedId → NrWantedId → Hearer → Hearer → Type 0
-FindsOneId wanted told (old, knew) (new, knows) =
-    (told.id ≡ wanted.id) × (answer : ℕ) × FindsIdByCode wanted.id wanted.rows told.rows old new answer
-    × Hears answer told.answer knew knows
+-- before the first of sixteen each of these was looked up, of those that are left; the others' ways stay
+abbrev pub LooksUpIds : Bool → List NrWantedId → Seeking → Seeking → Type 0
+LooksUpIds true left (old, ways) (new, looked) =
+    LooksAhead (ids_wanted (take 16 left)) (take (length (take 16 left)) looked) old new
+LooksUpIds false left (old, ways) (new, looked) = (new ≡ old) × (looked ≡ ways)
 
--- of that at an index, with the loads before it
-abbrev pub FindsIdAt : ℕ → List NrWantedId → NrWantedId → NrWantedId → Hearer → Hearer → Type 0
-FindsIdAt place left wanted told (old, knew) new =
-    (loaded : IdCaller) × LoadsIds (place % 16 == 0) left old loaded × FindsOneId wanted told (loaded, knew) new
+-- a find of one of the ids in its way, by a hand that keeps what it finds, whose answer is told beside the id unless
+-- the writer was closed
+abbrev pub FindsOneId : Option NamedWay → NrWantedId → NrWantedId → IdHanded × Watched → IdHanded × Watched → Type 0
+FindsOneId at wanted told (old, knew) (new, knows) =
+    (told.id ≡ wanted.id) × (found : FoundId) × Hears (found_id_code found) told.answer knew knows
+    × FindsOn ShowsSet wanted.id at old wanted.rows new told.rows found
+
+-- of that at an index, with the look-ups before it
+abbrev pub FindsIdAt : ℕ → List NrWantedId → NrWantedId → NrWantedId → Seeker → Seeker → Type 0
+FindsIdAt place left wanted told (old, knew) ((new, ways), knows) =
+    (ready : IdHanded) × LooksUpIds (place % 16 == 0) left old (ready, ways)
+    × (at : Option NamedWay) × (slice_get ways (place % 16) ≡ Some at)
+    × FindsOneId at wanted told (ready, knew) (new, knows)
+
+-- from the first id on, and then what the last find holds is let go
+abbrev pub FindsEachByCode : List NrWantedId → List NrWantedId → IdHanded × Watched → IdHanded × Watched → Type 0
+FindsEachByCode wanted told (old, knew) (new, knows) =
+    (last : Seeking) × InOrder FindsIdAt 0 wanted told ((old, replicate 16 None), knew) (last, knows)
+    × LetsGoById last.0 new
 
 -- of all of them, by a reader's handle
 pub record FindsSomeIds (wanted told : List NrWantedId) (before after : List IdReaderSide) (code : ℕ) : Type 0 where
@@ -44,19 +61,18 @@ pub record FindsSomeIds (wanted told : List NrWantedId) (before after : List IdR
   pub is : after ≡ new ∷ []
   pub map : new.map ≡ old.map
   pub was_idle : HoldsNoId old.hand
-  pub is_idle : HoldsNoId new.hand
-  pub finds : InOrder FindsIdAt 0 wanted told (reader_of old.hand, old.watch) (reader_of new.hand, new.watch)
+  pub finds : FindsEachByCode wanted told (old.hand, old.watch) (new.hand, new.watch)
 
 abbrev pub AreIds : List NrWantedId → Type 0
 AreIds wanted = All (λ one. 0 < one.id) wanted
 
 -- one of them is 0, which the code says, and nothing has changed
-abbrev pub RefusesZeros : List NrWantedId → Type 0 → List IdReaderSide → List IdReaderSide → ℕ → Type 0
-RefusesZeros wanted stays before after code =
-    (code ≡ answer_no_key) × ¬ (AreIds wanted) × stays × IsLive before × (after ≡ before)
+abbrev pub RefusesZeros : Type 0 → Type 0 → List IdReaderSide → List IdReaderSide → ℕ → Type 0
+RefusesZeros are_ids stays before after code =
+    (code ≡ answer_no_key) × ¬ are_ids × stays × IsLive before × (after ≡ before)
 
 -- a call with ids: it is refused where one of them is 0, and else does what it does
-abbrev pub WithIds : List NrWantedId → Type 0 → (List IdReaderSide → List IdReaderSide → ℕ → Type 0) → List IdReaderSide
+abbrev pub WithIds : Type 0 → Type 0 → (List IdReaderSide → List IdReaderSide → ℕ → Type 0) → List IdReaderSide
     → List IdReaderSide → ℕ → Type 0
-WithIds wanted stays does before after code =
-    RefusesZeros wanted stays before after code ⊎ (AreIds wanted × does before after code)
+WithIds are_ids stays does before after code =
+    RefusesZeros are_ids stays before after code ⊎ (are_ids × does before after code)

@@ -16,6 +16,7 @@ pub mod Live
 pub mod Pins
 pub mod Kept
 pub mod Many
+pub mod ManyFirst
 pub mod Writes
 pub mod Reclaims
 pub mod RemainsFollows
@@ -36,6 +37,7 @@ pub mod IdRows
 pub mod IdReads
 pub mod IdPins
 pub mod IdMany
+pub mod IdManyFirst
 pub mod IdChoices
 pub mod IdWrites
 pub mod IdUpqueries

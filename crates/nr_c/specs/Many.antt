@@ -69,22 +69,22 @@ abbrev pub AreKeysOf : ReaderSide → List NrWanted → Type 0
 AreKeysOf held wanted = All (λ one. one.key < reader_keys held) wanted
 
 -- it lacks one, which the code says; the handle leads to what it led to, and what the call would tell stays
-pub record RefusesKeys (wanted : List NrWanted) (stays : Type 0) (before after : List ReaderSide) (code : ℕ) : Type
-    0 where
+pub record RefusesKeys (are_keys : ReaderSide → Type 0) (stays : Type 0) (before after : List ReaderSide) (code : ℕ)
+    : Type 0 where
   pub code_is : code ≡ answer_no_key
   pub stay : stays
   pub held : ReaderSide
   pub was : before ≡ held ∷ []
   pub is : after ≡ held ∷ []
-  pub lacks : ¬ (AreKeysOf held wanted)
+  pub lacks : ¬ (are_keys held)
 
-pub record HasKeys (wanted : List NrWanted) (before : List ReaderSide) : Type 0 where
+pub record HasKeys (are_keys : ReaderSide → Type 0) (before : List ReaderSide) : Type 0 where
   pub held : ReaderSide
   pub was : before ≡ held ∷ []
-  pub has : AreKeysOf held wanted
+  pub has : are_keys held
 
 -- a call with keys: it is refused where there is no such key as one of them, and else does what it does
-abbrev pub WithKeys : List NrWanted → Type 0 → (List ReaderSide → List ReaderSide → ℕ → Type 0) → List ReaderSide
-    → List ReaderSide → ℕ → Type 0
-WithKeys wanted stays does before after code =
-    RefusesKeys wanted stays before after code ⊎ (HasKeys wanted before × does before after code)
+abbrev pub WithKeys : (ReaderSide → Type 0) → Type 0 → (List ReaderSide → List ReaderSide → ℕ → Type 0)
+    → List ReaderSide → List ReaderSide → ℕ → Type 0
+WithKeys are_keys stays does before after code =
+    RefusesKeys are_keys stays before after code ⊎ (HasKeys are_keys before × does before after code)

@@ -20,9 +20,9 @@ use std::alloc::Global;
 use std::sync::Arc;
 
 /// Opens a cache of that shape, and makes its handle live. Answers `NR_DONE`; `NR_LIVE` where the handle is
-/// live already; `NR_BAD_SIZE` where a size is out of its limits, 1 to 516,000 groups and 1 to 65,533
-/// readers; or `NR_NO_MEMORY`. The handle stays as it was where it isn't done. No other call of the store
-/// takes memory.
+/// live already; `NR_BAD_SIZE` where a size is out of its limits, 1 to 516,000 groups, 1 to eight values a
+/// group, and 1 to 65,533 readers; or `NR_NO_MEMORY`. The handle stays as it was where it isn't done. No other
+/// call of the store takes memory.
 #[unsafe(no_mangle)]
 pub extern "C" fn nr_open_cache(alloc: Global, shape: &NrCacheShape, cache: &mut NrCache) -> u32
     ensures { WhenEmpty (OpensCache (cache_shape_of shape.now)) cache.old.live cache.new.live result }

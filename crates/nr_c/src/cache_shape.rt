@@ -9,6 +9,7 @@ use nr_cache::StoreShape;
 #[derive(Clone, Copy)]
 pub struct NrCacheShape {
     pub groups: u32,
+    pub capacity: u32,
     pub readers: u32,
     pub flights: u32,
     pub changes: u32,
@@ -22,6 +23,7 @@ impl NrCacheShape {
     {
         StoreShape {
             groups: self.groups,
+            capacity: self.capacity,
             key: self.key,
             readers: self.readers,
             flights: self.flights,

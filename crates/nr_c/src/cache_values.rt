@@ -13,16 +13,18 @@ use nr_cache::GivenValue;
 /// Ends the flight of that number by its value, with a stamp above 0. It is held unless its id was invalidated, put
 /// or changed since the flight began, or was being changed then: `NR_DONE`, or `NR_GIVEN` where a value that nobody
 /// can see any more came out, and `given` tells it. `NR_OWN` where it is the caller's own, and `given` stays.
-/// `NR_BAD_ROW` for the stamp 0.
+/// `NR_BAD_ROW` for the stamp 0. Where the cache is full, one with a stamp below the bound goes first, of the next
+/// eight ways that it comes to.
 #[unsafe(no_mangle)]
 pub extern "C" fn nr_cache_land(
     cache: &mut NrCache,
     number: u64,
     stamp: u64,
     value: u64,
+    bound: u64,
     given: &mut GivenValue,
 ) -> u32
-    ensures { WhenLive (given.new ≡ given.old) (WithNumber answer_bad_row stamp (given.new ≡ given.old) (CacheCalls (LandsByCode number stamp value given.old given.new))) cache.old.live cache.new.live result }
+    ensures { WhenLive (given.new ≡ given.old) (WithNumber answer_bad_row stamp (given.new ≡ given.old) (CacheCalls (LandsByCode number stamp value bound given.old given.new))) cache.old.live cache.new.live result }
 {
     if !cache.is_live() {
         return NR_CLOSED;
@@ -31,7 +33,9 @@ pub extern "C" fn nr_cache_land(
         return NR_BAD_ROW;
     }
     let side = cache.side();
-    let landed = side.store.land(&side.map, number, stamp, value, given);
+    let landed = side
+        .store
+        .land(&side.map, number, stamp, value, bound, given);
     of_landed(landed)
 }
 
@@ -44,9 +48,10 @@ pub extern "C" fn nr_cache_put(
     id: u64,
     stamp: u64,
     value: u64,
+    bound: u64,
     given: &mut GivenValue,
 ) -> u32
-    ensures { BringsToCache id stamp (given.new ≡ given.old) (PutsByCode id stamp value given.old given.new) cache.old.live cache.new.live result }
+    ensures { BringsToCache id stamp (given.new ≡ given.old) (PutsByCode id stamp value bound given.old given.new) cache.old.live cache.new.live result }
 {
     if !cache.is_live() {
         return NR_CLOSED;
@@ -58,7 +63,7 @@ pub extern "C" fn nr_cache_put(
         return NR_BAD_ROW;
     }
     let side = cache.side();
-    let landed = side.store.put(&side.map, id, stamp, value, given);
+    let landed = side.store.put(&side.map, id, stamp, value, bound, given);
     of_landed(landed)
 }
 

@@ -9,7 +9,7 @@ use crate::id_writer_handle::NrIdWriter;
 
 /// Whether an id's rows were found since this was asked last: `NR_DONE`, or `NR_NOTHING`. It is a hint: a
 /// find that comes meanwhile may count or not, and `nr_again_id` doesn't. Answers `NR_NO_KEY` for the id
-/// 0, with no step. Takes 8 or 16 looks at names, and then 1 step, or 2 where the answer is `NR_DONE`.
+/// 0, with no step. Takes the looks of a look-up, and then 1 step, or 2 where the answer is `NR_DONE`.
 #[unsafe(no_mangle)]
 pub extern "C" fn nr_uses_id(writer: &mut NrIdWriter, id: u64) -> u32
     ensures { WhenLive ⊤ (WithId id ⊤ (IdWriterCalls (UsesIdByCode id))) writer.old.live writer.new.live result }

@@ -1,9 +1,11 @@
 //! Finds of many ids by one call.
 ghost use Rattle.std.specs.Prelude.{◌≡◌, ◌<◌, ◌≤◌, ◌%◌, ◌==◌, ◌↔◌, All, IsTrue, length, take};
-ghost use Rattle.nr_idmap.specs.IdHands.{hand_table_of, reader_of};
-ghost use Rattle.nr_c.specs.Hands.{HoldsNoId};
+ghost use Rattle.std.specs.Prelude.{List, Option, None, replicate};
+ghost use Rattle.nr_idmap.specs.declared.finds.NamedWay.{NamedWay as Named};
+ghost use Rattle.nr_idmap.specs.IdHands.{hand_table_of};
+ghost use Rattle.nr_idmap.specs.IdWalks.{IsNear};
 ghost use Rattle.nr_c.specs.IdLive.{WhenIdleById};
-ghost use Rattle.nr_c.specs.IdMany.{AreIds, FindsIdAt, FindsOneId, FindsSomeIds, LoadsIds, WithIds, ids_wanted};
+ghost use Rattle.nr_c.specs.IdMany.{AreIds, FindsIdAt, FindsOneId, FindsSomeIds, LooksUpIds, WithIds, ids_wanted};
 ghost use Rattle.nr_c.specs.Live.{WhenLive};
 ghost use Rattle.nr_c.specs.Many.{InOrder};
 
@@ -12,10 +14,7 @@ use crate::id_codes::of_found_id;
 use crate::id_reader_handle::NrIdReader;
 use crate::rows::NrRows;
 use crate::watch::Watch;
-use nr_idmap::{IdHand, IdMap};
-
-// For how many ids words are loaded ahead at a time.
-const GROUP: usize = 16;
+use nr_idmap::{BATCH, IdHand, IdMap, NamedWay};
 
 /// An id to be found, what its find was answered, and the room for its rows.
 #[repr(C)]
@@ -25,16 +24,18 @@ pub struct NrWantedId {
     pub rows: NrRows,
 }
 
-/// Looks each of the ids up, in their order, as `nr_find_id` does one: a find of each is an entry of its
-/// own, also of an id that is wanted twice. Each has its answer beside it, and its rows in its own room,
-/// which stays as it is where that isn't `NR_ROWS`. Takes the steps of all the finds, and for each id
-/// those of its look-up once more, with the look at its way's mark, 4 loads, and 1 more for each 4 rows
-/// that an id may have up to 12: these are made for 16 ids at a time before these are found.
+/// Looks each of the ids up, in their order, and finds it in the way that has its name: a find of each is an
+/// entry of its own, also of an id that is wanted twice. Each has its answer beside it, and its rows in its own
+/// room, which stays as it is where that isn't `NR_ROWS`. Takes for each id the look-up of `nr_find_id` and its
+/// look at a mark, 4 loads, 1 more for each 4 rows that an id may have up to 12, and the steps of
+/// `nr_find_kept` of a row more, which lets go what the find before it holds by the next announcement; 1 to mark
+/// the way of rows, unless it is marked already; and 1 in the end if the last one found holds its set. The
+/// look-ups are made for 16 ids at a time before these are found.
 /// Answers `NR_DONE`; or, with no step, `NR_NO_KEY` where one of them is 0, or `NR_HOLDING` where the
 /// reader holds a set.
 #[unsafe(no_mangle)]
 pub extern "C" fn nr_find_each_id(reader: &mut NrIdReader, wanted: &mut [NrWantedId]) -> u32
-    ensures { WhenLive (wanted.new ≡ wanted.old) (WithIds wanted.old (wanted.new ≡ wanted.old) (WhenIdleById (wanted.new ≡ wanted.old) (FindsSomeIds wanted.old wanted.new))) reader.old.live reader.new.live result }
+    ensures { WhenLive (wanted.new ≡ wanted.old) (WithIds (AreIds wanted.old) (wanted.new ≡ wanted.old) (WhenIdleById (wanted.new ≡ wanted.old) (FindsSomeIds wanted.old wanted.new))) reader.old.live reader.new.live result }
 {
     if !reader.is_live() {
         return NR_CLOSED;
@@ -47,6 +48,7 @@ pub extern "C" fn nr_find_each_id(reader: &mut NrIdReader, wanted: &mut [NrWante
         return NR_HOLDING;
     }
     find_all_ids(&side.map, &mut side.hand, &mut side.watch, wanted);
+    side.hand.release(&side.map);
     NR_DONE
 }
 
@@ -58,37 +60,42 @@ fn are_ids(wanted: &[NrWantedId]) -> bool
 
 fn find_all_ids(map: &IdMap, hand: &mut IdHand, watch: &mut Watch, wanted: &mut [NrWantedId])
     requires own { hand_table_of hand.old ≡ map.now }
-    requires idle { HoldsNoId hand.old }
     requires ids { AreIds wanted.old }
     ensures own { hand_table_of hand.new ≡ map.now }
-    ensures idle { HoldsNoId hand.new }
-    ensures finds { InOrder FindsIdAt 0 wanted.old wanted.new (reader_of hand.old, watch.old) (reader_of hand.new, watch.new) }
+    ensures finds { (ways : List (Option Named)) × InOrder FindsIdAt 0 wanted.old wanted.new ((hand.old, replicate 16 None), watch.old) ((hand.new, ways), watch.new) }
 {
+    let mut ways = [None; BATCH];
     for place in 0..wanted.len() {
-        load_ids_from(map, hand, place, &wanted[place..]);
-        find_one_id(map, hand, watch, &mut wanted[place]);
+        look_up_from(map, hand, place, &wanted[place..], &mut ways);
+        find_one_id(map, hand, watch, ways[place % BATCH], &mut wanted[place]);
     }
 }
 
-// Before the first of sixteen ids, the loads for all of them. These are the ids from that place on.
-fn load_ids_from(map: &IdMap, hand: &mut IdHand, place: usize, left: &[NrWantedId])
+// Before the first of sixteen ids, the look-ups of all of them. These are the ids from that place on.
+fn look_up_from(
+    map: &IdMap,
+    hand: &mut IdHand,
+    place: usize,
+    left: &[NrWantedId],
+    ways: &mut [Option<NamedWay>; BATCH],
+)
     requires own { hand_table_of hand.old ≡ map.now }
-    requires idle { HoldsNoId hand.old }
     requires ids { AreIds left.now }
+    requires near { All (IsNear map.now.map.shape.keys) ways.old }
     ensures own { hand_table_of hand.new ≡ map.now }
-    ensures idle { HoldsNoId hand.new }
-    ensures loads { LoadsIds (place % 16 == 0) left.now (reader_of hand.old) (reader_of hand.new) }
+    ensures looks { LooksUpIds (place % 16 == 0) left.now (hand.old, ways.old) (hand.new, ways.new) }
+    ensures near { All (IsNear map.now.map.shape.keys) ways.new }
 {
-    if place % GROUP == 0 {
-        let group = &left[..left.len().min(GROUP)];
-        let mut ids = [0; GROUP];
+    if place % BATCH == 0 {
+        let group = &left[..left.len().min(BATCH)];
+        let mut ids = [0; BATCH];
         copy_ids(group, &mut ids);
-        hand.load_ahead(map, &ids[..group.len()]);
+        hand.look_up(map, &ids[..group.len()], ways);
     }
 }
 
 // Writes the ids of a group over the first ones there.
-fn copy_ids(group: &[NrWantedId], ids: &mut [u64; GROUP])
+fn copy_ids(group: &[NrWantedId], ids: &mut [u64; BATCH])
     requires few { length group.now ≤ 16 }
     ensures { take (length group.now) ids.new ≡ ids_wanted group.now }
 {
@@ -97,14 +104,18 @@ fn copy_ids(group: &[NrWantedId], ids: &mut [u64; GROUP])
     }
 }
 
-fn find_one_id(map: &IdMap, hand: &mut IdHand, watch: &mut Watch, one: &mut NrWantedId)
+fn find_one_id(
+    map: &IdMap,
+    hand: &mut IdHand,
+    watch: &mut Watch,
+    at: Option<NamedWay>,
+    one: &mut NrWantedId,
+)
     requires own { hand_table_of hand.old ≡ map.now }
-    requires idle { HoldsNoId hand.old }
-    requires id { 0 < one.old.id }
+    requires near { IsNear map.now.map.shape.keys at }
     ensures own { hand_table_of hand.new ≡ map.now }
-    ensures idle { HoldsNoId hand.new }
-    ensures finds { FindsOneId one.old one.new (reader_of hand.old, watch.old) (reader_of hand.new, watch.new) }
+    ensures finds { FindsOneId at one.old one.new (hand.old, watch.old) (hand.new, watch.new) }
 {
-    let answer = of_found_id(hand.find(map, one.id, &mut one.rows));
+    let answer = of_found_id(hand.find_in(map, at, one.id, &mut one.rows));
     one.answer = watch.heard(answer);
 }

@@ -13,8 +13,9 @@ use crate::rows::NrRows;
 /// answer: `NR_ROWS`; `NR_ASKED` where its way was a hole, since its upquery is under way or it was
 /// evicted within the call; `NR_HOLE` where within the call it had no way; `NR_OTHER` where its way
 /// became another id's; or, with no step, `NR_NO_KEY` for the id 0, and `NR_HOLDING` where the reader
-/// holds a set. Takes 2 loads, 8 looks at the names of the id's group, and 8 more at those of its second
-/// group unless one of them was the id's; where a way had the name, 1 look at its mark, and then 1 where
+/// holds a set. Takes 2 loads; a look-up, which looks at the hints of the id's group and at the name of
+/// each way with the id's hint, up to the id's, and unless one of them was, so too in its second group;
+/// where a way had the name, 1 look at its mark, and then 1 where
 /// the way is a hole, 2n + 7 for n rows, and 7 where it has another id's, more where it is written
 /// meanwhile, and 1 to mark it where rows were found and it isn't marked. Where none were found 1 more looks
 /// whether the writer was closed, and then the answer is `NR_CLOSED`.
@@ -39,9 +40,8 @@ pub extern "C" fn nr_find_id(reader: &mut NrIdReader, id: u64, rows: &mut NrRows
 /// Requests an id that has no way. Answers `NR_SEND` where the claim of its group is this caller's, whose
 /// id goes to the writer; `NR_WAITING` where a claim of its group is open, or was within the call;
 /// `NR_NAMED` where the id has a way; `NR_WORN` where its group had the last of its claims; or
-/// `NR_NO_KEY` for the id 0, with no step. Takes 18 steps where the claim is granted or another was within
-/// the call; where a way has the name 9, or 17 where that is of the id's second group; else 1; and before
-/// them 1 that looks whether the writer was closed: then it makes no other, and answers `NR_CLOSED`. A set that
+/// `NR_NO_KEY` for the id 0, with no step. Takes 1 step, where no claim is open those of a look-up, and 1
+/// more where the claim is granted or another was within the call; and before them 1 that looks whether the writer was closed: then it makes no other, and answers `NR_CLOSED`. A set that
 /// the reader holds stays held.
 #[unsafe(no_mangle)]
 pub extern "C" fn nr_request_id(reader: &mut NrIdReader, id: u64) -> u32

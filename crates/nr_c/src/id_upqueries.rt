@@ -19,8 +19,9 @@ use nr_model::Row;
 /// Answers the open claim of the id's group: the id gets a way, and an upquery is open, whose numbers
 /// are told. Answers `NR_SEND`; `NR_NOT_ASKED` where no claim of its group is open; `NR_NAMED` where the
 /// id has a way; `NR_FULL` where each way of its two groups has a name; or `NR_NO_KEY` for the id 0, with no
-/// step. `upquery` stays with each answer but the first. Takes 19 steps of the directory, 2 of the map's
-/// writer and 3 of its reader; refused, 1 to 17 of the directory.
+/// step. `upquery` stays with each answer but the first. Takes 1 step of the directory, where a
+/// claim is open those of a look-up, where no way has the name 2 more, and unless the groups are full 4
+/// more, 2 of the map's writer and 3 of its reader.
 #[unsafe(no_mangle)]
 pub extern "C" fn nr_admit(writer: &mut NrIdWriter, id: u64, upquery: &mut NrUpquery) -> u32
     ensures { WhenLive (upquery.new ≡ upquery.old) (WithId id (upquery.new ≡ upquery.old) (IdWriterTurns (AdmitsByCode id upquery.old upquery.new))) writer.old.live writer.new.live result }
@@ -44,7 +45,7 @@ pub extern "C" fn nr_admit(writer: &mut NrIdWriter, id: u64, upquery: &mut NrUpq
 /// Answers an upquery with the id's rows, in ascending order. Answers with no step `NR_STRANGER` where
 /// another map opened the upquery; `NR_TOO_MANY`, `NR_NOT_SORTED` and `NR_BAD_ROW` for rows that aren't an
 /// id's; and `NR_STALE` where the upquery isn't open. Else `NR_DONE`; or `NR_NO_SLOT` where readers hold
-/// slots, and else `NR_ALL_FILLED`, and it is open still. Takes 8 or 16 steps of the directory, and those of
+/// slots, and else `NR_ALL_FILLED`, and it is open still. Takes the steps of a look-up, and those of
 /// the map's fill for a row more.
 #[unsafe(no_mangle)]
 pub extern "C" fn nr_fill_id(writer: &mut NrIdWriter, upquery: &NrUpquery, rows: &[Row]) -> u32
@@ -75,7 +76,7 @@ pub extern "C" fn nr_fill_id(writer: &mut NrIdWriter, upquery: &NrUpquery, rows:
 
 /// Takes an upquery back: its id has no way then, and may be claimed again. Answers `NR_CANCELLED`; with no
 /// step `NR_STRANGER` where another map opened it, and `NR_STALE` where it isn't open; or `NR_WORN` where its ticket number is the last one,
-/// and it is open still. Takes 8 or 16 steps of the directory, 2 of the map, and 1 of the directory; 1 of
+/// and it is open still. Takes the steps of a look-up, 2 of the map, and 3 of the directory; 1 of
 /// the map and no more where it is worn.
 #[unsafe(no_mangle)]
 pub extern "C" fn nr_withdraw_id(writer: &mut NrIdWriter, upquery: &NrUpquery) -> u32

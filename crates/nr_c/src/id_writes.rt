@@ -13,7 +13,7 @@ use nr_model::{Delta, Row};
 
 /// The writer's own find by id. Answers `NR_ROWS`, and the caller's cells show the id's rows; `NR_ASKED`
 /// where its upquery is under way, `NR_HOLE` where it has no way, or `NR_NO_KEY` for the id 0, and they
-/// stay. Takes 8 or 16 steps of the directory; then 1 where the way is a hole, and 2n + 4 for n rows.
+/// stay. Takes the steps of a look-up; then 1 where the way is a hole, and 2n + 4 for n rows.
 #[unsafe(no_mangle)]
 pub extern "C" fn nr_look_id(writer: &mut NrIdWriter, id: u64, rows: &mut NrRows) -> u32
     ensures { WhenLive (rows.new ≡ rows.old) (WithId id (rows.new ≡ rows.old) (IdWriterCalls (LooksIdByCode id rows.old rows.new))) writer.old.live writer.new.live result }
@@ -72,7 +72,7 @@ pub extern "C" fn nr_replace_id(writer: &mut NrIdWriter, id: u64, rows: &[Row]) 
 
 /// Takes an id's rows, and then its way, which another id can have then. Answers `NR_EVICTED`;
 /// `NR_NOTHING` where the id has no way or its upquery is under way; or `NR_NO_KEY` for the id 0, with no
-/// step. Takes 8 or 16 steps of the directory, 2 of the map, and 1 of the directory; where nothing happens,
+/// step. Takes the steps of a look-up, 2 of the map, and 3 of the directory; where nothing happens,
 /// 1 or none of the map, and no more.
 #[unsafe(no_mangle)]
 pub extern "C" fn nr_evict_id(writer: &mut NrIdWriter, id: u64) -> u32

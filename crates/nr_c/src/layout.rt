@@ -1,6 +1,6 @@
 //! What C's header says of its values in memory. The fields of each lie in their order there, which
 //! the C test shows.
-ghost use Rattle.std.specs.Prelude.{◌≡◌};
+ghost use Rattle.std.specs.Prelude.{◌≡◌, ◌≤◌};
 ghost use Rattle.nr_c.specs.Layout.{struct_size};
 
 use crate::cache_flight::NrFlight;
@@ -9,11 +9,13 @@ use crate::cache_looks::NrCacheCounts;
 use crate::cache_reader_handle::NrCacheReader;
 use crate::cache_shape::NrCacheShape;
 use crate::id_many::NrWantedId;
+use crate::id_many_first::NrFoundId;
 use crate::id_reader_handle::NrIdReader;
 use crate::id_shape::NrIdShape;
 use crate::id_writer_handle::NrIdWriter;
 use crate::kept_upquery::NrUpquery;
 use crate::many::NrWanted;
+use crate::many_first::NrFound;
 use crate::poster_handle::NrPoster;
 use crate::reader_handle::NrReader;
 use crate::remains_handle::NrRemains;
@@ -60,7 +62,7 @@ const _: () = prove!(size_of::<NrIdReader>() == 8);
 
 const _: () = prove!(size_of::<NrWantedId>() == 8 + 8 + 8 + 255 * 16);
 
-const _: () = prove!(size_of::<NrCacheShape>() == 24);
+const _: () = prove!(size_of::<NrCacheShape>() == 32);
 
 const _: () = prove!(size_of::<NrCache>() == 8);
 
@@ -73,6 +75,10 @@ const _: () = prove!(size_of::<NrCacheCounts>() == 24);
 const _: () = prove!(size_of::<NrFlight>() == 16);
 
 const _: () = prove!(size_of::<GivenValue>() == 24);
+
+const _: () = prove!(size_of::<NrFound>() == 12);
+
+const _: () = prove!(size_of::<NrFoundId>() == 16);
 
 const _: () = prove!(align_of::<NrRows>() == 8);
 
@@ -99,6 +105,18 @@ pub extern "C" fn nr_struct_size(place: u32) -> u32
         14 => size_of::<NrIdWriter>(),
         15 => size_of::<NrIdReader>(),
         16 => size_of::<NrWantedId>(),
+        _ => later_size(place),
+    };
+    size as u32
+}
+
+// Of a cache's structs, and of those whose rows lie apart.
+fn later_size(place: u32) -> usize
+    requires { 17 ≤ place }
+    ensures size { result ≡ struct_size place }
+    ensures few { result ≤ 32 }
+{
+    match place {
         17 => size_of::<NrCacheShape>(),
         18 => size_of::<NrCache>(),
         19 => size_of::<NrCacheReader>(),
@@ -106,7 +124,8 @@ pub extern "C" fn nr_struct_size(place: u32) -> u32
         21 => size_of::<NrCacheCounts>(),
         22 => size_of::<NrFlight>(),
         23 => size_of::<GivenValue>(),
+        24 => size_of::<NrFound>(),
+        25 => size_of::<NrFoundId>(),
         _ => 0,
-    };
-    size as u32
+    }
 }

@@ -32,7 +32,7 @@ pub struct NrWanted {
 /// `NR_HOLDING` where the reader holds a set.
 #[unsafe(no_mangle)]
 pub extern "C" fn nr_find_each(reader: &mut NrReader, wanted: &mut [NrWanted]) -> u32
-    ensures { WhenLive (wanted.new ≡ wanted.old) (WithKeys wanted.old (wanted.new ≡ wanted.old) (WhenIdle (wanted.new ≡ wanted.old) (FindsSome wanted.old wanted.new))) reader.old.live reader.new.live result }
+    ensures { WhenLive (wanted.new ≡ wanted.old) (WithKeys (λ side. AreKeysOf side wanted.old) (wanted.new ≡ wanted.old) (WhenIdle (wanted.new ≡ wanted.old) (FindsSome wanted.old wanted.new))) reader.old.live reader.new.live result }
 {
     if !reader.is_live() {
         return NR_CLOSED;

@@ -2,6 +2,7 @@
 use Rattle.std.proofs.Common.{◌≡◌, ◌+◌, ◌*◌, ◌/◌, ◌%◌, ◌<◌, ℕ, true, Some, None, Option, inl, inr, sym, ap, ◌∙◌, arith}
 use Rattle.std.proofs.lemmas.Bool.{cases_eq}
 use Rattle.nr_ids.specs.declared.plan.Plan.{Plan}
+use Rattle.nr_ids.specs.declared.admissions.Refused.{Refused}
 use Rattle.nr_ids.specs.declared.admissions.Refused.TheVariants as refused
 use Rattle.nr_ids.specs.Answers.{FindsId}
 use Rattle.nr_ids.specs.Events.{IsAbsent, looks, name_of}
@@ -9,7 +10,9 @@ use Rattle.nr_ids.specs.Groups.{group_at, group_of, places, way_at}
 use Rattle.nr_ids.specs.Looking.{IsFull, group_for, way_for}
 use Rattle.nr_ids.specs.Tokens.{Grows, Opened, Token}
 use Rattle.nr_ids.proofs.Calls.{chooses_leave, clerk_looks, leaves_names}
+use Rattle.nr_ids.proofs.Admitting.{refusal_looks}
 use Rattle.nr_ids.proofs.Logs.{one_way}
+use Rattle.nr_ids.proofs.Through.{way_looks}
 use Rattle.nr_idmap.specs.IdChoices.{ChoosesId}
 use Rattle.nr_idmap.specs.IdWrites.{AdmitsId, EvictsWay, RefusesId}
 use Rattle.nr_idmap.specs.Keepers.{ClosesOne, IsTied, Keeper, Owed, owed_at}
@@ -25,8 +28,8 @@ looked count old new way clerk grows = clerk_looks old count old.number new way 
 pub not_met : (id way : ℕ) (old new : Keeper) → IsTied old → IsAbsent old.clerk.seen id
     → RefusesId id old new (refused.Named way) → ⊥
 not_met id way old new tied absent refuses =
-    let meets = refuses.refused in
-    absent way (sym (looked (meets.place + 2) old.clerk new.clerk way tied.names.1 meets.grows) ∙ meets.named.has)
+    let looks = refusal_looks id old.clerk new.clerk (refused.Named way) refuses.refused in
+    absent way (sym (looked looks.0 old.clerk new.clerk way tied.names.1 looks.1) ∙ refuses.refused.1.has)
 
 same_places : (id : ℕ) (old new : Token) (place : ℕ) → new.directory ≡ old.directory
     → way_for new id place ≡ way_for old id place
@@ -35,20 +38,20 @@ same_places id old new place same = ap (λ (d : Opened). way_at d.plan id place)
 pub not_full : (id : ℕ) (old new : Keeper) → IsTied old → (IsFull id old.clerk → ⊥) → RefusesId id old new refused.Full
     → ⊥
 not_full id old new tied free refuses =
-    let grows = refuses.refused.0 in
+    let looks = refusal_looks id old.clerk new.clerk refused.Full refuses.refused in
     free (λ place near none. refuses.refused.1 place near
-    (ap (λ (way : ℕ). name_of new.clerk.seen way) (same_places id old.clerk new.clerk place grows.directory)
-    ∙ looked (places + 1) old.clerk new.clerk (way_for old.clerk id place) tied.names.1 grows ∙ none))
+    (ap (λ (way : ℕ). name_of new.clerk.seen way) (same_places id old.clerk new.clerk place looks.1.directory)
+    ∙ looked looks.0 old.clerk new.clerk (way_for old.clerk id place) tied.names.1 looks.1 ∙ none))
 
 -- what a refusal leaves
 pub full_still : (id : ℕ) (old new : Keeper) → RefusesId id old new refused.Full → IsFull id new.clerk
 full_still id old new refuses = refuses.refused.1
 
-pub refused_absent : (id count : ℕ) (old new : Keeper) → IsTied old → Grows (looks count old.clerk.number) old.clerk
-    new.clerk
+pub refused_absent : (id : ℕ) (old new : Keeper) (why : Refused) → IsTied old → RefusesId id old new why
     → IsAbsent old.clerk.seen id → IsAbsent new.clerk.seen id
-refused_absent id count old new tied grows absent way named =
-    absent way (sym (looked count old.clerk new.clerk way tied.names.1 grows) ∙ named)
+refused_absent id old new why tied refuses absent way named =
+    let looks = refusal_looks id old.clerk new.clerk why refuses.refused in
+    absent way (sym (looked looks.0 old.clerk new.clerk way tied.names.1 looks.1) ∙ named)
 
 -- THE ONE UPQUERY
 pub owes_only : (id : ℕ) (old new : Keeper) (owed : Owed) → OwesNone old → AdmitsId id old new owed → OwesOnly owed new
@@ -119,7 +122,8 @@ module _ (id victim : ℕ) (old mid new : Keeper) (tied : IsTied old) (later : I
     directory : new.clerk.directory ≡ old.clerk.directory
     directory =
         let leaves = chooses_leave (group_for old.clerk id) choice.way old.clerk choice.mid choice.chooses in
-        evicts.unnames.directory ∙ evicts.finds.0.grows.directory ∙ choice.names.0.directory ∙ leaves.1.directory
+        let finds = way_looks victim mid.clerk evicts.mid (Some takes.1.0) evicts.finds in
+        evicts.unnames.grows.directory ∙ finds.1.directory ∙ choice.names.0.directory ∙ leaves.1.directory
 
     pub room_is_free : IsFull id new.clerk → ⊥
     room_is_free full =

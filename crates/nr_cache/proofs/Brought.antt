@@ -129,22 +129,23 @@ reading_brings (Replace key rows) reads = absurd (cc (reads))
 reading_brings (Evict key) reads = tt
 reading_brings (Cancel key) reads = tt
 
--- of the entries that are the writer's the first is, if it is the writer's, and the others are
-first_own : (b : Bool) (e : Entry) (log : List Entry) → b ≡ true → All Brings (cond b (e ∷ log) log)
-    → BringsValue e.call
-first_own true e log own brings = All-head Brings e log brings
-first_own false e log own brings = absurd (cc (own))
+-- what holds of the entries that are the writer's holds of the first, if it is the writer's, and of the others
+module _ (P : Entry → Type 0) where
+  first_own : (b : Bool) (e : Entry) (log : List Entry) → b ≡ true → All P (cond b (e ∷ log) log) → P e
+  first_own true e log own all = All-head P e log all
+  first_own false e log own all = absurd (cc (own))
 
-other_own : (b : Bool) (e : Entry) (log : List Entry) → All Brings (cond b (e ∷ log) log) → All Brings log
-other_own true e log brings = All-tail Brings e log brings
-other_own false e log brings = brings
+  pub other_own : (b : Bool) (e : Entry) (log : List Entry) → All P (cond b (e ∷ log) log) → All P log
+  other_own true e log all = All-tail P e log all
+  other_own false e log all = all
 
-brings_at : (shape : Shape) (e : Entry) (log : List Entry) → IsCallers shape e → All Brings (entries_of (e ∷ log) 0)
-    → BringsValue e.call
-brings_at shape e log is brings = ⊎_elim
-    (λ writes. first_own (e.caller == 0) e (entries_of log 0) (eq-eqb e.caller 0 writes.0) brings)
-    (λ reads. reading_brings e.call reads.1)
-    is.1
+  -- so of the first, whose ever it is, where it holds of each that reads
+  pub of_first : (shape : Shape) (e : Entry) (log : List Entry) → (is_reading e.call ≡ true → P e) → IsCallers shape e
+      → All P (entries_of (e ∷ log) 0) → P e
+  of_first shape e log reading is all = ⊎_elim
+      (λ writes. first_own (e.caller == 0) e (entries_of log 0) (eq-eqb e.caller 0 writes.0) all)
+      (λ reads. reading reads.1)
+      is.1
 
 step_has : (map : PartialMap) (call : Call) (key : ℕ) → key < length map.states → BringsValue call
     → HasValueSet (state_of map key) → HasValueSet (state_of (next map call) key)
@@ -164,8 +165,8 @@ history_has shape (e ∷ log) map key within callers brings h =
     let long
     = length-set map.states (call_key e.call) (state_after map.bound e.call (state_of map (call_key e.call))) in
     history_has shape log (next map e.call) key (omega (arith, within, long)) callers.1
-    (other_own (e.caller == 0) e (entries_of log 0) brings)
-    (step_has map e.call key within (brings_at shape e log callers.0 brings) h)
+    (other_own Brings (e.caller == 0) e (entries_of log 0) brings)
+    (step_has map e.call key within (of_first Brings shape e log (reading_brings e.call) callers.0 brings) h)
 
 -- each set that is there is a value's
 pub is_value : (keeper : Keeper) (way number : ℕ) (set : List Row) → IsTied keeper → BringsValues keeper

@@ -1,5 +1,5 @@
 -- An id's value that is taken was there, and is gone then.
-use Rattle.std.proofs.Common.{◌≡◌, ◌≢◌, ◌+◌, ◌<◌, ℕ, inl, inr, Bool, true, false, cond, ◌∷◌, [], Option, Some, None}
+use Rattle.std.proofs.Common.{◌≡◌, ◌≢◌, ◌<◌, ℕ, inl, inr, Bool, true, false, cond, Option, Some, None}
 use Rattle.std.proofs.Common.{refl, sym, ap, ◌∙◌, subst, arith}
 use Rattle.std.specs.Bool.{◌==◌}
 use Rattle.std.proofs.lemmas.Bool.{cases_eq, eq-eqb, ne_eqb}
@@ -7,15 +7,16 @@ use Rattle.nr_board.specs.Callers.{Caller, Table, map_seen}
 use Rattle.nr_board.specs.WriterAnswers.{EvictsKey}
 use Rattle.nr_board.specs.declared.answers.Evict.TheVariants as evict
 use Rattle.nr_ids.specs.Answers.{FindsWay}
-use Rattle.nr_ids.specs.Events.{IsAbsent, name_of, unnamed}
-use Rattle.nr_ids.specs.Groups.{places, ways}
+use Rattle.nr_ids.specs.Events.{IsAbsent, name_of}
+use Rattle.nr_ids.specs.Groups.{ways}
 use Rattle.nr_ids.specs.Tokens.{Opened, Token}
 use Rattle.nr_ids.proofs.Calls.{clerk_looks, clerk_names}
 use Rattle.nr_ids.proofs.Logs.{one_way}
+use Rattle.nr_ids.proofs.Through.{way_looks}
 use Rattle.nr_idmap.specs.IdChoices.{StaysButClerk}
 use Rattle.nr_idmap.specs.IdLaws.{NamedIsOwedOrResident, UnnamedIsAbsent}
 use Rattle.nr_idmap.specs.IdWrites.{EvictsId, EvictsWay}
-use Rattle.nr_idmap.specs.Keepers.{IsTied, Keeper, name_at}
+use Rattle.nr_idmap.specs.Keepers.{IsTied, Keeper, name_at, owed_at}
 use Rattle.nr_idmap.specs.Tags.{IsResident}
 use Rattle.nr_cache.specs.Places.{HasValue, IsGone, OwesNone, TakesValue}
 use Rattle.nr_cache.proofs.LastCalls.{evicts_it, last_call}
@@ -24,10 +25,8 @@ use Rattle.nr_cache.proofs.LastCalls.{evicts_it, last_call}
 -- the clerk's looks change no name
 pub looked_names : (id : ℕ) (old : Keeper) (mid : Token) (found : Option ℕ) → IsTied old
     → FindsWay id old.clerk mid found → (way : ℕ) → name_of mid.seen way ≡ name_at old way
-looked_names id old mid (Some way) tied finds k =
-    clerk_looks old.clerk (finds.0.count + 0) old.clerk.number mid k tied.names.1 finds.0.grows
-looked_names id old mid None tied finds k =
-    clerk_looks old.clerk places old.clerk.number mid k tied.names.1 finds.0
+looked_names id old mid found tied finds k = let looked = way_looks id old.clerk mid found finds in
+    clerk_looks old.clerk looked.0 old.clerk.number mid k tied.names.1 looked.1
 
 pub found_named : (id way : ℕ) (old : Keeper) (mid : Token) → IsTied old → FindsWay id old.clerk mid (Some way)
     → name_at old way ≡ id
@@ -42,18 +41,23 @@ pub found_near : (id way : ℕ) (old : Keeper) (mid : Token) → IsTied old → 
     → way < old.writer.table.shape.keys
 found_near id way old mid tied finds =
     let inside = finds.1.inside in
-    let plan = ap (λ (d : Opened). ways d.plan) (finds.0.grows.directory ∙ tied.names.0) in
+    let looked = way_looks id old.clerk mid (Some way) finds in
+    let plan = ap (λ (d : Opened). ways d.plan) (looked.1.directory ∙ tied.names.0) in
     let keys = ap (λ (t : Table). t.shape.keys) tied.writes.0 in
     omega (arith, inside, plan, tied.ways_are, keys)
 
 -- A NAMED WAY HAS A VALUE
-pub has_value : NamedIsOwedOrResident → (id way : ℕ) (keeper : Keeper) → IsTied keeper → OwesNone keeper → 0 < id
-    → name_at keeper way ≡ id → HasValue id keeper
-has_value law id way keeper tied none real named =
+pub way_has_value : NamedIsOwedOrResident → (id way : ℕ) (keeper : Keeper) → IsTied keeper → owed_at keeper way ≡ None
+    → 0 < id → name_at keeper way ≡ id → HasValue id keeper
+way_has_value law id way keeper tied none real named =
     elim (law keeper way tied (subst (λ (n : ℕ). 0 < n) (sym named) real)) [
-      | inl owed ↦ let is = sym (none way) ∙ owed.1 in absurd (cc (is))
+      | inl owed ↦ let is = sym none ∙ owed.1 in absurd (cc (is))
       | inr had ↦ (had.0, subst (λ (n : ℕ). IsResident (map_seen keeper.writer) n had.0) named had.1)
     ]
+
+pub has_value : NamedIsOwedOrResident → (id way : ℕ) (keeper : Keeper) → IsTied keeper → OwesNone keeper → 0 < id
+    → name_at keeper way ≡ id → HasValue id keeper
+has_value law id way keeper tied none real named = way_has_value law id way keeper tied (none way) real named
 
 pub is_gone : UnnamedIsAbsent → (id : ℕ) (keeper : Keeper) → IsTied keeper → IsAbsent keeper.clerk.seen id
     → IsGone id keeper
@@ -82,8 +86,8 @@ cond_none false x e = e
 -- the way has no name any more, and the others' names stay
 module _ (id way : ℕ) (old new : Keeper) (tied : IsTied old) (evicts : EvictsWay id way old new) where
   names : (k : ℕ) → name_at new k ≡ cond (way == k) 0 (name_at old k)
-  names k = clerk_names evicts.mid (unnamed way ∷ []) new.clerk k (evicts.finds.0.grows.number ∙ tied.names.1)
-      evicts.unnames
+  names k = clerk_names evicts.mid _ new.clerk k
+      ((way_looks id old.clerk evicts.mid (Some way) evicts.finds).1.number ∙ tied.names.1) evicts.unnames.grows
       ∙ ap (λ (n : ℕ). cond (way == k) 0 n) (looked_names id old evicts.mid (Some way) tied evicts.finds k)
 
   pub unnamed_at : (k : ℕ) → k ≡ way → name_at new k ≡ 0
@@ -107,11 +111,11 @@ module _ (id way : ℕ) (old new : Keeper) (tied : IsTied old) (evicts : EvictsW
       (found_named id way old evicts.mid tied evicts.finds))
 
 -- a way with the id's name is not passed over
-passed_over : (id way : ℕ) (old new : Keeper) → IsTied old → IsTied new → OwesNone new → 0 < id
+pub passed_over : (id way : ℕ) (old new : Keeper) → IsTied old → IsTied new → owed_at new way ≡ None → 0 < id
     → FindsWay id old.clerk new.clerk (Some way) → EvictsKey way old.writer new.writer evict.Nothing → ⊥
 passed_over id way old new tied later none real finds evicts =
     evicts_it way (name_at new way) new.writer (subst (λ (n : ℕ). 0 < n) (sym finds.1.has) real) (later.agrees way)
-    (none way) (last_call (found_near id way old new.clerk tied finds) evicts.0)
+    none (last_call (found_near id way old new.clerk tied finds) evicts.0)
 
 module _ (named : NamedIsOwedOrResident) (unnamed_law : UnnamedIsAbsent) (id : ℕ) (old new : Keeper) (tied : IsTied old)
     (later : IsTied new) (none_old : OwesNone old) (none : OwesNone new) (real : 0 < id) (stays : new.asker ≡ old.asker)
@@ -127,7 +131,7 @@ module _ (named : NamedIsOwedOrResident) (unnamed_law : UnnamedIsAbsent) (id : �
     pub takes_none : EvictsId id old new evict.Nothing → TakesValue id old new false
     takes_none (inl absent) =
         (is_gone unnamed_law id old tied (found_none id old new.clerk tied absent.0), inl absent, stays)
-    takes_none (inr (way, finds, evicts)) = absurd (passed_over id way old new tied later none real finds evicts)
+    takes_none (inr (way, finds, evicts)) = absurd (passed_over id way old new tied later (none way) real finds evicts)
 
 -- then the id is gone
 pub gone_after : UnnamedIsAbsent → (id : ℕ) (old new : Keeper) (had : Bool) → IsTied old → IsTied new → OwesNone new
@@ -137,4 +141,4 @@ gone_after law id old new true tied later none real takes =
 gone_after law id old new false tied later none real (gone, inl absent, stays) =
     is_gone law id new later (λ way named. absent.0.1 way named)
 gone_after law id old new false tied later none real (gone, inr (way, finds, evicts), stays) =
-    absurd (passed_over id way old new tied later none real finds evicts)
+    absurd (passed_over id way old new tied later (none way) real finds evicts)

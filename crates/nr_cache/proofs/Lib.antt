@@ -1,11 +1,14 @@
 -- This crate's own.
 mod Lists
 mod Brought
+mod Filled
 mod InOrder
 mod Quiets
 mod LastCalls
 mod Shown
 mod Gone
+mod Stale
+mod MakingRoom
 mod Admitting
 mod Placing
 mod AllGone

@@ -1,6 +1,8 @@
 -- What a store's call says, from what it did to the store's parts.
 use Rattle.std.proofs.Common.{◌≡◌, ℕ, List, Option, None, Some, Bool, true, false, inl, inr, refl, ap, subst}
 use Rattle.nr_model.specs.declared.rows.Row.{Row}
+use Rattle.nr_board.specs.Reaping.{ReapsIn}
+use Rattle.nr_board.specs.declared.answers.Reaped.{Reaped}
 use Rattle.nr_cache.specs.declared.flights.Flight.{Flight}
 use Rattle.nr_cache.specs.declared.flights.Fate.TheVariants as fate
 use Rattle.nr_cache.specs.declared.store.Begun.{Begun}
@@ -9,8 +11,10 @@ use Rattle.nr_cache.specs.declared.store.Landed.TheVariants as landed
 use Rattle.nr_cache.specs.Flights.{BeginsChange, Ends, Outdates, Underway, is_changing}
 use Rattle.nr_cache.specs.Places.{IsGone, TakesValue}
 use Rattle.nr_cache.specs.StoreSeen.{StoreSeen}
-use Rattle.nr_cache.specs.Stores.{BeginsFlight, ChangesId, HoldsOrNot, Invalidates, Lands, Puts}
+use Rattle.nr_cache.specs.Stores.{BeginsFlight, ChangesId, HoldsOrNot, Invalidates, Lands, Puts, Reaps}
+use Rattle.nr_cache.specs.Stores.{limits_of}
 use Rattle.nr_cache.specs.Values.{row_of}
+use Rattle.nr_cache.proofs.Quiets.{reap_moves}
 
 pub begins_from : (id mark : ℕ) (parts seen new : StoreSeen) (answer : Begun) → parts ≡ seen
     → BeginsFlight id mark parts new answer → BeginsFlight id mark seen new answer
@@ -26,80 +30,104 @@ changes_from id parts seen new found mid told is outdates begins rest =
 
 pub invalidates_from : (id : ℕ) (parts seen new : StoreSeen) (found : Option Flight) (had : Bool) → parts ≡ seen
     → Outdates id parts.underway new.underway found → TakesValue id parts.keeper new.keeper had → IsGone id new.keeper
-    → new.asker ≡ parts.asker → Invalidates id seen new had
-invalidates_from id parts seen new found had is outdates takes gone rest =
+    → new.asker ≡ parts.asker → new.capacity ≡ parts.capacity → Invalidates id seen new had
+invalidates_from id parts seen new found had is outdates takes gone asker same =
     subst (λ (s : StoreSeen). Invalidates id s new had) is
-    (record { found = found; outdates = outdates; takes = takes; gone = gone; rest = rest })
+    (record { found = found; outdates = outdates; takes = takes; gone = gone; rest = (asker, same) })
 
 module _ {Room : Type 0} (shows : Room → List Row → Type 0) where
-  pub lands_none : (number stamp value : ℕ) (parts seen : StoreSeen) (room : Room) (new : StoreSeen) → parts ≡ seen
-      → Ends number parts.underway new.underway None → new.keeper ≡ parts.keeper → new.asker ≡ parts.asker
-      → Lands shows number stamp value seen room new room landed.Own
-  lands_none number stamp value parts seen room new is ends keeper asker =
-      subst (λ (s : StoreSeen). Lands shows number stamp value s room new room landed.Own) is
-      (record { found = None; ends = ends; why = inl (inl refl, keeper, asker); stays = refl })
+  pub lands_none : (number stamp value bound : ℕ) (parts seen : StoreSeen) (room : Room) (new : StoreSeen)
+      → parts ≡ seen → Ends number parts.underway new.underway None → new.keeper ≡ parts.keeper
+      → new.asker ≡ parts.asker
+      → new.capacity ≡ parts.capacity → Lands shows number stamp value bound seen room new room landed.Own
+  lands_none number stamp value bound parts seen room new is ends keeper asker same =
+      subst (λ (s : StoreSeen). Lands shows number stamp value bound s room new room landed.Own) is
+      (record { found = None; ends = ends; why = inl (inl refl, keeper, asker); stays = refl; same = same })
 
-  pub lands_late : (number stamp value : ℕ) (parts seen : StoreSeen) (room : Room) (new : StoreSeen) (flight : Flight)
-      → parts ≡ seen → Ends number parts.underway new.underway (Some flight) → flight.fate ≡ fate.Outdated
-      → new.keeper ≡ parts.keeper → new.asker ≡ parts.asker
-      → Lands shows number stamp value seen room new room landed.Own
-  lands_late number stamp value parts seen room new flight is ends fated keeper asker =
-      subst (λ (s : StoreSeen). Lands shows number stamp value s room new room landed.Own) is
+  pub lands_late : (number stamp value bound : ℕ) (parts seen : StoreSeen) (room : Room) (new : StoreSeen)
+      (flight : Flight) → parts ≡ seen → Ends number parts.underway new.underway (Some flight)
+      → flight.fate ≡ fate.Outdated
+      → new.keeper ≡ parts.keeper → new.asker ≡ parts.asker → new.capacity ≡ parts.capacity
+      → Lands shows number stamp value bound seen room new room landed.Own
+  lands_late number stamp value bound parts seen room new flight is ends fated keeper asker same =
+      subst (λ (s : StoreSeen). Lands shows number stamp value bound s room new room landed.Own) is
       (record {
         found = Some flight;
         ends = ends;
         why = inl (inr (flight, refl, fated), keeper, asker);
         stays = refl;
+        same = same;
       })
 
-  pub lands_by : (number stamp value : ℕ) (parts seen : StoreSeen) (before : Room) (new : StoreSeen) (after : Room)
-      (flight : Flight) (answer : Landed) → parts ≡ seen → Ends number parts.underway new.underway (Some flight)
-      → flight.fate ≡ fate.Hold
-      → HoldsOrNot shows flight.id (row_of stamp value) parts.keeper parts.asker before new.keeper new.asker after
-      answer
-      → Lands shows number stamp value seen before new after answer
-  lands_by number stamp value parts seen before new after flight (landed.Held given) is ends fated holds =
-      subst (λ (s : StoreSeen). Lands shows number stamp value s before new after (landed.Held given)) is
-      (record { flight = flight; ends = ends; fated = fated; holds = holds })
-  lands_by number stamp value parts seen before new after flight landed.Own is ends fated holds =
-      subst (λ (s : StoreSeen). Lands shows number stamp value s before new after landed.Own) is
+  pub lands_by : (number stamp value bound : ℕ) (parts seen : StoreSeen) (before : Room) (new : StoreSeen)
+      (after : Room) (flight : Flight) (answer : Landed) → parts ≡ seen → Ends number parts.underway new.underway
+      (Some flight)
+      → flight.fate ≡ fate.Hold → new.capacity ≡ parts.capacity
+      → HoldsOrNot shows (limits_of bound parts) flight.id (row_of stamp value) parts.keeper parts.asker before
+      new.keeper new.asker after answer
+      → Lands shows number stamp value bound seen before new after answer
+  lands_by number stamp value bound parts seen before new after flight (landed.Held given) is ends fated same holds =
+      subst (λ (s : StoreSeen). Lands shows number stamp value bound s before new after (landed.Held given)) is
+      (record { flight = flight; ends = ends; fated = fated; holds = holds; same = same })
+  lands_by number stamp value bound parts seen before new after flight landed.Own is ends fated same holds =
+      subst (λ (s : StoreSeen). Lands shows number stamp value bound s before new after landed.Own) is
       (record {
         found = Some flight;
         ends = ends;
         why = inr (flight, refl, fated, holds.0);
         stays = holds.1;
+        same = same;
       })
 
-  pub puts_late : (id stamp value : ℕ) (parts seen : StoreSeen) (room : Room) (new : StoreSeen) (found : Option Flight)
-      (had : Bool) → parts ≡ seen → Outdates id parts.underway new.underway found
+  pub puts_late : (id stamp value bound : ℕ) (parts seen : StoreSeen) (room : Room) (new : StoreSeen)
+      (found : Option Flight) (had : Bool) → parts ≡ seen → Outdates id parts.underway new.underway found
       → is_changing id parts.underway ≡ true → TakesValue id parts.keeper new.keeper had → IsGone id new.keeper
-      → new.asker ≡ parts.asker → Puts shows id stamp value seen room new room landed.Own
-  puts_late id stamp value parts seen room new found had is outdates changing takes gone rest =
-      subst (λ (s : StoreSeen). Puts shows id stamp value s room new room landed.Own) is
+      → new.asker ≡ parts.asker → new.capacity ≡ parts.capacity
+      → Puts shows id stamp value bound seen room new room landed.Own
+  puts_late id stamp value bound parts seen room new found had is outdates changing takes gone rest same =
+      subst (λ (s : StoreSeen). Puts shows id stamp value bound s room new room landed.Own) is
       (record {
         found = found;
         outdates = outdates;
         why = inl (changing, (had, takes), rest);
         gone = gone;
         stays = refl;
+        same = same;
       })
 
-  pub puts_by : (id stamp value : ℕ) (parts seen : StoreSeen) (before : Room) (new : StoreSeen) (after : Room)
+  pub puts_by : (id stamp value bound : ℕ) (parts seen : StoreSeen) (before : Room) (new : StoreSeen) (after : Room)
       (found : Option Flight) (answer : Landed) → parts ≡ seen → Outdates id parts.underway new.underway found
-      → is_changing id parts.underway ≡ false
-      → HoldsOrNot shows id (row_of stamp value) parts.keeper parts.asker before new.keeper new.asker after answer
-      → Puts shows id stamp value seen before new after answer
-  puts_by id stamp value parts seen before new after found (landed.Held given) is outdates quiet holds =
-      subst (λ (s : StoreSeen). Puts shows id stamp value s before new after (landed.Held given)) is
-      (record { found = found; outdates = outdates; quiet = quiet; holds = holds })
-  puts_by id stamp value parts seen before new after found landed.Own is outdates quiet holds =
-      subst (λ (s : StoreSeen). Puts shows id stamp value s before new after landed.Own) is
+      → is_changing id parts.underway ≡ false → new.capacity ≡ parts.capacity
+      → HoldsOrNot shows (limits_of bound parts) id (row_of stamp value) parts.keeper parts.asker before new.keeper
+      new.asker after answer
+      → Puts shows id stamp value bound seen before new after answer
+  puts_by id stamp value bound parts seen before new after found (landed.Held given) is outdates quiet same holds =
+      subst (λ (s : StoreSeen). Puts shows id stamp value bound s before new after (landed.Held given)) is
+      (record { found = found; outdates = outdates; quiet = quiet; holds = holds; same = same })
+  puts_by id stamp value bound parts seen before new after found landed.Own is outdates quiet same holds =
+      subst (λ (s : StoreSeen). Puts shows id stamp value bound s before new after landed.Own) is
       (record {
         found = found;
         outdates = outdates;
         why = inr (quiet, holds.0);
         gone = holds.0.gone;
         stays = holds.1;
+        same = same;
+      })
+
+  pub reaps_from : (parts seen : StoreSeen) (before : Room) (new : StoreSeen) (room : Room) (answer : Reaped)
+      → parts ≡ seen → ReapsIn shows parts.keeper.writer before new.keeper.writer room answer
+      → new.underway ≡ parts.underway → new.asker ≡ parts.asker → new.keeper.clerk ≡ parts.keeper.clerk
+      → new.keeper.asker ≡ parts.keeper.asker → new.capacity ≡ parts.capacity → Reaps shows seen before new room answer
+  reaps_from parts seen before new room answer is reaps underway asker clerk its same =
+      let moves = reap_moves shows parts.keeper.writer new.keeper.writer before room answer reaps in
+      subst (λ (s : StoreSeen). Reaps shows s before new room answer) is
+      (record {
+        reaps = reaps;
+        out = moves.0;
+        moves = moves.1;
+        gives = moves.2;
+        rest = (underway, asker, clerk, its, same);
       })
 
 -- an outdated flight leaves the changes as they are

@@ -24,7 +24,7 @@ use Rattle.nr_cache.specs.Swaps.{FindsOld}
 use Rattle.nr_cache.proofs.InOrder.{each_flight_ends_once_lem, held_is_fresh_lem}
 use Rattle.nr_cache.proofs.AllGone.{each_quiet}
 use Rattle.nr_cache.proofs.LookingAt.{look_quiet}
-use Rattle.nr_cache.proofs.Placing.{no_place_quiet, takes_quiet}
+use Rattle.nr_cache.proofs.Placing.{counts_quiet, no_place_quiet, takes_quiet}
 use Rattle.nr_cache.proofs.Quiets.{goes_on_lem, moves_then, quiet_moves, quiet_same}
 
 -- the flights after it, and the map's writer
@@ -77,7 +77,7 @@ module _ {Room : Type 0} (shows : Room → List Row → Type 0) where
       → flights.Run history old.underway → Calls shows old events more out new → flights.Run (events ++ history)
       new.underway
   loads history run (runs.Begins id mark old new answer begins) = begun_loads history id mark old new answer run begins
-  loads history run (runs.LandsIt number stamp value old new before room given lands) =
+  loads history run (runs.LandsIt number stamp value bound old new before room given lands) =
       one history (Ended lands.flight) old.underway new.underway run (number, lands.ends)
   loads history run (runs.LandsNone number old new before room lands) =
       ended_loads history number lands.found old.underway new.underway run lands.ends
@@ -85,7 +85,7 @@ module _ {Room : Type 0} (shows : Room → List Row → Type 0) where
       ended_loads history number found old.underway new.underway run fails.ends
   loads history run (runs.InvalidatesIt id old new had does) =
       one history (Invalidated id) old.underway new.underway run (does.found, does.outdates)
-  loads history run (runs.PutsIt id stamp value old new before room given puts) =
+  loads history run (runs.PutsIt id stamp value bound old new before room given puts) =
       one history (Invalidated id) old.underway new.underway run (puts.found, puts.outdates)
   loads history run (runs.PutsNone id old new before room puts) =
       one history (Invalidated id) old.underway new.underway run (puts.found, puts.outdates)
@@ -153,12 +153,12 @@ module _ {Room : Type 0} (shows : Room → List Row → Type 0) where
   sets : {old new : StoreSeen} {events : List Event} {more : List (List Row)} {out : List Given}
       → Calls shows old events more out new → Moves shows old.keeper.writer more out new.keeper.writer
   sets (runs.Begins id mark old new answer begins) = begun_sets id mark old new answer begins
-  sets (runs.LandsIt number stamp value old new before room given lands) = lands.holds.moves
+  sets (runs.LandsIt number stamp value bound old new before room given lands) = lands.holds.moves
   sets (runs.LandsNone number old new before room lands) = own_sets number old new before room lands
   sets (runs.FailsIt number old new found fails) = rests old new fails.rest
   sets (runs.InvalidatesIt id old new had does) =
       quiet_moves shows (takes_quiet id old.keeper new.keeper had does.takes)
-  sets (runs.PutsIt id stamp value old new before room given puts) = puts.holds.moves
+  sets (runs.PutsIt id stamp value bound old new before room given puts) = puts.holds.moves
   sets (runs.PutsNone id old new before room puts) = put_own_sets id old new before room puts
   sets (runs.ChangeBegins id old new told does) = rests old new does.rest
   sets (runs.ChangeEnds id old new ends rest) = rests old new rest
@@ -172,9 +172,7 @@ module _ {Room : Type 0} (shows : Room → List Row → Type 0) where
       quiet_moves shows (takes_quiet id old.keeper new.keeper had evicts.takes)
   sets (runs.InvalidatesEach old new does) = quiet_moves shows (each_quiet does.takes)
   sets (runs.CountsIt old new counts does) =
-      quiet_moves shows
-      (quiet.LearnsMore 1 old.keeper.writer old.keeper.writer new.keeper.writer (quiet.Stays old.keeper.writer)
-      does.learns)
+      quiet_moves shows (counts_quiet old.keeper new.keeper counts.values does.values)
   sets (runs.ReapsIt old new before room answer reaps) = reaps.moves
 
   run_goes : {history : List Event} {put : List (List Row)} {given : List Given} {store : StoreSeen}
@@ -195,7 +193,7 @@ module _ {Room : Type 0} (shows : Room → List Row → Type 0) where
       run).loads
 
   pub holds_fresh_lem : HoldsFresh shows
-  holds_fresh_lem history put given number stamp value old new before room some run lands =
+  holds_fresh_lem history put given number stamp value bound old new before room some run lands =
       held_is_fresh_lem history old.underway new.underway lands.flight (run_goes run).loads (number, lands.ends)
       lands.fated
 

@@ -9,22 +9,26 @@ use Rattle.nr_cache.specs.declared.shape.TheConstants.{MAX_STORE_GROUPS, MAX_STO
 use Rattle.nr_cache.specs.Flights.{none_under_way}
 use Rattle.nr_cache.specs.StoreSeen.{StoreSeen}
 
+-- no more values than the groups hold, eight each
 abbrev pub IsBadStoreShape : StoreShape → Type 0
-IsBadStoreShape shape = IsBadSize MAX_STORE_GROUPS shape.groups ⊎ IsBadSize MAX_STORE_READERS shape.readers
+IsBadStoreShape shape = IsBadSize MAX_STORE_GROUPS shape.groups ⊎ IsBadSize (8 * shape.groups) shape.capacity
+    ⊎ IsBadSize MAX_STORE_READERS shape.readers
 
--- its map: a reader more, which claims, and a slot for each way, each reader, the writer's own and one more
+-- its map: a reader more, which claims, and a slot for each value, each reader, the writer's own and one more
 abbrev pub ids_of : StoreShape → IdShape
 ids_of shape =
     record {
       groups = shape.groups;
       key = shape.key;
-      slots = 8 * shape.groups + shape.readers + 3;
+      slots = shape.capacity + shape.readers + 3;
       readers = shape.readers + 1;
       rows = 1;
       first_number = 0;
     }
 
--- the map is new, the store has its writer and the last of its readers, and nothing is under way
+-- the map is new, the store has its writer and the last of its readers, nothing is under way, and there may be so many
+-- values
 pub record OpensStore (shape : StoreShape) (map : IdTable) (store : StoreSeen) (readers : List IdCaller) : Type 0 where
   pub opens : OpensIds (ids_of shape) map store.keeper (readers ++ store.asker ∷ [])
   pub nothing : store.underway ≡ none_under_way shape.flights shape.changes
+  pub bound : store.capacity ≡ shape.capacity

@@ -1,10 +1,12 @@
 -- How a value comes into the map, and out of it.
-use Rattle.std.specs.Prelude.{◌≡◌, ◌≢◌, ◌⊎◌, ◌+◌, ℕ, Bool, true, false, List, [], ◌∷◌, Option, Some, None, Result, Ok}
+use Rattle.std.specs.Prelude.{◌≡◌, ◌≢◌, ◌⊎◌, ◌+◌, ◌<◌, ◌≤◌, ℕ, Bool, true, false, List, [], ◌∷◌, Option, Some, None}
+use Rattle.std.specs.Prelude.{Result, Ok}
 use Rattle.nr_model.specs.declared.rows.Row.{Row}
 use Rattle.nr_board.specs.Callers.{Caller, map_seen}
 use Rattle.nr_board.specs.declared.answers.Evict.TheVariants as evict
 use Rattle.nr_board.specs.declared.answers.Reclaimed.{Reclaimed}
 use Rattle.nr_board.specs.declared.answers.ReplaceFault.{ReplaceFault}
+use Rattle.nr_board.specs.Meetings.{Learns}
 use Rattle.nr_board.specs.Reclaiming.{ReplacesReclaiming}
 use Rattle.nr_ids.specs.declared.admissions.Refused.TheVariants as refused
 use Rattle.nr_ids.specs.declared.requests.Requested.{Requested}
@@ -16,12 +18,13 @@ use Rattle.nr_idmap.specs.declared.writes.IdFault.{IdFault}
 use Rattle.nr_idmap.specs.IdChoices.{ChoosesId, StaysButClerk}
 use Rattle.nr_idmap.specs.IdLooks.{LooksInWay}
 use Rattle.nr_idmap.specs.IdWrites.{AdmitsId, CallsWay, EvictsId, FillsAndGives, RefusesId}
-use Rattle.nr_idmap.specs.Keepers.{IdCaller, Keeper, Owed, Sent, owed_at}
+use Rattle.nr_idmap.specs.Keepers.{IdCaller, Keeper, Owed, OwesSame, Sent, name_at, owed_at}
 use Rattle.nr_idmap.specs.Tags.{IsResident, tag_of}
 use Rattle.nr_map.specs.Remains.{Given}
 use Rattle.nr_cache.specs.declared.finds.FoundValue.{FoundValue}
 use Rattle.nr_cache.specs.Moves.{Moves, ShowsGiven}
-use Rattle.nr_cache.specs.Values.{row_of, set_of}
+use Rattle.nr_cache.specs.Stamps.{GoesFirst, Limits, LooksAround}
+use Rattle.nr_cache.specs.Values.{row_of, set_of, values_in}
 
 -- in all that the writer has seen the id has a value, or has none
 abbrev pub HasValue : ℕ → Keeper → Type 0
@@ -83,6 +86,40 @@ pub record MakesRoom (id : ℕ) (old new : Keeper) : Type 0 where
   pub stays : StaysButClerk old mid
   pub takes : TakesValue victim mid new true
 
+-- an id has another way than this one, or none has
+abbrev pub IsOther : ℕ → ℕ → ℕ → Keeper → Type 0
+IsOther taken way id keeper = (way ≢ taken) × (name_at keeper way ≡ id) × (0 < id)
+
+abbrev pub HasOther : ℕ → ℕ → Keeper → Type 0
+HasOther taken id keeper = (way : ℕ) × IsOther taken way id keeper
+
+abbrev pub HasNoOther : ℕ → Keeper → Type 0
+HasNoOther taken keeper = (way : ℕ) → way < keeper.table.map.shape.keys → way ≢ taken → name_at keeper way ≡ 0
+
+-- the value of another id is evicted, whichever it is, but a stale one where one was met
+pub record LetsOneGo (limits : Limits) (newcomer : Owed) (old new : Keeper) : Type 0 where
+  pub victim : ℕ
+  pub other : victim ≢ newcomer.id
+  pub mid : Keeper
+  pub looks : LooksAround old mid
+  pub way : ℕ
+  pub has : name_at mid way ≡ victim
+  pub first : GoesFirst limits.hand limits.bound newcomer.way mid way
+  pub takes : TakesValue victim mid new true
+
+-- the values were counted after the history so far, which the writer learnt
+pub record CountsValues (old new : Keeper) (count : ℕ) : Type 0 where
+  pub is : count ≡ values_in new
+  pub learns : Learns 1 old.writer new.writer
+  pub rest : (new.clerk ≡ old.clerk) × (new.asker ≡ old.asker) × OwesSame old new
+
+-- one goes where, and only where, there are as many as may be
+pub record KeepsWithin (limits : Limits) (newcomer : Owed) (old new : Keeper) : Type 0 where
+  pub count : ℕ
+  pub mid : Keeper
+  pub counts : CountsValues old mid count
+  pub goes : ((count < limits.capacity) × (new ≡ mid)) ⊎ ((limits.capacity ≤ count) × LetsOneGo limits newcomer mid new)
+
 -- IN
 -- the id's group is claimed by a request, or it wasn't to be had, since another reader has it or it is worn out
 abbrev pub IsNotGranted : Requested → Type 0
@@ -134,23 +171,25 @@ module _ {Room : Type 0} (shows : Room → List Row → Type 0) where
     pub replaces : Replaces id row old before new after (Ok given)
     pub still : (new.asker ≡ old.asker) × (asker' ≡ asker)
 
-  -- or the id, which has no way, gets one with its row
-  pub record GetsPlace (id : ℕ) (row : Row) (old : Keeper) (asker : IdCaller) (before : Room) (new : Keeper)
-      (asker' : IdCaller) (after : Room) (given : Reclaimed) : Type 0 where
+  -- or the id, which has no way, gets one with its row, for which another's goes where there are as many as may be
+  pub record GetsPlace (limits : Limits) (id : ℕ) (row : Row) (old : Keeper) (asker : IdCaller) (before : Room)
+      (new : Keeper) (asker' : IdCaller) (after : Room) (given : Reclaimed) : Type 0 where
     pub mid : Keeper
     pub absent : LooksUp id old mid None
     pub claims : ClaimsOr id asker asker' true
     pub late : Keeper
     pub sent : Sent
     pub admits : AdmitsOrNot id mid late (Some sent)
-    pub fills : FillsAndGives shows sent.owed (row ∷ []) late before new after given
-    pub stays : new.asker ≡ late.asker
+    pub roomy : Keeper
+    pub keeps : KeepsWithin limits sent.owed late roomy
+    pub fills : FillsAndGives shows sent.owed (row ∷ []) roomy before new after given
+    pub stays : new.asker ≡ roomy.asker
 
   -- it has the row then; one set was put, and one that nobody can see any more may have come out
-  pub record Holds (id : ℕ) (row : Row) (old : Keeper) (asker : IdCaller) (before : Room) (new : Keeper)
-      (asker' : IdCaller) (after : Room) (given : Reclaimed) : Type 0 where
+  pub record Holds (limits : Limits) (id : ℕ) (row : Row) (old : Keeper) (asker : IdCaller) (before : Room)
+      (new : Keeper) (asker' : IdCaller) (after : Room) (given : Reclaimed) : Type 0 where
     pub how : TakesPlace id row old asker before new asker' after given
-        ⊎ GetsPlace id row old asker before new asker' after given
+        ⊎ GetsPlace limits id row old asker before new asker' after given
     pub has : IsResident (map_seen new.writer) id (row ∷ [])
     pub out : List Given
     pub moves : Moves shows old.writer ((tag_of id ∷ row ∷ []) ∷ []) out new.writer

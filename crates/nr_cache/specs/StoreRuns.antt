@@ -40,8 +40,8 @@ module _ {Room : Type 0} (shows : Room → List Row → Type 0) where
   pub data Calls : StoreSeen → List Event → List (List Row) → List Given → StoreSeen → Type 0 where
     Begins : (id mark : ℕ) (old new : StoreSeen) (answer : Begun) → BeginsFlight id mark old new answer
         → Calls old (began_by answer) [] [] new
-    LandsIt : (number stamp value : ℕ) (old new : StoreSeen) (before room : Room) (given : Reclaimed)
-        → (lands : LandsHeld shows number stamp value old before new room given)
+    LandsIt : (number stamp value bound : ℕ) (old new : StoreSeen) (before room : Room) (given : Reclaimed)
+        → (lands : LandsHeld shows number stamp value bound old before new room given)
         → Calls old (Ended lands.flight ∷ []) (set_of lands.flight.id stamp value ∷ []) lands.holds.out new
     LandsNone : (number : ℕ) (old new : StoreSeen) (before room : Room)
         → (lands : LandsOwn shows number old before new room) → Calls old (ended_by lands.found) [] [] new
@@ -49,8 +49,8 @@ module _ {Room : Type 0} (shows : Room → List Row → Type 0) where
         → Calls old (ended_by found) [] [] new
     InvalidatesIt : (id : ℕ) (old new : StoreSeen) (had : Bool) → Invalidates id old new had
         → Calls old (Invalidated id ∷ []) [] [] new
-    PutsIt : (id stamp value : ℕ) (old new : StoreSeen) (before room : Room) (given : Reclaimed)
-        → (puts : PutsHeld shows id stamp value old before new room given)
+    PutsIt : (id stamp value bound : ℕ) (old new : StoreSeen) (before room : Room) (given : Reclaimed)
+        → (puts : PutsHeld shows id stamp value bound old before new room given)
         → Calls old (Invalidated id ∷ []) (set_of id stamp value ∷ []) puts.holds.out new
     PutsNone : (id : ℕ) (old new : StoreSeen) (before room : Room) → PutsOwn shows id old before new room
         → Calls old (Invalidated id ∷ []) [] [] new
@@ -91,9 +91,9 @@ module _ {Room : Type 0} (shows : Room → List Row → Type 0) where
   -- A value that landed and is held: since its flight began its id was neither invalidated nor put nor changed.
   abbrev pub HoldsFresh : Type 0
   HoldsFresh =
-      (history : List Event) (put : List (List Row)) (given : List Given) (number stamp value : ℕ)
+      (history : List Event) (put : List (List Row)) (given : List Given) (number stamp value bound : ℕ)
       (old new : StoreSeen) (before room : Room) (some : Reclaimed)
-      → StoreRun history put given old → (lands : LandsHeld shows number stamp value old before new room some)
+      → StoreRun history put given old → (lands : LandsHeld shows number stamp value bound old before new room some)
       → IsFresh lands.flight history
 
   -- Each value that was held comes out once: by then, or when the map is taken apart.

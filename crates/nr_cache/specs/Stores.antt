@@ -17,13 +17,19 @@ use Rattle.nr_cache.specs.Flights.{Begins, BeginsChange, Ends, FindsFlight, IsFr
 use Rattle.nr_cache.specs.Flights.{Underway, is_changing}
 use Rattle.nr_cache.specs.Moves.{Moves, ShowsReaped}
 use Rattle.nr_cache.specs.Places.{HasNoPlace, HasValue, Holds, IsGone, LooksAtValue, LooksUp, TakesEach, TakesValue}
+use Rattle.nr_cache.specs.Stamps.{Limits}
 use Rattle.nr_cache.specs.StoreSeen.{StoreSeen}
 use Rattle.nr_cache.specs.Values.{row_of}
+
+-- what a store lets go by, with the bound of a call
+abbrev pub limits_of : ℕ → StoreSeen → Limits
+limits_of bound store = record { capacity = store.capacity; hand = store.hand; bound = bound }
 
 -- A MISS
 -- the id was looked up, and else nothing happened to the map
 abbrev pub OnlyLooksUp : ℕ → StoreSeen → StoreSeen → Option ℕ → Type 0
-OnlyLooksUp id old new way = LooksUp id old.keeper new.keeper way × (new.asker ≡ old.asker)
+OnlyLooksUp id old new way =
+    LooksUp id old.keeper new.keeper way × (new.asker ≡ old.asker) × (new.capacity ≡ old.capacity)
 
 -- the id has a value; its flight is under way; its flight begins; or there is no room for one more
 abbrev pub BeginsFlight : ℕ → ℕ → StoreSeen → StoreSeen → Begun → Type 0
@@ -43,13 +49,14 @@ BeginsFlight id mark old new begun.Alone =
 abbrev pub Looks : ℕ → StoreSeen → StoreSeen → Option FoundValue → Type 0
 Looks id old new found =
     LooksAtValue id old.keeper new.keeper found × (new.underway ≡ old.underway) × (new.asker ≡ old.asker)
+    × (new.capacity ≡ old.capacity)
 
 -- AN ID IS EVICTED
 -- whether it had a value, and it has none any more; its flight stays
 pub record Evicts (id : ℕ) (old new : StoreSeen) (had : Bool) : Type 0 where
   pub takes : TakesValue id old.keeper new.keeper had
   pub gone : IsGone id new.keeper
-  pub rest : (new.underway ≡ old.underway) × (new.asker ≡ old.asker)
+  pub rest : (new.underway ≡ old.underway) × (new.asker ≡ old.asker) × (new.capacity ≡ old.capacity)
 
 -- AN ID IS INVALIDATED
 -- whether it had a value, and it has none any more; its flight is outdated
@@ -58,7 +65,7 @@ pub record Invalidates (id : ℕ) (old new : StoreSeen) (had : Bool) : Type 0 wh
   pub outdates : Outdates id old.underway new.underway found
   pub takes : TakesValue id old.keeper new.keeper had
   pub gone : IsGone id new.keeper
-  pub rest : new.asker ≡ old.asker
+  pub rest : (new.asker ≡ old.asker) × (new.capacity ≡ old.capacity)
 
 -- ALL ARE
 -- each value is taken, way by way, so that no id has one any more; each flight is outdated
@@ -66,24 +73,26 @@ pub record InvalidatesAll (old new : StoreSeen) : Type 0 where
   pub outdates : OutdatesAll old.underway new.underway
   pub takes : TakesEach old.keeper.table.map.shape.keys old.keeper new.keeper
   pub gone : (id : ℕ) → IsGone id new.keeper
-  pub rest : new.asker ≡ old.asker
+  pub rest : (new.asker ≡ old.asker) × (new.capacity ≡ old.capacity)
 
 module _ {Room : Type 0} (shows : Room → List Row → Type 0) where
   -- A VALUE COMES
-  abbrev pub HoldsOrNot : ℕ → Row → Keeper → IdCaller → Room → Keeper → IdCaller → Room → Landed → Type 0
-  HoldsOrNot id row old asker before new asker' room (landed.Held given) =
-      Holds shows id row old asker before new asker' room given
-  HoldsOrNot id row old asker before new asker' room landed.Own =
+  abbrev pub HoldsOrNot : Limits → ℕ → Row → Keeper → IdCaller → Room → Keeper → IdCaller → Room → Landed → Type 0
+  HoldsOrNot limits id row old asker before new asker' room (landed.Held given) =
+      Holds shows limits id row old asker before new asker' room given
+  HoldsOrNot limits id row old asker before new asker' room landed.Own =
       HasNoPlace id old asker new asker' × (room ≡ before)
 
   -- A FLIGHT'S END
   -- its value is held: nothing came between
-  pub record LandsHeld (number stamp value : ℕ) (old : StoreSeen) (before : Room) (new : StoreSeen) (room : Room)
+  pub record LandsHeld (number stamp value bound : ℕ) (old : StoreSeen) (before : Room) (new : StoreSeen) (room : Room)
       (given : Reclaimed) : Type 0 where
     pub flight : Flight
     pub ends : Ends number old.underway new.underway (Some flight)
     pub fated : flight.fate ≡ fate.Hold
-    pub holds : Holds shows flight.id (row_of stamp value) old.keeper old.asker before new.keeper new.asker room given
+    pub holds : Holds shows (limits_of bound old) flight.id (row_of stamp value) old.keeper old.asker before new.keeper
+        new.asker room given
+    pub same : new.capacity ≡ old.capacity
 
   -- it is the caller's own: the flight wasn't under way or is outdated, and nothing else happened; or there was no
   -- place
@@ -95,20 +104,23 @@ module _ {Room : Type 0} (shows : Room → List Row → Type 0) where
         ⊎ ((flight : Flight) × (found ≡ Some flight) × (flight.fate ≡ fate.Hold)
         × HasNoPlace flight.id old.keeper old.asker new.keeper new.asker)
     pub stays : room ≡ before
+    pub same : new.capacity ≡ old.capacity
 
-  abbrev pub Lands : ℕ → ℕ → ℕ → StoreSeen → Room → StoreSeen → Room → Landed → Type 0
-  Lands number stamp value old before new room (landed.Held given) =
-      LandsHeld number stamp value old before new room given
-  Lands number stamp value old before new room landed.Own = LandsOwn number old before new room
+  abbrev pub Lands : ℕ → ℕ → ℕ → ℕ → StoreSeen → Room → StoreSeen → Room → Landed → Type 0
+  Lands number stamp value bound old before new room (landed.Held given) =
+      LandsHeld number stamp value bound old before new room given
+  Lands number stamp value bound old before new room landed.Own = LandsOwn number old before new room
 
   -- A PUT
   -- the id's flight is outdated, and its value is put, unless the id is being changed
-  pub record PutsHeld (id stamp value : ℕ) (old : StoreSeen) (before : Room) (new : StoreSeen) (room : Room)
+  pub record PutsHeld (id stamp value bound : ℕ) (old : StoreSeen) (before : Room) (new : StoreSeen) (room : Room)
       (given : Reclaimed) : Type 0 where
     pub found : Option Flight
     pub outdates : Outdates id old.underway new.underway found
     pub quiet : is_changing id old.underway ≡ false
-    pub holds : Holds shows id (row_of stamp value) old.keeper old.asker before new.keeper new.asker room given
+    pub holds : Holds shows (limits_of bound old) id (row_of stamp value) old.keeper old.asker before new.keeper
+        new.asker room given
+    pub same : new.capacity ≡ old.capacity
 
   -- the caller's own: while the id is being changed it loses its value; or there was no place
   pub record PutsOwn (id : ℕ) (old : StoreSeen) (before : Room) (new : StoreSeen) (room : Room) : Type 0 where
@@ -119,10 +131,12 @@ module _ {Room : Type 0} (shows : Room → List Row → Type 0) where
         ⊎ ((is_changing id old.underway ≡ false) × HasNoPlace id old.keeper old.asker new.keeper new.asker)
     pub gone : IsGone id new.keeper
     pub stays : room ≡ before
+    pub same : new.capacity ≡ old.capacity
 
-  abbrev pub Puts : ℕ → ℕ → ℕ → StoreSeen → Room → StoreSeen → Room → Landed → Type 0
-  Puts id stamp value old before new room (landed.Held given) = PutsHeld id stamp value old before new room given
-  Puts id stamp value old before new room landed.Own = PutsOwn id old before new room
+  abbrev pub Puts : ℕ → ℕ → ℕ → ℕ → StoreSeen → Room → StoreSeen → Room → Landed → Type 0
+  Puts id stamp value bound old before new room (landed.Held given) =
+      PutsHeld id stamp value bound old before new room given
+  Puts id stamp value bound old before new room landed.Own = PutsOwn id old before new room
 
   -- the oldest set that waits and that no reader holds came out, or none did
   pub record Reaps (old : StoreSeen) (before : Room) (new : StoreSeen) (room : Room) (answer : Reaped) : Type 0 where
@@ -131,7 +145,7 @@ module _ {Room : Type 0} (shows : Room → List Row → Type 0) where
     pub moves : Moves shows old.keeper.writer [] out new.keeper.writer
     pub gives : ShowsReaped shows out before room answer
     pub rest : (new.underway ≡ old.underway) × (new.asker ≡ old.asker) × (new.keeper.clerk ≡ old.keeper.clerk)
-        × (new.keeper.asker ≡ old.keeper.asker)
+        × (new.keeper.asker ≡ old.keeper.asker) × (new.capacity ≡ old.capacity)
 
 -- the flight of that number ended without a value
 pub record Fails (number : ℕ) (old new : StoreSeen) (found : Option Flight) : Type 0 where

@@ -21,7 +21,7 @@ module _ {Room : Type 0} (shows : Room → List Row → Type 0) where
       (given : Reclaimed) : Type 0 where
     pub mid : StoreSeen
     pub finds : FindsOld id was old mid
-    pub puts : PutsHeld shows id stamp value mid before new room given
+    pub puts : PutsHeld shows id stamp value 0 mid before new room given
 
   -- or the id is being changed, and loses its value
   pub record SwapsOwn (id was : ℕ) (old : StoreSeen) (before : Room) (new : StoreSeen) (room : Room) : Type 0 where

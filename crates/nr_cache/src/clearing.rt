@@ -1,8 +1,8 @@
 //! All values are taken.
-ghost use Rattle.std.specs.Prelude.{◌≡◌, ◌<◌, ℕ};
+ghost use Rattle.std.specs.Prelude.{◌≡◌, ◌≤◌, ◌<◌, ℕ};
 ghost use Rattle.nr_idmap.specs.Keepers.{name_at};
 ghost use Rattle.nr_cache.specs.Places.{IsGone, OwesNone, TakesAt, TakesEach};
-ghost use Rattle.nr_cache.specs.Values.{BringsValues};
+ghost use Rattle.nr_cache.specs.Values.{BringsValues, values_in};
 
 use crate::evictions::take_value;
 use crate::store::Store;
@@ -32,7 +32,9 @@ fn take_all(map: &IdMap, writer: &mut IdWriter)
     ensures values { BringsValues writer.new }
     ensures takes { TakesEach map.now.map.shape.keys writer.old writer.new }
     ensures gone { (id : ℕ) → IsGone id writer.new }
+    ensures fewer { values_in writer.new ≤ values_in writer.old }
 {
+    writer.is_tied();
     for way in 0..map.ways() {
         take_at(map, writer, way);
     }

@@ -1,9 +1,11 @@
 //! How much a store holds.
 ghost use Rattle.std.specs.Prelude.{◌≡◌};
 ghost use Rattle.nr_cache.specs.Counts.{CountsStore};
+ghost use Rattle.nr_cache.specs.Places.{CountsValues};
+ghost use Rattle.nr_cache.specs.Values.{BringsValues, values_in};
 
 use crate::store::Store;
-use nr_idmap::IdMap;
+use nr_idmap::{IdMap, IdWriter};
 
 /// How many values are held, how many flights are under way, and how many changes.
 #[derive(Clone, Copy, Debug, PartialEq, Eq)]
@@ -21,9 +23,22 @@ impl Store {
         ensures counts { CountsStore self.old self.new result }
     {
         Counts {
-            values: map.slot_counts(&mut self.writer).filled,
+            values: count_values(map, &mut self.writer),
             flights: self.flights.len(),
             changes: self.flights.changes(),
         }
     }
+}
+
+// How many values there are.
+pub(crate) fn count_values(map: &IdMap, writer: &mut IdWriter) -> u32
+    requires own { writer.old.table ≡ map.now }
+    requires values { BringsValues writer.old }
+    ensures own { writer.new.table ≡ map.now }
+    ensures values { BringsValues writer.new }
+    ensures counts { CountsValues writer.old writer.new result }
+    ensures same { values_in writer.new ≡ values_in writer.old }
+{
+    writer.is_tied();
+    map.slot_counts(writer).filled
 }

@@ -1,9 +1,9 @@
 //! Values that are taken, to make room or for good.
-ghost use Rattle.std.specs.Prelude.{◌≡◌, ◌<◌};
+ghost use Rattle.std.specs.Prelude.{◌≡◌, ◌≤◌, ◌<◌};
 ghost use Rattle.nr_ids.specs.Events.{IsAbsent};
 ghost use Rattle.nr_ids.specs.Looking.{IsFull};
 ghost use Rattle.nr_cache.specs.Places.{IsGone, MakesRoom, OwesNone, TakesValue};
-ghost use Rattle.nr_cache.specs.Values.{BringsValues};
+ghost use Rattle.nr_cache.specs.Values.{BringsValues, values_in};
 
 use crate::store::Store;
 use nr_idmap::{Evict, IdMap, IdWriter, laws};
@@ -33,6 +33,7 @@ pub(crate) fn take_value(map: &IdMap, writer: &mut IdWriter, id: u64) -> bool
     ensures values { BringsValues writer.new }
     ensures takes { TakesValue id writer.old writer.new result }
     ensures gone { IsGone id writer.new }
+    ensures fewer { values_in writer.new ≤ values_in writer.old }
 {
     laws::unnamed_is_absent();
     laws::named_is_owed_or_resident();

@@ -15,14 +15,17 @@
 #![tactic(auto)]
 
 mod clearing;
+mod clock;
 mod counts;
 mod evictions;
 mod finds;
 mod flights;
 mod given;
 pub mod laws;
+mod limits;
 mod looks;
 mod shape;
+mod stamps;
 mod store;
 mod swaps;
 mod values;

@@ -1,7 +1,7 @@
 //! The store's own look at an id.
-ghost use Rattle.std.specs.Prelude.{◌≡◌, ◌<◌};
+ghost use Rattle.std.specs.Prelude.{◌≡◌, ◌≤◌, ◌<◌};
 ghost use Rattle.nr_cache.specs.Places.{LooksAtValue, OwesNone};
-ghost use Rattle.nr_cache.specs.Values.{BringsValues};
+ghost use Rattle.nr_cache.specs.Values.{BringsValues, values_in};
 
 use crate::finds::{FoundValue, value_of};
 use crate::store::Store;
@@ -18,7 +18,7 @@ impl Store {
         ensures own { self.new.keeper.table ≡ map.now }
         ensures looks { Looks id self.old self.new result }
     {
-        look_at(map, &mut self.writer, &mut self.found, id)
+        look_at(map, &mut self.writer, &mut self.limit.found, id)
     }
 }
 
@@ -31,6 +31,7 @@ fn look_at(map: &IdMap, writer: &mut IdWriter, found: &mut Pile, id: u64) -> Opt
     ensures owes { OwesNone writer.new }
     ensures values { BringsValues writer.new }
     ensures looks { LooksAtValue id writer.old writer.new result }
+    ensures fewer { values_in writer.new ≤ values_in writer.old }
 {
     laws::unnamed_is_absent();
     writer.is_tied();

@@ -2,7 +2,9 @@
 ghost use Rattle.std.specs.Prelude.{◌≡◌, ◌<◌, ◌↔◌, Err, IfOk};
 ghost use Rattle.nr_cache.specs.Openings.{IsBadStoreShape, OpensStore};
 
+use crate::clock::Clock;
 use crate::flights::{Flight, Flights};
+use crate::limits::Limit;
 use crate::shape::StoreShape;
 use nr_idmap::{IdMap, IdReader, IdWriter, OpenFault, ReadersOut, Reclaimed, Rest, laws};
 use nr_model::Pile;
@@ -38,8 +40,7 @@ pub struct Store {
     /// Claims the groups of ids that get a value.
     pub(crate) asker: IdReader,
     pub(crate) flights: Flights,
-    /// The rows that a look found last.
-    pub(crate) found: Pile,
+    pub(crate) limit: Limit,
 }
 
 impl Model for Store {
@@ -47,20 +48,20 @@ impl Model for Store {
     ghost use Rattle.nr_idmap.specs.Keepers.{id_rows, id_table_of};
     ghost use Rattle.nr_cache.specs.Places.{OwesNone};
     ghost use Rattle.nr_cache.specs.StoreSeen.{StoreSeen};
-    ghost use Rattle.nr_cache.specs.Values.{BringsValues};
-    ghost use Rattle.nr_map.specs.SlotBounds.{HasRoomForAll};
+    ghost use Rattle.nr_cache.specs.Values.{BringsValues, HasSlots, IsWithin};
 
     ghost Value = { StoreSeen };
 
-    ghost view = { λ store. record { keeper = store.writer; asker = store.asker; underway = store.flights } };
+    ghost view = { λ store. record { keeper = store.writer; asker = store.asker; underway = store.flights; capacity = store.limit.capacity; hand = store.limit.clock.hand } };
 
-    ghost invariant = { λ store. (id_table_of store.asker ≡ store.writer.table) × OwesNone store.writer × HasRoomForAll store.writer.table.map × (0 < id_rows store.writer.table) × BringsValues store.writer };
+    ghost invariant = { λ store. (id_table_of store.asker ≡ store.writer.table) × OwesNone store.writer × HasSlots store.limit.capacity store.writer.table.map × (0 < id_rows store.writer.table) × BringsValues store.writer × (0 < store.limit.capacity) × IsWithin store.limit.capacity store.writer };
 }
 
 impl Store {
     ghost use Rattle.nr_map.specs.Remains.{TakenApart};
     ghost use Rattle.nr_cache.specs.Flights.{EndsChange, none_under_way};
     ghost use Rattle.nr_cache.specs.Stores.{BeginsFlight, ChangesId, Fails};
+    ghost use Rattle.nr_cache.specs.Values.{IsWithin};
 
     /// A store with its map and its readers, without a value. Refused where a size is out of its limits, and
     /// then where there is no memory; no other call takes any.
@@ -84,13 +85,25 @@ impl Store {
         else {
             return Err(OpenFault::Memory);
         };
+        let limit = Limit {
+            capacity: shape.capacity,
+            clock: Clock::new(),
+            found: Pile::new(),
+        };
         let store = Store {
             writer,
             asker,
             flights,
-            found: Pile::new(),
+            limit,
         };
         Ok((map, store, readers))
+    }
+
+    /// The store holds no more values than its capacity. Takes no step.
+    pub fn is_within(&self)
+        ensures { IsWithin self.now.capacity self.now.keeper }
+    {
+        let _held = &self.writer;
     }
 
     /// What a miss of an id comes to: the first begins the id's flight, with a number of the caller's for
@@ -149,7 +162,7 @@ impl Store {
             writer: _,
             asker: _,
             flights,
-            found: _,
+            limit: _,
         } = self;
         flights.into_left()
     }
@@ -167,7 +180,7 @@ impl Store {
             writer,
             asker,
             flights,
-            found: _,
+            limit: _,
         } = self;
         map.take_back(&mut out, asker);
         (flights.into_left(), map.leave(writer, out))

@@ -45,7 +45,7 @@ impl Store {
         }
         laws::unnamed_is_absent();
         self.writer.is_tied();
-        match self.put(map, id, stamp, value, had) {
+        match self.put(map, id, stamp, value, 0, had) {
             Landed::Held(given) => Swapped::Held(given),
             Landed::Own => Swapped::Own,
         }

@@ -1,15 +1,15 @@
 //! How values come into a store, and out of it.
-ghost use Rattle.std.specs.Prelude.{◌≡◌, ◌<◌, ◌∷◌, [], Some, IfNone, IfSome};
+ghost use Rattle.std.specs.Prelude.{◌≡◌, ◌≤◌, ◌<◌, ◌+◌, ◌∷◌, [], Some, IfNone, IfSome};
 ghost use Rattle.nr_ids.specs.Events.{IsAbsent};
 ghost use Rattle.nr_idmap.specs.Keepers.{id_rows, id_table_of};
-ghost use Rattle.nr_map.specs.SlotBounds.{HasRoomForAll};
 ghost use Rattle.nr_idmap.specs.IdWrites.{FillsAndGives};
 ghost use Rattle.nr_cache.specs.Places.{AdmitsOrNot, ClaimsOr, OwesNone, OwesOnly};
 ghost use Rattle.nr_cache.specs.Stores.{HoldsOrNot};
-ghost use Rattle.nr_cache.specs.Values.{BringsValues};
+ghost use Rattle.nr_cache.specs.Values.{BringsValues, HasSlots, IsWithin, values_in};
 
 use crate::evictions::{make_room, take_value};
 use crate::flights::Fate;
+use crate::limits::Limit;
 use crate::store::{Landed, Store};
 use nr_idmap::{
     IdFault, IdMap, IdReader, IdWriter, Reaped, Reclaimed, Refused, Requested, Unfilled, Upquery,
@@ -21,19 +21,21 @@ impl Store {
     ghost use Rattle.nr_cache.specs.Stores.{Invalidates, Lands, Puts, Reaps};
 
     /// Ends the flight of that number by its value, with a stamp above 0. It is held unless its id was
-    /// invalidated, put or changed since the flight began, or was being changed then. Makes room itself.
+    /// invalidated, put or changed since the flight began, or was being changed then. Makes room itself: of the next eight
+    /// ways that the store comes to, one with a stamp below the bound goes first.
     pub fn land<R: RowRoom>(
         &mut self,
         map: &IdMap,
         number: u64,
         stamp: u64,
         value: u64,
+        bound: u64,
         had: &mut R,
     ) -> Landed
         requires own { self.old.keeper.table ≡ map.now }
         requires stamp { 0 < stamp }
         ensures own { self.new.keeper.table ≡ map.now }
-        ensures lands { Lands R.shows number stamp value self.old had.old self.new had.new result }
+        ensures lands { Lands R.shows number stamp value bound self.old had.old self.new had.new result }
     {
         let Some(flight) = self.flights.end(number) else {
             return Landed::Own;
@@ -41,7 +43,17 @@ impl Store {
         match flight.fate {
             Fate::Hold => {
                 let row = Row { a: stamp, b: value };
-                put_value(map, &mut self.writer, &mut self.asker, flight.id, row, had)
+                let asker = &mut self.asker;
+                put_value(
+                    map,
+                    &mut self.writer,
+                    asker,
+                    &mut self.limit,
+                    flight.id,
+                    row,
+                    bound,
+                    had,
+                )
             }
             Fate::Outdated => Landed::Own,
         }
@@ -55,13 +67,14 @@ impl Store {
         id: u64,
         stamp: u64,
         value: u64,
+        bound: u64,
         had: &mut R,
     ) -> Landed
         requires own { self.old.keeper.table ≡ map.now }
         requires id { 0 < id }
         requires stamp { 0 < stamp }
         ensures own { self.new.keeper.table ≡ map.now }
-        ensures puts { Puts R.shows id stamp value self.old had.old self.new had.new result }
+        ensures puts { Puts R.shows id stamp value bound self.old had.old self.new had.new result }
     {
         self.flights.outdate(id);
         if self.flights.is_changing(id) {
@@ -69,7 +82,17 @@ impl Store {
             return Landed::Own;
         }
         let row = Row { a: stamp, b: value };
-        put_value(map, &mut self.writer, &mut self.asker, id, row, had)
+        let asker = &mut self.asker;
+        put_value(
+            map,
+            &mut self.writer,
+            asker,
+            &mut self.limit,
+            id,
+            row,
+            bound,
+            had,
+        )
     }
 
     /// Takes an id's value, and outdates its flight: whether there was a value.
@@ -98,29 +121,35 @@ fn put_value<R: RowRoom>(
     map: &IdMap,
     writer: &mut IdWriter,
     asker: &mut IdReader,
+    limit: &mut Limit,
     id: u64,
     row: Row,
+    bound: u64,
     had: &mut R,
 ) -> Landed
     requires own { (writer.old.table ≡ map.now) × (id_table_of asker.old ≡ map.now) }
     requires owes { OwesNone writer.old }
     requires values { BringsValues writer.old }
-    requires slots { HasRoomForAll map.now.map }
+    requires slots { HasSlots limit.old.capacity map.now.map }
     requires rows { 0 < id_rows map.now }
     requires id { 0 < id }
     requires stamp { 0 < row.a }
+    requires some { 0 < limit.old.capacity }
+    requires within { IsWithin limit.old.capacity writer.old }
     ensures own { (writer.new.table ≡ map.now) × (id_table_of asker.new ≡ map.now) }
     ensures owes { OwesNone writer.new }
     ensures values { BringsValues writer.new }
-    ensures puts { HoldsOrNot R.shows id row writer.old asker.old had.old writer.new asker.new had.new result }
+    ensures within { IsWithin limit.old.capacity writer.new }
+    ensures same { limit.new.capacity ≡ limit.old.capacity }
+    ensures puts { HoldsOrNot R.shows (record { capacity = limit.old.capacity; hand = limit.old.clock.hand; bound = bound }) id row writer.old asker.old had.old writer.new asker.new had.new result }
 {
-    nr_map::laws::room_for_replacements();
+    nr_map::laws::no_slot_is_rare();
     laws::unnamed_is_absent();
     writer.is_tied();
     match map.replace_reclaiming(writer, id, &[row], had) {
         Ok(given) => return Landed::Held(given),
         Err(IdFault::Absent) => {}
-        // A way with a name has a set, and there is a slot for each way, each reader and one more.
+        // A way with a name has a set, and there is a slot for each value, each reader and one more.
         Err(IdFault::Refused(_fault)) => {
             writer.is_tied();
             unreachable!()
@@ -132,10 +161,12 @@ fn put_value<R: RowRoom>(
     }
     let admitted = admit(map, writer, id);
     writer.is_tied();
-    match admitted {
-        Some(upquery) => Landed::Held(fill(map, writer, upquery, row, had)),
-        None => Landed::Own,
-    }
+    let Some(upquery) = admitted else {
+        return Landed::Own;
+    };
+    limit.keep(map, writer, &upquery, bound);
+    writer.is_tied();
+    Landed::Held(fill(map, writer, upquery, row, had))
 }
 
 // Claims an id's group: whether the claim was granted.
@@ -197,22 +228,23 @@ fn fill<R: RowRoom>(
     requires own { (writer.old.table ≡ map.now) × (upquery.table ≡ map.now) }
     requires owes { OwesOnly upquery.owed writer.old }
     requires values { BringsValues writer.old }
-    requires slots { HasRoomForAll map.now.map }
+    requires slots { HasSlots (values_in writer.old) map.now.map }
     requires rows { 0 < id_rows map.now }
     requires stamp { 0 < row.a }
     ensures own { writer.new.table ≡ map.now }
     ensures owes { OwesNone writer.new }
     ensures values { BringsValues writer.new }
     ensures asker { writer.new.asker ≡ writer.old.asker }
+    ensures more { values_in writer.new ≤ values_in writer.old + 1 }
     ensures fills { FillsAndGives R.shows upquery.owed (row ∷ []) writer.old had.old writer.new had.new result }
 {
-    nr_map::laws::room_for_fills();
+    nr_map::laws::no_slot_is_rare();
     writer.is_tied();
     match map.fill_reclaiming(writer, upquery, &[row], had) {
         Ok(given) => given,
         // It was opened a moment ago.
         Err(Unfilled::Closed) => unreachable!(),
-        // There is a slot for each way, each reader and one more.
+        // There is a slot for each value, each reader and one more.
         Err(Unfilled::NoSlot(_upquery, _counts)) => unreachable!(),
     }
 }

@@ -60,17 +60,17 @@ own_if : (caller : ℕ) (call : Call) (reply : KeyState → Reply) (shows : Opti
 own_if caller call reply shows true c = own_answering caller call reply shows c
 own_if caller call reply shows false c = none_of (nat_eq caller c)
 
-told_by : (state : State) (event : Event) (c : ℕ)
+pub told_by_caller : (state : State) (event : Event) (c : ℕ)
     → entries_of (told state event) c ≡ cond (nat_eq (caller_of_event event) c) (told state event) []
-told_by state (Arrive r k) c = own_answering r (model.Find k) find_reply (shown state k) c
-told_by state (Read r i) c = none_of (nat_eq r c)
-told_by state (Depart r) c = none_of (nat_eq r c)
-told_by state (Ask r k) c = own_answering r (model.Ask k) ask_reply (shown state k) c
-told_by state (FindAgain r k) c =
+told_by_caller state (Arrive r k) c = own_answering r (model.Find k) find_reply (shown state k) c
+told_by_caller state (Read r i) c = none_of (nat_eq r c)
+told_by_caller state (Depart r) c = none_of (nat_eq r c)
+told_by_caller state (Ask r k) c = own_answering r (model.Ask k) ask_reply (shown state k) c
+told_by_caller state (FindAgain r k) c =
     own_if r (model.Find k) find_reply (shown state k) (names_held (hold_of state r) (found_by state (FindAgain r k))) c
-told_by state (Start call) c =
+told_by_caller state (Start call) c =
     own_ending (call_of call) (looked state.shape state.desk call (found_by state (Start call))).1 c
-told_by state Go c =
+told_by_caller state Go c =
     own_ending_at state.desk.place (went state.shape state.desk state.desk.place (found_by state Go)).1 c
 
 -- the set that is put is a row set
@@ -258,5 +258,5 @@ follows story event is_core justified = record {
     mine : (o : Option Refusal) (c : ℕ)
         → entries_of (unless o [] (told story.state event)) c
         ≡ cond (nat_eq (caller_of_event event) c) (unless o [] (told story.state event)) []
-    mine None c = told_by story.state event c
+    mine None c = told_by_caller story.state event c
     mine (Some why) c = none_of (nat_eq (caller_of_event event) c)

@@ -1,7 +1,7 @@
 -- A reader that holds nothing looks a key up. Where the key names a slot, the reader may hold it as if it had arrived
 -- there: a departure is taken back.
 use Rattle.std.proofs.Common.{Bool, List, [], ap, append-nil, arith, cond, false, get_or, get_or-set_other}
-use Rattle.std.proofs.Common.{get_or-set_same, refl, set, subst, suc, sym, ℕ, ◌%◌, ◌*◌, ◌++◌, ◌+◌, ◌-◌, ◌<◌, ◌^◌, ◌∙◌}
+use Rattle.std.proofs.Common.{get_or-set_same, refl, set, subst, suc, sym, ℕ, ◌%◌, ◌*◌, ◌++◌, ◌+◌, ◌-◌, ◌<◌, ◌^◌}
 use Rattle.std.proofs.Common.{◌∷◌, ◌≡◌, ◌≢◌, ◌≤◌}
 use lib.ListN.{get_elem?}
 use mathlib.Core.Logic.{dite}
@@ -28,11 +28,11 @@ use Rattle.nr_core.proofs.WordPlaces.{content_apart, departures_inside, same_dep
 use Rattle.nr_core.specs.Core.{Core, Knows, ShowsState}
 use Rattle.nr_core.specs.Roles.{held, holds, is_by, keeps}
 use Rattle.nr_core.specs.StepLaws.{HoldNamedLaw, LookUpLaw}
-use Rattle.nr_core.specs.Steps.{HoldsNamed, LooksUp, Stepped}
+use Rattle.nr_core.specs.Steps.{LooksUp, Stepped}
 use Rattle.nr_core.specs.Slots.{SlotSpells, bound_of, content, departures, name_number}
 use Rattle.nr_core.specs.Story.{entry, map_after}
 use Rattle.nr_core.specs.Sums.{only}
-use Rattle.nr_core.specs.declared.operation.Operation.TheVariants.{Add, Load}
+use Rattle.nr_core.specs.declared.operation.Operation.TheVariants.{Load}
 use Rattle.nr_core.specs.declared.roles.Grip.TheVariants.{Nothing, On}
 use Rattle.nr_core.specs.declared.roles.Role.{Role}
 use Rattle.nr_core.specs.declared.roles.Role.TheVariants.{Note, Reader, Writer}

@@ -1,10 +1,7 @@
 -- A look-up, and a hold of the slot that a key names: the reader's marks go along.
-use Rattle.std.proofs.Common.{List, [], ap, arith, cond, false, get_or, inr, inl, refl, set, suc, sym, true, ℕ, Bool}
-use Rattle.std.proofs.Common.{map, ⊎_elim, ◌⊎◌, ◌%◌, ◌++◌, ◌+◌, ◌-◌, ◌<◌, ◌^◌, ◌∙◌, ◌∷◌, ◌≡◌, ◌≤◌}
-use Rattle.std.specs.Prelude.{Some}
-use lib.ListN.{get_elem?}
+use Rattle.std.proofs.Common.{List, [], ap, arith, cond, false, get_or, inr, inl, refl, suc, sym, ℕ, Bool}
+use Rattle.std.proofs.Common.{⊎_elim, ◌⊎◌, ◌%◌, ◌++◌, ◌+◌, ◌-◌, ◌<◌, ◌^◌, ◌∙◌, ◌∷◌, ◌≡◌}
 use lib.Seq.{set-get_or}
-use mathlib.Core.Option.{some}
 use Rattle.nr_model.specs.Histories.{Entry}
 use Rattle.nr_model.specs.declared.calls.Call.TheVariants as model
 use Rattle.nr_model.specs.declared.calls.Reply.TheVariants as reply

@@ -77,3 +77,4 @@ mod Tidy
 mod Strays
 mod PutLists
 mod ByHistory
+mod InTime

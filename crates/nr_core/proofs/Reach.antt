@@ -1,6 +1,6 @@
 -- What holds of a state that events lead to: the next event leads on, and the writer's next step has room.
 use Rattle.std.proofs.Common.{List, [], ap, arith, false, get_or, length, map, refl, subst, suc, sym, true, zero, ℕ}
-use Rattle.std.proofs.Common.{◌*◌, ◌++◌, ◌+◌, ◌-◌, ◌<◌, ◌∙◌, ◌∷◌, ◌≡◌, ◌≤◌}
+use Rattle.std.proofs.Common.{◌++◌, ◌+◌, ◌-◌, ◌<◌, ◌∙◌, ◌∷◌, ◌≡◌, ◌≤◌}
 use Rattle.std.proofs.Math.Logic.{∥∥₁_map}
 use Rattle.std.proofs.Props.{props}
 use Rattle.std.specs.Prelude.{None, Option, Some, fold, option_map}
@@ -23,7 +23,7 @@ use Rattle.nr_core.specs.Reach.{Reached}
 use Rattle.nr_core.specs.Refusals.{refusal}
 use Rattle.nr_core.specs.Roles.{held, taken}
 use Rattle.nr_core.specs.Sizes.{IsShape}
-use Rattle.nr_core.specs.Slots.{bound_of, name_number, named, slot_room}
+use Rattle.nr_core.specs.Slots.{bound_of, name_number, named}
 use Rattle.nr_core.specs.States.{Event, State, hold_of, key_of, no_retired, number_at, opening_state, retired_at}
 use Rattle.nr_core.specs.Story.{holders, map_after, shown, story_of}
 use Rattle.nr_core.specs.declared.calls.Refusal.{Refusal}

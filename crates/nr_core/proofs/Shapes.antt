@@ -1,5 +1,5 @@
 -- A shape that no opening refuses fits its words, and its opening is a state of its own events.
-use Rattle.std.proofs.Common.{ℕ, [], ◌≡◌, ◌<◌, ◌≤◌, ◌⊎◌, inl, inr, refl, ⊎_elim, arith}
+use Rattle.std.proofs.Common.{ℕ, [], ◌<◌, ◌≤◌, inl, inr, refl, ⊎_elim, arith}
 use Rattle.std.proofs.lemmas.Bool.{cases_lt}
 use Rattle.nr_model.specs.Sizes.{IsBadSize}
 use Rattle.nr_core.specs.Reach.{Reached}

@@ -14,7 +14,6 @@ use Rattle.nr_words.specs.KeyWords.{has_ask, is_filled, same_count, slot_of}
 use Rattle.nr_core.proofs.Choices.{by_cases}
 use Rattle.nr_core.proofs.KeyWords.{names_none, names_one}
 use Rattle.nr_core.specs.Core.{ShowsState}
-use Rattle.nr_core.specs.Machine.{or_refusal}
 use Rattle.nr_core.specs.Slots.{bound_of}
 use Rattle.nr_core.specs.States.{retired_at}
 use Rattle.nr_core.specs.Story.{call_of}

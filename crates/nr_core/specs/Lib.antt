@@ -17,6 +17,7 @@ pub mod Core
 pub mod Steps
 pub mod Accounts
 pub mod Laws
+pub mod InTime
 pub mod Reach
 pub mod StepLaws
 pub mod Puts

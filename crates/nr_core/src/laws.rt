@@ -1,10 +1,11 @@
 //! Laws over the definitions alone. Nothing runs here: each function's contract is the law.
 //!
-//! The first three are about lists of events. The others are the laws of the steps, which speak of
+//! The first four are about lists of events. The others are the laws of the steps, which speak of
 //! any list of callers, so that a map of running callers builds on them. Each is of one form
 //! (`CanStep`): whatever the core state is, a caller of that role can make that operation, then the
 //! core state stands again, and this is what the operation told the caller.
 ghost use Rattle.nr_core.specs.Laws.{EverySchedule, SlotBound, RunGoesOn};
+ghost use Rattle.nr_core.specs.InTime.{EntriesInTime};
 ghost use Rattle.nr_core.specs.StepLaws.{ArriveLaw, AskLaw, LookUpLaw, HoldNamedLaw, ReadLaw, FindAgainLaw, DepartLaw, LookLaw, GoLaw, TryLaw, GiveUpLaw, LearnLaw, OpeningLaw, SeatLaw, NoteLaw};
 ghost use Rattle.nr_core.specs.MarkLaws.{NoSlotByMarks, DoneByMarks, PutGoesOn};
 
@@ -24,6 +25,12 @@ pub fn slot_bound()
 /// A run goes on by one event and keeps its shape, and the states that a story tells are the run's.
 pub fn run_goes_on()
     ensures { RunGoesOn }
+{}
+
+/// Of two calls, of which one ends before the other begins, the first one's entry comes first: each
+/// entry is told at a step of its call, and what comes later adds its entries behind.
+pub fn entries_in_time()
+    ensures { EntriesInTime }
 {}
 
 /// A reader that holds nothing arrives at a key, and its find is an entry.

@@ -1,6 +1,6 @@
 -- A way without a name that the writer's own reader asked for is asked for, as the writer knows it then, and its
 -- upquery is the only one that was opened.
-use Rattle.std.proofs.Common.{◌≡◌, ◌≢◌, ℕ, ◌+◌, ◌<◌, ◌⊎◌, ⊎_elim, inl, inr, List, [], ◌∷◌, ◌++◌, drop, refl, sym, ap}
+use Rattle.std.proofs.Common.{◌≡◌, ◌≢◌, ℕ, ◌<◌, ◌⊎◌, ⊎_elim, inl, inr, List, [], ◌∷◌, ◌++◌, drop, refl, sym, ap}
 use Rattle.std.proofs.Common.{◌∙◌, subst, arith, append_assoc, append-nil, Ok, Err}
 use Rattle.std.proofs.lemmas.Bool.{cases_eq}
 use Rattle.std.proofs.lemmas.List.{length-replicate}
@@ -18,13 +18,13 @@ use Rattle.nr_board.specs.Callers.{Caller, Grows, KnowsOwn, Table, map_at_openin
 use Rattle.nr_board.specs.Entries.{AreCallers}
 use Rattle.nr_board.specs.Meetings.{Learns, with_step}
 use Rattle.nr_ids.specs.declared.admissions.Refused.{Refused}
-use Rattle.nr_ids.specs.declared.admissions.Refused.TheVariants as refused
 use Rattle.nr_ids.specs.Answers.{Admits}
-use Rattle.nr_ids.specs.Events.{cleared, named, looks, name_of}
+use Rattle.nr_ids.specs.Events.{Event, cleared, hinted, named, touched, looks, name_of}
 use Rattle.nr_ids.specs.Looking.{group_for}
 use Rattle.nr_ids.specs.Tokens.{Opened, Token}
-use Rattle.nr_ids.specs.Groups.{places, ways}
+use Rattle.nr_ids.specs.Groups.{group_of_way, ways}
 use Rattle.nr_ids.specs.Tokens as ids
+use Rattle.nr_ids.proofs.Admitting.{admits_by, refusal_looks}
 use Rattle.nr_ids.proofs.Calls.{clerk_looks, clerk_names, grows_none}
 use Rattle.nr_ids.proofs.Logs.{cond_else, looks_names}
 use Rattle.nr_idmap.specs.Asking.{AsksWay}
@@ -214,14 +214,25 @@ module _ (w a w' a' : Caller) (c c' : Token) (tied : IsTied (keeper_of w a c)) (
   stays : Stayed w w'
   stays = asks_stays way a w a' w' (rested_of w a c tied) asks
 
+  all : (count : ℕ) × (hints : ℕ)
+      × ids.Grows
+      (cleared (group_for c id) ∷ named way id ∷ touched c.number (hinted (group_of_way way) hints)
+      ∷ looks count c.number) c c'
+  all = admits_by id way c c' admits
+
+  abbrev acts : List Event
+  acts =
+      cleared (group_for c id) ∷ named way id ∷ touched c.number (hinted (group_of_way way) all.1)
+      ∷ looks all.0 c.number
+
   name_else : (k : ℕ) → k ≢ way → name_of c'.seen k ≡ name_of c.seen k
   name_else k other =
-      clerk_names c (cleared (group_for c id) ∷ named way id ∷ looks (places + 1) c.number) c' k tied.names.1 admits.0
-      ∙ cond_else id (name_of (looks (places + 1) c.number ++ c.seen) k) way k (λ e. other (sym e))
-      ∙ looks_names (places + 1) c.number c.seen k
+      clerk_names c acts c' k tied.names.1 all.2
+      ∙ cond_else id (name_of (looks all.0 c.number ++ c.seen) k) way k (λ e. other (sym e))
+      ∙ looks_names all.0 c.number c.seen k
 
   near : way < w.table.shape.keys
-  near = omega (arith, admits.2.inside, ap (λ (d : Opened). ways d.plan) admits.0.directory, tied.ways_are)
+  near = omega (arith, admits.2.inside, ap (λ (d : Opened). ways d.plan) all.2.directory, tied.ways_are)
 
   asked_now : (n : ℕ) × (state_of (map_seen w') way ≡ Asked n)
   asked_now = asks_asked way a w a' w' (rested_of w a c tied) asks
@@ -239,12 +250,12 @@ module _ (w a w' a' : Caller) (c c' : Token) (tied : IsTied (keeper_of w a c)) (
 
   pub admitted_tied : IsTied (keeper_of w' a' c')
   admitted_tied =
-      retied w a w' a' c c' (cleared (group_for c id) ∷ named way id ∷ looks (places + 1) c.number) tied stays.rested
+      retied w a w' a' c c' acts tied stays.rested
       asks.hears.learns.table (
         ap (λ (r : Caller). r.table) asks.told ∙ asks.asks.table ∙ asks.meets.learns.table,
         subst KnowsOwn (sym asks.told) asks.asks.own,
       )
-      admits.0 agrees_now
+      all.2 agrees_now
 
   pub admitted : (number : ℕ) → number ≡ number_of (state_of (map_seen w') way) →
       AdmitsId id (keeper_of w a c) (keeper_of w' a' c') (record { way = way; number = number; id = id })
@@ -264,18 +275,11 @@ module _ (w a w' a' : Caller) (c c' : Token) (tied : IsTied (keeper_of w a c)) (
     };
   }
 
--- a refusal is a few looks
-refused_looks : (id : ℕ) (c c' : Token) (why : Refused) → Admits id c c' (Err why)
-    → (count : ℕ) × ids.Grows (looks count c.number) c c'
-refused_looks id c c' refused.NoClaim h = (1, h.0)
-refused_looks id c c' (refused.Named way) h = (h.place + 2, h.grows)
-refused_looks id c c' refused.Full h = (places + 1, h.0)
-
 pub unadmitted : (w a : Caller) (c c' : Token) (id : ℕ) (why : Refused) → IsTied (keeper_of w a c)
     → Admits id c c' (Err why) →
     IsTied (keeper_of w a c') × RefusesId id (keeper_of w a c) (keeper_of w a c') why
 unadmitted w a c c' id why tied h =
-    let look = refused_looks id c c' why h in
+    let look = refusal_looks id c c' why h in
     let names = λ (k : ℕ). clerk_looks c look.0 c.number c' k tied.names.1 look.1 in (
       retied w a w a c c' (looks look.0 c.number) tied (rested_of w a c tied) refl (refl, tied.asks.1) look.1
           (λ k. subst (λ (n : ℕ). Agrees n (state_of (map_seen w) k)) (sym (names k)) (tied.agrees k)),

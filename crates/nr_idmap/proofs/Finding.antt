@@ -1,5 +1,5 @@
 -- What a find by id says, by what the map's find found in the id's way.
-use Rattle.std.proofs.Common.{◌≡◌, ◌*◌, ℕ, List, [], ◌∷◌, ap, sym, subst, Some, ◌∙◌}
+use Rattle.std.proofs.Common.{◌≡◌, ◌*◌, ℕ, List, [], ◌∷◌, ap, sym, subst, Some, ◌∙◌, refl, None}
 use Rattle.nr_model.specs.declared.rows.Row.{Row}
 use Rattle.nr_board.specs.Callers.{Caller}
 use Rattle.nr_map.specs.LoadsAhead.{LoadsKey, load_of, with_loads}
@@ -58,6 +58,17 @@ finds_by_id shows id at old now new key near looked before after result is line 
       finds_by_way shows id at (with_line id loaded.0 old) new looked before after result looks
           (subst (λ (c : Caller). FindsInside shows id at (record { caller = c; ids = looked }) before new after result)
           (line_loaded id key old.ids old.caller near line loaded) finds),
+    )
+
+-- or no way had the id's name
+pub finds_absent : {Room : Type 0} (shows : Room → List Row → Type 0) (id : ℕ) (old now : IdCaller) (key : ℕ)
+    (near : Caller) (looked : Token) (room : Room) → old ≡ now → key ≡ line_of id old.ids → LoadsKey key old.caller near
+    → LooksAlone id old.ids looked None
+    → FindsById shows id now room (record { caller = near; ids = looked }) room found.Absent
+finds_absent shows id old now key near looked room is line loaded looks =
+    subst (λ (o : IdCaller). FindsById shows id o room (record { caller = near; ids = looked }) room found.Absent) is (
+      loaded.0,
+      (looks, line_loaded id key old.ids old.caller near line loaded, refl),
     )
 
 -- by what the map found there

@@ -1,5 +1,6 @@
 -- A hand that had seen a way's name, and that the way had the id's rows, finds rows by it.
-use Rattle.std.proofs.Common.{◌≡◌, ◌≢◌, ℕ, ◌+◌, ◌<◌, ◌⊎◌, ⊎_elim, inl, inr, false, ◌*◌, List, [], ◌∷◌, ◌++◌, length}
+use Rattle.std.proofs.Common.{◌≡◌, ◌≢◌, ℕ, zero, suc, ◌+◌, ◌<◌, ◌⊎◌, ⊎_elim, inl, inr, false, ◌*◌, List, []}
+use Rattle.std.proofs.Common.{◌∷◌, ◌++◌, length}
 use Rattle.std.proofs.Common.{refl, sym, ap, ◌∙◌, subst, arith, append-nil, append_assoc, Option, Some, None}
 use Rattle.std.specs.List.{count_by}
 use Rattle.std.proofs.lemmas.Bool.{cases_eq}
@@ -21,7 +22,7 @@ use Rattle.nr_ids.specs.Laws.{FindsWhatItHeard}
 use Rattle.nr_ids.specs.Tokens.{HasName, Token, known_to}
 use Rattle.nr_idmap.specs.declared.finds.FoundId.{FoundId}
 use Rattle.nr_idmap.specs.declared.finds.FoundId.TheVariants as found
-use Rattle.nr_idmap.specs.IdHands.{AgainById, HoldsAnew, HoldsByName, IdHanded, KeepsWay, PinsById}
+use Rattle.nr_idmap.specs.IdHands.{AgainById, HoldsAnew, HoldsByName, IdHanded, IsHeldFor, KeepsWay, PinsById}
 use Rattle.nr_idmap.specs.IdHands.{with_line_loaded}
 use Rattle.nr_idmap.specs.declared.finds.NamedWay.{NamedWay}
 use Rattle.nr_idmap.specs.IdFinds.{LooksAlone}
@@ -32,10 +33,12 @@ use Rattle.nr_idmap.proofs.Entries.{after_both, bound_after, count_after, legal_
 use Rattle.nr_idmap.proofs.LookUps.{looks_there, way_named}
 use Rattle.nr_idmap.proofs.HeardRows.{HasIds, Kept, count_both, ids_stay, kept_begins, kept_ends, kept_heard}
 
-held_or_not : (held : Option ℕ) (id : ℕ) → (held ≡ Some id) ⊎ (held ≢ Some id)
-held_or_not None id = inr (λ e. absurd (cc (e)))
-held_or_not (Some other) id = ⊎_elim (λ (same : other ≡ id). inl (ap Some same))
-    (λ (apart : other ≢ id). inr (λ e. let same : other ≡ id = cc (e) in apart same)) (cases_eq other id)
+held_or_not : (id : ℕ) (held : Option ℕ) → IsHeldFor id held ⊎ (IsHeldFor id held → ⊥)
+held_or_not zero held = inr (λ e. e)
+held_or_not (suc id) None = inr (λ e. absurd (cc (e)))
+held_or_not (suc id) (Some other) = ⊎_elim (λ (same : other ≡ suc id). inl (ap Some same))
+    (λ (apart : other ≢ suc id). inr (λ e. let same : other ≡ suc id = cc (e) in apart same))
+    (cases_eq other (suc id))
 
 -- what a hand has seen that asked first whether it holds the id's set still
 pub record Asked (old asked : IdHanded) : Type 0 where
@@ -58,7 +61,7 @@ asked_first id old asked again = ⊎_elim
       seen = ap (λ (h : IdHanded). h.hand.reader.seen) same ∙ sym (append-nil old.hand.reader.seen);
       ids = ap (λ (h : IdHanded). h.ids) same;
     })
-    (held_or_not old.id id)
+    (held_or_not id old.id)
 
 -- a find of a way by a hand is one entry, whichever way it found
 pub record FoundOnce (way : ℕ) (old new : Handed) (told : Reply) : Type 0 where

@@ -1,6 +1,7 @@
 -- What a find that holds says, by what the map's hand found in the id's way.
-use Rattle.std.proofs.Common.{◌≡◌, ℕ, ⊎_elim, List, refl, sym, ap, ◌∙◌, subst, Option, Some, None}
+use Rattle.std.proofs.Common.{◌≡◌, ◌≤◌, ℕ, ⊎_elim, List, refl, sym, ap, ◌∙◌, subst, arith, Option, Some, None}
 use Rattle.nr_model.specs.declared.rows.Row.{Row}
+use Rattle.nr_model.specs.Rows.{IsRowSet}
 use Rattle.nr_board.specs.Callers.{Caller}
 use Rattle.nr_board.specs.declared.answers.Found.{Found}
 use Rattle.nr_board.specs.declared.answers.Found.TheVariants as answer
@@ -30,6 +31,19 @@ KeepsIn way old before new set told =
 pub kept_set : (way : ℕ) (old new : Handed) (before set : List Row) → KeepsIn way old before new set answer.Rows
     → set ≡ new.rows
 kept_set way old new before set keeps = ⊎_elim (λ again. again.1 ∙ sym again.0.rows) (λ anew. anew.1.1) keeps
+
+pub kept_key : (way : ℕ) (old new : Handed) (before set : List Row) → KeepsIn way old before new set answer.Rows
+    → new.key ≡ Some way
+kept_key way old new before set keeps =
+    ⊎_elim (λ again. again.0.key_is ∙ again.0.held) (λ anew. anew.1.0.4.key_is) keeps
+
+pub kept_row_set : (way : ℕ) (old new : Handed) (before set : List Row) → KeepsIn way old before new set answer.Rows
+    → old.reader.table.shape.rows ≤ 255 → ((other : ℕ) → old.key ≡ Some other → IsRowSet 255 old.rows)
+    → IsRowSet 255 new.rows
+kept_row_set way old new before set keeps few had = ⊎_elim
+    (λ again. subst (IsRowSet 255) (sym again.0.rows) (had way again.0.held))
+    (λ anew. let so = anew.1.0.4.row_set in (so.0, omega (arith, few, so.1)))
+    keeps
 
 module _ (id : ℕ) (at : NamedWay) (old now : IdHanded) (is : old ≡ now) (ids : Token)
     (looks : LooksAlone id old.ids ids (Some at)) (word : ℕ) (hand : Handed) (before set : List Row) where

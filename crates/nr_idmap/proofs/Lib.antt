@@ -14,6 +14,7 @@ mod Batches
 mod LookUps
 mod Finding
 mod Choosing
+mod Walking
 mod Holding
 mod Opening
 mod Giving

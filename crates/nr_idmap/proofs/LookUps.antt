@@ -1,7 +1,9 @@
 -- Look-ups of ids and of their ways' marks.
 use Rattle.std.proofs.Common.{◌≡◌, ℕ, ◌<◌, ◌⊎◌, ⊎_elim, inl, inr, List, [], ◌∷◌, ◌++◌, refl, sym, ap, ◌∙◌, subst}
-use Rattle.std.proofs.Common.{append_assoc, Bool, true, false, Option, Some, None}
+use Rattle.std.proofs.Common.{append_assoc, get_or, Bool, true, false, Option, Some, None}
 use Rattle.std.specs.Prelude.{IfSome}
+use Rattle.std.specs.List.{All}
+use Rattle.std.proofs.lemmas.List.Elements.{All-map}
 use Rattle.nr_ids.specs.Events.{Event, name_of, unnamed}
 use Rattle.nr_ids.specs.Laws.{FindsWhatItHeard}
 use Rattle.nr_ids.specs.Marks.{SetsMark}
@@ -11,23 +13,30 @@ use Rattle.nr_idmap.specs.declared.finds.NamedWay.{NamedWay}
 use Rattle.nr_idmap.specs.IdFinds.{LooksAlone, LooksForWay}
 use Rattle.nr_idmap.specs.IdFindsEach.{key_named}
 use Rattle.nr_idmap.specs.IdHeard.{IsUnnamedSince}
-use Rattle.nr_idmap.specs.IdLoads.{LooksUpEach}
+use Rattle.nr_idmap.specs.IdLoads.{LooksUpEach, keys_named}
+use Rattle.nr_idmap.specs.IdWalks.{IsNear}
 
-pub one_more_looked : (ids keys : List ℕ) (id key : ℕ) (found : Option NamedWay) (old mid new : Token)
-    → LooksUpEach ids keys old mid → key ≡ key_named found → LooksForWay id mid new found
-    → LooksUpEach (ids ++ id ∷ []) (keys ++ key ∷ []) old new
-one_more_looked [] [] id key found old mid new looked is looks =
-    (found, is, new, subst (λ (t : Token). LooksForWay id t new found) looked looks, refl)
-one_more_looked (first ∷ ids) (at ∷ keys) id key found old mid new looked is looks =
-    (looked.0, looked.1, looked.2, looked.3, one_more_looked ids keys id key found looked.2 mid new looked.4 is looks)
-one_more_looked [] (at ∷ keys) id key found old mid new looked is looks = absurd looked
-one_more_looked (first ∷ ids) [] id key found old mid new looked is looks = absurd looked
+pub one_more_looked : (ids : List ℕ) (ways : List (Option NamedWay)) (id : ℕ) (found : Option NamedWay)
+    (old mid new : Token) → LooksUpEach ids ways old mid → LooksForWay id mid new found
+    → LooksUpEach (ids ++ id ∷ []) (ways ++ found ∷ []) old new
+one_more_looked [] [] id found old mid new looked looks =
+    (new, subst (λ (t : Token). LooksForWay id t new found) looked looks, refl)
+one_more_looked (first ∷ ids) (at ∷ ways) id found old mid new looked looks =
+    (looked.0, looked.1, one_more_looked ids ways id found looked.0 mid new looked.2 looks)
+one_more_looked [] (at ∷ ways) id found old mid new looked looks = absurd looked
+one_more_looked (first ∷ ids) [] id found old mid new looked looks = absurd looked
 
 -- a way that the map has a key for has that key
 pub key_inside : (bound : ℕ) (at : Option NamedWay) → 0 < bound → IfSome at (λ named. named.way < bound)
     → key_named at < bound
 key_inside bound None some near = some
 key_inside bound (Some at) some near = near
+
+pub keys_inside : (bound : ℕ) (ways : List (Option NamedWay)) → 0 < bound → All (IsNear bound) ways
+    → All (λ (key : ℕ). key < bound) (keys_named ways)
+keys_inside bound ways some near =
+    All-map (λ (key : ℕ). key < bound) key_named ways
+    (λ place other low. key_inside bound (get_or ways place other) some (near place other low))
 
 -- where an id's name stands
 abbrev pub way_named : Option NamedWay → Option ℕ

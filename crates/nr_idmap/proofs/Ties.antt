@@ -1,5 +1,5 @@
 -- The tie between the two tables, and the ledger, over a call on one way: the other ways keep theirs.
-use Rattle.std.proofs.Common.{◌≡◌, ◌≢◌, ℕ, zero, suc, ◌+◌, ◌<◌, ⊎_elim, Bool, true, false, ◌==◌, List, ◌∷◌, refl, sym}
+use Rattle.std.proofs.Common.{◌≡◌, ◌≢◌, ℕ, zero, suc, ◌<◌, ⊎_elim, Bool, true, false, ◌==◌, List, ◌∷◌, refl, sym}
 use Rattle.std.proofs.Common.{ap, ◌∙◌, subst, arith, ne_eqb, eq-eqb, Result, Ok, Err, Option, Some, None}
 use Rattle.std.specs.Prelude.{if◌then◌else◌}
 use Rattle.std.proofs.lemmas.Bool.{cases_eq}
@@ -19,11 +19,12 @@ use Rattle.nr_board.specs.Callers.{Caller, KnowsOwn, Table, map_seen}
 use Rattle.nr_ids.specs.declared.plan.Plan.{Plan}
 use Rattle.nr_ids.specs.Answers.{FindsWay}
 use Rattle.nr_ids.specs.Events.{Event, IsLegal, looks, name_of}
-use Rattle.nr_ids.specs.Groups.{places, ways}
+use Rattle.nr_ids.specs.Groups.{ways}
 use Rattle.nr_ids.specs.Tokens.{Opened, Token}
 use Rattle.nr_ids.specs.Tokens as ids
 use Rattle.nr_ids.proofs.Calls.{clerk_looks}
 use Rattle.nr_ids.proofs.Logs.{one_way}
+use Rattle.nr_ids.proofs.Through.{looks_in_both, looks_up_to}
 use Rattle.nr_idmap.specs.Keepers.{Agrees, IsTied, OwesElse, OwesSame, keeper_of, owed_for}
 use Rattle.nr_idmap.specs.Tags.{AreIdDeltas, IdSet, set_at, id_set_of, set_told, tag_of}
 use Rattle.nr_idmap.specs.Tidy.{KeepsTags}
@@ -192,8 +193,8 @@ retied w a w' a' c c' acts tied rested table asker grows agrees = record {
 -- a search by the clerk changes no name
 pub found_looks : (id : ℕ) (c c' : Token) (found : Option ℕ) → FindsWay id c c' found
     → (count : ℕ) × ids.Grows (looks count c.number) c c'
-found_looks id c c' (Some way) finds = (finds.0.count + 0, finds.0.grows)
-found_looks id c c' None finds = (places, finds.0)
+found_looks id c c' (Some way) finds = looks_up_to way id c c' finds.0.looks
+found_looks id c c' None finds = looks_in_both id c c' finds.0
 
 pub found_names : (w a : Caller) (id : ℕ) (c c' : Token) (found : Option ℕ) → IsTied (keeper_of w a c)
     → FindsWay id c c' found →
@@ -264,4 +265,9 @@ module _ (w a w' : Caller) (c c' : Token) (call : Call) (answer : Reply) (tied :
 pub near_of : (w a : Caller) (id way : ℕ) (c c' : Token) → IsTied (keeper_of w a c) → FindsWay id c c' (Some way)
     → way < w.table.shape.keys
 near_of w a id way c c' tied finds =
-    omega (arith, finds.1.inside, ap (λ (d : Opened). ways d.plan) finds.0.grows.directory, tied.ways_are)
+    omega (
+      arith,
+      finds.1.inside,
+      ap (λ (d : Opened). ways d.plan) (found_looks id c c' (Some way) finds).1.directory,
+      tied.ways_are,
+    )

@@ -1,5 +1,6 @@
 -- What each call of the map's writer on the id's way does to the tie and to the ledger.
 use Rattle.std.proofs.Common.{◌≡◌, ◌≢◌, ℕ, ◌+◌, ◌<◌, ⊎_elim, Bool, true, false, List, [], ◌∷◌, refl, sym, ap, ◌∙◌}
+use Rattle.std.proofs.Common.{◌++◌}
 use Rattle.std.proofs.Common.{subst, arith, eq-eqb, Result, Ok, Err, Option, Some, None}
 use Rattle.std.specs.Prelude.{if◌then◌else◌, nat_lt}
 use Rattle.nr_model.specs.declared.rows.Row.{Row}
@@ -23,7 +24,8 @@ use Rattle.nr_board.specs.declared.answers.UpdateFault.TheVariants as update
 use Rattle.nr_board.specs.Callers.{Caller, Gains, Grows, map_seen}
 use Rattle.nr_board.specs.WriterAnswers.{CancelsKey, EvictsKey, FillsKey, ReplacesKey, UpdatesKey}
 use Rattle.nr_ids.specs.Answers.{FindsWay, Unnames}
-use Rattle.nr_ids.specs.Events.{name_of, looks, unnamed}
+use Rattle.nr_ids.specs.Events.{Event, hinted, looked, name_of, looks, touched, unnamed}
+use Rattle.nr_ids.specs.Groups.{group_of_way}
 use Rattle.nr_ids.specs.Tokens.{Token}
 use Rattle.nr_ids.proofs.Calls.{clerk_names, grows_on}
 use Rattle.nr_ids.proofs.Logs.{cond_else, cond_same, one_way}
@@ -135,13 +137,18 @@ module _ (w a : Caller) (c c' : Token) (tied : IsTied (keeper_of w a c)) (id : �
         λ way. ap (λ (n : ℕ). owed_for way n (state_of (map_seen w) way)) (names way),
       )
 
+-- what the clerk does there
+abbrev unnaming : ℕ → Token → ℕ → List Event
+unnaming way clerk hints =
+    touched clerk.number (hinted (group_of_way way) hints) ∷ looked clerk.number ∷ unnamed way ∷ []
+
 -- names after a way's name was taken
 module _ (w a : Caller) (c mid new : Token) (tied : IsTied (keeper_of w a c)) (id way : ℕ)
     (finds : FindsWay id c mid (Some way))
     (unnames : Unnames way mid new) where
   taken_name : (k : ℕ) → name_of new.seen k ≡ name_of (unnamed way ∷ mid.seen) k
   taken_name k = let look = found_looks id c mid (Some way) finds in
-      clerk_names mid (unnamed way ∷ []) new k (look.1.number ∙ tied.names.1) unnames
+      clerk_names mid (unnaming way mid unnames.hints) new k (look.1.number ∙ tied.names.1) unnames.grows
 
   taken : name_of new.seen way ≡ 0
   taken = taken_name way ∙ cond_same 0 (name_of mid.seen way) way way refl
@@ -455,8 +462,9 @@ module _ (w a w' : Caller) (c mid new : Token) (tied : IsTied (keeper_of w a c))
       let go = went 2 w w' call reply.Evicted (rested_of w a c tied) gains near in
       let look = found_looks id c mid (Some way) finds in
       let s : KeyState = state_of go.mid way in (
-        retied w a w' a c new (unnamed way ∷ looks look.0 c.number) tied (go.rested tt) gains.table (refl, tied.asks.1)
-            (grows_on c mid new (looks look.0 c.number) (unnamed way ∷ []) look.1 unnames)
+        retied w a w' a c new (unnaming way mid unnames.hints ++ looks look.0 c.number) tied (go.rested tt) gains.table
+            (refl, tied.asks.1)
+            (grows_on c mid new (looks look.0 c.number) (unnaming way mid unnames.hints) look.1 unnames.grows)
             (went_agrees w a w' c new call reply.Evicted tied go gone
             (untied call reply.Evicted go (subst (Agrees 0) (sym go.at_key) (evict_agrees s)))),
         went_owes w a w' c new call reply.Evicted tied go gone a
@@ -474,8 +482,9 @@ module _ (w a w' : Caller) (c mid new : Token) (tied : IsTied (keeper_of w a c))
       let go = went 2 w w' call reply.Cancelled (rested_of w a c tied) gains near in
       let look = found_looks id c mid (Some way) finds in
       let s : KeyState = state_of go.mid way in (
-        retied w a w' a c new (unnamed way ∷ looks look.0 c.number) tied (go.rested tt) gains.table (refl, tied.asks.1)
-            (grows_on c mid new (looks look.0 c.number) (unnamed way ∷ []) look.1 unnames)
+        retied w a w' a c new (unnaming way mid unnames.hints ++ looks look.0 c.number) tied (go.rested tt) gains.table
+            (refl, tied.asks.1)
+            (grows_on c mid new (looks look.0 c.number) (unnaming way mid unnames.hints) look.1 unnames.grows)
             (went_agrees w a w' c new call reply.Cancelled tied go gone
             (untied call reply.Cancelled go (subst (Agrees 0) (sym go.at_key) (cancel_agrees s go.replied)))),
         record {

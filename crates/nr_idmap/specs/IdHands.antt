@@ -1,5 +1,5 @@
 -- A reader by id that holds nothing, or the set of an id.
-use Rattle.std.specs.Prelude.{◌≡◌, ◌≢◌, ℕ, ◌<◌, ◌⊎◌, Bool, true, false, List, [], ◌∷◌, Option, Some, None}
+use Rattle.std.specs.Prelude.{◌≡◌, ◌≢◌, ℕ, zero, suc, ◌<◌, ◌⊎◌, Bool, true, false, List, [], ◌∷◌, Option, Some, None}
 use Rattle.nr_model.specs.declared.rows.Row.{Row}
 use Rattle.nr_model.specs.Rows.{IsRowSet}
 use Rattle.nr_board.specs.declared.answers.Found.{Found}
@@ -34,26 +34,36 @@ abbrev pub id_held : Option Holding → Option ℕ
 id_held None = None
 id_held (Some held) = Some held.id
 
--- the rows of the id whose set is held; none where nothing is
+-- the rows of the id whose set is held; none where nothing is, or a set for no id, of which the number 0 tells
 abbrev pub rows_of_id : Option ℕ → List Row → List Row
 rows_of_id None set = []
-rows_of_id (Some id) set = rows_behind set
+rows_of_id (Some zero) set = []
+rows_of_id (Some (suc id)) set = rows_behind set
 
 abbrev pub rows_in_hand : IdHanded → List Row
 rows_in_hand hand = rows_of_id hand.id hand.hand.rows
 
--- a set of that way with the id's tag is held, and the pile has it
-pub record HoldsTagged (held : Holding) (hand : Handed) (pile : List Row) : Type 0 where
+-- the set has the id's tag, and the pile has the set
+pub record HasTagged (id : ℕ) (set pile : List Row) : Type 0 where
   pub rows : List Row
+  pub tagged : set ≡ tag_of id ∷ rows
+  pub pile_is : pile ≡ set
+
+-- a set of that way is held, and where that is for an id it has the id's tag
+pub record HoldsWay (held : Holding) (hand : Handed) (pile : List Row) : Type 0 where
   pub key_is : hand.key ≡ Some held.way
   pub near : held.way < hand.reader.table.shape.keys
-  pub tagged : hand.rows ≡ tag_of held.id ∷ rows
-  pub pile_is : pile ≡ hand.rows
   pub row_set : IsRowSet 255 hand.rows
+  pub set : 0 < held.id → HasTagged held.id hand.rows pile
 
 abbrev pub IsIdHand : Handed → List Row → Option Holding → Type 0
 IsIdHand hand pile None = hand.key ≡ None
-IsIdHand hand pile (Some held) = HoldsTagged held hand pile
+IsIdHand hand pile (Some held) = HoldsWay held hand pile
+
+-- a set is held for that id
+abbrev pub IsHeldFor : ℕ → Option ℕ → Type 0
+IsHeldFor zero held = ⊥
+IsHeldFor (suc id) held = held ≡ Some (suc id)
 
 -- its tokens, as a reader has them
 abbrev pub reader_of : IdHanded → IdCaller
@@ -93,7 +103,8 @@ pub record AsksIdInVain (old new : IdHanded) : Type 0 where
 -- or the hand holds no set of the id, and makes no step
 abbrev pub AgainById : ℕ → IdHanded → IdHanded → Bool → Type 0
 AgainById id old new true = FindsIdHeld id old new
-AgainById id old new false = (old.id ≡ Some id → AsksIdInVain old new) × (old.id ≢ Some id → new ≡ old)
+AgainById id old new false =
+    (IsHeldFor id old.id → AsksIdInVain old new) × ((IsHeldFor id old.id → ⊥) → new ≡ old)
 
 -- A FIND THAT HOLDS
 -- the map's hand found the way and holds its set, or a hole, as a find that keeps what it found

@@ -1,27 +1,32 @@
--- What a hand loads ahead that holds nothing.
-use Rattle.std.specs.Prelude.{◌≡◌, ℕ, List, [], ◌∷◌, Option}
+-- Look-ups of many ids, with loads of the words that finds of them will need.
+use Rattle.std.specs.Prelude.{◌≡◌, ℕ, List, [], ◌∷◌, Option, map}
 use Rattle.nr_map.specs.LoadsAhead.{LoadsAhead}
 use Rattle.nr_ids.specs.Marks.{LoadsNames}
 use Rattle.nr_ids.specs.Tokens.{Token}
 use Rattle.nr_idmap.specs.declared.finds.NamedWay.{NamedWay}
 use Rattle.nr_idmap.specs.IdFinds.{LooksForWay}
 use Rattle.nr_idmap.specs.IdFindsEach.{key_named}
-use Rattle.nr_idmap.specs.Keepers.{IdCaller}
+use Rattle.nr_idmap.specs.IdHands.{IdHanded}
 
--- each of these ids was looked up in turn, with the mark of its way; and these are the keys of their ways
-abbrev pub LooksUpEach : List ℕ → List ℕ → Token → Token → Type 0
+-- each of these ids was looked up in turn, with the mark of its way; and these are their ways
+abbrev pub LooksUpEach : List ℕ → List (Option NamedWay) → Token → Token → Type 0
 LooksUpEach [] [] old new = new ≡ old
-LooksUpEach (id ∷ ids) (key ∷ keys) old new =
-    (found : Option NamedWay) × (key ≡ key_named found) × (next : Token) × LooksForWay id old next found
-    × LooksUpEach ids keys next new
-LooksUpEach [] (key ∷ keys) old new = ⊥
+LooksUpEach (id ∷ ids) (at ∷ ways) old new =
+    (next : Token) × LooksForWay id old next at × LooksUpEach ids ways next new
+LooksUpEach [] (at ∷ ways) old new = ⊥
 LooksUpEach (id ∷ ids) [] old new = ⊥
 
+-- the keys of ways, and 0 in place of none
+abbrev pub keys_named : List (Option NamedWay) → List ℕ
+keys_named ways = map key_named ways
+
 -- the first name of each one's group was loaded; all were looked up; and words were loaded that finds in their ways
--- need
-pub record LoadsAheadById (ids : List ℕ) (old new : IdCaller) : Type 0 where
+-- need; what is held stays held
+pub record LooksAhead (ids : List ℕ) (ways : List (Option NamedWay)) (old new : IdHanded) : Type 0 where
   pub ahead : Token
   pub loads : LoadsNames ids old.ids ahead
-  pub keys : List ℕ
-  pub looks_up : LooksUpEach ids keys ahead new.ids
-  pub caller : LoadsAhead keys old.caller new.caller
+  pub looks_up : LooksUpEach ids ways ahead new.ids
+  pub caller : LoadsAhead (keys_named ways) old.hand.reader new.hand.reader
+  pub key_is : new.hand.key ≡ old.hand.key
+  pub rows : new.hand.rows ≡ old.hand.rows
+  pub id_is : new.id ≡ old.id

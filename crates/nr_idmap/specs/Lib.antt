@@ -15,3 +15,4 @@ pub mod IdHeard
 pub mod InTurn
 pub mod IdFindsEach
 pub mod IdLoads
+pub mod IdWalks

@@ -6,8 +6,8 @@ use crate::id_map::IdMap;
 use crate::tokens::IdWriter;
 
 impl IdMap {
-    /// Whether an id's rows were found since this was asked last. It is a hint: a find that comes
-    /// meanwhile may count or not, and a hand's `again` doesn't. Takes 8 or 16 looks at names, and then 1
+    /// Whether an id's rows were found since this was asked last. A find that comes
+    /// meanwhile may count or not, and a hand's `again` doesn't. Takes the looks of a look-up, and then 1
     /// step, or 2 where the answer is yes.
     pub fn uses(&self, writer: &mut IdWriter, id: u64) -> bool
         requires own { writer.old.table ≡ self.now }

@@ -10,8 +10,8 @@ impl IdMap {
     ghost use Rattle.nr_idmap.specs.IdWrites.{EvictsId};
 
     /// Takes an id's rows, and then its way, which another id can have then. Nothing happens where the
-    /// id has no way, or its upquery is under way: that is ended by a fill or a withdrawal. Takes 8 or 16
-    /// steps of the directory, 2 of the map, and 1 of the directory; where nothing happens, 1 or none of
+    /// id has no way, or its upquery is under way: that is ended by a fill or a withdrawal. Takes the
+    /// steps of a look-up, 2 of the map, and 3 of the directory; where nothing happens, 1 or none of
     /// the map, and no more.
     pub fn evict(&self, writer: &mut IdWriter, id: u64) -> Evict
         requires own { writer.old.table ≡ self.now }

@@ -26,9 +26,9 @@ pub enum FoundId {
 
 /// The way that has an id's name, and whether that way is marked as found.
 #[derive(Clone, Copy)]
-pub(crate) struct NamedWay {
-    pub way: u32,
-    pub is_marked: bool,
+pub struct NamedWay {
+    pub(crate) way: u32,
+    pub(crate) is_marked: bool,
 }
 
 impl IdMap {
@@ -37,11 +37,11 @@ impl IdMap {
 
     /// Looks an id up, and writes its rows into the caller's room, which stays as it is unless the
     /// answer is `Rows`. Takes 2 loads of words that lie in the lines of the id's key and of its group's
-    /// marks; 8 looks at the names of the id's group, and 8 more at those of its second group unless one of
-    /// them was the id's; where a way had the name, 1 look at the way's mark, and the steps of the map's
-    /// find, of one row more: by the counts 1 where the way is a hole, 2n + 5 for n rows, and 5 where it has
-    /// another id's, of which only the first row is read; and 1 to mark a way whose rows were found, unless
-    /// it is marked already.
+    /// marks; a look-up, which looks at the hints of the id's group and at the name of each way that has the
+    /// id's hint, up to the id's, and unless one of them was, so too in its second group; where a way had the
+    /// name, 1 look at the way's mark, and the steps of the map's find, of one row more: by the counts 1 where
+    /// the way is a hole, 2n + 5 for n rows, and 5 where it has another id's, of which only the first row is
+    /// read; and 1 to mark a way whose rows were found, unless it is marked already.
     pub fn find<R: RowRoom>(&self, reader: &mut IdReader, id: u64, rows: &mut R) -> FoundId
         requires own { id_table_of reader.old ≡ self.now }
         requires id { 0 < id }
@@ -125,8 +125,8 @@ impl IdMap {
 
     /// Requests an id that has no way. The first such request of the id's group is `Granted` a claim,
     /// whose id must go to the writer, which admits it; until then the others are `Busy` or `Outrun`.
-    /// `Named`: the id has a way. Takes 18 steps where the claim is granted or another was within the
-    /// call; where a way has the name 9, or 17 where that is of the id's second group; else 1.
+    /// `Named`: the id has a way. Takes 1 step, where no claim is open those of a look-up, and
+    /// 1 more where the claim is granted or another was within the call.
     pub fn request(&self, reader: &mut IdReader, id: u64) -> Requested
         requires own { id_table_of reader.old ≡ self.now }
         requires id { 0 < id }

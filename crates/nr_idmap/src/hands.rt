@@ -26,11 +26,12 @@ pub struct IdHand {
     pub(crate) held: Option<Holding>,
 }
 
-// The id whose set is held, and its way.
+// The id whose set is held, and its way. The number 0 tells that the set is held for no id, by a hand that
+// goes on from it to another; the pile hasn't that.
 #[derive(Clone, Copy)]
 pub(crate) struct Holding {
-    id: u64,
-    way: u32,
+    pub id: u64,
+    pub way: u32,
 }
 
 impl Model for IdHand {
@@ -76,7 +77,7 @@ impl IdHand {
         }
     }
 
-    /// The id whose set is held.
+    /// The id whose set is held, 0 where that is for no id.
     pub fn id(&self) -> Option<u64>
         ensures { result ≡ self.now.id }
     {
@@ -92,8 +93,8 @@ impl IdHand {
         ensures row_set { IsRowSet MAX_ROWS result.now }
     {
         match self.held {
-            Some(_) => behind(self.pile.as_slice()),
-            None => &[],
+            Some(held) if held.id > 0 => behind(self.pile.as_slice()),
+            _ => &[],
         }
     }
 
@@ -124,14 +125,14 @@ impl IdHand {
         ensures again { AgainById id self.old self.new result }
     {
         match self.held {
-            Some(held) if held.id == id => self.hand.again(&map.map, held.way),
+            Some(held) if id > 0 && held.id == id => self.hand.again(&map.map, held.way),
             _ => false,
         }
     }
 
     /// Finds an id and holds its set, whose rows `rows` shows; nothing is held where the answer isn't
     /// `Rows`. Where it holds the id's set already it finds it again, by `again`, and then looks at the
-    /// way's mark. Else it takes the 2 loads and the looks of `find` at ways' names and at the mark, and the
+    /// way's mark. Else it takes the 2 loads, the look-up of `find` and its look at the mark, and the
     /// steps of the map's `find_kept` with a row more; 1 more where the set that was found is let go, since
     /// it is another id's. At `Rows` it marks the way in 1 step, unless it is marked already.
     pub fn pin(&mut self, map: &IdMap, id: u64) -> FoundId

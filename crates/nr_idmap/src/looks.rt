@@ -23,7 +23,7 @@ impl IdMap {
     ghost use Rattle.nr_idmap.specs.IdLooks.{LooksById};
 
     /// The writer's own find: writes the id's rows into the caller's room, which stays as it is unless
-    /// the answer is `Rows`. Takes 8 or 16 steps of the directory; then 1 where the id's way is a hole,
+    /// the answer is `Rows`. Takes the steps of a look-up; then 1 where the id's way is a hole,
     /// and 2n + 4 for n rows.
     pub fn look<R: RowRoom>(&self, writer: &mut IdWriter, id: u64, rows: &mut R) -> Looked
         requires own { writer.old.table ≡ self.now }

@@ -120,8 +120,9 @@ impl IdMap {
 
     /// Answers the open claim of the id's group: the id gets a way, which the writer's own reader asks
     /// for, and its upquery is open. Refused where no claim is open, where a way has the id's name, and
-    /// where each way of its two groups has a name. Takes 19 steps of the directory, 2 of the map's writer,
-    /// and 3 of its reader; refused, 1 to 17 of the directory.
+    /// where each way of its two groups has a name. Takes 1 step of the directory, where a claim
+    /// is open those of a look-up, where no way has the name 2 more, and unless the groups are full 4 more,
+    /// 2 of the map's writer, and 3 of its reader.
     pub fn admit(&self, writer: &mut IdWriter, id: u64) -> Result<Upquery, Refused>
         requires own { writer.old.table ≡ self.now }
         requires id { 0 < id }
@@ -135,7 +136,7 @@ impl IdMap {
     }
 
     /// Answers an upquery with at most as many of the id's rows as it may have. Refused where the
-    /// upquery isn't open, and where there is no slot. Takes 8 or 16 steps of the directory, and those of
+    /// upquery isn't open, and where there is no slot. Takes the steps of a look-up, and those of
     /// the map's `fill` for a row more.
     pub fn fill(
         &self,
@@ -171,7 +172,7 @@ impl IdMap {
     }
 
     /// Takes an upquery back: its way has the next ticket number and no name, and its answer comes too
-    /// late. Takes 8 or 16 steps of the directory, 2 of the map, and 1 of the directory.
+    /// late. Takes the steps of a look-up, 2 of the map, and 3 of the directory.
     pub fn withdraw(&self, writer: &mut IdWriter, upquery: Upquery) -> Withdrawn
         requires own { writer.old.table ≡ self.now }
         requires upquery { upquery.table ≡ self.now }

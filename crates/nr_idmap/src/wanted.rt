@@ -14,8 +14,8 @@ use crate::tokens::IdReader;
 use nr_map::Reader;
 use nr_model::RowRoom;
 
-/// How many ids are found at a time.
-pub(crate) const BATCH: usize = 16;
+/// How many ids are looked up at a time.
+pub const BATCH: usize = 16;
 
 /// An id to be found, the room for its rows, and what its last find was answered.
 #[derive(Drop)]

@@ -24,7 +24,7 @@ impl IdMap {
     ghost use Rattle.nr_idmap.specs.IdWrites.{CallsWay};
 
     /// Applies one to sixty-four signed rows to an id's rows, whole or not at all. Refused where the id
-    /// has no way, and as the map's `update`. Takes 8 or 16 steps of the directory, and those of the
+    /// has no way, and as the map's `update`. Takes the steps of a look-up, and those of the
     /// map's `update` with a row more.
     pub fn update(
         &self,
@@ -51,7 +51,7 @@ impl IdMap {
     }
 
     /// Puts rows, at most as many as an id may have, in place of all that an id has. Refused where the
-    /// id has no way, and as the map's `replace`. Takes 8 or 16 steps of the directory, and those of the
+    /// id has no way, and as the map's `replace`. Takes the steps of a look-up, and those of the
     /// map's `replace` for a row more.
     pub fn replace(
         &self,

@@ -1,5 +1,5 @@
 -- Loads of names ahead, one by one.
-use Rattle.std.proofs.Common.{◌≡◌, ℕ, ◌+◌, ◌*◌, List, [], ◌∷◌, ◌++◌, refl, ap, subst, sym}
+use Rattle.std.proofs.Common.{◌≡◌, ℕ, ◌*◌, List, [], ◌∷◌, ◌++◌, refl, ap, subst, sym}
 use Rattle.nr_ids.specs.declared.plan.Plan.{Plan}
 use Rattle.nr_ids.specs.Events.{Event, loaded, touched}
 use Rattle.nr_ids.specs.Groups.{group_of}

@@ -1,26 +1,19 @@
 -- Calls of a few steps: what each step gains adds up, and where a scan finds no name the id had no way at some moment.
 use Rattle.std.proofs.Common.{◌≡◌, ◌≢◌, ℕ, zero, suc, ◌+◌, ◌-◌, ◌*◌, ◌/◌, ◌%◌, ◌<◌, ◌≤◌, ◌⊎◌, ⊎_elim, inl, inr, List}
-use Rattle.std.proofs.Common.{[], ◌∷◌, ◌++◌, refl, sym, ap, ◌∙◌, subst, arith, append_assoc, length-append, Option}
-use Rattle.std.proofs.Common.{Some, None, Ok, Err, Bool, true, false}
-use Rattle.std.specs.Prelude.{IfNone, IfSome}
-use Rattle.std.specs.Option.{ok_or}
+use Rattle.std.proofs.Common.{[], ◌∷◌, ◌++◌, refl, sym, ap, ◌∙◌, subst, arith, append_assoc, length-append}
+use Rattle.std.proofs.Common.{Bool, true, false}
 use mathlib.Core.Logic.{dite}
 use native.Mathlib.Decide.{dec_le, ℕ_discrete}
 use Rattle.nr_ids.specs.declared.plan.Plan.{Plan}
-use Rattle.nr_ids.specs.Groups.{IsWayOf, group_at, group_of, group_of_way, places, second_of, way_at, ways}
+use Rattle.nr_ids.specs.Groups.{IsWayOf, group_at, group_of, group_of_way, places, second_of, way_at, way_in, ways}
 use Rattle.nr_ids.specs.Events.{Event, named, unnamed, cleared, claimed, looked, touched, own, looks, name_of, turn_of}
-use Rattle.nr_ids.specs.Events.{turned, mark_bit, May, IsLegal, IsAbsent, IsOpen, IsClosed, MayName}
+use Rattle.nr_ids.specs.Events.{turned, mark_bit, May, IsLegal, IsAbsent, IsOpen, IsClosed}
 use Rattle.nr_ids.specs.Scans.{Passed}
-use Rattle.nr_ids.specs.declared.admissions.Refused.{Refused}
-use Rattle.nr_ids.specs.declared.admissions.Refused.TheVariants as refused
-use Rattle.nr_ids.specs.declared.admissions.Room.{Room}
-use Rattle.nr_ids.specs.Looking.{WasAbsent, FindsAt, FindsIn, HadName, HasRoom, IsFoundBy, LackedName, LooksForRoom}
-use Rattle.nr_ids.specs.Looking.{MeetsAt, Missed, PassedByClerk, PassesGroup, Rooms, Scans, ScansGroup, SeesRoom}
-use Rattle.nr_ids.specs.Looking.{group_for, way_for, way_in}
-use Rattle.nr_ids.specs.Answers.{WasOpen, Admits}
+use Rattle.nr_ids.specs.Looking.{WasAbsent, HadName, LackedName, PassedByClerk, group_for, way_for}
+use Rattle.nr_ids.specs.Answers.{WasOpen}
 use Rattle.nr_ids.specs.Marks.{ChoosesWay, LoadsMarks, TakesMark, TurnsMarks, load_of_marks}
-use Rattle.nr_ids.specs.Tokens.{Opened, Token, Grows, Newest, WinsClaim, Within}
-use Rattle.nr_ids.proofs.Logs.{ClearsNothing, cond_same, cond_else, exact_names, looks_clear_nothing, looks_names}
+use Rattle.nr_ids.specs.Tokens.{Opened, Token, Grows, Newest, Within}
+use Rattle.nr_ids.proofs.Logs.{ClearsNothing, cond_same, cond_else, exact_names, looks_names}
 use Rattle.nr_ids.proofs.Logs.{named_inside, own_append, quiet_turn, was_odd}
 
 pub grows_none : (old : Token) → IsLegal old.directory.plan old.seen → Grows [] old old
@@ -65,19 +58,6 @@ looks_on old mid new count a b = let more : suc count ≡ count + 1 = omega arit
     subst (λ (k : ℕ). Grows (looks k old.number) old new) more
     (subst (λ (by : ℕ). Grows (looked by ∷ looks count old.number) old new) a.number
     (grows_on old mid new (looks count old.number) (looked mid.number ∷ []) a b))
-
-looks_more : (count by : ℕ) → looks count by ++ looked by ∷ [] ≡ looks (suc count) by
-looks_more zero by = refl
-looks_more (suc count) by = ap (λ (l : List Event). looked by ∷ l) (looks_more count by)
-
--- a look, and then so many
-pub then_looks : (old mid new : Token) (count : ℕ) → Grows (looked old.number ∷ []) old mid
-    → Grows (looks count mid.number) mid new → Grows (looks (count + 1) old.number) old new
-then_looks old mid new count a b = let more : suc count ≡ count + 1 = omega arith in
-    subst (λ (k : ℕ). Grows (looks k old.number) old new) more
-    (subst (λ (l : List Event). Grows l old new)
-    (ap (λ (by : ℕ). looks count by ++ looked old.number ∷ []) a.number ∙ looks_more count old.number)
-    (grows_on old mid new (looked old.number ∷ []) (looks count mid.number) a b))
 
 cons_not_nil : (a : List Event) (x : Event) (b : List Event) → a ++ x ∷ b ≢ []
 cons_not_nil [] x b e = absurd (cc (e))
@@ -175,7 +155,7 @@ ends_none [] b e = (refl, e)
 ends_none (x ∷ a) b e = absurd (cc (e))
 
 -- a moment of a call's later steps is one of the call
-within_since : (old mid new : Token) (acts moment : List Event) → Grows acts old mid → Within mid new moment
+pub within_since : (old mid new : Token) (acts moment : List Event) → Grows acts old mid → Within mid new moment
     → Within old new moment
 within_since old mid new acts moment grows within = record {
   since = within.since ++ grows.rest;
@@ -190,15 +170,9 @@ within_since old mid new acts moment grows within = record {
   until = within.until;
 }
 
--- the end of a call that has made a step
-within_last : (count : ℕ) (old new : Token) → Grows (looks (count + 1) old.number) old new → Within old new new.seen
-within_last count old new grows =
-    let more : count + 1 ≡ suc count = omega arith in
-    within_between old new new _ (looks count old.number) []
-    [] new.seen (subst (λ (k : ℕ). Grows (looks k old.number) old new) more grows) refl refl
-
 -- where each of an id's ways hadn't its name, there was a moment at which the id had none
-absent_within : (id : ℕ) → 0 < id → (old new : Token) → IsLegal old.directory.plan new.seen → Within old new new.seen
+pub absent_within : (id : ℕ) → 0 < id → (old new : Token) → IsLegal old.directory.plan new.seen
+    → Within old new new.seen
     → ((place : ℕ) → place < places → LackedName (way_for old id place) id old new) → WasAbsent id old new
 absent_within id real old new legal last lacked = let plan = old.directory.plan in ⊎_elim
     (λ (t : (i : ℕ) × (i < places) × (name_of new.seen (way_at plan id i) ≡ id)).
@@ -259,16 +233,6 @@ clerk_on way name old mid new count same look other passed clerk at below = dite
     (sym (clerk_looks mid 1 mid.number new (way at) (same ∙ clerk) look) ∙ has))
 
 -- what a name was, or was not, at a moment of a call it was at a moment of a longer one
-pub had_later : (way id : ℕ) (old mid new : Token) (count : ℕ) → mid.number ≡ old.number
-    → Grows (looks count mid.number) mid new → HadName way id old mid → HadName way id old new
-had_later way id old mid new count same look name = record {
-  inside = name.inside;
-  moment = name.moment;
-  within = within_on old mid new name.moment look.rest name.within look.seen;
-  had = name.had;
-  exact = λ clerk. clerk_looks mid count mid.number new way (same ∙ clerk) look ∙ name.exact clerk;
-}
-
 pub had_since : (way id : ℕ) (old mid new : Token) (acts : List Event) → Grows acts old mid → HadName way id mid new
     → HadName way id old new
 had_since way id old mid new acts grows name = record {
@@ -295,27 +259,6 @@ lacked_since way id old mid new acts grows name = record {
   other = name.other;
 }
 
--- a scan of a group goes on by one look
-module _ (id way : ℕ) (old mid new : Token) (place : ℕ) (so_far : Grows (looks place old.number) old mid)
-    (look : Grows (looked mid.number ∷ []) mid new) where
-  last : Within old new new.seen
-  last = within_last place old new (looks_on old mid new place so_far look)
-
-  pub had_here : way < ways old.directory.plan → name_of new.seen way ≡ id → HadName way id old new
-  had_here inside has = record { inside = inside; moment = new.seen; within = last; had = has; exact = λ _. has }
-
-  pub lacked_here : name_of new.seen way ≢ id → LackedName way id old new
-  lacked_here other = record { moment = new.seen; within = last; other = other }
-
-pub lacked_on : (way : ℕ → ℕ) (id : ℕ) (old mid new : Token) (place : ℕ) → Grows (looks place old.number) old mid
-    → Grows (looked mid.number ∷ []) mid new → name_of new.seen (way place) ≢ id
-    → ((at : ℕ) → at < place → LackedName (way at) id old mid)
-    → (at : ℕ) → at < place + 1 → LackedName (way at) id old new
-lacked_on way id old mid new place so_far look other lacked at below = dite (ℕ_discrete at place)
-    (λ (e : at ≡ place). subst (λ (k : ℕ). LackedName (way k) id old new) (sym e)
-    (lacked_here id (way place) old mid new place so_far look other))
-    (λ ne. lacked_later (way at) id old mid new look.rest look.seen (lacked at (omega arith)))
-
 -- a name that a scan lacked was passed
 pub passed_by : (way id : ℕ) (old new : Token) → LackedName way id old new → Passed old.seen new.seen way id
 passed_by way id old new lack = record {
@@ -332,9 +275,6 @@ pub group_is : (id of : ℕ) (with : Plan) (now : Opened) (old : Token) → old.
     → with ≡ now.plan → of ≡ group_for old id
 group_is id of with now old own is with_is =
     is ∙ ap (λ (p : Plan). group_of p id) (with_is ∙ ap (λ (d : Opened). d.plan) (sym own))
-
-pub place_is : (of place : ℕ) → place < 8 → (8 * of + place) % 8 ≡ place
-place_is of place low = omega arith
 
 pub way_inside : (of groups place : ℕ) → of < groups → place < 8 → 8 * of + place < 8 * groups
 way_inside of groups place low near = omega arith
@@ -367,7 +307,7 @@ module _ (plan : Plan) (id : ℕ) where
       (place, low, way_at_second place high low ∙ omega arith)
 
 -- what holds of the ways of both groups holds at each of the id's places
-each_place : (id first second : ℕ) (old : Token) (P : ℕ → Type 0) → first ≡ group_for old id
+pub each_place : (id first second : ℕ) (old : Token) (P : ℕ → Type 0) → first ≡ group_for old id
     → second ≡ second_of old.directory.plan id → ((at : ℕ) → at < 8 → P (way_in first at))
     → ((at : ℕ) → at < 8 → P (way_in second at)) → (place : ℕ) → place < places → P (way_for old id place)
 each_place id first second old P first_is second_is in_first in_second place near =
@@ -381,94 +321,8 @@ each_place id first second old P first_is second_is in_first in_second place nea
     subst P (ap (λ (g : ℕ). 8 * g + place) first_is ∙ sym (way_at_first plan id place before))
     (in_first place before))
 
--- an id is admitted: a look at the turn, one at each place, a name and a clearing
-module _ (id way : ℕ) (real : 0 < id) (old first second third last : Token) (clerk : old.number ≡ 0)
-    (turn : Grows (looked old.number ∷ []) old first) (room : HasRoom id way first second) where
-  of_id : group_for first id ≡ group_for old id
-  of_id = ap (λ (d : Opened). group_of d.plan id) turn.directory
-
-  both : Grows (looks (places + 1) old.number) old second
-  both = then_looks old first second places turn room.grows
-
-  pub admission : Grows (named way id ∷ []) second third → Grows (cleared (group_for old id) ∷ []) third last
-      → Admits id old last (Ok way)
-  admission names clears =
-      let named_so = grows_on old second third (looks (places + 1) old.number) (named way id ∷ []) both names in
-      let whole
-      = grows_on old third last (named way id ∷ looks (places + 1) old.number) (cleared (group_for old id) ∷ [])
-      named_so clears in
-      let has : name_of last.seen way ≡ id
-      = clerk_names old (cleared (group_for old id) ∷ named way id ∷ looks (places + 1) old.number) last way clerk
-      whole
-      ∙ cond_same id (name_of (looks (places + 1) old.number ++ old.seen) way) way way refl in (
-        whole,
-        sym (clerk_looks old (places + 1) old.number second way clerk both) ∙ room.free,
-        record {
-          inside = subst (λ (d : Opened). way < ways d.plan) (sym whole.directory)
-              (named_inside old.directory.plan last.seen way id whole.legal real has).0;
-          has = has;
-        },
-      )
-
-  module _ (odd : IsOpen first.directory.plan first.seen (group_for first id)) where
-    known : turn_of first.directory.plan second.seen (group_for first id)
-        ≡ turn_of first.directory.plan first.seen (group_for first id)
-    known =
-        clerk_turn first (looks places first.number) second (group_for first id) (turn.number ∙ clerk) room.grows
-        (looks_clear_nothing places first.number) odd
-
-    pub may_admit : MayName first.directory.plan second.seen way id
-    may_admit = record {
-      inside = room.inside;
-      real = real;
-      place = room.place;
-      free = room.free;
-      open_claim = ap (λ (k : ℕ). k % 2) known ∙ odd;
-      absent = room.absent;
-    }
-
-    pub still_open : Grows (named way id ∷ []) second third
-        → turn_of first.directory.plan third.seen (group_for first id)
-        ≡ turn_of first.directory.plan first.seen (group_for first id)
-    still_open names =
-        clerk_turn first (named way id ∷ looks places first.number) third (group_for first id) (turn.number ∙ clerk)
-        (grows_on first second third (looks places first.number) (named way id ∷ []) room.grows names)
-        (looks_clear_nothing places first.number) odd
-
--- a look at the turn, and then a scan that finds the name
-pub then_found : (id way : ℕ) (old first second : Token) → Grows (looked old.number ∷ []) old first
-    → FindsAt id 0 first second way → FindsAt id 1 old second way
-then_found id way old first second turn scan = record {
-  count = scan.count;
-  of = subst (λ (d : Opened). IsFoundBy d.plan id way scan.count) turn.directory scan.of;
-  grows =
-      subst (λ (k : ℕ). Grows (looks k old.number) old second) (omega arith)
-      (then_looks old first second (scan.count + 0) turn scan.grows);
-  named = had_since way id old first second (looked old.number ∷ []) turn scan.named;
-}
-
--- or a search for room that meets it
-then_met : (id way : ℕ) (old first second : Token) → Grows (looked old.number ∷ []) old first
-    → MeetsAt id 1 first second way → MeetsAt id 2 old second way
-then_met id way old first second turn scan = let more : scan.place + 1 + 1 ≡ scan.place + 2 = omega arith in record {
-  place = scan.place;
-  inside = scan.inside;
-  way_is = scan.way_is ∙ ap (λ (d : Opened). way_at d.plan id scan.place) turn.directory;
-  grows =
-      subst (λ (k : ℕ). Grows (looks k old.number) old second) more
-      (then_looks old first second (scan.place + 1) turn scan.grows);
-  named = scan.named;
-}
-
--- an id isn't admitted where there is no room
-pub no_admission : (id : ℕ) (old first second : Token) (why : Refused) → Grows (looked old.number ∷ []) old first
-    → Rooms id first second (Err why) → Admits id old second (Err why)
-no_admission id old first second refused.NoClaim turn none = absurd none
-no_admission id old first second (refused.Named way) turn has = then_met id way old first second turn has
-no_admission id old first second refused.Full turn full = (then_looks old first second places turn full.0, full.1)
-
--- the clerk sees a group, and then the other
-looks_both : (count more by : ℕ) → looks more by ++ looks count by ≡ looks (count + more) by
+-- some looks, and then others
+pub looks_both : (count more by : ℕ) → looks more by ++ looks count by ≡ looks (count + more) by
 looks_both count zero by = ap (λ (k : ℕ). looks k by) (omega arith)
 looks_both count (suc more) by =
     let k : suc (count + more) ≡ count + suc more = omega arith in
@@ -482,135 +336,10 @@ looks_after old mid new count more a b =
     (grows_on old mid new (looks count old.number) (looks more mid.number) a b)
 
 -- a name that the clerk didn't see there isn't there after other looks
-still_passed : (way : ℕ → ℕ) (name : ℕ) (old mid new : Token) (more : ℕ) → old.number ≡ 0 → mid.number ≡ 0
+pub still_passed : (way : ℕ → ℕ) (name : ℕ) (old mid new : Token) (more : ℕ) → old.number ≡ 0 → mid.number ≡ 0
     → Grows (looks more mid.number) mid new → PassedByClerk way name old 8 mid → PassedByClerk way name old 8 new
 still_passed way name old mid new more clerk same b passed _ at below has =
     passed clerk at below (sym (clerk_looks mid more mid.number new (way at) same b) ∙ has)
-
--- a scan found the name in the id's group
-pub found_first : (id group way : ℕ) (old new : Token) → group ≡ group_for old id → FindsIn id group old new way
-    → FindsAt id 0 old new way
-found_first id group way old new is found =
-    record { count = 8; of = inl (found.of ∙ is, refl); grows = found.grows; named = found.named }
-
-module _ (id first second : ℕ) (old mid new : Token) (second_is : second ≡ second_of old.directory.plan id)
-    (a : PassesGroup id first old mid) where
-  -- or in its second group
-  found_second : (way : ℕ) → FindsIn id second mid new way → FindsAt id 0 old new way
-  found_second way found = record {
-    count = 16;
-    of = inr (found.of ∙ second_is, refl);
-    grows = looks_after old mid new 8 8 a.grows found.grows;
-    named = had_since way id old mid new (looks 8 old.number) a.grows found.named;
-  }
-
-  -- or in neither
-  missed_both : 0 < id → first ≡ group_for old id → PassesGroup id second mid new → Missed id old new
-  missed_both real first_is b =
-      let grows : Grows (looks places old.number) old new = looks_after old mid new 8 8 a.grows b.grows in
-      let lacked
-      = each_place id first second old (λ way. LackedName way id old new) first_is second_is
-      (λ at low. lacked_later (way_in first at) id old mid new b.grows.rest b.grows.seen (a.lacked at low))
-      (λ at low. lacked_since (way_in second at) id old mid new (looks 8 old.number) a.grows (b.lacked at low)) in
-      record {
-        grows = grows;
-        absent = absent_within id real old new grows.legal (within_last 15 old new grows) lacked;
-        passed = λ place near. passed_by (way_for old id place) id old new (lacked place near);
-        exact = λ clerk. none_has old.directory.plan id real new.seen grows.legal
-            (each_place id first second old (λ way. name_of new.seen way ≢ id) first_is second_is
-            (still_passed (way_in first) id old mid new 8 clerk (a.grows.number ∙ clerk) b.grows a.exact clerk)
-            (b.exact (a.grows.number ∙ clerk)));
-      }
-
-  pub scanned_both : 0 < id → first ≡ group_for old id → (found : Option ℕ) → ScansGroup id second mid new found
-      → Scans id old new found
-  scanned_both real first_is (Some way) b = found_second way b
-  scanned_both real first_is None b = missed_both real first_is b
-
-module _ (id first second : ℕ) (old mid new : Token) where
-  -- the name was in the first group
-  pub refused_first : first ≡ group_for old id → (why : Refused) → LooksForRoom id first old mid (Err why)
-      → Rooms id old mid (Err why)
-  refused_first is refused.NoClaim none = absurd none
-  refused_first is refused.Full none = absurd none
-  refused_first is (refused.Named way) h = let in_group = h.0 in record {
-    place = way % 8;
-    inside = omega arith;
-    way_is =
-        omega (arith, in_group) ∙ ap (λ (g : ℕ). 8 * g + way % 8) is
-        ∙ sym (way_at_first old.directory.plan id (way % 8) (omega arith));
-    grows = h.1;
-    named = h.2;
-  }
-
-  -- or in the second
-  pub refused_second : second ≡ second_of old.directory.plan id → (here : Room) → SeesRoom id first old mid here
-      → (why : Refused) → LooksForRoom id second mid new (Err why) → Rooms id old new (Err why)
-  refused_second is here a refused.NoClaim none = absurd none
-  refused_second is here a refused.Full none = absurd none
-  refused_second is here a (refused.Named way) h = let in_group = h.0 in let place : ℕ = 8 + way % 8 in record {
-    place = place;
-    inside = omega arith;
-    way_is =
-        omega (arith, in_group) ∙ ap (λ (g : ℕ). 8 * g + (place - 8)) is
-        ∙ sym (way_at_second old.directory.plan id place (omega arith) (omega arith));
-    grows =
-        subst (λ (k : ℕ). Grows (looks k old.number) old new) (omega arith)
-        (looks_after old mid new 8 (way % 8 + 1) a.grows h.1);
-    named = h.2;
-  }
-
-module _ (id first second : ℕ) (real : 0 < id) (old mid new : Token) (clerk : old.number ≡ 0)
-    (first_is : first ≡ group_for old id) (second_is : second ≡ second_of old.directory.plan id)
-    (low : (first < old.directory.plan.groups) × (second < old.directory.plan.groups)) where
-  abbrev of : Plan
-  of = old.directory.plan
-
-  module _ (here there : Room) (a : SeesRoom id first old mid here) (b : SeesRoom id second mid new there) where
-    both_grow : Grows (looks places old.number) old new
-    both_grow = looks_after old mid new 8 8 a.grows b.grows
-
-    mid_clerk : mid.number ≡ 0
-    mid_clerk = a.grows.number ∙ clerk
-
-    -- what was passed in both groups was passed at each place
-    passed_both : (name : ℕ) → PassedByClerk (way_in first) name old 8 mid
-        → PassedByClerk (way_in second) name mid 8 new → (place : ℕ) → place < places
-        → name_of new.seen (way_for old id place) ≢ name
-    passed_both name in_first in_second = each_place id first second old (λ way. name_of new.seen way ≢ name)
-        first_is second_is
-        (still_passed (way_in first) name old mid new 8 clerk mid_clerk b.grows in_first clerk) (in_second mid_clerk)
-
-    no_way : IsAbsent new.seen id
-    no_way = none_has of id real new.seen both_grow.legal (passed_both id a.passed b.passed)
-
-    room_at : (way : ℕ) → IsWayOf of id way → way < ways of → name_of new.seen way ≡ 0 → HasRoom id way old new
-    room_at way place inside free =
-        record { grows = both_grow; inside = inside; place = place; free = free; absent = no_way }
-
-    some_of : (r : Option ℕ) (way : ℕ) (P : ℕ → Type 0) → r ≡ Some way → IfSome r P → P way
-    some_of r way P is h = subst (λ (o : Option ℕ). IfSome o P) is h
-
-    none_of : (r : Option ℕ) (P : Type 0) → r ≡ None → IfNone r P → P
-    none_of r P is h = subst (λ (o : Option ℕ). IfNone o P) is h
-
-    -- one of the rooms that were found, or none was
-    pub room_found : (found : Option ℕ) → IfSome found (λ way. (here.way ≡ Some way) ⊎ (there.way ≡ Some way))
-        → (found ≡ None → (here.way ≡ None) × (there.way ≡ None)) → Rooms id old new (ok_or found refused.Full)
-    room_found (Some way) some none = ⊎_elim
-        (λ (is : here.way ≡ Some way). let h = some_of here.way way _ is a.free in
-        room_at way (at_first of id way (h.0 ∙ first_is)) (let e = h.0 in let l = low.0 in omega arith)
-        (clerk_looks mid 8 mid.number new way mid_clerk b.grows ∙ h.1))
-        (λ (is : there.way ≡ Some way). let h = some_of there.way way _ is b.free in
-        room_at way (at_second of id way (h.0 ∙ second_is)) (let e = h.0 in let l = low.1 in omega arith) h.1) some
-    room_found None some none = let both = none refl in (
-      both_grow,
-      λ place near has.
-          let same : way_for new id place ≡ way_for old id place
-          = ap (λ (d : Opened). way_at d.plan id place) both_grow.directory in
-          passed_both 0 (none_of here.way _ both.0 a.full) (none_of there.way _ both.1 b.full) place near
-          (ap (name_of new.seen) (sym same) ∙ has),
-    )
 
 -- the turn that a call found
 module _ (now : Opened) (id of found : ℕ) (first : Token) (own : first.directory ≡ now)
@@ -622,47 +351,6 @@ module _ (now : Opened) (id of found : ℕ) (first : Token) (own : first.directo
 
   pub turn_is : turn_of first.directory.plan first.seen (group_for first id) ≡ found
   turn_is = turn_there first.seen ∙ sym value
-
-  -- and a claim that is granted, or another was
-  module _ (old second third : Token) (turn : Grows (looked old.number ∷ []) old first)
-      (scan : Grows (looks places first.number) first second) where
-    looked_all : Grows (looks (places + 1) old.number) old second
-    looked_all = then_looks old first second places turn scan
-
-    pub granted : WinsClaim id [] second third → WinsClaim id (looks (places + 1) old.number) old third
-    granted won = record {
-      grows =
-          subst (λ (by : ℕ). Grows (claimed by id ∷ looks (places + 1) old.number) old third) looked_all.number
-          (grows_on old second third (looks (places + 1) old.number) (claimed second.number id ∷ []) looked_all
-          won.grows);
-      before = won.before;
-      last = won.last ∙ ap (λ (by : ℕ). claimed by id ∷ won.before) looked_all.number;
-      absent = won.absent;
-    }
-
-    pub outrun : found % 2 ≡ 0 → Grows (looked second.number ∷ []) second third → turn_of now.plan third.seen of ≢ found
-        → Grows (looks (places + 2) old.number) old third × WasOpen id old third
-    outrun even look changed =
-        let same : group_for first id ≡ group_for old id = ap (λ (d : Opened). group_of d.plan id) turn.directory in
-        let at
-        = λ (seen : List Event). ap (λ (d : Opened). turn_of d.plan seen (group_of d.plan id))
-        (sym turn.directory) in (
-          looks_on old second third (places + 1) looked_all look,
-          was_open id old first third (look.rest ++ scan.rest) turn
-              (look.seen ∙ ap (λ (l : List Event). look.rest ++ l) scan.seen
-              ∙ sym (append_assoc look.rest scan.rest first.seen))
-              (ap (λ (k : ℕ). k % 2) (at first.seen ∙ turn_is) ∙ even)
-              (λ still. changed (sym (turn_there third.seen) ∙ sym (at third.seen) ∙ still ∙ at first.seen ∙ turn_is)),
-        )
-
--- under an option
-pub some_on : (r : Option ℕ) (P Q : ℕ → Type 0) → ((x : ℕ) → P x → Q x) → IfSome r P → IfSome r Q
-some_on None P Q f h = tt
-some_on (Some x) P Q f h = f x h
-
-pub none_on : (r : Option ℕ) (P Q : Type 0) → (P → Q) → IfNone r P → IfNone r Q
-none_on None P Q f h = f h
-none_on (Some x) P Q f h = tt
 
 -- STEPS THAT CHANGE NO NAME
 abbrev pub LeavesNames : Token → Token → Type 0

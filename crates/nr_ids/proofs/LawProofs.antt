@@ -11,6 +11,7 @@ use Rattle.nr_ids.specs.Laws.{OneClaim, OneNaming, TurnCounts, FindsWhatItHeard,
 use Rattle.nr_ids.specs.Answers.{LooksUp}
 use Rattle.nr_ids.specs.Tokens.{Token, Within}
 use Rattle.nr_ids.proofs.Logs.{cond_same, cond_else, legal_end, named_inside, one_way, turn_on}
+use Rattle.nr_ids.proofs.Through.{looks_in_both, looks_up, looks_up_to}
 
 has_on : (event first : Event) (rest : List Event) → Has event rest → Has event (first ∷ rest)
 has_on event first rest was = (first ∷ was.0, was.1, ap (λ (l : List Event). first ∷ l) was.2)
@@ -144,33 +145,28 @@ pub finds_what_it_knew : FindsWhatItKnew
 finds_what_it_knew id way old new (Some found) real knows looks =
     let plan = old.directory.plan in
     let name = looks.named in
+    let all = (looks_up_to found id old new looks.looks).1 in
     let legal : IsLegal plan name.moment
-    = subst (IsLegal plan) (sym name.within.from) (legal_then plan old new name.moment name.within looks.grows.legal) in
+    = subst (IsLegal plan) (sym name.within.from) (legal_then plan old new name.moment name.within all.legal) in
     ⊎_elim
     (λ still. inl (ap Some (one_way plan name.moment found way id legal real name.had still)))
     (λ gone. inr gone)
-    (stood plan old new name.moment name.within looks.grows.legal way id real knows.has)
+    (stood plan old new name.moment name.within all.legal way id real knows.has)
 finds_what_it_knew id way old new None real knows looks =
     let absent = looks.1 in
     ⊎_elim
     (λ still. absurd (absent.absent way still))
     (λ gone. inr gone)
-    (stood old.directory.plan old new absent.moment absent.within looks.0.legal way id real knows.has)
+    (stood old.directory.plan old new absent.moment absent.within (looks_in_both id old new looks.0).1.legal way id real
+    knows.has)
 
 -- what a look-up adds
 grown : (id : ℕ) (old new : Token) (found : Option ℕ) → LooksUp id old new found
     → (rest : List Event) × (new.seen ≡ rest ++ old.seen) × IsLegal old.directory.plan old.seen
-grown id old new (Some way) looks = (
-  looks.grows.rest,
-  looks.grows.seen,
-  legal_end old.directory.plan looks.grows.rest old.seen
-      (subst (IsLegal old.directory.plan) looks.grows.seen looks.grows.legal),
-)
-grown id old new None looks = (
-  looks.0.rest,
-  looks.0.seen,
-  legal_end old.directory.plan looks.0.rest old.seen
-      (subst (IsLegal old.directory.plan) looks.0.seen looks.0.legal),
+grown id old new found looks = let all = (looks_up id old new found looks).1 in (
+  all.rest,
+  all.seen,
+  legal_end old.directory.plan all.rest old.seen (subst (IsLegal old.directory.plan) all.seen all.legal),
 )
 
 pub finds_what_it_heard : FindsWhatItHeard

@@ -9,7 +9,8 @@ use Rattle.std.proofs.lemmas.Nat.Bits.{bit_at_cat_low, bit_at_or}
 use Rattle.std.proofs.lemmas.Nat.{pow_pos}
 use Rattle.nr_ids.specs.declared.plan.Plan.{Plan}
 use Rattle.nr_ids.specs.Groups.{group_of_way}
-use Rattle.nr_ids.specs.Events.{Event, Touch, named, unnamed, cleared, claimed, looked, touched, loaded, marked, turned}
+use Rattle.nr_ids.specs.Events.{Event, Touch, named, unnamed, cleared, claimed, looked, touched, hinted, loaded, marked}
+use Rattle.nr_ids.specs.Events.{turned}
 use Rattle.nr_ids.specs.Events.{maker, own, mark_bit, marks_after, marks_of, AreMarked, HasMark, IsLegal, IsMarked, May}
 use Rattle.nr_ids.specs.Events.{MayTouch}
 use Rattle.nr_ids.specs.Marks.{ChoosesPlace, begin_of, bits_from, place_after}
@@ -83,6 +84,7 @@ quiet_mark plan (event ∷ rest) log group place quiet legal set =
         (λ ne. subst (λ (n : ℕ). HasMark n place)
         (sym (cond_else (bit_or marks (mark_bit way)) marks (way / 8) group ne)) here)
     by_touch by (turned of bits) other may here = absurd (other may.0)
+    by_touch by (hinted of hints) other may here = here
 
     on : (e : Event) → maker e ≢ 0 → May plan (rest ++ log) e → HasMark (marks_of (rest ++ log) group) place
         → HasMark (marks_of (e ∷ rest ++ log) group) place

@@ -13,20 +13,24 @@ use Rattle.atomic_table.specs.declared.shared.Seat.{Seat}
 use Rattle.atomic_table.specs.Table.{State, Act, Allows, Valid, carried_after, keeps, opening, step, stepped}
 use Rattle.atomic_table.proofs.Lists.{exchanged}
 use Rattle.nr_ids.specs.declared.plan.Plan.{Plan}
-use Rattle.nr_ids.specs.Groups.{group_of, group_of_way, places, ways, IsPlan}
-use Rattle.nr_ids.specs.Events.{Event, named, unnamed, cleared, claimed, looked, touched, loaded, marked, turned, maker}
-use Rattle.nr_ids.specs.Events.{own, mark_bit, marks_of, name_of, turn_of, last_turn, AreMarked, HasMark, May, MayName}
+use Rattle.nr_ids.specs.Groups.{group_of, group_of_way, places, way_in, ways, IsPlan}
+use Rattle.nr_ids.specs.Events.{Event, named, unnamed, cleared, claimed, looked, touched, hinted, loaded, marked}
+use Rattle.nr_ids.specs.Events.{turned}
+use Rattle.nr_ids.specs.Events.{maker, own, hint_at, hints_of, mark_bit, marks_of, name_of, turn_of, last_turn}
+use Rattle.nr_ids.specs.Events.{AreMarked, HasMark, KeepsHints, May, MayName}
 use Rattle.nr_ids.specs.Events.{MayClaim, IsLegal, IsOpen}
-use Rattle.nr_ids.specs.Rule.{View, Shows, Fits, Kept, opener, counted, marks_place, turn_place, total}
-use Rattle.nr_ids.specs.Plays.{Goes, has_looked_at_name, has_looked_at_turn, has_claimed, has_loaded, has_marked}
-use Rattle.nr_ids.specs.Plays.{has_named, has_unnamed, has_cleared, has_turned}
+use Rattle.nr_ids.specs.Rule.{View, Shows, Fits, Kept, opener, counted, hints_place, marks_place, turn_place, total}
+use Rattle.nr_ids.specs.Plays.{Goes, has_looked_at_hints, has_looked_at_name, has_looked_at_turn, has_claimed}
+use Rattle.nr_ids.specs.Plays.{has_loaded}
+use Rattle.nr_ids.specs.Plays.{has_marked, has_named, has_unnamed, has_cleared, has_turned, has_hinted}
 use Rattle.nr_ids.specs.Scans.{Scanned}
 use Rattle.nr_ids.specs.Tokens.{Opened, Sits, Grows, WinsClaim, token}
 use Rattle.nr_ids.proofs.Logs.{ClearsNothing, own_this, quiet_names, quiet_turn}
 use Rattle.nr_ids.proofs.MarkBits.{quiet_mark, same_way}
 use Rattle.nr_ids.proofs.Scanning.{scan_shows}
-use Rattle.nr_ids.proofs.Steps.{SameMarks, SameNames, SameTurns, moves, shows_marks, shows_name, shows_same}
-use Rattle.nr_ids.proofs.Steps.{shows_turn}
+use Rattle.nr_ids.proofs.Hinted.{quiet_hints}
+use Rattle.nr_ids.proofs.Steps.{SameHints, SameMarks, SameNames, SameTurns, moves, shows_hints, shows_marks, shows_name}
+use Rattle.nr_ids.proofs.Steps.{shows_same, shows_turn}
 
 abbrev pub Caller : Type 0
 Caller = Seat ℕ View
@@ -79,11 +83,11 @@ module _ (table : TableId) (key : Plan) (now : Opened) (about : Stands table key
 
   same_words : (event : Event) (state : State ℕ View) (kept : Kept key state) (place : ℕ)
       → SameNames key state.words kept.log kept.shows event → SameTurns key state.words kept.log kept.shows event
-      → SameMarks key state.words kept.log kept.shows event
+      → SameMarks key state.words kept.log kept.shows event → SameHints key state.words kept.log kept.shows event
       → Shows key (set state.words place (get_or state.words place 0)) (event ∷ kept.log)
-  same_words event state kept place names turns marks =
+  same_words event state kept place names turns marks hints =
       subst (λ (words : List ℕ). Shows key words (event ∷ kept.log)) (sym (set-get_or state.words place 0))
-      (shows_same key state.words kept.log kept.shows event names turns marks)
+      (shows_same key state.words kept.log kept.shows event names turns marks hints)
 
   pub looks_at_name : (way : ℕ) → way < ways now.plan → (seat.table_id ≡ table) × (way < table.words)
       × Allows (Kept key) table.slots seat.id seat.me way (λ n. n)
@@ -98,7 +102,7 @@ module _ (table : TableId) (key : Plan) (now : Opened) (about : Stands table key
           keeps,
           tt,
           does event state kept at refl (set state.words way (get_or state.words way 0))
-              (same_words event state kept way (λ _. refl) (λ _. refl) (λ _. refl)) tt,
+              (same_words event state kept way (λ _. refl) (λ _. refl) (λ _. refl) (λ _. refl)) tt,
           (goes event state kept at tt, kept.shows.names way near),
         ),
       )
@@ -118,12 +122,36 @@ module _ (table : TableId) (key : Plan) (now : Opened) (about : Stands table key
           keeps,
           tt,
           does event state kept at refl (set state.words place (get_or state.words place 0))
-              (same_words event state kept place (λ _. refl) (λ _. refl) (λ _. refl)) tt,
+              (same_words event state kept place (λ _. refl) (λ _. refl) (λ _. refl) (λ _. refl)) tt,
           (
             goes event state kept at tt,
             λ other at_place. let there : place ≡ turn_place key other = omega arith in
                 ap (λ (p : ℕ). get_or state.words p 0) there ∙ kept.shows.turns other (omega arith)
                 ∙ ap (λ (plan : Plan). turn_of plan kept.log other) (sym plan_is),
+          ),
+        ),
+      )
+
+  pub looks_at_hints : (group place : ℕ) → group < now.plan.groups → place ≡ hints_place now.plan group
+      → (seat.table_id ≡ table) × (place < table.words)
+      × Allows (Kept key) table.slots seat.id seat.me place (λ n. n)
+      (has_looked_at_hints (step table.slots place 0 0 none) seat.me)
+  looks_at_hints group place low is =
+      let wide = about.wide in
+      let groups : seat.me.0.plan.groups ≡ now.plan.groups = ap (λ (d : Opened). d.plan.groups) sits.own in
+      let groups' : key.groups ≡ now.plan.groups = ap (λ (plan : Plan). plan.groups) about.key_is in (
+        own_table,
+        omega arith,
+        λ state kept len at small. let event = looked seat.me.0.number in (
+          after kept.log event,
+          keeps,
+          tt,
+          does event state kept at refl (set state.words place (get_or state.words place 0))
+              (same_words event state kept place (λ _. refl) (λ _. refl) (λ _. refl) (λ _. refl)) tt,
+          (
+            goes event state kept at tt,
+            λ other at_place. let there : place ≡ hints_place key other = omega arith in
+                ap (λ (p : ℕ). get_or state.words p 0) there ∙ kept.shows.hints other (omega arith),
           ),
         ),
       )
@@ -143,11 +171,11 @@ module _ (table : TableId) (key : Plan) (now : Opened) (about : Stands table key
           keeps,
           tt,
           does event state kept at refl (set state.words place (get_or state.words place 0))
-              (same_words event state kept place (λ _. refl) (λ _. refl) (λ _. refl)) tt,
+              (same_words event state kept place (λ _. refl) (λ _. refl) (λ _. refl) (λ _. refl)) tt,
           (
             goes event state kept at tt,
-            λ group at_place. let there : place ≡ marks_place key group = omega (arith, at_place, groups) in
-                let inside : group < key.groups = omega (arith, there, low, total_is) in
+            λ group near at_place. let there : place ≡ marks_place key group = omega (arith, at_place, groups) in
+                let inside : group < key.groups = omega (arith, near, groups) in
                 ap (λ (p : ℕ). get_or state.words p 0) there ∙ kept.shows.marks group inside,
           ),
         ),
@@ -177,7 +205,7 @@ module _ (table : TableId) (key : Plan) (now : Opened) (about : Stands table key
                   (λ (p : ℕ). Shows key (set state.words p (bit_or (get_or state.words p 0) bit)) (event ∷ kept.log))
                   place'
                   (shows_marks key state.words kept.log kept.shows event group (λ (k : ℕ). bit_or k bit) (omega arith)
-                  (λ _. refl) (λ _. refl)
+                  (λ _. refl) (λ _. refl) (λ _. refl)
                   (λ other. ap
                   (λ (b : ℕ). cond (group == other) (bit_or (marks_of kept.log other) b) (marks_of kept.log other))
                   (sym bit_is))))
@@ -209,12 +237,23 @@ module _ (table : TableId) (key : Plan) (now : Opened) (about : Stands table key
         (subst ClearsNothing (sym (later.quiet sits.calls) ∙ ap (λ (k : ℕ). own k later.rest) clerk) tt)
         (subst (IsLegal key) later.is kept.legal) odd
 
+    hints_known : (state : State ℕ View) (kept : Kept key state) → get_elem? state.views seat.id ≡ some seat.me.0
+        → (group : ℕ) → hints_of kept.log group ≡ hints_of seat.me.0.seen group
+    hints_known state kept at group =
+        let later = (kept.fits seat.id seat.me.0 at).later in
+        ap (λ (l : List Event). hints_of l group) later.is
+        ∙ quiet_hints key later.rest seat.me.0.seen group
+        (ap (λ (k : ℕ). own k later.rest) (sym clerk) ∙ later.quiet sits.calls)
+        (subst (IsLegal key) later.is kept.legal)
+
     may_name : (state : State ℕ View) (kept : Kept key state) → get_elem? state.views seat.id ≡ some seat.me.0
         → (way id : ℕ) → MayName key seat.me.0.seen way id → MayName key kept.log way id
     may_name state kept at way id may = let known = names_known state kept at in record {
       inside = may.inside;
       real = may.real;
       place = may.place;
+      hint =
+          ap (λ (hints : ℕ). hint_at hints (way % 8)) (hints_known state kept at (group_of_way way)) ∙ may.hint;
       free = known way ∙ may.free;
       open_claim = ap (λ (k : ℕ). k % 2) (turn_known state kept at (group_of key id) may.open_claim) ∙ may.open_claim;
       absent = λ other has. may.absent other (sym (known other) ∙ has);
@@ -237,7 +276,7 @@ module _ (table : TableId) (key : Plan) (now : Opened) (about : Stands table key
             tt,
             does event state kept at (sym clerk) (set state.words way id)
                 (shows_name key state.words kept.log kept.shows event way id may.inside (λ _. refl) (λ _. refl)
-                (λ _. refl)) may',
+                (λ _. refl) (λ _. refl)) may',
             goes event state kept at may',
           ),
         )
@@ -256,7 +295,7 @@ module _ (table : TableId) (key : Plan) (now : Opened) (about : Stands table key
             tt,
             does event state kept at (sym clerk) (set state.words way 0)
                 (shows_name key state.words kept.log kept.shows event way 0 near (λ _. refl) (λ _. refl)
-                (λ _. refl)) near,
+                (λ _. refl) (λ _. refl)) near,
             goes event state kept at near,
           ),
         )
@@ -283,7 +322,7 @@ module _ (table : TableId) (key : Plan) (now : Opened) (about : Stands table key
                 does event state kept at (sym clerk) (set state.words place (was + 1))
                     (subst (λ (p : ℕ). Shows key (set state.words p (was + 1)) (event ∷ kept.log)) place'
                     (shows_turn key state.words kept.log kept.shows event group (was + 1) (omega arith)
-                    (ap (λ (k : ℕ). k + 1) (sym here)) (λ _. refl) (λ _. refl) (λ _. refl)))
+                    (ap (λ (k : ℕ). k + 1) (sym here)) (λ _. refl) (λ _. refl) (λ _. refl) (λ _. refl)))
                     may,
                 λ other at_place.
                     let same : group ≡ other = omega arith in
@@ -325,11 +364,44 @@ module _ (table : TableId) (key : Plan) (now : Opened) (about : Stands table key
                     (event ∷ kept.log))
                     place'
                     (shows_marks key state.words kept.log kept.shows event group (λ (k : ℕ). bit_xor k bits)
-                    (omega arith) (λ _. refl) (λ _. refl) (λ _. refl)))
+                    (omega arith) (λ _. refl) (λ _. refl) (λ _. refl) (λ _. refl)))
                     may,
                 λ other at_place.
                     let same : group ≡ other = omega arith in
                     subst (λ (g : ℕ). Goes (touched seat.me.0.number (turned g bits)) seat.me.0 (after kept.log event))
+                    same (goes event state kept at may),
+              ),
+        )
+
+    -- hints that keep those of the named ways keep them still
+    pub writes_group : (group place hints : ℕ) → group < now.plan.groups → place ≡ hints_place now.plan group
+        → KeepsHints seat.me.0.seen group hints → (seat.table_id ≡ table) × (place < table.words)
+        × Allows (Kept key) table.slots seat.id seat.me place (λ _. hints)
+        (λ _. has_hinted (step table.slots place hints 0 none) seat.me hints)
+    writes_group group place hints low is keeps_them = let wide = about.wide in
+        let groups : key.groups ≡ now.plan.groups = ap (λ (plan : Plan). plan.groups) about.key_is in
+        let groups' : seat.me.0.plan.groups ≡ key.groups = ap (λ (plan : Plan). plan.groups) plan_is in
+        let place' : hints_place key group ≡ place = omega arith in (
+          own_table,
+          omega arith,
+          λ state kept len at small.
+              let event = touched seat.me.0.number (hinted group hints) in
+              let still : KeepsHints kept.log group hints
+              = λ at_way near has. keeps_them at_way near
+              (λ none. has (names_known state kept at (way_in group at_way) ∙ none))
+              ∙ ap (λ (word : ℕ). hint_at word at_way) (sym (hints_known state kept at group)) in
+              let may : May key kept.log event = (clerk, omega arith, still) in (
+                after kept.log event,
+                keeps,
+                tt,
+                does event state kept at refl (set state.words place hints)
+                    (subst (λ (p : ℕ). Shows key (set state.words p hints) (event ∷ kept.log)) place'
+                    (shows_hints key state.words kept.log kept.shows event group hints (omega arith)
+                    (λ _. refl) (λ _. refl) (λ _. refl) (λ _. refl)))
+                    may,
+                λ other at_place.
+                    let same : group ≡ other = omega arith in
+                    subst (λ (g : ℕ). Goes (touched seat.me.0.number (hinted g hints)) seat.me.0 (after kept.log event))
                     same (goes event state kept at may),
               ),
         )
@@ -375,7 +447,7 @@ module _ (table : TableId) (key : Plan) (now : Opened) (about : Stands table key
                   (subst (λ (p : ℕ). Shows key (set state.words p (was + 1)) (event ∷ kept.log))
                   (ap (turn_place key) of_id ∙ place')
                   (shows_turn key state.words kept.log kept.shows event (group_of key id) (was + 1) (omega arith)
-                  (ap (λ (k : ℕ). k + 1) (sym here)) (λ _. refl) (λ _. refl) (λ _. refl)))
+                  (ap (λ (k : ℕ). k + 1) (sym here)) (λ _. refl) (λ _. refl) (λ _. refl) (λ _. refl)))
                   may,
               (λ _. goes event state kept at may, λ ne. absurd (ne hit)),
             ))
@@ -384,7 +456,7 @@ module _ (table : TableId) (key : Plan) (now : Opened) (about : Stands table key
               keeps,
               tt,
               does event state kept at refl (set state.words place n)
-                  (same_words event state kept place (λ _. refl) (λ _. refl) (λ _. refl)) tt,
+                  (same_words event state kept place (λ _. refl) (λ _. refl) (λ _. refl) (λ _. refl)) tt,
               (
                 λ hit. absurd (miss hit),
                 λ _. (
@@ -440,6 +512,8 @@ opens_so plan words sizes is = record {
         ∙ get_or-replicate (total plan) (turn_place plan group) 0 0 (omega arith);
     marks = λ group low. ap (λ (l : List ℕ). get_or l (marks_place plan group) 0) is
         ∙ get_or-replicate (total plan) (marks_place plan group) 0 0 (omega arith);
+    hints = λ group low. ap (λ (l : List ℕ). get_or l (hints_place plan group) 0) is
+        ∙ get_or-replicate (total plan) (hints_place plan group) 0 0 (omega arith);
   };
   legal = tt;
   sizes = sizes;

@@ -12,12 +12,12 @@ use Rattle.atomic_table.specs.Table.{State, Splits, Joins}
 use Rattle.atomic_table.proofs.Lists.{at_set, at_snoc, set_else}
 use Rattle.nr_ids.specs.declared.plan.Plan.{Plan}
 use Rattle.nr_ids.specs.Groups.{ways}
-use Rattle.nr_ids.specs.Events.{Event, maker, marks_of, name_of, turn_of, May}
-use Rattle.nr_ids.specs.Rule.{View, Shows, Fits, Kept, BeginsWith, marks_place, turn_place, counted, with_reader}
-use Rattle.nr_ids.specs.Rule.{next_reader, note_of, retold, with_note, spent}
+use Rattle.nr_ids.specs.Events.{Event, hints_of, maker, marks_of, name_of, turn_of, May}
+use Rattle.nr_ids.specs.Rule.{View, Shows, Fits, Kept, BeginsWith, hints_place, marks_place, turn_place, counted}
+use Rattle.nr_ids.specs.Rule.{with_reader, next_reader, note_of, retold, with_note, spent}
 use Rattle.nr_ids.proofs.Logs.{cond_same, cond_else, own_other}
 
--- the words after a name, a turn or a group's marks are written
+-- the words after a name, a turn, or a group's marks or hints are written
 module _ (plan : Plan) (words : List ℕ) (log : List Event) (shows : Shows plan words log) (event : Event) where
   abbrev pub SameNames : Type 0
   SameNames = (way : ℕ) → name_of (event ∷ log) way ≡ name_of log way
@@ -28,19 +28,23 @@ module _ (plan : Plan) (words : List ℕ) (log : List Event) (shows : Shows plan
   abbrev pub SameMarks : Type 0
   SameMarks = (group : ℕ) → marks_of (event ∷ log) group ≡ marks_of log group
 
-  pub shows_same : SameNames → SameTurns → SameMarks → Shows plan words (event ∷ log)
-  shows_same names turns marks =
+  abbrev pub SameHints : Type 0
+  SameHints = (group : ℕ) → hints_of (event ∷ log) group ≡ hints_of log group
+
+  pub shows_same : SameNames → SameTurns → SameMarks → SameHints → Shows plan words (event ∷ log)
+  shows_same names turns marks hints =
       record {
         size = shows.size;
         names = λ way low. shows.names way low ∙ sym (names way);
         turns = λ group low. shows.turns group low ∙ sym (turns group);
         marks = λ group low. shows.marks group low ∙ sym (marks group);
+        hints = λ group low. shows.hints group low ∙ sym (hints group);
       }
 
   pub shows_name : (way n : ℕ) → way < ways plan
       → ((other : ℕ) → name_of (event ∷ log) other ≡ cond (way == other) n (name_of log other)) → SameTurns → SameMarks
-      → Shows plan (set words way n) (event ∷ log)
-  shows_name way n low names turns marks = let size = shows.size in record {
+      → SameHints → Shows plan (set words way n) (event ∷ log)
+  shows_name way n low names turns marks hints = let size = shows.size in record {
     size = length-set words way n ∙ shows.size;
     names = λ other near. dite (ℕ_discrete way other)
         (λ (e : way ≡ other). let inside : way < length words = omega arith in
@@ -52,14 +56,16 @@ module _ (plan : Plan) (words : List ℕ) (log : List Event) (shows : Shows plan
         get_or-set_other words way (turn_place plan group) n 0 apart ∙ shows.turns group near ∙ sym (turns group);
     marks = λ group near. let apart : marks_place plan group ≢ way = λ e. absurd (omega arith) in
         get_or-set_other words way (marks_place plan group) n 0 apart ∙ shows.marks group near ∙ sym (marks group);
+    hints = λ group near. let apart : hints_place plan group ≢ way = λ e. absurd (omega arith) in
+        get_or-set_other words way (hints_place plan group) n 0 apart ∙ shows.hints group near ∙ sym (hints group);
   }
 
   pub shows_turn : (group n : ℕ) → group < plan.groups → n ≡ turn_of plan log group + 1 → SameNames
       → ((other : ℕ)
       → turn_of plan (event ∷ log) other
       ≡ cond (group == other) (turn_of plan log other + 1) (turn_of plan log other))
-      → SameMarks → Shows plan (set words (turn_place plan group) n) (event ∷ log)
-  shows_turn group n low is names turns marks = let size = shows.size in record {
+      → SameMarks → SameHints → Shows plan (set words (turn_place plan group) n) (event ∷ log)
+  shows_turn group n low is names turns marks hints = let size = shows.size in record {
     size = length-set words (turn_place plan group) n ∙ shows.size;
     names = λ way near. let apart : way ≢ turn_place plan group = λ e. absurd (omega arith) in
         get_or-set_other words (turn_place plan group) way n 0 apart ∙ shows.names way near ∙ sym (names way);
@@ -74,13 +80,16 @@ module _ (plan : Plan) (words : List ℕ) (log : List Event) (shows : Shows plan
     marks = λ other near. let apart : marks_place plan other ≢ turn_place plan group = λ e. absurd (omega arith) in
         get_or-set_other words (turn_place plan group) (marks_place plan other) n 0 apart ∙ shows.marks other near
         ∙ sym (marks other);
+    hints = λ other near. let apart : hints_place plan other ≢ turn_place plan group = λ e. absurd (omega arith) in
+        get_or-set_other words (turn_place plan group) (hints_place plan other) n 0 apart ∙ shows.hints other near
+        ∙ sym (hints other);
   }
 
-  pub shows_marks : (group : ℕ) (f : ℕ → ℕ) → group < plan.groups → SameNames → SameTurns
+  pub shows_marks : (group : ℕ) (f : ℕ → ℕ) → group < plan.groups → SameNames → SameTurns → SameHints
       → ((other : ℕ)
       → marks_of (event ∷ log) other ≡ cond (group == other) (f (marks_of log other)) (marks_of log other))
       → Shows plan (set words (marks_place plan group) (f (get_or words (marks_place plan group) 0))) (event ∷ log)
-  shows_marks group f low names turns marks =
+  shows_marks group f low names turns hints marks =
       let size = shows.size in
       let place : ℕ = marks_place plan group in
       let n : ℕ = f (get_or words place 0) in
@@ -100,6 +109,35 @@ module _ (plan : Plan) (words : List ℕ) (log : List Event) (shows : Shows plan
             (λ ne. let apart : marks_place plan other ≢ place = λ e. ne (omega arith) in
             get_or-set_other words place (marks_place plan other) n 0 apart ∙ shows.marks other near
             ∙ sym (cond_else (f (marks_of log other)) (marks_of log other) group other ne) ∙ sym (marks other));
+        hints = λ other near. let apart : hints_place plan other ≢ place = λ e. absurd (omega arith) in
+            get_or-set_other words place (hints_place plan other) n 0 apart ∙ shows.hints other near
+            ∙ sym (hints other);
+      }
+
+  pub shows_hints : (group n : ℕ) → group < plan.groups → SameNames → SameTurns → SameMarks
+      → ((other : ℕ) → hints_of (event ∷ log) other ≡ cond (group == other) n (hints_of log other))
+      → Shows plan (set words (hints_place plan group) n) (event ∷ log)
+  shows_hints group n low names turns marks hints =
+      let size = shows.size in
+      let place : ℕ = hints_place plan group in
+      record {
+        size = length-set words place n ∙ shows.size;
+        names = λ way near. let apart : way ≢ place = λ e. absurd (omega arith) in
+            get_or-set_other words place way n 0 apart ∙ shows.names way near ∙ sym (names way);
+        turns = λ other near. let apart : turn_place plan other ≢ place = λ e. absurd (omega arith) in
+            get_or-set_other words place (turn_place plan other) n 0 apart ∙ shows.turns other near
+            ∙ sym (turns other);
+        marks = λ other near. let apart : marks_place plan other ≢ place = λ e. absurd (omega arith) in
+            get_or-set_other words place (marks_place plan other) n 0 apart ∙ shows.marks other near
+            ∙ sym (marks other);
+        hints = λ other near. dite (ℕ_discrete group other)
+            (λ (e : group ≡ other). let inside : place < length words = omega arith in
+            ap (λ (k : ℕ). get_or (set words place n) (hints_place plan k) 0) (sym e)
+            ∙ get_or-set_same words place n 0 inside
+            ∙ sym (cond_same n (hints_of log other) group other e) ∙ sym (hints other))
+            (λ ne. let apart : hints_place plan other ≢ place = λ e. ne (omega arith) in
+            get_or-set_other words place (hints_place plan other) n 0 apart ∙ shows.hints other near
+            ∙ sym (cond_else n (hints_of log other) group other ne) ∙ sym (hints other));
       }
 
 module _ (plan : Plan) (state : State ℕ View) (kept : Kept plan state) (id : ℕ) (view next : View)

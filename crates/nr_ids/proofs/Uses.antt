@@ -7,7 +7,8 @@ use Rattle.std.specs.Int.{bit_at}
 use Rattle.std.proofs.lemmas.Nat.Bits.{bit_at-lt, bit_at-pow_other, bit_at-pow_same, bit_at-zero, bit_at_or, bit_at_xor}
 use Rattle.nr_ids.specs.declared.plan.Plan.{Plan}
 use Rattle.nr_ids.specs.Groups.{group_of_way}
-use Rattle.nr_ids.specs.Events.{Event, Touch, named, unnamed, cleared, claimed, looked, touched, loaded, marked, turned}
+use Rattle.nr_ids.specs.Events.{Event, Touch, named, unnamed, cleared, claimed, looked, touched, hinted, loaded, marked}
+use Rattle.nr_ids.specs.Events.{turned}
 use Rattle.nr_ids.specs.Events.{mark_bit, marks_after, marks_of, MayTouch}
 use Rattle.nr_ids.specs.Laws.{MarksTell, use_after, use_of}
 use Rattle.nr_ids.proofs.Logs.{cond_same, cond_else}
@@ -71,6 +72,7 @@ touch_tells plan log by (marked other) way may was =
 touch_tells plan log by (turned group bits) way may was =
     turned_bit group bits way (marks_of log (group_of_way way)) (use_of log way)
     (λ e on. ap (λ (g : ℕ). bit_in (marks_of log g) way) (sym e) ∙ may.2 (way % 8) (omega arith) on) was
+touch_tells plan log by (hinted group hints) way may was = was
 
 pub marks_tell : MarksTell
 marks_tell plan [] way legal = bit_at-zero (way % 8)

@@ -1,8 +1,9 @@
 -- What happens to a directory, newest first: each step of each caller is one event.
 use Rattle.std.specs.Prelude.{◌≡◌, ◌≢◌, ℕ, ◌+◌, ◌%◌, ◌^◌, ◌<◌, ◌==◌, cond, List, [], ◌∷◌, replicate, bit_or, bit_xor}
-use Rattle.std.specs.Int.{bit_at}
+use Rattle.std.specs.Prelude.{get_or}
+use Rattle.std.specs.Int.{bit_at, to_le_bytes, w64}
 use Rattle.nr_ids.specs.declared.plan.Plan.{Plan}
-use Rattle.nr_ids.specs.Groups.{IsWayOf, group_of, group_of_way, ways}
+use Rattle.nr_ids.specs.Groups.{IsWayOf, group_of, group_of_way, hint_of, way_in, ways}
 
 -- a step that concerns no name and no turn
 pub data Touch : Type 0 where
@@ -11,14 +12,16 @@ pub data Touch : Type 0 where
   -- a way's use bit was set; those bits of a group's marks were turned over
   marked : ℕ → Touch
   turned : ℕ → ℕ → Touch
+  -- the hints of a group's ways are this word from now on
+  hinted : ℕ → ℕ → Touch
 
 pub data Event : Type 0 where
   -- by the clerk: from now on a way has this name, or has none; a claim of a group is answered
   named : ℕ → ℕ → Event
   unnamed : ℕ → Event
   cleared : ℕ → Event
-  -- by the caller of that number: its claim of an id's group is granted; it looked at a name or a turn; it touched
-  -- another word
+  -- by the caller of that number: its claim of an id's group is granted; it looked at a name, a turn or a group's
+  -- hints; it touched another word, or set hints
   claimed : ℕ → ℕ → Event
   looked : ℕ → Event
   touched : ℕ → Touch → Event
@@ -72,6 +75,7 @@ abbrev pub marks_after : Touch → ℕ → ℕ → ℕ
 marks_after (loaded place) group marks = marks
 marks_after (marked way) group marks = cond (group_of_way way == group) (bit_or marks (mark_bit way)) marks
 marks_after (turned other bits) group marks = cond (other == group) (bit_xor marks bits) marks
+marks_after (hinted other hints) group marks = marks
 
 abbrev pub marks_of : List Event → ℕ → ℕ
 marks_of [] group = 0
@@ -81,6 +85,29 @@ marks_of (cleared other ∷ log) group = marks_of log group
 marks_of (claimed by id ∷ log) group = marks_of log group
 marks_of (looked by ∷ log) group = marks_of log group
 marks_of (touched by touch ∷ log) group = marks_after touch group (marks_of log group)
+
+-- the hints of a group after these events: a byte for each of its eight ways, the first way's the lowest
+abbrev pub hints_after : Touch → ℕ → ℕ → ℕ
+hints_after (loaded place) group hints = hints
+hints_after (marked way) group hints = hints
+hints_after (turned other bits) group hints = hints
+hints_after (hinted other written) group hints = cond (other == group) written hints
+
+abbrev pub hints_of : List Event → ℕ → ℕ
+hints_of [] group = 0
+hints_of (named way id ∷ log) group = hints_of log group
+hints_of (unnamed way ∷ log) group = hints_of log group
+hints_of (cleared other ∷ log) group = hints_of log group
+hints_of (claimed by id ∷ log) group = hints_of log group
+hints_of (looked by ∷ log) group = hints_of log group
+hints_of (touched by touch ∷ log) group = hints_after touch group (hints_of log group)
+
+-- the hint at a place in a group's hints, and a way's; 0 is none
+abbrev pub hint_at : ℕ → ℕ → ℕ
+hint_at hints place = get_or (to_le_bytes w64 hints) place 0
+
+abbrev pub hint_in : List Event → ℕ → ℕ
+hint_in log way = hint_at (hints_of log (group_of_way way)) (way % 8)
 
 -- the use bit at a place in a group's marks is set; a way's is
 abbrev pub HasMark : ℕ → ℕ → Type 0
@@ -103,11 +130,13 @@ last_turn = 2 ^ 62
 abbrev pub IsAbsent : List Event → ℕ → Type 0
 IsAbsent log id = (way : ℕ) → name_of log way ≢ id
 
--- a way of the id's that has no name gets the id's, which no way has, while a claim of the id's group is open
+-- a way of the id's that has the id's hint and no name gets the id's, which no way has, while a claim of the id's group
+-- is open
 pub record MayName (plan : Plan) (log : List Event) (way id : ℕ) : Type 0 where
   pub inside : way < ways plan
   pub real : 0 < id
   pub place : IsWayOf plan id way
+  pub hint : hint_in log way ≡ hint_of plan id
   pub free : name_of log way ≡ 0
   pub open_claim : IsOpen plan log (group_of plan id)
   pub absent : IsAbsent log id
@@ -123,10 +152,17 @@ pub record MayClaim (plan : Plan) (log : List Event) (id : ℕ) : Type 0 where
 abbrev pub AreMarked : List Event → ℕ → ℕ → Type 0
 AreMarked log group bits = (place : ℕ) → place < 8 → bit_at bits place ≡ 1 → HasMark (marks_of log group) place
 
+-- hints that are written keep those of the ways that have a name, and the clerk writes them
+abbrev pub KeepsHints : List Event → ℕ → ℕ → Type 0
+KeepsHints log group hints =
+    (place : ℕ) → place < 8 → name_of log (way_in group place) ≢ 0
+    → hint_at hints place ≡ hint_at (hints_of log group) place
+
 abbrev pub MayTouch : Plan → List Event → ℕ → Touch → Type 0
 MayTouch plan log by (loaded place) = Unit {0}
 MayTouch plan log by (marked way) = way < ways plan
 MayTouch plan log by (turned group bits) = (by ≡ 0) × (group < plan.groups) × AreMarked log group bits
+MayTouch plan log by (hinted group hints) = (by ≡ 0) × (group < plan.groups) × KeepsHints log group hints
 
 abbrev pub May : Plan → List Event → Event → Type 0
 May plan log (named way id) = MayName plan log way id

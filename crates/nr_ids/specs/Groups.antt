@@ -1,5 +1,5 @@
 -- The two groups of an id: functions of the id and of the key that the directory was opened with.
-use Rattle.std.specs.Prelude.{◌≡◌, ℕ, zero, suc, ◌+◌, ◌-◌, ◌*◌, ◌/◌, ◌%◌, ◌^◌, ◌<◌, ◌≤◌, ◌⊎◌, bit_or, bit_xor}
+use Rattle.std.specs.Prelude.{◌≡◌, ℕ, zero, suc, ◌+◌, ◌-◌, ◌*◌, ◌/◌, ◌%◌, ◌^◌, ◌<◌, ◌≤◌, ◌⊎◌, bit_or, bit_xor, max}
 use Rattle.nr_ids.specs.declared.plan.Plan.{Plan}
 use Rattle.nr_ids.specs.declared.plan.TheConstants.{MAX_GROUPS}
 
@@ -28,12 +28,20 @@ group_of plan id = mixed plan.key id / 2 ^ 32 * plan.groups / 2 ^ 32
 unfoldable pub second_of : Plan → ℕ → ℕ
 second_of plan id = (group_of plan id + 1 + mixed plan.key id % 2 ^ 32 * (plan.groups - 1) / 2 ^ 32) % plan.groups
 
+-- the hint of an id is eight bits of it that are never 0
+unfoldable pub hint_of : Plan → ℕ → ℕ
+hint_of plan id = max 1 (mixed plan.key id / 2 ^ 32 % 2 ^ 8)
+
 -- ways 8g to 8g + 7 are the ways of group g
 abbrev pub ways : Plan → ℕ
 ways plan = 8 * plan.groups
 
 abbrev pub group_of_way : ℕ → ℕ
 group_of_way way = way / 8
+
+-- the ways of a group, in their order
+abbrev pub way_in : ℕ → ℕ → ℕ
+way_in group place = 8 * group + place
 
 -- an id has sixteen places: the ways of its group, and then those of its second group
 abbrev pub places : ℕ

@@ -4,9 +4,10 @@ use Rattle.std.specs.Prelude.{Option, Some}
 use Rattle.std.specs.Prelude.{bit_xor, length}
 use Rattle.std.specs.Int.{bit_at}
 use Rattle.nr_ids.specs.declared.plan.Plan.{Plan}
-use Rattle.nr_ids.specs.Groups.{IsPlan, IsWayOf, group_of, group_of_way, second_of, ways}
-use Rattle.nr_ids.specs.Events.{Event, Touch, named, unnamed, cleared, claimed, looked, touched, loaded, marked, turned}
-use Rattle.nr_ids.specs.Events.{marks_of, name_of, turn_of, IsLegal}
+use Rattle.nr_ids.specs.Groups.{IsPlan, IsWayOf, group_of, group_of_way, hint_of, second_of, ways}
+use Rattle.nr_ids.specs.Events.{Event, Touch, named, unnamed, cleared, claimed, looked, touched, hinted, loaded, marked}
+use Rattle.nr_ids.specs.Events.{turned}
+use Rattle.nr_ids.specs.Events.{hint_in, marks_of, name_of, turn_of, IsLegal}
 use Rattle.nr_ids.specs.Answers.{LooksUp}
 use Rattle.nr_ids.specs.Marks.{ChoosesPlace}
 use Rattle.nr_ids.specs.Rule.{BeginsWith}
@@ -23,7 +24,13 @@ AtItsPlaces =
     (plan : Plan) (log : List Event) (way id : ℕ) → IsLegal plan log → 0 < id → name_of log way ≡ id
     → (way < ways plan) × IsWayOf plan id way
 
--- an id's second group is another one where there are two; so a way tells by how many looks a scan found it
+-- a way that has an id's name has the id's hint, which isn't 0
+abbrev pub HintsTell : Type 0
+HintsTell =
+    (plan : Plan) (log : List Event) (way id : ℕ) → IsLegal plan log → 0 < id → name_of log way ≡ id
+    → (hint_in log way ≡ hint_of plan id) × (hint_of plan id ≢ 0)
+
+-- an id's second group is another one where there are two; so a way tells through which groups a scan found it
 abbrev pub SecondIsAnother : Type 0
 SecondIsAnother = (plan : Plan) (id : ℕ) → IsPlan plan → 1 < plan.groups → second_of plan id ≢ group_of plan id
 
@@ -95,6 +102,7 @@ use_after (loaded place) way was = was
 use_after (marked other) way was = cond (other == way) 1 was
 use_after (turned group bits) way was =
     cond (group == group_of_way way) (cond (bit_at bits (way % 8) == 1) 0 was) was
+use_after (hinted group hints) way was = was
 
 abbrev pub use_of : List Event → ℕ → ℕ
 use_of [] way = 0

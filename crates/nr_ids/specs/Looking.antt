@@ -1,18 +1,19 @@
 -- What a scan of an id's places tells, of a reader and of the clerk.
-use Rattle.std.specs.Prelude.{◌≡◌, ◌≢◌, ℕ, ◌+◌, ◌*◌, ◌%◌, ◌<◌, ◌⊎◌, IfNone, IfSome, List, Option, Some, None}
-use Rattle.std.specs.Prelude.{Result, Ok, Err}
-use Rattle.nr_ids.specs.declared.plan.Plan.{Plan}
-use Rattle.nr_ids.specs.declared.admissions.Refused.{Refused}
-use Rattle.nr_ids.specs.declared.admissions.Refused.TheVariants as refused
+use Rattle.std.specs.Prelude.{◌≡◌, ◌≢◌, ℕ, zero, suc, ◌+◌, ◌%◌, ◌<◌, ◌⊎◌, ◌==◌, cond, IfNone, IfSome, List, [], ◌∷◌}
+use Rattle.std.specs.Prelude.{Option, Some, None}
+use Rattle.std.specs.Int.{bit_at}
 use Rattle.nr_ids.specs.declared.admissions.Room.{Room}
-use Rattle.nr_ids.specs.Groups.{IsWayOf, group_of, group_of_way, places, second_of, way_at, ways}
-use Rattle.nr_ids.specs.Events.{Event, looks, name_of, IsAbsent}
+use Rattle.nr_ids.specs.Groups.{IsWayOf, group_of, group_of_way, hint_of, places, second_of, way_at, way_in, ways}
+use Rattle.nr_ids.specs.Events.{Event, hinted, looked, touched, hint_at, hint_in, hints_of, looks, name_of, IsAbsent}
 use Rattle.nr_ids.specs.Scans.{Passed}
-use Rattle.nr_ids.specs.Tokens.{Token, Grows, HasName, Within}
+use Rattle.nr_ids.specs.Tokens.{Token, Grows, Within}
 
--- the id's group, and the way at a place of the id's
+-- the id's two groups, and the way at a place of the id's
 abbrev pub group_for : Token → ℕ → ℕ
 group_for token id = group_of token.directory.plan id
+
+abbrev pub second_for : Token → ℕ → ℕ
+second_for token id = second_of token.directory.plan id
 
 abbrev pub way_for : Token → ℕ → ℕ → ℕ
 way_for token id place = way_at token.directory.plan id place
@@ -42,24 +43,52 @@ abbrev pub PassedByClerk : (ℕ → ℕ) → ℕ → Token → ℕ → Token →
 PassedByClerk way name old count new =
     old.number ≡ 0 → (place : ℕ) → place < count → name_of new.seen (way place) ≢ name
 
+-- LOOKS THROUGH A GROUP
+-- at how many of its first places a group's hints have this one
+abbrev pub fitting : ℕ → ℕ → ℕ → ℕ
+fitting hints hint zero = 0
+fitting hints hint (suc place) =
+    cond (hint_at hints place == hint) (fitting hints hint place + 1) (fitting hints hint place)
+
+-- of these bits that one is the lowest
+abbrev pub IsFirst : ℕ → ℕ → Type 0
+IsFirst bits place = (bit_at bits place ≡ 1) × ((other : ℕ) → other < place → bit_at bits other ≡ 0)
+
+-- a group's hints were looked at, and then the names of those of its first ways that had the id's hint
+pub record LooksIn (id group among : ℕ) (old new : Token) : Type 0 where
+  pub hinted : Token
+  pub hints : Grows (looks 1 old.number) old hinted
+  pub names :
+      Grows (looks (fitting (hints_of hinted.seen group) (hint_of old.directory.plan id) among) hinted.number)
+      hinted new
+
+-- through both groups of the id
+pub record LooksInBoth (id : ℕ) (old new : Token) : Type 0 where
+  pub mid : Token
+  pub first : LooksIn id (group_for old id) 8 old mid
+  pub second : LooksIn id (second_for old id) 8 mid new
+
+-- and through its group up to the way, or else through its second one
+abbrev pub LooksUpTo : ℕ → ℕ → Token → Token → Type 0
+LooksUpTo way id old new =
+    ((group_of_way way ≡ group_for old id) × LooksIn id (group_for old id) (way % 8 + 1) old new)
+    ⊎ ((group_of_way way ≡ second_for old id)
+    × ((mid : Token) × LooksIn id (group_for old id) 8 old mid × LooksIn id (second_for old id) (way % 8 + 1) mid new))
+
 pub record Missed (id : ℕ) (old new : Token) : Type 0 where
-  pub grows : Grows (looks places old.number) old new
+  pub looks : LooksInBoth id old new
   pub absent : WasAbsent id old new
   pub passed : (place : ℕ) → place < places → Passed old.seen new.seen (way_for old id place) id
   pub exact : old.number ≡ 0 → IsAbsent new.seen id
 
--- the ways of a group, in their order
-abbrev pub way_in : ℕ → ℕ → ℕ
-way_in group place = 8 * group + place
-
--- one of a group's ways had the name, or none had it when it was looked at
+-- one of a group's ways had the name, or none had it when its hint or its name was looked at
 pub record FindsIn (id group : ℕ) (old new : Token) (way : ℕ) : Type 0 where
   pub of : group_of_way way ≡ group
-  pub grows : Grows (looks 8 old.number) old new
+  pub looks : LooksIn id group (way % 8 + 1) old new
   pub named : HadName way id old new
 
 pub record PassesGroup (id group : ℕ) (old new : Token) : Type 0 where
-  pub grows : Grows (looks 8 old.number) old new
+  pub looks : LooksIn id group 8 old new
   pub lacked : (place : ℕ) → place < 8 → LackedName (way_in group place) id old new
   pub exact : PassedByClerk (way_in group) id old 8 new
 
@@ -67,59 +96,45 @@ abbrev pub ScansGroup : ℕ → ℕ → Token → Token → Option ℕ → Type 
 ScansGroup id group old new (Some way) = FindsIn id group old new way
 ScansGroup id group old new None = PassesGroup id group old new
 
--- by how many looks a way is found: 8 find it in the id's group, and 16 in its second one
-abbrev pub IsFoundBy : Plan → ℕ → ℕ → ℕ → Type 0
-IsFoundBy plan id way count =
-    ((group_of_way way ≡ group_of plan id) × (count ≡ 8)) ⊎ ((group_of_way way ≡ second_of plan id) × (count ≡ 16))
-
--- a way of the id's had its name, which took those looks at names and so many others
-pub record FindsAt (id others : ℕ) (old new : Token) (way : ℕ) : Type 0 where
-  pub count : ℕ
-  pub of : IsFoundBy old.directory.plan id way count
-  pub grows : Grows (looks (count + others) old.number) old new
+-- a way of the id's had its name
+pub record FindsAt (id : ℕ) (old new : Token) (way : ℕ) : Type 0 where
+  pub looks : LooksUpTo way id old new
   pub named : HadName way id old new
 
 abbrev pub Scans : ℕ → Token → Token → Option ℕ → Type 0
-Scans id old new (Some way) = FindsAt id 0 old new way
+Scans id old new (Some way) = FindsAt id old new way
 Scans id old new None = Missed id old new
 
--- for the clerk, who looks for room: the way at a place of the id's has its name, which took a look at each place
--- before it and so many more
-pub record MeetsAt (id more : ℕ) (old new : Token) (way : ℕ) : Type 0 where
-  pub place : ℕ
-  pub inside : place < places
-  pub way_is : way ≡ way_for old id place
-  pub grows : Grows (looks (place + more) old.number) old new
-  pub named : HasName new way id
+-- ROOM
+-- a hint is set for no way but those that have a name
+abbrev pub HintsNames : Token → Type 0
+HintsNames token = (way : ℕ) → way < ways token.directory.plan → hint_in token.seen way ≢ 0 → name_of token.seen way ≢ 0
+
+-- a look at the hints of a way's group, and then that hint is the way's, and no other way has another
+pub record SetsHint (way hint : ℕ) (old new : Token) : Type 0 where
+  pub hints : ℕ
+  pub grows :
+      Grows (touched old.number (hinted (group_of_way way) hints) ∷ looked old.number ∷ []) old new
+  pub set : hint_in new.seen way ≡ hint
+  pub others : (other : ℕ) → other ≢ way → hint_in new.seen other ≡ hint_in old.seen other
 
 -- at each of the id's places is a name
 abbrev pub IsFull : ℕ → Token → Type 0
 IsFull id token = (place : ℕ) → place < places → name_of token.seen (way_for token id place) ≢ 0
 
--- a way of the id's without a name, where no way has the id's
+-- a look at the hints of each of the id's groups told a way without a name, or that there is none
 pub record HasRoom (id way : ℕ) (old new : Token) : Type 0 where
-  pub grows : Grows (looks places old.number) old new
+  pub grows : Grows (looks 2 old.number) old new
   pub inside : way < ways old.directory.plan
   pub place : IsWayOf old.directory.plan id way
   pub free : name_of new.seen way ≡ 0
-  pub absent : IsAbsent new.seen id
 
-abbrev pub Rooms : ℕ → Token → Token → Result ℕ Refused → Type 0
-Rooms id old new (Ok way) = HasRoom id way old new
-Rooms id old new (Err refused.NoClaim) = ⊥
-Rooms id old new (Err (refused.Named way)) = MeetsAt id 1 old new way
-Rooms id old new (Err refused.Full) = Grows (looks places old.number) old new × IsFull id new
+abbrev pub Rooms : ℕ → Token → Token → Option ℕ → Type 0
+Rooms id old new (Some way) = HasRoom id way old new
+Rooms id old new None = Grows (looks 2 old.number) old new × IsFull id new
 
--- what the clerk saw of a group: none of its ways has the id's name, and one has none, or each has one
-pub record SeesRoom (id group : ℕ) (old new : Token) (room : Room) : Type 0 where
-  pub grows : Grows (looks 8 old.number) old new
-  pub passed : PassedByClerk (way_in group) id old 8 new
+-- what a look at a group's hints told the clerk
+pub record SeesRoom (group : ℕ) (old new : Token) (room : Room) : Type 0 where
+  pub grows : Grows (looks 1 old.number) old new
   pub free : IfSome room.way (λ way. (group_of_way way ≡ group) × (name_of new.seen way ≡ 0))
   pub full : IfNone room.way (PassedByClerk (way_in group) 0 old 8 new)
-
-abbrev pub LooksForRoom : ℕ → ℕ → Token → Token → Result Room Refused → Type 0
-LooksForRoom id group old new (Ok room) = SeesRoom id group old new room
-LooksForRoom id group old new (Err refused.NoClaim) = ⊥
-LooksForRoom id group old new (Err (refused.Named way)) =
-    (group_of_way way ≡ group) × Grows (looks (way % 8 + 1) old.number) old new × HasName new way id
-LooksForRoom id group old new (Err refused.Full) = ⊥

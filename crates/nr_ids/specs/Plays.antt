@@ -3,9 +3,10 @@ use Rattle.std.specs.Prelude.{◌≡◌, ◌≢◌, ℕ, ◌<◌, List, [], ◌�
 use mathlib.Core.Option.{Option, none, some}
 use Rattle.atomic_table.specs.Table.{Me, Step}
 use Rattle.nr_ids.specs.Groups.{group_of, group_of_way}
-use Rattle.nr_ids.specs.Events.{Event, own, named, unnamed, cleared, claimed, looked, touched, loaded, marked, turned}
-use Rattle.nr_ids.specs.Events.{mark_bit, marks_of, name_of, turn_of, IsLegal}
-use Rattle.nr_ids.specs.Rule.{View, BeginsWith, counted, marks_place, turn_place}
+use Rattle.nr_ids.specs.Events.{Event, own, named, unnamed, cleared, claimed, looked, touched, hinted, loaded, marked}
+use Rattle.nr_ids.specs.Events.{turned}
+use Rattle.nr_ids.specs.Events.{hints_of, mark_bit, marks_of, name_of, turn_of, IsLegal}
+use Rattle.nr_ids.specs.Rule.{View, BeginsWith, counted, hints_place, marks_place, turn_place}
 
 abbrev pub Then : Type 1
 Then = Step ℕ → Me ℕ View → ℕ → Me ℕ View → Type 0
@@ -26,6 +27,10 @@ has_looked_at_name step (before, _) found (after, _) =
 abbrev pub has_looked_at_turn : Then
 has_looked_at_turn step (before, _) found (after, _) = Goes (looked before.number) before after
     × ((group : ℕ) → step.word ≡ turn_place before.plan group → found ≡ turn_of before.plan after.seen group)
+
+abbrev pub has_looked_at_hints : Then
+has_looked_at_hints step (before, _) found (after, _) = Goes (looked before.number) before after
+    × ((group : ℕ) → step.word ≡ hints_place before.plan group → found ≡ hints_of after.seen group)
 
 abbrev pub id_said : Option ℕ → ℕ
 id_said none = 0
@@ -53,7 +58,8 @@ has_cleared step (before, _) found (after, _) =
 abbrev pub has_loaded : Then
 has_loaded step (before, _) found (after, _) =
     Goes (touched before.number (loaded step.word)) before after
-    × ((group : ℕ) → step.word ≡ marks_place before.plan group → found ≡ marks_of after.seen group)
+    × ((group : ℕ) → group < before.plan.groups → step.word ≡ marks_place before.plan group
+    → found ≡ marks_of after.seen group)
 
 abbrev pub has_marked : Then
 has_marked step (before, _) found (after, _) =
@@ -64,3 +70,8 @@ abbrev pub has_turned : Then
 has_turned step (before, _) found (after, _) =
     (group : ℕ) → step.word ≡ marks_place before.plan group
     → Goes (touched before.number (turned group step.first)) before after
+
+abbrev pub has_hinted : Then
+has_hinted step (before, _) found (after, _) =
+    (group : ℕ) → step.word ≡ hints_place before.plan group
+    → Goes (touched before.number (hinted group step.first)) before after

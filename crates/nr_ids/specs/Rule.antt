@@ -1,4 +1,4 @@
--- The rule of the table: its words show the names, the turns and the marks after one legal list of events, and each
+-- The rule of the table: its words show the names, turns, marks and hints after one legal list of events, and each
 -- token knows an end of that list.
 use Rattle.std.specs.Prelude.{◌≡◌, ℕ, ◌+◌, ◌*◌, ◌<◌, ◌≤◌, Bool, true, false, List, [], ◌++◌, length, slice_index}
 use mathlib.Core.Option.{some}
@@ -6,7 +6,7 @@ use lib.ListN.{get_elem?}
 use Rattle.atomic_table.specs.Table.{State}
 use Rattle.nr_ids.specs.declared.plan.Plan.{Plan}
 use Rattle.nr_ids.specs.Groups.{IsPlan, ways}
-use Rattle.nr_ids.specs.Events.{Event, own, marks_of, name_of, turn_of, IsLegal}
+use Rattle.nr_ids.specs.Events.{Event, own, hints_of, marks_of, name_of, turn_of, IsLegal}
 
 -- what a token knows
 pub record View : Type 0 where
@@ -70,22 +70,26 @@ pub record Later (log : List Event) (view : View) : Type 0 where
   pub is : log ≡ rest ++ view.seen
   pub quiet : view.calls ≡ true → own view.number rest ≡ []
 
--- the turn of a group stands behind all names
-abbrev pub turn_place : Plan → ℕ → ℕ
-turn_place plan group = ways plan + group
-
--- its marks stand behind all turns
+-- the marks of a group stand behind all names, and its hints beside them
 abbrev pub marks_place : Plan → ℕ → ℕ
-marks_place plan group = ways plan + plan.groups + group
+marks_place plan group = ways plan + 2 * group
+
+abbrev pub hints_place : Plan → ℕ → ℕ
+hints_place plan group = ways plan + 2 * group + 1
+
+-- its turn stands behind all of those
+abbrev pub turn_place : Plan → ℕ → ℕ
+turn_place plan group = ways plan + 2 * plan.groups + group
 
 abbrev pub total : Plan → ℕ
-total plan = ways plan + 2 * plan.groups
+total plan = ways plan + 3 * plan.groups
 
 pub record Shows (plan : Plan) (words : List ℕ) (log : List Event) : Type 0 where
   pub size : length words ≡ total plan
   pub names : (way : ℕ) → way < ways plan → slice_index words way ≡ name_of log way
   pub turns : (group : ℕ) → group < plan.groups → slice_index words (turn_place plan group) ≡ turn_of plan log group
   pub marks : (group : ℕ) → group < plan.groups → slice_index words (marks_place plan group) ≡ marks_of log group
+  pub hints : (group : ℕ) → group < plan.groups → slice_index words (hints_place plan group) ≡ hints_of log group
 
 pub record Fits (plan : Plan) (log : List Event) (made : ℕ) (view : View) : Type 0 where
   pub plan_is : view.calls ≡ true → view.plan ≡ plan

@@ -1,11 +1,13 @@
 //! What the clerk does: it answers claims, and takes names back.
 ghost use Rattle.std.specs.Prelude.{◌≡◌, ◌<◌, ◌*◌, ◌⊎◌, IfSome, Some, None};
 ghost use Rattle.nr_ids.specs.Answers.{Admits, Clears, FindsId, FindsWay, Unnames};
+ghost use Rattle.nr_ids.specs.Events.{name_of};
 ghost use Rattle.nr_ids.specs.Groups.{IsPlan, ways};
-ghost use Rattle.nr_ids.specs.Looking.{LooksForRoom, Rooms};
+ghost use Rattle.nr_ids.specs.Looking.{HintsNames, Rooms, SeesRoom, SetsHint};
 ghost use Rattle.nr_ids.specs.Tokens.{Sits, token};
 
 use crate::directory::{Directory, Seat};
+use crate::hints::{fitting, last, with_hint};
 use crate::plan::WAYS;
 use crate::tokens::Clerk;
 
@@ -31,8 +33,9 @@ pub(crate) struct Room {
 }
 
 impl Directory {
-    /// Answers the open claim of the id's group: the way that has the id's name from now on. Takes 19
-    /// steps; refused, 1 without a claim, 2 to 17 where a way has the name, 17 where both groups are full.
+    /// Answers the open claim of the id's group: the way that has the id's name from now on. Takes 1 step;
+    /// where a claim is open also those of `look_up`, where no way has the name 2 more, and where the
+    /// groups aren't both full 4 more.
     pub fn admit(&self, clerk: &mut Clerk, id: u64) -> Result<u32, Refused>
         requires own { clerk.old.directory ≡ self.now }
         requires id { 0 < id }
@@ -45,7 +48,13 @@ impl Directory {
         if turn % 2 == 0 {
             return Err(Refused::NoClaim);
         }
-        let way = self.room_for(seat, id)?;
+        if let Some(way) = self.scan(seat, id) {
+            return Err(Refused::Named(way));
+        }
+        let Some(way) = self.room_for(seat, id) else {
+            return Err(Refused::Full);
+        };
+        self.hint(seat, way, self.plan().hint_of(id));
         self.name(seat, way, id);
         self.close(seat, group, turn);
         Ok(way)
@@ -68,14 +77,16 @@ impl Directory {
         true
     }
 
-    /// Takes a way's name, in 1 step. A way without a name keeps none.
+    /// Takes a way's name and then its hint, in 3 steps. A way without a name keeps none.
     pub fn unname(&self, clerk: &mut Clerk, way: u32)
         requires own { clerk.old.directory ≡ self.now }
         requires way { way < ways self.now.plan }
         ensures own { clerk.new.directory ≡ self.now }
         ensures answer { Unnames way clerk.old clerk.new }
     {
-        self.unname_way(&mut clerk.seat, way);
+        let seat = &mut clerk.seat;
+        self.unname_way(seat, way);
+        self.hint(seat, way, 0);
     }
 
     /// The way that has the id's name, or none has it. The clerk knows this exactly. Takes the steps of
@@ -102,48 +113,55 @@ impl Directory {
         }
     }
 
-    /// A way of the id's that has no name, where no way has the id's.
-    fn room_for(&self, seat: &mut Seat, id: u64) -> Result<u32, Refused>
+    /// A way of the id's that has no name.
+    fn room_for(&self, seat: &mut Seat, id: u64) -> Option<u32>
         requires clerk { Sits self.now seat.old }
         requires number { (token seat.old).number ≡ 0 }
-        requires id { 0 < id }
+        requires hints { HintsNames (token seat.old) }
         ensures clerk { Sits self.now seat.new }
         ensures rooms { Rooms id (token seat.old) (token seat.new) result }
     {
         let plan = self.plan();
-        let here = self.room_in(seat, plan.group_of(id), id)?;
-        let there = self.room_in(seat, plan.second_of(id), id)?;
-        chosen(here, there).ok_or(Refused::Full)
+        let here = self.room_in(seat, plan.group_of(id));
+        let there = self.room_in(seat, plan.second_of(id));
+        chosen(here, there)
     }
 
-    /// The ways of a group that have no name, where none has the id's.
-    fn room_in(&self, seat: &mut Seat, group: u32, id: u64) -> Result<Room, Refused>
+    /// The ways of a group that have no name.
+    fn room_in(&self, seat: &mut Seat, group: u32) -> Room
         requires clerk { Sits self.now seat.old }
         requires number { (token seat.old).number ≡ 0 }
+        requires hints { HintsNames (token seat.old) }
         requires plan { IsPlan self.now.plan }
         requires group { group < self.now.plan.groups }
-        requires id { 0 < id }
         ensures clerk { Sits self.now seat.new }
-        ensures room { LooksForRoom id group (token seat.old) (token seat.new) result }
+        ensures room { SeesRoom group (token seat.old) (token seat.new) result }
     {
-        let mut room = Room {
-            way: None,
-            count: 0,
-        };
-        for place in 0..WAYS {
-            let way = WAYS * group + place;
-            let name = self.look(seat, way);
-            if name == id {
-                return Err(Refused::Named(way));
-            }
-            if name == 0 {
-                room = Room {
-                    way: Some(way),
-                    count: room.count + 1,
-                };
-            }
+        let free = fitting(self.look_at_hints(seat, group), 0);
+        if free == 0 {
+            return Room {
+                way: None,
+                count: 0,
+            };
         }
-        Ok(room)
+        Room {
+            way: Some(WAYS * group + last(free)),
+            count: free.count_ones(),
+        }
+    }
+
+    /// Gives a way without a name this hint, or takes it.
+    fn hint(&self, seat: &mut Seat, way: u32, hint: u8)
+        requires clerk { Sits self.now seat.old }
+        requires number { (token seat.old).number ≡ 0 }
+        requires way { way < ways self.now.plan }
+        requires free { name_of (token seat.old).seen way ≡ 0 }
+        ensures clerk { Sits self.now seat.new }
+        ensures hints { SetsHint way hint (token seat.old) (token seat.new) }
+    {
+        let group = way / WAYS;
+        let hints = self.look_at_hints(seat, group);
+        self.write_hints(seat, group, with_hint(hints, way % WAYS, hint));
     }
 }
 

@@ -1,16 +1,16 @@
-//! The table of names and turns. It is private to this module, whose functions make one step each.
+//! The table of names, hints, marks and turns. It is private to this module, whose functions make one step each.
 ghost use Rattle.std.specs.Prelude.{◌≡◌, ◌≢◌, ◌<◌, ◌%◌, true, false, IfOk, [], ◌∷◌};
-ghost use Rattle.nr_ids.specs.Events.{AreMarked, MayName, cleared, last_turn, loaded, looked, marked, marks_of, name_of, named, touched, turn_of, unnamed};
+ghost use Rattle.nr_ids.specs.Events.{AreMarked, KeepsHints, MayName, cleared, hinted, hints_of, last_turn, loaded, looked, marked, marks_of, name_of, named, touched, turn_of, unnamed};
 ghost use Rattle.nr_ids.specs.Groups.{IsPlan, group_of, places, ways};
 ghost use Rattle.nr_ids.specs.Marks.{LoadsMarks, TurnsMarks};
-ghost use Rattle.nr_ids.specs.Rule.{BeginsWith, counted, marks_place, next_reader, note_of, opener, retold, total, turn_place, with_note, with_reader};
+ghost use Rattle.nr_ids.specs.Rule.{BeginsWith, counted, hints_place, marks_place, next_reader, note_of, opener, retold, total, turn_place, with_note, with_reader};
 ghost use Rattle.nr_ids.specs.Scans.{Scanned};
 ghost use Rattle.nr_ids.specs.Tokens.{Grows, IsNote, Sits, WinsClaim, carried_by, token, view_of};
 
 use crate::plan::{Plan, WAYS};
 use crate::rule::{
-    Claims, Clears, Loads, LooksAtName, LooksAtTurn, MarksWay, Names, Notes, Retells, Rule, Seats,
-    TurnsOver, Unnames,
+    Claims, Clears, Loads, LooksAtHints, LooksAtName, LooksAtTurn, MarksWay, Names, Notes, Retells,
+    Rule, Seats, TurnsOver, Unnames, WritesHints,
 };
 use crate::view::View;
 use atomic_table::Table;
@@ -48,7 +48,7 @@ impl Directory {
         ensures directory { IfOk result (λ (directory, _). directory.plan ≡ plan) }
         ensures seat { IfOk result (λ (directory, seat). (seat.table_id ≡ directory.id) × (seat.me ≡ (opener plan, []))) }
     {
-        let words = vec![in alloc; 0; 10 * plan.groups as usize]?;
+        let words = vec![in alloc; 0; 11 * plan.groups as usize]?;
         let (table, seat) = Table::of_words(alloc, &words, &plan)?;
         Ok((Directory { table, plan }, seat))
     }
@@ -84,6 +84,20 @@ impl Directory {
         words.load::<LooksAtName>(seat, way as usize)
     }
 
+    /// A look at a group's hints.
+    #[inline(always)]
+    pub(crate) fn look_at_hints(&self, seat: &mut Seat, group: u32) -> u64
+        requires caller { Sits self.now seat.old }
+        requires group { group < self.now.plan.groups }
+        ensures caller { Sits self.now seat.new }
+        ensures grows { Grows (looked (token seat.old).number ∷ []) (token seat.old) (token seat.new) }
+        ensures value { result ≡ hints_of (token seat.new).seen group }
+    {
+        let words = &self.table.shared;
+        let place = self.hints_place(group);
+        words.load::<LooksAtHints>(seat, place)
+    }
+
     /// A look at a group's turn.
     pub(crate) fn look_at_turn(&self, seat: &mut Seat, group: u32) -> u64
         requires caller { Sits self.now seat.old }
@@ -116,8 +130,22 @@ impl Directory {
         found == was
     }
 
-    /// The clerk names a way of the id's group that has no name, where a claim of the group is open and
-    /// no way has the id.
+    /// The clerk writes a group's hints, of which those of ways that have a name stay.
+    pub(crate) fn write_hints(&self, seat: &mut Seat, group: u32, hints: u64)
+        requires clerk { Sits self.now seat.old }
+        requires number { (token seat.old).number ≡ 0 }
+        requires group { group < self.now.plan.groups }
+        requires keeps { KeepsHints (token seat.old).seen group hints }
+        ensures clerk { Sits self.now seat.new }
+        ensures grows { Grows (touched (token seat.old).number (hinted group hints) ∷ []) (token seat.old) (token seat.new) }
+    {
+        let words = &self.table.shared;
+        let place = self.hints_place(group);
+        words.store::<WritesHints>(seat, place, hints);
+    }
+
+    /// The clerk names a way of the id's that has its hint and no name, where a claim of the id's group is
+    /// open and no way has the id.
     pub(crate) fn name(&self, seat: &mut Seat, way: u32, id: u64)
         requires clerk { Sits self.now seat.old }
         requires number { (token seat.old).number ≡ 0 }
@@ -256,7 +284,7 @@ impl Directory {
         ensures value { result ≡ turn_place self.now.plan group }
         ensures inside { result < total self.now.plan }
     {
-        8 * self.plan.groups as usize + group as usize
+        10 * self.plan.groups as usize + group as usize
     }
 
     fn marks_place(&self, group: u32) -> usize
@@ -264,6 +292,14 @@ impl Directory {
         ensures value { result ≡ marks_place self.now.plan group }
         ensures inside { result < total self.now.plan }
     {
-        9 * self.plan.groups as usize + group as usize
+        8 * self.plan.groups as usize + 2 * group as usize
+    }
+
+    fn hints_place(&self, group: u32) -> usize
+        requires { group < self.now.plan.groups }
+        ensures value { result ≡ hints_place self.now.plan group }
+        ensures inside { result < total self.now.plan }
+    {
+        8 * self.plan.groups as usize + 2 * group as usize + 1
     }
 }

@@ -1,5 +1,5 @@
 //! Laws over the definitions alone. Nothing runs here: each function's contract is the law.
-ghost use Rattle.nr_ids.specs.Laws.{AtItsPlaces, ClerkKnows, EachPlaceIsChosen, FindsWhatItHeard, FindsWhatItKnew, MarksTell, OneClaim, OneNaming, OneWay, SecondIsAnother, TurnCounts};
+ghost use Rattle.nr_ids.specs.Laws.{AtItsPlaces, ClerkKnows, EachPlaceIsChosen, FindsWhatItHeard, FindsWhatItKnew, HintsTell, MarksTell, OneClaim, OneNaming, OneWay, SecondIsAnother, TurnCounts};
 
 /// An id has at most one way.
 pub fn one_way()
@@ -9,6 +9,11 @@ pub fn one_way()
 /// An id's way is one of its group, or of its second group.
 pub fn at_its_places()
     ensures { AtItsPlaces }
+{}
+
+/// A way that has an id's name has the id's hint, which isn't 0.
+pub fn hints_tell()
+    ensures { HintsTell }
 {}
 
 /// An id's second group is another one, where there are two.

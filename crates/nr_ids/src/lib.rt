@@ -3,6 +3,7 @@
 
 mod admissions;
 mod directory;
+mod hints;
 pub mod laws;
 mod marks;
 mod plan;

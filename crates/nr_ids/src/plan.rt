@@ -1,6 +1,6 @@
 //! What a directory is opened with, and the two groups of each id.
 ghost use Rattle.std.specs.Prelude.{◌≡◌, ◌<◌, ◌*◌, ◌↔◌, IsTrue};
-ghost use Rattle.nr_ids.specs.Groups.{IsBadPlan, IsPlan, group_of, mixed, second_of, ways};
+ghost use Rattle.nr_ids.specs.Groups.{IsBadPlan, IsPlan, group_of, hint_of, mixed, second_of, ways};
 
 /// The largest number of groups, whose ways can all be keys of one map.
 pub const MAX_GROUPS: u32 = 536_870_911;
@@ -56,6 +56,15 @@ impl Plan {
         let low = mixed(self.key, id) % (1 << 32);
         let scaled = low * (self.groups as u64 - 1);
         (self.group_of(id) + 1 + (scaled >> 32) as u32) % self.groups
+    }
+
+    /// The hint of an id, by which a way may be known to have another name. It is never 0.
+    #[tactic(auto, unfolding(crate::specs::Groups::hint_of))]
+    pub(crate) fn hint_of(&self, id: u64) -> u8
+        ensures value { result ≡ hint_of self.now id }
+    {
+        let bits = (mixed(self.key, id) >> 32) % (1 << 8);
+        (bits as u8).max(1)
     }
 }
 

@@ -6,6 +6,7 @@ ghost use Rattle.nr_ids.specs.Looking.{Scans, ScansGroup};
 ghost use Rattle.nr_ids.specs.Tokens.{Sits, token};
 
 use crate::directory::{Directory, Seat};
+use crate::hints::{first, fitting, others};
 use crate::plan::WAYS;
 use crate::tokens::Reader;
 use std::marker::Model;
@@ -66,9 +67,9 @@ pub enum Requested {
 }
 
 impl Directory {
-    /// The way that has the id's name. Takes 8 looks at the names of the id's group, and unless one of
-    /// them is the id's 8 more at those of its second group. `None`: within the call there was a moment at
-    /// which the id had no way.
+    /// The way that has the id's name. Takes a look at the hints of the id's group and one at the name of
+    /// each way that has the id's hint, up to the id's; and unless one of them is, the same of its second
+    /// group. `None`: within the call there was a moment at which the id had no way.
     pub fn look_up(&self, reader: &mut Reader, id: u64) -> Option<u32>
         requires own { reader.old.directory ≡ self.now }
         requires id { 0 < id }
@@ -78,9 +79,9 @@ impl Directory {
         self.scan(&mut reader.seat, id)
     }
 
-    /// Claims the id's group, where no claim of it is open and the id has no way. Takes 18 steps where
-    /// the claim is granted or another was within the call; where a way has the name 9, or 17 where that
-    /// is of the id's second group; else 1.
+    /// Claims the id's group, where no claim of it is open and the id has no way. Takes 1 step, where no
+    /// claim is open the steps of `look_up`, and 1 more where the claim is granted or another was within
+    /// the call.
     pub fn request(&self, reader: &mut Reader, id: u64) -> Requested
         requires own { reader.old.directory ≡ self.now }
         requires id { 0 < id }
@@ -123,26 +124,25 @@ impl Directory {
         }
     }
 
-    // The way of a group that has the id's name. No name ends the loop, and the place is a number until
-    // all are compared: a processor would have to guess at which place it is.
+    // The way of a group that has the id's name: one of those that have its hint.
     #[inline(always)]
     fn scan_group(&self, seat: &mut Seat, group: u32, id: u64) -> Option<u32>
         requires caller { Sits self.now seat.old }
         requires plan { IsPlan self.now.plan }
         requires group { group < self.now.plan.groups }
+        requires id { 0 < id }
         ensures caller { Sits self.now seat.new }
         ensures scans { ScansGroup id group (token seat.old) (token seat.new) result }
     {
-        let mut at = WAYS;
-        for place in 0..WAYS {
-            if self.look(seat, WAYS * group + place) == id {
-                at = place;
+        let hints = self.look_at_hints(seat, group);
+        let mut left = fitting(hints, self.plan().hint_of(id));
+        while left != 0 {
+            let way = WAYS * group + first(left);
+            if self.look(seat, way) == id {
+                return Some(way);
             }
+            left = others(left);
         }
-        if at < WAYS {
-            Some(WAYS * group + at)
-        } else {
-            None
-        }
+        None
     }
 }

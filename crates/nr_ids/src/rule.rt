@@ -70,6 +70,14 @@ impl Play<u64, View> for LooksAtTurn {
     ghost then = { has_looked_at_turn };
 }
 
+pub struct LooksAtHints;
+
+impl Play<u64, View> for LooksAtHints {
+    ghost use Rattle.nr_ids.specs.Plays.{has_looked_at_hints};
+
+    ghost then = { has_looked_at_hints };
+}
+
 /// A claim, or a look where the turn was another.
 pub struct Claims;
 
@@ -126,4 +134,12 @@ impl Play<u64, View> for TurnsOver {
     ghost use Rattle.nr_ids.specs.Plays.{has_turned};
 
     ghost then = { has_turned };
+}
+
+pub struct WritesHints;
+
+impl Play<u64, View> for WritesHints {
+    ghost use Rattle.nr_ids.specs.Plays.{has_hinted};
+
+    ghost then = { has_hinted };
 }

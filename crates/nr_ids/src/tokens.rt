@@ -26,13 +26,14 @@ pub struct Clerk {
 
 impl Model for Clerk {
     ghost use Rattle.std.specs.Prelude.{◌≡◌};
+    ghost use Rattle.nr_ids.specs.Looking.{HintsNames};
     ghost use Rattle.nr_ids.specs.Tokens.{Sits, Token, token};
 
     ghost Value = { Token };
 
     ghost view = { λ clerk. token clerk.seat };
 
-    ghost invariant = { λ clerk. Sits (token clerk.seat).directory clerk.seat × ((token clerk.seat).number ≡ 0) };
+    ghost invariant = { λ clerk. Sits (token clerk.seat).directory clerk.seat × ((token clerk.seat).number ≡ 0) × HintsNames (token clerk.seat) };
 }
 
 /// A token that looks ids up and claims groups, for one thread.
@@ -70,7 +71,7 @@ impl Model for Note {
 
 impl Directory {
     /// A directory without names, and its clerk. Refused unless there are 1 to 536,870,911 groups, and
-    /// then where there is no memory: a group takes 80 bytes, twice while it opens.
+    /// then where there is no memory: a group takes 88 bytes, twice while it opens.
     pub fn open(alloc: Global, plan: Plan) -> Result<(Directory, Clerk), OpenFault>
         ensures bad_size { (result ≡ Err OpenFault.BadSize) ↔ IsBadPlan plan }
         ensures ok { IfOk result (λ (directory, clerk). (directory.plan ≡ plan) × (clerk ≡ fresh_token directory 0)) }

@@ -1,8 +1,7 @@
 -- Each claim that a client is granted is posted, or kept: try by try.
-use Rattle.std.proofs.Common.{◌≡◌, ◌+◌, ℕ, zero, suc, List, [], ◌∷◌, ◌++◌, Option, None, Some, Ok, Err}
+use Rattle.std.proofs.Common.{◌≡◌, ◌≢◌, ℕ, zero, suc, List, [], ◌∷◌, ◌++◌, Option, None, Some, Ok, Err}
 use Rattle.std.proofs.Common.{refl, sym, ap, ◌∙◌, subst, append_assoc, append-nil, Bool, true, false}
 use Rattle.nr_model.specs.declared.rows.Row.{Row}
-use Rattle.nr_ids.specs.Groups.{places}
 use Rattle.nr_ids.specs.declared.requests.Requested.{Requested}
 use Rattle.nr_ids.specs.declared.requests.Requested.TheVariants as requested
 use Rattle.nr_ids.specs.Answers.{LooksUp, Requests}
@@ -10,6 +9,7 @@ use Rattle.nr_ids.specs.Marks.{SetsMark}
 use Rattle.nr_ids.specs.Events.{Event, Touch, claimed, cleared, looked, looks, named, own, touched, unnamed}
 use Rattle.nr_ids.specs.Tokens.{Granted, Grows, Token}
 use Rattle.nr_ids.proofs.Logs.{own_append}
+use Rattle.nr_ids.proofs.Through.{grant_looks, looks_up, request_looks}
 use Rattle.nr_idmap.specs.declared.finds.FoundId.{FoundId}
 use Rattle.nr_idmap.specs.declared.finds.FoundId.TheVariants as found
 use Rattle.nr_idmap.specs.declared.finds.NamedWay.{NamedWay}
@@ -161,19 +161,18 @@ reader_each old reader claims =
     [] claims (sym (append-nil old.poster.posted)) (append-nil (ids_kept old.kept))
 
 look_none : (id : ℕ) (old new : Token) (way : Option ℕ) → LooksUp id old new way → Claims old [] new
-look_none id old new (Some way) looks_up = claims_none old new (looks_up.count + 0) looks_up.grows
-look_none id old new None looks_up = claims_none old new places looks_up.0
+look_none id old new way seen = let all = looks_up id old new way seen in claims_none old new all.0 all.1
 
 way_none : (id : ℕ) (old new : Token) (at : Option NamedWay) → LooksForWay id old new at → Claims old [] new
-way_none id old new (Some at) looks_up =
-    claims_both old looks_up.0 new []
-    [] (look_none id old looks_up.0 (Some at.way) looks_up.1) (claims_touch _ looks_up.0 new looks_up.2.looks)
-way_none id old new None looks_up = look_none id old new None looks_up
+way_none id old new (Some at) seen =
+    claims_both old seen.0 new []
+    [] (look_none id old seen.0 (Some at.way) seen.1) (claims_touch _ seen.0 new seen.2.looks)
+way_none id old new None seen = look_none id old new None seen
 
 alone_none : (id : ℕ) (old new : Token) (at : Option NamedWay) → LooksAlone id old new at → Claims old [] new
-alone_none id old new at looks_up =
-    claims_both old looks_up.0 new []
-    [] (claims_touch _ old looks_up.0 looks_up.1) (way_none id looks_up.0 new at looks_up.2)
+alone_none id old new at seen =
+    claims_both old seen.0 new []
+    [] (claims_touch _ old seen.0 seen.1) (way_none id seen.0 new at seen.2)
 
 mark_none : (way : ℕ) (marked : Bool) (old new : Token) → SetsMark way marked old new → Claims old [] new
 mark_none way true old new same = same_token old new same
@@ -200,13 +199,22 @@ requested_ids requested.Busy = []
 requested_ids requested.Outrun = []
 requested_ids requested.Worn = []
 
+none_by : (id : ℕ) (old new : Token) (answer : Requested) → Requests id old new answer
+    → ((claim : Granted) → answer ≢ requested.Granted claim) → Claims old [] new
+none_by id old new answer requests none = let all = request_looks id old new answer none requests in
+    claims_none old new all.0 all.1
+
 refused_none : (id : ℕ) (old new : Token) (answer : Requested) → requested_ids answer ≡ [] → Requests id old new answer
     → Claims old [] new
 refused_none id old new (requested.Granted claim) none requests = let no : claim.id ∷ [] ≡ [] = none in absurd (cc (no))
-refused_none id old new (requested.Named way) none requests = claims_none old new (requests.count + 1) requests.grows
-refused_none id old new requested.Busy none requests = claims_none old new 1 requests.0
-refused_none id old new requested.Outrun none requests = claims_none old new (places + 2) requests.0
-refused_none id old new requested.Worn none requests = claims_none old new 1 requests.0
+refused_none id old new (requested.Named way) none requests = none_by id old new (requested.Named way) requests
+    (λ claim e. absurd (cc (e)))
+refused_none id old new requested.Busy none requests = none_by id old new requested.Busy requests
+    (λ claim e. absurd (cc (e)))
+refused_none id old new requested.Outrun none requests = none_by id old new requested.Outrun requests
+    (λ claim e. absurd (cc (e)))
+refused_none id old new requested.Worn none requests = none_by id old new requested.Worn requests
+    (λ claim e. absurd (cc (e)))
 
 -- no claim was kept and none is, and nothing was posted
 quiet_each : (old new : IdHands) → old.kept ≡ None → new.kept ≡ None → new.poster ≡ old.poster
@@ -223,10 +231,11 @@ request_each capacity id old missed.NotRequested new requests =
     subst (λ (hands : IdHands). PostsEach old hands) (sym requests.2) (each_same old)
 request_each capacity id old missed.Claimed new requests =
     let won = requests.requests.requests in
+    let all = grant_looks id old.reader.ids new.reader.ids won.0 in
     post_each capacity old new (Some requests.claim) (id ∷ [])
     (claims_of old.reader.ids new.reader.ids
-    (claimed old.reader.ids.number id ∷ looks (places + 1) old.reader.ids.number) (id ∷ []) won.0.grows
-    (ap (λ (ids : List ℕ). ids ++ id ∷ []) (looks_claim_none (places + 1) old.reader.ids.number)))
+    (claimed old.reader.ids.number id ∷ looks all.0 old.reader.ids.number) (id ∷ []) all.1
+    (ap (λ (ids : List ℕ). ids ++ id ∷ []) (looks_claim_none all.0 old.reader.ids.number)))
     requests.posts
     (ap (λ (kept : Option Granted). ids_kept kept ++ id ∷ []) requests.requests.none
     ∙ ap (λ (at : ℕ). at ∷ []) (sym won.2))

@@ -1,13 +1,15 @@
 -- Where each way of an id's groups has a name, an id is chosen; and its eviction makes room.
-use Rattle.std.proofs.Common.{◌≡◌, ℕ, Bool, false, true, List, Option, None, Some, Err, sym, ap, ◌∙◌}
+use Rattle.std.proofs.Common.{◌≡◌, ℕ, Bool, false, true, Option, None, Some, Err, sym, ap, ◌∙◌}
 use Rattle.nr_board.specs.declared.answers.Evict.TheVariants as evict
 use Rattle.nr_ids.specs.declared.admissions.Refused.TheVariants as refused
-use Rattle.nr_ids.specs.Events.{Event, name_of}
+use Rattle.nr_ids.specs.Events.{name_of}
 use Rattle.nr_ids.specs.Groups.{group_of, group_of_way}
 use Rattle.nr_ids.specs.Looking.{IsFull, group_for}
 use Rattle.nr_ids.specs.Tokens.{Opened, Token}
 use Rattle.nr_ids.proofs.Calls.{LeavesNames, at_first, chooses_leave, chosen_group, clerk_looks, leaves_names}
-use Rattle.nr_ids.proofs.Calls.{looks_leave}
+use Rattle.nr_ids.proofs.Calls.{clerk_names, looks_leave}
+use Rattle.nr_ids.proofs.Admitting.{refusal_looks}
+use Rattle.nr_ids.proofs.Through.{way_looks}
 use Rattle.nr_ids.proofs.Logs.{cond_same, one_way}
 use Rattle.nr_idmap.specs.IdChoices.{ChoosesId}
 use Rattle.nr_idmap.specs.IdWrites.{EvictsId}
@@ -78,8 +80,8 @@ evicts_chosen : (id victim : ℕ) (old chosen new : Keeper) → old.clerk.number
     → ChoosesId id old.clerk chosen.clerk (Some victim) → EvictsId victim chosen new evict.Evicted
     → HasFree id new.clerk
 evicts_chosen id victim old chosen new number chooses evicts =
-    let gone = evicts.1.unnames in
-    let found = evicts.1.finds.0.grows in
+    let gone = evicts.1.unnames.grows in
+    let found = (way_looks victim chosen.clerk evicts.1.mid (Some evicts.0) evicts.1.finds).1 in
     let first = chose id old.clerk chosen.clerk (Some victim) chooses in
     let grows = first.0.1 in
     let here = chooses.names.0.number ∙ grows.number ∙ number in
@@ -96,8 +98,8 @@ evicts_chosen id victim old chosen new number chooses evicts =
           ∙ ap (λ (directory : Opened). group_of directory.plan id)
           (sym (gone.directory ∙ found.directory ∙ chooses.names.0.directory ∙ grows.directory));
       free =
-          ap (λ (log : List Event). name_of log chooses.way) gone.newest.1
-          ∙ cond_same 0 (name_of gone.newest.0 chooses.way) evicts.0 chooses.way same;
+          clerk_names evicts.1.mid _ new.clerk chooses.way (found.number ∙ here) gone
+          ∙ cond_same 0 (name_of evicts.1.mid.seen chooses.way) evicts.0 chooses.way same;
     }
 
 was_evicted : (may_go : Bool) (id : ℕ) (old new : IdFlowSeen) → EvictsIf may_go id old new true
@@ -110,8 +112,9 @@ pub room_is_made : (id : ℕ) (say : Say) (old room new : IdFlowSeen) → old.wr
     → MakesRoom id say old room true → AdmitsOne id room new (Err refused.Full) → ⊥
 room_is_made id say old room new number makes admits =
     let seen = admits.0.refused in
+    let looks = refusal_looks id room.writer.clerk new.writer.clerk refused.Full seen in
     has_free_not_full id new.writer.clerk
-    (free_later id room.writer.clerk new.writer.clerk (looks_leave 17 room.writer.clerk new.writer.clerk seen.0)
+    (free_later id room.writer.clerk new.writer.clerk (looks_leave looks.0 room.writer.clerk new.writer.clerk looks.1)
     (evicts_chosen id say.id old.writer makes.0.writer room.writer number makes.1.chooses
     (was_evicted say.may_go say.id makes.0 room makes.2).evicts))
     seen.1

@@ -1,6 +1,6 @@
 -- The sleeps of a get by id, put together over its tries.
 use Rattle.std.proofs.Common.{◌≡◌, ℕ, ◌+◌, ◌-◌, ◌<◌, ◌≤◌, ◌⊎◌, ◌∙◌, zero, suc, List, Option, None, Some}
-use Rattle.std.proofs.Common.{Result, Ok, Err, length, refl, sym, subst, arith, inl, inr, ⊎_elim, slice_index}
+use Rattle.std.proofs.Common.{Ok, Err, refl, sym, subst, arith, inl, inr, ⊎_elim, slice_index}
 use Rattle.nr_model.specs.declared.rows.Row.{Row}
 use Rattle.nr_ids.specs.Tokens.{Granted}
 use Rattle.nr_serve.specs.Counts.{GuestSeen, IsLaterOf, closed_at, group_at}

@@ -8,6 +8,8 @@ pub mod SlotBounds
 pub mod HandSteps
 pub mod Pinning
 pub mod Tagging
+pub mod KeptTags
+pub mod FirstRows
 pub mod CountedFinds
 pub mod Loading
 pub mod FindsEach

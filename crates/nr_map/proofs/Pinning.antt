@@ -28,7 +28,8 @@ use Rattle.nr_board.specs.declared.board.Own.{Own}
 use Rattle.nr_board.specs.declared.holds.Held.{Held}
 use Rattle.nr_map.specs.declared.hand.Kept.{Kept}
 use Rattle.nr_map.specs.Pins.{HoldsSlot, Pins, PinsKey}
-use Rattle.nr_map.specs.Hands.{CopiesHeld, FindsKept, Handed, HoldsKey, KeepsByHand, LetsGo, MovesByHand, PinsByHand}
+use Rattle.nr_map.specs.Hands.{CopiesHeld, FindsAndReads, FindsHeld, FindsKept, Handed, HoldsAnew, HoldsKey}
+use Rattle.nr_map.specs.Hands.{KeepsByHand, LetsGo, MovesByHand, PinsByHand}
 use Rattle.nr_map.specs.Hands.{departed, goes_on, handed, steps_to_depart}
 use Rattle.nr_map.proofs.HandSteps.{finds_loud, holds_slot, loud_by_word}
 
@@ -164,9 +165,8 @@ moves_by_hand table key word own old new was kept held pins loud same moves =
       ap (λ (m : Marks). m.loads) so.marks_are,
     )
 
--- a hand that keeps its hold read the rows that it holds
-module _ {Room : Type 0} (shows : Room → List Row → Type 0) (key : ℕ) (old mid new : Handed) (before room : Room)
-    (copies : CopiesHeld (2 * length mid.rows) mid new) (shown : shows room mid.rows) where
+-- a hand that keeps its hold read on, of what it holds
+module _ (key : ℕ) (old mid new : Handed) (more : ℕ) (copies : CopiesHeld more mid new) where
   still_holds : HoldsKey key old mid → HoldsKey key old new
   still_holds so = record {
     key_is = copies.key_is ∙ so.key_is;
@@ -183,29 +183,26 @@ module _ {Room : Type 0} (shows : Room → List Row → Type 0) (key : ℕ) (old
         (put_number (sym copies.rests.seen j) key));
   }
 
-  pub finds_kept : KeepsByHand key old mid true → FindsKept shows key old before new room found.Rows
-  finds_kept keeps = ⊎_elim
-      (λ again. inl (
-        record {
-          held = again.held;
-          gains =
-              grows_rests 1 (2 * length mid.rows) (2 * length old.rows + 1) old.reader
-              (entry old.reader.number (model.Find key) (reply.Rows old.rows) ∷ []) mid.reader new.reader
-              (omega (arith, ap (λ (l : List Row). length l) again.rows)) again.gains copies.rests;
-          put =
-              subst
-              (λ (p : Table × List Entry). (kind_of (state_of (after (map_at_opening p.0) p.1) key) ≡ kind.Rows)
-              × (put_number p.1 key ≡ old.reader.marks.put))
-              (λ j. (sym copies.rests.table j, sym copies.rests.seen j)) again.put;
-          key_is = copies.key_is ∙ again.key_is;
-          rows = copies.rows ∙ again.rows;
-          holds = copies.holds ∙ again.holds;
-          says = copies.says ∙ again.says;
-          marks = subst (LooksAgain key old.reader.holds true old.reader.marks) (sym copies.marks) again.marks;
-        },
-        subst (shows room) again.rows shown,
-        refl,
-      ))
+  pub reads_on : (read sum : ℕ) → sum ≡ read + more → FindsAndReads read key old mid → FindsAndReads sum key old new
+  reads_on read sum is keeps = ⊎_elim
+      (λ again. inl
+      (record {
+        held = again.held;
+        gains =
+            grows_rests (read + 1) more (sum + 1) old.reader
+            (entry old.reader.number (model.Find key) (reply.Rows old.rows) ∷ []) mid.reader new.reader
+            (omega (arith, is)) again.gains copies.rests;
+        put =
+            subst
+            (λ (p : Table × List Entry). (kind_of (state_of (after (map_at_opening p.0) p.1) key) ≡ kind.Rows)
+            × (put_number p.1 key ≡ old.reader.marks.put))
+            (λ j. (sym copies.rests.table j, sym copies.rests.seen j)) again.put;
+        key_is = copies.key_is ∙ again.key_is;
+        rows = copies.rows ∙ again.rows;
+        holds = copies.holds ∙ again.holds;
+        says = copies.says ∙ again.says;
+        marks = subst (LooksAgain key old.reader.holds true old.reader.marks) (sym copies.marks) again.marks;
+      }))
       (λ anew. let so = anew.1 in let f = so.2 in inr (
         (λ own.
             let asked = anew.0 own in (
@@ -215,30 +212,45 @@ module _ {Room : Type 0} (shows : Room → List Row → Type 0) (key : ℕ) (old
               (asked.3.0, ap (λ (m : Marks). m.loads) copies.marks ∙ asked.3.1),
             )),
         (
-          (
-            so.0,
-            so.1,
-            record {
-              steps = f.steps;
-              named = f.named;
-              says = f.says;
-              holds_in = f.holds_in;
-              looks = ap (λ (m : Marks). m.loads) copies.marks ∙ f.looks;
-              gains =
-                  subst
-                  (λ (rows : List Row). Gains (f.steps + (so.0 + 2 * length new.rows)) (model.Find key) old.reader
-                  new.reader (reply.Rows rows))
-                  (sym copies.rows)
-                  (grows_rests (f.steps + (so.0 + 0)) (2 * length mid.rows) (f.steps + (so.0 + 2 * length new.rows))
-                  old.reader (entry old.reader.number (model.Find key) (reply.Rows mid.rows) ∷ []) mid.reader
-                  new.reader
-                  (omega (arith, ap (λ (l : List Row). length l) copies.rows)) f.gains copies.rests);
-            },
-            so.3,
-            still_holds so.4,
-            copies.says ∙ so.5,
-          ),
-          subst (shows room) (sym copies.rows) shown,
+          so.0,
+          so.1,
+          record {
+            steps = f.steps;
+            named = f.named;
+            says = f.says;
+            holds_in = f.holds_in;
+            looks = ap (λ (m : Marks). m.loads) copies.marks ∙ f.looks;
+            gains =
+                subst
+                (λ (rows : List Row). Gains (f.steps + (so.0 + sum)) (model.Find key) old.reader new.reader
+                (reply.Rows rows))
+                (sym copies.rows)
+                (grows_rests (f.steps + (so.0 + read)) more (f.steps + (so.0 + sum)) old.reader
+                (entry old.reader.number (model.Find key) (reply.Rows mid.rows) ∷ []) mid.reader new.reader
+                (omega (arith, is)) f.gains copies.rests);
+          },
+          so.3,
+          still_holds so.4,
+          copies.says ∙ so.5,
         ),
       ))
       keeps
+
+-- it read all rows that it holds
+module _ {Room : Type 0} (shows : Room → List Row → Type 0) (key : ℕ) (old mid new : Handed) (before room : Room)
+    (copies : CopiesHeld (2 * length mid.rows) mid new) (shown : shows room mid.rows) where
+  pub finds_kept : KeepsByHand key old mid true → FindsKept shows key old before new room found.Rows
+  finds_kept keeps = ⊎_elim
+      (λ again. let same : mid.rows ≡ old.rows = sym copies.rows ∙ again.rows in inl (
+        subst (λ (l : List Row). FindsHeld (2 * length l + 1) key old new) same again,
+        subst (shows room) same shown,
+        refl,
+      ))
+      (λ anew. inr (
+        anew.0,
+        (
+          subst (λ (l : List Row). HoldsAnew (2 * length l) key old new) (sym copies.rows) anew.1,
+          subst (shows room) (sym copies.rows) shown,
+        ),
+      ))
+      (reads_on key old mid new (2 * length mid.rows) copies 0 (2 * length mid.rows) (omega arith) keeps)

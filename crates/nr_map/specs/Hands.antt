@@ -229,6 +229,12 @@ abbrev pub FindsAnew : {Room : Type 0} → (Room → List Row → Type 0) → �
 FindsAnew shows key old before new room found.Rows = HoldsAnew (2 * length new.rows) key old new × shows room new.rows
 FindsAnew shows key old before new room found.Hole = FindsNone key old new × (room ≡ before)
 
+-- A find by a hand that keeps its hold, of a filled key, after which it read of the rows in so many steps: the key has
+-- the set still that it held, or it found anew.
+abbrev pub FindsAndReads : ℕ → ℕ → Handed → Handed → Type 0
+FindsAndReads more key old new =
+    FindsHeld (more + 1) key old new ⊎ ((old.key ≡ Some key → AskedBefore key old new) × HoldsAnew more key old new)
+
 -- a find by a hand that keeps its hold: it reads the rows that it holds where the key has them still, and else finds
 -- anew
 abbrev pub FindsKept : {Room : Type 0} → (Room → List Row → Type 0) → ℕ → Handed → Room → Handed → Room → Found → Type 0

@@ -3,6 +3,7 @@ pub mod Tokens
 pub mod Pins
 pub mod Hands
 pub mod Tagged
+pub mod FirstRows
 pub mod Written
 pub mod Opened
 pub mod Tickets

@@ -1,6 +1,6 @@
 //! A reader that is idle or holds the set of a key, from call to call.
 ghost use Rattle.std.specs.Prelude.{◌≡◌, ◌<◌, ◌*◌, length, slice_get, IsSome, None, Some};
-ghost use Rattle.nr_map.specs.Hands.{AgainByHand, BecomesPin, LetsGo, KeepsByHand, MovesByHand, PinsByHand, CopiesHeld, held_for, in_hand, idle};
+ghost use Rattle.nr_map.specs.Hands.{AgainByHand, BecomesPin, LetsGo, PinsByHand, CopiesHeld, held_for, in_hand, idle};
 ghost use Rattle.nr_map.specs.Answers.{AsksKey};
 ghost use Rattle.nr_board.specs.Callers.{KnowsOwn};
 ghost use Rattle.nr_board.specs.Holds.{HoldsWhatItSays};
@@ -14,7 +14,6 @@ use crate::reader_map::ReaderMap;
 use crate::token::Token;
 use nr_board::Held;
 use nr_model::{Row, RowRoom};
-use nr_words::names;
 use std::marker::Model;
 
 /// A reader between two calls, whether it holds nothing or the set that it found of a key. What it
@@ -22,14 +21,14 @@ use std::marker::Model;
 /// it.
 pub struct Hand {
     pub(crate) caller: Token,
-    held: Option<Kept>,
+    pub(crate) held: Option<Kept>,
 }
 
 // The key whose set is held, and what is held of it.
 #[derive(Clone, Copy)]
 pub(crate) struct Kept {
-    key: u32,
-    set: Held,
+    pub(crate) key: u32,
+    pub(crate) set: Held,
 }
 
 impl Model for Hand {
@@ -222,59 +221,6 @@ impl Hand {
                     .find_again(&mut self.caller.seat, kept.set.slot, key)
             }
             _ => false,
-        }
-    }
-
-    // Holds the set of a key: the one that is held, where the key has it still, or what a find finds.
-    pub(crate) fn keep(&mut self, map: &ReaderMap, key: u32) -> bool
-        requires own { self.old.reader.table ≡ map.now }
-        requires key { key < map.now.shape.keys }
-        ensures own { self.new.reader.table ≡ map.now }
-        ensures keeps { KeepsByHand key self.old self.new result }
-    {
-        let Some(kept) = self.held else {
-            return self.pin(map, key);
-        };
-        if kept.key == key {
-            let word = map
-                .board
-                .look_again(&mut self.caller.seat, kept.set.slot, key);
-            if names(word, kept.set.slot) {
-                return true;
-            }
-            return self.move_to(map, key, word);
-        }
-        if kept.set.says == 0 {
-            return self.pin(map, key);
-        }
-        let word = map.board.look_ahead(&mut self.caller.seat, key);
-        self.move_to(map, key, word)
-    }
-
-    // Goes on from the set that is held to a key, whose word was loaded: a reader that holds by its
-    // word announces the slot that this names.
-    fn move_to(&mut self, map: &ReaderMap, key: u32, word: u64) -> bool
-        requires own { self.old.reader.table ≡ map.now }
-        requires key { key < map.now.shape.keys }
-        requires holds { IsSome self.old.key }
-        ensures own { self.new.reader.table ≡ map.now }
-        ensures moves { MovesByHand key word self.old self.new result }
-    {
-        match self.held {
-            Some(kept) if kept.set.says > 0 => {
-                let own = self.caller.own;
-                match map.board.move_to(&mut self.caller.seat, own, key, word) {
-                    Some(set) => {
-                        self.held = Some(Kept { key, set });
-                        true
-                    }
-                    None => {
-                        self.held = None;
-                        false
-                    }
-                }
-            }
-            _ => self.pin(map, key),
         }
     }
 

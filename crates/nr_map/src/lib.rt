@@ -33,8 +33,10 @@
 mod ahead;
 mod answers;
 mod cancels;
+mod first_rows;
 mod hand;
 mod kept;
+mod kept_tagged;
 mod large;
 pub mod laws;
 mod meetings;

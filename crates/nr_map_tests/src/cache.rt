@@ -13,6 +13,7 @@ use std::process::Abort;
 /// Sixteen values, one reader, and room for two flights and one change.
 const SMALL: StoreShape = StoreShape {
     groups: 2,
+    capacity: 16,
     key: 0x9E37_79B9_7F4A_7C15,
     readers: 1,
     flights: 2,
@@ -41,7 +42,18 @@ impl Model for Shelf {
 
 impl Shelf {
     fn open<R: AllocGlobal + Abort>(rt: &R) -> Shelf {
-        let (map, store, mut readers) = Store::open(rt.alloc(), &SMALL).expect(rt, "memory");
+        Shelf::of(rt, &SMALL)
+    }
+
+    /// Of that many values, in two groups.
+    fn of_few<R: AllocGlobal + Abort>(rt: &R, capacity: u32) -> Shelf {
+        Shelf::of(rt, &StoreShape { capacity, ..SMALL })
+    }
+
+    fn of<R: AllocGlobal + Abort>(rt: &R, shape: &StoreShape) -> Shelf
+        requires { shape.now.readers ≡ 1 }
+    {
+        let (map, store, mut readers) = Store::open(rt.alloc(), shape).expect(rt, "memory");
         let reader = readers.pop().expect(rt, "a reader");
         Shelf {
             map,
@@ -120,14 +132,23 @@ impl Shelf {
 
     /// Whether the value is held.
     fn lands(&mut self, number: u64, value: u64) -> bool {
-        let landed = self.store.land(&self.map, number, 1, value, &mut self.had);
+        let landed = self
+            .store
+            .land(&self.map, number, 1, value, 0, &mut self.had);
         matches!(landed, Landed::Held(_))
     }
 
     fn puts(&mut self, id: u64, value: u64) -> Landed
         requires { 0 < id }
     {
-        self.store.put(&self.map, id, 1, value, &mut self.had)
+        self.stamps(id, 1, value, 0)
+    }
+
+    fn stamps(&mut self, id: u64, stamp: u64, value: u64, bound: u64) -> Landed
+        requires { (0 < id) × (0 < stamp) }
+    {
+        let had = &mut self.had;
+        self.store.put(&self.map, id, stamp, value, bound, had)
     }
 
     fn finds<R: Abort>(&mut self, rt: &R, id: u64, value: Option<u64>)
@@ -356,6 +377,80 @@ fn a_landing_makes_room(rt: HostRuntime) {
 }
 
 #[test]
+fn one_value_goes_where_the_store_is_full(rt: HostRuntime) {
+    let mut shelf = Shelf::of_few(&rt, 3);
+    for id in 1..4u64 {
+        assert!(&rt; matches!(shelf.puts(id, 10 * id), Landed::Held(_)));
+        shelf.counts(&rt, id as u32, 0, 0);
+    }
+    for id in 4..40u64 {
+        assert!(&rt; matches!(shelf.puts(id, 10 * id), Landed::Held(_)));
+        shelf.counts(&rt, 3, 0, 0);
+        shelf.looks(&rt, id, Some(10 * id));
+    }
+    // A value in place of another makes no other go.
+    assert!(&rt; matches!(shelf.puts(39, 391), Landed::Held(_)));
+    shelf.counts(&rt, 3, 0, 0);
+    shelf.store.is_within();
+    shelf.closes(&rt, &[]);
+}
+
+// The hand passes what was found since it came there last.
+#[test]
+fn what_is_found_stays(rt: HostRuntime) {
+    let mut shelf = Shelf::of_few(&rt, 4);
+    for id in 1..40u64 {
+        assert!(&rt; matches!(shelf.puts(id, 10 * id), Landed::Held(_)));
+        shelf.finds(&rt, 1, Some(10));
+    }
+    shelf.closes(&rt, &[]);
+}
+
+// What is below the bound goes, though it was found and the others were not.
+#[test]
+fn a_value_below_the_bound_goes_first(rt: HostRuntime) {
+    for stale in 1..5u64 {
+        has_gone(&rt, stale, 5, false);
+        has_gone(&rt, stale, 6, true);
+    }
+}
+
+/// Whether the one of four values goes whose stamp is 5, for the bound. The clock passes it.
+fn has_gone<R: AllocGlobal + Abort>(rt: &R, stale: u64, bound: u64, is_gone: bool)
+    requires { 0 < stale }
+{
+    let mut shelf = Shelf::of(
+        rt,
+        &StoreShape {
+            groups: 1,
+            capacity: 4,
+            ..SMALL
+        },
+    );
+    for id in 1..5u64 {
+        let stamp = if id == stale { 5 } else { 6 };
+        assert!(rt; matches!(shelf.stamps(id, stamp, 10 * id, 0), Landed::Held(_)));
+    }
+    assert!(rt; find(&shelf.map, &mut shelf.hand, stale).is_some());
+    assert!(rt; matches!(shelf.stamps(5, 6, 50, bound), Landed::Held(_)));
+    let found = shelf.store.look(&shelf.map, stale);
+    is_same(rt, &found.is_none(), &is_gone);
+    shelf.closes(rt, &[]);
+}
+
+// Where all are found, one goes all the same.
+#[test]
+fn of_found_values_one_goes(rt: HostRuntime) {
+    let mut shelf = Shelf::of_few(&rt, 1);
+    for id in 1..40u64 {
+        assert!(&rt; matches!(shelf.puts(id, 10 * id), Landed::Held(_)));
+        shelf.finds(&rt, id, Some(10 * id));
+        shelf.counts(&rt, 1, 0, 0);
+    }
+    shelf.closes(&rt, &[]);
+}
+
+#[test]
 fn bad_sizes_of_a_store_are_refused(rt: HostRuntime) {
     let bad = [
         StoreShape { groups: 0, ..SMALL },
@@ -365,6 +460,14 @@ fn bad_sizes_of_a_store_are_refused(rt: HostRuntime) {
         },
         StoreShape {
             readers: 0,
+            ..SMALL
+        },
+        StoreShape {
+            capacity: 0,
+            ..SMALL
+        },
+        StoreShape {
+            capacity: 17,
             ..SMALL
         },
     ];

@@ -37,6 +37,28 @@ fn found_by_hand(map: &ReaderMap, hand: &mut Hand, key: u32) -> (Tagged, RowSet)
     (answer, room)
 }
 
+fn kept_by_hand(map: &ReaderMap, hand: &mut Hand, key: u32) -> (Tagged, RowSet)
+    requires own { hand.old.reader.table ≡ map.now }
+    requires key { key < map.now.shape.keys }
+    ensures own { hand.new.reader.table ≡ map.now }
+{
+    let mut room = rows_of(&BEFORE);
+    let answer = hand.find_tagged_kept(map, key, TAG, &mut room);
+    (answer, room)
+}
+
+// What is told of the key's set into two rows, and its rows behind the tag.
+fn found_first(map: &ReaderMap, hand: &mut Hand, key: u32) -> (Option<u32>, (Tagged, u32), [Row; 2])
+    requires own { hand.old.reader.table ≡ map.now }
+    requires key { key < map.now.shape.keys }
+    ensures own { hand.new.reader.table ≡ map.now }
+{
+    let mut cells = [Row { a: 9, b: 9 }; 2];
+    let all = hand.find_first(map, key, &mut cells[..1]);
+    let behind = hand.find_tagged_first(map, key, TAG, &mut cells[1..]);
+    (all, behind, cells)
+}
+
 fn is_found<R: Abort>(rt: &R, found: &(Tagged, RowSet), answer: Tagged, pairs: &[(u64, u64)]) {
     is_same(rt, &found.0, &answer);
     are_same(rt, found.1.as_slice(), rows_of(pairs).as_slice());
@@ -77,6 +99,51 @@ fn hand_finds<R: Abort>(rt: &R, map: &ReaderMap, mut hand: Hand)
     hand.into_reader(map);
 }
 
+fn hand_finds_rows<R: Abort>(rt: &R, map: &ReaderMap, hand: &mut Hand)
+    requires own { hand.old.reader.table ≡ map.now }
+    requires keys { map.now.shape.keys ≡ 5 }
+    ensures own { hand.new.reader.table ≡ map.now }
+{
+    let tagged = kept_by_hand(map, hand, 0);
+    is_found(rt, &tagged, Tagged::Rows, &BEHIND);
+    is_same(rt, &(hand.key(), hand.len()), &(Some(0), 3));
+}
+
+// The hand goes on from set to set, and holds the one that it found last, whichever that is.
+fn hand_goes_on<R: Abort>(rt: &R, map: &ReaderMap, hand: &mut Hand)
+    requires own { hand.old.reader.table ≡ map.now }
+    requires keys { map.now.shape.keys ≡ 5 }
+    ensures own { hand.new.reader.table ≡ map.now }
+{
+    hand_finds_rows(rt, map, hand);
+    hand_finds_rows(rt, map, hand);
+    let other = kept_by_hand(map, hand, 1);
+    is_found(rt, &other, Tagged::Other, &BEFORE);
+    is_same(rt, &(hand.key(), hand.len()), &(Some(1), 2));
+    let empty = kept_by_hand(map, hand, 3);
+    is_found(rt, &empty, Tagged::Other, &BEFORE);
+    let hole = kept_by_hand(map, hand, 4);
+    is_found(rt, &hole, Tagged::Hole, &BEFORE);
+    is_same(rt, &hand.key(), &None);
+}
+
+// Into too little room the first rows go, and the count tells of the others.
+fn hand_finds_first<R: Abort>(rt: &R, map: &ReaderMap, hand: &mut Hand)
+    requires own { hand.old.reader.table ≡ map.now }
+    requires keys { map.now.shape.keys ≡ 5 }
+    ensures own { hand.new.reader.table ≡ map.now }
+{
+    let (all, behind, cells) = found_first(map, hand, 0);
+    is_same(rt, &(all, behind), &(Some(3), (Tagged::Rows, 2)));
+    are_same(rt, &cells, rows_of(&[(0, 5), (0, 6)]).as_slice());
+    let (all, behind, cells) = found_first(map, hand, 1);
+    is_same(rt, &(all, behind), &(Some(2), (Tagged::Other, 0)));
+    are_same(rt, &cells, &[Row { a: 0, b: 6 }, Row { a: 9, b: 9 }]);
+    let (all, behind, cells) = found_first(map, hand, 4);
+    is_same(rt, &(all, behind), &(None, (Tagged::Hole, 0)));
+    are_same(rt, &cells, &[Row { a: 9, b: 9 }; 2]);
+}
+
 fn fills<R: Abort>(rt: &R, worked: &mut Worked, key: u32, pairs: &[(u64, u64)])
     ensures { worked.new ≡ worked.old }
 {
@@ -104,5 +171,8 @@ fn tagged_sets_are_found_by_their_tags(rt: HostRuntime) {
         mut reader,
     } = filled(&rt);
     reader_finds(&rt, &map, &mut reader);
-    hand_finds(&rt, &map, Hand::of(reader));
+    let mut hand = Hand::of(reader);
+    hand_goes_on(&rt, &map, &mut hand);
+    hand_finds_first(&rt, &map, &mut hand);
+    hand_finds(&rt, &map, hand);
 }

@@ -22,10 +22,10 @@ pub(crate) fn drop_each<T>(doomed: impl IntoIterator<Item = T>) {
     with_each(doomed, drop);
 }
 
-/// Drops each of them and gives the result, which is dropped too where one of them panics: as it unwinds a second panic
+/// Does it with each of them and gives the result, which is dropped where it panics with one: as it unwinds a second panic
 /// would end the program.
-pub(crate) fn drop_each_then<T, R>(doomed: impl IntoIterator<Item = T>, result: R) -> R {
-    if let Some(why) = panic_of(|| drop_each(doomed)) {
+pub(crate) fn with_each_then<T, R>(all: impl IntoIterator<Item = T>, result: R, work: impl FnMut(T)) -> R {
+    if let Some(why) = panic_of(|| with_each(all, work)) {
         _ = panic_of(|| drop(result));
         resume_unwind(why);
     }

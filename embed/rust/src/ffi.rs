@@ -1,6 +1,6 @@
 //! The functions of `include/nr.h`.
-use crate::ids::{IdShape, Upquery};
-use crate::{Delta, Row, Rows, Shape, Sizes, SlotCounts, Wanted};
+use crate::ids::{Counted, Given, IdShape, Loading, Stamped};
+use crate::{Delta, Found, Row, Rows, Shape, Sizes, SlotCounts, Wanted};
 use std::ffi::c_void;
 
 /// A handle of any kind. Each token of this crate opens one as it is made, so that it is live, and closes it as it is
@@ -31,7 +31,6 @@ pub const NR_NO_SLOT: u32 = 12;
 pub const NR_EVICTED: u32 = 13;
 pub const NR_CANCELLED: u32 = 14;
 pub const NR_NOTHING: u32 = 15;
-pub const NR_WORN: u32 = 16;
 pub const NR_BAD_BATCH: u32 = 18;
 pub const NR_NOT_SORTED: u32 = 19;
 pub const NR_BAD_SIZE: u32 = 20;
@@ -56,6 +55,7 @@ extern "C" {
     pub fn nr_close_writer(writer: *mut Handle);
     pub fn nr_find(reader: *mut Handle, key: u32, rows: *mut Rows) -> u32;
     pub fn nr_find_each(reader: *mut Handle, wanted: *mut Wanted, n: usize) -> u32;
+    pub fn nr_find_each_rows(reader: *mut Handle, wanted: *mut Found, n: usize, rows: *mut Row, all: usize) -> u32;
     pub fn nr_ask(reader: *mut Handle, key: u32, number: *mut u64) -> u32;
     pub fn nr_pin(reader: *mut Handle, key: u32, count: *mut u32) -> u32;
     pub fn nr_row_at(reader: *mut Handle, place: u32, row: *mut Row) -> u32;
@@ -93,26 +93,23 @@ extern "C" {
     pub fn nr_close_taker(taker: *mut Handle);
     pub fn nr_post(poster: *mut Handle, key: u32, number: u64) -> u32;
     pub fn nr_take(taker: *mut Handle, key: *mut u32, number: *mut u64) -> u32;
-    pub fn nr_id_group(shape: *const IdShape, id: u64) -> u32;
-    pub fn nr_id_second_group(shape: *const IdShape, id: u64) -> u32;
-    pub fn nr_open_ids(shape: *const IdShape, writer: *mut Handle) -> u32;
-    pub fn nr_open_id_reader(writer: *mut Handle, reader: *mut Handle) -> u32;
-    pub fn nr_close_id_reader(reader: *mut Handle);
-    pub fn nr_close_id_writer(writer: *mut Handle);
-    pub fn nr_pin_id(reader: *mut Handle, id: u64, count: *mut u32) -> u32;
-    pub fn nr_pin_row_id(reader: *mut Handle, id: u64, row: *mut Row) -> u32;
-    pub fn nr_release_id(reader: *mut Handle) -> u32;
-    pub fn nr_request_id(reader: *mut Handle, id: u64) -> u32;
-    pub fn nr_admit(writer: *mut Handle, id: u64, upquery: *mut Upquery) -> u32;
-    pub fn nr_fill_id_reclaiming(
-        writer: *mut Handle,
-        upquery: *const Upquery,
-        rows: *const Row,
-        n: usize,
-        had: *mut Rows,
-    ) -> u32;
-    pub fn nr_withdraw_id(writer: *mut Handle, upquery: *const Upquery) -> u32;
-    pub fn nr_replace_id_reclaiming(writer: *mut Handle, id: u64, rows: *const Row, n: usize, had: *mut Rows) -> u32;
-    pub fn nr_reap_id(writer: *mut Handle, had: *mut Rows) -> u32;
-    pub fn nr_evict_id(writer: *mut Handle, id: u64) -> u32;
+    pub fn nr_open_cache(shape: *const IdShape, ids: *mut Handle) -> u32;
+    pub fn nr_open_cache_reader(ids: *mut Handle, reader: *mut Handle) -> u32;
+    pub fn nr_close_cache_reader(reader: *mut Handle);
+    pub fn nr_close_cache(ids: *mut Handle);
+    pub fn nr_cache_find(reader: *mut Handle, id: u64, found: *mut Stamped) -> u32;
+    pub fn nr_cache_release(reader: *mut Handle) -> u32;
+    pub fn nr_cache_begin(ids: *mut Handle, id: u64, mark: u64, flight: *mut Loading) -> u32;
+    pub fn nr_cache_land(ids: *mut Handle, number: u64, stamp: u64, value: u64, bound: u64, given: *mut Given) -> u32;
+    pub fn nr_cache_fail(ids: *mut Handle, number: u64, flight: *mut Loading) -> u32;
+    pub fn nr_cache_put(ids: *mut Handle, id: u64, stamp: u64, value: u64, bound: u64, given: *mut Given) -> u32;
+    pub fn nr_cache_swap(ids: *mut Handle, id: u64, old: u64, stamp: u64, value: u64, given: *mut Given) -> u32;
+    pub fn nr_cache_look(ids: *mut Handle, id: u64, found: *mut Stamped) -> u32;
+    pub fn nr_cache_invalidate(ids: *mut Handle, id: u64) -> u32;
+    pub fn nr_cache_invalidate_all(ids: *mut Handle) -> u32;
+    pub fn nr_cache_evict(ids: *mut Handle, id: u64) -> u32;
+    pub fn nr_cache_begin_change(ids: *mut Handle, id: u64) -> u32;
+    pub fn nr_cache_end_change(ids: *mut Handle, id: u64) -> u32;
+    pub fn nr_cache_reap(ids: *mut Handle, given: *mut Given) -> u32;
+    pub fn nr_cache_count(ids: *mut Handle, counted: *mut Counted) -> u32;
 }

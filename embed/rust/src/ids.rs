@@ -1,75 +1,99 @@
-//! The map over ids, as the cache calls it.
+//! A cache of numbers by ids, as the cache of values calls it. What it decides is proved: which loads are under way, whether a
+//! loaded number is held, which one makes room for another, and when one comes out.
 use crate::answers::done;
 use crate::ffi::{self, Handle};
-use crate::{library, Fault, Row, Rows};
+use crate::{library, Fault};
 
-/// What a map over ids is opened with. Each group has eight ways, each of which one id can have at a time.
+/// What it is opened with. Each group has eight places.
 #[repr(C)]
 #[derive(Clone, Copy, Debug)]
 pub struct IdShape {
     pub groups: u32,
-    pub slots: u32,
+    pub capacity: u32,
     pub readers: u32,
-    pub rows: u32,
+    pub flights: u32,
+    pub changes: u32,
     pub key: u64,
-    pub first_number: u64,
 }
 
-impl IdShape {
-    /// The two groups of an id: a group's ways are those from eight times its number on.
-    pub fn groups_of(&self, id: u64) -> [usize; 2] {
-        // SAFETY: the shape is laid out as the header's.
-        unsafe { [ffi::nr_id_group(self, id) as usize, ffi::nr_id_second_group(self, id) as usize] }
-    }
-}
-
-/// An upquery that is open, for one absence of one id.
+/// A number that an id has.
 #[repr(C)]
 #[derive(Debug, Default)]
-pub struct Upquery {
-    id: u64,
+pub struct Stamped {
+    stamp: u64,
     number: u64,
-    way: u32,
-    count: u64,
-    map: u64,
 }
 
-impl Upquery {
-    pub fn id(&self) -> u64 {
-        self.id
-    }
-
-    pub fn way(&self) -> usize {
-        self.way as usize
-    }
+/// A load that is under way: which of all it is, and the mark that it was begun with.
+#[repr(C)]
+#[derive(Debug, Default)]
+pub struct Loading {
+    number: u64,
+    mark: u64,
 }
 
-/// Why an id isn't admitted.
+/// A number that came out.
+#[repr(C)]
+#[derive(Debug, Default)]
+pub struct Given {
+    id: u64,
+    stamp: u64,
+    number: u64,
+}
+
+/// How much there is.
+#[repr(C)]
+#[derive(Debug, Default)]
+pub struct Counted {
+    numbers: u64,
+    flights: u64,
+    changes: u64,
+}
+
+/// When a number expires, above 0, and the time before which one that has expired goes first.
+#[derive(Clone, Copy, Debug)]
+pub struct Times {
+    pub stamp: u64,
+    pub bound: u64,
+}
+
+/// What a miss comes to.
 #[derive(Clone, Copy, Debug, PartialEq, Eq)]
-pub enum Refused {
-    /// Each way of its two groups is another id's.
+pub enum Miss {
+    /// The id has a number by now.
+    Held,
+    /// It is loaded, by a flight with this mark.
+    Wait(u64),
+    /// The caller loads it, by the flight of this number.
+    Load(u64),
+    /// As many flights are under way as there is room for.
     Full,
-    /// Nobody claimed its group since the last admission there.
-    NotAsked,
-    /// It has a way.
-    Other,
 }
 
-/// Opens a map over ids: its writer, and its readers.
-pub fn open(shape: &IdShape) -> Result<(IdWriter, Vec<IdReader>), Fault> {
+/// What a number comes to that is to be held.
+#[derive(Clone, Copy, Debug, PartialEq, Eq)]
+pub enum Put {
+    /// It is held, and this one came out.
+    Held(Option<u64>),
+    /// It is its caller's own.
+    Own,
+}
+
+/// Opens a cache of numbers, and its readers.
+pub fn open(shape: &IdShape) -> Result<(Ids, Vec<IdReader>), Fault> {
     library::is_own()?;
-    let mut writer = IdWriter { handle: Handle::empty() };
+    let mut ids = Ids { handle: Handle::empty() };
     // SAFETY: the handle isn't live, and the shape is laid out as the header's.
-    done(unsafe { ffi::nr_open_ids(shape, &mut writer.handle) })?;
-    let readers = (0..shape.readers).map(|_| writer.open_reader()).collect::<Result<_, _>>()?;
-    Ok((writer, readers))
+    done(unsafe { ffi::nr_open_cache(shape, &mut ids.handle) })?;
+    let readers = (0..shape.readers).map(|_| ids.open_reader()).collect::<Result<_, _>>()?;
+    Ok((ids, readers))
 }
 
-/// A reader by id.
+/// A reader, which takes no lock.
 #[derive(Debug)]
 pub struct IdReader {
     handle: Handle,
-    /// Whether it holds a set.
+    /// Whether it holds a number.
     holds: bool,
 }
 
@@ -77,127 +101,156 @@ pub struct IdReader {
 unsafe impl Send for IdReader {}
 
 impl IdReader {
-    /// The first row of an id's set, where it has one: zeros of a set without rows. The reader holds the set until its next
-    /// find or [`IdReader::let_go`].
-    pub fn hold(&mut self, id: u64) -> Option<Row> {
-        self.let_go();
-        let mut row = Row::default();
-        // SAFETY: the handle is live and holds nothing, and the row is laid out as the header's.
-        self.holds = unsafe { ffi::nr_pin_row_id(&mut self.handle, id, &mut row) } == ffi::NR_ROWS;
-        self.holds.then_some(row)
-    }
-
-    /// The same where the caller knows the row: whether the id has a set.
-    pub fn pin(&mut self, id: u64) -> bool {
-        self.let_go();
-        // SAFETY: the handle is live and holds nothing.
-        self.holds = unsafe { ffi::nr_pin_id(&mut self.handle, id, &mut 0) } == ffi::NR_ROWS;
-        self.holds
+    /// The number of an id, which doesn't come out until the reader's next find or [`IdReader::let_go`].
+    pub fn find(&mut self, id: u64) -> Option<u64> {
+        let mut found = Stamped::default();
+        // SAFETY: the handle is live, and what is found is laid out as the header's.
+        self.holds = unsafe { ffi::nr_cache_find(&mut self.handle, id, &mut found) } == ffi::NR_ROWS;
+        self.holds.then_some(found.number)
     }
 
     /// Ends its hold, where it has one.
     pub fn let_go(&mut self) {
         if std::mem::take(&mut self.holds) {
             // SAFETY: the handle is live.
-            unsafe { ffi::nr_release_id(&mut self.handle) };
+            unsafe { ffi::nr_cache_release(&mut self.handle) };
         }
-    }
-
-    /// Claims the group of an id that has no way, for the writer to admit it.
-    pub fn request(&mut self, id: u64) {
-        // SAFETY: the handle is live.
-        unsafe { ffi::nr_request_id(&mut self.handle, id) };
     }
 }
 
 impl Drop for IdReader {
     fn drop(&mut self) {
         // SAFETY: the handle is not used after this.
-        unsafe { ffi::nr_close_id_reader(&mut self.handle) }
+        unsafe { ffi::nr_close_cache_reader(&mut self.handle) }
     }
 }
 
-/// The writer by id. A set that an id has no more comes back once, when no reader holds it and none can find it: from
-/// [`IdWriter::reap`], or from the fill or replacement that takes its slot.
+/// All of it but finds, for one thread at a time.
 #[derive(Debug)]
-pub struct IdWriter {
+pub struct Ids {
     handle: Handle,
 }
 
 // SAFETY: as of a reader.
-unsafe impl Send for IdWriter {}
+unsafe impl Send for Ids {}
 
-impl IdWriter {
+impl Ids {
     fn open_reader(&mut self) -> Result<IdReader, Fault> {
         let mut reader = IdReader { handle: Handle::empty(), holds: false };
-        // SAFETY: the writer's handle is live, and the other is not.
-        done(unsafe { ffi::nr_open_id_reader(&mut self.handle, &mut reader.handle) })?;
+        // SAFETY: this handle is live, and the reader's is not.
+        done(unsafe { ffi::nr_open_cache_reader(&mut self.handle, &mut reader.handle) })?;
         Ok(reader)
     }
 
-    /// Gives a claimed id a way, and opens an upquery for it.
-    pub fn admit(&mut self, id: u64) -> Result<Upquery, Refused> {
-        let mut upquery = Upquery::default();
-        // SAFETY: the handle is live, and the upquery is laid out as the header's.
-        match unsafe { ffi::nr_admit(&mut self.handle, id, &mut upquery) } {
-            ffi::NR_SEND => Ok(upquery),
-            ffi::NR_FULL => Err(Refused::Full),
-            ffi::NR_NOT_ASKED => Err(Refused::NotAsked),
-            _ => Err(Refused::Other),
+    /// Begins the load of an id that has neither a number nor a load.
+    pub fn begin(&mut self, id: u64, mark: u64) -> Miss {
+        let mut flight = Loading::default();
+        // SAFETY: the handle is live, and the flight is laid out as the header's.
+        match unsafe { ffi::nr_cache_begin(&mut self.handle, id, mark, &mut flight) } {
+            ffi::NR_SEND => Miss::Load(flight.number),
+            ffi::NR_WAITING => Miss::Wait(flight.mark),
+            ffi::NR_ROWS => Miss::Held,
+            _ => Miss::Full,
         }
     }
 
-    /// Fills the id of an upquery: the rows of a set that came back. Where the upquery isn't open, or is another map's,
-    /// it is refused with [`Fault::Stale`].
-    pub fn fill<'a>(&mut self, upquery: &Upquery, rows: &[Row], had: &'a mut Rows) -> Result<&'a [Row], Fault> {
-        // SAFETY: the handle is live, what the pointers lead to is laid out as the header's, and there are so many rows.
-        let code = unsafe { ffi::nr_fill_id_reclaiming(&mut self.handle, upquery, rows.as_ptr(), rows.len(), had) };
-        came_back(code, had)
+    /// Ends the load of that flight by a number.
+    pub fn land(&mut self, flight: u64, number: u64, times: Times) -> Put {
+        let mut given = Given::default();
+        // SAFETY: the handle is live, and what comes out is laid out as the header's.
+        let code =
+            unsafe { ffi::nr_cache_land(&mut self.handle, flight, times.stamp, number, times.bound, &mut given) };
+        put(code, &given)
     }
 
-    /// Takes an upquery back: whether its id has no way now. If not, its own fill alone ends it.
-    pub fn withdraw(&mut self, upquery: &Upquery) -> bool {
-        // SAFETY: the handle is live, and the upquery is laid out as the header's.
-        unsafe { ffi::nr_withdraw_id(&mut self.handle, upquery) != ffi::NR_WORN }
+    /// Ends the load of that flight without one.
+    pub fn fail(&mut self, flight: u64) {
+        // SAFETY: the handle is live, and the flight is laid out as the header's.
+        unsafe { ffi::nr_cache_fail(&mut self.handle, flight, &mut Loading::default()) };
     }
 
-    /// Puts rows in place of those of an id that has some: the rows of a set that came back.
-    pub fn replace<'a>(&mut self, id: u64, rows: &[Row], had: &'a mut Rows) -> Result<&'a [Row], Fault> {
-        // SAFETY: the handle is live, and there are so many rows, laid out as the header's as those that come back.
-        let code = unsafe { ffi::nr_replace_id_reclaiming(&mut self.handle, id, rows.as_ptr(), rows.len(), had) };
-        came_back(code, had)
+    /// Puts a number in place of what an id has. What is loaded for it will not be held.
+    pub fn put(&mut self, id: u64, number: u64, times: Times) -> Put {
+        let mut given = Given::default();
+        // SAFETY: the handle is live, and what comes out is laid out as the header's.
+        let code = unsafe { ffi::nr_cache_put(&mut self.handle, id, times.stamp, number, times.bound, &mut given) };
+        put(code, &given)
     }
 
-    /// The rows of a set that came back, or none where readers hold all that wait.
-    pub fn reap<'a>(&mut self, had: &'a mut Rows) -> Option<&'a [Row]> {
-        // SAFETY: the handle is live, and the rows are laid out as the header's.
-        let code = unsafe { ffi::nr_reap_id(&mut self.handle, had) };
-        (code == ffi::NR_GIVEN).then(|| own_rows(had))
+    /// The same where the id has that old one still: else nothing happens.
+    pub fn swap(&mut self, id: u64, old: u64, number: u64, times: Times) -> Put {
+        let mut given = Given::default();
+        // SAFETY: the handle is live, and what comes out is laid out as the header's.
+        let code = unsafe { ffi::nr_cache_swap(&mut self.handle, id, old, times.stamp, number, &mut given) };
+        put(code, &given)
     }
 
-    /// Takes an id's rows and its way.
-    pub fn evict(&mut self, id: u64) {
+    /// The number of an id, which can't come out but by a later call of these.
+    pub fn look(&mut self, id: u64) -> Option<u64> {
+        let mut found = Stamped::default();
+        // SAFETY: the handle is live, and what is found is laid out as the header's.
+        let code = unsafe { ffi::nr_cache_look(&mut self.handle, id, &mut found) };
+        (code == ffi::NR_ROWS).then_some(found.number)
+    }
+
+    /// Takes an id's number, and what is loaded for it will not be held: whether it had one.
+    pub fn invalidate(&mut self, id: u64) -> bool {
         // SAFETY: the handle is live.
-        unsafe { ffi::nr_evict_id(&mut self.handle, id) };
+        unsafe { ffi::nr_cache_invalidate(&mut self.handle, id) == ffi::NR_EVICTED }
+    }
+
+    /// The same of all ids.
+    pub fn invalidate_all(&mut self) {
+        // SAFETY: the handle is live.
+        unsafe { ffi::nr_cache_invalidate_all(&mut self.handle) };
+    }
+
+    /// Takes an id's number, and what is loaded for it will be held: whether it had one.
+    pub fn evict(&mut self, id: u64) -> bool {
+        // SAFETY: the handle is live.
+        unsafe { ffi::nr_cache_evict(&mut self.handle, id) == ffi::NR_EVICTED }
+    }
+
+    /// Begins a change of an id, until whose end nothing that is loaded for it will be held: whether there was room.
+    pub fn begin_change(&mut self, id: u64) -> bool {
+        // SAFETY: the handle is live.
+        unsafe { ffi::nr_cache_begin_change(&mut self.handle, id) == ffi::NR_DONE }
+    }
+
+    /// Ends one.
+    pub fn end_change(&mut self, id: u64) {
+        // SAFETY: the handle is live.
+        unsafe { ffi::nr_cache_end_change(&mut self.handle, id) };
+    }
+
+    /// A number that nobody can see any more, or none where readers hold all that wait.
+    pub fn reap(&mut self) -> Option<u64> {
+        let mut given = Given::default();
+        // SAFETY: the handle is live, and what comes out is laid out as the header's.
+        let code = unsafe { ffi::nr_cache_reap(&mut self.handle, &mut given) };
+        (code == ffi::NR_GIVEN).then_some(given.number)
+    }
+
+    /// How many ids have a number.
+    pub fn held(&mut self) -> usize {
+        let mut counted = Counted::default();
+        // SAFETY: the handle is live, and what is counted is laid out as the header's.
+        unsafe { ffi::nr_cache_count(&mut self.handle, &mut counted) };
+        counted.numbers as usize
     }
 }
 
-/// The rows that came back with an answer, or no rows.
-fn came_back(code: u32, had: &Rows) -> Result<&[Row], Fault> {
+fn put(code: u32, given: &Given) -> Put {
     match code {
-        ffi::NR_GIVEN => Ok(own_rows(had)),
-        code => done(code).map(|()| &[][..]),
+        ffi::NR_DONE => Put::Held(None),
+        ffi::NR_GIVEN => Put::Held(Some(given.number)),
+        _ => Put::Own,
     }
 }
 
-/// The rows of a set that came back, after that which says whose it was.
-fn own_rows(had: &Rows) -> &[Row] {
-    &had.as_slice()[1..]
-}
-
-impl Drop for IdWriter {
+impl Drop for Ids {
     fn drop(&mut self) {
         // SAFETY: the handle is not used after this.
-        unsafe { ffi::nr_close_id_writer(&mut self.handle) }
+        unsafe { ffi::nr_close_cache(&mut self.handle) }
     }
 }

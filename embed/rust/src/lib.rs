@@ -1,10 +1,24 @@
-//! The verified reader map behind a safe surface: many readers look keys up without a lock, each in a thread of
-//! its own, while one writer fills, updates and evicts them, and a queue brings the requests of missing keys to
-//! it. What each call does is proved in the library; that this wrapper keeps what the library's header asks rests
-//! on Rust's borrow rules and on reading it.
+//! A cache in front of slow queries, and the reader map on which it stands: many readers look keys up without a lock, each
+//! in a thread of its own, while one writer fills, updates and evicts them. What each call of the library below does is
+//! proved; that this wrapper keeps what the library's header asks rests on Rust's borrow rules and on reading it.
 //!
-//! A [`Cache`] of any keys and values in front of slow queries stands on it, and so does a [`View`], a cache of rows that
-//! change with their base. They are tested, and not proved. The map itself:
+//! ```
+//! use nr::Cache;
+//!
+//! # fn query(user: &str) -> std::io::Result<String> {
+//! #     Ok(format!("what the base has of {user}"))
+//! # }
+//! let cache: Cache<String, String> = Cache::builder().capacity(10_000).open()?;
+//! // Another thread that misses her meanwhile waits for this query.
+//! assert_eq!(cache.try_get_with("alice", || query("alice"))?, "what the base has of alice");
+//! // After a write to the database: what was queried before is not kept.
+//! cache.invalidate("alice");
+//! assert_eq!(cache.get("alice"), None);
+//! # Ok::<(), Box<dyn std::error::Error>>(())
+//! ```
+//!
+//! A [`CacheReader`] borrows values in place of clones, and a [`View`] is a cache of rows that change with their base. The
+//! map itself has a queue that brings the requests of missing keys to its writer:
 //!
 //! ```
 //! use nr::{Asked, Queue, ReaderMap, Row, Rows, Shape};
@@ -143,7 +157,7 @@ mod writer;
 
 pub use answers::{Asked, Cancel, Fault, KeyKind, Updated};
 pub use cache::{Cache, CacheBuilder, CacheReader, CacheRef, CacheStats, Change, LoadError};
-pub use cache::{Request, Sought, View, WaitError};
+pub use cache::{RemovalCause, Request, Sought, View, WaitError};
 pub use emptied::Emptied;
 pub use inbox::{Arrival, EventSender, Inbox, InboxPoster, InboxTaker};
 pub use loaders::Loaders;
@@ -153,7 +167,7 @@ pub use progress::Progress;
 pub use queue::{Poster, Queue, Taker};
 pub use reader::{Keeping, Pin, Reader};
 pub use reclaiming::{Reaped, Reclaimed, Remains};
-pub use rows::{Delta, Row, Rows, Shape, Sizes, SlotCounts, Wanted};
+pub use rows::{Delta, Found, Row, Rows, Shape, Sizes, SlotCounts, Wanted};
 pub use shared_queue::{SharedPoster, SharedQueue, SharedTaker};
 pub use ticket::{Ticket, Unfilled, Unposted};
 pub use values::{UnfilledValue, UnreplacedValue, ValueMap, ValueReader, ValueRef, ValueWriter};

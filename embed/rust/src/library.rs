@@ -1,7 +1,7 @@
 //! Whether the library that is linked is the one of this crate's version.
 use crate::ffi::{self, Handle};
-use crate::ids::{IdShape, Upquery};
-use crate::{Delta, Fault, Row, Rows, Shape, Sizes, SlotCounts, Wanted};
+use crate::ids::{Counted, Given, IdShape, Loading, Stamped};
+use crate::{Delta, Fault, Found, Row, Rows, Shape, Sizes, SlotCounts, Wanted};
 use std::mem::size_of;
 
 /// The first two numbers of the version: libraries that share them share their header.
@@ -14,9 +14,9 @@ macro_rules! version {
 /// What is said of any other.
 pub const IS_ANOTHER: &str = concat!("the library that is linked isn't that of version ", version!());
 
-/// What the header's structs take here, in its order: five of them are handles, as are two by id. The one behind these has an
-/// id and its answer before its rows. That and those of C's cache no call of this crate takes.
-const SIZES: [usize; 24] = [
+/// What the header's structs take here, in its order: five of them are handles, as are two by id and two of a cache. Those by
+/// id no call of this crate takes: a shape, an upquery, an id with its answer before its rows, and the last one.
+const SIZES: [usize; 26] = [
     size_of::<Row>(),
     size_of::<Rows>(),
     size_of::<Wanted>(),
@@ -29,18 +29,20 @@ const SIZES: [usize; 24] = [
     size_of::<Handle>(),
     size_of::<Handle>(),
     size_of::<Handle>(),
-    size_of::<IdShape>(),
-    size_of::<Upquery>(),
+    size_of::<[u64; 4]>(),
+    size_of::<[u64; 5]>(),
     size_of::<Handle>(),
     size_of::<Handle>(),
     size_of::<[u64; 2]>() + size_of::<Rows>(),
-    size_of::<[u64; 3]>(),
+    size_of::<IdShape>(),
     size_of::<Handle>(),
     size_of::<Handle>(),
+    size_of::<Stamped>(),
+    size_of::<Counted>(),
+    size_of::<Loading>(),
+    size_of::<Given>(),
+    size_of::<Found>(),
     size_of::<[u64; 2]>(),
-    size_of::<[u64; 3]>(),
-    size_of::<[u64; 2]>(),
-    size_of::<[u64; 3]>(),
 ];
 
 /// Refuses a library of another version, or one whose structs have other sizes.

@@ -1,7 +1,7 @@
 //! What threads look keys up with.
 use crate::ffi::{self, Handle};
 use crate::map::Map;
-use crate::{Asked, Row, Rows, Sizes, Ticket, Wanted};
+use crate::{Asked, Found, Row, Rows, Sizes, Ticket, Wanted};
 
 /// A reader of a map. Each call that takes a key panics where the map has no such key. One that is dropped is not opened
 /// again; [`Writer::return_reader`](crate::Writer::return_reader) gives it back.
@@ -56,6 +56,34 @@ impl Reader {
         // SAFETY: the handle is live and holds nothing, the keys were checked, and there are as many of the header's
         // layout as it is told.
         unsafe { ffi::nr_find_each(&mut self.handle, wanted.as_mut_ptr(), wanted.len()) };
+    }
+
+    /// As [`Reader::find_each`], and the rows of all go to one slice, of which each key has as many as the next, in the
+    /// keys' order: `rows.len() / wanted.len()`. Where a key's set has more rows than that, which its count tells, the
+    /// first ones are there; of the others of its part none is written. For few rows a key this is faster, since what
+    /// is written lies together.
+    ///
+    /// ```
+    /// use nr::{Asked, Found, ReaderMap, Row, Shape};
+    ///
+    /// let ReaderMap { mut writer, mut readers } = ReaderMap::open(&Shape::new(3, 5, 1))?;
+    /// let Asked::Send(ticket) = readers[0].ask(2) else { panic!() };
+    /// writer.fill(ticket, &[Row { a: 3, b: 9 }, Row { a: 4, b: 9 }])?;
+    /// let (mut wanted, mut rows) = ([0, 2].map(Found::new), [Row::default(); 2]);
+    /// readers[0].find_each_rows(&mut wanted, &mut rows);
+    /// assert_eq!((wanted[0].count(), wanted[1].count()), (None, Some(2)));
+    /// assert_eq!(rows[1], Row { a: 3, b: 9 });
+    /// # Ok::<(), Box<dyn std::error::Error>>(())
+    /// ```
+    pub fn find_each_rows(&mut self, wanted: &mut [Found], rows: &mut [Row]) {
+        self.release();
+        for one in wanted.iter() {
+            self.map.checked(one.key());
+        }
+        let (n, all) = (wanted.len(), rows.len());
+        // SAFETY: the handle is live and holds nothing, the keys were checked, and there are as many of the header's
+        // layout as it is told, of both.
+        unsafe { ffi::nr_find_each_rows(&mut self.handle, wanted.as_mut_ptr(), n, rows.as_mut_ptr(), all) };
     }
 
     /// As [`Reader::find`], and the reader holds the set until it finds another or makes another call. While the key keeps

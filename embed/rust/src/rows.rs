@@ -70,6 +70,33 @@ impl Wanted {
     }
 }
 
+/// A key to be found by [`Reader::find_each_rows`](crate::Reader::find_each_rows), and how many rows its set has.
+#[repr(C)]
+#[derive(Clone, Copy, Debug)]
+pub struct Found {
+    key: u32,
+    answer: u32,
+    count: u32,
+}
+
+impl Found {
+    /// A key that is yet to be found, and a hole until then.
+    pub fn new(key: u32) -> Found {
+        Found { key, answer: ffi::NR_HOLE, count: 0 }
+    }
+
+    /// The key.
+    pub fn key(&self) -> u32 {
+        self.key
+    }
+
+    /// How many rows the key's set had at the last find, however many of them there was room for, or none where the key
+    /// was a hole.
+    pub fn count(&self) -> Option<usize> {
+        (self.answer == ffi::NR_ROWS).then_some(self.count as usize)
+    }
+}
+
 impl fmt::Debug for Rows {
     fn fmt(&self, f: &mut fmt::Formatter<'_>) -> fmt::Result {
         f.debug_tuple("Rows").field(&self.as_slice()).finish()

@@ -6,12 +6,16 @@ mod emptied;
 mod eviction;
 mod holds;
 mod inbox;
+mod leaving;
 mod loaders;
 mod lobby;
+mod many;
 mod net;
 mod panics;
 mod progress;
 mod reclaiming;
+mod tasks;
+mod threads;
 mod values;
 mod view;
 
@@ -438,6 +442,32 @@ fn many_keys_are_found_by_one_call() {
     assert_eq!(wanted[0].rows(), None);
     readers[0].find_each(&mut wanted[..1]);
     assert_eq!(wanted[0].rows(), Some(&[Row { a: 6, b: 0 }][..]));
+}
+
+#[test]
+fn rows_of_many_keys_go_to_one_slice() {
+    let ReaderMap { mut writer, mut readers } = ReaderMap::open(&Shape::new(40, 42, 1)).unwrap();
+    let before = Row { a: 77, b: 77 };
+    for key in (0..40).step_by(2) {
+        let ticket = asked(&mut readers[0], key);
+        let set: Vec<Row> = (0..u64::from(key) % 6).map(|b| Row { a: u64::from(key), b }).collect();
+        writer.fill(ticket, &set).unwrap();
+    }
+    for room in 0..5 {
+        let mut wanted: Vec<Found> = (0..40).rev().chain([4, 4, 5]).map(Found::new).collect();
+        let mut rows = vec![before; wanted.len() * room + 42];
+        readers[0].find_each_rows(&mut wanted, &mut rows);
+        for (at, one) in wanted.iter().enumerate() {
+            let count = (one.key() % 2 == 0).then_some(one.key() as usize % 6);
+            assert_eq!(one.count(), count);
+            for (b, row) in rows[at * room..][..room].iter().enumerate() {
+                let own = Row { a: u64::from(one.key()), b: b as u64 };
+                assert_eq!(*row, if b < count.unwrap_or(0) { own } else { before });
+            }
+        }
+        assert!(rows[wanted.len() * room..].iter().all(|row| *row == before));
+    }
+    readers[0].find_each_rows(&mut [], &mut []);
 }
 
 #[test]

@@ -128,7 +128,9 @@ impl Dataflow<'_> {
             }
         }
         let end = transaction.end;
-        self.order.log.push(transaction);
+        if !transaction.changes.is_empty() {
+            self.order.log.push(transaction);
+        }
         if self.order.log.len() >= LONG_LOG && !self.order.log.is_awaited() {
             self.request("".into(), Asker::Log, false);
         }
@@ -189,9 +191,14 @@ impl Dataflow<'_> {
             return requests.into_iter().for_each(|request| self.request_again(request));
         }
         self.shared.told.fetch_max(seen.place.0, SeqCst);
-        let unseen = self.order.log.unseen_by(&seen.snapshot, requests.iter().map(|request| &request.article));
+        let unseen: Vec<&Changes> = self.order.log.unseen_by(&seen.snapshot).collect();
+        let lacking = |request: &Request| -> Vec<Delta> {
+            unseen.iter().filter_map(|changes| changes.get(&request.article)).flatten().cloned().collect()
+        };
+        let lacking: Vec<_> = requests.iter().map(lacking).collect();
         let seen = Arc::new(seen);
-        requests.into_iter().zip(rows).for_each(|(request, rows)| self.bring(request, rows, &seen, &unseen));
+        let brought = requests.into_iter().zip(rows).zip(lacking);
+        brought.for_each(|((request, rows), lacking)| self.bring(request, rows, &seen, &lacking));
         if !is_late {
             self.order.log.prune(&seen.snapshot);
         }
@@ -204,11 +211,10 @@ impl Dataflow<'_> {
     }
 
     /// The rows of an article as a statement saw them, with the changes that it didn't see.
-    fn bring(&mut self, request: Request, rows: Vec<Row>, seen: &Arc<Seen>, unseen: &Changes) {
+    fn bring(&mut self, request: Request, rows: Vec<Row>, seen: &Arc<Seen>, lacking: &[Delta]) {
         if request.number <= self.order.emptied_after && self.is_of_before(&request.asker) {
             return self.request_again(request);
         }
-        let lacking = unseen.get(&request.article).map_or(&[][..], Vec::as_slice);
         if !lacking.is_empty() {
             self.shared.work.up(Count::Replays);
         }

@@ -1,9 +1,11 @@
 //! The log of a rule over articles and signed rows.
 use nr::Delta;
+use std::collections::HashMap;
 
 #[path = "../../../edge/src/log.rs"]
-mod of_keys;
+mod of_changes;
 
-pub type Changes = of_keys::Changes<Box<str>, Delta>;
-pub type Transaction = of_keys::Transaction<Box<str>, Delta>;
-pub type Log = of_keys::Log<Box<str>, Delta>;
+/// Signed rows by their articles.
+pub type Changes = HashMap<Box<str>, Vec<Delta>>;
+pub type Transaction = of_changes::Transaction<Changes>;
+pub type Log = of_changes::Log<Changes>;

@@ -1,11 +1,12 @@
 //! What the stream tells of the table, as signed rows.
-use crate::pgoutput::{Cells, Change, Description};
+use crate::pgoutput::{Cell, Cells, Change, Description};
 use nr::{Delta, Row};
 
 /// Where the table has its columns, and all else that a message tells of it.
 #[derive(PartialEq, Eq)]
 pub struct Columns {
     places: [usize; 3],
+    identity: Vec<bool>,
     description: Vec<u8>,
 }
 
@@ -16,19 +17,23 @@ impl Columns {
     pub fn of(told: &Description) -> Option<Columns> {
         let place = |wanted: &&str| told.columns.iter().position(|name| name == wanted);
         let places: Option<Vec<_>> = COLUMNS.iter().map(place).collect();
-        told.is_told_whole.then_some(Columns { places: places?.try_into().ok()?, description: told.bytes.to_vec() })
+        let (places, identity) = (places?.try_into().ok()?, told.identity.clone());
+        told.is_told_whole.then_some(Columns { places, identity, description: told.bytes.to_vec() })
     }
 
     /// The rows that articles lose and get.
     pub fn deltas(&self, change: &Change) -> Option<Vec<(Box<str>, Delta)>> {
-        let (was, is) = change.rows()?;
+        let (was, is) = change.rows(&self.identity)?;
         let lost = was.map(|cells| self.row(&cells).map(|(article, row)| (article, Delta::minus(row))));
         let got = is.map(|cells| self.row(&cells).map(|(article, row)| (article, Delta::plus(row))));
         lost.into_iter().chain(got).collect()
     }
 
     fn row(&self, cells: &Cells) -> Option<(Box<str>, Row)> {
-        let [article, voter, weight] = self.places.map(|place| cells.get(place).copied().flatten());
+        let text = |place: usize| {
+            cells.get(place).and_then(|cell| if let Cell::Text(text) = cell { Some(*text) } else { None })
+        };
+        let [article, voter, weight] = self.places.map(text);
         Some((article?.into(), Row { a: voter?.parse().ok()?, b: weight?.parse().ok()? }))
     }
 }

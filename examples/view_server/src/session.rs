@@ -3,10 +3,10 @@ use crate::stats::{self, Count, Counts};
 use crate::wire::{array, bulk, Command};
 use crate::{base::Base, base::Query, log, Shared};
 use nr::{CacheReader, Delta, Request, Row, Sought};
-use std::{fmt::Write, hash::RandomState, mem::take, time::Duration, time::Instant};
+use std::{fmt::Write, mem::take, time::Duration, time::Instant};
 
 pub struct Session<'a> {
-    pub reader: CacheReader<String, Box<[Row]>, RandomState>,
+    pub reader: CacheReader<String, Box<[Row]>>,
     /// A desk has none.
     pub base: Option<Base>,
     /// What it is for, where it is on errands, and whether it may still do that in this turn.

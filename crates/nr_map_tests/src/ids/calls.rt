@@ -202,6 +202,9 @@ fn the_writer_learns_which_ids_are_found(rt: HostRuntime) {
     view.uses(&rt, 8, true);
     view.uses(&rt, 8, false);
     view.finds(&rt, 8, &[row(8, 8)]);
+    view.uses_its_way(&rt, 8, true);
+    view.uses_its_way(&rt, 8, false);
+    view.finds(&rt, 8, &[row(8, 8)]);
     view.chooses(&rt, 9, Some(6));
     view.evicts(&rt, 6, Evict::Evicted);
     view.takes_in(&rt, 9, &[row(9, 9)]);

@@ -2,7 +2,7 @@
 ghost use Rattle.std.specs.Prelude.{◌≡◌, ◌<◌};
 
 use crate::ids::view::{SMALL, View, is_granted, is_same, is_set, plus, row};
-use nr_idmap::{Evict, FoundId, IdHand, IdShape, Reaped, Reclaimed};
+use nr_idmap::{BATCH, Evict, FoundId, IdHand, IdShape, Reaped, Reclaimed};
 use nr_model::{Row, RowSet};
 use std::marker::Model;
 use std::process::Abort;
@@ -59,18 +59,46 @@ impl Holder {
         is_set(rt, room.as_slice(), rows);
     }
 
-    /// A hand that holds nothing finds as a reader does, after what it loads ahead.
+    /// A hand that holds nothing finds as a reader does, and so does one that goes on to ways that it has
+    /// looked up.
     fn finds<R: Abort>(&mut self, rt: &R, id: u64, why: FoundId, rows: &[Row])
         requires { 0 < id }
         ensures { self.new ≡ self.old }
     {
         let mut room = RowSet::new();
         self.hand.release(self.view.map());
-        self.hand.load_ahead(self.view.map(), &[id, id]);
         let found = self.hand.find(self.view.map(), id, &mut room);
         is_same(rt, &found, &why);
         is_set(rt, room.as_slice(), rows);
         is_same(rt, &self.hand.id(), &None);
+        self.goes_on(rt, id, why, rows);
+        self.hand.release(self.view.map());
+    }
+
+    /// Finds of the id twice, in the ways that were looked up for it, hold its set for no id.
+    fn goes_on<R: Abort>(&mut self, rt: &R, id: u64, why: FoundId, rows: &[Row])
+        requires { 0 < id }
+        ensures { self.new ≡ self.old }
+    {
+        let mut room = RowSet::new();
+        let mut ways = [None; BATCH];
+        self.hand.look_up(self.view.map(), &[id, id], &mut ways);
+        let found = self.hand.find_in(self.view.map(), ways[0], id, &mut room);
+        is_same(rt, &found, &why);
+        is_set(rt, room.as_slice(), rows);
+        is_set(rt, self.hand.rows(), &[]);
+        let mut cells = [row(7, 7)];
+        let (found, count) = self
+            .hand
+            .find_first_in(self.view.map(), ways[1], id, &mut cells);
+        is_same(rt, &(found, count as usize), &(why, rows.len()));
+        let unwritten = [row(7, 7)];
+        let first = if rows.is_empty() {
+            &unwritten[..]
+        } else {
+            &rows[..1]
+        };
+        is_set(rt, &cells, first);
     }
 
     /// A find holds these rows.

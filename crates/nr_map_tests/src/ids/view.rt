@@ -388,6 +388,17 @@ impl View {
         is_same(rt, &self.map.uses(&mut self.writer, id), &wanted);
     }
 
+    /// The same of the id's way, whichever that is.
+    pub(crate) fn uses_its_way<R: Abort>(&mut self, rt: &R, id: u64, wanted: bool)
+        requires { 0 < id }
+        ensures { self.new ≡ self.old }
+    {
+        let way = self.map.way_of(&mut self.writer, id).expect(rt, "a way");
+        let ways = self.map.ways();
+        assert!(rt; way < ways);
+        is_same(rt, &self.map.uses_way(&mut self.writer, way), &wanted);
+    }
+
     /// Whom the writer chooses for the id.
     pub(crate) fn chooses<R: Abort>(&mut self, rt: &R, id: u64, wanted: Option<u64>)
         ensures { self.new ≡ self.old }

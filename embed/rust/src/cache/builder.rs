@@ -1,7 +1,9 @@
 //! How a cache is opened.
+use super::desk::Desk;
 use super::expiry::Expiry;
+use super::leaving::{Listener, RemovalCause};
 use super::part::Part;
-use super::shared::{Desk, Shared};
+use super::shared::Shared;
 use super::store::Store;
 use super::Cache;
 use crate::ids::{self, IdReader, IdShape};
@@ -9,7 +11,6 @@ use crate::Fault;
 use std::collections::hash_map::RandomState;
 use std::fmt;
 use std::hash::{BuildHasher, Hash};
-use std::marker::PhantomData;
 use std::sync::Arc;
 use std::time::Duration;
 
@@ -33,13 +34,13 @@ pub struct CacheBuilder<K, V, S = RandomState> {
     to_live: Option<Duration>,
     to_idle: Option<Duration>,
     hasher: S,
-    kinds: PhantomData<fn(K) -> V>,
+    listener: Option<Listener<K, V>>,
 }
 
 impl<K, V> CacheBuilder<K, V> {
     pub(super) fn new() -> CacheBuilder<K, V> {
         let hasher = RandomState::new();
-        CacheBuilder { capacity: 1000, threads: 16, to_live: None, to_idle: None, hasher, kinds: PhantomData }
+        CacheBuilder { capacity: 1000, threads: 16, to_live: None, to_idle: None, hasher, listener: None }
     }
 }
 
@@ -50,8 +51,14 @@ impl<K, V, S> CacheBuilder<K, V, S> {
         CacheBuilder { capacity, ..self }
     }
 
-    /// How many readers there can be at a time: 1 to 65,533; 16 where nothing is said. There are as many parts, each with
-    /// a lock for misses and writes, but 16 at most, and fewer where readers take 3 MB. A reader takes 6 kB a part.
+    /// The same as [`CacheBuilder::capacity`].
+    pub fn max_capacity(self, capacity: usize) -> CacheBuilder<K, V, S> {
+        self.capacity(capacity)
+    }
+
+    /// How many readers there can be at a time, and so how many threads may get without a lock: 1 to 65,533; 16 where
+    /// nothing is said. There are as many parts, each with a lock for misses and writes, but 16 at most, and fewer where
+    /// readers take 3 MB. A reader takes 6 kB a part.
     pub fn threads(self, threads: u32) -> CacheBuilder<K, V, S> {
         CacheBuilder { threads, ..self }
     }
@@ -66,11 +73,20 @@ impl<K, V, S> CacheBuilder<K, V, S> {
         CacheBuilder { to_idle: Some(time), ..self }
     }
 
+    /// Who is given each value that left the cache, with its key and why: once no reader sees it, by the thread that finds that
+    /// and without a lock. Values that the cache didn't hold, and those that it holds at its end, are dropped.
+    pub fn eviction_listener<L>(self, listener: L) -> CacheBuilder<K, V, S>
+    where
+        L: Fn(K, V, RemovalCause) + Send + Sync + 'static,
+    {
+        CacheBuilder { listener: Some(Arc::new(listener)), ..self }
+    }
+
     /// By what keys are hashed, in place of a hasher with keys drawn at random. Where strangers choose keys, theirs must
     /// be secret too. Keys of one hash are told apart, and one of them at a time is held.
     pub fn hasher<T: BuildHasher>(self, hasher: T) -> CacheBuilder<K, V, T> {
-        let CacheBuilder { capacity, threads, to_live, to_idle, kinds, hasher: _ } = self;
-        CacheBuilder { capacity, threads, to_live, to_idle, hasher, kinds }
+        let CacheBuilder { capacity, threads, to_live, to_idle, listener, hasher: _ } = self;
+        CacheBuilder { capacity, threads, to_live, to_idle, hasher, listener }
     }
 }
 
@@ -87,15 +103,11 @@ impl<K: Hash + Eq, V, S: BuildHasher> CacheBuilder<K, V, S> {
         let mut parts = Vec::with_capacity(count);
         for number in 0..count {
             let capacity = (self.capacity + number) / count;
-            let shape = shape(capacity, self.threads);
-            let (writer, mut readers) = ids::open(&shape)?;
-            let asker = readers.pop().expect("the store's own reader");
+            let (ids, readers) = ids::open(&shape(capacity, self.threads))?;
             spare.iter_mut().zip(readers).for_each(|(desk, reader)| desk.push(reader));
-            let store = Store::new(writer, asker, shape, capacity);
-            parts.push(Part::new(expiry, spare.len(), store));
+            parts.push(Part::new(expiry, spare.len(), self.listener.clone(), Store::new(ids, expiry)));
         }
-        let desk = |(ids, number): (Vec<IdReader>, usize)| Desk { ids: ids.into(), number };
-        let spare = spare.into_iter().zip(0..).map(desk).collect();
+        let spare = spare.into_iter().zip(0..).map(|(ids, number)| Desk::new(ids, number)).collect();
         Ok(Cache { shared: Arc::new(Shared::new(self.hasher, self.capacity, parts, spare)) })
     }
 }
@@ -114,12 +126,17 @@ fn parts(capacity: usize, threads: u32) -> usize {
     threads.min(MAX_PARTS).min(MAX_READERS / (threads + 1)).min(capacity / LEAST_PART).max(1)
 }
 
-/// The map of a part. Eight ways for each five entries, so that few groups are full before the part is; and a slot for
-/// each entry, each reader and one more, so that no fill lacks one: what left the map and readers hold has one too.
+/// How many groups a part may have.
+const MAX_GROUPS: u32 = 516_000;
+
+/// How many loads, and how many changes, of a part may be under way at a time for which others wait, or after which rows are
+/// held: each is looked for among those that are.
+const MOST_AT_ONCE: u32 = 1024;
+
+/// What a part is opened with. Eight places for each five entries, so that few groups are full before the part is.
 fn shape(capacity: usize, threads: u32) -> IdShape {
-    let groups = capacity.div_ceil(5) as u32;
-    // The store has a reader of its own, and so has the library.
-    let (slots, readers) = (capacity as u32 + threads + 3, threads + 1);
+    let groups = (capacity.div_ceil(5) as u32).min(MAX_GROUPS);
+    let (flights, changes) = (MOST_AT_ONCE.max(threads), MOST_AT_ONCE);
     let key = RandomState::new().hash_one(0u8);
-    IdShape { groups, slots, readers, rows: 1, key, first_number: 0 }
+    IdShape { groups, capacity: capacity as u32, readers: threads, flights, changes, key }
 }

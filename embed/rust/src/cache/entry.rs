@@ -1,8 +1,7 @@
-//! What a set of the cache's map refers to.
+//! What a number of the cache refers to.
 use super::expiry::Moment;
-use crate::Row;
-use std::ptr::NonNull;
-use std::sync::atomic::{AtomicBool, AtomicU64, Ordering::Relaxed};
+use super::leaving::Cause;
+use std::sync::atomic::AtomicU64;
 use std::thread::{self, ThreadId};
 
 /// A value with its key, in a box of its own that the store owns.
@@ -15,8 +14,9 @@ pub(super) struct Entry<K, V> {
     pub maker: Option<ThreadId>,
     /// When it was last found, as far as the time to idle asks.
     pub touched: AtomicU64,
-    /// Whether it was found since the store last looked for something to evict.
-    used: AtomicBool,
+    /// Which of its part's puts it came by.
+    pub turn: u64,
+    pub cause: Cause,
 }
 
 impl<K, V> Entry<K, V> {
@@ -27,37 +27,6 @@ impl<K, V> Entry<K, V> {
 
     /// One whose value comes by that thread.
     pub fn of(maker: Option<ThreadId>, id: u64, key: K, value: V, now: Moment) -> Entry<K, V> {
-        Entry { id, key, value, born: now, maker, touched: AtomicU64::new(now), used: AtomicBool::new(false) }
+        Entry { id, key, value, born: now, maker, touched: AtomicU64::new(now), turn: 0, cause: Cause::default() }
     }
-
-    /// Notes that it was found, and writes only what isn't so yet.
-    pub fn mark(&self) {
-        if !self.used.load(Relaxed) {
-            self.used.store(true, Relaxed);
-        }
-    }
-
-    /// Whether it was found since the last such call. The store alone calls it.
-    pub fn unmark(&self) -> bool {
-        let was_used = self.used.load(Relaxed);
-        if was_used {
-            self.used.store(false, Relaxed);
-        }
-        was_used
-    }
-}
-
-/// The row of an entry's set.
-pub(super) fn row_of<K, V>(entry: NonNull<Entry<K, V>>) -> Row {
-    Row { a: 1, b: entry.as_ptr() as u64 }
-}
-
-/// The entry that a set's row refers to; a row of zeros refers to none.
-pub(super) fn entry_at<K, V>(row: Row) -> Option<NonNull<Entry<K, V>>> {
-    NonNull::new(row.b as *mut Entry<K, V>)
-}
-
-/// The entry that the rows of a set refer to; a set without rows has none.
-pub(super) fn entry_of<K, V>(rows: &[Row]) -> Option<NonNull<Entry<K, V>>> {
-    entry_at(*rows.first()?)
 }

@@ -1,5 +1,6 @@
 //! When entries expire.
 use super::entry::Entry;
+use crate::ids::Times;
 use std::sync::atomic::Ordering::Relaxed;
 use std::time::{Duration, Instant};
 
@@ -31,6 +32,14 @@ impl Expiry {
     /// Whether anything expires.
     pub fn is_set(&self) -> bool {
         self.to_live.is_some() || self.to_idle.is_some()
+    }
+
+    /// By what the store knows of an entry that is put when it will have lived, and of the others whether they have.
+    pub fn times(&self, born: Moment) -> Times {
+        match self.to_live {
+            Some(limit) => Times { stamp: born.saturating_add(limit).max(1), bound: born.saturating_add(1) },
+            None => Times { stamp: 1, bound: 0 },
+        }
     }
 
     pub fn is_over<K, V>(&self, entry: &Entry<K, V>, now: Moment) -> bool {

@@ -1,7 +1,7 @@
 //! What keeps a value while a reader borrows it.
 use crate::ids::IdReader;
 
-/// A reader's hold of an entry's set, which ends with this. Until then the set doesn't come back, and so the entry stays.
+/// A reader's hold of an entry, which ends with this. Until then the entry doesn't come out.
 pub(super) struct Hold<'a>(&'a mut IdReader);
 
 impl<'a> Hold<'a> {
@@ -10,9 +10,9 @@ impl<'a> Hold<'a> {
         Hold(reader)
     }
 
-    /// A hold of the set of an id that is filled, and that nobody can take meanwhile.
+    /// A hold of the entry of an id, which nobody can take meanwhile.
     pub fn of(reader: &'a mut IdReader, id: u64) -> Hold<'a> {
-        assert!(reader.pin(id), "the id is filled");
+        assert!(reader.find(id).is_some(), "the id has an entry");
         Hold(reader)
     }
 

@@ -1,10 +1,10 @@
-//! The lock of a part, under which keys are compared.
+//! The lock of a part, under which keys are compared, and values cloned for threads without a reader.
 use std::ops::{Deref, DerefMut};
 use std::sync::atomic::{AtomicUsize, Ordering::Relaxed};
 use std::sync::{Mutex, MutexGuard, PoisonError};
 
-/// A lock that a thread takes once at a time: where an `Eq` of keys, which runs under it, calls the cache of those keys,
-/// the call panics and doesn't wait for its own thread.
+/// A lock that a thread takes once at a time: where an `Eq` or a `Clone` that runs under it calls the same cache, the call
+/// panics and doesn't wait for its own thread.
 pub(super) struct Lock<T> {
     /// The thread that has it, or `NOBODY`.
     holder: AtomicUsize,
@@ -27,7 +27,10 @@ impl<T> Lock<T> {
     pub fn lock(&self) -> Locked<'_, T> {
         let thread = this_thread();
         // No other thread ever writes this one's number there.
-        assert!(self.holder.load(Relaxed) != thread, "an `Eq` of a cache's keys calls the cache");
+        assert!(
+            self.holder.load(Relaxed) != thread,
+            "an `Eq` of a cache's keys, or a `Clone` of its values, calls the cache"
+        );
         let inner = self.inner.lock().unwrap_or_else(PoisonError::into_inner);
         self.holder.store(thread, Relaxed);
         Locked { holder: &self.holder, inner }

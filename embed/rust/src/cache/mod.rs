@@ -1,21 +1,27 @@
 //! A cache of values of any type by keys of any type.
 mod builder;
 mod counts;
+mod desk;
 mod entry;
 mod expiry;
 mod flights;
 mod hold;
+mod leaving;
 mod lock;
+mod many;
+mod own;
 mod part;
 mod reader;
 mod request;
 mod shared;
 mod stats;
 mod store;
-mod victims;
+mod tasks;
+mod threads;
 mod view;
 
 pub use builder::CacheBuilder;
+pub use leaving::RemovalCause;
 pub use reader::{CacheReader, CacheRef, LoadError, WaitError};
 pub use request::{Request, Sought};
 pub use stats::CacheStats;
@@ -69,23 +75,22 @@ impl<K: Hash + Eq, V> Cache<K, V> {
 }
 
 impl<K: Hash + Eq, V, S: BuildHasher> Cache<K, V, S> {
-    /// A reader for the thread that asks, or none where all are out.
+    /// A reader for the thread that asks, or none where all are out, or kept by threads that have called [`Cache::get`].
     pub fn reader(&self) -> Option<CacheReader<K, V, S>> {
         let desk = self.shared.spare().pop()?;
         Some(CacheReader::of(desk, self.clone()))
     }
 
-    /// Puts a value, whatever its key has. A load that is under way for the key will not be held. Whether the cache holds
-    /// the value: it doesn't where another key has its hash, where all ways that it could have are being loaded, or during
-    /// a [`Change`].
+    /// Puts a value in place of what its key has, or another key of its hash. A load that is under way for the key will not
+    /// be held. Whether the cache holds the value: it doesn't during a [`Change`].
     pub fn insert(&self, key: K, value: V) -> bool {
         let id = self.shared.id_of(&key);
         let part = self.shared.part_of(id);
         part.put(Box::new(Entry::new(id, key, value, part.expiry.now())))
     }
 
-    /// Takes a key's value: whether there was one. No get that begins after this has returned sees it, nor what a load
-    /// gives that began before.
+    /// Takes a key's value, and another's of its hash: whether the key had one. No get that begins after this has returned
+    /// sees it, nor what a load gives that began before.
     pub fn invalidate<Q: Hash + Eq + ?Sized>(&self, key: &Q) -> bool
     where
         K: Borrow<Q>,
@@ -117,6 +122,12 @@ impl<K: Hash + Eq, V, S: BuildHasher> Cache<K, V, S> {
     /// What it has counted.
     pub fn stats(&self) -> CacheStats {
         self.shared.stats()
+    }
+
+    /// Names and numbers of what it has counted and of what it holds, for an exporter.
+    pub fn metrics(&self) -> impl Iterator<Item = (&'static str, u64)> {
+        let held = [("entries", self.len() as u64), ("capacity", self.capacity() as u64)];
+        self.stats().named().into_iter().chain(held)
     }
 }
 

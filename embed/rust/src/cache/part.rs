@@ -2,12 +2,13 @@
 use super::counts::Counts;
 use super::entry::Entry;
 use super::expiry::{Expiry, Moment};
-use super::flights::{Cause, End, Flight, Prospect};
+use super::flights::{End, Failure, Flight};
 use super::hold::Hold;
+use super::leaving::{Listener, RemovalCause};
 use super::lock::{Lock, Locked};
 use super::stats::CacheStats;
-use super::store::{Place, Store};
-use crate::drops::drop_each_then;
+use super::store::{self, Place, Store};
+use crate::drops::with_each_then;
 use crate::ids::IdReader;
 use std::borrow::Borrow;
 use std::sync::Arc;
@@ -18,6 +19,7 @@ pub(super) struct Part<K, V> {
     pub expiry: Expiry,
     /// One for each reader.
     pub counts: Box<[Counts]>,
+    listener: Option<Listener<K, V>>,
     store: Lock<Store<K, V>>,
 }
 
@@ -30,10 +32,27 @@ unsafe impl<K: Send + Sync, V: Send + Sync> Sync for Part<K, V> {}
 pub(super) enum Begun<K> {
     /// The key is held by now.
     Held,
-    /// Another loads it.
-    Wait(Arc<Flight<K>>),
+    /// Another loads it, and its key has not changed since that began, or it may have.
+    Wait(Arc<Flight<K>>, bool),
     /// The caller loads it.
-    Load(Arc<Flight<K>>),
+    Load(Load<K>),
+}
+
+/// A load that its caller makes, and the number by which the store knows it. Without one nobody waits for it, and its value
+/// is the caller's own: another key has the id, or too many are loaded.
+pub(super) struct Load<K> {
+    flight: Arc<Flight<K>>,
+    number: Option<u64>,
+}
+
+impl<K> Load<K> {
+    pub fn id(&self) -> u64 {
+        self.flight.id()
+    }
+
+    pub fn key(&self) -> &K {
+        self.flight.key()
+    }
 }
 
 /// A value that was loaded.
@@ -47,19 +66,39 @@ pub(super) enum Landed<K, V> {
 /// A load that has failed where this is dropped before its end.
 pub(super) struct Failing<'a, K, V> {
     pub part: &'a Part<K, V>,
-    pub flight: &'a Arc<Flight<K>>,
+    pub load: &'a Load<K>,
 }
 
 impl<K, V> Drop for Failing<'_, K, V> {
     fn drop(&mut self) {
-        self.part.fail(self.flight);
+        self.part.fail(self.load);
     }
 }
 
 impl<K, V> Part<K, V> {
-    pub fn new(expiry: Expiry, readers: usize, store: Store<K, V>) -> Self {
+    pub fn new(expiry: Expiry, readers: usize, listener: Option<Listener<K, V>>, store: Store<K, V>) -> Self {
         let counts = (0..readers).map(|_| Counts::default()).collect();
-        Part { expiry, counts, store: Lock::new(store) }
+        Part { expiry, counts, listener, store: Lock::new(store) }
+    }
+
+    /// What `read` makes of a key's value, under the lock: for a thread without a reader.
+    pub fn read<Q: Eq + ?Sized, R>(&self, id: u64, key: &Q, read: impl FnOnce(&V) -> R) -> Option<R>
+    where
+        K: Borrow<Q>,
+    {
+        let now = self.expiry.now();
+        let mut store = self.store();
+        let entry = store.find(id)?;
+        if entry.key.borrow() != key || self.expiry.is_over(entry, now) {
+            return None;
+        }
+        self.expiry.touch(entry, now);
+        Some(read(&entry.value))
+    }
+
+    /// Counts under the lock, as a thread without a reader does.
+    pub fn count(&self, count: impl FnOnce(&mut CacheStats)) {
+        count(&mut self.store().counted);
     }
 
     /// Opens a flight of a key, unless it is held or there is one.
@@ -72,34 +111,31 @@ impl<K, V> Part<K, V> {
         let flight = Arc::new(Flight::new(id, owned));
         // What is taken out is dropped by a later call: where a drop panicked here, nobody would end the flight.
         let mut store = self.store();
-        if let Some(flight) = store.flights.find(id, key) {
-            return Begun::Wait(flight);
+        loop {
+            let number = match store.begin(&flight) {
+                store::Begun::Load(number) => Some(number),
+                store::Begun::Wait(other) if other.key().borrow() == key => {
+                    let is_of_now = store.is_of_now(&other);
+                    return Begun::Wait(other, is_of_now);
+                }
+                store::Begun::Held if self.expire(&mut store, id, now) => continue,
+                store::Begun::Held if store.find(id).is_some_and(|entry| entry.key.borrow() == key) => {
+                    return Begun::Held;
+                }
+                // Another key has the id, or too many are loaded.
+                store::Begun::Held | store::Begun::Wait(_) | store::Begun::Full => None,
+            };
+            return Begun::Load(Load { flight, number });
         }
-        let held = store.find(id).map(|entry| (entry.key.borrow() == key, self.expiry.is_over(entry, now)));
-        let prospect = match held {
-            Some((true, false)) => return Begun::Held,
-            // Another key has the id.
-            Some((false, false)) => Prospect::NoPlace,
-            Some((_, true)) => {
-                store.evict(id);
-                store.counted.evictions += 1;
-                self.prospect(&mut store, id, now)
-            }
-            None => self.prospect(&mut store, id, now),
-        };
-        store.flights.begin(Arc::clone(&flight), prospect);
-        Begun::Load(flight)
     }
 
-    /// Whether a flight that begins now will be held, whose id has no entry.
-    fn prospect(&self, store: &mut Store<K, V>, id: u64, now: Moment) -> Prospect {
-        if store.flights.is_changing(id) {
-            Prospect::Outdated
-        } else if store.flights.has_upquery(id) {
-            Prospect::NoPlace
-        } else {
-            store.admit(id, &self.expiry, now).map_or(Prospect::NoPlace, Prospect::Held)
+    /// Takes an id's entry where it has expired.
+    fn expire(&self, store: &mut Store<K, V>, id: u64, now: Moment) -> bool {
+        let is_over = store.find(id).is_some_and(|entry| self.expiry.is_over(entry, now));
+        if is_over {
+            store.expire(id);
         }
+        is_over
     }
 
     /// The flight of a key, where there is one.
@@ -107,159 +143,129 @@ impl<K, V> Part<K, V> {
     where
         K: Borrow<Q>,
     {
-        self.store().flights.find(id, key)
+        let flight = self.store().flight_of(id)?;
+        (flight.key().borrow() == key).then_some(flight)
     }
 
     /// Ends a flight by its value, which the reader holds then, where one is given.
-    pub fn land(
-        &self,
-        flight: &Arc<Flight<K>>,
-        entry: Box<Entry<K, V>>,
-        reader: Option<&mut IdReader>,
-    ) -> Landed<K, V> {
+    pub fn land(&self, load: &Load<K>, entry: Box<Entry<K, V>>, reader: Option<&mut IdReader>) -> Landed<K, V> {
         let mut hold = None;
         let land = |store: &mut Store<K, V>| {
             store.counted.loads += 1;
-            match store.flights.end(flight) {
-                Prospect::Held(upquery) => {
-                    let place = store.fill(upquery, entry, &self.expiry);
+            let Some(number) = load.number else {
+                store.counted.refused += 1;
+                return Landed::Own(entry);
+            };
+            match store.land(&load.flight, number, entry) {
+                Ok(place) => {
                     // Under the lock, so that nobody takes it out before.
-                    hold = reader.map(|reader| Hold::of(reader, flight.id()));
-                    return Landed::Held(place);
+                    hold = reader.map(|reader| Hold::of(reader, load.id()));
+                    Landed::Held(place)
                 }
-                Prospect::NoPlace => store.counted.refused += 1,
-                Prospect::Outdated => store.counted.outdated += 1,
+                Err(entry) => {
+                    store.counted.outdated += 1;
+                    Landed::Own(entry)
+                }
             }
-            Landed::Own(entry)
         };
-        let landed = self.change_then(land, || flight.end(End::Loaded));
+        let landed = self.change_then(land, || load.flight.end(End::Loaded));
         if let Some(hold) = hold {
             hold.keep();
         }
         landed
     }
 
-    /// Ends a flight without a value, for that cause.
-    pub fn crash(&self, flight: &Arc<Flight<K>>, why: Option<Cause>) {
-        let withdraw = |store: &mut Store<K, V>| {
+    /// Ends a flight without a value.
+    pub fn crash(&self, load: &Load<K>, why: Failure) {
+        let fail = |store: &mut Store<K, V>| {
             store.counted.failures += 1;
-            if let Prospect::Held(upquery) = store.flights.end(flight) {
-                store.withdraw(upquery);
+            if let Some(number) = load.number {
+                store.fail(&load.flight, number);
             }
         };
-        self.change_then(withdraw, || flight.end(End::Failed(why)));
+        self.change_then(fail, || load.flight.end(End::Failed(why)));
     }
 
     /// Ends a flight without a value where it hasn't ended yet.
-    pub fn fail(&self, flight: &Arc<Flight<K>>) {
-        if !flight.has_ended() {
-            self.crash(flight, None);
+    pub fn fail(&self, load: &Load<K>) {
+        if !load.flight.has_ended() {
+            self.crash(load, Failure::Unsaid);
         }
     }
 
-    /// Puts an entry, whatever its key has, and whatever is under way for it: whether it is held.
-    pub fn put(&self, entry: Box<Entry<K, V>>) -> bool
-    where
-        K: Eq,
-    {
-        let (id, now) = (entry.id, entry.born);
-        // Out here it is dropped without the lock, also where the keys' `Eq` panics.
-        let mut entry = Some(entry);
+    /// Puts an entry, whatever its id has, and whatever is loaded for it: whether it is held.
+    pub fn put(&self, entry: Box<Entry<K, V>>) -> bool {
+        // What isn't held is dropped without the lock.
         let refused = self.change(|store| {
-            store.revoke(id);
-            let is_same = entry.as_ref().and_then(|entry| store.has_key(id, &entry.key));
-            // Whether the value is from before a change or from after it nobody can tell.
-            if store.flights.is_changing(id) && is_same != Some(false) {
-                store.evict(id);
-                store.counted.outdated += 1;
-                return entry.take();
-            }
-            let upquery = match is_same {
-                None => store.admit(id, &self.expiry, now),
-                Some(_) => None,
-            };
-            let entry = entry.take()?;
-            match (is_same, upquery) {
-                (Some(true), _) => store.replace(entry),
-                (_, Some(upquery)) => _ = store.fill(upquery, entry, &self.expiry),
-                _ => {
-                    store.counted.refused += 1;
-                    return Some(entry);
-                }
-            }
-            None
+            let refused = store.put(entry).err();
+            store.counted.outdated += u64::from(refused.is_some());
+            refused
         });
         refused.is_none()
     }
 
     /// Puts an entry in place of one that its key has still.
     pub fn swap(&self, old: Place<K, V>, entry: Box<Entry<K, V>>) -> bool {
-        let refused = self.change(|store| {
-            if store.place(entry.id) != Some(old) {
-                return Some(entry);
-            }
-            store.replace(entry);
-            None
-        });
+        let refused = self.change(|store| store.swap(old, entry).err());
         refused.is_none()
     }
 
-    /// Takes a key's entry, and what is under way for it will not be held: whether there was an entry.
+    /// Takes what a key's id has, and what is loaded for it will not be held: whether the key had an entry.
     pub fn invalidate<Q: Eq + ?Sized>(&self, id: u64, key: &Q) -> bool
     where
         K: Borrow<Q>,
     {
-        self.change(|store| {
-            store.revoke(id);
-            store.has_key(id, key) == Some(true) && store.evict(id)
-        })
+        self.change(|store| store.invalidate(id).is_some_and(|entry| entry.key.borrow() == key))
     }
 
-    /// What is under way for an id will not be held.
+    /// What is loaded for an id will not be held.
     pub fn revoke(&self, id: u64) {
         self.store().revoke(id);
     }
 
     pub fn invalidate_all(&self) {
-        self.change(|store| {
-            store.revoke_all();
-            store.evict_all();
-        });
+        self.change(Store::invalidate_all);
     }
 
-    /// Begins a change of a key in the base: no load that began before its end will be held.
-    pub fn begin_change(&self, id: u64) {
-        self.change(|store| {
-            store.revoke(id);
-            store.flights.begin_change(id);
-        });
+    /// Begins a change of a key in the base: no load that began before its end will be held. Whether the store knows of it,
+    /// which [`Part::end_change`] is to be told.
+    pub fn begin_change(&self, id: u64) -> bool {
+        self.change(|store| store.begin_change(id))
     }
 
     /// Ends it. Where the key has an entry that hasn't expired, that is replaced by what `change` makes of it: whether it was.
-    /// An entry of which that makes none goes.
-    pub fn end_change<E, C>(&self, id: u64, key: K, change: C) -> Result<bool, E>
+    /// An entry of which that makes none goes, and so does one that changed in two ways at once.
+    pub fn end_change<E, C>(&self, id: u64, is_known: bool, key: K, change: C) -> Result<bool, E>
     where
         K: Eq,
         C: FnOnce(&Entry<K, V>) -> Result<Option<V>, E>,
     {
         let now = self.expiry.now();
-        // Where the key isn't needed it is dropped without the lock.
-        let mut key = Some(key);
+        // What isn't needed is dropped without the lock.
+        let (mut key, mut refused) = (Some(key), None);
         self.change(|store| {
-            store.flights.end_change(id);
+            if !is_known {
+                store.invalidate(id);
+                return Ok(false);
+            }
+            store.end_change(id);
             let is_its_own = key.as_ref().and_then(|key| store.has_key(id, key)) == Some(true);
-            let Some(old) = store.find(id).filter(|_| is_its_own) else { return Ok(false) };
+            let Some(place) = store.place(id).filter(|_| is_its_own) else { return Ok(false) };
+            let Some(old) = store.find(id) else { return Ok(false) };
             let (is_over, maker) = (self.expiry.is_over(old, now), old.maker);
             let made = if is_over { Ok(None) } else { change(old) };
             match (made, key.take()) {
                 (Ok(Some(value)), Some(key)) => {
-                    store.replace(Box::new(Entry::of(maker, id, key, value, now)));
-                    Ok(true)
+                    refused = store.swap(place, Box::new(Entry::of(maker, id, key, value, now))).err();
+                    Ok(refused.is_none())
                 }
                 (made, kept) => {
                     key = kept;
-                    store.counted.evictions += u64::from(is_over);
-                    store.evict(id);
+                    if is_over {
+                        store.note(id, RemovalCause::Expired);
+                        store.counted.evictions += 1;
+                    }
+                    store.invalidate(id);
                     made.map(|_| false)
                 }
             }
@@ -281,23 +287,38 @@ impl<K, V> Part<K, V> {
         self.store.get_mut().take_all()
     }
 
-    /// Changes the store under its lock, and then drops what came back, without it.
+    /// Changes the store under its lock, and then drops what came back, without it, or gives it to who listens.
     fn change<R>(&self, change: impl FnOnce(&mut Store<K, V>) -> R) -> R {
         self.change_then(change, || {})
     }
 
-    /// The same, and does something before the drops, of which one may panic.
+    /// The same, and does something before that, of which a part may panic.
     fn change_then<R>(&self, change: impl FnOnce(&mut Store<K, V>) -> R, then: impl FnOnce()) -> R {
         // With room for as many as there are most often, so that none is made under the lock.
         let mut doomed = Vec::with_capacity(2);
-        let result = {
+        let (result, causes) = {
             let mut store = self.store();
             let result = change(&mut store);
             doomed.extend(store.reap());
-            result
+            (result, self.causes_of(&store, &doomed))
         };
         then();
-        drop_each_then(doomed, result)
+        let mut causes = causes.into_iter();
+        with_each_then(doomed, result, |entry| match (&self.listener, causes.next()) {
+            (Some(listener), Some(cause)) => listener(entry.key, entry.value, cause),
+            _ => drop(entry),
+        })
+    }
+
+    /// Why each entry left, where somebody listens.
+    fn causes_of(&self, store: &Store<K, V>, doomed: &[Box<Entry<K, V>>]) -> Vec<RemovalCause> {
+        match self.listener {
+            None => Vec::new(),
+            Some(_) => {
+                let now = self.expiry.now();
+                doomed.iter().map(|entry| store.cause_of(entry, now)).collect()
+            }
+        }
     }
 
     fn store(&self) -> Locked<'_, Store<K, V>> {

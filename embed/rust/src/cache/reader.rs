@@ -1,15 +1,16 @@
 //! What a thread finds and loads values with.
 use super::counts::Counts;
-use super::entry::{entry_at, Entry};
+use super::desk::{At, Desk};
+use super::entry::Entry;
 use super::flights::End;
 use super::hold::Hold;
 use super::part::{Begun, Failing, Landed, Part};
 use super::request::{Request, Sought};
-use super::shared::{Desk, Shared};
+use super::shared::Shared;
 use super::store::Place;
 use super::Cache;
-use crate::ids::IdReader;
 use std::borrow::Borrow;
+use std::collections::hash_map::RandomState;
 use std::convert::Infallible;
 use std::error::Error;
 use std::fmt;
@@ -23,19 +24,14 @@ use std::time::{Duration, Instant};
 ///
 /// A thread that waits for a load while it runs a load of its own, or that loads a key within the load of the same key,
 /// may wait for itself: give a load's inner gets a time limit.
-pub struct CacheReader<K: Hash + Eq, V, S: BuildHasher> {
-    /// One of each part.
-    ids: ManuallyDrop<Box<[IdReader]>>,
-    /// The part in which it found last, and the only one in which it may still hold what was borrowed and forgotten.
-    last: usize,
-    number: usize,
+pub struct CacheReader<K: Hash + Eq, V, S: BuildHasher = RandomState> {
+    desk: ManuallyDrop<Desk>,
     cache: Cache<K, V, S>,
 }
 
 impl<K: Hash + Eq, V, S: BuildHasher> CacheReader<K, V, S> {
     pub(super) fn of(desk: Desk, cache: Cache<K, V, S>) -> CacheReader<K, V, S> {
-        let Desk { ids, number } = desk;
-        CacheReader { ids: ManuallyDrop::new(ids), last: 0, number, cache }
+        CacheReader { desk: ManuallyDrop::new(desk), cache }
     }
 
     /// The cache that it reads.
@@ -49,7 +45,7 @@ impl<K: Hash + Eq, V, S: BuildHasher> CacheReader<K, V, S> {
     where
         K: Borrow<Q>,
     {
-        let at = self.at(key);
+        let at = self.shared().at(key);
         let place = self.look(at, key)?;
         Some(self.borrowed(at, place))
     }
@@ -115,7 +111,7 @@ impl<K: Hash + Eq, V, S: BuildHasher> CacheReader<K, V, S> {
         K: Borrow<Q>,
         Q: Hash + Eq + ToOwned<Owned = K> + ?Sized,
     {
-        let at = self.at(key);
+        let at = self.shared().at(key);
         let mut found = self.look(at, key);
         loop {
             if let Some(place) = found {
@@ -123,8 +119,8 @@ impl<K: Hash + Eq, V, S: BuildHasher> CacheReader<K, V, S> {
             }
             match self.begin(at, key) {
                 Begun::Held => found = self.find(at, key),
-                Begun::Wait(_) => return Sought::UnderWay,
-                Begun::Load(flight) => return Sought::Missing(Request::of(self.cache.clone(), flight)),
+                Begun::Wait(..) => return Sought::UnderWay,
+                Begun::Load(load) => return Sought::Missing(Request::of(self.cache.clone(), load)),
             }
         }
     }
@@ -135,7 +131,7 @@ impl<K: Hash + Eq, V, S: BuildHasher> CacheReader<K, V, S> {
         K: Borrow<Q>,
         Q: Hash + Eq + ?Sized,
     {
-        let at = self.at(key);
+        let at = self.shared().at(key);
         if let Some(place) = self.look(at, key) {
             return Ok(self.borrowed(at, place));
         }
@@ -143,7 +139,7 @@ impl<K: Hash + Eq, V, S: BuildHasher> CacheReader<K, V, S> {
             self.counts(at).count_wait();
             match flight.wait(Instant::now().checked_add(timeout)) {
                 None => return Err(WaitError::TimedOut),
-                Some(End::Failed(why)) => return Err(WaitError::Failed(why)),
+                Some(End::Failed(why)) => return Err(WaitError::Failed(why.said())),
                 Some(End::Loaded) => {}
             }
         }
@@ -158,13 +154,13 @@ impl<K: Hash + Eq, V, S: BuildHasher> CacheReader<K, V, S> {
         K: Borrow<Q>,
         Q: Hash + Eq + ToOwned<Owned = K> + ?Sized,
     {
-        let at = self.at(key);
+        let at = self.shared().at(key);
         // A load that began before this call may have read what was to be changed. Once it is revoked, what is found here is
         // changed, and what isn't is loaded by later loads alone.
         self.part(at).revoke(at.id);
         while let Some(place) = self.find(at, key) {
             let part = &self.cache.shared.parts()[at.part];
-            let old = CacheRef(Borrowed::Held(place, Hold::had(&mut self.ids[at.part])));
+            let old = CacheRef(Borrowed::Held(place, self.desk.hold(at)));
             let value = change(&old);
             let maker = old.entry().maker;
             let entry = Box::new(Entry::of(maker, at.id, key.to_owned(), value, part.expiry.now()));
@@ -188,16 +184,16 @@ impl<K: Hash + Eq, V, S: BuildHasher> CacheReader<K, V, S> {
         K: Borrow<Q>,
         Q: Hash + Eq + ToOwned<Owned = K> + ?Sized,
     {
-        let at = self.at(key);
+        let at = self.shared().at(key);
         if let Some(place) = self.look(at, key) {
             return Ok(self.borrowed(at, place));
         }
         // A limit beyond the end of time is none.
         let until = timeout.and_then(|timeout| Instant::now().checked_add(timeout));
-        let flight = loop {
+        let own = loop {
             match self.begin(at, key) {
-                Begun::Load(flight) => break flight,
-                Begun::Wait(flight) => {
+                Begun::Load(own) => break own,
+                Begun::Wait(flight, _) => {
                     self.counts(at).count_wait();
                     if flight.wait(until).is_none() {
                         return Err(LoadError::TimedOut);
@@ -211,23 +207,22 @@ impl<K: Hash + Eq, V, S: BuildHasher> CacheReader<K, V, S> {
         };
         let part = &self.cache.shared.parts()[at.part];
         // Where the load ends without a value, by an error or a panic, this wakes those who wait.
-        let _failing = Failing { part, flight: &flight };
+        let _failing = Failing { part, load: &own };
         let value = load().map_err(LoadError::Failed)?;
         let entry = Box::new(Entry::new(at.id, key.to_owned(), value, part.expiry.now()));
-        let reader = &mut self.ids[at.part];
-        Ok(CacheRef(match part.land(&flight, entry, Some(reader)) {
-            Landed::Held(place) => Borrowed::Held(place, Hold::had(&mut self.ids[at.part])),
+        let reader = &mut self.desk.ids[at.part];
+        Ok(CacheRef(match part.land(&own, entry, Some(reader)) {
+            Landed::Held(place) => Borrowed::Held(place, self.desk.hold(at)),
             Landed::Own(entry) => Borrowed::Own(entry),
         }))
     }
 
-    /// Opens a flight of a key, unless it is held or there is one. The id is claimed without the lock.
-    fn begin<Q>(&mut self, at: At, key: &Q) -> Begun<K>
+    /// Opens a flight of a key, unless it is held or there is one.
+    fn begin<Q>(&self, at: At, key: &Q) -> Begun<K>
     where
         K: Borrow<Q>,
         Q: Eq + ToOwned<Owned = K> + ?Sized,
     {
-        self.ids[at.part].request(at.id);
         self.part(at).begin(at.id, key, key.to_owned())
     }
 
@@ -236,25 +231,7 @@ impl<K: Hash + Eq, V, S: BuildHasher> CacheReader<K, V, S> {
     where
         K: Borrow<Q>,
     {
-        let part = &self.cache.shared.parts()[at.part];
-        let last = std::mem::replace(&mut self.last, at.part);
-        if last != at.part {
-            self.ids[last].let_go();
-        }
-        let reader = &mut self.ids[at.part];
-        let row = reader.hold(at.id)?;
-        let hold = Hold::had(reader);
-        let place = entry_at::<K, V>(row)?;
-        // SAFETY: the reader holds the entry's set, so the entry hasn't come back.
-        let entry = unsafe { place.as_ref() };
-        let now = part.expiry.now();
-        if entry.key.borrow() != key || part.expiry.is_over(entry, now) {
-            return None;
-        }
-        entry.mark();
-        part.expiry.touch(entry, now);
-        hold.keep();
-        Some(place)
+        self.desk.find(self.cache.shared.parts(), at, key)
     }
 
     /// The same for a get's first look, which is a hit or a miss.
@@ -272,12 +249,7 @@ impl<K: Hash + Eq, V, S: BuildHasher> CacheReader<K, V, S> {
 
     /// What the last find has found.
     fn borrowed(&mut self, at: At, place: Place<K, V>) -> CacheRef<'_, K, V> {
-        CacheRef(Borrowed::Held(place, Hold::had(&mut self.ids[at.part])))
-    }
-
-    fn at<Q: Hash + ?Sized>(&self, key: &Q) -> At {
-        let id = self.shared().id_of(key);
-        At { id, part: self.shared().number_of(id) }
+        CacheRef(Borrowed::Held(place, self.desk.hold(at)))
     }
 
     fn part(&self, at: At) -> &Part<K, V> {
@@ -285,7 +257,7 @@ impl<K: Hash + Eq, V, S: BuildHasher> CacheReader<K, V, S> {
     }
 
     fn counts(&self, at: At) -> &Counts {
-        &self.part(at).counts[self.number]
+        &self.part(at).counts[self.desk.number]
     }
 
     fn shared(&self) -> &Shared<K, V, S> {
@@ -296,24 +268,17 @@ impl<K: Hash + Eq, V, S: BuildHasher> CacheReader<K, V, S> {
 impl<K: Hash + Eq, V, S: BuildHasher> Drop for CacheReader<K, V, S> {
     fn drop(&mut self) {
         // What was borrowed and forgotten is let go.
-        self.ids[self.last].let_go();
+        self.desk.let_go();
         // SAFETY: nothing uses it after this.
-        let ids = unsafe { ManuallyDrop::take(&mut self.ids) };
-        self.shared().spare().push(Desk { ids, number: self.number });
+        let desk = unsafe { ManuallyDrop::take(&mut self.desk) };
+        self.shared().spare().push(desk);
     }
 }
 
 impl<K: Hash + Eq, V, S: BuildHasher> fmt::Debug for CacheReader<K, V, S> {
     fn fmt(&self, f: &mut fmt::Formatter<'_>) -> fmt::Result {
-        f.debug_struct("CacheReader").field("number", &self.number).finish_non_exhaustive()
+        f.debug_struct("CacheReader").field("number", &self.desk.number).finish_non_exhaustive()
     }
-}
-
-/// A key's id, and the number of its part.
-#[derive(Clone, Copy)]
-struct At {
-    id: u64,
-    part: usize,
 }
 
 enum Borrowed<'a, K, V> {
@@ -336,14 +301,14 @@ impl<K, V> CacheRef<'_, K, V> {
     }
 
     /// Whether the cache held the value when it was borrowed. It doesn't hold what was loaded while its key was
-    /// invalidated, nor a value for which it had no place.
+    /// invalidated, nor what was loaded while another key of its hash was there, or more than 1,024 others were.
     pub fn is_held(&self) -> bool {
         matches!(self.0, Borrowed::Held(..))
     }
 
     fn entry(&self) -> &Entry<K, V> {
         match &self.0 {
-            // SAFETY: the reader holds the entry's set as long as this borrows it.
+            // SAFETY: the reader holds the entry as long as this borrows it.
             Borrowed::Held(place, _) => unsafe { place.as_ref() },
             Borrowed::Own(entry) => entry,
         }

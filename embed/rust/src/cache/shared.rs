@@ -1,9 +1,9 @@
 //! What the handles of a cache have in common.
+use super::desk::{At, Desk};
 use super::flights::spread;
 use super::part::Part;
 use super::stats::CacheStats;
 use crate::drops::drop_each;
-use crate::ids::IdReader;
 use std::hash::{BuildHasher, Hash};
 use std::sync::{Mutex, MutexGuard, PoisonError};
 
@@ -13,12 +13,6 @@ pub(super) struct Shared<K, V, S> {
     /// The ids are spread over them, so that two threads that miss rarely want one lock.
     parts: Box<[Part<K, V>]>,
     spare: Mutex<Vec<Desk>>,
-}
-
-/// What a reader has of a cache: a reader of each part's map, and the number by which it counts in all parts.
-pub(super) struct Desk {
-    pub ids: Box<[IdReader]>,
-    pub number: usize,
 }
 
 impl<K, V, S> Shared<K, V, S> {
@@ -32,6 +26,15 @@ impl<K, V, S> Shared<K, V, S> {
         S: BuildHasher,
     {
         self.hasher.hash_one(key).max(1)
+    }
+
+    /// Where a key's entry is looked for.
+    pub fn at<Q: Hash + ?Sized>(&self, key: &Q) -> At
+    where
+        S: BuildHasher,
+    {
+        let id = self.id_of(key);
+        At { id, part: self.number_of(id) }
     }
 
     /// Which part has an id.
@@ -62,6 +65,11 @@ impl<K, V, S> Shared<K, V, S> {
     /// The desks that no reader has.
     pub fn spare(&self) -> MutexGuard<'_, Vec<Desk>> {
         self.spare.lock().unwrap_or_else(PoisonError::into_inner)
+    }
+
+    /// One of them, unless another thread takes one or gives one back just now.
+    pub fn spare_at_once(&self) -> Option<Desk> {
+        self.spare.try_lock().ok()?.pop()
     }
 }
 

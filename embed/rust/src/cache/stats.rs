@@ -16,10 +16,25 @@ pub struct CacheStats {
     pub waits: u64,
     /// Entries that made room for others or had expired.
     pub evictions: u64,
-    /// Values that were not held for want of a place: their groups were full of loads, or another key has their id.
+    /// Values that were not held since another key has their hash, or since more than 1,024 loads of a part were under way.
     pub refused: u64,
     /// Values that were not held since their load began before their key's invalidation, insertion or change was over.
     pub outdated: u64,
+}
+
+impl CacheStats {
+    pub(super) fn named(&self) -> [(&'static str, u64); 8] {
+        [
+            ("hits", self.hits),
+            ("misses", self.misses),
+            ("loads", self.loads),
+            ("failures", self.failures),
+            ("waits", self.waits),
+            ("evictions", self.evictions),
+            ("refused", self.refused),
+            ("outdated", self.outdated),
+        ]
+    }
 }
 
 impl AddAssign for CacheStats {

@@ -1,73 +1,81 @@
-//! What is under a part's lock: the map's writer, and the entries that are held.
-use super::entry::{entry_of, row_of, Entry};
+//! What is under a part's lock: the entries that are held, by the numbers of their places.
+use super::entry::Entry;
 use super::expiry::{Expiry, Moment};
-use super::flights::Flights;
+use super::flights::{spread, Flight};
+use super::leaving::RemovalCause;
 use super::stats::CacheStats;
-use super::victims::Hands;
-use crate::ids::{IdReader, IdShape, IdWriter, Refused, Upquery};
-use crate::Rows;
+use crate::ids::{Ids, Miss, Put, Times};
 use std::borrow::Borrow;
-use std::ops::Range;
+use std::marker::PhantomData;
 use std::panic::{catch_unwind, resume_unwind, AssertUnwindSafe};
 use std::ptr::NonNull;
-
-/// How many ways a group has.
-const WAYS: usize = 8;
-
-/// The ways of a group.
-fn ways_of(group: usize) -> Range<usize> {
-    group * WAYS..(group + 1) * WAYS
-}
+use std::sync::atomic::Ordering::Relaxed;
+use std::sync::Arc;
 
 pub(super) type Place<K, V> = NonNull<Entry<K, V>>;
 
-/// A way whose id is filled. The id stands here too, so that who looks for one reads the group's line alone.
-pub(super) struct Way<K, V> {
-    id: u64,
-    place: Place<K, V>,
+/// Where an entry is held that was put, or the entry.
+type PutEntry<K, V> = Result<Place<K, V>, Box<Entry<K, V>>>;
+
+/// Where the entry lies that has that number.
+pub(super) fn place_of<K, V>(number: u64) -> Place<K, V> {
+    NonNull::new(number as *mut Entry<K, V>).expect("a number is an entry's address")
 }
 
 pub(super) struct Store<K, V> {
-    writer: IdWriter,
-    /// Claims ids that no reader has claimed.
-    asker: IdReader,
-    shape: IdShape,
-    pub(super) ways: Box<[Option<Way<K, V>>]>,
-    held: usize,
-    capacity: usize,
-    pub(super) hands: Hands,
-    pub flights: Flights<K>,
-    /// What came back from the map: no reader holds it, and none can find it.
-    came_back: Vec<Place<K, V>>,
-    room: Box<Rows>,
+    ids: Ids,
+    expiry: Expiry,
+    /// What came out: no reader holds it, and none can find it.
+    came_out: Vec<Place<K, V>>,
+    /// How many entries were put, and how many when all were invalidated last.
+    turns: u64,
+    turns_before: u64,
+    /// How often ids were invalidated, put or changed, of each 64th together.
+    changes: [u64; 64],
     /// All but what readers count.
     pub counted: CacheStats,
+    entries: PhantomData<Arc<Flight<K>>>,
+}
+
+/// What a miss of an id comes to.
+pub(super) enum Begun<K> {
+    /// It has an entry by now.
+    Held,
+    /// It is loaded.
+    Wait(Arc<Flight<K>>),
+    /// The caller loads it, by the flight of that number.
+    Load(u64),
+    /// There is no room for one more flight.
+    Full,
 }
 
 impl<K, V> Store<K, V> {
-    pub fn new(writer: IdWriter, asker: IdReader, shape: IdShape, capacity: usize) -> Store<K, V> {
+    pub fn new(ids: Ids, expiry: Expiry) -> Store<K, V> {
         Store {
-            writer,
-            asker,
-            shape,
-            ways: (0..shape.groups as usize * WAYS).map(|_| None).collect(),
-            held: 0,
-            capacity,
-            hands: Hands::default(),
-            flights: Flights::new(),
-            came_back: Vec::new(),
-            room: Box::default(),
+            ids,
+            expiry,
+            came_out: Vec::new(),
+            turns: 0,
+            turns_before: 0,
+            changes: [0; 64],
             counted: CacheStats::default(),
+            entries: PhantomData,
         }
     }
 
-    pub fn held(&self) -> usize {
-        self.held
+    pub fn held(&mut self) -> usize {
+        self.ids.held()
     }
 
-    /// The entry of an id that is filled.
-    pub fn find(&self, id: u64) -> Option<&Entry<K, V>> {
-        self.way_of(id).and_then(|way| self.entry_at(way))
+    /// Where the entry of an id lies: there until a call takes it.
+    pub fn place(&mut self, id: u64) -> Option<Place<K, V>> {
+        self.ids.look(id).map(place_of)
+    }
+
+    /// The entry of an id.
+    pub fn find(&mut self, id: u64) -> Option<&Entry<K, V>> {
+        // SAFETY: an entry is freed once it came out, which takes a call by `&mut`.
+        self.place(id).map(|place| unsafe { &*place.as_ptr() })
     }
 
     /// Whether an id's entry, where there is one, has that key. Where the keys' `Eq` panics nobody can tell whether the entry
@@ -79,141 +87,197 @@ impl<K, V> Store<K, V> {
         let entry = self.find(id)?;
         let compared = catch_unwind(AssertUnwindSafe(|| entry.key.borrow() == key));
         Some(compared.unwrap_or_else(|why| {
-            self.evict(id);
+            self.note(id, RemovalCause::Explicit);
+            self.ids.evict(id);
             resume_unwind(why)
         }))
     }
 
-    /// The entry of a way that is filled.
-    pub(super) fn entry_at(&self, way: usize) -> Option<&Entry<K, V>> {
-        // SAFETY: an entry comes back only after its way has it no more.
-        self.place_at(way).map(|place| unsafe { &*place.as_ptr() })
-    }
-
-    /// Where that entry lies.
-    pub fn place(&self, id: u64) -> Option<Place<K, V>> {
-        self.way_of(id).and_then(|way| self.place_at(way))
-    }
-
-    fn way_of(&self, id: u64) -> Option<usize> {
-        let mut ways = self.groups(id).into_iter().flatten();
-        ways.find(|&way| self.ways[way].as_ref().is_some_and(|way| way.id == id))
-    }
-
-    /// The ways that an id can have.
-    pub(super) fn groups(&self, id: u64) -> [Range<usize>; 2] {
-        self.shape.groups_of(id).map(ways_of)
-    }
-
-    fn place_at(&self, way: usize) -> Option<Place<K, V>> {
-        self.ways[way].as_ref().map(|way| way.place)
-    }
-
-    /// Opens an upquery for an id that has no way, or none where each way of its two groups is of a load under way. An entry
-    /// of one of these makes room where there is none.
-    pub fn admit(&mut self, id: u64, expiry: &Expiry, now: Moment) -> Option<Upquery> {
-        let mut has_claimed = false;
-        loop {
-            match self.writer.admit(id) {
-                Ok(upquery) => return Some(upquery),
-                // Another id of the group was admitted by the claim that the reader made or met.
-                Err(Refused::NotAsked) if !has_claimed => {
-                    self.asker.request(id);
-                    has_claimed = true;
-                }
-                Err(Refused::NotAsked | Refused::Other) => return None,
-                Err(Refused::Full) => {
-                    let victim = self.victim_beside(id, expiry, now)?;
-                    self.evict_way(victim);
-                    self.counted.evictions += 1;
-                }
+    /// Begins a flight, unless its id has an entry or is loaded. It is the flight's mark, and counts as one more owner of it
+    /// until its end.
+    pub fn begin(&mut self, flight: &Arc<Flight<K>>) -> Begun<K> {
+        match self.ids.begin(flight.id(), Arc::as_ptr(flight) as u64) {
+            Miss::Held => Begun::Held,
+            Miss::Wait(mark) => Begun::Wait(owner(mark)),
+            Miss::Load(number) => {
+                std::mem::forget(Arc::clone(flight));
+                flight.changes.store(*self.changes_of(flight.id()), Relaxed);
+                Begun::Load(number)
             }
+            Miss::Full => Begun::Full,
         }
     }
 
-    /// Fills the id of an open upquery with an entry.
-    pub fn fill(&mut self, upquery: Upquery, entry: Box<Entry<K, V>>, expiry: &Expiry) -> Place<K, V> {
-        let (id, now) = (entry.id, entry.born);
-        while self.held >= self.capacity && self.make_room(expiry, now) {}
-        let place = NonNull::from(Box::leak(entry));
-        // There is a slot for each entry, each reader and more, so it is never refused.
-        let had = self.writer.fill(&upquery, &[row_of(place)], &mut self.room);
-        self.came_back.extend(entry_of(had.expect("the upquery is open, and there is a slot")));
-        self.ways[upquery.way()] = Some(Way { id, place });
-        self.held += 1;
-        place
+    /// Whether a flight that is under way began after the last change of its id.
+    pub fn is_of_now(&mut self, flight: &Flight<K>) -> bool {
+        flight.changes.load(Relaxed) == *self.changes_of(flight.id())
     }
 
-    /// Puts an entry in place of the one that its id has.
-    pub fn replace(&mut self, entry: Box<Entry<K, V>>) {
+    fn changes_of(&mut self, id: u64) -> &mut u64 {
+        &mut self.changes[(spread(id) >> 58) as usize]
+    }
+
+    /// The flight by which an id is loaded, where it is.
+    pub fn flight_of(&mut self, id: u64) -> Option<Arc<Flight<K>>> {
+        match self.ids.begin(id, 0) {
+            Miss::Wait(mark) => Some(owner(mark)),
+            Miss::Load(number) => {
+                self.ids.fail(number);
+                None
+            }
+            Miss::Held | Miss::Full => None,
+        }
+    }
+
+    /// Ends a flight by an entry, or gives it back where it isn't held.
+    pub fn land(&mut self, flight: &Arc<Flight<K>>, number: u64, entry: Box<Entry<K, V>>) -> PutEntry<K, V> {
+        // While an id is loaded it has no entry, but one that was put, and then this one isn't held.
+        let ended = self.put_with(entry, true, |ids, place, times| ids.land(number, place, times));
+        disown(flight);
+        ended
+    }
+
+    /// Ends it without one.
+    pub fn fail(&mut self, flight: &Arc<Flight<K>>, number: u64) {
+        self.ids.fail(number);
+        disown(flight);
+    }
+
+    /// Puts an entry in place of what its id has, or gives it back where the id is being changed.
+    pub fn put(&mut self, entry: Box<Entry<K, V>>) -> PutEntry<K, V> {
         let id = entry.id;
-        let way = self.way_of(id).expect("the id is filled");
+        *self.changes_of(id) += 1;
+        let old = self.place(id);
+        let put = self.put_with(entry, old.is_none(), |ids, place, times| ids.put(id, place, times));
+        note(old, if put.is_ok() { RemovalCause::Replaced } else { RemovalCause::Explicit });
+        put
+    }
+
+    /// The same in place of an entry that the id has still, or gives it back.
+    pub fn swap(&mut self, old: Place<K, V>, entry: Box<Entry<K, V>>) -> PutEntry<K, V> {
+        let id = entry.id;
+        let put = self.put_with(entry, false, |ids, place, times| ids.swap(id, old.as_ptr() as u64, place, times));
+        note(put.is_ok().then_some(old), RemovalCause::Replaced);
+        put
+    }
+
+    fn put_with(
+        &mut self,
+        mut entry: Box<Entry<K, V>>,
+        is_new: bool,
+        put: impl FnOnce(&mut Ids, u64, Times) -> Put,
+    ) -> PutEntry<K, V> {
+        let (wanted, times) = (self.held() + usize::from(is_new), self.expiry.times(entry.born));
+        self.turns += 1;
+        entry.turn = self.turns;
         let place = NonNull::from(Box::leak(entry));
-        let had = self.writer.replace(id, &[row_of(place)], &mut self.room);
-        self.came_back.extend(entry_of(had.expect("the id is filled, and there is a slot")));
-        self.ways[way] = Some(Way { id, place });
-    }
-
-    /// Takes the entry of an id that is filled.
-    pub fn evict(&mut self, id: u64) -> bool {
-        self.way_of(id).is_some_and(|way| self.evict_way(way))
-    }
-
-    pub fn evict_all(&mut self) {
-        for way in 0..self.ways.len() {
-            self.evict_way(way);
+        match put(&mut self.ids, place.as_ptr() as u64, times) {
+            Put::Held(old) => {
+                self.came_out.extend(old.map(place_of));
+                self.counted.evictions += (wanted - self.held()) as u64;
+                Ok(place)
+            }
+            // SAFETY: it is this call's own still.
+            Put::Own => Err(unsafe { Box::from_raw(place.as_ptr()) }),
         }
     }
 
-    fn evict_way(&mut self, way: usize) -> bool {
-        let Some(old) = self.ways[way].take() else { return false };
-        self.writer.evict(old.id);
-        self.held -= 1;
-        true
+    /// Takes the entry of an id, and what is loaded for it will not be held: what it took, which lies there until the next
+    /// [`Store::reap`].
+    pub fn invalidate(&mut self, id: u64) -> Option<&Entry<K, V>> {
+        *self.changes_of(id) += 1;
+        let place = self.place(id);
+        note(place, RemovalCause::Explicit);
+        self.ids.invalidate(id);
+        // SAFETY: as of one that is found.
+        place.map(|place| unsafe { &*place.as_ptr() })
     }
 
-    /// What is under way for an id will not be held.
+    pub fn invalidate_all(&mut self) {
+        self.turns_before = self.turns;
+        self.changes.iter_mut().for_each(|changes| *changes += 1);
+        self.ids.invalidate_all();
+    }
+
+    /// Why an entry left that came out.
+    pub fn cause_of(&self, entry: &Entry<K, V>, now: Moment) -> RemovalCause {
+        match entry.cause.noted() {
+            Some(cause) => cause,
+            None if entry.turn <= self.turns_before => RemovalCause::Explicit,
+            // The store lets go first what has expired.
+            None if self.expiry.is_over(entry, now) => RemovalCause::Expired,
+            None => RemovalCause::Size,
+        }
+    }
+
+    /// Takes an entry that has expired.
+    pub fn expire(&mut self, id: u64) {
+        self.note(id, RemovalCause::Expired);
+        self.counted.evictions += u64::from(self.ids.evict(id));
+    }
+
+    /// What is loaded for an id will not be held. Its entry stays, but where too much is being changed.
     pub fn revoke(&mut self, id: u64) {
-        if let Some(upquery) = self.flights.revoke(id) {
-            self.withdraw(upquery);
+        if self.begin_change(id) {
+            self.ids.end_change(id);
         }
     }
 
-    pub fn revoke_all(&mut self) {
-        for upquery in self.flights.revoke_all() {
-            self.withdraw(upquery);
+    /// Begins a change of an id. Where too many are under way its entry goes, and the change isn't known: then it has to end
+    /// with an invalidation.
+    pub fn begin_change(&mut self, id: u64) -> bool {
+        *self.changes_of(id) += 1;
+        let is_known = self.ids.begin_change(id);
+        if !is_known {
+            self.invalidate(id);
         }
+        is_known
     }
 
-    /// Takes an upquery back that will not be filled.
-    pub fn withdraw(&mut self, upquery: Upquery) {
-        if !self.writer.withdraw(&upquery) {
-            // It has the last ticket number: a set without rows, which nobody takes for an entry, ends it.
-            let had = self.writer.fill(&upquery, &[], &mut self.room);
-            self.came_back.extend(entry_of(had.expect("the upquery is open, and there is a slot")));
-            self.writer.evict(upquery.id());
-        }
+    /// Notes why the entry of an id is about to leave.
+    pub fn note(&mut self, id: u64, cause: RemovalCause) {
+        note(self.place(id), cause);
     }
 
-    /// Evicts one entry, where there is one.
-    fn make_room(&mut self, expiry: &Expiry, now: Moment) -> bool {
-        let Some(way) = self.victim(expiry, now) else { return false };
-        self.counted.evictions += 1;
-        self.evict_way(way)
+    pub fn end_change(&mut self, id: u64) {
+        *self.changes_of(id) += 1;
+        self.ids.end_change(id);
     }
 
-    /// The entries that came back: all that left the map but those that readers hold.
+    /// The entries that came out: all that left but those that readers hold.
     pub fn reap(&mut self) -> impl Iterator<Item = Box<Entry<K, V>>> + '_ {
-        while let Some(rows) = self.writer.reap(&mut self.room) {
-            self.came_back.extend(entry_of(rows));
+        while let Some(number) = self.ids.reap() {
+            self.came_out.push(place_of(number));
         }
-        // SAFETY: the map has them no more, nobody holds them, and each came back once.
-        self.came_back.drain(..).map(|place| unsafe { Box::from_raw(place.as_ptr()) })
+        // SAFETY: nobody can see them any more, and each came out once.
+        self.came_out.drain(..).map(|place| unsafe { Box::from_raw(place.as_ptr()) })
     }
 
     /// All entries, of a cache that nobody uses any more: no reader holds one.
     pub fn take_all(&mut self) -> Vec<Box<Entry<K, V>>> {
-        self.evict_all();
+        self.ids.invalidate_all();
         self.reap().collect()
     }
+}
+
+/// Notes why an entry leaves, which the store has still, or which has come out and isn't freed.
+fn note<K, V>(place: Option<Place<K, V>>, cause: RemovalCause) {
+    // SAFETY: an entry is freed once it came out, by a later call of `reap`.
+    place.into_iter().for_each(|place| unsafe { place.as_ref() }.cause.note(cause));
+}
+
+/// One more owner of the flight that has that mark.
+fn owner<K>(mark: u64) -> Arc<Flight<K>> {
+    let flight = mark as *const Flight<K>;
+    // SAFETY: a mark is that of a flight under way, of which the store is an owner.
+    unsafe {
+        Arc::increment_strong_count(flight);
+        Arc::from_raw(flight)
+    }
+}
+
+/// The store is no owner of the flight any more, which has another.
+fn disown<K>(flight: &Arc<Flight<K>>) {
+    // SAFETY: it was one since the flight began, and flights end once.
+    unsafe { Arc::decrement_strong_count(Arc::as_ptr(flight)) }
 }

@@ -36,8 +36,8 @@ impl<K: Hash + Eq, S: BuildHasher> Cache<K, Box<[Row]>, S> {
         Q: Hash + Eq + ToOwned<Owned = K> + ?Sized,
     {
         let id = self.shared.id_of(key);
-        let change = Change { view: self, id, key: Some(key.to_owned()) };
-        self.shared.part_of(id).begin_change(id);
+        let mut change = Change { view: self, id, is_known: false, key: Some(key.to_owned()) };
+        change.is_known = self.shared.part_of(id).begin_change(id);
         change
     }
 
@@ -62,6 +62,7 @@ impl<K: Hash + Eq, S: BuildHasher> Cache<K, Box<[Row]>, S> {
 pub struct Change<'a, K: Hash + Eq, S: BuildHasher = RandomState> {
     view: &'a View<K, S>,
     id: u64,
+    is_known: bool,
     key: Option<K>,
 }
 
@@ -78,7 +79,7 @@ impl<K: Hash + Eq, S: BuildHasher> Change<'_, K, S> {
         C: FnOnce(&Entry<K, Box<[Row]>>) -> Result<Option<Box<[Row]>>, Fault>,
     {
         let Some(key) = self.key.take() else { return Ok(false) };
-        self.view.shared.part_of(self.id).end_change(self.id, key, change)
+        self.view.shared.part_of(self.id).end_change(self.id, self.is_known, key, change)
     }
 }
 

@@ -243,16 +243,20 @@ fn of_keys_of_one_hash_one_is_held() {
     assert!(cache.insert(1, 10));
     assert!(reader.get(&2).is_none());
     assert!(!reader.get_with(&2, || 20).is_held());
-    assert!(!cache.insert(2, 20) && !cache.invalidate(&2));
     assert_eq!(reader.get(&1).as_deref(), Some(&10));
-    assert_eq!((cache.stats().refused, cache.stats().outdated), (2, 0));
     let mut other = cache.reader().unwrap();
-    cache.invalidate(&1);
+    assert!(cache.invalidate(&1));
     let loaded = reader.get_with(&1, || {
         assert!(!other.get_with(&2, || 20).is_held());
         10
     });
     assert!(loaded.is_held());
+    drop(loaded);
+    assert_eq!((cache.stats().refused, cache.stats().outdated), (2, 0));
+    // What is put takes the other key's place, and what is invalidated takes it too.
+    assert!(cache.insert(2, 20) && reader.get(&1).is_none());
+    assert_eq!(reader.get(&2).as_deref(), Some(&20));
+    assert!(!cache.invalidate(&1) && cache.is_empty());
 }
 
 #[test]

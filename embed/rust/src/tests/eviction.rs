@@ -26,8 +26,7 @@ fn a_hot_set_far_below_the_capacity_stays_once_it_was_loaded() {
 }
 
 #[test]
-fn an_entry_makes_room_in_a_full_group_and_a_load_does_not() {
-    // A map of one group, of eight ways.
+fn an_entry_makes_room_as_a_load_lands_and_not_as_it_begins() {
     let cache = Cache::<u64, u64>::builder().capacity(5).threads(1).open().unwrap();
     let mut reader = cache.reader().unwrap();
     assert!((0..5).all(|key| cache.insert(key, key)));
@@ -35,12 +34,25 @@ fn an_entry_makes_room_in_a_full_group_and_a_load_does_not() {
         Sought::Missing(request) => request,
         _ => panic!("key {key} is missing"),
     };
-    let mut requests: Vec<_> = (10..13).map(&mut request).collect();
+    let requests: Vec<_> = (10..30).map(&mut request).collect();
     assert_eq!((cache.len(), cache.stats().evictions), (5, 0));
-    requests.extend((13..18).map(&mut request));
-    assert_eq!((cache.len(), cache.stats().evictions), (0, 5));
-    assert!(!request(18).fill(18) && !cache.insert(19, 19));
-    assert_eq!(cache.stats().refused, 2);
-    let held = requests.into_iter().filter(|request| *request.key() < 15).all(|request| request.fill(0));
-    assert!(held && cache.len() == 5 && cache.insert(19, 19));
+    assert!(requests.into_iter().all(|request| request.fill(0)));
+    assert_eq!((cache.len(), cache.stats().evictions), (5, 20));
+    assert!(cache.insert(19, 19) && cache.insert(40, 40));
+    assert_eq!((cache.len(), cache.stats().refused), (5, 0));
+}
+
+#[test]
+fn more_loads_than_are_known_at_a_time_keep_nothing() {
+    let cache = Cache::<u64, u64>::builder().threads(1).open().unwrap();
+    let mut reader = cache.reader().unwrap();
+    let mut request = |key| match reader.get_or_request(&key) {
+        Sought::Missing(request) => request,
+        _ => panic!("key {key} is missing"),
+    };
+    let known: Vec<_> = (0..1024).map(&mut request).collect();
+    assert!(!request(2000).fill(0) && !request(2000).fill(0));
+    assert_eq!((cache.len(), cache.stats().refused), (0, 2));
+    assert!(known.into_iter().all(|request| request.fill(0)));
+    assert!(request(2000).fill(0));
 }

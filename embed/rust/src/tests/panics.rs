@@ -105,7 +105,9 @@ fn where_keys_cannot_be_compared_nothing_old_stays() {
     load(3);
     assert!(hooked(panicking, || view.invalidate(&Key(1))).is_none());
     load(4);
-    assert!(hooked(panicking, || view.insert(Key(1), Box::new([row(5)]))).is_none());
+    assert_eq!(hooked(panicking, || view.insert(Key(1), Box::new([row(5)]))), Some(true), "nothing is compared");
+    load(5);
+    assert!(view.invalidate(&Key(1)));
     load(6);
     assert!(hooked(panicking, || view.reader().unwrap().get(&Key(1)).is_some()).is_none());
     load(6);
@@ -117,9 +119,9 @@ fn a_comparison_that_calls_the_cache_is_told_so() {
     assert!(cache.insert(Key(1), 1));
     let inner = cache.clone();
     HOOK.set(Some(Rc::new(move || _ = inner.len())));
-    let why = catch_unwind(AssertUnwindSafe(|| cache.insert(Key(1), 2))).expect_err("it doesn't wait for itself");
+    let why = catch_unwind(AssertUnwindSafe(|| cache.invalidate(&Key(1)))).expect_err("it doesn't wait for itself");
     HOOK.set(None);
-    assert_eq!(why.downcast_ref(), Some(&"an `Eq` of a cache's keys calls the cache"));
+    assert_eq!(why.downcast_ref(), Some(&"an `Eq` of a cache's keys, or a `Clone` of its values, calls the cache"));
     assert!(cache.is_empty() && cache.insert(Key(1), 3));
     assert_eq!(cache.reader().unwrap().get(&Key(1)).as_deref(), Some(&3));
 }

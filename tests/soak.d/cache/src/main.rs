@@ -191,7 +191,10 @@ impl Drop for Load {
 
 /// What a load gives that begins now, unless it fails or panics. Some take long.
 fn loaded(key: u32, luck: u64, place: u32) -> Result<Value, ()> {
-    model_loads(key);
+    // A key that meets another of its hash is loaded by each who misses it.
+    if !HASHES_ARE_SHARED.load(SeqCst) {
+        model_loads(key);
+    }
     let _load = Load(key);
     let version = model_newest(key);
     match luck {
@@ -249,7 +252,9 @@ fn round(cache: &Values, writes: &[Mutex<()>], dice: &mut Dice) {
 
 fn open(dice: &mut Dice) -> Values {
     let capacity = [5, 60, 300][dice.roll(3) as usize];
-    let builder = Cache::builder().capacity(capacity).threads(THREADS).hasher(Sharing(1 + dice.roll(2) as u32));
+    let sharing = 1 + dice.roll(2) as u32;
+    HASHES_ARE_SHARED.store(sharing > 1, SeqCst);
+    let builder = Cache::builder().capacity(capacity).threads(THREADS).hasher(Sharing(sharing));
     let builder =
         if dice.roll(2) == 0 { builder.time_to_live(Duration::from_millis(1 + dice.roll(50))) } else { builder };
     let builder =
@@ -258,6 +263,7 @@ fn open(dice: &mut Dice) -> Values {
 }
 
 static IS_OVER: AtomicBool = AtomicBool::new(false);
+static HASHES_ARE_SHARED: AtomicBool = AtomicBool::new(false);
 
 extern "C" {
     fn signal(number: c_int, handler: extern "C" fn(c_int)) -> usize;
@@ -286,9 +292,8 @@ fn main() {
             counts(c"rounds", 1);
         }
         let stats = cache.stats();
-        counts(c"no place in the cache", stats.refused);
+        counts(c"two keys of one hash", stats.refused);
         counts(c"late load refused", stats.outdated);
-        counts(c"ticket numbers next to 2^22", 1);
         drop(cache);
         model_lives(0);
     }

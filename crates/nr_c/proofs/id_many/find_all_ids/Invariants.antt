@@ -1,6 +1,6 @@
-use Rattle.std.specs.Prelude.{◌≡◌}
-use Rattle.nr_idmap.specs.IdHands.{hand_table_of, reader_of}
-use Rattle.nr_c.specs.Hands.{HoldsNoId}
+use Rattle.std.specs.Prelude.{◌≡◌, All, None, replicate}
+use Rattle.nr_idmap.specs.IdHands.{hand_table_of}
+use Rattle.nr_idmap.specs.IdWalks.{IsNear}
 use Rattle.nr_c.specs.IdMany.{FindsIdAt}
 use Rattle.nr_c.proofs.FindsMade.{Made}
 use Rattle.nr_c.proofs.id_many.find_all_ids.Given as goal
@@ -8,6 +8,7 @@ use Rattle.nr_c.proofs.id_many.find_all_ids.Given as goal
 abbrev pub invariant-loop-place : goal.invariant-loop-place
 invariant-loop-place l = record {
   own : hand_table_of l.hand ≡ l.map;
-  idle : HoldsNoId l.hand;
-  made : Made FindsIdAt (reader_of l.fn.hand, l.fn.watch) l.fn.wanted l.place (reader_of l.hand, l.watch) l.wanted;
+  near : All (IsNear l.map.map.shape.keys) l.ways;
+  made : Made FindsIdAt ((l.fn.hand, replicate 16 None), l.fn.watch) l.fn.wanted l.place ((l.hand, l.ways), l.watch)
+      l.wanted;
 }

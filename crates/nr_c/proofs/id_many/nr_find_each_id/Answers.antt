@@ -35,7 +35,10 @@ returns c = inr (inr (
         is = refl;
         map = refl;
         was_idle = c.if-holds.ensures.none;
-        is_idle = c.find_all_ids.ensures.idle;
-        finds = c.find_all_ids.ensures.finds;
+        finds = (
+          (c.find_all_ids.new.hand, c.find_all_ids.ensures.finds.0),
+          c.find_all_ids.ensures.finds.1,
+          c.release.ensures.lets_go,
+        );
       }),
 ))

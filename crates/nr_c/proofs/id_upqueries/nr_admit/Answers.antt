@@ -1,4 +1,6 @@
-use Rattle.std.proofs.Common.{ap, arith, inl, inr, refl, sym, ◌∙◌}
+use Rattle.std.proofs.Common.{ap, arith, inl, inr, refl, subst, sym, ◌∙◌}
+use Rattle.nr_c.specs.Ledgers.{AreOf, Entries}
+use Rattle.nr_c.proofs.LedgerLemmas.{kept_is_of}
 use Rattle.nr_c.proofs.id_upqueries.nr_admit.Goals as goal
 
 pub returns-then-id-eq0 : goal.returns-then-id-eq0
@@ -57,3 +59,9 @@ returns-in-Err c = inr (inr (
         });
   },
 ))
+
+pub invariant_of-side-clause-owed : goal.invariant_of-side-clause-owed
+invariant_of-side-clause-owed c =
+    let side = c.side-side.result.now in
+    subst (λ (kept : Entries). AreOf side.map.value kept) (sym c.keep_new.ensures.keeps)
+    (kept_is_of side.map.value c.in-Ok.opened side.ledger (c.in-Ok.ensures.admits.0 ∙ c.deref.ensures) side.owed)

@@ -2,7 +2,8 @@ use Rattle.std.proofs.Common.{◌≡◌, ◌≤◌, ◌∙◌, ℕ, ap, arith, b
 use Rattle.nr_board.specs.Callers.{Table}
 use Rattle.nr_idmap.specs.Keepers.{IdTable, name_at}
 use Rattle.nr_cache.specs.Places as places
-use Rattle.nr_cache.proofs.AllGone.{all_gone}
+use Rattle.nr_cache.proofs.AllGone.{all_gone, each_quiet}
+use Rattle.nr_cache.proofs.Filled.{quiet_fewer}
 use Rattle.nr_cache.proofs.clearing.take_all.Goals as goal
 
 pub loop-way-init : goal.loop-way-init
@@ -30,6 +31,10 @@ pub returns-clause-gone : goal.returns-clause-gone
 returns-clause-gone c =
     let keys =
     ap (λ (t : Table). t.shape.keys)
-    (c.is_tied.ensures.writes.0 ∙ ap (λ (t : IdTable). t.map) c.loop-way.invariant.own) in
+    (c.is_tied-2.ensures.writes.0 ∙ ap (λ (t : IdTable). t.map) c.loop-way.invariant.own) in
     let all : c.loop-way.writer.writer.table.shape.keys ≤ c.loop-way.way = omega (arith, keys) in
-    all_gone c.loop-way.writer c.loop-way.way c.is_tied.ensures all c.loop-way.invariant.none
+    all_gone c.loop-way.writer c.loop-way.way c.is_tied-2.ensures all c.loop-way.invariant.none
+
+pub returns-clause-fewer : goal.returns-clause-fewer
+returns-clause-fewer c =
+    quiet_fewer c.args.writer.now c.loop-way.writer c.is_tied.ensures (each_quiet c.loop-way.invariant.takes)

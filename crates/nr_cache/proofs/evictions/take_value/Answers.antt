@@ -2,7 +2,9 @@ use Rattle.std.proofs.Common.{◌∙◌, subst, true, false}
 use Rattle.nr_board.specs.declared.answers.Evict.{Evict}
 use Rattle.nr_idmap.specs.IdWrites.{EvictsId}
 use Rattle.nr_cache.proofs.Brought.{evict_brings}
+use Rattle.nr_cache.proofs.Filled.{quiet_fewer}
 use Rattle.nr_cache.proofs.Gone.{gone_after, takes_none, takes_some}
+use Rattle.nr_cache.proofs.Placing.{takes_quiet}
 use Rattle.nr_cache.proofs.evictions.take_value.Goals as goal
 
 pub returns-in-Evicted-clause-takes : goal.returns-in-Evicted-clause-takes
@@ -42,3 +44,13 @@ returns-in-Nothing-clause-gone c =
     gone_after c.unnamed_is_absent.ensures c.args.id c.args.writer.now c.evict-answer.new.writer false c.is_tied.ensures
     c.is_tied-2.ensures (λ way. c.evict-answer.ensures.owes way ∙ c.requires.owes way) c.requires.id
     (returns-in-Nothing-clause-takes c)
+
+pub returns-in-Evicted-clause-fewer : goal.returns-in-Evicted-clause-fewer
+returns-in-Evicted-clause-fewer c =
+    quiet_fewer c.args.writer.now c.evict-answer.new.writer c.is_tied.ensures
+    (takes_quiet c.args.id c.args.writer.now c.evict-answer.new.writer true (returns-in-Evicted-clause-takes c))
+
+pub returns-in-Nothing-clause-fewer : goal.returns-in-Nothing-clause-fewer
+returns-in-Nothing-clause-fewer c =
+    quiet_fewer c.args.writer.now c.evict-answer.new.writer c.is_tied.ensures
+    (takes_quiet c.args.id c.args.writer.now c.evict-answer.new.writer false (returns-in-Nothing-clause-takes c))

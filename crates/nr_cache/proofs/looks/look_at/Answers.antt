@@ -4,7 +4,8 @@ use Rattle.nr_cache.specs.declared.finds.FoundValue.{FoundValue}
 use Rattle.nr_cache.specs.Finds.{tells_value}
 use Rattle.nr_cache.specs.Places.{LooksAtValue}
 use Rattle.nr_cache.proofs.Brought.{look_brings}
-use Rattle.nr_cache.proofs.LookingAt.{looked_at, not_passed}
+use Rattle.nr_cache.proofs.Filled.{quiet_fewer}
+use Rattle.nr_cache.proofs.LookingAt.{look_quiet, looked_at, not_passed}
 use Rattle.nr_cache.proofs.looks.look_at.Goals as goal
 
 pub unreachable-requires : goal.unreachable-requires
@@ -29,3 +30,9 @@ returns-in-Rows-clause-looks c =
     (sym is)
     (looked_at c.args.id looks.0 c.args.writer.now c.look-looked.new.writer c.is_tied.ensures c.is_tied-2.ensures
     c.look-looked.ensures.asker looks.1 (returns-in-Rows-clause-values c) looks.2)
+
+pub returns-in-Rows-clause-fewer : goal.returns-in-Rows-clause-fewer
+returns-in-Rows-clause-fewer c =
+    quiet_fewer c.args.writer.now c.look-looked.new.writer c.is_tied.ensures
+    (look_quiet c.args.id c.args.writer.now c.look-looked.new.writer c.value_of.result
+    (returns-in-Rows-clause-looks c))

@@ -1,6 +1,6 @@
-use Rattle.std.proofs.Common.{◌∙◌, ◌+◌, inr, subst, sym}
+use Rattle.std.proofs.Common.{◌∙◌, inr, subst, sym}
 use Rattle.nr_ids.specs.declared.admissions.Refused.{Refused}
-use Rattle.nr_ids.specs.Groups.{places}
+use Rattle.nr_ids.specs.declared.admissions.Refused.TheVariants as refused
 use Rattle.nr_idmap.specs.IdWrites.{RefusesId}
 use Rattle.nr_cache.proofs.Admitting.{not_full, not_met, refused_absent}
 use Rattle.nr_cache.proofs.values.admit.Goals as goal
@@ -10,7 +10,7 @@ returns-in-Err-NoClaim-clause-none c =
     let refuses = subst (λ (why : Refused). RefusesId c.args.id c.args.writer.now c.admit.new.writer why)
     c.in-Err-NoClaim.field-0-is c.in-Err-NoClaim.ensures.refused in (
       λ way. refuses.owes way ∙ c.requires.owes way,
-      refused_absent c.args.id 1 c.args.writer.now c.admit.new.writer c.is_tied.ensures refuses.refused.0
+      refused_absent c.args.id c.args.writer.now c.admit.new.writer refused.NoClaim c.is_tied.ensures refuses
           c.requires.absent,
     )
 
@@ -24,7 +24,7 @@ pub make_room-requires-clause-absent : goal.make_room-requires-clause-absent
 make_room-requires-clause-absent c =
     let refuses = subst (λ (why : Refused). RefusesId c.args.id c.args.writer.now c.admit.new.writer why)
     c.in-Err-Full.field-0-is c.in-Err-Full.ensures.refused in
-    refused_absent c.args.id (places + 1) c.args.writer.now c.admit.new.writer c.is_tied.ensures refuses.refused.0
+    refused_absent c.args.id c.args.writer.now c.admit.new.writer refused.Full c.is_tied.ensures refuses
     c.requires.absent
 
 pub unreachable-requires-in-Err-Full-admit : goal.unreachable-requires-in-Err-Full-admit
@@ -56,6 +56,18 @@ returns-in-Err-NoClaim-admit-clause-none c =
     let refuses = subst (λ (why : Refused). RefusesId c.args.id c.make_room.new.writer c.admit-2.new.writer why)
     c.in-Err-NoClaim-admit.field-0-is c.in-Err-NoClaim-admit.ensures.refused in (
       λ way. refuses.owes way ∙ c.make_room.ensures.owes way,
-      refused_absent c.args.id 1 c.make_room.new.writer c.admit-2.new.writer c.is_tied-2.ensures refuses.refused.0
+      refused_absent c.args.id c.make_room.new.writer c.admit-2.new.writer refused.NoClaim c.is_tied-2.ensures refuses
           c.make_room.ensures.absent,
     )
+
+pub returns-in-Err-NoClaim-admit-clause-admits : goal.returns-in-Err-NoClaim-admit-clause-admits
+returns-in-Err-NoClaim-admit-clause-admits c =
+    inr (record {
+      full = c.admit.new.writer;
+      roomy = c.make_room.new.writer;
+      refuses = subst (λ (why : Refused). RefusesId c.args.id c.args.writer.now c.admit.new.writer why)
+          c.in-Err-Full.field-0-is c.in-Err-Full.ensures.refused;
+      room = c.make_room.ensures.room;
+      admits = subst (λ (why : Refused). RefusesId c.args.id c.make_room.new.writer c.admit-2.new.writer why)
+          c.in-Err-NoClaim-admit.field-0-is c.in-Err-NoClaim-admit.ensures.refused;
+    })

@@ -7,9 +7,21 @@ use Rattle.nr_cache.proofs.store.Store.begin.Goals as goal
 pub returns-in-Some-way-clause-begins : goal.returns-in-Some-way-clause-begins
 returns-in-Some-way-clause-begins c =
     begins_from c.args.id c.args.mark
-    (record { keeper = c.self.inside.writer; asker = c.self.inside.asker; underway = c.self.inside.flights })
+    (record {
+      keeper = c.self.inside.writer;
+      asker = c.self.inside.asker;
+      underway = c.self.inside.flights;
+      capacity = c.self.inside.limit.capacity;
+      hand = c.self.inside.limit.clock.hand;
+    })
     c.args.self.now
-    (record { keeper = c.way_of-way.new.writer; asker = c.self.inside.asker; underway = c.self.inside.flights })
+    (record {
+      keeper = c.way_of-way.new.writer;
+      asker = c.self.inside.asker;
+      underway = c.self.inside.flights;
+      capacity = c.self.inside.limit.capacity;
+      hand = c.self.inside.limit.clock.hand;
+    })
     begun.Held c.self.view_is (
       c.in_default.ensures,
       value_before c.args.id c.self.inside.writer c.way_of-way.new.writer c.way_of-way.ensures.stays
@@ -18,5 +30,5 @@ returns-in-Some-way-clause-begins c =
           c.in-Some-way.ensures.finds.1.has),
       refl,
       c.in-Some-way._way,
-      ((c.in-Some-way.ensures.finds, c.way_of-way.ensures.stays), refl),
+      ((c.in-Some-way.ensures.finds, c.way_of-way.ensures.stays), refl, refl),
     )

@@ -9,8 +9,16 @@ returns c =
       asker = c.self.inside.asker;
       underway =
           c.self.inside.flights;
+      capacity = c.self.inside.limit.capacity;
+      hand = c.self.inside.limit.clock.hand;
     })
     c.args.self.now
-    (record { keeper = c.self.inside.writer; asker = c.self.inside.asker; underway = c.begin_change.new.self })
+    (record {
+      keeper = c.self.inside.writer;
+      asker = c.self.inside.asker;
+      underway = c.begin_change.new.self;
+      capacity = c.self.inside.limit.capacity;
+      hand = c.self.inside.limit.clock.hand;
+    })
     c.outdate.result c.outdate.new.self c.begin_change.result c.self.view_is c.outdate.ensures c.begin_change.ensures
     refl

@@ -1,10 +1,11 @@
-use Rattle.std.proofs.Common.{◌≡◌, Some, sym, subst, ◌∙◌}
+use Rattle.std.proofs.Common.{◌≡◌, Some, rules, sym, subst, ◌∙◌}
 use Rattle.std.proofs.lemmas.List.Elements.{All-pop}
 use Rattle.nr_idmap.specs.declared.id_map.IdShape.{IdShape}
 use Rattle.nr_idmap.specs.IdOpenings.{OpensIds}
 use Rattle.nr_idmap.specs.Keepers.{IdCaller, id_table_of}
 use Rattle.nr_cache.specs.Openings.{ids_of}
-use Rattle.nr_cache.proofs.Opening.{opened_brings_none, opened_has_room, opened_has_row, opened_owes_none}
+use Rattle.nr_cache.proofs.Opening.{opened_brings_none, opened_has_slots, opened_has_row, opened_is_within}
+use Rattle.nr_cache.proofs.Opening.{opened_owes_none}
 use Rattle.nr_cache.proofs.store.Store.open.Goals as goal
 
 pub invariant_of-store : goal.invariant_of-store
@@ -15,7 +16,9 @@ invariant_of-store c =
     (Some c.in-Some.asker) c.in-Some.ensures.items opens.own in (
       its.1 ∙ sym opens.writes,
       opened_owes_none (ids_of c.args.shape.now) c.in-Ok.map c.in-Ok.writer c.in-Ok.readers.items opens,
-      opened_has_room c.args.shape.now c.in-Ok.map c.in-Ok.writer c.in-Ok.readers.items opens,
+      opened_has_slots c.args.shape.now c.in-Ok.map c.in-Ok.writer c.in-Ok.readers.items opens,
       opened_has_row c.args.shape.now c.in-Ok.map c.in-Ok.writer c.in-Ok.readers.items opens,
       opened_brings_none (ids_of c.args.shape.now) c.in-Ok.map c.in-Ok.writer c.in-Ok.readers.items opens,
+      search rules,
+      opened_is_within (ids_of c.args.shape.now) c.in-Ok.map c.in-Ok.writer c.in-Ok.readers.items _ opens,
     )

@@ -5,7 +5,7 @@ use Rattle.nr_idmap.specs.declared.hands.Holding.{Holding}
 use Rattle.nr_idmap.specs.IdHands.{IdHanded, IsIdHand, id_held, reader_of}
 use Rattle.nr_idmap.specs.Keepers.{IdTable}
 use Rattle.nr_map.specs.LoadsAhead.{LoadsKey}
-use Rattle.nr_idmap.proofs.Finding.{finds_by_id, finds_inside, line_is}
+use Rattle.nr_idmap.proofs.Finding.{finds_absent, finds_by_id, finds_inside, line_is}
 use Rattle.nr_idmap.proofs.hands.IdHand.find.Goals as goal
 
 -- a hand that holds no id's set holds none of the map
@@ -37,3 +37,15 @@ returns-clause-finds g c =
     (record { caller = there.reader; ids = c.look_up_alone.new.ids }) c.find_tagged-found.new.self.reader c.tell.new.ids
     c.args.rows.now c.find_tagged-found.new.rows c.tag_of.result c.find_tagged-found.result c.tell.result refl
     c.tag_of.ensures there.finds c.tell.ensures.marks c.tell.ensures.answer)
+
+pub returns-in_default-clause-finds : goal.returns-in_default-clause-finds
+returns-in_default-clause-finds g c =
+    let own : IdHanded
+    = record { hand = c.self.inside.hand; ids = c.self.inside.ids; id = id_held c.self.inside.held } in
+    let line
+    = line_is c.args.id c.first_way-first.result c.plan.result.now own.ids c.first_way-first.ensures.value
+    (c.plan.ensures.value ∙ ap (λ (t : IdTable). t.directory.plan) (c.map.view_is ∙ sym c.requires.own)
+    ∙ sym (ap (λ (h : IdHanded). h.ids.directory.plan) c.self.view_is)) in
+    finds_absent g.R.RowRoom.shows c.args.id (reader_of own) (reader_of c.args.self.now) c.first_way-first.result
+    c.load_key.new.self.reader c.look_up_alone.new.ids c.args.rows.now (ap reader_of c.self.view_is) line
+    c.load_key.ensures.loads c.in_default.ensures.looks

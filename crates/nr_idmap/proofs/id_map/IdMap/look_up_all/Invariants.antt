@@ -1,11 +1,12 @@
-use Rattle.std.specs.Prelude.{◌≡◌, ◌<◌, All, length, take}
+use Rattle.std.specs.Prelude.{◌≡◌, All, length, take}
 use Rattle.nr_idmap.specs.IdLoads.{LooksUpEach}
+use Rattle.nr_idmap.specs.IdWalks.{IsNear}
 use Rattle.nr_idmap.proofs.id_map.IdMap.look_up_all.Given as goal
 
 abbrev pub invariant-loop-place : goal.invariant-loop-place
 invariant-loop-place l = record {
   own : l.reader.directory ≡ l.self.directory;
-  looks : LooksUpEach (take l.place l.ids) (take l.place l.keys) l.fn.reader l.reader;
-  keys : All (λ key. key < l.self.map.shape.keys) (take l.place l.keys);
-  long : length l.keys ≡ 16;
+  looks : LooksUpEach (take l.place l.ids) (take l.place l.ways) l.fn.reader l.reader;
+  near : All (IsNear l.self.map.shape.keys) l.ways;
+  long : length l.ways ≡ 16;
 }

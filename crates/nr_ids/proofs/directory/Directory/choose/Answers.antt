@@ -4,6 +4,7 @@ use Rattle.nr_ids.specs.Events.{HasMark}
 use Rattle.nr_ids.specs.Groups.{group_of}
 use Rattle.nr_ids.specs.Marks.{ChoosesPlace, ChoosesWay}
 use Rattle.nr_ids.specs.Tokens.{Token, token}
+use Rattle.nr_ids.proofs.Admitting.{clerk_so, still_of_names}
 use Rattle.nr_ids.proofs.MarkBits.{turned_are_marked}
 use Rattle.nr_ids.proofs.directory.Directory.choose.Goals as goal
 
@@ -32,3 +33,13 @@ returns-clause-chooses c =
       way_is = refl;
       turns = c.turn_marks.ensures.turns;
     }))
+
+pub invariant_of-clerk : goal.invariant_of-clerk
+invariant_of-clerk c =
+    let was = c.clerk.invariant in
+    let looks = c.marks.ensures.loads in
+    let turns = c.turn_marks.ensures.turns in
+    let number = looks.number ∙ was.1 in
+    clerk_so c.args.self.now c.marks.new.seat c.turn_marks.new.seat _ c.turn_marks.ensures.clerk number turns
+    (still_of_names _ _ _ number turns (λ _. refl) (λ _. refl)
+    (still_of_names _ _ _ was.1 looks (λ _. refl) (λ _. refl) was.2))

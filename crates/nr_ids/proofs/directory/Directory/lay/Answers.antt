@@ -5,7 +5,7 @@ use Rattle.nr_ids.proofs.Seats.{opens_so}
 use Rattle.nr_ids.proofs.directory.Directory.lay.Goals as goal
 
 pub of_words-requires : goal.of_words-requires
-of_words-requires c = let size : 10 * c.args.plan.groups ≡ total c.args.plan = omega arith in
+of_words-requires c = let size : 11 * c.args.plan.groups ≡ total c.args.plan = omega arith in
     opens_so c.args.plan _ c.requires
     (c.deref.ensures.value ∙ c.in_ok-words.ensures.items_if_clones_equal (λ y same. same)
     ∙ ap (λ (n : ℕ). replicate n 0) size)

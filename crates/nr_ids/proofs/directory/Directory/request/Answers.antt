@@ -1,19 +1,46 @@
 use Rattle.std.proofs.Common.{ap, arith, refl, subst, sym, ◌∙◌}
 use Rattle.nr_ids.specs.declared.plan.Plan.{Plan}
-use Rattle.nr_ids.specs.Groups.{group_of}
-use Rattle.nr_ids.specs.Answers.{Requests}
+use Rattle.nr_ids.specs.declared.requests.Requested.TheVariants as requested
+use Rattle.nr_ids.specs.Groups.{group_of, places}
+use Rattle.nr_ids.specs.Answers.{LooksForClaim, Requests}
 use Rattle.nr_ids.specs.Events.{turn_of}
-use Rattle.nr_ids.specs.Looking.{FindsAt}
-use Rattle.nr_ids.specs.Tokens.{Token, token}
-use Rattle.nr_ids.proofs.Calls.{granted, group_is, outrun, then_found}
+use Rattle.nr_ids.specs.Scans.{Scanned}
+use Rattle.nr_ids.specs.Tokens.{Opened, Token, token}
+use Rattle.nr_ids.proofs.Calls.{group_is, turn_is}
+use Rattle.nr_ids.proofs.Through.{looks_in_both, outrun}
 use Rattle.nr_ids.proofs.directory.Directory.request.Goals as goal
 use Rattle.nr_ids.proofs.directory.Directory.request.Goals.{then-claim, else-claim}
 
 pub returns-in-Some-clause-answer : goal.returns-in-Some-clause-answer
 returns-in-Some-clause-answer c = let second = token c.scan.new.seat in let way = c.in-Some.way in
-    subst (λ (t : Token). FindsAt c.args.id 1 t second way) c.reader.view_is
-    (then_found c.args.id way (token c.reader.inside.seat) (token c.look_at_turn-turn.new.seat) second
-    c.look_at_turn-turn.ensures.grows c.in-Some.ensures.scans)
+    subst (λ (t : Token). Requests c.args.id t second (requested.Named way)) c.reader.view_is
+    (record {
+      turned = token c.look_at_turn-turn.new.seat;
+      turn = c.look_at_turn-turn.ensures.grows;
+      finds = c.in-Some.ensures.scans;
+    })
+
+pub claim-requires-clause-scanned : goal.claim-requires-clause-scanned
+claim-requires-clause-scanned c =
+    let first = token c.look_at_turn-turn.new.seat in
+    let second = token c.scan.new.seat in
+    let id = c.args.id in
+    let found = c.look_at_turn-turn.result in
+    let turn = c.look_at_turn-turn.ensures in
+    let own = turn.caller.own in
+    let of_is
+    = group_is id c.group_of.result c.plan.result.now c.args.self.now first own c.group_of.ensures.value
+    c.plan.ensures.value in
+    let missed = c.in_default.ensures.scans in
+    let all = (looks_in_both id first second missed.looks).1 in
+    subst (λ (d : Opened). Scanned d.plan second.seen id found places) own
+    (record {
+      start = first.seen;
+      rest = all.rest;
+      is = all.seen;
+      turn_is = turn_is c.args.self.now id c.group_of.result found first own of_is turn.value;
+      passed = missed.passed;
+    })
 
 pub returns-clause-answer : goal.returns-clause-answer
 returns-clause-answer c =
@@ -29,19 +56,20 @@ returns-clause-answer c =
     = group_is id c.group_of.result c.plan.result.now c.args.self.now first own c.group_of.ensures.value
     c.plan.ensures.value in
     let of = c.group_of.ensures.value ∙ ap (λ (p : Plan). group_of p id) c.plan.ensures.value in
-    let scan = c.in_default.ensures.scans.grows in
+    let looks = c.in_default.ensures.scans.looks in
+    let looks_for : LooksForClaim id old second = record { turned = first; turn = turn.grows; both = looks } in
     subst (λ (t : Token). Requests id t third c.if-claim.result) c.reader.view_is (elim c.if-claim.branch [
       | then-claim w ↦ subst (Requests id old third) (sym w.result-is) (
-        granted c.args.self.now id c.group_of.result found first own of_is turn.value old second third turn.grows scan
-            (c.claim.ensures.won w.if-claim.true),
+        record { scanned = second; looks_for = looks_for; wins = c.claim.ensures.won w.if-claim.true },
         w.of.ensures ∙ sym (ap (λ (t : Token). t.directory) c.reader.view_is ∙ c.requires.own),
         refl,
       )
       | else-claim w ↦
-          subst (Requests id old third) (sym w.result-is)
-          (outrun c.args.self.now id c.group_of.result found first own of_is turn.value old second third turn.grows
-          scan
-          (omega (arith, c.if-turn-eq1.false)) (c.claim.ensures.lost w.if-claim.false).0
-          (λ same. (c.claim.ensures.lost w.if-claim.false).1
-          (ap (turn_of c.args.self.now.plan third.seen) (sym of) ∙ same)))
+          subst (Requests id old third) (sym w.result-is) (
+            record { scanned = second; looks_for = looks_for; others = (c.claim.ensures.lost w.if-claim.false).0 },
+            outrun c.args.self.now id c.group_of.result found old first second third own of_is turn.value turn.grows
+                looks (omega (arith, c.if-turn-eq1.false)) (c.claim.ensures.lost w.if-claim.false).0
+                (λ same. (c.claim.ensures.lost w.if-claim.false).1
+                (ap (turn_of c.args.self.now.plan third.seen) (sym of) ∙ same)),
+          )
     ])

@@ -1,50 +1,63 @@
-use Rattle.std.proofs.Common.{◌≡◌, ◌≢◌, ◌<◌, ◌≤◌, ◌+◌, ◌*◌, ℕ, arith, subst, sym, ◌∙◌}
-use Rattle.nr_ids.specs.Events.{name_of}
-use Rattle.nr_ids.specs.Groups.{ways}
-use Rattle.nr_ids.specs.Looking.{HadName, LackedName, PassedByClerk, way_in}
+use Rattle.std.proofs.Common.{◌≡◌, ◌<◌, ◌+◌, ◌*◌, ℕ, ap, arith, subst, sym, ◌∙◌}
+use Rattle.std.specs.Int.{bit_at}
+use Rattle.std.proofs.lemmas.Nat.Bits.{bit_at-zero}
+use Rattle.nr_ids.specs.declared.plan.Plan.{Plan}
+use Rattle.nr_ids.specs.Events.{hint_at, IsLegal}
+use Rattle.nr_ids.specs.Groups.{hint_of, ways}
 use Rattle.nr_ids.specs.Tokens.{Opened, token}
-use Rattle.nr_ids.proofs.Calls.{clerk_on, had_here, had_later, lacked_on, looks_on, way_inside}
+use Rattle.nr_ids.proofs.Calls.{grows_none, way_inside}
+use Rattle.nr_ids.proofs.Through.{begun, found_here, passed_all, passed_here}
 use Rattle.nr_ids.proofs.directory.Directory.scan_group.Goals as goal
-use Rattle.nr_ids.proofs.directory.Directory.scan_group.Goals.{then-look-id, else-look-id}
 
-pub loop-place-preserved : goal.loop-place-preserved
-loop-place-preserved c =
-    let was = c.loop-place.invariant in
+pub loop-left-init : goal.loop-left-init
+loop-left-init c =
     let id = c.args.id in
-    let group = c.args.group in
-    let place = c.loop-place.place in
-    let way : ℕ = 8 * group + place in
-    let old = token c.args.seat.now in let mid = token c.loop-place.seat in let new = token c.look.new.seat in
-    let look = c.look.ensures.grows in
-    let Had : ℕ → Type 0 = λ at. at < 8 → HadName (way_in group at) id old new in
-    let Lacked : ℕ → Type 0 = λ at. 8 ≤ at → (k : ℕ) → k < place + 1 → LackedName (way_in group k) id old new in
-    let Passed : ℕ → Type 0 = λ at. 8 ≤ at → PassedByClerk (way_in group) id old (place + 1) new in
-    let inside : way < ways old.directory.plan
-    = subst (λ (d : Opened). way < ways d.plan) (sym c.requires.caller.own)
-    (way_inside group c.args.self.now.plan.groups place c.requires.group c.loop-place-test.true) in
-    let near : place < 8 = c.loop-place-test.true in
-    let other = λ (ne : c.look.result ≢ id) (has : name_of new.seen way ≡ id). ne (c.look.ensures.value ∙ has) in
+    let hinted = c.look_at_hints-hints in
+    let grows = hinted.ensures.grows in
+    let hint_is = c.hint_of.ensures.value
+    ∙ ap (λ (p : Plan). hint_of p id)
+    (c.plan.ensures.value ∙ ap (λ (d : Opened). d.plan) (sym c.requires.caller.own)) in
     record {
-      sits = c.look.ensures.caller;
-      bound = omega (arith, c.loop-place-test.true);
-      grows = looks_on old mid new place was.grows look;
-      had = elim c.if-look-id.branch [
-        | then-look-id w ↦ subst Had (sym w.at-is)
-            (λ _. had_here id way old mid new place was.grows look inside
-            (sym c.look.ensures.value ∙ w.if-look-id.true))
-        | else-look-id w ↦ subst Had (sym w.at-is)
-            (λ low. had_later (way_in group c.loop-place.at) id old mid new 1 was.grows.number look (was.had low))
-      ];
-      lacked = elim c.if-look-id.branch [
-        | then-look-id w ↦ subst Lacked (sym w.at-is) (λ far. absurd (omega arith))
-        | else-look-id w ↦ subst Lacked (sym w.at-is)
-            (λ far. lacked_on (way_in group) id old mid new place was.grows look (other w.if-look-id.false)
-            (was.lacked far))
-      ];
-      exact = elim c.if-look-id.branch [
-        | then-look-id w ↦ subst Passed (sym w.at-is) (λ far. absurd (omega arith))
-        | else-look-id w ↦ subst Passed (sym w.at-is)
-            (λ far. clerk_on (way_in group) id old mid new place was.grows.number look (other w.if-look-id.false)
-            (was.exact far))
-      ];
+      sits = hinted.ensures.caller;
+      so_far =
+          begun id c.args.group c.requires.id (token c.args.seat.now) (token hinted.new.seat) c.fitting-left.result
+          grows c.fitting-left.ensures.few
+          (λ place near. let fits = c.fitting-left.ensures.fits place near in
+          let same = ap (λ (n : ℕ). hint_at n place) hinted.ensures.value in (
+            λ on. sym same ∙ fits.0 on ∙ hint_is,
+            λ its. fits.1 (same ∙ its ∙ sym hint_is),
+          ))
+          (grows_none (token hinted.new.seat)
+          (subst (λ (d : Opened). IsLegal d.plan (token hinted.new.seat).seen) (sym hinted.ensures.caller.own)
+          hinted.ensures.caller.legal));
     }
+
+pub returns-then-look-id-clause-scans : goal.returns-then-look-id-clause-scans
+returns-then-look-id-clause-scans c =
+    let at : ℕ = c.first.result in
+    let group = c.args.group in
+    let look = c.look.ensures in
+    found_here c.args.id group c.requires.id (token c.args.seat.now) (token c.loop-left.seat) (token c.look.new.seat)
+    c.loop-left.left at c.loop-left.invariant.so_far c.first.ensures.first c.first.ensures.inside look.grows
+    (subst (λ (d : Opened). 8 * group + at < ways d.plan) (sym c.requires.caller.own)
+    (way_inside group c.args.self.now.plan.groups at c.requires.group c.first.ensures.inside))
+    (sym look.value ∙ c.if-look-id.true)
+
+pub loop-left-preserved : goal.loop-left-preserved
+loop-left-preserved c =
+    let at : ℕ = c.first.result in
+    let look = c.look.ensures in
+    record {
+      sits = look.caller;
+      so_far =
+          passed_here c.args.id c.args.group c.requires.id (token c.args.seat.now) (token c.loop-left.seat)
+          (token c.look.new.seat) c.loop-left.left at c.loop-left.invariant.so_far c.first.ensures.first
+          c.first.ensures.inside look.grows c.others-left.result c.others-left.ensures.fewer
+          (λ has. c.if-look-id.false (look.value ∙ has)) c.others-left.ensures.others;
+    }
+
+pub returns-clause-scans : goal.returns-clause-scans
+returns-clause-scans c =
+    let none : c.loop-left.left ≡ 0 = omega (arith, c.loop-left-test.false) in
+    passed_all c.args.id c.args.group c.requires.id (token c.args.seat.now) (token c.loop-left.seat) c.loop-left.left
+    c.loop-left.invariant.so_far (λ place. ap (λ (n : ℕ). bit_at n place) none ∙ bit_at-zero place)

@@ -1,0 +1,338 @@
+-- Each entry is told between its call's first step and its last.
+use Rattle.std.proofs.Common.{Bool, List, [], ap, append-nil, append_assoc, arith, cond, fold, inl, inr, length}
+use Rattle.std.proofs.Common.{map, nat_eq, refl, subst, sym, ℕ, ⊎_elim, ◌++◌, ◌+◌, ◌*◌, ◌<◌, ◌∙◌, ◌∷◌, ◌≡◌, ◌⊎◌}
+use Rattle.std.proofs.lemmas.List.Sums.{fold-append}
+use Rattle.std.proofs.lemmas.Bool.{ne_eqb}
+use Rattle.std.specs.Prelude.{Err, None, Ok, Option, Result, Some, nat_le, nat_lt, slice_index, ◌&&◌}
+use Rattle.nr_model.specs.Batches.{applied}
+use Rattle.nr_model.specs.Histories.{Entry, entries_of}
+use Rattle.nr_model.specs.Maps.{ask_reply, find_reply, last_number}
+use Rattle.nr_model.specs.declared.batches.ApplyFault.{ApplyFault}
+use Rattle.nr_model.specs.declared.calls.Call.{Call}
+use Rattle.nr_model.specs.declared.calls.Reply.{Reply}
+use Rattle.nr_model.specs.declared.rows.Row.{Row}
+use Rattle.nr_model.specs.declared.states.KeyState.{KeyState}
+use Rattle.nr_model.specs.declared.calls.Call.TheVariants as model
+use Rattle.nr_model.specs.declared.calls.Reply.TheVariants as reply
+use Rattle.nr_words.specs.KeyWords.{has_ask, is_filled, same_count, slot_of}
+use Rattle.nr_words.specs.SetWords.{decode}
+use Rattle.nr_core.proofs.Choices.{by_cases}
+use Rattle.nr_core.proofs.Follows.{told_by_caller}
+use Rattle.nr_core.proofs.Guards.{both, guard, reader_in}
+use Rattle.nr_core.proofs.Histories.{of-append}
+use Rattle.nr_core.specs.InTime.{BeganAmong, EntriesInTime, TellsOne, TellsOwn, told_by, told_since, under_way}
+use Rattle.nr_core.specs.Laws.{call_in, caller_of_event}
+use Rattle.nr_core.specs.Machine.{found_by, moved, names_held, unless}
+use Rattle.nr_core.specs.Refusals.{has_key, has_reader, if_holding, if_not_holding, refusal}
+use Rattle.nr_core.specs.Slots.{bound_of}
+use Rattle.nr_core.specs.States.{Arrive, Ask, Depart, Event, FindAgain, Go, Read, Start, State, hold_of}
+use Rattle.nr_core.specs.States.{retired_at}
+use Rattle.nr_core.specs.Story.{Story, answering, beginning, call_of, ending, ending_at, shown}
+use Rattle.nr_core.specs.Story.{story_of, tell, told}
+use Rattle.nr_core.specs.Writer.{cancel_asked, decoded, ended, fill_asked, looked, moved_to, no_slot}
+use Rattle.nr_core.specs.Writer.{polls_on, renewed, settled, swapped, taking_fresh, taking_retired, went}
+use Rattle.nr_core.specs.declared.calls.Refusal.{Refusal}
+use Rattle.nr_core.specs.declared.calls.Step.{Step}
+use Rattle.nr_core.specs.declared.calls.Step.TheVariants.{Ended, Going}
+use Rattle.nr_core.specs.declared.calls.WriterCall.{WriterCall}
+use Rattle.nr_core.specs.declared.calls.WriterCall.TheVariants.{Cancel, Evict, Fill, Find, Replace, Update}
+use Rattle.nr_core.specs.declared.places.Place.{Place}
+use Rattle.nr_core.specs.declared.places.Place.TheVariants.{Idle, Leaving, Putting, Reading, Searching, Withdrawing}
+use Rattle.nr_core.specs.declared.roles.Desk.{Desk}
+use Rattle.nr_core.specs.declared.shape.Shape.{Shape}
+use Rattle.nr_core.specs.declared.calls.Refusal.TheVariants as refuse
+use Rattle.nr_core.specs.declared.calls.WReply.TheVariants as writer
+
+-- After a step of the writer no call is under way, or the same one is, and the step told nothing.
+abbrev GoesOn : List WriterCall → Desk × Step → Type 0
+GoesOn calls outcome = (call_in outcome.0.place ≡ []) ⊎ ((call_in outcome.0.place ≡ calls) × (outcome.1 ≡ Going))
+
+either : (calls : List WriterCall) (test : Bool) (this that : Desk × Step) → GoesOn calls this → GoesOn calls that
+    → GoesOn calls (cond {A = Desk × Step} test this that)
+either calls test this that x y =
+    by_cases (λ v. GoesOn calls (cond {A = Desk × Step} v this that)) test (λ _. x) (λ _. y)
+
+module _ (shape : Shape) (desk : Desk) where
+  settled_on : (call : WriterCall) (rows : List Row) → GoesOn (call ∷ []) (settled shape desk call rows)
+  settled_on call rows =
+      either (call ∷ []) (nat_lt desk.fresh shape.slots) (taking_fresh shape desk call rows, Going)
+      (cond {A = Desk × Step} (nat_eq (length desk.retired) 0) (moved_to desk Idle, no_slot shape desk)
+      (moved_to desk (Searching call rows 0), Going)) (inr (refl, refl))
+      (either (call ∷ []) (nat_eq (length desk.retired) 0) (moved_to desk Idle, no_slot shape desk)
+      (moved_to desk (Searching call rows 0), Going) (inl refl) (inr (refl, refl)))
+
+  looked_on : (call : WriterCall) (word : ℕ) → GoesOn (call ∷ []) (looked shape desk call word)
+  looked_on (Find key) word =
+      either (Find key ∷ []) (is_filled word) (moved_to desk (Reading (Find key) (slot_of word) []), Going)
+      (moved_to desk Idle, ended reply.Hole) (inr (refl, refl)) (inl refl)
+  looked_on (Fill key number rows) word =
+      either (Fill key number rows ∷ []) (is_filled word) (moved_to desk Idle, ended reply.Already)
+      (cond {A = Desk × Step} (has_ask word) (fill_asked shape desk (Fill key number rows) number rows (slot_of word))
+      (moved_to desk Idle, ended reply.NotAsked)) (inl refl)
+      (either (Fill key number rows ∷ []) (has_ask word)
+      (fill_asked shape desk (Fill key number rows) number rows (slot_of word))
+      (moved_to desk Idle, ended reply.NotAsked)
+      (either (Fill key number rows ∷ []) (nat_eq (slot_of word) number)
+      (settled shape desk (Fill key number rows) rows) (moved_to desk Idle, ended reply.Stale)
+      (settled_on (Fill key number rows) rows) (inl refl)) (inl refl))
+  looked_on (Update key batch) word =
+      either (Update key batch ∷ []) (is_filled word)
+      (moved_to desk (Reading (Update key batch) (slot_of word) []), Going)
+      (moved_to desk Idle, ended reply.Dropped) (inr (refl, refl)) (inl refl)
+  looked_on (Replace key rows) word =
+      either (Replace key rows ∷ []) (is_filled word) (settled shape desk (Replace key rows) rows)
+      (moved_to desk Idle, ended reply.Dropped) (settled_on (Replace key rows) rows) (inl refl)
+  looked_on (Evict key) word =
+      either (Evict key ∷ []) (is_filled word) (moved_to desk (Leaving key), Going)
+      (moved_to desk Idle, ended reply.Nothing) (inr (refl, refl)) (inl refl)
+  looked_on (Cancel key) word =
+      either (Cancel key ∷ []) (is_filled word) (moved_to desk Idle, ended reply.Nothing)
+      (cond {A = Desk × Step} (has_ask word) (cancel_asked desk key (slot_of word))
+      (moved_to desk Idle, ended reply.Nothing)) (inl refl)
+      (either (Cancel key ∷ []) (has_ask word) (cancel_asked desk key (slot_of word))
+      (moved_to desk Idle, ended reply.Nothing)
+      (either (Cancel key ∷ []) (nat_lt (slot_of word) last_number) (moved_to desk (Withdrawing key), Going)
+      (moved_to desk Idle, ended reply.Worn) (inr (refl, refl)) (inl refl)) (inl refl))
+
+  renewed_on : (call : WriterCall) (new : Result (List Row) ApplyFault)
+      → GoesOn (call ∷ []) (renewed shape desk call new)
+  renewed_on call (Ok rows) = settled_on call rows
+  renewed_on call (Err fault) = inl refl
+
+  decoded_on : (call : WriterCall) (read : Option (List Row)) → GoesOn (call ∷ []) (decoded shape desk call read)
+  decoded_on call None = inl refl
+  decoded_on (Find key) (Some rows) = inl refl
+  decoded_on (Fill key number new) (Some rows) = inl refl
+  decoded_on (Update key batch) (Some rows) = renewed_on (Update key batch) (applied (bound_of shape) rows batch)
+  decoded_on (Replace key new) (Some rows) = inl refl
+  decoded_on (Evict key) (Some rows) = inl refl
+  decoded_on (Cancel key) (Some rows) = inl refl
+
+  went_on : (place : Place) (found : ℕ) → GoesOn (call_in place) (went shape desk place found)
+      ⊎ (place ≡ Idle)
+  went_on Idle found = inr refl
+  went_on (Reading call slot got) found = inl (let read = got ++ found ∷ [] in
+      either (call ∷ []) (nat_eq (length read) (2 * slice_index read 0 + 1)) (decoded shape desk call (decode read))
+      (moved_to desk (Reading call slot read), Going) (decoded_on call (decode read)) (inr (refl, refl)))
+  went_on (Leaving key) found = inl (inl refl)
+  went_on (Withdrawing key) found = inl (inl refl)
+  went_on (Searching call rows poll) found = inl
+      (either (call ∷ []) (same_count found (retired_at desk poll).arrivals)
+      (taking_retired desk call rows poll found, Going) (polls_on shape desk call rows poll) (inr (refl, refl))
+      (either (call ∷ []) (nat_lt (poll + 1) (length desk.retired))
+      (moved_to desk (Searching call rows (poll + 1)), Going)
+      (moved_to desk Idle, no_slot shape desk) (inr (refl, refl)) (inl refl)))
+  went_on (Putting call rows slot departed index) found = inl
+      (either (call ∷ []) (nat_le index (2 * length rows))
+      (moved_to desk (Putting call rows slot departed (index + 1)), Going) (swapped desk found, ended reply.Done)
+      (inr (refl, refl)) (inl refl))
+
+-- an event tells nothing, or an entry of its own caller and call
+abbrev Tells : ℕ → List Call → List Entry → Type 0
+Tells caller calls entries = (entries ≡ []) ⊎ TellsOne caller calls entries
+
+tells_answer : (caller : ℕ) (call : Call) (reply : KeyState → Reply) (shows : Option KeyState)
+    → Tells caller (call ∷ []) (answering caller call reply shows)
+tells_answer caller call reply None = inl refl
+tells_answer caller call reply (Some state) = inr (record { call = call; reply = reply state; own = refl; one = refl })
+
+tells_ending : (call : Call) (step : Step) → Tells 0 (call ∷ []) (ending call step)
+tells_ending call Going = inl refl
+tells_ending call (Ended (writer.Reply answer)) = inr (record { call = call; reply = answer; own = refl; one = refl })
+tells_ending call (Ended (writer.NoSlot counts)) = inl refl
+
+tells_ending_at : (place : Place) (step : Step) → Tells 0 (map call_of (call_in place)) (ending_at place step)
+tells_ending_at Idle step = inl refl
+tells_ending_at (Reading call slot got) step = tells_ending (call_of call) step
+tells_ending_at (Leaving key) step = tells_ending (model.Evict key) step
+tells_ending_at (Withdrawing key) step = tells_ending (model.Cancel key) step
+tells_ending_at (Searching call rows poll) step = tells_ending (call_of call) step
+tells_ending_at (Putting call rows slot departed index) step = tells_ending (call_of call) step
+
+tells_own : (state : State) (event : Event) → TellsOwn state event
+tells_own state (Arrive reader at) = tells_answer reader (model.Find at) find_reply (shown state at)
+tells_own state (Read reader index) = inl refl
+tells_own state (Depart reader) = inl refl
+tells_own state (Ask reader at) = tells_answer reader (model.Ask at) ask_reply (shown state at)
+tells_own state (FindAgain reader at) =
+    by_cases
+    (λ v. Tells reader (model.Find at ∷ [])
+    (cond {A = List Entry} v (answering reader (model.Find at) find_reply (shown state at)) []))
+    (names_held (hold_of state reader) (found_by state (FindAgain reader at)))
+    (λ _. tells_answer reader (model.Find at) find_reply (shown state at)) (λ _. inl refl)
+tells_own state (Start call) =
+    tells_ending (call_of call) (looked state.shape state.desk call (found_by state (Start call))).1
+tells_own state Go =
+    tells_ending_at state.desk.place (went state.shape state.desk state.desk.place (found_by state Go)).1
+
+-- What an event leaves of the writer's call: the call, and the writer told nothing; or none; or the call that it began.
+abbrev Leaves : Story → Event → Type 0
+Leaves story event =
+    ((under_way (tell story event) ≡ under_way story) × (entries_of (told_by story event) 0 ≡ []))
+    ⊎ (under_way (tell story event) ≡ [])
+    ⊎ ((call : WriterCall) × (event ≡ Start call) × (refusal story.state event ≡ None)
+    × (under_way (tell story event) ≡ call ∷ []) × (entries_of (told_by story event) 0 ≡ []))
+
+no_ending : (call : Call) (step : Step) → step ≡ Going → ending call step ≡ []
+no_ending call step e = ap (ending call) e
+
+no_ending_at : (place : Place) (step : Step) → step ≡ Going → ending_at place step ≡ []
+no_ending_at Idle step e = refl
+no_ending_at (Reading call slot got) step e = no_ending (call_of call) step e
+no_ending_at (Leaving key) step e = no_ending (model.Evict key) step e
+no_ending_at (Withdrawing key) step e = no_ending (model.Cancel key) step e
+no_ending_at (Searching call rows poll) step e = no_ending (call_of call) step e
+no_ending_at (Putting call rows slot departed index) step e = no_ending (call_of call) step e
+
+-- an event that is refused leaves all as it was; of one that isn't it is enough to know what it does
+leaves_if : (story : Story) (event : Event)
+    → (refusal story.state event ≡ None →
+    let after = moved story.state event in
+    let tells = told story.state event in
+    ((call_in after.desk.place ≡ under_way story) × (entries_of tells 0 ≡ []))
+    ⊎ (call_in after.desk.place ≡ [])
+    ⊎ ((call : WriterCall) × (event ≡ Start call) × (call_in after.desk.place ≡ call ∷ []) × (entries_of tells 0 ≡ [])))
+    → Leaves story event
+leaves_if story event does = go (refusal story.state event) refl
+  where
+    go : (o : Option Refusal) → refusal story.state event ≡ o →
+        ((call_in (unless o story.state (moved story.state event)).desk.place ≡ under_way story)
+        × (entries_of (unless o [] (told story.state event)) 0 ≡ []))
+        ⊎ (call_in (unless o story.state (moved story.state event)).desk.place ≡ [])
+        ⊎ ((call : WriterCall) × (event ≡ Start call) × (refusal story.state event ≡ None)
+        × (call_in (unless o story.state (moved story.state event)).desk.place ≡ call ∷ [])
+        × (entries_of (unless o [] (told story.state event)) 0 ≡ []))
+    go (Some why) _ = inl (refl, refl)
+    go None ok =
+        ⊎_elim (λ kept. inl kept)
+        (⊎_elim (λ none. inr (inl none)) (λ began. inr (inr (began.0, began.1, ok, began.2, began.3)))) (does ok)
+
+-- what a reader's event tells isn't the writer's
+of_reader : (story : Story) (event : Event) → 0 < caller_of_event event → entries_of (told story.state event) 0 ≡ []
+of_reader story event reader =
+    told_by_caller story.state event 0
+    ∙ ap (λ v. cond {A = List Entry} v (told story.state event) [])
+    (ne_eqb (caller_of_event event) 0 (λ zero. let e : caller_of_event event ≡ 0 = zero in omega arith))
+
+leaves : (story : Story) (event : Event) → Leaves story event
+leaves story (Arrive reader at) = leaves_if story (Arrive reader at) (λ ok.
+    let state = story.state in
+    let g = guard (has_reader state.shape reader && has_key state.shape at) (if_holding (hold_of state reader))
+    refuse.OutOfRange ok in
+    let low = (reader_in state.shape reader (both (has_reader state.shape reader) (has_key state.shape at) g.0).0).0 in
+    inl (refl, of_reader story (Arrive reader at) low))
+leaves story (Read reader index) = leaves_if story (Read reader index) (λ _. inl (refl, refl))
+leaves story (Depart reader) = leaves_if story (Depart reader) (λ _. inl (refl, refl))
+leaves story (Ask reader at) = leaves_if story (Ask reader at) (λ ok.
+    let state = story.state in
+    let g = guard (has_reader state.shape reader && has_key state.shape at) (if_holding (hold_of state reader))
+    refuse.OutOfRange ok in
+    let low = (reader_in state.shape reader (both (has_reader state.shape reader) (has_key state.shape at) g.0).0).0 in
+    inl (refl, of_reader story (Ask reader at) low))
+leaves story (FindAgain reader at) = leaves_if story (FindAgain reader at) (λ ok.
+    let state = story.state in
+    let g = guard (has_reader state.shape reader && has_key state.shape at) (if_not_holding (hold_of state reader))
+    refuse.OutOfRange ok in
+    let low = (reader_in state.shape reader (both (has_reader state.shape reader) (has_key state.shape at) g.0).0).0 in
+    inl (refl, of_reader story (FindAgain reader at) low))
+leaves story (Start call) = leaves_if story (Start call) (λ _.
+    let state = story.state in
+    let outcome = looked state.shape state.desk call (found_by state (Start call)) in
+    ⊎_elim (λ none. inr (inl none))
+    (λ on. inr (inr (call, refl, on.0, ap (λ entries. entries_of entries 0) (no_ending (call_of call) outcome.1 on.1))))
+    (looked_on state.shape state.desk call (found_by state (Start call))))
+leaves story Go = leaves_if story Go (λ _.
+    let state = story.state in
+    let outcome = went state.shape state.desk state.desk.place (found_by state Go) in
+    ⊎_elim
+    (⊎_elim (λ none. inr (inl none))
+    (λ on. inl (on.0, ap (λ entries. entries_of entries 0) (no_ending_at state.desk.place outcome.1 on.1))))
+    (λ idle. inr (inl (ap (λ place. call_in (went state.shape state.desk place (found_by state Go)).0.place) idle
+    ∙ ap call_in idle)))
+    (went_on state.shape state.desk state.desk.place (found_by state Go)))
+
+-- the story of events that go on
+goes_on : (shape : Shape) (earlier later : List Event)
+    → story_of shape (earlier ++ later) ≡ fold tell (story_of shape earlier) later
+goes_on shape earlier later = fold-append tell (beginning shape) earlier later
+
+behind_from : (later : List Event) (story : Story)
+    → (fold tell story later).history ≡ story.history ++ told_since story later
+behind_from [] story = sym (append-nil story.history)
+behind_from (event ∷ later) story =
+    behind_from later (tell story event)
+    ∙ append_assoc story.history (told_by story event) (told_since (tell story event) later)
+
+since_more : (events : List Event) (event : Event) (story : Story)
+    → told_since story (events ++ event ∷ []) ≡ told_since story events ++ told_by (fold tell story events) event
+since_more [] event story = append-nil (told_by story event)
+since_more (first ∷ events) event story =
+    ap (λ rest. told_by story first ++ rest) (since_more events event (tell story first))
+    ∙ sym (append_assoc (told_by story first) (told_since (tell story first) events)
+    (told_by (fold tell (tell story first) events) event))
+
+abbrev Began : Shape → List Event → Type 0
+Began shape events = (call : WriterCall) → under_way (story_of shape events) ≡ call ∷ [] → BeganAmong shape events call
+
+not_both : {A : Type 0} (x : A) (list : List A) → list ≡ [] → list ≡ x ∷ [] → ⊥
+not_both x list none one = let n : length list ≡ 0 = ap length none in let m : length list ≡ 1 = ap length one in
+    omega arith
+
+began_more : (shape : Shape) (events : List Event) (event : Event) → Began shape events
+    → Began shape (events ++ event ∷ [])
+began_more shape events event began call is =
+    let story = story_of shape events in
+    let more = goes_on shape events (event ∷ []) in
+    let now : under_way (tell story event) ≡ call ∷ [] = sym (ap under_way more) ∙ is in
+    ⊎_elim
+    (λ kept.
+    let b = began call (sym kept.0 ∙ now) in
+    let there : fold tell (story_of shape b.before) (Start call ∷ b.since) ≡ story
+    = sym (goes_on shape b.before (Start call ∷ b.since)) ∙ ap (story_of shape) (sym b.split) in
+    record {
+      before = b.before;
+      since = b.since ++ event ∷ [];
+      split = ap (λ list. list ++ event ∷ []) b.split ∙ append_assoc b.before (Start call ∷ b.since) (event ∷ []);
+      taken = b.taken;
+      none =
+          ap (λ entries. entries_of entries 0) (since_more (Start call ∷ b.since) event (story_of shape b.before))
+          ∙ of-append 0 (told_since (story_of shape b.before) (Start call ∷ b.since))
+          (told_by (fold tell (story_of shape b.before) (Start call ∷ b.since)) event)
+          ∙ ap (λ entries. entries
+          ++ entries_of (told_by (fold tell (story_of shape b.before) (Start call ∷ b.since)) event) 0) b.none
+          ∙ ap (λ s. entries_of (told_by s event) 0) there
+          ∙ kept.1;
+    })
+    (⊎_elim (λ none. absurd (not_both call (under_way (tell story event)) none now))
+    (λ starts.
+    let same : starts.0 ≡ call = ap (λ (list : List WriterCall). first_of starts.0 list) (sym starts.3 ∙ now) in
+    let is_start : event ≡ Start call = starts.1 ∙ ap Start same in
+    record {
+      before = events;
+      since = [];
+      split = ap (λ e. events ++ e ∷ []) is_start;
+      taken = subst (λ e. refusal story.state e ≡ None) is_start starts.2;
+      none =
+          ap (λ entries. entries_of entries 0) (append-nil (told_by story (Start call)))
+          ∙ subst (λ e. entries_of (told_by story e) 0 ≡ []) is_start starts.4;
+    }))
+    (leaves story event)
+  where
+    first_of : WriterCall → List WriterCall → WriterCall
+    first_of other [] = other
+    first_of other (one ∷ list) = one
+
+began_since : (later events : List Event) (shape : Shape) → Began shape events → Began shape (events ++ later)
+began_since [] events shape began = subst (Began shape) (sym (append-nil events)) began
+began_since (event ∷ later) events shape began =
+    subst (Began shape) (append_assoc events (event ∷ []) later)
+    (began_since later (events ++ event ∷ []) shape (began_more shape events event began))
+
+pub entries_in_time_lem : EntriesInTime
+entries_in_time_lem shape earlier later = record {
+  behind = ap (λ (s : Story). s.history) (goes_on shape earlier later) ∙ behind_from later (story_of shape earlier);
+  own = λ event. tells_own (story_of shape earlier).state event;
+  began = began_since earlier [] shape (λ call one. absurd (not_both call [] refl one));
+  ends = λ event. ⊎_elim (λ kept. inl kept.1) (⊎_elim (λ none. inr none) (λ starts. inl starts.4))
+      (leaves (story_of shape earlier) event);
+}

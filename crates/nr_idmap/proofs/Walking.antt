@@ -1,0 +1,70 @@
+-- A hand that goes on from set to set: what it holds then.
+use Rattle.std.proofs.Common.{◌≡◌, ℕ, ◌<◌, ◌≤◌, ◌∙◌, ⊎_elim, refl, sym, subst, arith, false, Option, Some, None, List}
+use Rattle.nr_model.specs.declared.rows.Row.{Row}
+use Rattle.nr_model.specs.Rows.{IsRowSet}
+use Rattle.nr_map.specs.FirstRows.{FindsTaggedFirst}
+use Rattle.nr_map.specs.Hands.{FindsAndReads, Handed, KeepsAnew}
+use Rattle.nr_map.specs.Tagged.{FindsTaggedKept}
+use Rattle.nr_map.specs.declared.tagged.Tagged.{Tagged}
+use Rattle.nr_map.specs.declared.tagged.Tagged.TheVariants as tagged
+use Rattle.nr_idmap.specs.declared.hands.Holding.{Holding}
+use Rattle.nr_idmap.specs.IdHands.{IsIdHand, id_held}
+use Rattle.nr_idmap.specs.IdWalks.{held_kept, id_kept}
+
+-- so it holds a set of the way, for no id
+pub held_id : (way : ℕ) (answer : Tagged) → id_held (held_kept way answer) ≡ id_kept answer
+held_id way tagged.Rows = refl
+held_id way tagged.Other = refl
+held_id way tagged.Hole = refl
+
+-- whatever it read of the set that it found, and wherever that went
+abbrev pub Keeps : ℕ → Handed → Handed → Tagged → Type 0
+Keeps key old new tagged.Rows = (more : ℕ) × FindsAndReads more key old new
+Keeps key old new tagged.Other = (more : ℕ) × FindsAndReads more key old new
+Keeps key old new tagged.Hole = KeepsAnew key old new false
+
+pub kept_so : {Room : Type 0} (shows : Room → List Row → Type 0) (tag : Row) (key : ℕ) (old new : Handed)
+    (before room : Room) (answer : Tagged) → FindsTaggedKept shows tag key old before new room answer
+    → Keeps key old new answer
+kept_so shows tag key old new before room tagged.Rows finds = (_, finds.2)
+kept_so shows tag key old new before room tagged.Other finds = (_, finds.0.1)
+kept_so shows tag key old new before room tagged.Hole finds = finds.0
+
+pub kept_first : (tag : Row) (key : ℕ) (old new : Handed) (before cells : List Row) (count : ℕ) (answer : Tagged)
+    → FindsTaggedFirst tag key old before new cells count answer → Keeps key old new answer
+kept_first tag key old new before cells count tagged.Rows finds = (_, finds.2)
+kept_first tag key old new before cells count tagged.Other finds = (_, finds.0.1)
+kept_first tag key old new before cells count tagged.Hole finds = finds.0
+
+pub held_row_set : (hand : Handed) (pile : List Row) (held : Option Holding) → IsIdHand hand pile held → (key : ℕ)
+    → hand.key ≡ Some key → IsRowSet 255 hand.rows
+held_row_set hand pile None holds key is = absurd (let none = holds in cc)
+held_row_set hand pile (Some held) holds key is = holds.row_set
+
+-- What it holds then is a row set of the key, since what it held was a row set, and what the key has is one.
+module _ (key : ℕ) (old new : Handed) (pile : List Row) (near : key < new.reader.table.shape.keys)
+    (few : old.reader.table.shape.rows ≤ 255)
+    (had : (other : ℕ) → old.key ≡ Some other → IsRowSet 255 old.rows) where
+  reads_key : (more : ℕ) → FindsAndReads more key old new → new.key ≡ Some key
+  reads_key more reads = ⊎_elim (λ again. again.key_is ∙ again.held) (λ anew. anew.1.4.key_is) reads
+
+  reads_row_set : (more : ℕ) → FindsAndReads more key old new → IsRowSet 255 new.rows
+  reads_row_set more reads = ⊎_elim
+      (λ again. subst (IsRowSet 255) (sym again.rows) (had key again.held))
+      (λ anew. let so = anew.1.4.row_set in (so.0, omega (arith, few, so.1)))
+      reads
+
+  pub walks_hold : (answer : Tagged) → Keeps key old new answer → IsIdHand new pile (held_kept key answer)
+  walks_hold tagged.Rows (more, reads) = record {
+    key_is = reads_key more reads;
+    near = near;
+    row_set = reads_row_set more reads;
+    set = λ some. absurd (omega (arith, some));
+  }
+  walks_hold tagged.Other (more, reads) = record {
+    key_is = reads_key more reads;
+    near = near;
+    row_set = reads_row_set more reads;
+    set = λ some. absurd (omega (arith, some));
+  }
+  walks_hold tagged.Hole keeps = keeps.1.4.key_is

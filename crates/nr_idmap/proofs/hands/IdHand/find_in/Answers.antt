@@ -1,0 +1,57 @@
+use Rattle.std.proofs.Common.{◌≡◌, ◌<◌, ◌≤◌, ◌∙◌, Some, Option, ap, subst, sym}
+use Rattle.nr_model.specs.declared.rows.Row.{Row}
+use Rattle.nr_board.specs.Callers.{Table}
+use Rattle.nr_map.specs.Tagged.{FindsTaggedKept}
+use Rattle.nr_idmap.specs.declared.finds.NamedWay.{NamedWay}
+use Rattle.nr_idmap.specs.declared.hands.Holding.{Holding}
+use Rattle.nr_idmap.specs.IdHands.{IdHanded, IsIdHand, id_held}
+use Rattle.nr_idmap.specs.IdWalks.{FindsOn, IsNear}
+use Rattle.nr_idmap.specs.Keepers.{IdTable}
+use Rattle.nr_idmap.proofs.Walking.{held_id, held_row_set, kept_so, walks_hold}
+use Rattle.nr_idmap.proofs.hands.IdHand.find_in.Goals as goal
+
+pub invariant_of-self : goal.invariant_of-self
+invariant_of-self g c =
+    let found = c.find_tagged_kept-found in
+    let at = c.in-Some.at in
+    let old = c.self.inside.hand in
+    let pile = c.self.inside.pile in
+    let near : at.way < c.args.map.now.map.shape.keys
+    = subst (IsNear c.args.map.now.map.shape.keys) c.in-Some.is c.requires.near in
+    let table : old.reader.table ≡ c.map.inside.map
+    = ap (λ (h : IdHanded). h.hand.reader.table) c.self.view_is ∙ ap (λ (t : IdTable). t.map) c.requires.own
+    ∙ ap (λ (t : IdTable). t.map) (sym c.map.view_is) in
+    subst (IsIdHand found.new.self pile) (sym c.held_then-self-inside.ensures)
+    (walks_hold at.way old found.new.self pile
+    (subst (λ (t : Table). at.way < t.shape.keys)
+    (ap (λ (t : IdTable). t.map) (sym c.map.view_is) ∙ sym found.ensures.own) near)
+    (subst (λ (t : Table). t.shape.rows ≤ 255) (sym table) c.map.invariant.2)
+    (held_row_set old pile c.self.inside.held c.self.invariant) found.result
+    (kept_so g.R.RowRoom.shows c.tag_of.result at.way old found.new.self c.args.rows.now found.new.rows found.result
+    found.ensures.finds))
+
+pub returns-clause-finds : goal.returns-clause-finds
+returns-clause-finds g c =
+    let shows = g.R.RowRoom.shows in
+    let found = c.find_tagged_kept-found in
+    let at = c.in-Some.at in
+    let own : IdHanded
+    = record { hand = c.self.inside.hand; ids = c.self.inside.ids; id = id_held c.self.inside.held } in
+    let new : IdHanded
+    = record { hand = found.new.self; ids = c.tell.new.ids; id = id_held c.held_then-self-inside.result } in
+    let finds : FindsOn shows c.args.id (Some at) own c.args.rows.now new found.new.rows c.tell.result = record {
+      answer = found.result;
+      finds_so =
+          subst
+          (λ (tag : Row). FindsTaggedKept shows tag at.way own.hand c.args.rows.now found.new.self found.new.rows
+          found.result)
+          c.tag_of.ensures found.ensures.finds;
+      told_is = c.tell.ensures.answer;
+      marks = c.tell.ensures.marks;
+      id_is =
+          ap (λ (held : Option Holding). id_held held) c.held_then-self-inside.ensures ∙ held_id at.way found.result;
+    } in
+    subst (λ (o : Option NamedWay). FindsOn shows c.args.id o c.args.self.now c.args.rows.now new found.new.rows
+    c.tell.result) (sym c.in-Some.is)
+    (subst (λ (h : IdHanded). FindsOn shows c.args.id (Some at) h c.args.rows.now new found.new.rows c.tell.result)
+    c.self.view_is finds)

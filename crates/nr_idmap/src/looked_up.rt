@@ -1,0 +1,68 @@
+//! Look-ups of many ids by a hand.
+ghost use Rattle.std.specs.Prelude.{◌≡◌, ◌<◌, ◌≤◌, All, length, take};
+ghost use Rattle.nr_idmap.specs.IdHands.{hand_table_of};
+ghost use Rattle.nr_idmap.specs.IdLoads.{LooksAhead, LooksUpEach, keys_named};
+ghost use Rattle.nr_idmap.specs.IdWalks.{IsNear};
+
+use crate::finds::NamedWay;
+use crate::hands::IdHand;
+use crate::id_map::IdMap;
+use crate::wanted::{BATCH, key_of};
+
+impl IdHand {
+    /// Looks up at most sixteen ids, in their order, writes their ways over the first ones there, and loads words
+    /// that finds there will need, so that the lines of memory in which they lie are near. What is held stays held.
+    /// Takes 1 step an id, the look-up of `find` and its look at a mark for each, and the map's `load_ahead` for as
+    /// many keys.
+    pub fn look_up(&mut self, map: &IdMap, ids: &[u64], ways: &mut [Option<NamedWay>; BATCH])
+        requires own { hand_table_of self.old ≡ map.now }
+        requires ids { All (λ id. 0 < id) ids.now }
+        requires few { length ids.now ≤ 16 }
+        requires near { All (IsNear map.now.map.shape.keys) ways.old }
+        ensures own { hand_table_of self.new ≡ map.now }
+        ensures looks { LooksAhead ids.now (take (length ids.now) ways.new) self.old self.new }
+        ensures near { All (IsNear map.now.map.shape.keys) ways.new }
+    {
+        map.directory.load_ahead(&mut self.ids, ids);
+        map.look_up_all(&mut self.ids, ids, ways);
+        let mut keys = [0; BATCH];
+        map.copy_ways(&ways[..ids.len()], &mut keys);
+        self.hand.load_ahead(&map.map, &keys[..ids.len()]);
+    }
+}
+
+impl IdMap {
+    // Writes the ids' ways over the first ones there.
+    fn look_up_all(
+        &self,
+        reader: &mut nr_ids::Reader,
+        ids: &[u64],
+        ways: &mut [Option<NamedWay>; BATCH],
+    )
+        requires own { reader.old.directory ≡ self.now.directory }
+        requires ids { All (λ id. 0 < id) ids.now }
+        requires few { length ids.now ≤ 16 }
+        requires near { All (IsNear self.now.map.shape.keys) ways.old }
+        ensures own { reader.new.directory ≡ self.now.directory }
+        ensures looks { LooksUpEach ids.now (take (length ids.now) ways.new) reader.old reader.new }
+        ensures near { All (IsNear self.now.map.shape.keys) ways.new }
+    {
+        for place in 0..ids.len() {
+            ways[place] = self.look_up(reader, ids[place]);
+        }
+    }
+
+    // Writes the keys of ways over the first ones there, with zeros in place of none.
+    fn copy_ways(&self, ways: &[Option<NamedWay>], keys: &mut [u32; BATCH])
+        requires few { length ways.now ≤ 16 }
+        requires near { All (IsNear self.now.map.shape.keys) ways.now }
+        ensures keys { take (length ways.now) keys.new ≡ keys_named ways.now }
+        ensures near { All (λ key. key < self.now.map.shape.keys) (keys_named ways.now) }
+    {
+        // A directory has ways, so the map has keys.
+        self.directory.plan();
+        for place in 0..ways.len() {
+            keys[place] = key_of(ways[place]);
+        }
+    }
+}

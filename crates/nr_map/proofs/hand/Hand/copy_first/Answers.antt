@@ -1,0 +1,49 @@
+use Rattle.std.proofs.Common.{◌+◌, arith}
+use Rattle.std.specs.Prelude.{ℕ, drop, length, min}
+use Rattle.std.proofs.lemmas.List.{length-drop}
+use Rattle.nr_map.proofs.FirstRows.{CopiedSoFar, copied_none, copied_on, put_whole}
+use Rattle.nr_map.proofs.hand.Hand.copy_first.Goals as goal
+
+pub loop-place-init : goal.loop-place-init
+loop-place-init c =
+    let from : ℕ = c.args.from in
+    let first = c.args.self.now in
+    let cells = c.args.cells.now in
+    let count : ℕ = c.min-count.result in
+    let none = copied_none from first cells (min 0 count) (omega arith) in
+    let one
+    = copied_on from first cells (min 0 count) (min 1 count) first c.copy_where.new.self
+    cells c.copy_where.new.cells none c.copy_where.ensures.cells c.copy_where.ensures.room
+    (omega arith) c.copy_where.ensures.reads in
+    let two
+    = copied_on from first cells (min 1 count) (min 2 count) c.copy_where.new.self c.copy_where-2.new.self
+    c.copy_where.new.cells c.copy_where-2.new.cells one c.copy_where-2.ensures.cells c.copy_where-2.ensures.room
+    (omega arith) c.copy_where-2.ensures.reads in
+    let three
+    = copied_on from first cells (min 2 count) (min 3 count) c.copy_where-2.new.self c.copy_where-3.new.self
+    c.copy_where-2.new.cells c.copy_where-3.new.cells two c.copy_where-3.ensures.cells c.copy_where-3.ensures.room
+    (omega arith) c.copy_where-3.ensures.reads in
+    let four
+    = copied_on from first cells (min 3 count) (min 4 count) c.copy_where-3.new.self c.copy_where-4.new.self
+    c.copy_where-3.new.cells c.copy_where-4.new.cells three c.copy_where-4.ensures.cells c.copy_where-4.ensures.room
+    (omega arith) c.copy_where-4.ensures.reads in
+    record { own = c.copy_where-4.ensures.own; copied = four }
+
+pub loop-place-preserved : goal.loop-place-preserved
+loop-place-preserved c =
+    let place : ℕ = c.loop-place.place in
+    let count : ℕ = c.min-count.result in
+    let made = c.copy_where-in-loop-place in
+    record {
+      own = made.ensures.own;
+      copied = copied_on c.args.from c.args.self.now c.args.cells.now (min place count) (min (place + 1) count)
+          c.loop-place.self made.new.self c.loop-place.cells made.new.cells c.loop-place.invariant.copied
+          made.ensures.cells made.ensures.room (omega arith) made.ensures.reads;
+    }
+
+pub returns-clause-cells : goal.returns-clause-cells
+returns-clause-cells c =
+    let had = c.loop-place.invariant.copied in
+    put_whole (drop c.args.from c.args.self.now.rows) c.args.cells.now c.loop-place.cells
+    (min c.loop-place.place c.min-count.result)
+    (omega (arith, c.loop-place-test.false, c.min-count.ensures, length-drop c.args.from c.args.self.now.rows)) had.over

@@ -1,0 +1,159 @@
+//! Gets without a reader in hand, by any number of threads.
+use super::desk::At;
+use super::entry::Entry;
+use super::flights::{End, Failure};
+use super::own::with_desk;
+use super::part::{Begun, Failing, Load, Part};
+use super::Cache;
+use std::borrow::Borrow;
+use std::convert::Infallible;
+use std::hash::{BuildHasher, Hash};
+use std::sync::Arc;
+use std::thread::{self, ThreadId};
+
+/// A thread keeps a reader for itself from its first get on, until it ends, as long as there are readers: then its gets take
+/// no lock. Others look under the lock of a key's part, where `V::clone` runs too.
+impl<K: Hash + Eq + 'static, V: Clone + 'static, S: BuildHasher + 'static> Cache<K, V, S> {
+    /// A clone of a key's value, where the cache holds it. For a value that isn't cheap to clone take an `Arc` of it.
+    pub fn get<Q>(&self, key: &Q) -> Option<V>
+    where
+        K: Borrow<Q>,
+        Q: Hash + Eq + ?Sized,
+    {
+        self.look(self.shared.at(key), key)
+    }
+
+    /// Whether the cache holds a key's value. It counts as no get.
+    pub fn contains_key<Q>(&self, key: &Q) -> bool
+    where
+        K: Borrow<Q>,
+        Q: Hash + Eq + ?Sized,
+    {
+        self.read(self.shared.at(key), key, |_| ()).is_some()
+    }
+
+    /// A clone of a key's value. Where the cache doesn't hold it, one caller loads it, by its own thread and without a lock,
+    /// and the others wait for that. Where it panics, one of those who wait loads.
+    pub fn get_with<Q>(&self, key: &Q, load: impl FnOnce() -> V) -> V
+    where
+        K: Borrow<Q>,
+        Q: Hash + Eq + ToOwned<Owned = K> + ?Sized,
+    {
+        match self.try_get_with(key, || Ok::<V, Infallible>(load())) {
+            Ok(value) => value,
+            Err(never) => match *never {},
+        }
+    }
+
+    /// As [`Cache::get_with`], by a load that may fail: all who wait for it are told why then, where their own loads fail by
+    /// the same type, but those whose get began after the key had been invalidated, put or changed since: these load. By [`CacheReader::try_get_with`](super::CacheReader::try_get_with) they try in turn.
+    pub fn try_get_with<Q, E>(&self, key: &Q, load: impl FnOnce() -> Result<V, E>) -> Result<V, Arc<E>>
+    where
+        K: Borrow<Q>,
+        Q: Hash + Eq + ToOwned<Owned = K> + ?Sized,
+        E: Send + Sync + 'static,
+    {
+        let at = self.shared.at(key);
+        let mut found = self.look(at, key);
+        let part = &self.shared.parts()[at.part];
+        loop {
+            if let Some(value) = found {
+                return Ok(value);
+            }
+            match part.begin(at.id, key, key.to_owned()) {
+                Begun::Load(own) => return load_by(part, &own, key.to_owned(), load),
+                Begun::Wait(flight, is_of_now) => {
+                    part.count(|counted| counted.waits += 1);
+                    let why = flight.wait(None).and_then(failure);
+                    if let Some(why) = why.filter(|_| is_of_now) {
+                        return Err(why);
+                    }
+                }
+                Begun::Held => {}
+            }
+            found = self.read(at, key, V::clone);
+        }
+    }
+
+    /// A get's first look, which is a hit or a miss.
+    pub(super) fn look<Q: Eq + ?Sized>(&self, at: At, key: &Q) -> Option<V>
+    where
+        K: Borrow<Q>,
+    {
+        let part = &self.shared.parts()[at.part];
+        with_desk(&self.shared, |desk| {
+            let Some(desk) = desk else {
+                let found = part.read(at.id, key, V::clone);
+                part.count(|counted| match found {
+                    Some(_) => counted.hits += 1,
+                    None => counted.misses += 1,
+                });
+                return found;
+            };
+            let counts = &part.counts[desk.number];
+            let Some(place) = desk.find(self.shared.parts(), at, key) else {
+                counts.count_miss();
+                return None;
+            };
+            counts.count_hit();
+            // SAFETY: the desk holds the entry until it finds another or lets it go.
+            Some(unsafe { place.as_ref() }.value.clone())
+        })
+    }
+
+    /// What `read` makes of a key's value.
+    pub(super) fn read<Q: Eq + ?Sized, R>(&self, at: At, key: &Q, read: impl FnOnce(&V) -> R) -> Option<R>
+    where
+        K: Borrow<Q>,
+    {
+        with_desk(&self.shared, |desk| match desk {
+            None => self.shared.parts()[at.part].read(at.id, key, read),
+            Some(desk) => {
+                let place = desk.find(self.shared.parts(), at, key)?;
+                // SAFETY: the desk holds the entry until it finds another or lets it go.
+                Some(read(&unsafe { place.as_ref() }.value))
+            }
+        })
+    }
+}
+
+/// Ends a load by what it gives. Where it panics, it has failed.
+fn load_by<K, V: Clone, E: Send + Sync + 'static>(
+    part: &Part<K, V>,
+    own: &Load<K>,
+    key: K,
+    load: impl FnOnce() -> Result<V, E>,
+) -> Result<V, Arc<E>> {
+    let _failing = Failing { part, load: own };
+    end_by(part, own, key, Some(thread::current().id()), load())
+}
+
+/// Ends a load by what it gave, in that thread where it ran in one.
+pub(super) fn end_by<K, V: Clone, E: Send + Sync + 'static>(
+    part: &Part<K, V>,
+    own: &Load<K>,
+    key: K,
+    maker: Option<ThreadId>,
+    gave: Result<V, E>,
+) -> Result<V, Arc<E>> {
+    match gave {
+        Ok(value) => {
+            let entry = Entry::of(maker, own.id(), key, value.clone(), part.expiry.now());
+            part.land(own, Box::new(entry), None);
+            Ok(value)
+        }
+        Err(why) => {
+            let why = Arc::new(why);
+            part.crash(own, Failure::Shared(why.clone()));
+            Err(why)
+        }
+    }
+}
+
+/// What an end tells of a failure, where that is of this type.
+pub(super) fn failure<E: Send + Sync + 'static>(end: End) -> Option<Arc<E>> {
+    match end {
+        End::Loaded => None,
+        End::Failed(why) => why.shared(),
+    }
+}
