@@ -595,7 +595,7 @@ uint32_t nr_open_id_reader(nr_id_writer *writer, nr_id_reader *reader);
 void nr_close_id_reader(nr_id_reader *reader);
 void nr_close_id_writer(nr_id_writer *writer);
 
-/* Looks an id up. It takes 2 steps, and W in its groups: 1 at the hints of the id's group, and 1 at the name of each
+/* Looks an id up. It takes 1 step, and W in its groups: 1 at the hints of the id's group, and 1 at the name of each
    way that has the id's hint, until one is the id's; if none is, the same in its second group. So W is mostly 2 for an
    id that has a way, and 2 for one that has none. NR_HOLE then, if no name was the id's: it had no way at a moment
    within the call. Else 1 more at the use bit of the way with that name: NR_ROWS after 2n + 7 more for n rows, and 1 if
@@ -605,7 +605,7 @@ void nr_close_id_writer(nr_id_writer *writer);
 uint32_t nr_find_id(nr_id_reader *reader, uint64_t id, nr_rows *rows);
 
 /* Finds n ids in the given order: NR_DONE, and each nr_wanted_id has its answer, as nr_find_id gives it, and its rows.
-   An id may be there twice. Takes for each id W and the look at the use bit, 4 loads, and 1 more for each 4 rows that an
+   An id may be there twice. Takes for each id W and the look at the use bit, 5 loads, and 1 more for each 4 rows that an
    id may have up to 12, which are made before the finds, for 16 ids at a time; then the steps of nr_find_kept for the
    id's set, which has a row more, or for the first row of another id's, and 1 if the use bit wasn't set. So the reader's
    announcement goes on from set to set, and 1 step at the end lets the last one go. NR_NO_KEY without a step, if one

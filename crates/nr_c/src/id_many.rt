@@ -27,7 +27,7 @@ pub struct NrWantedId {
 /// Looks each of the ids up, in their order, and finds it in the way that has its name: a find of each is an
 /// entry of its own, also of an id that is wanted twice. Each has its answer beside it, and its rows in its own
 /// room, which stays as it is where that isn't `NR_ROWS`. Takes for each id the look-up of `nr_find_id` and its
-/// look at a mark, 4 loads, 1 more for each 4 rows that an id may have up to 12, and the steps of
+/// look at a mark, 5 loads, 1 more for each 4 rows that an id may have up to 12, and the steps of
 /// `nr_find_kept` of a row more, which lets go what the find before it holds by the next announcement; 1 to mark
 /// the way of rows, unless it is marked already; and 1 in the end if the last one found holds its set. The
 /// look-ups are made for 16 ids at a time before these are found.

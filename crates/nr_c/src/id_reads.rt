@@ -13,10 +13,9 @@ use crate::rows::NrRows;
 /// answer: `NR_ROWS`; `NR_ASKED` where its way was a hole, since its upquery is under way or it was
 /// evicted within the call; `NR_HOLE` where within the call it had no way; `NR_OTHER` where its way
 /// became another id's; or, with no step, `NR_NO_KEY` for the id 0, and `NR_HOLDING` where the reader
-/// holds a set. Takes 2 loads; a look-up, which looks at the hints of the id's group and at the name of
+/// holds a set. Takes 1 load; a look-up, which looks at the hints of the id's group and at the name of
 /// each way with the id's hint, up to the id's, and unless one of them was, so too in its second group;
-/// where a way had the name, 1 look at its mark, and then 1 where
-/// the way is a hole, 2n + 7 for n rows, and 7 where it has another id's, more where it is written
+/// where a way had the name, 1 look at its mark, and then 1 where the way is a hole, 2n + 7 for n rows, and 7 where it has another id's, more where it is written
 /// meanwhile, and 1 to mark it where rows were found and it isn't marked. Where none were found 1 more looks
 /// whether the writer was closed, and then the answer is `NR_CLOSED`.
 #[unsafe(no_mangle)]

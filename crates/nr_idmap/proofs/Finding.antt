@@ -12,24 +12,23 @@ use Rattle.nr_ids.specs.Tokens.{Token}
 use Rattle.nr_idmap.specs.declared.finds.FoundId.{FoundId}
 use Rattle.nr_idmap.specs.declared.finds.FoundId.TheVariants as found
 use Rattle.nr_idmap.specs.declared.finds.NamedWay.{NamedWay}
-use Rattle.nr_idmap.specs.IdFinds.{FindsById, FindsByName, LooksAlone, line_of, with_line}
-use Rattle.nr_idmap.specs.IdFindsEach.{FindsInside, MarksTold, answer_told}
+use Rattle.nr_idmap.specs.IdFinds.{FindsById, FindsByName, FindsInside, LooksForWay, MarksTold, answer_told, line_of, with_line}
 use Rattle.nr_idmap.specs.Keepers.{IdCaller}
 use Rattle.nr_idmap.specs.Tags.{tag_of}
 
 -- with the look-up before it
 pub finds_by_way : {Room : Type 0} (shows : Room → List Row → Type 0) (id : ℕ) (at : NamedWay) (old new : IdCaller)
-    (looked : Token) (before after : Room) (result : FoundId) → LooksAlone id old.ids looked (Some at) →
+    (looked : Token) (before after : Room) (result : FoundId) → LooksForWay id old.ids looked (Some at) →
     FindsInside shows id at (record { caller = old.caller; ids = looked }) before new after result
     → FindsByName shows id old before new after result
 finds_by_way shows id at old new looked before after found.Rows looks finds =
     (at, finds.0, looked, (looks, finds.1), finds.2, finds.3)
 finds_by_way shows id at old new looked before after found.Pending looks finds =
-    (at, subst (λ (t : Token). LooksAlone id old.ids t (Some at)) (sym finds.1) looks, finds.0, finds.2)
+    (at, subst (λ (t : Token). LooksForWay id old.ids t (Some at)) (sym finds.1) looks, finds.0, finds.2)
 finds_by_way shows id at old new looked before after found.Moved looks finds = (
   at,
   finds.0,
-  (subst (λ (t : Token). LooksAlone id old.ids t (Some at)) (sym finds.2) looks, finds.1),
+  (subst (λ (t : Token). LooksForWay id old.ids t (Some at)) (sym finds.2) looks, finds.1),
   finds.3,
   finds.4,
 )
@@ -49,7 +48,7 @@ line_loaded id key ids old near line loaded =
 -- and with the line of the id's key loaded before that
 pub finds_by_id : {Room : Type 0} (shows : Room → List Row → Type 0) (id : ℕ) (at : NamedWay) (old now new : IdCaller)
     (key : ℕ) (near : Caller) (looked : Token) (before after : Room) (result : FoundId) → old ≡ now
-    → key ≡ line_of id old.ids → LoadsKey key old.caller near → LooksAlone id old.ids looked (Some at)
+    → key ≡ line_of id old.ids → LoadsKey key old.caller near → LooksForWay id old.ids looked (Some at)
     → FindsInside shows id at (record { caller = near; ids = looked }) before new after result
     → FindsById shows id now before new after result
 finds_by_id shows id at old now new key near looked before after result is line loaded looks finds =
@@ -63,7 +62,7 @@ finds_by_id shows id at old now new key near looked before after result is line 
 -- or no way had the id's name
 pub finds_absent : {Room : Type 0} (shows : Room → List Row → Type 0) (id : ℕ) (old now : IdCaller) (key : ℕ)
     (near : Caller) (looked : Token) (room : Room) → old ≡ now → key ≡ line_of id old.ids → LoadsKey key old.caller near
-    → LooksAlone id old.ids looked None
+    → LooksForWay id old.ids looked None
     → FindsById shows id now room (record { caller = near; ids = looked }) room found.Absent
 finds_absent shows id old now key near looked room is line loaded looks =
     subst (λ (o : IdCaller). FindsById shows id o room (record { caller = near; ids = looked }) room found.Absent) is (

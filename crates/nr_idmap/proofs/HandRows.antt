@@ -25,7 +25,7 @@ use Rattle.nr_idmap.specs.declared.finds.FoundId.TheVariants as found
 use Rattle.nr_idmap.specs.IdHands.{AgainById, HoldsAnew, HoldsByName, IdHanded, IsHeldFor, KeepsWay, PinsById}
 use Rattle.nr_idmap.specs.IdHands.{with_line_loaded}
 use Rattle.nr_idmap.specs.declared.finds.NamedWay.{NamedWay}
-use Rattle.nr_idmap.specs.IdFinds.{LooksAlone}
+use Rattle.nr_idmap.specs.IdFinds.{LooksForWay}
 use Rattle.nr_idmap.specs.IdHeard.{IsUnnamedSince, PinsItsRows}
 use Rattle.nr_idmap.specs.Keepers.{IdTable}
 use Rattle.nr_idmap.specs.Tags.{tag_of}
@@ -127,10 +127,10 @@ module _ (law : FindsWhatItHeard) (old new : IdHanded) (id way number : ℕ) (ro
   Unnamed = IsUnnamedSince old.ids.seen way new.ids.seen
 
   looked_there : (asked : IdHanded) (there : Option NamedWay) → Asked old asked
-      → LooksAlone id asked.ids new.ids there → Unnamed ⊎ (way_named there ≡ Some way)
+      → LooksForWay id asked.ids new.ids there → Unnamed ⊎ (way_named there ≡ Some way)
   looked_there asked there first looks =
       looks_there law (known_to old.ids) id way old.ids new.ids there real named.has ([], refl)
-      (subst (λ (t : Token). LooksAlone id t new.ids there) first.ids looks)
+      (subst (λ (t : Token). LooksForWay id t new.ids there) first.ids looks)
 
   -- a find of the way had the id's rows
   told_rows : (asked : IdHanded) (mid : Handed) (told : Reply) → Asked old asked → FoundOnce way asked.hand mid told →

@@ -15,7 +15,7 @@ use Rattle.nr_ids.specs.Tokens.{Token}
 use Rattle.nr_idmap.specs.declared.finds.FoundId.{FoundId}
 use Rattle.nr_idmap.specs.declared.finds.FoundId.TheVariants as found
 use Rattle.nr_idmap.specs.declared.finds.NamedWay.{NamedWay}
-use Rattle.nr_idmap.specs.IdFinds.{FindsByName, LooksAlone, with_line}
+use Rattle.nr_idmap.specs.IdFinds.{FindsByName, LooksForWay, with_line}
 use Rattle.nr_idmap.specs.IdHeard.{FindsIdHeard, FindsIdPut, HeardIdBefore, IsUnnamedSince, TellsOfWay}
 use Rattle.nr_idmap.specs.IdNotes.{IdKnown}
 use Rattle.nr_idmap.specs.Keepers.{IdCaller}
@@ -53,7 +53,7 @@ module _ {Room : Type 0} (shows : Room → List Row → Type 0) (of_map : FindsW
     in_way : (at : NamedWay) (looked : Token) (new : IdCaller) (room : Room) (answer : FoundId) (steps : ℕ)
         (told_there : Reply)
         →
-        LooksAlone id asking.ids looked (Some at) →
+        LooksForWay id asking.ids looked (Some at) →
         Gains steps (model.Find at.way) asking.caller new.caller told_there →
         TellsOfWay shows id room answer told_there →
         IsUnnamedSince note.ids.seen way looked.seen

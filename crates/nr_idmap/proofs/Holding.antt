@@ -10,7 +10,7 @@ use Rattle.nr_ids.specs.Marks.{SetsMark}
 use Rattle.nr_ids.specs.Tokens.{Token}
 use Rattle.nr_idmap.specs.declared.finds.FoundId.TheVariants as found
 use Rattle.nr_idmap.specs.declared.finds.NamedWay.{NamedWay}
-use Rattle.nr_idmap.specs.IdFinds.{LooksAlone}
+use Rattle.nr_idmap.specs.IdFinds.{LooksForWay}
 use Rattle.nr_idmap.specs.IdHands.{HoldsAnew, IdHanded, with_line_loaded}
 use Rattle.nr_idmap.specs.Tags.{HasTag}
 
@@ -46,7 +46,7 @@ kept_row_set way old new before set keeps few had = ⊎_elim
     keeps
 
 module _ (id : ℕ) (at : NamedWay) (old now : IdHanded) (is : old ≡ now) (ids : Token)
-    (looks : LooksAlone id old.ids ids (Some at)) (word : ℕ) (hand : Handed) (before set : List Row) where
+    (looks : LooksForWay id old.ids ids (Some at)) (word : ℕ) (hand : Handed) (before set : List Row) where
   pub holds_pending : KeepsIn at.way (with_line_loaded id word old).hand before hand set answer.Hole →
       HoldsAnew id now (record { hand = hand; ids = ids; id = None }) found.Pending
   holds_pending keeps =

@@ -10,8 +10,8 @@ use Rattle.nr_ids.specs.Marks.{SetsMark}
 use Rattle.nr_ids.specs.Rule.{BeginsWith}
 use Rattle.nr_ids.specs.Tokens.{Grows, Known, Token}
 use Rattle.nr_idmap.specs.declared.finds.NamedWay.{NamedWay}
-use Rattle.nr_idmap.specs.IdFinds.{LooksAlone, LooksForWay}
-use Rattle.nr_idmap.specs.IdFindsEach.{key_named}
+use Rattle.nr_idmap.specs.IdFinds.{LooksForWay}
+use Rattle.nr_idmap.specs.IdLoads.{key_named}
 use Rattle.nr_idmap.specs.IdHeard.{IsUnnamedSince}
 use Rattle.nr_idmap.specs.IdLoads.{LooksUpEach, keys_named}
 use Rattle.nr_idmap.specs.IdWalks.{IsNear}
@@ -69,27 +69,13 @@ set_on told way at false old new grows gone = grown_on told way _ old new grows 
 
 -- a token that heard of a way's name looks it up there, unless the name was taken since
 pub looks_there : FindsWhatItHeard → (note : Known) (id way : ℕ) (old new : Token) (there : Option NamedWay) → 0 < id
-    → name_of note.seen way ≡ id → BeginsWith old.seen note.seen → LooksAlone id old new there
+    → name_of note.seen way ≡ id → BeginsWith old.seen note.seen → LooksForWay id old new there
     → IsUnnamedSince note.seen way new.seen ⊎ (way_named there ≡ Some way)
-looks_there law note id way old new there real named heard looks = in_way there looks.2
-  where
-    near : Token
-    near = looks.0
-
-    begun : BeginsWith near.seen note.seen
-    begun = (
-      looks.1.rest ++ heard.0,
-      looks.1.seen ∙ ap (λ (l : List Event). looks.1.rest ++ l) heard.1
-          ∙ sym (append_assoc looks.1.rest heard.0 note.seen),
-    )
-
-    in_way : (at : Option NamedWay) → LooksForWay id near new at
-        → IsUnnamedSince note.seen way new.seen ⊎ (way_named at ≡ Some way)
-    in_way None looked = ⊎_elim
-        (λ (is : None ≡ Some way). inr is)
-        (λ gone. inl gone)
-        (law note id way near new None real named begun looked)
-    in_way (Some at) looked = ⊎_elim
-        (λ (is : Some at.way ≡ Some way). inr is)
-        (λ gone. inl (grown_on note.seen way _ looked.0 new looked.2.looks gone))
-        (law note id way near looked.0 (Some at.way) real named begun looked.1)
+looks_there law note id way old new None real named heard looked = ⊎_elim
+    (λ (is : None ≡ Some way). inr is)
+    (λ gone. inl gone)
+    (law note id way old new None real named heard looked)
+looks_there law note id way old new (Some at) real named heard looked = ⊎_elim
+    (λ (is : Some at.way ≡ Some way). inr is)
+    (λ gone. inl (grown_on note.seen way _ looked.0 new looked.2.looks gone))
+    (law note id way old looked.0 (Some at.way) real named heard looked.1)

@@ -4,9 +4,11 @@ use Rattle.nr_model.specs.declared.rows.Row.{Row}
 use Rattle.nr_board.specs.Holds.{FindsHole, FindsRows}
 use Rattle.nr_board.specs.Callers.{Caller}
 use Rattle.nr_map.specs.LoadsAhead.{load_of, with_loads}
+use Rattle.nr_map.specs.declared.tagged.Tagged.{Tagged}
+use Rattle.nr_map.specs.declared.tagged.Tagged.TheVariants as tagged
 use Rattle.nr_ids.specs.Answers as ids
 use Rattle.nr_ids.specs.Looking.{group_for}
-use Rattle.nr_ids.specs.Marks.{LoadsMarks, LooksAtMark, SetsMark}
+use Rattle.nr_ids.specs.Marks.{LooksAtMark, SetsMark}
 use Rattle.nr_ids.specs.Tokens.{Token}
 use Rattle.nr_idmap.specs.declared.finds.FoundId.{FoundId}
 use Rattle.nr_idmap.specs.declared.finds.FoundId.TheVariants as found
@@ -29,15 +31,10 @@ LooksForWay id old new (Some at) =
     (named : Token) × ids.LooksUp id old named (Some at.way) × LooksAtMark at.way at.is_marked named new
 LooksForWay id old new None = ids.LooksUp id old new None
 
--- such a look-up of one id alone: its group's marks were loaded before
-abbrev pub LooksAlone : ℕ → Token → Token → Option NamedWay → Type 0
-LooksAlone id old new named =
-    (near : Token) × LoadsMarks (group_for old id) old near × LooksForWay id near new named
-
 -- the set was found in the id's way, and so many of its rows were read: the call's entry in the map's history
 abbrev pub FindsInWay : ℕ → NamedWay → ℕ → List Row → IdCaller → Caller → Token → Type 0
 FindsInWay id at read set old new looked =
-    LooksAlone id old.ids looked (Some at) × FindsRows (2 * read + 1) at.way set old.caller new
+    LooksForWay id old.ids looked (Some at) × FindsRows (2 * read + 1) at.way set old.caller new
 
 -- by the id's name: the rows behind the id's tag, and the way is marked as found unless it was; or the way that had the
 -- id's name was a hole, or had another's set, of which the first row alone was read; or within the call there was a
@@ -49,16 +46,42 @@ FindsByName shows id old before new room found.Rows =
     × FindsInWay id at (length (tag_of id ∷ rows)) (tag_of id ∷ rows) old new.caller looked
     × SetsMark at.way at.is_marked looked new.ids × shows room rows
 FindsByName shows id old before new room found.Pending =
-    (at : NamedWay) × LooksAlone id old.ids new.ids (Some at) × FindsHole 0 at.way old.caller new.caller
+    (at : NamedWay) × LooksForWay id old.ids new.ids (Some at) × FindsHole 0 at.way old.caller new.caller
     × (room ≡ before)
 FindsByName shows id old before new room found.Moved =
     (at : NamedWay) × (set : List Row) × FindsInWay id at (min 1 (length set)) set old new.caller new.ids
     × ((rows : List Row) → set ≢ tag_of id ∷ rows) × (room ≡ before)
 FindsByName shows id old before new room found.Absent =
-    LooksAlone id old.ids new.ids None × (new.caller ≡ old.caller) × (room ≡ before)
+    LooksForWay id old.ids new.ids None × (new.caller ≡ old.caller) × (room ≡ before)
 
 -- a find by id: with the line that it will need on its way, the look-up of its name, and the find there
 abbrev pub FindsById : {Room : Type 0} → (Room → List Row → Type 0) → ℕ → IdCaller → Room → IdCaller → Room → FoundId
     → Type 0
 FindsById shows id old before new room told =
     (word : ℕ) × FindsByName shows id (with_line id word old) before new room told
+
+-- IN THE WAY
+-- what a find of the id's tag tells of the id, and that rows mark their way
+abbrev pub answer_told : Tagged → FoundId
+answer_told tagged.Rows = found.Rows
+answer_told tagged.Other = found.Moved
+answer_told tagged.Hole = found.Pending
+
+abbrev pub MarksTold : Tagged → NamedWay → Token → Token → Type 0
+MarksTold tagged.Rows at old new = SetsMark at.way at.is_marked old new
+MarksTold tagged.Other at old new = new ≡ old
+MarksTold tagged.Hole at old new = new ≡ old
+
+-- a find by id in the way that was looked up: as `find` says it of that way
+abbrev pub FindsInside : {Room : Type 0} → (Room → List Row → Type 0) → ℕ → NamedWay → IdCaller → Room → IdCaller
+    → Room → FoundId → Type 0
+FindsInside shows id at old before new room found.Rows =
+    (rows : List Row)
+    × FindsRows (2 * length (tag_of id ∷ rows) + 1) at.way (tag_of id ∷ rows) old.caller new.caller
+    × SetsMark at.way at.is_marked old.ids new.ids × shows room rows
+FindsInside shows id at old before new room found.Pending =
+    FindsHole 0 at.way old.caller new.caller × (new.ids ≡ old.ids) × (room ≡ before)
+FindsInside shows id at old before new room found.Moved =
+    (set : List Row) × FindsRows (2 * min 1 (length set) + 1) at.way set old.caller new.caller × (new.ids ≡ old.ids)
+    × ((rows : List Row) → set ≢ tag_of id ∷ rows) × (room ≡ before)
+FindsInside shows id at old before new room found.Absent = ⊥

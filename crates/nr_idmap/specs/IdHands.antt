@@ -12,7 +12,7 @@ use Rattle.nr_idmap.specs.declared.finds.FoundId.{FoundId}
 use Rattle.nr_idmap.specs.declared.finds.FoundId.TheVariants as found
 use Rattle.nr_idmap.specs.declared.finds.NamedWay.{NamedWay}
 use Rattle.nr_idmap.specs.declared.hands.Holding.{Holding}
-use Rattle.nr_idmap.specs.IdFinds.{LooksAlone, line_of}
+use Rattle.nr_idmap.specs.IdFinds.{LooksForWay, line_of}
 use Rattle.nr_idmap.specs.Keepers.{IdCaller, IdTable}
 use Rattle.nr_idmap.specs.Tags.{rows_behind, tag_of}
 
@@ -116,18 +116,18 @@ KeepsWay way old new told =
 -- is, since the way was a hole or had another's set, or there was a moment at which the id had no way
 abbrev pub HoldsByName : ℕ → IdHanded → IdHanded → FoundId → Type 0
 HoldsByName id old new found.Rows =
-    (at : NamedWay) × (rows : List Row) × (looked : Token) × LooksAlone id old.ids looked (Some at)
+    (at : NamedWay) × (rows : List Row) × (looked : Token) × LooksForWay id old.ids looked (Some at)
     × KeepsWay at.way old.hand new.hand answer.Rows × (new.hand.rows ≡ tag_of id ∷ rows)
     × SetsMark at.way at.is_marked looked new.ids × (new.id ≡ Some id)
 HoldsByName id old new found.Pending =
-    (at : NamedWay) × LooksAlone id old.ids new.ids (Some at) × KeepsWay at.way old.hand new.hand answer.Hole
+    (at : NamedWay) × LooksForWay id old.ids new.ids (Some at) × KeepsWay at.way old.hand new.hand answer.Hole
     × (new.id ≡ None)
 HoldsByName id old new found.Moved =
-    (at : NamedWay) × (kept : Handed) × LooksAlone id old.ids new.ids (Some at)
+    (at : NamedWay) × (kept : Handed) × LooksForWay id old.ids new.ids (Some at)
     × KeepsWay at.way old.hand kept answer.Rows × ((rows : List Row) → kept.rows ≢ tag_of id ∷ rows)
     × LetsGo kept new.hand × (new.id ≡ None)
 HoldsByName id old new found.Absent =
-    LooksAlone id old.ids new.ids None × LetsGo old.hand new.hand × (new.id ≡ None)
+    LooksForWay id old.ids new.ids None × LetsGo old.hand new.hand × (new.id ≡ None)
 
 -- the word of the first way of the id's group was loaded, as by a find
 abbrev pub with_line_loaded : ℕ → ℕ → IdHanded → IdHanded

@@ -1,11 +1,10 @@
 -- Look-ups of many ids, with loads of the words that finds of them will need.
-use Rattle.std.specs.Prelude.{◌≡◌, ℕ, List, [], ◌∷◌, Option, map}
+use Rattle.std.specs.Prelude.{◌≡◌, ℕ, List, [], ◌∷◌, Option, Some, None, map}
 use Rattle.nr_map.specs.LoadsAhead.{LoadsAhead}
-use Rattle.nr_ids.specs.Marks.{LoadsNames}
+use Rattle.nr_ids.specs.Marks.{LoadsGroups}
 use Rattle.nr_ids.specs.Tokens.{Token}
 use Rattle.nr_idmap.specs.declared.finds.NamedWay.{NamedWay}
 use Rattle.nr_idmap.specs.IdFinds.{LooksForWay}
-use Rattle.nr_idmap.specs.IdFindsEach.{key_named}
 use Rattle.nr_idmap.specs.IdHands.{IdHanded}
 
 -- each of these ids was looked up in turn, with the mark of its way; and these are their ways
@@ -16,15 +15,19 @@ LooksUpEach (id ∷ ids) (at ∷ ways) old new =
 LooksUpEach [] (at ∷ ways) old new = ⊥
 LooksUpEach (id ∷ ids) [] old new = ⊥
 
--- the keys of ways, and 0 in place of none
+-- the key of a way, and 0 in place of none
+abbrev pub key_named : Option NamedWay → ℕ
+key_named None = 0
+key_named (Some at) = at.way
+
 abbrev pub keys_named : List (Option NamedWay) → List ℕ
 keys_named ways = map key_named ways
 
--- the first name of each one's group was loaded; all were looked up; and words were loaded that finds in their ways
+-- the hints of each one's group were loaded, with its first name; all were looked up; and words were loaded that finds in their ways
 -- need; what is held stays held
 pub record LooksAhead (ids : List ℕ) (ways : List (Option NamedWay)) (old new : IdHanded) : Type 0 where
   pub ahead : Token
-  pub loads : LoadsNames ids old.ids ahead
+  pub loads : LoadsGroups ids old.ids ahead
   pub looks_up : LooksUpEach ids ways ahead new.ids
   pub caller : LoadsAhead (keys_named ways) old.hand.reader new.hand.reader
   pub key_is : new.hand.key ≡ old.hand.key

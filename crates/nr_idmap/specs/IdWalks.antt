@@ -9,7 +9,7 @@ use Rattle.nr_idmap.specs.declared.finds.FoundId.{FoundId}
 use Rattle.nr_idmap.specs.declared.finds.FoundId.TheVariants as found
 use Rattle.nr_idmap.specs.declared.finds.NamedWay.{NamedWay}
 use Rattle.nr_idmap.specs.declared.hands.Holding.{Holding}
-use Rattle.nr_idmap.specs.IdFindsEach.{MarksTold, answer_told}
+use Rattle.nr_idmap.specs.IdFinds.{MarksTold, answer_told}
 use Rattle.nr_idmap.specs.IdHands.{IdHanded}
 use Rattle.nr_idmap.specs.Tags.{tag_of}
 

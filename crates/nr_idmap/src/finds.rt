@@ -32,16 +32,15 @@ pub struct NamedWay {
 }
 
 impl IdMap {
-    ghost use Rattle.nr_idmap.specs.IdFinds.{FindsById, LooksAlone, LooksForWay};
-    ghost use Rattle.nr_idmap.specs.IdFindsEach.{FindsInside, MarksTold, answer_told};
+    ghost use Rattle.nr_idmap.specs.IdFinds.{FindsById, FindsInside, LooksForWay, MarksTold, answer_told};
 
     /// Looks an id up, and writes its rows into the caller's room, which stays as it is unless the
-    /// answer is `Rows`. Takes 2 loads of words that lie in the lines of the id's key and of its group's
-    /// marks; a look-up, which looks at the hints of the id's group and at the name of each way that has the
-    /// id's hint, up to the id's, and unless one of them was, so too in its second group; where a way had the
-    /// name, 1 look at the way's mark, and the steps of the map's find, of one row more: by the counts 1 where
-    /// the way is a hole, 2n + 5 for n rows, and 5 where it has another id's, of which only the first row is
-    /// read; and 1 to mark a way whose rows were found, unless it is marked already.
+    /// answer is `Rows`. Takes 1 load of a word that lies in the line of the id's key; a look-up, which looks at
+    /// the hints of the id's group and at the name of each way that has the id's hint, up to the id's, and
+    /// unless one of them was, so too in its second group; where a way had the name, 1 look at the way's mark,
+    /// and the steps of the map's find, of one row more: by the counts 1 where the way is a hole, 2n + 5 for n
+    /// rows, and 5 where it has another id's, of which only the first row is read; and 1 to mark a way whose
+    /// rows were found, unless it is marked already.
     pub fn find<R: RowRoom>(&self, reader: &mut IdReader, id: u64, rows: &mut R) -> FoundId
         requires own { id_table_of reader.old ≡ self.now }
         requires id { 0 < id }
@@ -50,24 +49,10 @@ impl IdMap {
     {
         let first = self.directory.plan().first_way(id);
         self.map.load_key(&mut reader.reader, first);
-        let Some(at) = self.look_up_alone(&mut reader.ids, id) else {
+        let Some(at) = self.look_up(&mut reader.ids, id) else {
             return FoundId::Absent;
         };
         self.find_in(reader, at, id, rows)
-    }
-
-    // The look-up of one id, with the word of its group's marks on its way: else that line would be waited
-    // for behind the names.
-    #[inline(always)]
-    pub(crate) fn look_up_alone(&self, ids: &mut nr_ids::Reader, id: u64) -> Option<NamedWay>
-        requires own { ids.old.directory ≡ self.now.directory }
-        requires id { 0 < id }
-        ensures own { ids.new.directory ≡ self.now.directory }
-        ensures looks { LooksAlone id ids.old ids.new result }
-        ensures inside { IfSome result (λ at. at.way < self.now.map.shape.keys) }
-    {
-        self.directory.load_marks(ids, id);
-        self.look_up(ids, id)
     }
 
     // The way that has the id's name. Its mark is looked at here, beside the lines that the find will

@@ -132,7 +132,7 @@ impl IdHand {
 
     /// Finds an id and holds its set, whose rows `rows` shows; nothing is held where the answer isn't
     /// `Rows`. Where it holds the id's set already it finds it again, by `again`, and then looks at the
-    /// way's mark. Else it takes the 2 loads, the look-up of `find` and its look at the mark, and the
+    /// way's mark. Else it takes the load, the look-up of `find` and its look at the mark, and the
     /// steps of the map's `find_kept` with a row more; 1 more where the set that was found is let go, since
     /// it is another id's. At `Rows` it marks the way in 1 step, unless it is marked already.
     pub fn pin(&mut self, map: &IdMap, id: u64) -> FoundId
@@ -196,7 +196,7 @@ impl IdHand {
     {
         let first = map.directory.plan().first_way(id);
         self.hand.load_key(&map.map, first);
-        let Some(at) = map.look_up_alone(&mut self.ids, id) else {
+        let Some(at) = map.look_up(&mut self.ids, id) else {
             self.release(map);
             return FoundId::Absent;
         };

@@ -21,7 +21,7 @@ impl IdHand {
     {
         let first = map.directory.plan().first_way(id);
         self.hand.load_key(&map.map, first);
-        let Some(at) = map.look_up_alone(&mut self.ids, id) else {
+        let Some(at) = map.look_up(&mut self.ids, id) else {
             return FoundId::Absent;
         };
         let found = self.hand.find_tagged(&map.map, at.way, tag_of(id), rows);

@@ -1,18 +1,18 @@
 //! Look-ups of many ids by a hand.
 ghost use Rattle.std.specs.Prelude.{◌≡◌, ◌<◌, ◌≤◌, All, length, take};
 ghost use Rattle.nr_idmap.specs.IdHands.{hand_table_of};
-ghost use Rattle.nr_idmap.specs.IdLoads.{LooksAhead, LooksUpEach, keys_named};
+ghost use Rattle.nr_idmap.specs.IdLoads.{LooksAhead, LooksUpEach, key_named, keys_named};
 ghost use Rattle.nr_idmap.specs.IdWalks.{IsNear};
 
 use crate::finds::NamedWay;
 use crate::hands::IdHand;
 use crate::id_map::IdMap;
-use crate::wanted::{BATCH, key_of};
+use crate::wanted::BATCH;
 
 impl IdHand {
     /// Looks up at most sixteen ids, in their order, writes their ways over the first ones there, and loads words
     /// that finds there will need, so that the lines of memory in which they lie are near. What is held stays held.
-    /// Takes 1 step an id, the look-up of `find` and its look at a mark for each, and the map's `load_ahead` for as
+    /// Takes 2 loads an id, the look-up of `find` and its look at a mark for each, and the map's `load_ahead` for as
     /// many keys.
     pub fn look_up(&mut self, map: &IdMap, ids: &[u64], ways: &mut [Option<NamedWay>; BATCH])
         requires own { hand_table_of self.old ≡ map.now }
@@ -64,5 +64,15 @@ impl IdMap {
         for place in 0..ways.len() {
             keys[place] = key_of(ways[place]);
         }
+    }
+}
+
+// The key of a way, and 0 in place of none.
+fn key_of(at: Option<NamedWay>) -> u32
+    ensures { result ≡ key_named at }
+{
+    match at {
+        Some(at) => at.way,
+        None => 0,
     }
 }

@@ -6,7 +6,7 @@ use Rattle.std.specs.Int.{bit_at}
 use Rattle.nr_ids.specs.declared.plan.Plan.{Plan}
 use Rattle.nr_ids.specs.Events.{Event, touched, loaded, marked, turned, mark_bit, marks_of, HasMark, IsMarked}
 use Rattle.nr_ids.specs.Groups.{group_of, group_of_way}
-use Rattle.nr_ids.specs.Rule.{marks_place}
+use Rattle.nr_ids.specs.Rule.{hints_place, marks_place}
 use Rattle.nr_ids.specs.Tokens.{Token, Grows}
 
 -- a load of the marks of a group of that plan
@@ -77,10 +77,17 @@ pub record ChoosesWay (group way : ℕ) (old new : Token) : Type 0 where
   pub turns : TurnsMarks group bits looked new
 
 -- LOADS AHEAD
--- the first name of each id's group was loaded, in their order
-abbrev pub name_loads : Plan → ℕ → List ℕ → List Event
-name_loads plan by [] = []
-name_loads plan by (id ∷ ids) = name_loads plan by ids ++ touched by (loaded (8 * group_of plan id)) ∷ []
+-- the hints of a group of that plan were loaded, and then its first name
+abbrev pub loads_of_group : Plan → ℕ → ℕ → List Event
+loads_of_group plan by group = touched by (loaded (8 * group)) ∷ touched by (loaded (hints_place plan group)) ∷ []
 
-abbrev pub LoadsNames : List ℕ → Token → Token → Type 0
-LoadsNames ids old new = Grows (name_loads old.directory.plan old.number ids) old new
+abbrev pub LoadsGroup : ℕ → Token → Token → Type 0
+LoadsGroup group old new = Grows (loads_of_group old.directory.plan old.number group) old new
+
+-- those of each id's group, in their order
+abbrev pub group_loads : Plan → ℕ → List ℕ → List Event
+group_loads plan by [] = []
+group_loads plan by (id ∷ ids) = group_loads plan by ids ++ loads_of_group plan by (group_of plan id)
+
+abbrev pub LoadsGroups : List ℕ → Token → Token → Type 0
+LoadsGroups ids old new = Grows (group_loads old.directory.plan old.number ids) old new

@@ -196,6 +196,18 @@ impl Directory {
         words.load::<Loads>(seat, way as usize);
     }
 
+    /// A load of a group's hints ahead of a look at them.
+    pub(crate) fn load_hints(&self, seat: &mut Seat, group: u32)
+        requires caller { Sits self.now seat.old }
+        requires group { group < self.now.plan.groups }
+        ensures caller { Sits self.now seat.new }
+        ensures grows { Grows (touched (token seat.old).number (loaded (hints_place self.now.plan group)) ∷ []) (token seat.old) (token seat.new) }
+    {
+        let words = &self.table.shared;
+        let place = self.hints_place(group);
+        words.load::<Loads>(seat, place);
+    }
+
     /// The marks of a group.
     pub(crate) fn marks(&self, seat: &mut Seat, group: u32) -> u64
         requires caller { Sits self.now seat.old }

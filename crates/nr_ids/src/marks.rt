@@ -3,7 +3,7 @@
 ghost use Rattle.std.specs.Prelude.{◌≡◌, ◌<◌, ◌*◌, ◌↔◌, IsTrue, bit_xor};
 ghost use Rattle.nr_ids.specs.Events.{HasMark};
 ghost use Rattle.nr_ids.specs.Groups.{group_of, ways};
-ghost use Rattle.nr_ids.specs.Marks.{ChoosesPlace, ChoosesWay, LoadsMarks, LoadsNames, LooksAtMark, SetsMark, TakesMark, place_after};
+ghost use Rattle.nr_ids.specs.Marks.{ChoosesPlace, ChoosesWay, LoadsGroup, LoadsGroups, LooksAtMark, SetsMark, TakesMark, place_after};
 ghost use Rattle.nr_ids.specs.Tokens.{Sits, token};
 
 use crate::directory::{Directory, Seat};
@@ -66,35 +66,34 @@ impl Directory {
         WAYS * group + place
     }
 
-    /// Loads the first name of each id's group, so that the lines of memory in which the others lie are
-    /// near then. It tells nothing. Takes 1 step an id.
+    /// Loads the hints of each id's group and its first name, so that the lines of memory in which a look-up
+    /// looks first are near then. It tells nothing. Takes 2 steps an id.
     pub fn load_ahead(&self, reader: &mut Reader, ids: &[u64])
         requires own { reader.old.directory ≡ self.now }
         ensures own { reader.new.directory ≡ self.now }
-        ensures loads { LoadsNames ids.now reader.old reader.new }
+        ensures loads { LoadsGroups ids.now reader.old reader.new }
     {
-        self.load_names(&mut reader.seat, ids);
+        self.load_groups(&mut reader.seat, ids);
     }
 
-    /// Loads the marks of an id's group, so that their line of memory is near when the mark of its way is
-    /// looked at. It tells nothing. Takes 1 step.
-    pub fn load_marks(&self, reader: &mut Reader, id: u64)
-        requires own { reader.old.directory ≡ self.now }
-        ensures own { reader.new.directory ≡ self.now }
-        ensures loads { LoadsMarks (group_of self.now.plan id) reader.old reader.new }
-    {
-        let group = self.plan().group_of(id);
-        self.marks(&mut reader.seat, group);
-    }
-
-    fn load_names(&self, seat: &mut Seat, ids: &[u64])
+    fn load_groups(&self, seat: &mut Seat, ids: &[u64])
         requires caller { Sits self.now seat.old }
         ensures caller { Sits self.now seat.new }
-        ensures loads { LoadsNames ids.now (token seat.old) (token seat.new) }
+        ensures loads { LoadsGroups ids.now (token seat.old) (token seat.new) }
     {
         for id in ids {
-            self.load_name(seat, self.plan().first_way(*id));
+            self.load_group(seat, *id);
         }
+    }
+
+    fn load_group(&self, seat: &mut Seat, id: u64)
+        requires caller { Sits self.now seat.old }
+        ensures caller { Sits self.now seat.new }
+        ensures loads { LoadsGroup (group_of self.now.plan id) (token seat.old) (token seat.new) }
+    {
+        let plan = self.plan();
+        self.load_hints(seat, plan.group_of(id));
+        self.load_name(seat, plan.first_way(id));
     }
 
     fn has_mark(&self, seat: &mut Seat, way: u32) -> bool

@@ -13,7 +13,7 @@ use Rattle.nr_ids.proofs.Through.{grant_looks, looks_up, request_looks}
 use Rattle.nr_idmap.specs.declared.finds.FoundId.{FoundId}
 use Rattle.nr_idmap.specs.declared.finds.FoundId.TheVariants as found
 use Rattle.nr_idmap.specs.declared.finds.NamedWay.{NamedWay}
-use Rattle.nr_idmap.specs.IdFinds.{FindsById, LooksAlone, LooksForWay}
+use Rattle.nr_idmap.specs.IdFinds.{FindsById, LooksForWay}
 use Rattle.nr_idmap.specs.Keepers.{IdCaller}
 use Rattle.nr_trigger.specs.declared.post.Upquery.{Upquery}
 use Rattle.nr_trigger.specs.Tokens.{PosterSeen}
@@ -169,11 +169,6 @@ way_none id old new (Some at) seen =
     [] (look_none id old seen.0 (Some at.way) seen.1) (claims_touch _ seen.0 new seen.2.looks)
 way_none id old new None seen = look_none id old new None seen
 
-alone_none : (id : ℕ) (old new : Token) (at : Option NamedWay) → LooksAlone id old new at → Claims old [] new
-alone_none id old new at seen =
-    claims_both old seen.0 new []
-    [] (claims_touch _ old seen.0 seen.1) (way_none id seen.0 new at seen.2)
-
 mark_none : (way : ℕ) (marked : Bool) (old new : Token) → SetsMark way marked old new → Claims old [] new
 mark_none way true old new same = same_token old new same
 mark_none way false old new grows = claims_touch _ old new grows
@@ -184,13 +179,13 @@ find_none : {Room : Type 0} (shows : Room → List Row → Type 0) (id : ℕ) (o
     → Claims old.ids [] new.ids
 find_none shows id old before new after found.Rows (word, finds) =
     claims_both old.ids finds.2 new.ids []
-    [] (alone_none id old.ids finds.2 (Some finds.0) finds.3.0)
+    [] (way_none id old.ids finds.2 (Some finds.0) finds.3.0)
     (mark_none finds.0.way finds.0.is_marked finds.2 new.ids finds.4)
 find_none shows id old before new after found.Pending (word, finds) =
-    alone_none id old.ids new.ids (Some finds.0) finds.1
+    way_none id old.ids new.ids (Some finds.0) finds.1
 find_none shows id old before new after found.Moved (word, finds) =
-    alone_none id old.ids new.ids (Some finds.0) finds.2.0
-find_none shows id old before new after found.Absent (word, finds) = alone_none id old.ids new.ids None finds.0
+    way_none id old.ids new.ids (Some finds.0) finds.2.0
+find_none shows id old before new after found.Absent (word, finds) = way_none id old.ids new.ids None finds.0
 
 abbrev requested_ids : Requested → List ℕ
 requested_ids (requested.Granted claim) = claim.id ∷ []

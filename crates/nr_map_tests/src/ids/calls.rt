@@ -2,7 +2,7 @@
 ghost use Rattle.std.specs.Prelude.{◌<◌};
 
 use crate::ids::view::{SMALL, View, is_same, is_set, plus, row};
-use nr_idmap::{Evict, FoundId, IdShape, Looked, WantedId};
+use nr_idmap::{Evict, FoundId, IdShape, Looked};
 use nr_model::RowSet;
 
 const ONE: u64 = 1 << 40;
@@ -58,81 +58,6 @@ fn the_writer_sees_what_it_put(rt: HostRuntime) {
     view.sees(&rt, TWO, &[row(1, 1), row(3, 3), row(4, 4)]);
     view.evicts(&rt, TWO, Evict::Evicted);
     view.overlooks(&rt, TWO, Looked::Absent);
-    view.close();
-}
-
-#[test]
-fn many_ids_are_found_by_one_call(rt: HostRuntime) {
-    let mut view = View::open(&rt, &SMALL);
-    view.takes_in(&rt, ONE, &[row(5, 5)]);
-    view.takes_in(&rt, TWO, &[row(6, 6), row(7, 7)]);
-    view.claims(&rt, 3);
-    let mut wanted = [
-        WantedId::of(TWO, RowSet::new()),
-        WantedId::of(4, RowSet::new()),
-        WantedId::of(ONE, RowSet::new()),
-        WantedId::of(TWO, RowSet::new()),
-    ];
-    view.finds_each(&rt, &mut wanted);
-    is_set(&rt, wanted[0].rows.as_slice(), &[row(6, 6), row(7, 7)]);
-    is_set(&rt, wanted[2].rows.as_slice(), &[row(5, 5)]);
-    is_set(&rt, wanted[3].rows.as_slice(), &[row(6, 6), row(7, 7)]);
-    is_same(&rt, &wanted[0].found, &FoundId::Rows);
-    is_same(&rt, &wanted[1].found, &FoundId::Absent);
-    is_set(&rt, wanted[1].rows.as_slice(), &[]);
-    let upquery = view.admit(&rt, 3);
-    let mut more = [WantedId::of(3, RowSet::new())];
-    view.finds_each(&rt, &mut more);
-    is_same(&rt, &more[0].found, &FoundId::Pending);
-    view.fills(&rt, upquery, &[]);
-    view.uses(&rt, ONE, true);
-    view.close();
-}
-
-fn wanted(id: u64) -> WantedId<RowSet>
-    requires { 0 < id }
-    ensures { 0 < result.id }
-{
-    WantedId::of(id, RowSet::new())
-}
-
-// More than are found at a time.
-#[test]
-fn eighteen_ids_are_found_by_one_call(rt: HostRuntime) {
-    let mut view = View::open(&rt, &SMALL);
-    for id in 1..8 {
-        view.takes_in(&rt, id, &[row(id, id)]);
-    }
-    let mut first = [
-        wanted(1),
-        wanted(2),
-        wanted(3),
-        wanted(4),
-        wanted(5),
-        wanted(6),
-        wanted(7),
-        wanted(8),
-        wanted(9),
-        wanted(1),
-        wanted(2),
-        wanted(3),
-        wanted(4),
-        wanted(5),
-        wanted(6),
-        wanted(7),
-        wanted(8),
-        wanted(3),
-    ];
-    view.finds_each(&rt, &mut first);
-    for one in &first {
-        if one.id < 8 {
-            is_same(&rt, &one.found, &FoundId::Rows);
-            is_set(&rt, one.rows.as_slice(), &[row(one.id, one.id)]);
-        } else {
-            is_same(&rt, &one.found, &FoundId::Absent);
-            is_set(&rt, one.rows.as_slice(), &[]);
-        }
-    }
     view.close();
 }
 

@@ -1,8 +1,8 @@
 //! Finds that hold what they found.
-ghost use Rattle.std.specs.Prelude.{◌≡◌, ◌<◌};
+ghost use Rattle.std.specs.Prelude.{◌≡◌, ◌<◌, All};
 
 use crate::ids::view::{SMALL, View, is_granted, is_same, is_set, plus, row};
-use nr_idmap::{BATCH, Evict, FoundId, IdHand, IdShape, Reaped, Reclaimed};
+use nr_idmap::{BATCH, Evict, FoundId, IdHand, IdShape, Reaped, Reclaimed, WantedId};
 use nr_model::{Row, RowSet};
 use std::marker::Model;
 use std::process::Abort;
@@ -99,6 +99,15 @@ impl Holder {
             &rows[..1]
         };
         is_set(rt, &cells, first);
+    }
+
+    /// Finds of many ids by one call go on from what is held, and leave nothing held.
+    fn finds_each<R: Abort>(&mut self, rt: &R, wanted: &mut [WantedId<RowSet>])
+        requires { All (λ one. 0 < one.id) wanted.old }
+        ensures { self.new ≡ self.old }
+    {
+        self.view.map().find_each(&mut self.hand, wanted);
+        is_same(rt, &self.hand.id(), &None);
     }
 
     /// A find holds these rows.
@@ -240,5 +249,81 @@ fn a_held_set_does_not_come_back(rt: HostRuntime) {
     holder.releases();
     holder.view.reaps(&rt, &mut had, Reaped::Set);
     is_set(&rt, had.as_slice(), &[row(0, ONE), row(1, 1)]);
+    holder.close();
+}
+
+#[test]
+fn many_ids_are_found_by_one_call(rt: HostRuntime) {
+    let mut holder = Holder::open(&rt, &PAIR);
+    holder.view.takes_in(&rt, ONE, &[row(5, 5)]);
+    holder.view.takes_in(&rt, TWO, &[row(6, 6), row(7, 7)]);
+    holder.view.claims(&rt, 3);
+    holder.pins(&rt, ONE, &[row(5, 5)]);
+    let mut wanted = [
+        WantedId::of(TWO, RowSet::new()),
+        WantedId::of(4, RowSet::new()),
+        WantedId::of(ONE, RowSet::new()),
+        WantedId::of(TWO, RowSet::new()),
+    ];
+    holder.finds_each(&rt, &mut wanted);
+    is_set(&rt, wanted[0].rows.as_slice(), &[row(6, 6), row(7, 7)]);
+    is_set(&rt, wanted[2].rows.as_slice(), &[row(5, 5)]);
+    is_set(&rt, wanted[3].rows.as_slice(), &[row(6, 6), row(7, 7)]);
+    is_same(&rt, &wanted[0].found, &FoundId::Rows);
+    is_same(&rt, &wanted[1].found, &FoundId::Absent);
+    is_set(&rt, wanted[1].rows.as_slice(), &[]);
+    let upquery = holder.view.admit(&rt, 3);
+    let mut more = [WantedId::of(3, RowSet::new())];
+    holder.finds_each(&rt, &mut more);
+    is_same(&rt, &more[0].found, &FoundId::Pending);
+    holder.view.fills(&rt, upquery, &[]);
+    holder.view.uses(&rt, ONE, true);
+    holder.close();
+}
+
+fn wanted(id: u64) -> WantedId<RowSet>
+    requires { 0 < id }
+    ensures { 0 < result.id }
+{
+    WantedId::of(id, RowSet::new())
+}
+
+// More than are found at a time.
+#[test]
+fn eighteen_ids_are_found_by_one_call(rt: HostRuntime) {
+    let mut holder = Holder::open(&rt, &PAIR);
+    for id in 1..8 {
+        holder.view.takes_in(&rt, id, &[row(id, id)]);
+    }
+    let mut first = [
+        wanted(1),
+        wanted(2),
+        wanted(3),
+        wanted(4),
+        wanted(5),
+        wanted(6),
+        wanted(7),
+        wanted(8),
+        wanted(9),
+        wanted(1),
+        wanted(2),
+        wanted(3),
+        wanted(4),
+        wanted(5),
+        wanted(6),
+        wanted(7),
+        wanted(8),
+        wanted(3),
+    ];
+    holder.finds_each(&rt, &mut first);
+    for one in &first {
+        if one.id < 8 {
+            is_same(&rt, &one.found, &FoundId::Rows);
+            is_set(&rt, one.rows.as_slice(), &[row(one.id, one.id)]);
+        } else {
+            is_same(&rt, &one.found, &FoundId::Absent);
+            is_set(&rt, one.rows.as_slice(), &[]);
+        }
+    }
     holder.close();
 }

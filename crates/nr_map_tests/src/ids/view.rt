@@ -1,6 +1,6 @@
 //! A map over ids with its writer and a reader. Each method makes a call or a few and asserts the
 //! answers, so that a test is a list of calls.
-ghost use Rattle.std.specs.Prelude.{◌≡◌, ◌<◌, All};
+ghost use Rattle.std.specs.Prelude.{◌≡◌, ◌<◌};
 ghost use Rattle.nr_model.specs.Batches.{IsBatch};
 ghost use Rattle.nr_idmap.specs.IdNotes.{note_table_of};
 ghost use Rattle.nr_idmap.specs.Keepers.{id_rows, id_table_of};
@@ -8,8 +8,8 @@ ghost use Rattle.nr_idmap.specs.Tags.{AreIdDeltas, IsIdSet};
 
 use nr_idmap::{
     Evict, FoundId, IdFault, IdMap, IdNote, IdReader, IdShape, IdWriter, Looked, OpenFault, Reaped,
-    Reclaimed, Refused, ReplaceFault, Requested, Unfilled, UpdateFault, Upquery, WantedId,
-    Withdrawn, are_id_deltas, are_id_rows,
+    Reclaimed, Refused, ReplaceFault, Requested, Unfilled, UpdateFault, Upquery, Withdrawn,
+    are_id_deltas, are_id_rows,
 };
 use nr_model::{Batch, Delta, Row, RowSet};
 use std::fmt::Debug;
@@ -222,14 +222,6 @@ impl View {
         let found = self.map.find(&mut self.reader, id, &mut rows);
         is_same(rt, &found, &why);
         is_set(rt, rows.as_slice(), &[row(1, 1)]);
-    }
-
-    /// Finds of many ids by one call have what finds of each have.
-    pub(crate) fn finds_each<R: Abort>(&mut self, rt: &R, wanted: &mut [WantedId<RowSet>])
-        requires { All (λ one. 0 < one.id) wanted.old }
-        ensures { self.new ≡ self.old }
-    {
-        self.map.find_each(&mut self.reader, wanted);
     }
 
     /// The writer's own look has just these rows.

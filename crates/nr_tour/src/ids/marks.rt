@@ -14,7 +14,6 @@ pub fn show_marks<R: AllocGlobal + Print>(
     requires own { (clerk.old.directory ≡ directory.now) × (reader.old.directory ≡ directory.now) }
 {
     directory.load_ahead(reader, &[7]);
-    directory.load_marks(reader, 7);
     if let Some(way) = directory.look_up(reader, 7) {
         let is_marked = directory.is_marked(reader, way);
         directory.mark(reader, way, is_marked);

@@ -28,13 +28,13 @@ returns-clause-finds g c =
     finds_by_id g.R.RowRoom.shows c.args.id c.in-Some.at (reader_of own) (reader_of c.args.self.now)
     (record { caller = c.find_tagged-found.new.self.reader; ids = c.tell.new.ids }) c.first_way-first.result
     there.reader
-    c.look_up_alone.new.ids c.args.rows.now c.find_tagged-found.new.rows c.tell.result (ap reader_of c.self.view_is)
+    c.look_up.new.ids c.args.rows.now c.find_tagged-found.new.rows c.tell.result (ap reader_of c.self.view_is)
     line
     (subst (LoadsKey c.first_way-first.result own.hand.reader) (sym (there.was_idle (c.load_key.ensures.held.0 ∙ none)))
     c.load_key.ensures.loads) c.in-Some.ensures.looks
     (finds_inside g.R.RowRoom.shows c.args.id c.in-Some.at
-    (record { caller = there.reader; ids = c.look_up_alone.new.ids })
-    (record { caller = there.reader; ids = c.look_up_alone.new.ids }) c.find_tagged-found.new.self.reader c.tell.new.ids
+    (record { caller = there.reader; ids = c.look_up.new.ids })
+    (record { caller = there.reader; ids = c.look_up.new.ids }) c.find_tagged-found.new.self.reader c.tell.new.ids
     c.args.rows.now c.find_tagged-found.new.rows c.tag_of.result c.find_tagged-found.result c.tell.result refl
     c.tag_of.ensures there.finds c.tell.ensures.marks c.tell.ensures.answer)
 
@@ -47,5 +47,5 @@ returns-in_default-clause-finds g c =
     (c.plan.ensures.value ∙ ap (λ (t : IdTable). t.directory.plan) (c.map.view_is ∙ sym c.requires.own)
     ∙ sym (ap (λ (h : IdHanded). h.ids.directory.plan) c.self.view_is)) in
     finds_absent g.R.RowRoom.shows c.args.id (reader_of own) (reader_of c.args.self.now) c.first_way-first.result
-    c.load_key.new.self.reader c.look_up_alone.new.ids c.args.rows.now (ap reader_of c.self.view_is) line
+    c.load_key.new.self.reader c.look_up.new.ids c.args.rows.now (ap reader_of c.self.view_is) line
     c.load_key.ensures.loads c.in_default.ensures.looks

@@ -9,7 +9,7 @@ use Rattle.nr_map.specs.Hands.{Handed, LetsGo}
 use Rattle.nr_ids.specs.Tokens.{Token}
 use Rattle.nr_idmap.specs.declared.finds.FoundId.TheVariants as found
 use Rattle.nr_idmap.specs.IdHands.{HoldsAnew, IdHanded, id_held, with_line_loaded}
-use Rattle.nr_idmap.specs.IdFinds.{LooksAlone, line_of}
+use Rattle.nr_idmap.specs.IdFinds.{LooksForWay, line_of}
 use Rattle.nr_idmap.specs.Keepers.{IdTable}
 use Rattle.nr_idmap.proofs.Finding.{line_is, line_loaded}
 use Rattle.nr_idmap.proofs.Holding.{KeepsIn, hand_is, holds_moved, holds_pending, holds_rows, kept_key}
@@ -35,7 +35,7 @@ returns-in-Hole-clause-holds c =
     = line_is c.args.id c.first_way-first.result c.plan.result.now own.ids c.first_way-first.ensures.value
     (c.plan.ensures.value ∙ ap (λ (t : IdTable). t.directory.plan) (c.map.view_is ∙ sym c.requires.own)
     ∙ sym (ap (λ (h : IdHanded). h.ids.directory.plan) c.self.view_is)) in
-    holds_pending c.args.id c.in-Some.at own c.args.self.now c.self.view_is c.look_up_alone.new.ids
+    holds_pending c.args.id c.in-Some.at own c.args.self.now c.self.view_is c.look_up.new.ids
     c.in-Some.ensures.looks
     c.load_key.ensures.loads.0 c.find_kept.new.self c.self.inside.pile c.find_kept.new.rows
     (kept own c.args.id c.first_way-first.result c.load_key.new.self c.in-Some.at.way c.find_kept.new.self
@@ -50,7 +50,7 @@ returns-then-has_tag-clause-holds c =
     = line_is c.args.id c.first_way-first.result c.plan.result.now own.ids c.first_way-first.ensures.value
     (c.plan.ensures.value ∙ ap (λ (t : IdTable). t.directory.plan) (c.map.view_is ∙ sym c.requires.own)
     ∙ sym (ap (λ (h : IdHanded). h.ids.directory.plan) c.self.view_is)) in
-    holds_rows c.args.id c.in-Some.at own c.args.self.now c.self.view_is c.look_up_alone.new.ids
+    holds_rows c.args.id c.in-Some.at own c.args.self.now c.self.view_is c.look_up.new.ids
     c.in-Some.ensures.looks
     c.load_key.ensures.loads.0 c.find_kept.new.self c.self.inside.pile c.find_kept.new.rows
     (kept own c.args.id c.first_way-first.result c.load_key.new.self c.in-Some.at.way c.find_kept.new.self
@@ -67,7 +67,7 @@ returns-else-has_tag-clause-holds c =
     = line_is c.args.id c.first_way-first.result c.plan.result.now own.ids c.first_way-first.ensures.value
     (c.plan.ensures.value ∙ ap (λ (t : IdTable). t.directory.plan) (c.map.view_is ∙ sym c.requires.own)
     ∙ sym (ap (λ (h : IdHanded). h.ids.directory.plan) c.self.view_is)) in
-    holds_moved c.args.id c.in-Some.at own c.args.self.now c.self.view_is c.look_up_alone.new.ids
+    holds_moved c.args.id c.in-Some.at own c.args.self.now c.self.view_is c.look_up.new.ids
     c.in-Some.ensures.looks
     c.load_key.ensures.loads.0 c.find_kept.new.self c.self.inside.pile c.find_kept.new.rows
     (kept own c.args.id c.first_way-first.result c.load_key.new.self c.in-Some.at.way c.find_kept.new.self
@@ -119,7 +119,7 @@ returns-in_default-clause-holds c =
     subst (λ (o : IdHanded). HoldsAnew c.args.id o c.release.new.self found.Absent) c.self.view_is (
       loads.0,
       (
-        subst (λ (t : Token). LooksAlone c.args.id own.ids t None) (sym goes.ids) c.in_default.ensures.looks,
+        subst (λ (t : Token). LooksForWay c.args.id own.ids t None) (sym goes.ids) c.in_default.ensures.looks,
         subst (λ (h : Handed). LetsGo h c.release.new.self.hand)
             (hand_is c.load_key.new.self (with_line_loaded c.args.id loads.0 own).hand.reader own.hand.key
             own.hand.rows

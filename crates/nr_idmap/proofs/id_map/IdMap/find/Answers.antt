@@ -12,7 +12,7 @@ returns-clause-finds g c =
     (c.plan.ensures.value ∙ ap (λ (t : IdTable). t.directory.plan) (c.self.view_is ∙ sym c.requires.own)
     ∙ sym (ap (λ (r : IdCaller). r.ids.directory.plan) c.reader.view_is)) in
     finds_by_id g.R.RowRoom.shows c.args.id c.in-Some.at own c.args.reader.now c.find_in.new.reader
-    c.first_way-first.result c.load_key.new.reader c.look_up_alone.new.ids c.args.rows.now c.find_in.new.rows
+    c.first_way-first.result c.load_key.new.reader c.look_up.new.ids c.args.rows.now c.find_in.new.rows
     c.find_in.result c.reader.view_is line c.load_key.ensures.loads c.in-Some.ensures.looks c.find_in.ensures.finds
 
 pub returns-in_default-clause-finds : goal.returns-in_default-clause-finds
@@ -24,5 +24,5 @@ returns-in_default-clause-finds g c =
     ∙ sym (ap (λ (r : IdCaller). r.ids.directory.plan) c.reader.view_is)) in
     let key : ℕ = c.first_way-first.result in
     let its : key ≡ line_of c.args.id own.ids = line in
-    finds_absent g.R.RowRoom.shows c.args.id own c.args.reader.now key c.load_key.new.reader c.look_up_alone.new.ids
+    finds_absent g.R.RowRoom.shows c.args.id own c.args.reader.now key c.load_key.new.reader c.look_up.new.ids
     c.args.rows.now c.reader.view_is its c.load_key.ensures.loads c.in_default.ensures.looks

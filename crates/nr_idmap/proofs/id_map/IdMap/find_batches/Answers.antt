@@ -1,18 +1,18 @@
-use Rattle.std.proofs.Common.{ℕ, ◌≡◌, ◌+◌, ◌-◌, ◌*◌, ◌/◌, ◌<◌, ◌++◌, ◌∙◌, List, ap, arith, drop, length, min, subst}
+use Rattle.std.proofs.Common.{ℕ, ◌≡◌, ◌+◌, ◌-◌, ◌*◌, ◌/◌, ◌<◌, ◌++◌, ◌∙◌, List, [], ap, arith, drop, length, min, subst}
 use Rattle.std.proofs.Common.{sym, take}
 use Rattle.std.proofs.lemmas.Grind.{div_ceil_times}
 use Rattle.std.proofs.lemmas.List.{drop-drop}
 use Rattle.nr_idmap.specs.declared.wanted.WantedId.{WantedId}
-use Rattle.nr_idmap.specs.IdFindsEach.{FindsBatch, FindsWantedId, LooksUpWanted, batches, in_sixteens}
+use Rattle.nr_idmap.specs.IdFindsEach.{FindsBatch, FindsNext, batches, in_sixteens}
 use Rattle.nr_idmap.specs.InTurn.{InTurn}
 use Rattle.nr_idmap.proofs.Batches.{batch_at, batch_put, many_batches, put_long, rest_put, slice_is}
 use Rattle.nr_idmap.proofs.InTurn.{Made, all_made, in_turn_long, one_more}
-use Rattle.nr_idmap.proofs.id_map.IdMap.find_each.Goals as goal
+use Rattle.nr_idmap.proofs.id_map.IdMap.find_batches.Goals as goal
 
 pub loop-batch-preserved : goal.loop-batch-preserved
 loop-batch-preserved g c =
     let shows = g.R.RowRoom.shows in
-    let first = c.args.reader.now in
+    let first = c.args.hand.now in
     let wanted : List (WantedId g.row.R.Denot) = c.args.wanted.now in
     let ones : List (WantedId g.row.R.Denot) = c.loop-batch.wanted in let had = c.loop-batch.invariant in
     let at : ℕ = c.loop-batch.batch in let begin : ℕ = at * 16 in let count : ℕ = (length wanted + 15) / 16 in
@@ -23,15 +23,14 @@ loop-batch-preserved g c =
     let end : ℕ = c.end_of_batch-end.result in
     let ends : end ≡ begin + min (length ones - begin) 16 = omega (arith, c.end_of_batch-end.ensures, near) in
     let batch : List (WantedId g.row.R.Denot) = take 16 (drop begin ones) in
-    let next = c.find_batch.new.reader in let found : List (WantedId g.row.R.Denot) = c.find_batch.new.wanted in
-    let finds : FindsBatch shows c.loop-batch.reader batch next found
-    = subst (λ (l : List (WantedId g.row.R.Denot)). FindsBatch shows c.loop-batch.reader l next found)
+    let next = c.find_batch.new.hand in let found : List (WantedId g.row.R.Denot) = c.find_batch.new.wanted in
+    let finds : FindsBatch shows c.loop-batch.hand batch next found
+    = subst (λ (l : List (WantedId g.row.R.Denot)). FindsBatch shows c.loop-batch.hand l next found)
     (slice_is at end ones near ends) c.find_batch.ensures.finds in
     let long : length found ≡ length batch
-    = in_turn_long (FindsWantedId shows) _ finds.ways next found finds.finds
-    ∙ in_turn_long LooksUpWanted finds.ahead batch finds.looked finds.ways finds.looks in
+    = in_turn_long (FindsNext shows) (finds.ready, finds.ways) batch (next, []) found finds.finds in
     let more
-    = one_more (FindsBatch shows) first (in_sixteens wanted) at c.loop-batch.reader (batches count ones) had.made
+    = one_more (FindsBatch shows) first (in_sixteens wanted) at c.loop-batch.hand (batches count ones) had.made
     batch
     (omega (arith, many_batches count ones, below)) (sym (batch_at count at ones batch below)) next found finds in
     record {
@@ -51,16 +50,16 @@ loop-batch-preserved g c =
 pub returns-clause-finds : goal.returns-clause-finds
 returns-clause-finds g c =
     let shows = g.R.RowRoom.shows in
-    let first = c.args.reader.now in
+    let first = c.args.hand.now in
     let wanted : List (WantedId g.row.R.Denot) = c.args.wanted.now in
     let ones : List (WantedId g.row.R.Denot) = c.loop-batch.wanted in
     let had = c.loop-batch.invariant in
     let count : ℕ = (length wanted + 15) / 16 in
     let bounds = div_ceil_times (length wanted) 16 (omega arith) in
     subst
-    (λ (n : ℕ). InTurn (FindsBatch shows) first (in_sixteens wanted) c.loop-batch.reader
+    (λ (n : ℕ). InTurn (FindsBatch shows) first (in_sixteens wanted) c.loop-batch.hand
     (batches ((n + 15) / 16) ones))
     (sym had.long)
-    (all_made (FindsBatch shows) first (in_sixteens wanted) c.loop-batch.batch c.loop-batch.reader (batches count ones)
+    (all_made (FindsBatch shows) first (in_sixteens wanted) c.loop-batch.batch c.loop-batch.hand (batches count ones)
     had.made
     (omega (arith, many_batches count ones, bounds.0, bounds.1, c.div_ceil-batch-end.ensures, c.loop-batch-test.false)))
