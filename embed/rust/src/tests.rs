@@ -12,6 +12,7 @@ mod lobby;
 mod many;
 mod net;
 mod panics;
+mod pending;
 mod progress;
 mod reclaiming;
 mod tasks;

@@ -105,7 +105,7 @@ impl<K: Hash + Eq, V, S: BuildHasher> CacheBuilder<K, V, S> {
             let capacity = (self.capacity + number) / count;
             let (ids, readers) = ids::open(&shape(capacity, self.threads))?;
             spare.iter_mut().zip(readers).for_each(|(desk, reader)| desk.push(reader));
-            parts.push(Part::new(expiry, spare.len(), self.listener.clone(), Store::new(ids, expiry)));
+            parts.push(Part::new(expiry, spare.len(), self.listener.clone(), Store::new(ids, capacity, expiry)));
         }
         let spare = spare.into_iter().zip(0..).map(|(ids, number)| Desk::new(ids, number)).collect();
         Ok(Cache { shared: Arc::new(Shared::new(self.hasher, self.capacity, parts, spare)) })

@@ -1,6 +1,7 @@
 //! What a number of the cache refers to.
 use super::expiry::Moment;
 use super::leaving::Cause;
+use super::seats::Seat;
 use std::sync::atomic::AtomicU64;
 use std::thread::{self, ThreadId};
 
@@ -16,6 +17,7 @@ pub(super) struct Entry<K, V> {
     pub touched: AtomicU64,
     /// Which of its part's puts it came by.
     pub turn: u64,
+    pub seat: Seat,
     pub cause: Cause,
 }
 
@@ -27,6 +29,16 @@ impl<K, V> Entry<K, V> {
 
     /// One whose value comes by that thread.
     pub fn of(maker: Option<ThreadId>, id: u64, key: K, value: V, now: Moment) -> Entry<K, V> {
-        Entry { id, key, value, born: now, maker, touched: AtomicU64::new(now), turn: 0, cause: Cause::default() }
+        Entry {
+            id,
+            key,
+            value,
+            born: now,
+            maker,
+            touched: AtomicU64::new(now),
+            turn: 0,
+            seat: 0,
+            cause: Cause::default(),
+        }
     }
 }

@@ -13,6 +13,7 @@ mod own;
 mod part;
 mod reader;
 mod request;
+mod seats;
 mod shared;
 mod stats;
 mod store;
@@ -102,6 +103,13 @@ impl<K: Hash + Eq, V, S: BuildHasher> Cache<K, V, S> {
     /// Takes each key's value, as [`Cache::invalidate`] does one.
     pub fn invalidate_all(&self) {
         with_each(self.shared.parts(), Part::invalidate_all);
+    }
+
+    /// Takes what has expired, and frees what left and nobody sees any more: so values are dropped, or given to the
+    /// listener, without the next write of their part. What a reader borrows stays until a later call. It looks at 64
+    /// entries at a time under their part's lock. Where a value's drop panics, the others go before the panic goes on.
+    pub fn run_pending_tasks(&self) {
+        with_each(self.shared.parts(), Part::run_pending_tasks);
     }
 
     /// How many entries it holds, of which some may have expired.

@@ -1,14 +1,14 @@
 //! One of a cache's parts, which has some of the ids, and a map and a lock of its own.
 use super::counts::Counts;
 use super::entry::Entry;
-use super::expiry::{Expiry, Moment};
+use super::expiry::Expiry;
 use super::flights::{End, Failure, Flight};
 use super::hold::Hold;
 use super::leaving::{Listener, RemovalCause};
 use super::lock::{Lock, Locked};
 use super::stats::CacheStats;
 use super::store::{self, Place, Store};
-use crate::drops::with_each_then;
+use crate::drops::{with_each, with_each_then};
 use crate::ids::IdReader;
 use std::borrow::Borrow;
 use std::sync::Arc;
@@ -118,7 +118,7 @@ impl<K, V> Part<K, V> {
                     let is_of_now = store.is_of_now(&other);
                     return Begun::Wait(other, is_of_now);
                 }
-                store::Begun::Held if self.expire(&mut store, id, now) => continue,
+                store::Begun::Held if store.expire(id, now) => continue,
                 store::Begun::Held if store.find(id).is_some_and(|entry| entry.key.borrow() == key) => {
                     return Begun::Held;
                 }
@@ -127,15 +127,6 @@ impl<K, V> Part<K, V> {
             };
             return Begun::Load(Load { flight, number });
         }
-    }
-
-    /// Takes an id's entry where it has expired.
-    fn expire(&self, store: &mut Store<K, V>, id: u64, now: Moment) -> bool {
-        let is_over = store.find(id).is_some_and(|entry| self.expiry.is_over(entry, now));
-        if is_over {
-            store.expire(id);
-        }
-        is_over
     }
 
     /// The flight of a key, where there is one.
@@ -225,6 +216,15 @@ impl<K, V> Part<K, V> {
 
     pub fn invalidate_all(&self) {
         self.change(Store::invalidate_all);
+    }
+
+    /// Takes what has expired, and frees what left and nobody sees any more.
+    pub fn run_pending_tasks(&self) {
+        if self.expiry.is_set() {
+            let (now, firsts) = (self.expiry.now(), self.store().seats.firsts());
+            with_each(firsts, |first| self.change(|store| store.expire_from(first, now)));
+        }
+        self.change(|_| {});
     }
 
     /// Begins a change of a key in the base: no load that began before its end will be held. Whether the store knows of it,

@@ -3,6 +3,7 @@ use super::entry::Entry;
 use super::expiry::{Expiry, Moment};
 use super::flights::{spread, Flight};
 use super::leaving::RemovalCause;
+use super::seats::Seats;
 use super::stats::CacheStats;
 use crate::ids::{Ids, Miss, Put, Times};
 use std::borrow::Borrow;
@@ -25,6 +26,7 @@ pub(super) fn place_of<K, V>(number: u64) -> Place<K, V> {
 pub(super) struct Store<K, V> {
     ids: Ids,
     expiry: Expiry,
+    pub seats: Seats,
     /// What came out: no reader holds it, and none can find it.
     came_out: Vec<Place<K, V>>,
     /// How many entries were put, and how many when all were invalidated last.
@@ -50,10 +52,11 @@ pub(super) enum Begun<K> {
 }
 
 impl<K, V> Store<K, V> {
-    pub fn new(ids: Ids, expiry: Expiry) -> Store<K, V> {
+    pub fn new(ids: Ids, capacity: usize, expiry: Expiry) -> Store<K, V> {
         Store {
             ids,
             expiry,
+            seats: Seats::new(capacity),
             came_out: Vec::new(),
             turns: 0,
             turns_before: 0,
@@ -169,7 +172,8 @@ impl<K, V> Store<K, V> {
     ) -> PutEntry<K, V> {
         let (wanted, times) = (self.held() + usize::from(is_new), self.expiry.times(entry.born));
         self.turns += 1;
-        entry.turn = self.turns;
+        let seat = self.seats.take(entry.id);
+        (entry.turn, entry.seat) = (self.turns, seat);
         let place = NonNull::from(Box::leak(entry));
         match put(&mut self.ids, place.as_ptr() as u64, times) {
             Put::Held(old) => {
@@ -177,8 +181,11 @@ impl<K, V> Store<K, V> {
                 self.counted.evictions += (wanted - self.held()) as u64;
                 Ok(place)
             }
-            // SAFETY: it is this call's own still.
-            Put::Own => Err(unsafe { Box::from_raw(place.as_ptr()) }),
+            Put::Own => {
+                self.seats.leave(seat);
+                // SAFETY: it is this call's own still.
+                Err(unsafe { Box::from_raw(place.as_ptr()) })
+            }
         }
     }
 
@@ -210,10 +217,22 @@ impl<K, V> Store<K, V> {
         }
     }
 
-    /// Takes an entry that has expired.
-    pub fn expire(&mut self, id: u64) {
-        self.note(id, RemovalCause::Expired);
-        self.counted.evictions += u64::from(self.ids.evict(id));
+    /// Takes the entry of an id where it has expired: whether it had.
+    pub fn expire(&mut self, id: u64, now: Moment) -> bool {
+        let expiry = self.expiry;
+        let is_over = self.find(id).is_some_and(|entry| expiry.is_over(entry, now));
+        if is_over {
+            self.note(id, RemovalCause::Expired);
+            self.counted.evictions += u64::from(self.ids.evict(id));
+        }
+        is_over
+    }
+
+    /// The same of those who sit on a few seats.
+    pub fn expire_from(&mut self, first: usize, now: Moment) {
+        for (_, id) in self.seats.from(first) {
+            self.expire(id, now);
+        }
     }
 
     /// What is loaded for an id will not be held. Its entry stays, but where too much is being changed.
@@ -249,8 +268,13 @@ impl<K, V> Store<K, V> {
         while let Some(number) = self.ids.reap() {
             self.came_out.push(place_of(number));
         }
-        // SAFETY: nobody can see them any more, and each came out once.
-        self.came_out.drain(..).map(|place| unsafe { Box::from_raw(place.as_ptr()) })
+        let seats = &mut self.seats;
+        self.came_out.drain(..).map(|place| {
+            // SAFETY: nobody can see it any more, and it came out once.
+            let entry = unsafe { Box::from_raw(place.as_ptr()) };
+            seats.leave(entry.seat);
+            entry
+        })
     }
 
     /// All entries, of a cache that nobody uses any more: no reader holds one.
