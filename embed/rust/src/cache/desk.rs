@@ -1,9 +1,8 @@
 //! What a reader has of a cache.
+use super::entry::Entry;
 use super::hold::Hold;
-use super::part::Part;
 use super::store::{place_of, Place};
 use crate::ids::IdReader;
-use std::borrow::Borrow;
 
 /// A key's id, and the number of its part.
 #[derive(Clone, Copy)]
@@ -26,13 +25,9 @@ impl Desk {
         Desk { ids: ids.into(), last: 0, number }
     }
 
-    /// Where the entry of a key lies, which stays there while the desk holds it. Without one it holds nothing.
-    pub fn find<K, V, Q>(&mut self, parts: &[Part<K, V>], at: At, key: &Q) -> Option<Place<K, V>>
-    where
-        K: Borrow<Q>,
-        Q: Eq + ?Sized,
-    {
-        let part = &parts[at.part];
+    /// Where the entry of an id lies, if it is the one that is looked for. It stays there while the desk holds it.
+    /// Without one the desk holds nothing.
+    pub fn find_if<K, V>(&mut self, at: At, is_it: impl FnOnce(&Entry<K, V>) -> bool) -> Option<Place<K, V>> {
         let last = std::mem::replace(&mut self.last, at.part);
         if last != at.part {
             self.ids[last].let_go();
@@ -41,14 +36,23 @@ impl Desk {
         let place: Place<K, V> = place_of(reader.find(at.id)?);
         let hold = Hold::had(reader);
         // SAFETY: the reader holds the entry, so it hasn't come out.
-        let entry = unsafe { place.as_ref() };
-        let now = part.expiry.now();
-        if entry.key.borrow() != key || part.expiry.is_over(entry, now) {
+        if !is_it(unsafe { place.as_ref() }) {
             return None;
         }
-        part.expiry.touch(entry, now);
         hold.keep();
         Some(place)
+    }
+
+    /// What `read` makes of the entry of an id, if it is the one that is looked for.
+    pub fn read_if<K, V, R>(
+        &mut self,
+        at: At,
+        is_it: impl FnOnce(&Entry<K, V>) -> bool,
+        read: impl FnOnce(&Entry<K, V>) -> R,
+    ) -> Option<R> {
+        let place = self.find_if(at, is_it)?;
+        // SAFETY: the desk holds the entry until it finds another or lets it go.
+        Some(read(unsafe { place.as_ref() }))
     }
 
     /// The hold of what was found there last.

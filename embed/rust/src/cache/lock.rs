@@ -1,4 +1,4 @@
-//! The lock of a part, under which keys are compared, and values cloned for threads without a reader.
+//! The lock of a part, under which keys are compared, and keys and values cloned for threads without a reader.
 use std::ops::{Deref, DerefMut};
 use std::sync::atomic::{AtomicUsize, Ordering::Relaxed};
 use std::sync::{Mutex, MutexGuard, PoisonError};
@@ -29,7 +29,7 @@ impl<T> Lock<T> {
         // No other thread ever writes this one's number there.
         assert!(
             self.holder.load(Relaxed) != thread,
-            "an `Eq` of a cache's keys, or a `Clone` of its values, calls the cache"
+            "an `Eq` of a cache's keys, or a `Clone` of its keys or values, calls the cache"
         );
         let inner = self.inner.lock().unwrap_or_else(PoisonError::into_inner);
         self.holder.store(thread, Relaxed);

@@ -1,4 +1,5 @@
 //! A cache of values of any type by keys of any type.
+mod all;
 mod builder;
 mod counts;
 mod desk;

@@ -1,4 +1,5 @@
 //! One of a cache's parts, which has some of the ids, and a map and a lock of its own.
+use super::all::Seated;
 use super::counts::Counts;
 use super::entry::Entry;
 use super::expiry::Expiry;
@@ -81,19 +82,45 @@ impl<K, V> Part<K, V> {
         Part { expiry, counts, listener, store: Lock::new(store) }
     }
 
-    /// What `read` makes of a key's value, under the lock: for a thread without a reader.
-    pub fn read<Q: Eq + ?Sized, R>(&self, id: u64, key: &Q, read: impl FnOnce(&V) -> R) -> Option<R>
+    /// Whether an entry is a key's, and hasn't expired: then it was found.
+    pub fn is_found<Q: Eq + ?Sized>(&self, entry: &Entry<K, V>, key: &Q) -> bool
     where
         K: Borrow<Q>,
     {
         let now = self.expiry.now();
-        let mut store = self.store();
-        let entry = store.find(id)?;
         if entry.key.borrow() != key || self.expiry.is_over(entry, now) {
-            return None;
+            return false;
         }
         self.expiry.touch(entry, now);
-        Some(read(&entry.value))
+        true
+    }
+
+    /// What `read` makes of the entry of an id, if it is the one that is looked for, under the lock: for a thread
+    /// without a reader.
+    pub fn read_if<R>(
+        &self,
+        id: u64,
+        is_it: impl FnOnce(&Entry<K, V>) -> bool,
+        read: impl FnOnce(&Entry<K, V>) -> R,
+    ) -> Option<R> {
+        let mut store = self.store();
+        let entry = store.find(id)?;
+        is_it(entry).then(|| read(entry))
+    }
+
+    /// The first of each few seats.
+    pub fn firsts(&self) -> impl Iterator<Item = usize> {
+        self.store().seats.firsts()
+    }
+
+    /// Who sits on these few.
+    pub fn seated(&self, first: usize) -> Vec<Seated> {
+        self.store().seats.from(first)
+    }
+
+    /// Takes of those the ones that sit there still: how many.
+    pub fn invalidate_seated(&self, seated: &[Seated]) -> usize {
+        self.change(|store| seated.iter().filter(|seated| store.invalidate_seated(seated)).count())
     }
 
     /// Counts under the lock, as a thread without a reader does.
@@ -221,8 +248,8 @@ impl<K, V> Part<K, V> {
     /// Takes what has expired, and frees what left and nobody sees any more.
     pub fn run_pending_tasks(&self) {
         if self.expiry.is_set() {
-            let (now, firsts) = (self.expiry.now(), self.store().seats.firsts());
-            with_each(firsts, |first| self.change(|store| store.expire_from(first, now)));
+            let now = self.expiry.now();
+            with_each(self.firsts(), |first| self.change(|store| store.expire_from(first, now)));
         }
         self.change(|_| {});
     }

@@ -231,7 +231,8 @@ impl<K: Hash + Eq, V, S: BuildHasher> CacheReader<K, V, S> {
     where
         K: Borrow<Q>,
     {
-        self.desk.find(self.cache.shared.parts(), at, key)
+        let part = &self.cache.shared.parts()[at.part];
+        self.desk.find_if(at, |entry| part.is_found(entry, key))
     }
 
     /// The same for a get's first look, which is a hit or a miss.

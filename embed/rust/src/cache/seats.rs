@@ -1,4 +1,5 @@
 //! Where a part's entries sit, for calls that go through all of them.
+use super::all::Seated;
 
 /// How many seats are looked at under the lock at a time, so that others get it soon.
 const AT_ONCE: usize = 64;
@@ -39,8 +40,8 @@ impl Seats {
     }
 
     /// Who sits on these few.
-    pub fn from(&self, first: usize) -> Vec<(Seat, u64)> {
-        let few = (first as Seat..).zip(self.ids.iter().copied().skip(first).take(AT_ONCE));
-        few.filter(|(_, id)| *id != 0).collect()
+    pub fn from(&self, first: usize) -> Vec<Seated> {
+        let few = self.ids.iter().zip(0..).skip(first).take(AT_ONCE);
+        few.filter(|(id, _)| **id != 0).map(|(id, seat)| Seated { id: *id, seat }).collect()
     }
 }

@@ -1,4 +1,5 @@
 //! What is under a part's lock: the entries that are held, by the numbers of their places.
+use super::all::Seated;
 use super::entry::Entry;
 use super::expiry::{Expiry, Moment};
 use super::flights::{spread, Flight};
@@ -200,6 +201,15 @@ impl<K, V> Store<K, V> {
         place.map(|place| unsafe { &*place.as_ptr() })
     }
 
+    /// The same of an entry that sits there still: whether it does.
+    pub fn invalidate_seated(&mut self, seated: &Seated) -> bool {
+        let is_there = self.find(seated.id).is_some_and(|entry| entry.seat == seated.seat);
+        if is_there {
+            self.invalidate(seated.id);
+        }
+        is_there
+    }
+
     pub fn invalidate_all(&mut self) {
         self.turns_before = self.turns;
         self.changes.iter_mut().for_each(|changes| *changes += 1);
@@ -230,8 +240,8 @@ impl<K, V> Store<K, V> {
 
     /// The same of those who sit on a few seats.
     pub fn expire_from(&mut self, first: usize, now: Moment) {
-        for (_, id) in self.seats.from(first) {
-            self.expire(id, now);
+        for seated in self.seats.from(first) {
+            self.expire(seated.id, now);
         }
     }
 

@@ -83,7 +83,7 @@ impl<K: Hash + Eq + 'static, V: Clone + 'static, S: BuildHasher + 'static> Cache
         let part = &self.shared.parts()[at.part];
         with_desk(&self.shared, |desk| {
             let Some(desk) = desk else {
-                let found = part.read(at.id, key, V::clone);
+                let found = part.read_if(at.id, |entry| part.is_found(entry, key), |entry| entry.value.clone());
                 part.count(|counted| match found {
                     Some(_) => counted.hits += 1,
                     None => counted.misses += 1,
@@ -91,13 +91,15 @@ impl<K: Hash + Eq + 'static, V: Clone + 'static, S: BuildHasher + 'static> Cache
                 return found;
             };
             let counts = &part.counts[desk.number];
-            let Some(place) = desk.find(self.shared.parts(), at, key) else {
-                counts.count_miss();
-                return None;
+            let read = |entry: &Entry<K, V>| {
+                counts.count_hit();
+                entry.value.clone()
             };
-            counts.count_hit();
-            // SAFETY: the desk holds the entry until it finds another or lets it go.
-            Some(unsafe { place.as_ref() }.value.clone())
+            let found = desk.read_if(at, |entry| part.is_found(entry, key), read);
+            if found.is_none() {
+                counts.count_miss();
+            }
+            found
         })
     }
 
@@ -106,13 +108,20 @@ impl<K: Hash + Eq + 'static, V: Clone + 'static, S: BuildHasher + 'static> Cache
     where
         K: Borrow<Q>,
     {
+        let part = &self.shared.parts()[at.part];
+        self.read_if(at, |entry| part.is_found(entry, key), |entry| read(&entry.value))
+    }
+
+    /// What `read` makes of the entry of an id, if it is the one that is looked for.
+    pub(super) fn read_if<R>(
+        &self,
+        at: At,
+        is_it: impl FnOnce(&Entry<K, V>) -> bool,
+        read: impl FnOnce(&Entry<K, V>) -> R,
+    ) -> Option<R> {
         with_desk(&self.shared, |desk| match desk {
-            None => self.shared.parts()[at.part].read(at.id, key, read),
-            Some(desk) => {
-                let place = desk.find(self.shared.parts(), at, key)?;
-                // SAFETY: the desk holds the entry until it finds another or lets it go.
-                Some(read(&unsafe { place.as_ref() }.value))
-            }
+            None => self.shared.parts()[at.part].read_if(at.id, is_it, read),
+            Some(desk) => desk.read_if(at, is_it, read),
         })
     }
 }

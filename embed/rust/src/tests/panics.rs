@@ -121,7 +121,10 @@ fn a_comparison_that_calls_the_cache_is_told_so() {
     HOOK.set(Some(Rc::new(move || _ = inner.len())));
     let why = catch_unwind(AssertUnwindSafe(|| cache.invalidate(&Key(1)))).expect_err("it doesn't wait for itself");
     HOOK.set(None);
-    assert_eq!(why.downcast_ref(), Some(&"an `Eq` of a cache's keys, or a `Clone` of its values, calls the cache"));
+    assert_eq!(
+        why.downcast_ref(),
+        Some(&"an `Eq` of a cache's keys, or a `Clone` of its keys or values, calls the cache")
+    );
     assert!(cache.is_empty() && cache.insert(Key(1), 3));
     assert_eq!(cache.reader().unwrap().get(&Key(1)).as_deref(), Some(&3));
 }
