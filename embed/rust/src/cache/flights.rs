@@ -144,6 +144,12 @@ pub(super) struct Ended<K> {
     number: Option<u64>,
 }
 
+impl<K> Ended<K> {
+    pub fn flight(&self) -> &Flight<K> {
+        &self.flight
+    }
+}
+
 impl<K> Future for Ended<K> {
     type Output = End;
 

@@ -21,6 +21,7 @@ mod store;
 mod tasks;
 mod threads;
 mod view;
+mod wait;
 
 pub use builder::CacheBuilder;
 pub use leaving::RemovalCause;
@@ -28,6 +29,7 @@ pub use reader::{CacheReader, CacheRef, LoadError, WaitError};
 pub use request::{Request, Sought};
 pub use stats::CacheStats;
 pub use view::{Change, View};
+pub use wait::Wait;
 
 use crate::drops::with_each;
 use entry::Entry;

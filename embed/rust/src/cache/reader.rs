@@ -8,7 +8,7 @@ use super::part::{Begun, Failing, Landed, Part};
 use super::request::{Request, Sought};
 use super::shared::Shared;
 use super::store::Place;
-use super::Cache;
+use super::{Cache, Wait};
 use std::borrow::Borrow;
 use std::collections::hash_map::RandomState;
 use std::convert::Infallible;
@@ -106,7 +106,7 @@ impl<K: Hash + Eq, V, S: BuildHasher> CacheReader<K, V, S> {
 
     /// The value of a key, or its request, which one caller gets until it is filled or has failed: for loads in a pool or
     /// in a thread of their own.
-    pub fn get_or_request<Q>(&mut self, key: &Q) -> Sought<'_, K, V, S>
+    pub fn get_or_request<Q>(&mut self, key: &Q) -> Sought<CacheRef<'_, K, V>, K, V, S>
     where
         K: Borrow<Q>,
         Q: Hash + Eq + ToOwned<Owned = K> + ?Sized,
@@ -119,7 +119,7 @@ impl<K: Hash + Eq, V, S: BuildHasher> CacheReader<K, V, S> {
             }
             match self.begin(at, key) {
                 Begun::Held => found = self.find(at, key),
-                Begun::Wait(..) => return Sought::UnderWay,
+                Begun::Wait(flight, _) => return Sought::UnderWay(Wait::of(self.cache.clone(), flight)),
                 Begun::Load(load) => return Sought::Missing(Request::of(self.cache.clone(), load)),
             }
         }

@@ -2,7 +2,7 @@
 use super::entry::Entry;
 use super::flights::{Cause, Failure};
 use super::part::{Landed, Load, Part};
-use super::{Cache, CacheRef};
+use super::{Cache, Wait};
 use std::collections::hash_map::RandomState;
 use std::error::Error;
 use std::fmt;
@@ -59,13 +59,14 @@ impl<K: Hash + Eq + fmt::Debug, V, S: BuildHasher> fmt::Debug for Request<K, V, 
     }
 }
 
-/// What is known of a key.
+/// What is known of a key, whose value is told by a `T`: a [`CacheRef`](super::CacheRef), or a clone.
 #[derive(Debug)]
-pub enum Sought<'a, K: Hash + Eq, V, S: BuildHasher = RandomState> {
+pub enum Sought<T, K: Hash + Eq, V, S: BuildHasher = RandomState> {
     /// The cache holds its value.
-    Held(CacheRef<'a, K, V>),
+    Held(T),
     /// It is missing, and this caller alone has its request, which is to be filled.
     Missing(Request<K, V, S>),
-    /// It is missing, and another loads it.
-    UnderWay,
+    /// It is missing, and another loads it: a task awaits that, a thread may wait by
+    /// [`CacheReader::get_waiting`](super::CacheReader::get_waiting), and who does neither drops it.
+    UnderWay(Wait<K, V, S>),
 }

@@ -33,7 +33,11 @@ impl<K, V, S> Shared<K, V, S> {
     where
         S: BuildHasher,
     {
-        let id = self.id_of(key);
+        self.at_id(self.id_of(key))
+    }
+
+    /// Where an id's entry is looked for.
+    pub fn at_id(&self, id: u64) -> At {
         At { id, part: self.number_of(id) }
     }
 

@@ -4,7 +4,8 @@ use super::entry::Entry;
 use super::flights::{End, Failure};
 use super::own::with_desk;
 use super::part::{Begun, Failing, Load, Part};
-use super::Cache;
+use super::request::{Request, Sought};
+use super::{Cache, Wait};
 use std::borrow::Borrow;
 use std::convert::Infallible;
 use std::hash::{BuildHasher, Hash};
@@ -72,6 +73,27 @@ impl<K: Hash + Eq + 'static, V: Clone + 'static, S: BuildHasher + 'static> Cache
                 Begun::Held => {}
             }
             found = self.read(at, key, V::clone);
+        }
+    }
+
+    /// A clone of a key's value, or its request, which one caller gets until it is filled or has failed, or the load
+    /// that is under way: for loads in a pool, or in a task of their own.
+    pub fn get_or_request<Q>(&self, key: &Q) -> Sought<V, K, V, S>
+    where
+        K: Borrow<Q>,
+        Q: Hash + Eq + ToOwned<Owned = K> + ?Sized,
+    {
+        let at = self.shared.at(key);
+        let mut found = self.look(at, key);
+        loop {
+            if let Some(value) = found {
+                return Sought::Held(value);
+            }
+            match self.shared.parts()[at.part].begin(at.id, key, key.to_owned()) {
+                Begun::Held => found = self.read(at, key, V::clone),
+                Begun::Wait(flight, _) => return Sought::UnderWay(Wait::of(self.clone(), flight)),
+                Begun::Load(load) => return Sought::Missing(Request::of(self.clone(), load)),
+            }
         }
     }
 

@@ -160,7 +160,7 @@ fn a_request_is_one_callers_until_it_is_filled_or_fails() {
     let mut reader = cache.reader().unwrap();
     let mut other = cache.reader().unwrap();
     let Sought::Missing(request) = reader.get_or_request(&1) else { panic!() };
-    assert!(*request.key() == 1 && matches!(other.get_or_request(&1), Sought::UnderWay));
+    assert!(*request.key() == 1 && matches!(other.get_or_request(&1), Sought::UnderWay(_)));
     thread::scope(|scope| {
         scope.spawn(|| assert_eq!(reader.get_waiting(&1, LONG).unwrap_err().to_string(), "the base is away"));
         until_so_many_wait(&cache, 1);

@@ -207,4 +207,88 @@ fn tasks_may_go_from_thread_to_thread() {
     let mut found = pin!(found);
     let mut context = Context::from_waker(Waker::noop());
     assert_eq!(found.as_mut().poll(&mut context), Poll::Ready(Ok("value".into())));
+    let _request = goes(cache.get_or_request("other"));
+    let Sought::UnderWay(wait) = goes(cache.get_or_request("other")) else { panic!("it is under way") };
+    assert!(pin!(goes(wait)).poll(&mut context).is_pending());
+}
+
+type Waits<const N: usize> = [Task<'static, Result<u64, WaitError>>; N];
+
+/// The request of a key, and those who wait for it.
+fn waited_for<const N: usize>(cache: &Cache<u64, u64>) -> (Request<u64, u64>, Waits<N>) {
+    let Sought::Missing(request) = cache.get_or_request(&1) else { panic!("nobody has asked before") };
+    let waits = [(); N].map(|()| {
+        let Sought::UnderWay(wait) = cache.get_or_request(&1) else { panic!("it is under way") };
+        assert_eq!(*wait.key(), 1);
+        Task::of(wait)
+    });
+    (request, waits)
+}
+
+#[test]
+fn tasks_wait_for_a_request() {
+    let cache = cache();
+    let (request, mut waits) = waited_for::<3>(&cache);
+    // A task that is polled twice waits once.
+    assert!(waits.iter_mut().flat_map(|wait| [wait.poll(), wait.poll()]).all(|gave| gave.is_none()));
+    assert_eq!(cache.stats().waits, 3);
+    waits[1].cancel();
+    assert!(request.fill(7));
+    assert_eq!(waits.each_ref().map(Task::wakes), [1, 0, 1]);
+    let [first, _, last] = &mut waits;
+    assert_eq!((first.poll().unwrap().unwrap(), last.poll().unwrap().unwrap()), (7, 7));
+    assert!(matches!(cache.get_or_request(&1), Sought::Held(7)));
+}
+
+#[test]
+fn tasks_are_told_why_a_request_failed() {
+    let cache = cache();
+    let (request, [mut early, mut late]) = waited_for(&cache);
+    assert!(early.poll().is_none());
+    request.fail("the base is away");
+    // One that was not polled before is told too.
+    for wait in [&mut early, &mut late] {
+        assert_eq!(wait.poll().unwrap().unwrap_err().to_string(), "the base is away");
+    }
+    let (request, [mut wait]) = waited_for(&cache);
+    assert!(wait.poll().is_none());
+    drop(request);
+    assert!(matches!(wait.poll(), Some(Err(WaitError::Failed(None)))));
+}
+
+#[test]
+fn what_is_not_held_is_missing_to_tasks_that_wait() {
+    let cache = cache();
+    let (request, [mut wait]) = waited_for(&cache);
+    assert!(wait.poll().is_none() && !cache.invalidate(&1));
+    assert!(!request.fill(7));
+    assert!(matches!(wait.poll(), Some(Err(WaitError::Missing))));
+    let Sought::Missing(request) = cache.get_or_request(&1) else { panic!("nobody loads it") };
+    assert!(request.fill(8));
+}
+
+#[test]
+fn requests_and_waits_are_had_by_a_reader_too() {
+    let cache = cache();
+    let mut reader = cache.reader().unwrap();
+    let Sought::Missing(request) = reader.get_or_request(&1) else { panic!("nobody has asked before") };
+    let Sought::UnderWay(wait) = reader.get_or_request(&1) else { panic!("it is under way") };
+    // They go on without it, and without other handles of the cache.
+    drop((reader, cache));
+    let (mut wait, fills) = (Task::of(wait), thread::spawn(move || request.fill(7)));
+    assert!(fills.join().unwrap());
+    assert_eq!(wait.poll().unwrap().unwrap(), 7);
+}
+
+#[test]
+fn a_task_that_waits_holds_no_value() {
+    let cache: Cache<u64, Arc<()>> = cache();
+    let value = Arc::new(());
+    let Sought::Missing(request) = cache.get_or_request(&1) else { panic!("nobody has asked before") };
+    let Sought::UnderWay(wait) = cache.get_or_request(&1) else { panic!("it is under way") };
+    let mut wait = Task::of(wait);
+    assert!(wait.poll().is_none() && request.fill(value.clone()));
+    assert!(cache.invalidate(&1));
+    assert_eq!(Arc::strong_count(&value), 1);
+    assert!(matches!(wait.poll(), Some(Err(WaitError::Missing))));
 }

@@ -166,7 +166,7 @@ impl Client<'_> {
         match self.reader.get_or_request(&key) {
             Sought::Held(found) => found.look(key, floor),
             Sought::Missing(request) => _ = self.pool.send(request),
-            Sought::UnderWay => {}
+            Sought::UnderWay(_) => {}
         }
     }
 
