@@ -1,9 +1,9 @@
 //! Tasks of tokio share a cache with fewer readers than threads: each gets the value of its key, whichever of them are
-//! cancelled while they load or wait, and no two load one key at a time. So it is where a task of its own loads for
-//! all.
+//! cancelled while they load or wait, and no two load one key at a time, unless it was invalidated between. So it is
+//! where a task of its own loads for all.
 use nr::{Cache, Request, Sought, WaitError};
-use std::sync::atomic::{AtomicBool, AtomicUsize, Ordering::SeqCst};
-use std::sync::Arc;
+use std::sync::atomic::{AtomicUsize, Ordering::SeqCst};
+use std::sync::{Arc, Mutex};
 use std::time::Duration;
 use tokio::runtime::{Builder, Runtime};
 use tokio::sync::mpsc;
@@ -14,32 +14,70 @@ const KEYS: usize = 40;
 const TASKS: usize = 64;
 const ROUNDS: usize = 100;
 
+/// How many invalidations of a key have begun and ended, and what loads it: each load by how many had ended before its
+/// get.
+#[derive(Default)]
+struct Key {
+    begun: AtomicUsize,
+    ended: AtomicUsize,
+    loads: Mutex<Vec<usize>>,
+}
+
 struct Base {
     cache: Cache<usize, Arc<usize>>,
-    is_loaded: [AtomicBool; KEYS],
+    keys: [Key; KEYS],
     loads: AtomicUsize,
     failures: AtomicUsize,
 }
 
-/// Of one load of a key at a time; it may be dropped before its end.
-struct Loading<'a>(&'a AtomicBool);
+/// A load, which may be dropped before its end.
+struct Loading<'a> {
+    key: &'a Key,
+    ended: usize,
+}
 
 impl<'a> Loading<'a> {
-    fn of(is_loaded: &'a AtomicBool) -> Loading<'a> {
-        assert!(!is_loaded.swap(true, SeqCst), "two load one key at a time");
-        Loading(is_loaded)
+    fn of(key: &'a Key, ended: usize) -> Loading<'a> {
+        let mut others = key.loads.lock().unwrap();
+        let begun = key.begun.load(SeqCst);
+        // Since both gets began the key was not invalidated.
+        let overlap = ended == begun && others.contains(&begun);
+        assert!(!overlap, "two load one key at a time");
+        others.push(ended);
+        Loading { key, ended }
     }
 }
 
 impl Drop for Loading<'_> {
     fn drop(&mut self) {
-        assert!(self.0.swap(false, SeqCst));
+        let mut all = self.key.loads.lock().unwrap();
+        let place = all.iter().position(|ended| *ended == self.ended).expect("it is among them");
+        all.swap_remove(place);
     }
 }
 
 impl Base {
-    async fn query(&self, key: usize, how: usize) -> Result<Arc<usize>, usize> {
-        let _loading = Loading::of(&self.is_loaded[key]);
+    fn new() -> Base {
+        Base {
+            cache: Cache::builder().capacity(KEYS / 2).threads(2).open().unwrap(),
+            keys: std::array::from_fn(|_| Key::default()),
+            loads: AtomicUsize::new(0),
+            failures: AtomicUsize::new(0),
+        }
+    }
+
+    fn ended(&self, key: usize) -> usize {
+        self.keys[key].ended.load(SeqCst)
+    }
+
+    fn invalidate(&self, key: usize) {
+        self.keys[key].begun.fetch_add(1, SeqCst);
+        self.cache.invalidate(&key);
+        self.keys[key].ended.fetch_add(1, SeqCst);
+    }
+
+    async fn query(&self, key: usize, how: usize, ended: usize) -> Result<Arc<usize>, usize> {
+        let _loading = Loading::of(&self.keys[key], ended);
         self.loads.fetch_add(1, SeqCst);
         match how % 3 {
             0 => yield_now().await,
@@ -58,7 +96,7 @@ async fn gets(base: Arc<Base>, task: usize) {
     for round in 0..ROUNDS {
         let step = task * ROUNDS + round;
         let key = step * 31 % KEYS;
-        let get = base.cache.try_get_with_async(&key, base.query(key, step));
+        let get = base.cache.try_get_with_async(&key, base.query(key, step, base.ended(key)));
         // Each fourth is cancelled where it takes longer than that.
         let got = if step % 4 == 0 {
             match timeout(Duration::from_micros(step as u64 % 300), get).await {
@@ -73,19 +111,20 @@ async fn gets(base: Arc<Base>, task: usize) {
             Err(why) => assert_eq!(*why, key),
         }
         if step % 5 == 0 {
-            base.cache.invalidate(&key);
+            base.invalidate(key);
         }
     }
 }
 
-type Requests = mpsc::UnboundedSender<Request<usize, Arc<usize>>>;
+/// A request, and how many invalidations of its key had ended before it was asked for.
+struct Wanted(Request<usize, Arc<usize>>, usize);
 
 /// Loads what is requested, one after another: fills some requests, fails others, and drops the rest.
-async fn fills(base: Arc<Base>, mut requests: mpsc::UnboundedReceiver<Request<usize, Arc<usize>>>) {
+async fn fills(base: Arc<Base>, mut wanted: mpsc::UnboundedReceiver<Wanted>) {
     let mut step = 0;
-    while let Some(request) = requests.recv().await {
+    while let Some(Wanted(request, ended)) = wanted.recv().await {
         step += 1;
-        match base.query(*request.key(), step).await {
+        match base.query(*request.key(), step, ended).await {
             Ok(value) => _ = request.fill(value),
             Err(_) if step % 2 == 0 => request.fail("the base is away"),
             Err(_) => drop(request),
@@ -93,24 +132,25 @@ async fn fills(base: Arc<Base>, mut requests: mpsc::UnboundedReceiver<Request<us
     }
 }
 
-async fn requests(base: Arc<Base>, task: usize, loader: Requests) {
+async fn requests(base: Arc<Base>, task: usize, loader: mpsc::UnboundedSender<Wanted>) {
     for round in 0..ROUNDS {
         let step = task * ROUNDS + round;
         let key = step * 31 % KEYS;
         let value = requested(&base, key, step, &loader).await;
         assert!(value.is_none_or(|value| *value == 10 * key));
         if step % 5 == 0 {
-            base.cache.invalidate(&key);
+            base.invalidate(key);
         }
     }
 }
 
 /// A key's value, which the loader is asked for where nobody has asked; none where a wait was cancelled.
-async fn requested(base: &Base, key: usize, step: usize, loader: &Requests) -> Option<Arc<usize>> {
+async fn requested(base: &Base, key: usize, step: usize, loader: &mpsc::UnboundedSender<Wanted>) -> Option<Arc<usize>> {
     loop {
+        let ended = base.ended(key);
         match base.cache.get_or_request(&key) {
             Sought::Held(value) => return Some(value),
-            Sought::Missing(request) => _ = loader.send(request),
+            Sought::Missing(request) => _ = loader.send(Wanted(request, ended)),
             Sought::UnderWay(wait) if step % 4 == 0 => {
                 let waited = timeout(Duration::from_micros(step as u64 % 300), wait).await;
                 return waited.ok()?.ok();
@@ -126,12 +166,7 @@ async fn requested(base: &Base, key: usize, step: usize, loader: &Requests) -> O
 
 /// Tasks, of which each makes its own loads, or asks a task that loads for all.
 fn try_by(runtime: Runtime, one_loads: bool) {
-    let base = Arc::new(Base {
-        cache: Cache::builder().capacity(KEYS / 2).threads(2).open().unwrap(),
-        is_loaded: [const { AtomicBool::new(false) }; KEYS],
-        loads: AtomicUsize::new(0),
-        failures: AtomicUsize::new(0),
-    });
+    let base = Arc::new(Base::new());
     runtime.block_on(async {
         let (loader, wanted) = mpsc::unbounded_channel();
         let mut tasks = vec![tokio::spawn(fills(base.clone(), wanted))];

@@ -62,8 +62,8 @@ pub struct Times {
 pub enum Miss {
     /// The id has a number by now.
     Held,
-    /// It is loaded, by a flight with this mark.
-    Wait(u64),
+    /// It is loaded.
+    Wait,
     /// The caller loads it, by the flight of this number.
     Load(u64),
     /// As many flights are under way as there is room for.
@@ -143,12 +143,12 @@ impl Ids {
     }
 
     /// Begins the load of an id that has neither a number nor a load.
-    pub fn begin(&mut self, id: u64, mark: u64) -> Miss {
+    pub fn begin(&mut self, id: u64) -> Miss {
         let mut flight = Loading::default();
         // SAFETY: the handle is live, and the flight is laid out as the header's.
-        match unsafe { ffi::nr_cache_begin(&mut self.handle, id, mark, &mut flight) } {
+        match unsafe { ffi::nr_cache_begin(&mut self.handle, id, 0, &mut flight) } {
             ffi::NR_SEND => Miss::Load(flight.number),
-            ffi::NR_WAITING => Miss::Wait(flight.mark),
+            ffi::NR_WAITING => Miss::Wait,
             ffi::NR_ROWS => Miss::Held,
             _ => Miss::Full,
         }

@@ -12,6 +12,7 @@ mod loaders;
 mod lobby;
 mod many;
 mod net;
+mod outdated;
 mod panics;
 mod pending;
 mod progress;

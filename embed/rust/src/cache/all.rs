@@ -45,11 +45,12 @@ impl<K: Hash + Eq + Clone + 'static, V: Clone + 'static, S: BuildHasher + 'stati
     }
 
     /// Takes each entry of which the predicate holds, as [`Cache::invalidate`] does one: how many. It is asked of those
-    /// that [`Cache::iter`] gives, and of no load that is under way, whose value may come afterwards. No lock is held
-    /// meanwhile, so it may call the cache; where no reader is free, it is asked of clones, which are made under the
-    /// lock. Where it panics, or the drop of a value, that goes on at the end: the entries next to that one, 64 at
-    /// most, may be left then.
+    /// that [`Cache::iter`] gives. No load that began before this call will be held, since its value can't be asked of.
+    /// No lock is held while the predicate runs, so it may call the cache; where no reader is free, it is asked of
+    /// clones, which are made under the lock. Where it panics, or the drop of a value, that goes on at the end: the
+    /// entries next to that one, 64 at most, may be left then.
     pub fn invalidate_entries_if(&self, mut predicate: impl FnMut(&K, &V) -> bool) -> usize {
+        with_each(self.shared.parts(), Part::outdate_all);
         let mut taken = 0;
         with_each(self.few_by_few(), |mut few| {
             few.seated.retain(|seated| self.holds_of(few.part, *seated, &mut predicate));

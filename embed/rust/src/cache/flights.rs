@@ -4,7 +4,6 @@ use std::any::Any;
 use std::error::Error;
 use std::future::Future;
 use std::pin::Pin;
-use std::sync::atomic::AtomicU64;
 use std::sync::{Arc, Condvar, Mutex, MutexGuard, OnceLock, PoisonError};
 use std::task::{Context, Poll, Waker};
 use std::time::Instant;
@@ -42,12 +41,10 @@ impl Failure {
 /// How often who waits looks for the end before it sleeps: about as long as a sleep and a wake-up take.
 const LOOKS: u32 = 100;
 
-/// One load of one key: its loader ends it, and the others wait for that.
+/// One load of one key: its loader ends it, or who outdates it, and the others wait for that.
 pub(super) struct Flight<K> {
     id: u64,
     key: K,
-    /// How often its id had been invalidated, put or changed when it began, as its store counts.
-    pub changes: AtomicU64,
     end: OnceLock<End>,
     waiting: Mutex<Waiting>,
     ended: Condvar,
@@ -63,17 +60,18 @@ struct Waiting {
     tasks_ever: u64,
 }
 
-/// How a load ended.
+/// How a load ended for those who wait.
 #[derive(Clone)]
 pub(super) enum End {
     Loaded,
     Failed(Failure),
+    /// What it gives will not be held, so nobody waits for it any more.
+    Outdated,
 }
 
 impl<K> Flight<K> {
     pub fn new(id: u64, key: K) -> Flight<K> {
-        let changes = AtomicU64::new(0);
-        Flight { id, key, changes, end: OnceLock::new(), waiting: Mutex::default(), ended: Condvar::new() }
+        Flight { id, key, end: OnceLock::new(), waiting: Mutex::default(), ended: Condvar::new() }
     }
 
     pub fn id(&self) -> u64 {

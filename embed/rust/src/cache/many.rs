@@ -73,7 +73,7 @@ impl<K: Hash + Eq + 'static, V: Clone + 'static, S: BuildHasher + 'static> Cache
             match part.begin(at.id, *key, (*key).to_owned()) {
                 Begun::Held => *value = self.read(at, *key, V::clone),
                 Begun::Load(load) => missing.own.push(Own { place, part, load }),
-                Begun::Wait(flight, _) => {
+                Begun::Wait(flight) => {
                     part.count(|counted| counted.waits += 1);
                     missing.others.push(flight);
                 }

@@ -20,6 +20,7 @@ mod stats;
 mod store;
 mod tasks;
 mod threads;
+mod under_way;
 mod view;
 mod wait;
 
@@ -85,16 +86,18 @@ impl<K: Hash + Eq, V, S: BuildHasher> Cache<K, V, S> {
         Some(CacheReader::of(desk, self.clone()))
     }
 
-    /// Puts a value in place of what its key has, or another key of its hash. A load that is under way for the key will not
-    /// be held. Whether the cache holds the value: it doesn't during a [`Change`].
+    /// Puts a value in place of what its key has, or another key of its hash. A load that is under way for the key will
+    /// not be held, and nobody waits for it any more. Whether the cache holds the value: it doesn't during a
+    /// [`Change`].
     pub fn insert(&self, key: K, value: V) -> bool {
         let id = self.shared.id_of(&key);
         let part = self.shared.part_of(id);
         part.put(Box::new(Entry::new(id, key, value, part.expiry.now())))
     }
 
-    /// Takes a key's value, and another's of its hash: whether the key had one. No get that begins after this has returned
-    /// sees it, nor what a load gives that began before.
+    /// Takes a key's value, and another's of its hash: whether the key had one. No get that begins after this has
+    /// returned sees it, nor what a load gives that began before, nor waits for such a load: it begins one of its own
+    /// beside it. Those who wait for it look again.
     pub fn invalidate<Q: Hash + Eq + ?Sized>(&self, key: &Q) -> bool
     where
         K: Borrow<Q>,

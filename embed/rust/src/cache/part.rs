@@ -12,6 +12,7 @@ use super::store::{self, Place, Store};
 use crate::drops::{with_each, with_each_then};
 use crate::ids::IdReader;
 use std::borrow::Borrow;
+use std::sync::atomic::{AtomicBool, Ordering::Relaxed};
 use std::sync::Arc;
 
 /// Apart from the lines of the others.
@@ -33,8 +34,8 @@ unsafe impl<K: Send + Sync, V: Send + Sync> Sync for Part<K, V> {}
 pub(super) enum Begun<K> {
     /// The key is held by now.
     Held,
-    /// Another loads it, and its key has not changed since that began, or it may have.
-    Wait(Arc<Flight<K>>, bool),
+    /// Another loads it, and its key has not changed since that began.
+    Wait(Arc<Flight<K>>),
     /// The caller loads it.
     Load(Load<K>),
 }
@@ -44,6 +45,8 @@ pub(super) enum Begun<K> {
 pub(super) struct Load<K> {
     flight: Arc<Flight<K>>,
     number: Option<u64>,
+    /// Whether its caller has ended it.
+    is_over: AtomicBool,
 }
 
 impl<K> Load<K> {
@@ -53,6 +56,11 @@ impl<K> Load<K> {
 
     pub fn key(&self) -> &K {
         self.flight.key()
+    }
+
+    fn end(&self, how: End) {
+        self.is_over.store(true, Relaxed);
+        self.flight.end(how);
     }
 }
 
@@ -141,10 +149,7 @@ impl<K, V> Part<K, V> {
         loop {
             let number = match store.begin(&flight) {
                 store::Begun::Load(number) => Some(number),
-                store::Begun::Wait(other) if other.key().borrow() == key => {
-                    let is_of_now = store.is_of_now(&other);
-                    return Begun::Wait(other, is_of_now);
-                }
+                store::Begun::Wait(other) if other.key().borrow() == key => return Begun::Wait(other),
                 store::Begun::Held if store.expire(id, now) => continue,
                 store::Begun::Held if store.find(id).is_some_and(|entry| entry.key.borrow() == key) => {
                     return Begun::Held;
@@ -152,7 +157,7 @@ impl<K, V> Part<K, V> {
                 // Another key has the id, or too many are loaded.
                 store::Begun::Held | store::Begun::Wait(_) | store::Begun::Full => None,
             };
-            return Begun::Load(Load { flight, number });
+            return Begun::Load(Load { flight, number, is_over: AtomicBool::new(false) });
         }
     }
 
@@ -161,7 +166,7 @@ impl<K, V> Part<K, V> {
     where
         K: Borrow<Q>,
     {
-        let flight = self.store().flight_of(id)?;
+        let flight = self.store().under_way.of(id)?;
         (flight.key().borrow() == key).then_some(flight)
     }
 
@@ -174,7 +179,7 @@ impl<K, V> Part<K, V> {
                 store.counted.refused += 1;
                 return Landed::Own(entry);
             };
-            match store.land(&load.flight, number, entry) {
+            match store.land(number, entry) {
                 Ok(place) => {
                     // Under the lock, so that nobody takes it out before.
                     hold = reader.map(|reader| Hold::of(reader, load.id()));
@@ -186,7 +191,7 @@ impl<K, V> Part<K, V> {
                 }
             }
         };
-        let landed = self.change_then(land, || load.flight.end(End::Loaded));
+        let landed = self.change_then(land, || load.end(End::Loaded));
         if let Some(hold) = hold {
             hold.keep();
         }
@@ -198,15 +203,15 @@ impl<K, V> Part<K, V> {
         let fail = |store: &mut Store<K, V>| {
             store.counted.failures += 1;
             if let Some(number) = load.number {
-                store.fail(&load.flight, number);
+                store.fail(number);
             }
         };
-        self.change_then(fail, || load.flight.end(End::Failed(why)));
+        self.change_then(fail, || load.end(End::Failed(why)));
     }
 
-    /// Ends a flight without a value where it hasn't ended yet.
+    /// Ends a flight without a value where its caller hasn't ended it yet.
     pub fn fail(&self, load: &Load<K>) {
-        if !load.flight.has_ended() {
+        if !load.is_over.load(Relaxed) {
             self.crash(load, Failure::Unsaid);
         }
     }
@@ -237,8 +242,13 @@ impl<K, V> Part<K, V> {
     }
 
     /// What is loaded for an id will not be held.
-    pub fn revoke(&self, id: u64) {
-        self.store().revoke(id);
+    pub fn outdate(&self, id: u64) {
+        self.change(|store| store.outdate(id));
+    }
+
+    /// The same of all ids.
+    pub fn outdate_all(&self) {
+        self.change(Store::outdate_all);
     }
 
     pub fn invalidate_all(&self) {
@@ -319,17 +329,18 @@ impl<K, V> Part<K, V> {
         self.change_then(change, || {})
     }
 
-    /// The same, and does something before that, of which a part may panic.
+    /// The same, and tells before that whose loads were outdated, and does something else, of which a part may panic.
     fn change_then<R>(&self, change: impl FnOnce(&mut Store<K, V>) -> R, then: impl FnOnce()) -> R {
         // With room for as many as there are most often, so that none is made under the lock.
         let mut doomed = Vec::with_capacity(2);
-        let (result, causes) = {
+        let (result, causes, outdated) = {
             let mut store = self.store();
             let result = change(&mut store);
             doomed.extend(store.reap());
-            (result, self.causes_of(&store, &doomed))
+            (result, self.causes_of(&store, &doomed), store.under_way.take_outdated())
         };
         then();
+        with_each(outdated, |flight| flight.end(End::Outdated));
         let mut causes = causes.into_iter();
         with_each_then(doomed, result, |entry| match (&self.listener, causes.next()) {
             (Some(listener), Some(cause)) => listener(entry.key, entry.value, cause),

@@ -119,7 +119,7 @@ impl<K: Hash + Eq, V, S: BuildHasher> CacheReader<K, V, S> {
             }
             match self.begin(at, key) {
                 Begun::Held => found = self.find(at, key),
-                Begun::Wait(flight, _) => return Sought::UnderWay(Wait::of(self.cache.clone(), flight)),
+                Begun::Wait(flight) => return Sought::UnderWay(Wait::of(self.cache.clone(), flight)),
                 Begun::Load(load) => return Sought::Missing(Request::of(self.cache.clone(), load)),
             }
         }
@@ -140,7 +140,7 @@ impl<K: Hash + Eq, V, S: BuildHasher> CacheReader<K, V, S> {
             match flight.wait(Instant::now().checked_add(timeout)) {
                 None => return Err(WaitError::TimedOut),
                 Some(End::Failed(why)) => return Err(WaitError::Failed(why.said())),
-                Some(End::Loaded) => {}
+                Some(End::Loaded | End::Outdated) => {}
             }
         }
         let place = self.find(at, key).ok_or(WaitError::Missing)?;
@@ -157,7 +157,7 @@ impl<K: Hash + Eq, V, S: BuildHasher> CacheReader<K, V, S> {
         let at = self.shared().at(key);
         // A load that began before this call may have read what was to be changed. Once it is revoked, what is found here is
         // changed, and what isn't is loaded by later loads alone.
-        self.part(at).revoke(at.id);
+        self.part(at).outdate(at.id);
         while let Some(place) = self.find(at, key) {
             let part = &self.cache.shared.parts()[at.part];
             let old = CacheRef(Borrowed::Held(place, self.desk.hold(at)));
@@ -193,7 +193,7 @@ impl<K: Hash + Eq, V, S: BuildHasher> CacheReader<K, V, S> {
         let own = loop {
             match self.begin(at, key) {
                 Begun::Load(own) => break own,
-                Begun::Wait(flight, _) => {
+                Begun::Wait(flight) => {
                     self.counts(at).count_wait();
                     if flight.wait(until).is_none() {
                         return Err(LoadError::TimedOut);

@@ -8,8 +8,8 @@ use std::error::Error;
 use std::fmt;
 use std::hash::{BuildHasher, Hash};
 
-/// The load of a missing key, for a pool or a dataflow's thread: its key's others wait until it is filled. Dropped without
-/// that it has failed.
+/// The load of a missing key, for a pool or a dataflow's thread: its key's others wait until it is filled, or until the
+/// key is invalidated, put or changed. Dropped without that it has failed. Forgotten, it ends by the latter alone.
 #[must_use = "dropped, the load has failed"]
 pub struct Request<K: Hash + Eq, V, S: BuildHasher = RandomState> {
     cache: Cache<K, V, S>,

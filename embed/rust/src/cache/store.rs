@@ -2,16 +2,15 @@
 use super::all::Seated;
 use super::entry::Entry;
 use super::expiry::{Expiry, Moment};
-use super::flights::{spread, Flight};
+use super::flights::Flight;
 use super::leaving::RemovalCause;
 use super::seats::Seats;
 use super::stats::CacheStats;
+use super::under_way::UnderWay;
 use crate::ids::{Ids, Miss, Put, Times};
 use std::borrow::Borrow;
-use std::marker::PhantomData;
 use std::panic::{catch_unwind, resume_unwind, AssertUnwindSafe};
 use std::ptr::NonNull;
-use std::sync::atomic::Ordering::Relaxed;
 use std::sync::Arc;
 
 pub(super) type Place<K, V> = NonNull<Entry<K, V>>;
@@ -33,11 +32,9 @@ pub(super) struct Store<K, V> {
     /// How many entries were put, and how many when all were invalidated last.
     turns: u64,
     turns_before: u64,
-    /// How often ids were invalidated, put or changed, of each 64th together.
-    changes: [u64; 64],
+    pub under_way: UnderWay<K>,
     /// All but what readers count.
     pub counted: CacheStats,
-    entries: PhantomData<Arc<Flight<K>>>,
 }
 
 /// What a miss of an id comes to.
@@ -61,9 +58,8 @@ impl<K, V> Store<K, V> {
             came_out: Vec::new(),
             turns: 0,
             turns_before: 0,
-            changes: [0; 64],
+            under_way: UnderWay::new(),
             counted: CacheStats::default(),
-            entries: PhantomData,
         }
     }
 
@@ -97,60 +93,51 @@ impl<K, V> Store<K, V> {
         }))
     }
 
-    /// Begins a flight, unless its id has an entry or is loaded. It is the flight's mark, and counts as one more owner of it
-    /// until its end.
+    /// Begins a flight, unless its id has an entry or is loaded.
     pub fn begin(&mut self, flight: &Arc<Flight<K>>) -> Begun<K> {
-        match self.ids.begin(flight.id(), Arc::as_ptr(flight) as u64) {
+        match self.ids.begin(flight.id()) {
             Miss::Held => Begun::Held,
-            Miss::Wait(mark) => Begun::Wait(owner(mark)),
+            Miss::Wait => self.under_way.of(flight.id()).map_or(Begun::Full, Begun::Wait),
             Miss::Load(number) => {
-                std::mem::forget(Arc::clone(flight));
-                flight.changes.store(*self.changes_of(flight.id()), Relaxed);
+                self.under_way.begin(number, flight);
                 Begun::Load(number)
             }
             Miss::Full => Begun::Full,
         }
     }
 
-    /// Whether a flight that is under way began after the last change of its id.
-    pub fn is_of_now(&mut self, flight: &Flight<K>) -> bool {
-        flight.changes.load(Relaxed) == *self.changes_of(flight.id())
-    }
-
-    fn changes_of(&mut self, id: u64) -> &mut u64 {
-        &mut self.changes[(spread(id) >> 58) as usize]
-    }
-
-    /// The flight by which an id is loaded, where it is.
-    pub fn flight_of(&mut self, id: u64) -> Option<Arc<Flight<K>>> {
-        match self.ids.begin(id, 0) {
-            Miss::Wait(mark) => Some(owner(mark)),
-            Miss::Load(number) => {
-                self.ids.fail(number);
-                None
-            }
-            Miss::Held | Miss::Full => None,
-        }
-    }
-
-    /// Ends a flight by an entry, or gives it back where it isn't held.
-    pub fn land(&mut self, flight: &Arc<Flight<K>>, number: u64, entry: Box<Entry<K, V>>) -> PutEntry<K, V> {
-        // While an id is loaded it has no entry, but one that was put, and then this one isn't held.
-        let ended = self.put_with(entry, true, |ids, place, times| ids.land(number, place, times));
-        disown(flight);
-        ended
+    /// Ends a flight by an entry, or gives it back where it isn't held: as where the flight has ended since it was
+    /// outdated.
+    pub fn land(&mut self, number: u64, entry: Box<Entry<K, V>>) -> PutEntry<K, V> {
+        self.under_way.end(number);
+        // While an id is loaded it has no entry.
+        self.put_with(entry, true, |ids, place, times| ids.land(number, place, times))
     }
 
     /// Ends it without one.
-    pub fn fail(&mut self, flight: &Arc<Flight<K>>, number: u64) {
+    pub fn fail(&mut self, number: u64) {
+        self.under_way.end(number);
         self.ids.fail(number);
-        disown(flight);
+    }
+
+    /// What is loaded for an id will not be held. That load ends here, so that who misses the id now begins another.
+    pub fn outdate(&mut self, id: u64) {
+        if let Some(number) = self.under_way.outdate(id) {
+            self.ids.fail(number);
+        }
+    }
+
+    /// The same of all ids.
+    pub fn outdate_all(&mut self) {
+        while let Some(number) = self.under_way.outdate_one() {
+            self.ids.fail(number);
+        }
     }
 
     /// Puts an entry in place of what its id has, or gives it back where the id is being changed.
     pub fn put(&mut self, entry: Box<Entry<K, V>>) -> PutEntry<K, V> {
         let id = entry.id;
-        *self.changes_of(id) += 1;
+        self.outdate(id);
         let old = self.place(id);
         let put = self.put_with(entry, old.is_none(), |ids, place, times| ids.put(id, place, times));
         note(old, if put.is_ok() { RemovalCause::Replaced } else { RemovalCause::Explicit });
@@ -193,10 +180,10 @@ impl<K, V> Store<K, V> {
     /// Takes the entry of an id, and what is loaded for it will not be held: what it took, which lies there until the next
     /// [`Store::reap`].
     pub fn invalidate(&mut self, id: u64) -> Option<&Entry<K, V>> {
-        *self.changes_of(id) += 1;
         let place = self.place(id);
         note(place, RemovalCause::Explicit);
         self.ids.invalidate(id);
+        self.outdate(id);
         // SAFETY: as of one that is found.
         place.map(|place| unsafe { &*place.as_ptr() })
     }
@@ -212,8 +199,8 @@ impl<K, V> Store<K, V> {
 
     pub fn invalidate_all(&mut self) {
         self.turns_before = self.turns;
-        self.changes.iter_mut().for_each(|changes| *changes += 1);
         self.ids.invalidate_all();
+        self.outdate_all();
     }
 
     /// Why an entry left that came out.
@@ -245,21 +232,14 @@ impl<K, V> Store<K, V> {
         }
     }
 
-    /// What is loaded for an id will not be held. Its entry stays, but where too much is being changed.
-    pub fn revoke(&mut self, id: u64) {
-        if self.begin_change(id) {
-            self.ids.end_change(id);
-        }
-    }
-
     /// Begins a change of an id. Where too many are under way its entry goes, and the change isn't known: then it has to end
     /// with an invalidation.
     pub fn begin_change(&mut self, id: u64) -> bool {
-        *self.changes_of(id) += 1;
         let is_known = self.ids.begin_change(id);
         if !is_known {
             self.invalidate(id);
         }
+        self.outdate(id);
         is_known
     }
 
@@ -269,8 +249,9 @@ impl<K, V> Store<K, V> {
     }
 
     pub fn end_change(&mut self, id: u64) {
-        *self.changes_of(id) += 1;
         self.ids.end_change(id);
+        // What began to be loaded meanwhile will not be held either.
+        self.outdate(id);
     }
 
     /// The entries that came out: all that left but those that readers hold.
@@ -298,20 +279,4 @@ impl<K, V> Store<K, V> {
 fn note<K, V>(place: Option<Place<K, V>>, cause: RemovalCause) {
     // SAFETY: an entry is freed once it came out, by a later call of `reap`.
     place.into_iter().for_each(|place| unsafe { place.as_ref() }.cause.note(cause));
-}
-
-/// One more owner of the flight that has that mark.
-fn owner<K>(mark: u64) -> Arc<Flight<K>> {
-    let flight = mark as *const Flight<K>;
-    // SAFETY: a mark is that of a flight under way, of which the store is an owner.
-    unsafe {
-        Arc::increment_strong_count(flight);
-        Arc::from_raw(flight)
-    }
-}
-
-/// The store is no owner of the flight any more, which has another.
-fn disown<K>(flight: &Arc<Flight<K>>) {
-    // SAFETY: it was one since the flight began, and flights end once.
-    unsafe { Arc::decrement_strong_count(Arc::as_ptr(flight)) }
 }

@@ -44,10 +44,9 @@ impl<K: Hash + Eq + 'static, V: Clone + 'static, S: BuildHasher + 'static> Cache
                     let _failing = Failing { part, load: &own };
                     return end_by(part, &own, key.to_owned(), None, load.await);
                 }
-                Begun::Wait(flight, is_of_now) => {
+                Begun::Wait(flight) => {
                     part.count(|counted| counted.waits += 1);
-                    let why = failure(flight.ended().await);
-                    if let Some(why) = why.filter(|_| is_of_now) {
+                    if let Some(why) = failure(flight.ended().await) {
                         return Err(why);
                     }
                 }

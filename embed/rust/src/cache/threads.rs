@@ -46,8 +46,8 @@ impl<K: Hash + Eq + 'static, V: Clone + 'static, S: BuildHasher + 'static> Cache
         }
     }
 
-    /// As [`Cache::get_with`], by a load that may fail: all who wait for it are told why then, where their own loads fail by
-    /// the same type, but those whose get began after the key had been invalidated, put or changed since: these load. By [`CacheReader::try_get_with`](super::CacheReader::try_get_with) they try in turn.
+    /// As [`Cache::get_with`], by a load that may fail: all who wait for it are told why then, where their own loads
+    /// fail by the same type. By [`CacheReader::try_get_with`](super::CacheReader::try_get_with) they try in turn.
     pub fn try_get_with<Q, E>(&self, key: &Q, load: impl FnOnce() -> Result<V, E>) -> Result<V, Arc<E>>
     where
         K: Borrow<Q>,
@@ -63,10 +63,9 @@ impl<K: Hash + Eq + 'static, V: Clone + 'static, S: BuildHasher + 'static> Cache
             }
             match part.begin(at.id, key, key.to_owned()) {
                 Begun::Load(own) => return load_by(part, &own, key.to_owned(), load),
-                Begun::Wait(flight, is_of_now) => {
+                Begun::Wait(flight) => {
                     part.count(|counted| counted.waits += 1);
-                    let why = flight.wait(None).and_then(failure);
-                    if let Some(why) = why.filter(|_| is_of_now) {
+                    if let Some(why) = flight.wait(None).and_then(failure) {
                         return Err(why);
                     }
                 }
@@ -91,7 +90,7 @@ impl<K: Hash + Eq + 'static, V: Clone + 'static, S: BuildHasher + 'static> Cache
             }
             match self.shared.parts()[at.part].begin(at.id, key, key.to_owned()) {
                 Begun::Held => found = self.read(at, key, V::clone),
-                Begun::Wait(flight, _) => return Sought::UnderWay(Wait::of(self.clone(), flight)),
+                Begun::Wait(flight) => return Sought::UnderWay(Wait::of(self.clone(), flight)),
                 Begun::Load(load) => return Sought::Missing(Request::of(self.clone(), load)),
             }
         }
@@ -184,7 +183,7 @@ pub(super) fn end_by<K, V: Clone, E: Send + Sync + 'static>(
 /// What an end tells of a failure, where that is of this type.
 pub(super) fn failure<E: Send + Sync + 'static>(end: End) -> Option<Arc<E>> {
     match end {
-        End::Loaded => None,
+        End::Loaded | End::Outdated => None,
         End::Failed(why) => why.shared(),
     }
 }

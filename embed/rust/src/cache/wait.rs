@@ -44,7 +44,9 @@ impl<K: Hash + Eq + 'static, V: Clone + 'static, S: BuildHasher + 'static> Futur
             self.is_counted = true;
         }
         Pin::new(&mut self.ended).poll(context).map(|end| match end {
-            End::Loaded => self.cache.read(self.cache.shared.at_id(id), self.key(), V::clone).ok_or(WaitError::Missing),
+            End::Loaded | End::Outdated => {
+                self.cache.read(self.cache.shared.at_id(id), self.key(), V::clone).ok_or(WaitError::Missing)
+            }
             End::Failed(why) => Err(WaitError::Failed(why.said())),
         })
     }

@@ -3,8 +3,8 @@ use crate::*;
 use std::cell::Cell;
 use std::hash::{BuildHasher, BuildHasherDefault, Hasher};
 use std::panic::{catch_unwind, resume_unwind, AssertUnwindSafe};
-use std::sync::atomic::{AtomicBool, AtomicU64, AtomicUsize, Ordering::SeqCst};
-use std::sync::{mpsc, Barrier};
+use std::sync::atomic::{AtomicU64, AtomicUsize, Ordering::SeqCst};
+use std::sync::{mpsc, Barrier, Mutex};
 use std::thread;
 use std::time::{Duration, Instant};
 
@@ -418,7 +418,11 @@ struct Base {
     versions: Vec<AtomicU64>,
     /// The version whose invalidation has returned.
     floors: Vec<AtomicU64>,
-    loading: Vec<AtomicBool>,
+    /// How many changes have begun, and how many calls of the cache that outdate loads have returned.
+    begun: Vec<AtomicU64>,
+    ended: Vec<AtomicU64>,
+    /// The loads that are under way, by how many changes had ended before the get.
+    loading: Vec<Mutex<Vec<u64>>>,
     made: AtomicUsize,
     dropped: AtomicUsize,
 }
@@ -438,27 +442,39 @@ impl Drop for Version<'_> {
     }
 }
 
-/// A key's load, of which there is one at a time.
-struct Alone<'a>(&'a AtomicBool);
+/// A key's load, of which there is one at a time, but those that a change has outdated.
+struct Alone<'a> {
+    loading: &'a Mutex<Vec<u64>>,
+    ended: u64,
+}
 
 impl<'a> Alone<'a> {
-    fn begin(loading: &'a AtomicBool) -> Alone<'a> {
-        assert!(!loading.swap(true, SeqCst), "two loads of a key overlap");
-        Alone(loading)
+    fn begin(base: &'a Base, key: u64, ended: u64) -> Alone<'a> {
+        let loading = &base.loading[key as usize];
+        let mut others = loading.lock().unwrap();
+        let begun = base.begun[key as usize].load(SeqCst);
+        // Since both gets began nothing has outdated a load.
+        let overlap = ended == begun && others.contains(&begun);
+        assert!(!overlap, "two loads of a key overlap");
+        others.push(ended);
+        Alone { loading, ended }
     }
 }
 
 impl Drop for Alone<'_> {
     fn drop(&mut self) {
-        self.0.store(false, SeqCst);
+        let mut all = self.loading.lock().unwrap();
+        let place = all.iter().position(|ended| *ended == self.ended).expect("it is among them");
+        all.swap_remove(place);
     }
 }
 
 impl Base {
     fn new() -> Base {
         let zeros = || (0..KEYS).map(|_| AtomicU64::new(0)).collect();
-        let loading = (0..KEYS).map(|_| AtomicBool::new(false)).collect();
-        Base { versions: zeros(), floors: zeros(), loading, made: AtomicUsize::new(0), dropped: AtomicUsize::new(0) }
+        let loading = (0..KEYS).map(|_| Mutex::default()).collect();
+        let [made, dropped] = [0, 0].map(AtomicUsize::new);
+        Base { versions: zeros(), floors: zeros(), begun: zeros(), ended: zeros(), loading, made, dropped }
     }
 
     fn version(&self, key: u64, version: u64) -> Version<'_> {
@@ -466,8 +482,8 @@ impl Base {
         Version { key, version, bytes: vec![key as u8; 40], base: self }
     }
 
-    fn load(&self, key: u64, dice: u64) -> Result<Version<'_>, ()> {
-        let _alone = Alone::begin(&self.loading[key as usize]);
+    fn load(&self, key: u64, dice: u64, ended: u64) -> Result<Version<'_>, ()> {
+        let _alone = Alone::begin(self, key, ended);
         let version = self.versions[key as usize].load(SeqCst);
         match dice % 32 {
             0 => return Err(()),
@@ -482,8 +498,19 @@ impl Base {
     /// Changes a key, and takes it from the cache.
     fn change<S: BuildHasher>(&self, key: u64, cache: &Cache<u64, Version<'_>, S>) {
         let version = self.versions[key as usize].fetch_add(1, SeqCst) + 1;
-        cache.invalidate(&key);
+        self.outdates([key], || cache.invalidate(&key));
         self.floors[key as usize].fetch_max(version, SeqCst);
+    }
+
+    /// Makes a call that outdates the loads of these keys.
+    fn outdates<R>(&self, keys: impl IntoIterator<Item = u64> + Clone, call: impl FnOnce() -> R) -> R {
+        let count = |counts: &[AtomicU64]| {
+            keys.clone().into_iter().for_each(|key| _ = counts[key as usize].fetch_add(1, SeqCst))
+        };
+        count(&self.begun);
+        let gave = call();
+        count(&self.ended);
+        gave
     }
 }
 
@@ -506,6 +533,8 @@ fn one_thread<'a, S: BuildHasher>(base: &'a Base, cache: &Cache<u64, Version<'a>
         let key = zipf(roll(&mut dice));
         let (choice, luck) = (roll(&mut dice), roll(&mut dice));
         let floor = base.floors[key as usize].load(SeqCst);
+        let ended = base.ended[key as usize].load(SeqCst);
+        let load = || base.load(key, luck, ended);
         let is_right = |found: &Version<'_>| {
             assert_eq!((found.key, &found.bytes[..]), (key, &vec![key as u8; 40][..]));
             assert!(found.version >= floor, "version {} of key {key} is older than {floor}", found.version);
@@ -517,20 +546,19 @@ fn one_thread<'a, S: BuildHasher>(base: &'a Base, cache: &Cache<u64, Version<'a>
             }
             5..=6 => {
                 let limit = Duration::from_micros(luck % 300);
-                let load = || base.load(key, luck);
                 let get =
                     || reader.try_get_with_timeout(&key, limit, load).into_iter().for_each(|found| is_right(&found));
                 caught(get);
             }
             7 => {
-                reader.update(&key, |old| {
+                let change = |old: &Version<'_>| {
                     is_right(old);
                     base.version(key, old.version)
-                });
+                };
+                base.outdates([key], || reader.update(&key, change));
             }
-            8 if round % 400 == 0 => cache.invalidate_all(),
+            8 if round % 400 == 0 => base.outdates(0..KEYS as u64, || cache.invalidate_all()),
             _ => {
-                let load = || base.load(key, luck);
                 let get = || reader.try_get_with(&key, load).into_iter().for_each(|found| is_right(&found));
                 caught(get);
             }

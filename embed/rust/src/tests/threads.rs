@@ -134,42 +134,6 @@ fn who_fails_otherwise_or_waits_for_a_panic_loads_itself() {
     }
 }
 
-#[test]
-fn a_failure_from_before_a_change_is_not_shared_by_who_comes_after_it() {
-    type Changes = fn(&Cache<u64, u8>);
-    let changes: [Changes; 5] = [
-        |cache| assert!(!cache.invalidate(&1)),
-        |cache| cache.invalidate_all(),
-        |cache| {
-            cache.insert(1, 4);
-            cache.invalidate(&1);
-        },
-        |cache| assert!(!cache.reader().unwrap().update(&1, |_| 4)),
-        // Another key's.
-        |_| {},
-    ];
-    for (place, change) in changes.iter().enumerate() {
-        let cache = cache::<u8>(2);
-        let (begun, has_begun) = mpsc::channel();
-        thread::scope(|scope| {
-            let cache = &cache;
-            let fails = move || {
-                begun.send(()).unwrap();
-                while cache.stats().waits == 0 {
-                    thread::yield_now();
-                }
-                Err("no such key")
-            };
-            let failed = scope.spawn(move || cache.try_get_with(&1, fails));
-            has_begun.recv().unwrap();
-            change(cache);
-            let after = cache.try_get_with(&1, || Ok::<_, &str>(5));
-            assert_eq!(after.is_ok(), place < 4);
-            assert!(failed.join().unwrap().is_err());
-        });
-    }
-}
-
 /// Clones of it are made by looking for its cache's other keys.
 struct Looking(Cache<u64, Looking>, u64);
 

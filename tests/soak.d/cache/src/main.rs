@@ -5,7 +5,7 @@ use model::*;
 use nr::{Cache, CacheReader, LoadError, Request, Sought, WaitError};
 use std::hash::{BuildHasher, Hasher};
 use std::panic::{catch_unwind, resume_unwind, AssertUnwindSafe};
-use std::sync::atomic::{AtomicBool, Ordering::SeqCst};
+use std::sync::atomic::{AtomicBool, AtomicU64, Ordering::SeqCst};
 use std::sync::{mpsc, Mutex};
 use std::thread::{Builder, Scope};
 use std::{env, ffi::c_int, time::Duration};
@@ -75,6 +75,12 @@ impl BuildHasher for Sharing {
 
 type Values = Cache<u32, Value, Sharing>;
 
+/// A request, and how many calls that outdate its key's loads had ended before it was asked for.
+struct Wanted {
+    request: Request<u32, Value, Sharing>,
+    ended: u64,
+}
+
 struct Client<'a> {
     cache: &'a Values,
     reader: CacheReader<u32, Value, Sharing>,
@@ -82,7 +88,7 @@ struct Client<'a> {
     place: u32,
     /// A key has one write at a time.
     writes: &'a [Mutex<()>],
-    pool: mpsc::Sender<Request<u32, Value, Sharing>>,
+    pool: mpsc::Sender<Wanted>,
 }
 
 impl Client<'_> {
@@ -109,7 +115,11 @@ impl Client<'_> {
                 let milliseconds = 1000 + self.dice.roll(2000) as u32;
                 self.get(key, milliseconds);
             }
-            28 if self.dice.roll(500) == 0 => self.cache.invalidate_all(),
+            28 if self.dice.roll(500) == 0 => {
+                CLEARINGS_BEGUN.fetch_add(1, SeqCst);
+                self.cache.invalidate_all();
+                CLEARINGS_ENDED.fetch_add(1, SeqCst);
+            }
             29..=36 => {
                 let limit = Duration::from_micros(self.dice.roll(500));
                 self.load(key, Some(limit));
@@ -148,7 +158,8 @@ impl Client<'_> {
 
     fn load(&mut self, key: u32, limit: Option<Duration>) {
         let (floor, luck, place) = (model_floor(key), self.dice.roll(64), self.place);
-        let load = || loaded(key, luck, place);
+        let ended = ended(key);
+        let load = || loaded(key, luck, place, ended);
         let found = match limit {
             Some(limit) => self.reader.try_get_with_timeout(&key, limit, load),
             None => self.reader.try_get_with(&key, load).map_err(LoadError::Failed),
@@ -162,10 +173,10 @@ impl Client<'_> {
 
     /// Has another thread load what is missing.
     fn request(&mut self, key: u32) {
-        let floor = model_floor(key);
+        let (floor, ended) = (model_floor(key), ended(key));
         match self.reader.get_or_request(&key) {
             Sought::Held(found) => found.look(key, floor),
-            Sought::Missing(request) => _ = self.pool.send(request),
+            Sought::Missing(request) => _ = self.pool.send(Wanted { request, ended }),
             Sought::UnderWay(_) => {}
         }
     }
@@ -180,22 +191,49 @@ impl Client<'_> {
     }
 }
 
+static CLEARINGS_BEGUN: AtomicU64 = AtomicU64::new(0);
+static CLEARINGS_ENDED: AtomicU64 = AtomicU64::new(0);
+
+/// How many calls that outdate a key's loads have ended. It has one write at a time.
+fn ended(key: u32) -> u64 {
+    model_floor(key) + CLEARINGS_ENDED.load(SeqCst)
+}
+
+/// Each key's loads that are under way, by how many such calls had ended before the get.
+static LOADS: [Mutex<Vec<u64>>; KEYS as usize] = [const { Mutex::new(Vec::new()) }; KEYS as usize];
+
 /// A key's load, until it is dropped.
-struct Load(u32);
+struct Load {
+    key: u32,
+    ended: u64,
+}
+
+impl Load {
+    fn of(key: u32, ended: u64) -> Load {
+        let mut others = LOADS[key as usize].lock().expect("nobody panics with it");
+        let begun = model_newest(key) + CLEARINGS_BEGUN.load(SeqCst);
+        // Since both gets began nothing has outdated a load.
+        let overlap = ended == begun && others.contains(&begun);
+        // A key that meets another of its hash is loaded by each who misses it.
+        if overlap && !HASHES_ARE_SHARED.load(SeqCst) {
+            fails(c"two loads");
+        }
+        others.push(ended);
+        Load { key, ended }
+    }
+}
 
 impl Drop for Load {
     fn drop(&mut self) {
-        model_has_loaded(self.0);
+        let mut all = LOADS[self.key as usize].lock().expect("nobody panics with it");
+        let place = all.iter().position(|ended| *ended == self.ended).expect("it is among them");
+        all.swap_remove(place);
     }
 }
 
 /// What a load gives that begins now, unless it fails or panics. Some take long.
-fn loaded(key: u32, luck: u64, place: u32) -> Result<Value, ()> {
-    // A key that meets another of its hash is loaded by each who misses it.
-    if !HASHES_ARE_SHARED.load(SeqCst) {
-        model_loads(key);
-    }
-    let _load = Load(key);
+fn loaded(key: u32, luck: u64, place: u32, ended: u64) -> Result<Value, ()> {
+    let _load = Load::of(key, ended);
     let version = model_newest(key);
     match luck {
         0 | 1 => return Err(()),
@@ -210,11 +248,11 @@ fn loaded(key: u32, luck: u64, place: u32) -> Result<Value, ()> {
 }
 
 /// The thread that loads for others, until these have ended.
-fn pool(requests: &mpsc::Receiver<Request<u32, Value, Sharing>>, mut dice: Dice) {
+fn pool(wanted: &mpsc::Receiver<Wanted>, mut dice: Dice) {
     model_begins(POOL);
-    for request in requests {
+    for Wanted { request, ended } in wanted {
         let (key, luck) = (*request.key(), dice.roll(64));
-        match catch_unwind(|| loaded(key, luck, POOL)) {
+        match catch_unwind(|| loaded(key, luck, POOL, ended)) {
             Ok(Ok(value)) => _ = request.fill(value),
             Ok(Err(())) => request.fail("the base is away"),
             Err(_) => drop(request),

@@ -12,8 +12,6 @@ unsafe extern "C" {
     pub safe fn model_newest(key: u32) -> u64;
     pub safe fn model_floor(key: u32) -> u64;
     pub safe fn model_answers(key: u32, its_key: u32, version: u64, floor: u64);
-    pub safe fn model_loads(key: u32);
-    pub safe fn model_has_loaded(key: u32);
     pub safe fn model_makes() -> u32;
     pub safe fn model_reads(value: u32);
     pub safe fn model_drops(value: u32);
