@@ -156,7 +156,7 @@ mod values;
 mod writer;
 
 pub use answers::{Asked, Cancel, Fault, KeyKind, Updated};
-pub use cache::{Cache, CacheBuilder, CacheReader, CacheRef, CacheStats, Change, LoadError};
+pub use cache::{Cache, CacheBuilder, CacheReader, CacheRef, CacheStats, Change, LoadError, Loaded};
 pub use cache::{RemovalCause, Request, Sought, View, Wait, WaitError};
 pub use emptied::Emptied;
 pub use inbox::{Arrival, EventSender, Inbox, InboxPoster, InboxTaker};

@@ -7,6 +7,7 @@ mod emptied;
 mod eviction;
 mod holds;
 mod inbox;
+mod lasting;
 mod leaving;
 mod loaders;
 mod lobby;

@@ -1,8 +1,8 @@
 //! How a cache is opened.
 use super::desk::Desk;
-use super::expiry::Expiry;
+use super::expiry::{Expiry, Lifetime};
 use super::leaving::{Listener, RemovalCause};
-use super::part::Part;
+use super::part::{Part, Told};
 use super::shared::Shared;
 use super::store::Store;
 use super::Cache;
@@ -34,13 +34,15 @@ pub struct CacheBuilder<K, V, S = RandomState> {
     to_live: Option<Duration>,
     to_idle: Option<Duration>,
     hasher: S,
+    lifetime: Option<Lifetime<K, V>>,
     listener: Option<Listener<K, V>>,
 }
 
 impl<K, V> CacheBuilder<K, V> {
     pub(super) fn new() -> CacheBuilder<K, V> {
         let hasher = RandomState::new();
-        CacheBuilder { capacity: 1000, threads: 16, to_live: None, to_idle: None, hasher, listener: None }
+        let (lifetime, listener) = (None, None);
+        CacheBuilder { capacity: 1000, threads: 16, to_live: None, to_idle: None, hasher, lifetime, listener }
     }
 }
 
@@ -73,6 +75,17 @@ impl<K, V, S> CacheBuilder<K, V, S> {
         CacheBuilder { to_idle: Some(time), ..self }
     }
 
+    /// How long after it was put an entry is found that has this key and value, where that is told: it expires by the
+    /// first of its times. It is told as a value is loaded, inserted or filled, without a lock and by the thread that
+    /// puts it; where it panics, so does that call, and a load has failed then. Rows that a [`Change`](crate::Change)
+    /// makes live as long as those that they replace were to.
+    pub fn expire_after<F>(self, lifetime: F) -> CacheBuilder<K, V, S>
+    where
+        F: Fn(&K, &V) -> Option<Duration> + Send + Sync + 'static,
+    {
+        CacheBuilder { lifetime: Some(Arc::new(lifetime)), ..self }
+    }
+
     /// Who is given each value that left the cache, with its key and why: once no reader sees it, by the thread that finds that
     /// and without a lock. Values that the cache didn't hold, and those that it holds at its end, are dropped.
     pub fn eviction_listener<L>(self, listener: L) -> CacheBuilder<K, V, S>
@@ -85,8 +98,8 @@ impl<K, V, S> CacheBuilder<K, V, S> {
     /// By what keys are hashed, in place of a hasher with keys drawn at random. Where strangers choose keys, theirs must
     /// be secret too. Keys of one hash are told apart, and one of them at a time is held.
     pub fn hasher<T: BuildHasher>(self, hasher: T) -> CacheBuilder<K, V, T> {
-        let CacheBuilder { capacity, threads, to_live, to_idle, listener, hasher: _ } = self;
-        CacheBuilder { capacity, threads, to_live, to_idle, hasher, listener }
+        let CacheBuilder { capacity, threads, to_live, to_idle, lifetime, listener, hasher: _ } = self;
+        CacheBuilder { capacity, threads, to_live, to_idle, hasher, lifetime, listener }
     }
 }
 
@@ -98,14 +111,15 @@ impl<K: Hash + Eq, V, S: BuildHasher> CacheBuilder<K, V, S> {
             return Err(Fault::BadSize);
         }
         let count = parts(self.capacity, self.threads);
-        let expiry = Expiry::new(self.to_live, self.to_idle);
+        let expiry = Expiry::new(self.to_live, self.to_idle, self.lifetime.is_some());
+        let told = Told { lifetime: self.lifetime, listener: self.listener };
         let mut spare: Vec<Vec<IdReader>> = (0..self.threads).map(|_| Vec::with_capacity(count)).collect();
         let mut parts = Vec::with_capacity(count);
         for number in 0..count {
             let capacity = (self.capacity + number) / count;
             let (ids, readers) = ids::open(&shape(capacity, self.threads))?;
             spare.iter_mut().zip(readers).for_each(|(desk, reader)| desk.push(reader));
-            parts.push(Part::new(expiry, spare.len(), self.listener.clone(), Store::new(ids, capacity, expiry)));
+            parts.push(Part::new(expiry, spare.len(), told.clone(), Store::new(ids, capacity, expiry)));
         }
         let spare = spare.into_iter().zip(0..).map(|(ids, number)| Desk::new(ids, number)).collect();
         Ok(Cache { shared: Arc::new(Shared::new(self.hasher, self.capacity, parts, spare)) })

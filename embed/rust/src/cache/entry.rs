@@ -1,16 +1,16 @@
 //! What a number of the cache refers to.
-use super::expiry::Moment;
+use super::expiry::Life;
 use super::leaving::Cause;
 use super::seats::Seat;
 use std::sync::atomic::AtomicU64;
-use std::thread::{self, ThreadId};
+use std::thread::ThreadId;
 
 /// A value with its key, in a box of its own that the store owns.
 pub(super) struct Entry<K, V> {
     pub id: u64,
     pub key: K,
     pub value: V,
-    pub born: Moment,
+    pub life: Life,
     /// The thread by whose load or call the value came: none where it came by a request, whose load may have run anywhere.
     pub maker: Option<ThreadId>,
     /// When it was last found, as far as the time to idle asks.
@@ -22,20 +22,15 @@ pub(super) struct Entry<K, V> {
 }
 
 impl<K, V> Entry<K, V> {
-    /// One whose value comes by the thread that calls.
-    pub fn new(id: u64, key: K, value: V, now: Moment) -> Entry<K, V> {
-        Entry::of(Some(thread::current().id()), id, key, value, now)
-    }
-
     /// One whose value comes by that thread.
-    pub fn of(maker: Option<ThreadId>, id: u64, key: K, value: V, now: Moment) -> Entry<K, V> {
+    pub fn of(maker: Option<ThreadId>, id: u64, key: K, value: V, life: Life) -> Entry<K, V> {
         Entry {
             id,
             key,
             value,
-            born: now,
+            life,
             maker,
-            touched: AtomicU64::new(now),
+            touched: AtomicU64::new(life.born),
             turn: 0,
             seat: 0,
             cause: Cause::default(),

@@ -2,10 +2,23 @@
 use super::entry::Entry;
 use crate::ids::Times;
 use std::sync::atomic::Ordering::Relaxed;
+use std::sync::Arc;
 use std::time::{Duration, Instant};
 
 /// Nanoseconds since the cache was opened.
 pub(super) type Moment = u64;
+
+/// What tells how long an entry lives, of its key and value.
+pub(super) type Lifetime<K, V> = Arc<dyn Fn(&K, &V) -> Option<Duration> + Send + Sync>;
+
+/// When an entry came, and from when on it isn't found, however often it was.
+#[derive(Clone, Copy)]
+pub(super) struct Life {
+    pub born: Moment,
+    pub dies: Moment,
+}
+
+const NEVER: Moment = Moment::MAX;
 
 /// How long entries live, and the clock by which they do.
 #[derive(Clone, Copy)]
@@ -13,12 +26,13 @@ pub(super) struct Expiry {
     start: Instant,
     to_live: Option<u64>,
     to_idle: Option<u64>,
+    /// Whether each entry may have a time to live of its own.
+    by_entry: bool,
 }
 
 impl Expiry {
-    pub fn new(to_live: Option<Duration>, to_idle: Option<Duration>) -> Expiry {
-        let nanos = |time: Duration| time.as_nanos().min(u64::MAX as u128) as u64;
-        Expiry { start: Instant::now(), to_live: to_live.map(nanos), to_idle: to_idle.map(nanos) }
+    pub fn new(to_live: Option<Duration>, to_idle: Option<Duration>, by_entry: bool) -> Expiry {
+        Expiry { start: Instant::now(), to_live: to_live.map(nanos), to_idle: to_idle.map(nanos), by_entry }
     }
 
     /// The present. Where nothing expires no clock is read.
@@ -31,20 +45,38 @@ impl Expiry {
 
     /// Whether anything expires.
     pub fn is_set(&self) -> bool {
-        self.to_live.is_some() || self.to_idle.is_some()
+        self.has_ages() || self.to_idle.is_some()
+    }
+
+    /// Whether anything does by its age.
+    fn has_ages(&self) -> bool {
+        self.to_live.is_some() || self.by_entry
+    }
+
+    /// The life of an entry that comes now, and of which so much is told: the shorter of its own time and all entries'.
+    pub fn life(&self, own: Option<Duration>) -> Life {
+        let born = self.now();
+        let limit = self.to_live.into_iter().chain(own.map(nanos)).min();
+        Life { born, dies: limit.map_or(NEVER, |limit| born.saturating_add(limit)) }
+    }
+
+    /// A life that begins now, and lasts as long as that one.
+    pub fn as_long_as(&self, other: Life, now: Moment) -> Life {
+        let dies = if other.dies == NEVER { NEVER } else { now.saturating_add(other.dies - other.born) };
+        Life { born: now, dies }
     }
 
     /// By what the store knows of an entry that is put when it will have lived, and of the others whether they have.
-    pub fn times(&self, born: Moment) -> Times {
-        match self.to_live {
-            Some(limit) => Times { stamp: born.saturating_add(limit).max(1), bound: born.saturating_add(1) },
-            None => Times { stamp: 1, bound: 0 },
+    pub fn times(&self, life: Life) -> Times {
+        match self.has_ages() {
+            true => Times { stamp: life.dies.max(1), bound: life.born.saturating_add(1) },
+            false => Times { stamp: 1, bound: 0 },
         }
     }
 
     pub fn is_over<K, V>(&self, entry: &Entry<K, V>, now: Moment) -> bool {
-        let is_past = |since: Moment, limit: Option<u64>| limit.is_some_and(|limit| now.saturating_sub(since) >= limit);
-        is_past(entry.born, self.to_live) || is_past(entry.touched.load(Relaxed), self.to_idle)
+        let idles = || now.saturating_sub(entry.touched.load(Relaxed));
+        self.has_ages() && now >= entry.life.dies || self.to_idle.is_some_and(|limit| idles() >= limit)
     }
 
     /// Notes that the entry was found. Other threads see a write only once a sixteenth of the time to idle has passed.
@@ -54,4 +86,8 @@ impl Expiry {
             entry.touched.store(now, Relaxed);
         }
     }
+}
+
+fn nanos(time: Duration) -> u64 {
+    time.as_nanos().min(u64::MAX as u128) as u64
 }

@@ -8,6 +8,7 @@ mod expiry;
 mod flights;
 mod hold;
 mod leaving;
+mod loaded;
 mod lock;
 mod many;
 mod own;
@@ -26,6 +27,7 @@ mod wait;
 
 pub use builder::CacheBuilder;
 pub use leaving::RemovalCause;
+pub use loaded::Loaded;
 pub use reader::{CacheReader, CacheRef, LoadError, WaitError};
 pub use request::{Request, Sought};
 pub use stats::CacheStats;
@@ -33,7 +35,6 @@ pub use view::{Change, View};
 pub use wait::Wait;
 
 use crate::drops::with_each;
-use entry::Entry;
 use part::Part;
 use shared::Shared;
 use std::borrow::Borrow;
@@ -92,7 +93,7 @@ impl<K: Hash + Eq, V, S: BuildHasher> Cache<K, V, S> {
     pub fn insert(&self, key: K, value: V) -> bool {
         let id = self.shared.id_of(&key);
         let part = self.shared.part_of(id);
-        part.put(Box::new(Entry::new(id, key, value, part.expiry.now())))
+        part.put(part.own_entry(id, key, value))
     }
 
     /// Takes a key's value, and another's of its hash: whether the key had one. No get that begins after this has

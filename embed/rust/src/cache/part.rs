@@ -2,7 +2,7 @@
 use super::all::Seated;
 use super::counts::Counts;
 use super::entry::Entry;
-use super::expiry::Expiry;
+use super::expiry::{Expiry, Lifetime};
 use super::flights::{End, Failure, Flight};
 use super::hold::Hold;
 use super::leaving::{Listener, RemovalCause};
@@ -14,6 +14,7 @@ use crate::ids::IdReader;
 use std::borrow::Borrow;
 use std::sync::atomic::{AtomicBool, Ordering::Relaxed};
 use std::sync::Arc;
+use std::thread::{self, ThreadId};
 
 /// Apart from the lines of the others.
 #[repr(align(128))]
@@ -21,6 +22,7 @@ pub(super) struct Part<K, V> {
     pub expiry: Expiry,
     /// One for each reader.
     pub counts: Box<[Counts]>,
+    lifetime: Option<Lifetime<K, V>>,
     listener: Option<Listener<K, V>>,
     store: Lock<Store<K, V>>,
 }
@@ -29,6 +31,18 @@ pub(super) struct Part<K, V> {
 unsafe impl<K: Send + Sync, V: Send + Sync> Send for Part<K, V> {}
 // SAFETY: as above.
 unsafe impl<K: Send + Sync, V: Send + Sync> Sync for Part<K, V> {}
+
+/// What a cache's user has it call.
+pub(super) struct Told<K, V> {
+    pub lifetime: Option<Lifetime<K, V>>,
+    pub listener: Option<Listener<K, V>>,
+}
+
+impl<K, V> Clone for Told<K, V> {
+    fn clone(&self) -> Self {
+        Told { lifetime: self.lifetime.clone(), listener: self.listener.clone() }
+    }
+}
 
 /// What a get finds that misses.
 pub(super) enum Begun<K> {
@@ -85,9 +99,21 @@ impl<K, V> Drop for Failing<'_, K, V> {
 }
 
 impl<K, V> Part<K, V> {
-    pub fn new(expiry: Expiry, readers: usize, listener: Option<Listener<K, V>>, store: Store<K, V>) -> Self {
+    pub fn new(expiry: Expiry, readers: usize, told: Told<K, V>, store: Store<K, V>) -> Self {
         let counts = (0..readers).map(|_| Counts::default()).collect();
-        Part { expiry, counts, listener, store: Lock::new(store) }
+        let Told { lifetime, listener } = told;
+        Part { expiry, counts, lifetime, listener, store: Lock::new(store) }
+    }
+
+    /// An entry whose value comes now, by the thread that calls.
+    pub fn own_entry(&self, id: u64, key: K, value: V) -> Box<Entry<K, V>> {
+        self.entry(Some(thread::current().id()), id, key, value)
+    }
+
+    /// An entry whose value comes now, by that thread. It is told here how long it lives, so without a lock.
+    pub fn entry(&self, maker: Option<ThreadId>, id: u64, key: K, value: V) -> Box<Entry<K, V>> {
+        let own = self.lifetime.as_ref().and_then(|lifetime| lifetime(&key, &value));
+        Box::new(Entry::of(maker, id, key, value, self.expiry.life(own)))
     }
 
     /// Whether an entry is a key's, and hasn't expired: then it was found.
@@ -270,8 +296,9 @@ impl<K, V> Part<K, V> {
         self.change(|store| store.begin_change(id))
     }
 
-    /// Ends it. Where the key has an entry that hasn't expired, that is replaced by what `change` makes of it: whether it was.
-    /// An entry of which that makes none goes, and so does one that changed in two ways at once.
+    /// Ends it. Where the key has an entry that hasn't expired, that is replaced by what `change` makes of it: whether
+    /// it was. An entry of which that makes none goes, and so does one that changed in two ways at once. What is made
+    /// lives as long as what it replaces was to.
     pub fn end_change<E, C>(&self, id: u64, is_known: bool, key: K, change: C) -> Result<bool, E>
     where
         K: Eq,
@@ -290,10 +317,11 @@ impl<K, V> Part<K, V> {
             let Some(place) = store.place(id).filter(|_| is_its_own) else { return Ok(false) };
             let Some(old) = store.find(id) else { return Ok(false) };
             let (is_over, maker) = (self.expiry.is_over(old, now), old.maker);
+            let life = self.expiry.as_long_as(old.life, now);
             let made = if is_over { Ok(None) } else { change(old) };
             match (made, key.take()) {
                 (Ok(Some(value)), Some(key)) => {
-                    refused = store.swap(place, Box::new(Entry::of(maker, id, key, value, now))).err();
+                    refused = store.swap(place, Box::new(Entry::of(maker, id, key, value, life))).err();
                     Ok(refused.is_none())
                 }
                 (made, kept) => {

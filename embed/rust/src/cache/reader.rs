@@ -163,7 +163,7 @@ impl<K: Hash + Eq, V, S: BuildHasher> CacheReader<K, V, S> {
             let old = CacheRef(Borrowed::Held(place, self.desk.hold(at)));
             let value = change(&old);
             let maker = old.entry().maker;
-            let entry = Box::new(Entry::of(maker, at.id, key.to_owned(), value, part.expiry.now()));
+            let entry = part.entry(maker, at.id, key.to_owned(), value);
             let is_done = part.swap(place, entry);
             // Until here no other entry can have come to lie where the old one lies.
             drop(old);
@@ -209,7 +209,7 @@ impl<K: Hash + Eq, V, S: BuildHasher> CacheReader<K, V, S> {
         // Where the load ends without a value, by an error or a panic, this wakes those who wait.
         let _failing = Failing { part, load: &own };
         let value = load().map_err(LoadError::Failed)?;
-        let entry = Box::new(Entry::new(at.id, key.to_owned(), value, part.expiry.now()));
+        let entry = part.own_entry(at.id, key.to_owned(), value);
         let reader = &mut self.desk.ids[at.part];
         Ok(CacheRef(match part.land(&own, entry, Some(reader)) {
             Landed::Held(place) => Borrowed::Held(place, self.desk.hold(at)),

@@ -1,5 +1,4 @@
 //! Loads that are under way, as those have them who make them.
-use super::entry::Entry;
 use super::flights::{Cause, Failure};
 use super::part::{Landed, Load, Part};
 use super::{Cache, Wait};
@@ -33,7 +32,7 @@ impl<K: Hash + Eq, V, S: BuildHasher> Request<K, V, S> {
         K: Clone,
     {
         let part = self.part();
-        let entry = Box::new(Entry::of(None, self.load.id(), self.key().clone(), value, part.expiry.now()));
+        let entry = part.entry(None, self.load.id(), self.key().clone(), value);
         matches!(part.land(&self.load, entry, None), Landed::Held(_))
     }
 

@@ -158,7 +158,7 @@ impl<K, V> Store<K, V> {
         is_new: bool,
         put: impl FnOnce(&mut Ids, u64, Times) -> Put,
     ) -> PutEntry<K, V> {
-        let (wanted, times) = (self.held() + usize::from(is_new), self.expiry.times(entry.born));
+        let (wanted, times) = (self.held() + usize::from(is_new), self.expiry.times(entry.life));
         self.turns += 1;
         let seat = self.seats.take(entry.id);
         (entry.turn, entry.seat) = (self.turns, seat);

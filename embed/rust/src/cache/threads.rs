@@ -168,8 +168,7 @@ pub(super) fn end_by<K, V: Clone, E: Send + Sync + 'static>(
 ) -> Result<V, Arc<E>> {
     match gave {
         Ok(value) => {
-            let entry = Entry::of(maker, own.id(), key, value.clone(), part.expiry.now());
-            part.land(own, Box::new(entry), None);
+            part.land(own, part.entry(maker, own.id(), key, value.clone()), None);
             Ok(value)
         }
         Err(why) => {
