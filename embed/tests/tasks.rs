@@ -149,7 +149,7 @@ async fn requested(base: &Base, key: usize, step: usize, loader: &mpsc::Unbounde
     loop {
         let ended = base.ended(key);
         match base.cache.get_or_request(&key) {
-            Sought::Held(value) => return Some(value),
+            Sought::Held(value) | Sought::Aged(value, _) => return Some(value),
             Sought::Missing(request) => _ = loader.send(Wanted(request, ended)),
             Sought::UnderWay(wait) if step % 4 == 0 => {
                 let waited = timeout(Duration::from_micros(step as u64 % 300), wait).await;

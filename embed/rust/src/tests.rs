@@ -18,6 +18,7 @@ mod panics;
 mod pending;
 mod progress;
 mod reclaiming;
+mod refresh;
 mod tasks;
 mod threads;
 mod values;

@@ -107,7 +107,7 @@ impl Session<'_> {
         name(article).ok()?;
         match self.reader.get_or_request(article) {
             Sought::Missing(request) => Some(request),
-            Sought::Held(_) | Sought::UnderWay(_) => None,
+            Sought::Held(_) | Sought::Aged(..) | Sought::UnderWay(_) => None,
         }
     }
 

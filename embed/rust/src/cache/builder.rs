@@ -1,6 +1,6 @@
 //! How a cache is opened.
 use super::desk::Desk;
-use super::expiry::{Expiry, Lifetime};
+use super::expiry::{Expiry, Lifetime, Spans};
 use super::leaving::{Listener, RemovalCause};
 use super::part::{Part, Told};
 use super::shared::Shared;
@@ -31,8 +31,7 @@ const LEAST_PART: usize = 128;
 pub struct CacheBuilder<K, V, S = RandomState> {
     capacity: usize,
     threads: u32,
-    to_live: Option<Duration>,
-    to_idle: Option<Duration>,
+    spans: Spans,
     hasher: S,
     lifetime: Option<Lifetime<K, V>>,
     listener: Option<Listener<K, V>>,
@@ -41,8 +40,8 @@ pub struct CacheBuilder<K, V, S = RandomState> {
 impl<K, V> CacheBuilder<K, V> {
     pub(super) fn new() -> CacheBuilder<K, V> {
         let hasher = RandomState::new();
-        let (lifetime, listener) = (None, None);
-        CacheBuilder { capacity: 1000, threads: 16, to_live: None, to_idle: None, hasher, lifetime, listener }
+        let spans = Spans::default();
+        CacheBuilder { capacity: 1000, threads: 16, spans, hasher, lifetime: None, listener: None }
     }
 }
 
@@ -67,12 +66,19 @@ impl<K, V, S> CacheBuilder<K, V, S> {
 
     /// How long after it was put an entry is found.
     pub fn time_to_live(self, time: Duration) -> CacheBuilder<K, V, S> {
-        CacheBuilder { to_live: Some(time), ..self }
+        CacheBuilder { spans: Spans { to_live: Some(time), ..self.spans }, ..self }
     }
 
     /// How long after it was last found an entry is found, to a sixteenth of that time.
     pub fn time_to_idle(self, time: Duration) -> CacheBuilder<K, V, S> {
-        CacheBuilder { to_idle: Some(time), ..self }
+        CacheBuilder { spans: Spans { to_idle: Some(time), ..self.spans }, ..self }
+    }
+
+    /// How long after it was put a value is to be loaded anew while it is found still. Who asks for it by
+    /// [`Cache::get_or_request`] then has it with a request beside it ([`Sought::Aged`](crate::Sought::Aged)), which
+    /// one caller gets at a time. All others find it as before, also by other gets.
+    pub fn refresh_after(self, time: Duration) -> CacheBuilder<K, V, S> {
+        CacheBuilder { spans: Spans { to_refresh: Some(time), ..self.spans }, ..self }
     }
 
     /// How long after it was put an entry is found that has this key and value, where that is told: it expires by the
@@ -98,8 +104,8 @@ impl<K, V, S> CacheBuilder<K, V, S> {
     /// By what keys are hashed, in place of a hasher with keys drawn at random. Where strangers choose keys, theirs must
     /// be secret too. Keys of one hash are told apart, and one of them at a time is held.
     pub fn hasher<T: BuildHasher>(self, hasher: T) -> CacheBuilder<K, V, T> {
-        let CacheBuilder { capacity, threads, to_live, to_idle, lifetime, listener, hasher: _ } = self;
-        CacheBuilder { capacity, threads, to_live, to_idle, hasher, lifetime, listener }
+        let CacheBuilder { capacity, threads, spans, lifetime, listener, hasher: _ } = self;
+        CacheBuilder { capacity, threads, spans, hasher, lifetime, listener }
     }
 }
 
@@ -111,7 +117,7 @@ impl<K: Hash + Eq, V, S: BuildHasher> CacheBuilder<K, V, S> {
             return Err(Fault::BadSize);
         }
         let count = parts(self.capacity, self.threads);
-        let expiry = Expiry::new(self.to_live, self.to_idle, self.lifetime.is_some());
+        let expiry = Expiry::new(self.spans, self.lifetime.is_some());
         let told = Told { lifetime: self.lifetime, listener: self.listener };
         let mut spare: Vec<Vec<IdReader>> = (0..self.threads).map(|_| Vec::with_capacity(count)).collect();
         let mut parts = Vec::with_capacity(count);

@@ -2,7 +2,7 @@
 use super::expiry::Life;
 use super::leaving::Cause;
 use super::seats::Seat;
-use std::sync::atomic::AtomicU64;
+use std::sync::atomic::{AtomicBool, AtomicU64};
 use std::thread::ThreadId;
 
 /// A value with its key, in a box of its own that the store owns.
@@ -15,8 +15,10 @@ pub(super) struct Entry<K, V> {
     pub maker: Option<ThreadId>,
     /// When it was last found, as far as the time to idle asks.
     pub touched: AtomicU64,
-    /// Which of its part's puts it came by.
-    pub turn: u64,
+    /// Which of its part's turns it came by, or was outdated by since: then what was loaded beside it is not held.
+    pub turn: AtomicU64,
+    /// Whether another value is loaded beside it, or none may be. It is written under the lock.
+    pub refreshing: AtomicBool,
     pub seat: Seat,
     pub cause: Cause,
 }
@@ -31,7 +33,8 @@ impl<K, V> Entry<K, V> {
             life,
             maker,
             touched: AtomicU64::new(life.born),
-            turn: 0,
+            turn: AtomicU64::new(0),
+            refreshing: AtomicBool::new(false),
             seat: 0,
             cause: Cause::default(),
         }

@@ -26,21 +26,42 @@ pub(super) struct Expiry {
     start: Instant,
     to_live: Option<u64>,
     to_idle: Option<u64>,
+    to_refresh: Option<u64>,
     /// Whether each entry may have a time to live of its own.
     by_entry: bool,
 }
 
+/// The times of all entries.
+#[derive(Clone, Copy, Default)]
+pub(super) struct Spans {
+    pub to_live: Option<Duration>,
+    pub to_idle: Option<Duration>,
+    pub to_refresh: Option<Duration>,
+}
+
 impl Expiry {
-    pub fn new(to_live: Option<Duration>, to_idle: Option<Duration>, by_entry: bool) -> Expiry {
-        Expiry { start: Instant::now(), to_live: to_live.map(nanos), to_idle: to_idle.map(nanos), by_entry }
+    pub fn new(spans: Spans, by_entry: bool) -> Expiry {
+        let [to_live, to_idle, to_refresh] =
+            [spans.to_live, spans.to_idle, spans.to_refresh].map(|span| span.map(nanos));
+        Expiry { start: Instant::now(), to_live, to_idle, to_refresh, by_entry }
     }
 
-    /// The present. Where nothing expires no clock is read.
+    /// The present. Where nothing expires or is refreshed no clock is read.
     pub fn now(&self) -> Moment {
-        if !self.is_set() {
+        if !self.is_set() && !self.refreshes() {
             return 0;
         }
         self.start.elapsed().as_nanos() as u64
+    }
+
+    /// Whether anything is loaded anew while it is held.
+    pub fn refreshes(&self) -> bool {
+        self.to_refresh.is_some()
+    }
+
+    /// Whether an entry is so old that its value is to be loaded anew.
+    pub fn is_due<K, V>(&self, entry: &Entry<K, V>) -> bool {
+        self.to_refresh.is_some_and(|limit| self.now().saturating_sub(entry.life.born) >= limit)
     }
 
     /// Whether anything expires.

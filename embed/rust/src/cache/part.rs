@@ -8,7 +8,7 @@ use super::hold::Hold;
 use super::leaving::{Listener, RemovalCause};
 use super::lock::{Lock, Locked};
 use super::stats::CacheStats;
-use super::store::{self, Place, Store};
+use super::store::{self, Beside, Place, Store};
 use crate::drops::{with_each, with_each_then};
 use crate::ids::IdReader;
 use std::borrow::Borrow;
@@ -54,11 +54,21 @@ pub(super) enum Begun<K> {
     Load(Load<K>),
 }
 
-/// A load that its caller makes, and the number by which the store knows it. Without one nobody waits for it, and its value
-/// is the caller's own: another key has the id, or too many are loaded.
+/// What a load is for the store.
+#[derive(Clone, Copy)]
+enum Kind {
+    /// A flight of that number.
+    Flight(u64),
+    /// Its value is to take the place of an entry that is held meanwhile.
+    Beside(Beside),
+    /// None: nobody waits for it, and its value is the caller's own. Another key has the id, or too many are loaded.
+    Alone,
+}
+
+/// A load that its caller makes.
 pub(super) struct Load<K> {
     flight: Arc<Flight<K>>,
-    number: Option<u64>,
+    kind: Kind,
     /// Whether its caller has ended it.
     is_over: AtomicBool,
 }
@@ -173,18 +183,31 @@ impl<K, V> Part<K, V> {
         // What is taken out is dropped by a later call: where a drop panicked here, nobody would end the flight.
         let mut store = self.store();
         loop {
-            let number = match store.begin(&flight) {
-                store::Begun::Load(number) => Some(number),
+            let kind = match store.begin(&flight) {
+                store::Begun::Load(number) => Kind::Flight(number),
                 store::Begun::Wait(other) if other.key().borrow() == key => return Begun::Wait(other),
                 store::Begun::Held if store.expire(id, now) => continue,
                 store::Begun::Held if store.find(id).is_some_and(|entry| entry.key.borrow() == key) => {
                     return Begun::Held;
                 }
                 // Another key has the id, or too many are loaded.
-                store::Begun::Held | store::Begun::Wait(_) | store::Begun::Full => None,
+                store::Begun::Held | store::Begun::Wait(_) | store::Begun::Full => Kind::Alone,
             };
-            return Begun::Load(Load { flight, number, is_over: AtomicBool::new(false) });
+            return Begun::Load(Load { flight, kind, is_over: AtomicBool::new(false) });
         }
+    }
+
+    /// The turn of an entry beside which its value is to be loaded anew, and isn't yet.
+    pub fn due(&self, entry: &Entry<K, V>) -> Option<u64> {
+        let is_due = self.expiry.is_due(entry) && !entry.refreshing.load(Relaxed);
+        is_due.then(|| entry.turn.load(Relaxed))
+    }
+
+    /// Begins a load beside the entry of an id, unless another has, or the entry isn't the one of that turn any more.
+    pub fn begin_refresh(&self, id: u64, turn: u64, owned: K) -> Option<Load<K>> {
+        let flight = Arc::new(Flight::new(id, owned));
+        let beside = self.store().begin_refresh(id, turn)?;
+        Some(Load { flight, kind: Kind::Beside(beside), is_over: AtomicBool::new(false) })
     }
 
     /// The flight of a key, where there is one.
@@ -201,11 +224,15 @@ impl<K, V> Part<K, V> {
         let mut hold = None;
         let land = |store: &mut Store<K, V>| {
             store.counted.loads += 1;
-            let Some(number) = load.number else {
-                store.counted.refused += 1;
-                return Landed::Own(entry);
+            let ended = match load.kind {
+                Kind::Flight(number) => store.land(number, entry),
+                Kind::Beside(beside) => store.refresh(beside, entry),
+                Kind::Alone => {
+                    store.counted.refused += 1;
+                    return Landed::Own(entry);
+                }
             };
-            match store.land(number, entry) {
+            match ended {
                 Ok(place) => {
                     // Under the lock, so that nobody takes it out before.
                     hold = reader.map(|reader| Hold::of(reader, load.id()));
@@ -228,8 +255,10 @@ impl<K, V> Part<K, V> {
     pub fn crash(&self, load: &Load<K>, why: Failure) {
         let fail = |store: &mut Store<K, V>| {
             store.counted.failures += 1;
-            if let Some(number) = load.number {
-                store.fail(number);
+            match load.kind {
+                Kind::Flight(number) => store.fail(number),
+                Kind::Beside(beside) => _ = store.end_refresh(load.id(), beside),
+                Kind::Alone => {}
             }
         };
         self.change_then(fail, || load.end(End::Failed(why)));

@@ -115,7 +115,13 @@ impl<K: Hash + Eq, V, S: BuildHasher> CacheReader<K, V, S> {
         let mut found = self.look(at, key);
         loop {
             if let Some(place) = found {
-                return Sought::Held(self.borrowed(at, place));
+                let part = &self.cache.shared.parts()[at.part];
+                let held = CacheRef(Borrowed::Held(place, self.desk.hold(at)));
+                let load = part.due(held.entry()).and_then(|turn| part.begin_refresh(at.id, turn, key.to_owned()));
+                return match load {
+                    Some(load) => Sought::Aged(held, Request::of(self.cache.clone(), load)),
+                    None => Sought::Held(held),
+                };
             }
             match self.begin(at, key) {
                 Begun::Held => found = self.find(at, key),

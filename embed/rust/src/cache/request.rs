@@ -8,7 +8,8 @@ use std::fmt;
 use std::hash::{BuildHasher, Hash};
 
 /// The load of a missing key, for a pool or a dataflow's thread: its key's others wait until it is filled, or until the
-/// key is invalidated, put or changed. Dropped without that it has failed. Forgotten, it ends by the latter alone.
+/// key is invalidated, put or changed. Dropped without that it has failed. Forgotten, it ends by the latter alone. Of a
+/// key that is held, of whose value it is to load a newer one, nobody waits for it ([`Sought::Aged`]).
 #[must_use = "dropped, the load has failed"]
 pub struct Request<K: Hash + Eq, V, S: BuildHasher = RandomState> {
     cache: Cache<K, V, S>,
@@ -20,13 +21,14 @@ impl<K: Hash + Eq, V, S: BuildHasher> Request<K, V, S> {
         Request { cache, load }
     }
 
-    /// The key that is missing.
+    /// The key that is missing, or whose value is old.
     pub fn key(&self) -> &K {
         self.load.key()
     }
 
-    /// Ends it with the key's value, and wakes those who wait. Whether the cache holds the value: it doesn't where the key
-    /// was invalidated or put since, or was being changed, nor where it came beside too many others.
+    /// Ends it with the key's value, and wakes those who wait. Whether the cache holds the value: it doesn't where the
+    /// key was invalidated or put since, or was being changed, nor where it came beside too many others, nor, of a key
+    /// that was held, where the value went that is to be replaced.
     pub fn fill(self, value: V) -> bool
     where
         K: Clone,
@@ -63,6 +65,11 @@ impl<K: Hash + Eq + fmt::Debug, V, S: BuildHasher> fmt::Debug for Request<K, V, 
 pub enum Sought<T, K: Hash + Eq, V, S: BuildHasher = RandomState> {
     /// The cache holds its value.
     Held(T),
+    /// So it does, and that is as old as [`CacheBuilder::refresh_after`](super::CacheBuilder::refresh_after) says: this
+    /// caller alone has a request to load it anew, beside which others go on finding what is held. Dropped, another
+    /// caller gets one. What it is filled with takes that value's place, unless that was invalidated, put or changed
+    /// since, or made room.
+    Aged(T, Request<K, V, S>),
     /// It is missing, and this caller alone has its request, which is to be filled.
     Missing(Request<K, V, S>),
     /// It is missing, and another loads it: a task awaits that, a thread may wait by

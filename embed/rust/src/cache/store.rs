@@ -11,6 +11,7 @@ use crate::ids::{Ids, Miss, Put, Times};
 use std::borrow::Borrow;
 use std::panic::{catch_unwind, resume_unwind, AssertUnwindSafe};
 use std::ptr::NonNull;
+use std::sync::atomic::Ordering::Relaxed;
 use std::sync::Arc;
 
 pub(super) type Place<K, V> = NonNull<Entry<K, V>>;
@@ -33,8 +34,17 @@ pub(super) struct Store<K, V> {
     turns: u64,
     turns_before: u64,
     pub under_way: UnderWay<K>,
+    /// How often all loads were outdated.
+    clearings: u64,
     /// All but what readers count.
     pub counted: CacheStats,
+}
+
+/// The entry beside which a value is loaded: it was not outdated when that began.
+#[derive(Clone, Copy)]
+pub(super) struct Beside {
+    turn: u64,
+    clearings: u64,
 }
 
 /// What a miss of an id comes to.
@@ -59,6 +69,7 @@ impl<K, V> Store<K, V> {
             turns: 0,
             turns_before: 0,
             under_way: UnderWay::new(),
+            clearings: 0,
             counted: CacheStats::default(),
         }
     }
@@ -120,15 +131,51 @@ impl<K, V> Store<K, V> {
         self.ids.fail(number);
     }
 
+    /// Begins a load beside the entry of an id, where that is the one of that turn still, and none is under way there.
+    pub fn begin_refresh(&mut self, id: u64, turn: u64) -> Option<Beside> {
+        let clearings = self.clearings;
+        let entry = self.find(id).filter(|entry| entry.turn.load(Relaxed) == turn)?;
+        (!entry.refreshing.swap(true, Relaxed)).then_some(Beside { turn, clearings })
+    }
+
+    /// Ends it by an entry in place of that one, or gives it back where that was outdated or has gone.
+    pub fn refresh(&mut self, beside: Beside, entry: Box<Entry<K, V>>) -> PutEntry<K, V> {
+        let is_of_now = self.end_refresh(entry.id, beside) && beside.clearings == self.clearings;
+        match self.place(entry.id).filter(|_| is_of_now) {
+            Some(old) => self.swap(old, entry),
+            None => Err(entry),
+        }
+    }
+
+    /// Ends it without one, so that another may begin there: whether that entry is there still.
+    pub fn end_refresh(&mut self, id: u64, beside: Beside) -> bool {
+        let entry = self.find(id).filter(|entry| entry.turn.load(Relaxed) == beside.turn);
+        entry.is_some_and(|entry| entry.refreshing.swap(false, Relaxed))
+    }
+
     /// What is loaded for an id will not be held. That load ends here, so that who misses the id now begins another.
     pub fn outdate(&mut self, id: u64) {
         if let Some(number) = self.under_way.outdate(id) {
             self.ids.fail(number);
         }
+        if self.expiry.refreshes() {
+            self.outdate_beside(id);
+        }
+    }
+
+    /// What is loaded beside the entry of an id will not be held, and no other load begins there.
+    fn outdate_beside(&mut self, id: u64) {
+        self.turns += 1;
+        let turn = self.turns;
+        if let Some(entry) = self.find(id) {
+            entry.turn.store(turn, Relaxed);
+            entry.refreshing.store(true, Relaxed);
+        }
     }
 
     /// The same of all ids.
     pub fn outdate_all(&mut self) {
+        self.clearings += 1;
         while let Some(number) = self.under_way.outdate_one() {
             self.ids.fail(number);
         }
@@ -161,7 +208,7 @@ impl<K, V> Store<K, V> {
         let (wanted, times) = (self.held() + usize::from(is_new), self.expiry.times(entry.life));
         self.turns += 1;
         let seat = self.seats.take(entry.id);
-        (entry.turn, entry.seat) = (self.turns, seat);
+        (*entry.turn.get_mut(), entry.seat) = (self.turns, seat);
         let place = NonNull::from(Box::leak(entry));
         match put(&mut self.ids, place.as_ptr() as u64, times) {
             Put::Held(old) => {
@@ -207,7 +254,7 @@ impl<K, V> Store<K, V> {
     pub fn cause_of(&self, entry: &Entry<K, V>, now: Moment) -> RemovalCause {
         match entry.cause.noted() {
             Some(cause) => cause,
-            None if entry.turn <= self.turns_before => RemovalCause::Explicit,
+            None if entry.turn.load(Relaxed) <= self.turns_before => RemovalCause::Explicit,
             // The store lets go first what has expired.
             None if self.expiry.is_over(entry, now) => RemovalCause::Expired,
             None => RemovalCause::Size,

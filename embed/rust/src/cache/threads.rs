@@ -83,13 +83,19 @@ impl<K: Hash + Eq + 'static, V: Clone + 'static, S: BuildHasher + 'static> Cache
         Q: Hash + Eq + ToOwned<Owned = K> + ?Sized,
     {
         let at = self.shared.at(key);
-        let mut found = self.look(at, key);
+        let part = &self.shared.parts()[at.part];
+        let seen = |entry: &Entry<K, V>| (entry.value.clone(), part.due(entry));
+        let mut found = self.look_with(at, key, seen);
         loop {
-            if let Some(value) = found {
-                return Sought::Held(value);
+            if let Some((value, due)) = found {
+                let load = due.and_then(|turn| part.begin_refresh(at.id, turn, key.to_owned()));
+                return match load {
+                    Some(load) => Sought::Aged(value, Request::of(self.clone(), load)),
+                    None => Sought::Held(value),
+                };
             }
-            match self.shared.parts()[at.part].begin(at.id, key, key.to_owned()) {
-                Begun::Held => found = self.read(at, key, V::clone),
+            match part.begin(at.id, key, key.to_owned()) {
+                Begun::Held => found = self.read_if(at, |entry| part.is_found(entry, key), seen),
                 Begun::Wait(flight) => return Sought::UnderWay(Wait::of(self.clone(), flight)),
                 Begun::Load(load) => return Sought::Missing(Request::of(self.clone(), load)),
             }
@@ -101,10 +107,18 @@ impl<K: Hash + Eq + 'static, V: Clone + 'static, S: BuildHasher + 'static> Cache
     where
         K: Borrow<Q>,
     {
+        self.look_with(at, key, |entry| entry.value.clone())
+    }
+
+    /// The same, and what `read` makes of the entry.
+    fn look_with<Q: Eq + ?Sized, R>(&self, at: At, key: &Q, read: impl FnOnce(&Entry<K, V>) -> R) -> Option<R>
+    where
+        K: Borrow<Q>,
+    {
         let part = &self.shared.parts()[at.part];
         with_desk(&self.shared, |desk| {
             let Some(desk) = desk else {
-                let found = part.read_if(at.id, |entry| part.is_found(entry, key), |entry| entry.value.clone());
+                let found = part.read_if(at.id, |entry| part.is_found(entry, key), read);
                 part.count(|counted| match found {
                     Some(_) => counted.hits += 1,
                     None => counted.misses += 1,
@@ -112,11 +126,11 @@ impl<K: Hash + Eq + 'static, V: Clone + 'static, S: BuildHasher + 'static> Cache
                 return found;
             };
             let counts = &part.counts[desk.number];
-            let read = |entry: &Entry<K, V>| {
+            let count_and_read = |entry: &Entry<K, V>| {
                 counts.count_hit();
-                entry.value.clone()
+                read(entry)
             };
-            let found = desk.read_if(at, |entry| part.is_found(entry, key), read);
+            let found = desk.read_if(at, |entry| part.is_found(entry, key), count_and_read);
             if found.is_none() {
                 counts.count_miss();
             }

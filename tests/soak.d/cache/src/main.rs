@@ -75,10 +75,11 @@ impl BuildHasher for Sharing {
 
 type Values = Cache<u32, Value, Sharing>;
 
-/// A request, and how many calls that outdate its key's loads had ended before it was asked for.
+/// A request, and how many calls that outdate its key's loads had ended before it was asked for; or none, where the key
+/// is held: then another may load it too once that makes room.
 struct Wanted {
     request: Request<u32, Value, Sharing>,
-    ended: u64,
+    ended: Option<u64>,
 }
 
 struct Client<'a> {
@@ -159,7 +160,7 @@ impl Client<'_> {
     fn load(&mut self, key: u32, limit: Option<Duration>) {
         let (floor, luck, place) = (model_floor(key), self.dice.roll(64), self.place);
         let ended = ended(key);
-        let load = || loaded(key, luck, place, ended);
+        let load = || loaded(key, luck, place, Some(ended));
         let found = match limit {
             Some(limit) => self.reader.try_get_with_timeout(&key, limit, load),
             None => self.reader.try_get_with(&key, load).map_err(LoadError::Failed),
@@ -176,7 +177,11 @@ impl Client<'_> {
         let (floor, ended) = (model_floor(key), ended(key));
         match self.reader.get_or_request(&key) {
             Sought::Held(found) => found.look(key, floor),
-            Sought::Missing(request) => _ = self.pool.send(Wanted { request, ended }),
+            Sought::Aged(found, request) => {
+                found.look(key, floor);
+                _ = self.pool.send(Wanted { request, ended: None });
+            }
+            Sought::Missing(request) => _ = self.pool.send(Wanted { request, ended: Some(ended) }),
             Sought::UnderWay(_) => {}
         }
     }
@@ -232,8 +237,8 @@ impl Drop for Load {
 }
 
 /// What a load gives that begins now, unless it fails or panics. Some take long.
-fn loaded(key: u32, luck: u64, place: u32, ended: u64) -> Result<Value, ()> {
-    let _load = Load::of(key, ended);
+fn loaded(key: u32, luck: u64, place: u32, ended: Option<u64>) -> Result<Value, ()> {
+    let _load = ended.map(|ended| Load::of(key, ended));
     let version = model_newest(key);
     match luck {
         0 | 1 => return Err(()),
@@ -297,6 +302,8 @@ fn open(dice: &mut Dice) -> Values {
         if dice.roll(2) == 0 { builder.time_to_live(Duration::from_millis(1 + dice.roll(50))) } else { builder };
     let builder =
         if dice.roll(2) == 0 { builder.time_to_idle(Duration::from_millis(1 + dice.roll(50))) } else { builder };
+    let builder =
+        if dice.roll(2) == 0 { builder.refresh_after(Duration::from_millis(1 + dice.roll(20))) } else { builder };
     builder.open().expect("there is memory")
 }
 
