@@ -62,7 +62,7 @@ impl<K: Hash + Eq + 'static, V: Clone + 'static, S: BuildHasher + 'static> Cache
                 return Ok(value);
             }
             match part.begin(at.id, key, key.to_owned()) {
-                Begun::Load(own) => return load_by(part, &own, key.to_owned(), load),
+                Begun::Load(own) => return load_by(part, &own, key, load),
                 Begun::Wait(flight) => {
                     part.count(|counted| counted.waits += 1);
                     if let Some(why) = flight.wait(None).and_then(failure) {
@@ -161,15 +161,15 @@ impl<K: Hash + Eq + 'static, V: Clone + 'static, S: BuildHasher + 'static> Cache
     }
 }
 
-/// Ends a load by what it gives. Where it panics, it has failed.
-fn load_by<K, V: Clone, E: Send + Sync + 'static>(
-    part: &Part<K, V>,
-    own: &Load<K>,
-    key: K,
+/// Ends a load by what it gives. Where it or a clone of its key panics, it has failed.
+fn load_by<Q: ToOwned + ?Sized, V: Clone, E: Send + Sync + 'static>(
+    part: &Part<Q::Owned, V>,
+    own: &Load<Q::Owned>,
+    key: &Q,
     load: impl FnOnce() -> Result<V, E>,
 ) -> Result<V, Arc<E>> {
     let _failing = Failing { part, load: own };
-    end_by(part, own, key, Some(thread::current().id()), load())
+    end_by(part, own, key.to_owned(), Some(thread::current().id()), load())
 }
 
 /// Ends a load by what it gave, in that thread where it ran in one.

@@ -1,7 +1,7 @@
 //! Where what its user gave a cache panics or calls the cache, nothing stays locked, held back or under way.
 use super::cache::{caught, panicking};
 use crate::*;
-use std::cell::RefCell;
+use std::cell::{Cell, RefCell};
 use std::hash::{Hash, Hasher};
 use std::panic::{catch_unwind, AssertUnwindSafe};
 use std::rc::Rc;
@@ -140,6 +140,22 @@ fn a_load_whose_key_cannot_be_cloned_has_failed() {
     assert!(found.is_some_and(|found| *found == 3 && found.is_held()));
     assert_eq!(hooked(panicking, || reader.update(&Key(1), |old| old + 1)), None);
     assert_eq!(reader.get(&Key(1)).as_deref(), Some(&3));
+}
+
+#[test]
+fn a_get_whose_key_cannot_be_cloned_leaves_nothing_under_way() {
+    let cache: Cache<Key, u64> = Cache::builder().open().unwrap();
+    // Before the load begins, and after.
+    for clones in 0..2 {
+        let made = Cell::new(0);
+        let panics = move || {
+            if made.replace(made.get() + 1) == clones {
+                panicking()
+            }
+        };
+        assert_eq!(hooked(panics, || cache.get_with(&Key(1), || unreachable!())), None);
+        assert!(matches!(cache.reader().unwrap().get_or_request(&Key(1)), Sought::Missing(_)));
+    }
 }
 
 /// Calls its cache as it is dropped.
