@@ -2,6 +2,7 @@
 use crate::*;
 
 mod all;
+mod attack;
 mod cache;
 mod emptied;
 mod eviction;

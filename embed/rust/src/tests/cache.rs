@@ -520,7 +520,7 @@ fn zipf(dice: u64) -> u64 {
     (KEYS as f64).powf(even) as u64 - 1
 }
 
-fn roll(dice: &mut u64) -> u64 {
+pub(super) fn roll(dice: &mut u64) -> u64 {
     *dice ^= *dice << 13;
     *dice ^= *dice >> 7;
     *dice ^= *dice << 17;
