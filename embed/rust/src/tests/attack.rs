@@ -101,7 +101,8 @@ struct Record {
     version: AtomicU64,
     /// The version whose write has returned.
     floor: AtomicU64,
-    is_loading: AtomicBool,
+    /// Of each load that is under way how many changes had ended before it was asked for.
+    loads: Mutex<Vec<u64>>,
     /// A key has one write at a time.
     write: Mutex<()>,
 }
@@ -114,6 +115,8 @@ struct Base {
     alive: Mutex<HashSet<u64>>,
     made: AtomicU64,
     is_twice_dropped: AtomicBool,
+    /// How many calls that invalidate all have begun, and have ended.
+    clearings: [AtomicU64; 2],
 }
 
 fn locked<T>(lock: &Mutex<T>) -> MutexGuard<'_, T> {
@@ -123,8 +126,8 @@ fn locked<T>(lock: &Mutex<T>) -> MutexGuard<'_, T> {
 impl Base {
     fn new(is_shared: bool) -> Arc<Base> {
         let records = (0..KEYS).map(|_| Record::default()).collect();
-        let (alive, made) = (Mutex::default(), AtomicU64::new(0));
-        Arc::new(Base { records, is_shared, alive, made, is_twice_dropped: AtomicBool::new(false) })
+        let (alive, made, clearings) = (Mutex::default(), AtomicU64::new(0), Default::default());
+        Arc::new(Base { records, is_shared, alive, made, is_twice_dropped: AtomicBool::new(false), clearings })
     }
 
     fn of(&self, key: &Key) -> &Record {
@@ -133,6 +136,15 @@ impl Base {
 
     fn floor(&self, key: &Key) -> u64 {
         self.of(key).floor.load(SeqCst)
+    }
+
+    /// How many changes that outdate the key's loads have begun, and how many have ended.
+    fn begun(&self, key: &Key) -> u64 {
+        self.of(key).version.load(SeqCst) + self.clearings[0].load(SeqCst)
+    }
+
+    fn ended(&self, key: &Key) -> u64 {
+        self.floor(key) + self.clearings[1].load(SeqCst)
     }
 
     fn count(&self) -> usize {
@@ -179,21 +191,45 @@ impl Drop for Value {
     }
 }
 
-/// A key's load, which no other overlaps.
-struct Alone<'a>(&'a AtomicBool);
+/// A key's load, until it is dropped. Another may overlap it once a change has outdated it.
+struct Load<'a> {
+    all: &'a Mutex<Vec<u64>>,
+    ended: u64,
+}
 
-impl<'a> Alone<'a> {
-    fn of(base: &'a Base, key: &Key) -> Alone<'a> {
-        let is_loading = &base.of(key).is_loading;
-        let was_loading = is_loading.swap(true, SeqCst);
-        assert!(!was_loading || base.is_shared, "two loads of key {} overlap", key.0);
-        Alone(is_loading)
+impl<'a> Load<'a> {
+    /// A load of the key by a get before which so many changes had ended.
+    fn of(base: &'a Base, key: &Key, ended: u64) -> Load<'a> {
+        let (all, begun) = (&base.of(key).loads, base.begun(key));
+        let mut loads = locked(all);
+        let overlaps = ended == begun && loads.contains(&begun);
+        assert!(!overlaps || base.is_shared, "two loads of key {} overlap", key.0);
+        loads.push(ended);
+        Load { all, ended }
     }
 }
 
-impl Drop for Alone<'_> {
+impl Drop for Load<'_> {
     fn drop(&mut self) {
-        self.0.store(false, SeqCst);
+        let mut loads = locked(self.all);
+        let place = loads.iter().position(|ended| *ended == self.ended).expect("it is among them");
+        loads.swap_remove(place);
+    }
+}
+
+/// A call that invalidates all, until it is dropped.
+struct Clearing<'a>(&'a Base);
+
+impl Clearing<'_> {
+    fn of(base: &Base) -> Clearing<'_> {
+        base.clearings[0].fetch_add(1, SeqCst);
+        Clearing(base)
+    }
+}
+
+impl Drop for Clearing<'_> {
+    fn drop(&mut self) {
+        self.0.clearings[1].fetch_add(1, SeqCst);
     }
 }
 
@@ -241,13 +277,13 @@ impl Attacker {
     }
 
     fn call(&self, key: &Key) {
-        let floor = self.base.floor(key);
+        let (floor, ended) = (self.base.floor(key), self.base.ended(key));
         match self.draw(8) {
             0 => self.write(key),
             1 => self.cache.get(key).iter().for_each(|found| found.is_right(key, floor)),
-            2..=4 => self.cache.get_with(key, || self.load(key)).is_right(key, floor),
+            2..=4 => self.cache.get_with(key, || self.load(key, ended)).is_right(key, floor),
             5 | 6 => {
-                let found = self.cache.try_get_with(key, || self.try_load(key));
+                let found = self.cache.try_get_with(key, || self.try_load(key, ended));
                 found.iter().for_each(|found| found.is_right(key, floor));
             }
             _ => self.get_many(),
@@ -255,13 +291,13 @@ impl Attacker {
     }
 
     fn read(&self, reader: &mut Reader, key: &Key) {
-        let floor = self.base.floor(key);
+        let (floor, ended) = (self.base.floor(key), self.base.ended(key));
         match self.draw(4) {
             0 => self.hold(reader, key),
             1 => self.request(reader, key),
-            2 => reader.get_with(key, || self.load(key)).is_right(key, floor),
+            2 => reader.get_with(key, || self.load(key, ended)).is_right(key, floor),
             _ => {
-                let found = reader.try_get_with(key, || self.try_load(key));
+                let found = reader.try_get_with(key, || self.try_load(key, ended));
                 found.iter().for_each(|found| found.is_right(key, floor));
             }
         }
@@ -271,8 +307,10 @@ impl Attacker {
     fn get_many(&self) {
         let keys = [(); 4].map(|()| self.key());
         let floors = keys.each_ref().map(|key| self.base.floor(key));
+        let ended = keys.each_ref().map(|key| (key.0, self.base.ended(key)));
         let load = |wanted: &[&Key]| {
-            let _alone: Vec<_> = wanted.iter().map(|key| Alone::of(&self.base, key)).collect();
+            let ended = |key: &Key| ended.iter().find(|of| of.0 == key.0).expect("it was asked for").1;
+            let _loads: Vec<_> = wanted.iter().map(|key| Load::of(&self.base, key, ended(key))).collect();
             wanted.iter().map(|key| self.newest(key)).collect()
         };
         let found = self.cache.get_many_with(&keys.each_ref(), load);
@@ -294,16 +332,16 @@ impl Attacker {
 
     /// Has a request filled, fail or be dropped, and writes before that.
     fn request(&self, reader: &mut Reader, key: &Key) {
-        let floor = self.base.floor(key);
+        let (floor, ended) = (self.base.floor(key), self.base.ended(key));
         match reader.get_or_request(key) {
-            Sought::Held(found) => found.is_right(key, floor),
-            Sought::UnderWay => {}
+            Sought::Held(found) | Sought::Aged(found, _) => found.is_right(key, floor),
+            Sought::UnderWay(_) => {}
             Sought::Missing(request) => {
-                let alone = Alone::of(&self.base, key);
+                let own = Load::of(&self.base, key, ended);
                 let value = self.newest(key);
                 self.write(&self.key());
                 // Another may load once the request has ended.
-                drop(alone);
+                drop(own);
                 match self.draw(4) {
                     0 => drop(request),
                     1 => request.fail("the base is away"),
@@ -313,16 +351,16 @@ impl Attacker {
         }
     }
 
-    fn try_load(&self, key: &Key) -> Result<Value, &'static str> {
+    fn try_load(&self, key: &Key, ended: u64) -> Result<Value, &'static str> {
         match self.draw(8) {
             0 => Err("the base is away"),
-            _ => Ok(self.load(key)),
+            _ => Ok(self.load(key, ended)),
         }
     }
 
     /// Reads the base, beside which there may be writes.
-    fn load(&self, key: &Key) -> Value {
-        let _alone = Alone::of(&self.base, key);
+    fn load(&self, key: &Key, ended: u64) -> Value {
+        let _own = Load::of(&self.base, key, ended);
         let value = self.newest(key);
         match self.draw(8) {
             0 => self.write(key),
@@ -344,7 +382,10 @@ impl Attacker {
         let _alone = locked(&record.write);
         let version = record.version.fetch_add(1, SeqCst) + 1;
         match (self.draw(16), self.cache.reader()) {
-            (0, _) => self.cache.invalidate_all(),
+            (0, _) => {
+                let _all = Clearing::of(&self.base);
+                self.cache.invalidate_all();
+            }
             (1..=5, _) => _ = self.cache.insert(key.clone(), self.newest(key)),
             (6..=10, Some(mut reader)) => _ = reader.update(key, |_| self.newest(key)),
             _ => _ = self.cache.invalidate(key),
@@ -411,9 +452,9 @@ fn is_whole(cache: &Values, base: &Arc<Base>, readers: u32) {
     let mut all: Vec<_> = (0..readers).map(|_| cache.reader().expect("each reader is back")).collect();
     for key in (0..KEYS).map(Key::new) {
         match all[0].get_or_request(&key) {
-            Sought::Held(found) => found.is_right(&key, base.floor(&key)),
+            Sought::Held(found) | Sought::Aged(found, _) => found.is_right(&key, base.floor(&key)),
             Sought::Missing(request) => drop(request),
-            Sought::UnderWay => panic!("the load of key {} has no end", key.0),
+            Sought::UnderWay(_) => panic!("the load of key {} has no end", key.0),
         }
         assert!(cache.insert(key.clone(), Value::new(base, key.0, base.floor(&key))));
     }
