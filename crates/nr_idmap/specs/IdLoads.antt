@@ -23,8 +23,8 @@ key_named (Some at) = at.way
 abbrev pub keys_named : List (Option NamedWay) → List ℕ
 keys_named ways = map key_named ways
 
--- the hints of each one's group were loaded, with its first name; all were looked up; and words were loaded that finds in their ways
--- need; what is held stays held
+-- the hints of each one's group were loaded, with its first name; all were looked up; and words were loaded that finds
+-- in their ways need; what is held stays held
 pub record LooksAhead (ids : List ℕ) (ways : List (Option NamedWay)) (old new : IdHanded) : Type 0 where
   pub ahead : Token
   pub loads : LoadsGroups ids old.ids ahead

@@ -15,7 +15,8 @@ look_up-requires-clause-ids g c = subst (All (λ (id : ℕ). 0 < id)) (sym c.cop
 
 pub find_in_ways-requires-clause-near : goal.find_in_ways-requires-clause-near
 find_in_ways-requires-clause-near g c =
-    All-take (IsNear c.args.self.now.map.shape.keys) (length c.args.wanted.now) c.look_up.new.ways c.look_up.ensures.near
+    All-take (IsNear c.args.self.now.map.shape.keys) (length c.args.wanted.now) c.look_up.new.ways
+    c.look_up.ensures.near
 
 pub find_in_ways-requires-clause-as_many : goal.find_in_ways-requires-clause-as_many
 find_in_ways-requires-clause-as_many g c =

@@ -28,7 +28,8 @@ loop-place-preserved g c =
       made =
           one_more (FindsNext shows) (c.args.hand.now, ways) wanted place (hand, drop place ways) ones had one low
           c.index-wanted-place.is (next, drop (place + 1) ways) done
-          (subst (λ (left : List (Option NamedWay)). FindsNext shows (hand, left) one (next, drop (place + 1) ways) done)
+          (subst
+          (λ (left : List (Option NamedWay)). FindsNext shows (hand, left) one (next, drop (place + 1) ways) done)
           (sym (drop_more ways place None near)) (refl, finds));
     }
 
@@ -41,8 +42,8 @@ returns-clause-finds g c =
     let ones : List (WantedId g.row.R.Denot) = c.loop-place.wanted in
     let had = c.loop-place.invariant.made in
     subst
-    (λ (left : List (Option NamedWay)). InTurn (FindsNext shows) (c.args.hand.now, ways) wanted (c.loop-place.hand, left)
-    ones)
+    (λ (left : List (Option NamedWay)). InTurn (FindsNext shows) (c.args.hand.now, ways) wanted
+    (c.loop-place.hand, left) ones)
     (drop_all place ways (omega (arith, c.loop-place-test.false)))
     (all_made (FindsNext shows) (c.args.hand.now, ways) wanted place (c.loop-place.hand, drop place ways) ones had
     (omega (arith, c.loop-place-test.false, c.requires.as_many, had.long)))
