@@ -73,10 +73,23 @@ pub enum Miss {
 /// What a number comes to that is to be held.
 #[derive(Clone, Copy, Debug, PartialEq, Eq)]
 pub enum Put {
-    /// It is held, and this one came out.
-    Held(Option<u64>),
+    /// It is held, and another came out.
+    Held(Option<CameOut>),
     /// It is its caller's own.
     Own,
+}
+
+/// A number that came out, and the stamp that it was put with.
+#[derive(Clone, Copy, Debug, PartialEq, Eq)]
+pub struct CameOut {
+    pub number: u64,
+    pub stamp: u64,
+}
+
+impl Given {
+    fn came_out(&self) -> CameOut {
+        CameOut { number: self.number, stamp: self.stamp }
+    }
 }
 
 /// Opens a cache of numbers, and its readers.
@@ -224,11 +237,11 @@ impl Ids {
     }
 
     /// A number that nobody can see any more, or none where readers hold all that wait.
-    pub fn reap(&mut self) -> Option<u64> {
+    pub fn reap(&mut self) -> Option<CameOut> {
         let mut given = Given::default();
         // SAFETY: the handle is live, and what comes out is laid out as the header's.
         let code = unsafe { ffi::nr_cache_reap(&mut self.handle, &mut given) };
-        (code == ffi::NR_GIVEN).then_some(given.number)
+        (code == ffi::NR_GIVEN).then(|| given.came_out())
     }
 
     /// How many ids have a number.
@@ -243,7 +256,7 @@ impl Ids {
 fn put(code: u32, given: &Given) -> Put {
     match code {
         ffi::NR_DONE => Put::Held(None),
-        ffi::NR_GIVEN => Put::Held(Some(given.number)),
+        ffi::NR_GIVEN => Put::Held(Some(given.came_out())),
         _ => Put::Own,
     }
 }

@@ -1,5 +1,6 @@
 //! When entries expire.
 use super::entry::Entry;
+use super::seats::Seat;
 use crate::ids::Times;
 use std::sync::atomic::Ordering::Relaxed;
 use std::sync::Arc;
@@ -19,6 +20,14 @@ pub(super) struct Life {
 }
 
 const NEVER: Moment = Moment::MAX;
+
+/// The bits of a stamp that tell the seat: more than the most entries of a part and all readers have.
+const SEATS: u64 = (1 << 22) - 1;
+
+/// Where an entry sat that came out with that stamp. So nobody reads it under the lock, whom another thread wrote.
+pub(super) fn seat_of(stamp: u64) -> Seat {
+    ((stamp & SEATS) - 1) as Seat
+}
 
 /// How long entries live, and the clock by which they do.
 #[derive(Clone, Copy)]
@@ -87,12 +96,11 @@ impl Expiry {
         Life { born: now, dies }
     }
 
-    /// By what the store knows of an entry that is put when it will have lived, and of the others whether they have.
-    pub fn times(&self, life: Life) -> Times {
-        match self.has_ages() {
-            true => Times { stamp: life.dies.max(1), bound: life.born.saturating_add(1) },
-            false => Times { stamp: 1, bound: 0 },
-        }
+    /// By what the store knows of an entry that is put when it will have lived, to four milliseconds, and where it
+    /// sits, and of the others whether they have lived.
+    pub fn times(&self, life: Life, seat: Seat) -> Times {
+        let (dies, bound) = if self.has_ages() { (life.dies, life.born.saturating_add(1)) } else { (0, 0) };
+        Times { stamp: dies & !SEATS | (u64::from(seat) + 1), bound }
     }
 
     pub fn is_over<K, V>(&self, entry: &Entry<K, V>, now: Moment) -> bool {

@@ -7,7 +7,8 @@ const AT_ONCE: usize = 64;
 /// An entry's place among those of its part, from its put on until it comes out.
 pub(super) type Seat = u32;
 
-/// Which ids sit where. A free seat has the id 0.
+/// Which ids sit where. A free seat has the id that sat there last, whose entry, where it has one, tells that it sits
+/// elsewhere.
 pub(super) struct Seats {
     ids: Vec<u64>,
     free: Vec<Seat>,
@@ -30,7 +31,6 @@ impl Seats {
     }
 
     pub fn leave(&mut self, seat: Seat) {
-        self.ids[seat as usize] = 0;
         self.free.push(seat);
     }
 
@@ -39,9 +39,9 @@ impl Seats {
         (0..self.ids.len()).step_by(AT_ONCE)
     }
 
-    /// Who sits on these few.
+    /// Who sits on these few, or sat there.
     pub fn from(&self, first: usize) -> Vec<Seated> {
         let few = self.ids.iter().zip(0..).skip(first).take(AT_ONCE);
-        few.filter(|(id, _)| **id != 0).map(|(id, seat)| Seated { id: *id, seat }).collect()
+        few.map(|(id, seat)| Seated { id: *id, seat }).collect()
     }
 }

@@ -1,13 +1,13 @@
 //! What is under a part's lock: the entries that are held, by the numbers of their places.
 use super::all::Seated;
 use super::entry::Entry;
-use super::expiry::{Expiry, Moment};
+use super::expiry::{seat_of, Expiry, Moment};
 use super::flights::Flight;
 use super::leaving::RemovalCause;
 use super::seats::Seats;
 use super::stats::CacheStats;
 use super::under_way::UnderWay;
-use crate::ids::{Ids, Miss, Put, Times};
+use crate::ids::{CameOut, Ids, Miss, Put, Times};
 use std::borrow::Borrow;
 use std::panic::{catch_unwind, resume_unwind, AssertUnwindSafe};
 use std::ptr::NonNull;
@@ -205,14 +205,14 @@ impl<K, V> Store<K, V> {
         is_new: bool,
         put: impl FnOnce(&mut Ids, u64, Times) -> Put,
     ) -> PutEntry<K, V> {
-        let (wanted, times) = (self.held() + usize::from(is_new), self.expiry.times(entry.life));
+        let (wanted, seat) = (self.held() + usize::from(is_new), self.seats.take(entry.id));
+        let times = self.expiry.times(entry.life, seat);
         self.turns += 1;
-        let seat = self.seats.take(entry.id);
         (*entry.turn.get_mut(), entry.seat) = (self.turns, seat);
         let place = NonNull::from(Box::leak(entry));
         match put(&mut self.ids, place.as_ptr() as u64, times) {
             Put::Held(old) => {
-                self.came_out.extend(old.map(place_of));
+                old.into_iter().for_each(|out| self.comes_out(out));
                 self.counted.evictions += (wanted - self.held()) as u64;
                 Ok(place)
             }
@@ -303,16 +303,16 @@ impl<K, V> Store<K, V> {
 
     /// The entries that came out: all that left but those that readers hold.
     pub fn reap(&mut self) -> impl Iterator<Item = Box<Entry<K, V>>> + '_ {
-        while let Some(number) = self.ids.reap() {
-            self.came_out.push(place_of(number));
+        while let Some(out) = self.ids.reap() {
+            self.comes_out(out);
         }
-        let seats = &mut self.seats;
-        self.came_out.drain(..).map(|place| {
-            // SAFETY: nobody can see it any more, and it came out once.
-            let entry = unsafe { Box::from_raw(place.as_ptr()) };
-            seats.leave(entry.seat);
-            entry
-        })
+        // SAFETY: nobody can see them any more, and each came out once.
+        self.came_out.drain(..).map(|place| unsafe { Box::from_raw(place.as_ptr()) })
+    }
+
+    fn comes_out(&mut self, out: CameOut) {
+        self.seats.leave(seat_of(out.stamp));
+        self.came_out.push(place_of(out.number));
     }
 
     /// All entries, of a cache that nobody uses any more: no reader holds one.
