@@ -1,5 +1,5 @@
 -- What the find of a reader that heard a note finds.
-use Rattle.std.proofs.Common.{◌≡◌, ℕ, ◌+◌, ◌*◌, ◌<◌, List, [], length, append-nil, refl, sym}
+use Rattle.std.proofs.Common.{◌+◌, ◌*◌, ◌<◌, List, [], length, append-nil, refl, sym}
 use Rattle.nr_model.specs.declared.rows.Row.{Row}
 use Rattle.nr_model.specs.declared.calls.Reply.TheVariants as reply
 use Rattle.nr_board.specs.declared.answers.Found.{Found}

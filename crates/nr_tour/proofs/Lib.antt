@@ -1,2 +1,4 @@
+mod Copies
+mod Doing
 mod HeardNotes
 mod Told

@@ -1,5 +1,5 @@
 -- A replacement is told of once it is there.
-use Rattle.std.proofs.Common.{◌≡◌, ◌++◌, ◌∷◌, ℕ, List, [], Ok, append-nil, eq-eqb, refl, sym, ◌∙◌}
+use Rattle.std.proofs.Common.{◌++◌, ℕ, List, [], Ok, append-nil, eq-eqb, refl, sym, ◌∙◌}
 use Rattle.nr_model.specs.declared.rows.Row.{Row}
 use Rattle.nr_board.specs.Callers.{Caller}
 use Rattle.nr_board.specs.Meetings.{known_to}

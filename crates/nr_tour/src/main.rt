@@ -1,7 +1,8 @@
-//! A tour for users: a chapter in each file, of the map, of the queue and the server, and of ids. It makes
-//! their calls, and prints what they answered.
+//! A tour for users: a chapter in each file, of the map, of the queue and the server, of ids, and of a cache's
+//! store. It makes their calls, and prints what they answered.
 #![tactic(auto)]
 
+mod cache;
 mod ids;
 mod map;
 mod server;
@@ -9,5 +10,6 @@ mod server;
 fn main(rt: HostRuntime) -> anyhow::Result<()> {
     map::show_map(&rt)?;
     server::show(&rt)?;
-    ids::show(&rt)
+    ids::show(&rt)?;
+    cache::show(&rt)
 }
