@@ -44,8 +44,8 @@ use std::hash::{BuildHasher, Hash};
 use std::sync::Arc;
 
 /// A cache in front of something slow: it holds so many values, of keys from a set of any size, and has each missing
-/// value loaded once, however many threads miss it. A get that finds its key takes no lock, and writes no word that
-/// others read but its key's and its reader's.
+/// value loaded once, however many threads miss it, and once more only after its key has changed. A get that finds its
+/// key takes no lock, and writes no word that others read but its key's and its reader's.
 ///
 /// It is a handle: clones are of one cache, whose memory goes with the last of them and of its readers.
 ///
