@@ -1,45 +1,12 @@
 //! Loads that are under way.
+use super::failure::Failure;
+use super::sync::{look_often, now, Condvar, Mutex, MutexGuard, OnceLock};
 use crate::drops::with_each;
-use std::any::Any;
-use std::error::Error;
 use std::future::Future;
 use std::pin::Pin;
-use std::sync::{Arc, Condvar, Mutex, MutexGuard, OnceLock, PoisonError};
+use std::sync::{Arc, PoisonError};
 use std::task::{Context, Poll, Waker};
 use std::time::Instant;
-
-/// Why a load has failed, where its loader says so.
-pub(super) type Cause = Arc<dyn Error + Send + Sync>;
-
-/// What those are told who wait for a load that has failed.
-#[derive(Clone)]
-pub(super) enum Failure {
-    Unsaid,
-    Said(Cause),
-    /// What its loader was told, of any type: for those who ask for that type.
-    Shared(Arc<dyn Any + Send + Sync>),
-}
-
-impl Failure {
-    /// The cause, where the loader says it.
-    pub fn said(self) -> Option<Cause> {
-        match self {
-            Failure::Said(cause) => Some(cause),
-            Failure::Unsaid | Failure::Shared(_) => None,
-        }
-    }
-
-    /// What the loader was told, where that is of this type.
-    pub fn shared<E: Send + Sync + 'static>(self) -> Option<Arc<E>> {
-        match self {
-            Failure::Shared(why) => why.downcast().ok(),
-            Failure::Unsaid | Failure::Said(_) => None,
-        }
-    }
-}
-
-/// How often who waits looks for the end before it sleeps: about as long as a sleep and a wake-up take.
-const LOOKS: u32 = 100;
 
 /// One load of one key: its loader ends it, or who outdates it, and the others wait for that.
 pub(super) struct Flight<K> {
@@ -88,12 +55,7 @@ impl<K> Flight<K> {
 
     /// Waits until the load has ended: how it has, by that time.
     pub fn wait(&self, until: Option<Instant>) -> Option<End> {
-        for _ in 0..LOOKS {
-            if self.has_ended() {
-                break;
-            }
-            std::hint::spin_loop();
-        }
+        look_often(|| self.has_ended());
         let mut waiting = self.waiting();
         while !self.has_ended() {
             waiting.sleeps = true;
@@ -112,7 +74,7 @@ impl<K> Flight<K> {
         let Some(until) = until else {
             return Some(self.ended.wait(waiting).unwrap_or_else(PoisonError::into_inner));
         };
-        let left = until.saturating_duration_since(Instant::now());
+        let left = until.saturating_duration_since(now());
         if left.is_zero() {
             return None;
         }

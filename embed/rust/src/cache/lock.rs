@@ -1,7 +1,8 @@
 //! The lock of a part, under which keys are compared, and keys and values cloned for threads without a reader.
+use super::sync::{Mutex, MutexGuard};
 use std::ops::{Deref, DerefMut};
 use std::sync::atomic::{AtomicUsize, Ordering::Relaxed};
-use std::sync::{Mutex, MutexGuard, PoisonError};
+use std::sync::PoisonError;
 
 /// A lock that a thread takes once at a time: where an `Eq` or a `Clone` that runs under it calls the same cache, the call
 /// panics and doesn't wait for its own thread.

@@ -8,6 +8,7 @@ use super::part::{Begun, Failing, Landed, Part};
 use super::request::{Request, Sought};
 use super::shared::Shared;
 use super::store::Place;
+use super::sync::now;
 use super::{Cache, Wait};
 use std::borrow::Borrow;
 use std::collections::hash_map::RandomState;
@@ -18,7 +19,7 @@ use std::hash::{BuildHasher, Hash};
 use std::mem::ManuallyDrop;
 use std::ops::Deref;
 use std::sync::Arc;
-use std::time::{Duration, Instant};
+use std::time::Duration;
 
 /// A reader of a cache, for one thread at a time. Dropped, it goes back to its cache by itself.
 ///
@@ -143,7 +144,7 @@ impl<K: Hash + Eq, V, S: BuildHasher> CacheReader<K, V, S> {
         }
         if let Some(flight) = self.part(at).flight_of(at.id, key) {
             self.counts(at).count_wait();
-            match flight.wait(Instant::now().checked_add(timeout)) {
+            match flight.wait(now().checked_add(timeout)) {
                 None => return Err(WaitError::TimedOut),
                 Some(End::Failed(why)) => return Err(WaitError::Failed(why.said())),
                 Some(End::Loaded | End::Outdated) => {}
@@ -195,7 +196,7 @@ impl<K: Hash + Eq, V, S: BuildHasher> CacheReader<K, V, S> {
             return Ok(self.borrowed(at, place));
         }
         // A limit beyond the end of time is none.
-        let until = timeout.and_then(|timeout| Instant::now().checked_add(timeout));
+        let until = timeout.and_then(|timeout| now().checked_add(timeout));
         let own = loop {
             match self.begin(at, key) {
                 Begun::Load(own) => break own,

@@ -1,5 +1,5 @@
 //! Loads that are under way, as those have them who make them.
-use super::flights::{Cause, Failure};
+use super::failure::{Cause, Failure};
 use super::part::{Landed, Load, Part};
 use super::{Cache, Wait};
 use std::collections::hash_map::RandomState;

@@ -1,7 +1,8 @@
 //! Gets without a reader in hand, by any number of threads.
 use super::desk::At;
 use super::entry::Entry;
-use super::flights::{End, Failure};
+use super::failure::Failure;
+use super::flights::End;
 use super::own::with_desk;
 use super::part::{Begun, Failing, Load, Part};
 use super::request::{Request, Sought};
