@@ -320,10 +320,11 @@ impl<K, V> Part<K, V> {
         self.change(|_| {});
     }
 
-    /// Begins a change of a key in the base: no load that began before its end will be held. Whether the store knows of it,
-    /// which [`Part::end_change`] is to be told.
-    pub fn begin_change(&self, id: u64) -> bool {
-        self.change(|store| store.begin_change(id))
+    /// Begins a change of a key in the base: no load that began before its end will be held. It notes under the lock that it
+    /// has begun, and whether the store knows of it, which [`Part::end_change`] is to be told: what is dropped then may
+    /// panic.
+    pub fn begin_change(&self, id: u64, is_known: &mut Option<bool>) {
+        self.change(|store| *is_known = Some(store.begin_change(id)));
     }
 
     /// Ends it. Where the key has an entry that hasn't expired, that is replaced by what `change` makes of it: whether

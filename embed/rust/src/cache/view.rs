@@ -36,8 +36,8 @@ impl<K: Hash + Eq, S: BuildHasher> Cache<K, Box<[Row]>, S> {
         Q: Hash + Eq + ToOwned<Owned = K> + ?Sized,
     {
         let id = self.shared.id_of(key);
-        let mut change = Change { view: self, id, is_known: false, key: Some(key.to_owned()) };
-        change.is_known = self.shared.part_of(id).begin_change(id);
+        let mut change = Change { view: self, id, is_known: None, key: Some(key.to_owned()) };
+        self.shared.part_of(id).begin_change(id, &mut change.is_known);
         change
     }
 
@@ -62,7 +62,8 @@ impl<K: Hash + Eq, S: BuildHasher> Cache<K, Box<[Row]>, S> {
 pub struct Change<'a, K: Hash + Eq, S: BuildHasher = RandomState> {
     view: &'a View<K, S>,
     id: u64,
-    is_known: bool,
+    /// Whether the store knows of it, from its begin to its end.
+    is_known: Option<bool>,
     key: Option<K>,
 }
 
@@ -78,8 +79,8 @@ impl<K: Hash + Eq, S: BuildHasher> Change<'_, K, S> {
     where
         C: FnOnce(&Entry<K, Box<[Row]>>) -> Result<Option<Box<[Row]>>, Fault>,
     {
-        let Some(key) = self.key.take() else { return Ok(false) };
-        self.view.shared.part_of(self.id).end_change(self.id, self.is_known, key, change)
+        let (Some(is_known), Some(key)) = (self.is_known.take(), self.key.take()) else { return Ok(false) };
+        self.view.shared.part_of(self.id).end_change(self.id, is_known, key, change)
     }
 }
 

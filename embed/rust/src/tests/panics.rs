@@ -92,6 +92,19 @@ fn a_reader_whose_load_met_a_panicking_drop_keeps_nothing() {
 }
 
 #[test]
+fn a_change_whose_begin_panics_has_ended() {
+    let view: View<u64> = View::builder().eviction_listener(|_, _, _| panicking()).open().unwrap();
+    let mut reader = view.reader().unwrap();
+    assert!(view.insert(1, Box::new([row(1)])));
+    let found = reader.get(&1).unwrap();
+    // It is held, so that the listener is told of it by the next call.
+    assert!(view.invalidate(&1));
+    drop(found);
+    assert!(caught(|| drop(view.change(&1))).is_none());
+    assert!(reader.get_with(&1, || Box::new([row(2)])).is_held());
+}
+
+#[test]
 fn where_keys_cannot_be_compared_nothing_old_stays() {
     let view: View<Key> = View::builder().open().unwrap();
     let mut reader = view.reader().unwrap();
