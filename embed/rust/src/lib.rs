@@ -157,7 +157,7 @@ mod writer;
 
 pub use answers::{Asked, Cancel, Fault, KeyKind, Updated};
 pub use cache::{Cache, CacheBuilder, CacheReader, CacheRef, CacheStats, Change, LoadError, Loaded};
-pub use cache::{RemovalCause, Request, Sought, View, Wait, WaitError};
+pub use cache::{NotInserted, RemovalCause, Request, Sought, View, Wait, WaitError};
 pub use emptied::Emptied;
 pub use inbox::{Arrival, EventSender, Inbox, InboxPoster, InboxTaker};
 pub use loaders::Loaders;

@@ -1,6 +1,7 @@
 //! Each call does what it says, and what can be wrong with its arguments is refused.
 use crate::*;
 
+mod absent;
 mod all;
 mod attack;
 mod cache;

@@ -1,4 +1,5 @@
 //! A cache of values of any type by keys of any type.
+mod absent;
 mod all;
 mod builder;
 mod counts;
@@ -8,6 +9,7 @@ mod expiry;
 mod failure;
 mod flights;
 mod hold;
+mod kept;
 mod leaving;
 mod loaded;
 mod lock;
@@ -27,6 +29,7 @@ mod under_way;
 mod view;
 mod wait;
 
+pub use absent::NotInserted;
 pub use builder::CacheBuilder;
 pub use leaving::RemovalCause;
 pub use loaded::Loaded;

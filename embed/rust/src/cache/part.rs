@@ -275,11 +275,7 @@ impl<K, V> Part<K, V> {
     /// Puts an entry, whatever its id has, and whatever is loaded for it: whether it is held.
     pub fn put(&self, entry: Box<Entry<K, V>>) -> bool {
         // What isn't held is dropped without the lock.
-        let refused = self.change(|store| {
-            let refused = store.put(entry).err();
-            store.counted.outdated += u64::from(refused.is_some());
-            refused
-        });
+        let refused = self.change(|store| store.put(entry).err());
         refused.is_none()
     }
 
@@ -384,7 +380,7 @@ impl<K, V> Part<K, V> {
     }
 
     /// Changes the store under its lock, and then drops what came back, without it, or gives it to who listens.
-    fn change<R>(&self, change: impl FnOnce(&mut Store<K, V>) -> R) -> R {
+    pub fn change<R>(&self, change: impl FnOnce(&mut Store<K, V>) -> R) -> R {
         self.change_then(change, || {})
     }
 

@@ -3,6 +3,7 @@ use super::all::Seated;
 use super::entry::Entry;
 use super::expiry::{seat_of, Expiry, Moment};
 use super::flights::Flight;
+use super::kept::KeptEntries;
 use super::leaving::RemovalCause;
 use super::seats::Seats;
 use super::stats::CacheStats;
@@ -30,6 +31,7 @@ pub(super) struct Store<K, V> {
     pub seats: Seats,
     /// What came out: no reader holds it, and none can find it.
     came_out: Vec<Place<K, V>>,
+    kept: KeptEntries<K, V>,
     /// How many entries were put, and how many when all were invalidated last.
     turns: u64,
     turns_before: u64,
@@ -66,6 +68,7 @@ impl<K, V> Store<K, V> {
             expiry,
             seats: Seats::new(capacity),
             came_out: Vec::new(),
+            kept: KeptEntries::new(),
             turns: 0,
             turns_before: 0,
             under_way: UnderWay::new(),
@@ -102,6 +105,15 @@ impl<K, V> Store<K, V> {
             self.ids.evict(id);
             resume_unwind(why)
         }))
+    }
+
+    /// Where a key's entry lies, if it has one that hasn't expired. One that has goes.
+    pub fn of_key<Q: Eq + ?Sized>(&mut self, id: u64, key: &Q, now: Moment) -> Option<Place<K, V>>
+    where
+        K: Borrow<Q>,
+    {
+        self.expire(id, now);
+        (self.has_key(id, key) == Some(true)).then(|| self.place(id)).flatten()
     }
 
     /// Begins a flight, unless its id has an entry or is loaded.
@@ -188,6 +200,7 @@ impl<K, V> Store<K, V> {
         let old = self.place(id);
         let put = self.put_with(entry, old.is_none(), |ids, place, times| ids.put(id, place, times));
         note(old, if put.is_ok() { RemovalCause::Replaced } else { RemovalCause::Explicit });
+        self.counted.outdated += u64::from(put.is_err());
         put
     }
 
@@ -312,7 +325,21 @@ impl<K, V> Store<K, V> {
 
     fn comes_out(&mut self, out: CameOut) {
         self.seats.leave(seat_of(out.stamp));
-        self.came_out.push(place_of(out.number));
+        let place = place_of(out.number);
+        if !self.kept.comes_out(place) {
+            self.came_out.push(place);
+        }
+    }
+
+    /// Leaves an entry where it lies until it is let go as often, also where it comes out before.
+    pub fn keep(&mut self, place: Place<K, V>) {
+        self.kept.keep(place);
+    }
+
+    pub fn let_go(&mut self, place: Place<K, V>) {
+        if self.kept.let_go(place) {
+            self.came_out.push(place);
+        }
     }
 
     /// All entries, of a cache that nobody uses any more: no reader holds one.
