@@ -5,6 +5,7 @@ mod absent;
 mod all;
 mod attack;
 mod cache;
+mod change;
 mod emptied;
 mod eviction;
 mod holds;

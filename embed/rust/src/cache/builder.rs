@@ -83,8 +83,8 @@ impl<K, V, S> CacheBuilder<K, V, S> {
 
     /// How long after it was put an entry is found that has this key and value, where that is told: it expires by the
     /// first of its times. It is told as a value is loaded, inserted or filled, without a lock and by the thread that
-    /// puts it; where it panics, so does that call, and a load has failed then. Rows that a [`Change`](crate::Change)
-    /// makes live as long as those that they replace were to.
+    /// puts it; where it panics, so does that call, and a load has failed then. A value that a [`Change`](crate::Change)
+    /// makes lives as long as that which it replaces was to.
     pub fn expire_after<F>(self, lifetime: F) -> CacheBuilder<K, V, S>
     where
         F: Fn(&K, &V) -> Option<Duration> + Send + Sync + 'static,

@@ -2,6 +2,7 @@
 mod absent;
 mod all;
 mod builder;
+mod change;
 mod counts;
 mod desk;
 mod entry;
@@ -31,12 +32,13 @@ mod wait;
 
 pub use absent::NotInserted;
 pub use builder::CacheBuilder;
+pub use change::Change;
 pub use leaving::RemovalCause;
 pub use loaded::Loaded;
 pub use reader::{CacheReader, CacheRef, LoadError, WaitError};
 pub use request::{Request, Sought};
 pub use stats::CacheStats;
-pub use view::{Change, View};
+pub use view::View;
 pub use wait::Wait;
 
 use crate::drops::with_each;

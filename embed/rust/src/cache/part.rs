@@ -316,54 +316,6 @@ impl<K, V> Part<K, V> {
         self.change(|_| {});
     }
 
-    /// Begins a change of a key in the base: no load that began before its end will be held. It notes under the lock that it
-    /// has begun, and whether the store knows of it, which [`Part::end_change`] is to be told: what is dropped then may
-    /// panic.
-    pub fn begin_change(&self, id: u64, is_known: &mut Option<bool>) {
-        self.change(|store| *is_known = Some(store.begin_change(id)));
-    }
-
-    /// Ends it. Where the key has an entry that hasn't expired, that is replaced by what `change` makes of it: whether
-    /// it was. An entry of which that makes none goes, and so does one that changed in two ways at once. What is made
-    /// lives as long as what it replaces was to.
-    pub fn end_change<E, C>(&self, id: u64, is_known: bool, key: K, change: C) -> Result<bool, E>
-    where
-        K: Eq,
-        C: FnOnce(&Entry<K, V>) -> Result<Option<V>, E>,
-    {
-        let now = self.expiry.now();
-        // What isn't needed is dropped without the lock.
-        let (mut key, mut refused) = (Some(key), None);
-        self.change(|store| {
-            if !is_known {
-                store.invalidate(id);
-                return Ok(false);
-            }
-            store.end_change(id);
-            let is_its_own = key.as_ref().and_then(|key| store.has_key(id, key)) == Some(true);
-            let Some(place) = store.place(id).filter(|_| is_its_own) else { return Ok(false) };
-            let Some(old) = store.find(id) else { return Ok(false) };
-            let (is_over, maker) = (self.expiry.is_over(old, now), old.maker);
-            let life = self.expiry.as_long_as(old.life, now);
-            let made = if is_over { Ok(None) } else { change(old) };
-            match (made, key.take()) {
-                (Ok(Some(value)), Some(key)) => {
-                    refused = store.swap(place, Box::new(Entry::of(maker, id, key, value, life))).err();
-                    Ok(refused.is_none())
-                }
-                (made, kept) => {
-                    key = kept;
-                    if is_over {
-                        store.note(id, RemovalCause::Expired);
-                        store.counted.evictions += 1;
-                    }
-                    store.invalidate(id);
-                    made.map(|_| false)
-                }
-            }
-        })
-    }
-
     pub fn held(&self) -> usize {
         self.store().held()
     }

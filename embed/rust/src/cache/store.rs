@@ -207,8 +207,9 @@ impl<K, V> Store<K, V> {
     /// The same in place of an entry that the id has still, or gives it back.
     pub fn swap(&mut self, old: Place<K, V>, entry: Box<Entry<K, V>>) -> PutEntry<K, V> {
         let id = entry.id;
+        let leaves = self.place(id).filter(|place| *place == old);
         let put = self.put_with(entry, false, |ids, place, times| ids.swap(id, old.as_ptr() as u64, place, times));
-        note(put.is_ok().then_some(old), RemovalCause::Replaced);
+        note(leaves, if put.is_ok() { RemovalCause::Replaced } else { RemovalCause::Explicit });
         put
     }
 

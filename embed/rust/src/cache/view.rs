@@ -1,15 +1,13 @@
 //! Caches of rows that are kept up to date by changes.
-use super::entry::Entry;
-use super::Cache;
+use super::{Cache, Change};
 use crate::{Delta, Fault, Row};
 use std::borrow::Borrow;
 use std::collections::hash_map::RandomState;
-use std::fmt;
 use std::hash::{BuildHasher, Hash};
-use std::thread;
 
-/// A cache of rows, in ascending order, of which a key may have any number. Where the base changes, the rows that the view
-/// holds change with it, and need no load.
+/// A cache of rows, of which a key may have any number. Where the base changes, the rows that the view holds change with
+/// it, and need no load. They are in the order that their load gave them until they change, and in ascending order from
+/// then on: a load that gives them in ascending order has them always so.
 ///
 /// ```
 /// use nr::{Delta, Row, View};
@@ -27,20 +25,6 @@ use std::thread;
 pub type View<K, S = RandomState> = Cache<K, Box<[Row]>, S>;
 
 impl<K: Hash + Eq, S: BuildHasher> Cache<K, Box<[Row]>, S> {
-    /// Begins a change of a key's rows in the base. No load that begins before the change has ended will be held, since it
-    /// may have read the base before or after, so loads and changes may be at work together. Meanwhile gets find the rows
-    /// that were there.
-    pub fn change<Q>(&self, key: &Q) -> Change<'_, K, S>
-    where
-        K: Borrow<Q>,
-        Q: Hash + Eq + ToOwned<Owned = K> + ?Sized,
-    {
-        let id = self.shared.id_of(key);
-        let mut change = Change { view: self, id, is_known: None, key: Some(key.to_owned()) };
-        self.shared.part_of(id).begin_change(id, &mut change.is_known);
-        change
-    }
-
     /// Begins a change and ends it, as [`Change::commit`] does: for a base that has changed by now, where loads are made
     /// by the same thread. Whether rows that another thread has loaded, or that came by a [`Request`](crate::Request), are
     /// from before the change or from after it nobody can tell: these go, so that none of them is there twice.
@@ -49,51 +33,16 @@ impl<K: Hash + Eq, S: BuildHasher> Cache<K, Box<[Row]>, S> {
         K: Borrow<Q>,
         Q: Hash + Eq + ToOwned<Owned = K> + ?Sized,
     {
-        let own = Some(thread::current().id());
-        self.change(key).end(|rows| match rows.maker == own {
-            true => changed(&rows.value, deltas).map(Some),
-            false => Ok(None),
-        })
+        self.change(key).end_own(|rows| changed(rows, deltas))
     }
 }
 
-/// A change of a key's rows that is under way in the base. Dropped before its end, it takes what the view holds of the key.
-#[must_use = "dropped, it takes the key's rows from the view"]
-pub struct Change<'a, K: Hash + Eq, S: BuildHasher = RandomState> {
-    view: &'a View<K, S>,
-    id: u64,
-    /// Whether the store knows of it, from its begin to its end.
-    is_known: Option<bool>,
-    key: Option<K>,
-}
-
-impl<K: Hash + Eq, S: BuildHasher> Change<'_, K, S> {
+impl<K: Hash + Eq, S: BuildHasher> Change<'_, K, Box<[Row]>, S> {
     /// Ends it with the rows that the base has got and lost, none where it stayed as it was: whether the view holds the
     /// key. No get that begins after this has returned sees older rows. Where a row that was lost isn't there, the view's
-    /// rows were not the base's: they go, and the call is refused with [`Fault::NoRow`].
-    pub fn commit(mut self, deltas: &[Delta]) -> Result<bool, Fault> {
+    /// rows were not the base's: they go, and the call is refused with [`Fault::NoRow`]. Rows are sorted without a lock.
+    pub fn commit(self, deltas: &[Delta]) -> Result<bool, Fault> {
         self.end(|rows| changed(&rows.value, deltas).map(Some))
-    }
-
-    fn end<C>(&mut self, change: C) -> Result<bool, Fault>
-    where
-        C: FnOnce(&Entry<K, Box<[Row]>>) -> Result<Option<Box<[Row]>>, Fault>,
-    {
-        let (Some(is_known), Some(key)) = (self.is_known.take(), self.key.take()) else { return Ok(false) };
-        self.view.shared.part_of(self.id).end_change(self.id, is_known, key, change)
-    }
-}
-
-impl<K: Hash + Eq, S: BuildHasher> Drop for Change<'_, K, S> {
-    fn drop(&mut self) {
-        // What it was refused for went with the rows.
-        _ = self.end(|_| Ok(None));
-    }
-}
-
-impl<K: Hash + Eq + fmt::Debug, S: BuildHasher> fmt::Debug for Change<'_, K, S> {
-    fn fmt(&self, f: &mut fmt::Formatter<'_>) -> fmt::Result {
-        f.debug_struct("Change").field("key", &self.key).finish_non_exhaustive()
     }
 }
 

@@ -387,7 +387,9 @@ impl Attacker {
                 self.cache.invalidate_all();
             }
             (1..=5, _) => _ = self.cache.insert(key.clone(), self.newest(key)),
-            (6..=10, Some(mut reader)) => _ = reader.update(key, |_| self.newest(key)),
+            (6..=8, Some(mut reader)) => _ = reader.update(key, |_| self.newest(key)),
+            (9..=11, _) => _ = self.cache.upsert_with(key, |_| self.newest(key)),
+            (12 | 13, _) => _ = self.cache.change(key).commit_with(|_| self.newest(key)),
             _ => _ = self.cache.invalidate(key),
         }
         record.floor.fetch_max(version, SeqCst);

@@ -40,6 +40,15 @@ fn rows_that_are_held_change_whole_and_stay_in_order() {
 }
 
 #[test]
+fn rows_are_as_their_load_gives_them_until_they_change() {
+    let view = view();
+    assert_eq!(view.get_with(&1, || rows(&[8, 5])), rows(&[8, 5]));
+    assert_eq!(view.get(&1), Some(rows(&[8, 5])));
+    assert_eq!(view.update(&1, &[Delta::plus(row(7))]), Ok(true));
+    assert_eq!(view.get(&1), Some(rows(&[5, 7, 8])));
+}
+
+#[test]
 fn rows_that_are_not_the_bases_go() {
     let view = view();
     let mut reader = view.reader().unwrap();
