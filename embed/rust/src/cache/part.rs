@@ -2,7 +2,7 @@
 use super::all::Seated;
 use super::counts::Counts;
 use super::entry::Entry;
-use super::expiry::{Expiry, Lifetime};
+use super::expiry::{Expiry, Lifetime, Moment};
 use super::failure::Failure;
 use super::flights::{End, Flight};
 use super::hold::Hold;
@@ -13,9 +13,10 @@ use super::store::{self, Beside, Place, Store};
 use crate::drops::{with_each, with_each_then};
 use crate::ids::IdReader;
 use std::borrow::Borrow;
-use std::sync::atomic::{AtomicBool, Ordering::Relaxed};
+use std::sync::atomic::{AtomicBool, AtomicU64, Ordering::Relaxed};
 use std::sync::Arc;
 use std::thread::{self, ThreadId};
+use std::time::Instant;
 
 /// Apart from the lines of the others.
 #[repr(align(128))]
@@ -23,6 +24,8 @@ pub(super) struct Part<K, V> {
     pub expiry: Expiry,
     /// One for each reader.
     pub counts: Box<[Counts]>,
+    /// How many entries came out that had expired.
+    expired: AtomicU64,
     lifetime: Option<Lifetime<K, V>>,
     listener: Option<Listener<K, V>>,
     store: Lock<Store<K, V>>,
@@ -63,18 +66,23 @@ enum Kind {
     /// Its value is to take the place of an entry that is held meanwhile.
     Beside(Beside),
     /// None: nobody waits for it, and its value is the caller's own. Another key has the id, or too many are loaded.
-    Alone,
+    Alone { clashes: bool },
 }
 
 /// A load that its caller makes.
 pub(super) struct Load<K> {
     flight: Arc<Flight<K>>,
     kind: Kind,
+    began: Instant,
     /// Whether its caller has ended it.
     is_over: AtomicBool,
 }
 
 impl<K> Load<K> {
+    fn of(flight: Arc<Flight<K>>, kind: Kind) -> Load<K> {
+        Load { flight, kind, began: Instant::now(), is_over: AtomicBool::new(false) }
+    }
+
     pub fn id(&self) -> u64 {
         self.flight.id()
     }
@@ -113,7 +121,7 @@ impl<K, V> Part<K, V> {
     pub fn new(expiry: Expiry, readers: usize, told: Told<K, V>, store: Store<K, V>) -> Self {
         let counts = (0..readers).map(|_| Counts::default()).collect();
         let Told { lifetime, listener } = told;
-        Part { expiry, counts, lifetime, listener, store: Lock::new(store) }
+        Part { expiry, counts, expired: AtomicU64::new(0), lifetime, listener, store: Lock::new(store) }
     }
 
     /// An entry whose value comes now, by the thread that calls.
@@ -191,10 +199,11 @@ impl<K, V> Part<K, V> {
                 store::Begun::Held if store.find(id).is_some_and(|entry| entry.key.borrow() == key) => {
                     return Begun::Held;
                 }
-                // Another key has the id, or too many are loaded.
-                store::Begun::Held | store::Begun::Wait(_) | store::Begun::Full => Kind::Alone,
+                store::Begun::Held | store::Begun::Wait(_) => Kind::Alone { clashes: true },
+                store::Begun::Full => Kind::Alone { clashes: false },
             };
-            return Begun::Load(Load { flight, kind, is_over: AtomicBool::new(false) });
+            drop(store);
+            return Begun::Load(Load::of(flight, kind));
         }
     }
 
@@ -208,7 +217,7 @@ impl<K, V> Part<K, V> {
     pub fn begin_refresh(&self, id: u64, turn: u64, owned: K) -> Option<Load<K>> {
         let flight = Arc::new(Flight::new(id, owned));
         let beside = self.store().begin_refresh(id, turn)?;
-        Some(Load { flight, kind: Kind::Beside(beside), is_over: AtomicBool::new(false) })
+        Some(Load::of(flight, Kind::Beside(beside)))
     }
 
     /// The flight of a key, where there is one.
@@ -222,14 +231,16 @@ impl<K, V> Part<K, V> {
 
     /// Ends a flight by its value, which the reader holds then, where one is given.
     pub fn land(&self, load: &Load<K>, entry: Box<Entry<K, V>>, reader: Option<&mut IdReader>) -> Landed<K, V> {
-        let mut hold = None;
+        let (mut hold, took) = (None, load.began.elapsed());
         let land = |store: &mut Store<K, V>| {
             store.counted.loads += 1;
+            store.counted.load_time += took;
             let ended = match load.kind {
                 Kind::Flight(number) => store.land(number, entry),
                 Kind::Beside(beside) => store.refresh(beside, entry),
-                Kind::Alone => {
+                Kind::Alone { clashes } => {
                     store.counted.refused += 1;
+                    store.counted.clashes += u64::from(clashes);
                     return Landed::Own(entry);
                 }
             };
@@ -254,12 +265,14 @@ impl<K, V> Part<K, V> {
 
     /// Ends a flight without a value.
     pub fn crash(&self, load: &Load<K>, why: Failure) {
+        let took = load.began.elapsed();
         let fail = |store: &mut Store<K, V>| {
             store.counted.failures += 1;
+            store.counted.load_time += took;
             match load.kind {
                 Kind::Flight(number) => store.fail(number),
                 Kind::Beside(beside) => _ = store.end_refresh(load.id(), beside),
-                Kind::Alone => {}
+                Kind::Alone { .. } => {}
             }
         };
         self.change_then(fail, || load.end(End::Failed(why)));
@@ -322,6 +335,7 @@ impl<K, V> Part<K, V> {
 
     pub fn stats(&self) -> CacheStats {
         let mut stats = self.store().counted;
+        stats.expired = self.expired.load(Relaxed);
         self.counts.iter().for_each(|counts| counts.add_to(&mut stats));
         stats
     }
@@ -340,12 +354,13 @@ impl<K, V> Part<K, V> {
     fn change_then<R>(&self, change: impl FnOnce(&mut Store<K, V>) -> R, then: impl FnOnce()) -> R {
         // With room for as many as there are most often, so that none is made under the lock.
         let mut doomed = Vec::with_capacity(2);
-        let (result, causes, outdated) = {
+        let (result, turns_before, outdated) = {
             let mut store = self.store();
             let result = change(&mut store);
             doomed.extend(store.reap());
-            (result, self.causes_of(&store, &doomed), store.under_way.take_outdated())
+            (result, store.turns_before(), store.under_way.take_outdated())
         };
+        let causes = self.causes_of(&doomed, turns_before);
         then();
         with_each(outdated, |flight| flight.end(End::Outdated));
         let mut causes = causes.into_iter();
@@ -355,14 +370,26 @@ impl<K, V> Part<K, V> {
         })
     }
 
-    /// Why each entry left, where somebody listens.
-    fn causes_of(&self, store: &Store<K, V>, doomed: &[Box<Entry<K, V>>]) -> Vec<RemovalCause> {
-        match self.listener {
-            None => Vec::new(),
-            Some(_) => {
-                let now = self.expiry.now();
-                doomed.iter().map(|entry| store.cause_of(entry, now)).collect()
-            }
+    /// Why each entry left that came out, where somebody listens or entries expire; those that had expired are counted.
+    /// Of the entries so many had been put when all were invalidated last.
+    fn causes_of(&self, doomed: &[Box<Entry<K, V>>], turns_before: u64) -> Vec<RemovalCause> {
+        if doomed.is_empty() || self.listener.is_none() && !self.expiry.is_set() {
+            return Vec::new();
+        }
+        let now = self.expiry.now();
+        let causes: Vec<_> = doomed.iter().map(|entry| self.cause_of(entry, turns_before, now)).collect();
+        let expired = causes.iter().filter(|cause| **cause == RemovalCause::Expired).count();
+        self.expired.fetch_add(expired as u64, Relaxed);
+        causes
+    }
+
+    fn cause_of(&self, entry: &Entry<K, V>, turns_before: u64, now: Moment) -> RemovalCause {
+        match entry.cause.noted() {
+            Some(cause) => cause,
+            None if entry.turn.load(Relaxed) <= turns_before => RemovalCause::Explicit,
+            // The store lets go first what has expired.
+            None if self.expiry.is_over(entry, now) => RemovalCause::Expired,
+            None => RemovalCause::Size,
         }
     }
 

@@ -7,6 +7,9 @@ use crate::drops::drop_each;
 use std::hash::{BuildHasher, Hash};
 use std::sync::{Mutex, MutexGuard, PoisonError};
 
+/// The id of the keys whose hash is 0, which is none: any other number, since a hasher of small numbers gives 1 to another key.
+const ID_OF_ZERO: u64 = 0x9e37_79b9_7f4a_7c15;
+
 pub(super) struct Shared<K, V, S> {
     hasher: S,
     pub capacity: usize,
@@ -25,7 +28,10 @@ impl<K, V, S> Shared<K, V, S> {
     where
         S: BuildHasher,
     {
-        self.hasher.hash_one(key).max(1)
+        match self.hasher.hash_one(key) {
+            0 => ID_OF_ZERO,
+            hash => hash,
+        }
     }
 
     /// Where a key's entry is looked for.

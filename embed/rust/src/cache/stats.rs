@@ -1,5 +1,6 @@
 //! What a cache counts.
 use std::ops::AddAssign;
+use std::time::Duration;
 
 /// What a cache has counted since it was opened.
 #[derive(Clone, Copy, Debug, Default, PartialEq, Eq)]
@@ -12,26 +13,36 @@ pub struct CacheStats {
     pub loads: u64,
     /// Loads that failed or panicked.
     pub failures: u64,
+    /// How long all loads took that have ended, each from when its caller was told to load until its value came or it
+    /// failed.
+    pub load_time: Duration,
     /// Times that a get waited for the load of another.
     pub waits: u64,
     /// Entries that made room for others or had expired.
     pub evictions: u64,
+    /// How many of these had expired: each is counted once no reader sees it.
+    pub expired: u64,
     /// Values that were not held since another key has their hash, or since more than 1,024 loads of a part were under way.
     pub refused: u64,
+    /// How many of these had another key of their hash beside them.
+    pub clashes: u64,
     /// Values that were not held since their load began before their key's invalidation, insertion or change was over.
     pub outdated: u64,
 }
 
 impl CacheStats {
-    pub(super) fn named(&self) -> [(&'static str, u64); 8] {
+    pub(super) fn named(&self) -> [(&'static str, u64); 11] {
         [
             ("hits", self.hits),
             ("misses", self.misses),
             ("loads", self.loads),
             ("failures", self.failures),
+            ("load_nanoseconds", self.load_time.as_nanos() as u64),
             ("waits", self.waits),
             ("evictions", self.evictions),
+            ("expired", self.expired),
             ("refused", self.refused),
+            ("clashes", self.clashes),
             ("outdated", self.outdated),
         ]
     }
@@ -43,9 +54,12 @@ impl AddAssign for CacheStats {
         self.misses += other.misses;
         self.loads += other.loads;
         self.failures += other.failures;
+        self.load_time += other.load_time;
         self.waits += other.waits;
         self.evictions += other.evictions;
+        self.expired += other.expired;
         self.refused += other.refused;
+        self.clashes += other.clashes;
         self.outdated += other.outdated;
     }
 }

@@ -264,15 +264,9 @@ impl<K, V> Store<K, V> {
         self.outdate_all();
     }
 
-    /// Why an entry left that came out.
-    pub fn cause_of(&self, entry: &Entry<K, V>, now: Moment) -> RemovalCause {
-        match entry.cause.noted() {
-            Some(cause) => cause,
-            None if entry.turn.load(Relaxed) <= self.turns_before => RemovalCause::Explicit,
-            // The store lets go first what has expired.
-            None if self.expiry.is_over(entry, now) => RemovalCause::Expired,
-            None => RemovalCause::Size,
-        }
+    /// How many entries had been put when all were invalidated last.
+    pub fn turns_before(&self) -> u64 {
+        self.turns_before
     }
 
     /// Takes the entry of an id where it has expired: whether it had.

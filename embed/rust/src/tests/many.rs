@@ -76,14 +76,3 @@ fn where_the_load_of_many_panics_or_gives_too_few_all_have_failed() {
     assert_eq!((cache.stats().failures, cache.len()), (4, 0));
     assert_eq!(cache.get_many_with(&[&1, &2], tenfold), [10, 20]);
 }
-
-#[test]
-fn an_exporter_is_told_names_and_numbers() {
-    let cache = cache();
-    cache.get_with(&1, || 3);
-    cache.get(&1);
-    let told = |name| cache.metrics().find(|metric| metric.0 == name).map(|metric| metric.1);
-    let wanted = [("hits", 1), ("misses", 1), ("loads", 1), ("entries", 1), ("capacity", 100), ("waits", 0)];
-    assert!(wanted.into_iter().all(|(name, number)| told(name) == Some(number)));
-    assert_eq!(cache.metrics().count(), 10);
-}
