@@ -49,6 +49,7 @@ impl Board {
     /// A reader that holds a set by its word finds a key and holds its set, by the key's word, which it
     /// loaded. What it held is let go by the announcement of the next slot, or, at a hole, by a clear
     /// before it finds anew.
+    #[inline(always)]
     pub fn move_to(&self, seat: &mut Seat, own: Own, key: u32, word: u64) -> Option<Held>
         requires own { (token seat.old).table ≡ self.now }
         requires place { IsOwn self.now own }

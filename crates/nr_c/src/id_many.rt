@@ -95,6 +95,7 @@ fn look_up_from(
 }
 
 // Writes the ids of a group over the first ones there.
+#[inline(never)]
 fn copy_ids(group: &[NrWantedId], ids: &mut [u64; BATCH])
     requires few { length group.now ≤ 16 }
     ensures { take (length group.now) ids.new ≡ ids_wanted group.now }

@@ -121,6 +121,7 @@ fn look_up_found(
 }
 
 // Writes the ids of a group over the first ones there.
+#[inline(never)]
 fn copy_found_ids(group: &[NrFoundId], ids: &mut [u64; BATCH])
     requires few { length group.now ≤ 16 }
     ensures { take (length group.now) ids.new ≡ ids_found group.now }

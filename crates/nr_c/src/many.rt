@@ -93,6 +93,7 @@ fn load_from(map: &ReaderMap, hand: &mut Hand, place: usize, left: &[NrWanted])
 }
 
 // Writes the keys of a group over the first ones there.
+#[inline(never)]
 fn copy_keys(group: &[NrWanted], keys: &mut [u32; GROUP])
     requires few { length group.now ≤ 16 }
     ensures { take (length group.now) keys.new ≡ keys_wanted group.now }

@@ -137,6 +137,7 @@ fn load_first_from(map: &ReaderMap, hand: &mut Hand, place: usize, left: &[NrFou
 }
 
 // Writes the keys of a group over the first ones there.
+#[inline(never)]
 fn copy_found_keys(group: &[NrFound], keys: &mut [u32; GROUP])
     requires few { length group.now ≤ 16 }
     ensures { take (length group.now) keys.new ≡ keys_found group.now }

@@ -25,6 +25,7 @@ impl RowRoom for NrRows {
 
     ghost shows = { ShowsSet };
 
+    #[inline(always)]
     fn refill<S: RowSource>(&mut self, count: usize, source: &mut S) {
         put_rows(&mut self.row, count, source);
         self.count = count as u64;

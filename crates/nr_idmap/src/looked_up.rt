@@ -14,6 +14,7 @@ impl IdHand {
     /// that finds there will need, so that the lines of memory in which they lie are near. What is held stays held.
     /// Takes 2 loads an id, the look-up of `find` and its look at a mark for each, and the map's `load_ahead` for as
     /// many keys.
+    #[inline(never)]
     pub fn look_up(&mut self, map: &IdMap, ids: &[u64], ways: &mut [Option<NamedWay>; BATCH])
         requires own { hand_table_of self.old ≡ map.now }
         requires ids { All (λ id. 0 < id) ids.now }

@@ -70,6 +70,7 @@ impl Directory {
     /// The way that has the id's name. Takes a look at the hints of the id's group and one at the name of
     /// each way that has the id's hint, up to the id's; and unless one of them is, the same of its second
     /// group. `None`: within the call there was a moment at which the id had no way.
+    #[inline(always)]
     pub fn look_up(&self, reader: &mut Reader, id: u64) -> Option<u32>
         requires own { reader.old.directory ≡ self.now }
         requires id { 0 < id }

@@ -28,6 +28,7 @@ struct Span {
 impl Hand {
     /// Loads words that finds of at most sixteen keys will need, as the map's `load_ahead`, in as many
     /// steps. What is held stays held.
+    #[inline(never)]
     pub fn load_ahead(&mut self, map: &ReaderMap, keys: &[u32])
         requires own { self.old.reader.table ≡ map.now }
         requires keys { All (λ key. key < map.now.shape.keys) keys.now }

@@ -44,6 +44,7 @@ impl Hand {
     }
 
     // Holds the set of a key: the one that is held, where the key has it still, or what a find finds.
+    #[inline(always)]
     pub(crate) fn keep(&mut self, map: &ReaderMap, key: u32) -> bool
         requires own { self.old.reader.table ≡ map.now }
         requires key { key < map.now.shape.keys }
@@ -71,6 +72,7 @@ impl Hand {
 
     // Goes on from the set that is held to a key, whose word was loaded: a reader that holds by its
     // word announces the slot that this names.
+    #[inline(always)]
     fn move_to(&mut self, map: &ReaderMap, key: u32, word: u64) -> bool
         requires own { self.old.reader.table ≡ map.now }
         requires key { key < map.now.shape.keys }
