@@ -22,6 +22,7 @@ mod pending;
 mod progress;
 mod reclaiming;
 mod refresh;
+mod stale;
 mod stats;
 mod tasks;
 mod threads;

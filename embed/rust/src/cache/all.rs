@@ -20,6 +20,11 @@ impl Seated {
     fn is<K, V>(self, part: &Part<K, V>, entry: &Entry<K, V>) -> bool {
         entry.seat == self.seat && !part.expiry.is_over(entry, part.expiry.now())
     }
+
+    /// Whether it is that entry, and hasn't expired, or is left for a load that fails.
+    fn is_or_is_left<K, V>(self, part: &Part<K, V>, entry: &Entry<K, V>) -> bool {
+        entry.seat == self.seat && !part.expiry.is_gone(entry, part.expiry.now())
+    }
 }
 
 /// The entries of a few seats of a part.
@@ -45,7 +50,8 @@ impl<K: Hash + Eq + Clone + 'static, V: Clone + 'static, S: BuildHasher + 'stati
     }
 
     /// Takes each entry of which the predicate holds, as [`Cache::invalidate`] does one: how many. It is asked of those
-    /// that [`Cache::iter`] gives. No load that began before this call will be held, since its value can't be asked of.
+    /// that [`Cache::iter`] gives, and of what has expired and is left
+    /// ([`CacheBuilder::stale_if_error`](crate::CacheBuilder::stale_if_error)). No load that began before this call will be held, since its value can't be asked of.
     /// No lock is held while the predicate runs, so it may call the cache; where no reader is free, it is asked of
     /// clones, which are made under the lock. Where it panics, or the drop of a value, that goes on at the end: the
     /// entries next to that one, 64 at most, may be left then.
@@ -70,7 +76,7 @@ impl<K: Hash + Eq + Clone + 'static, V: Clone + 'static, S: BuildHasher + 'stati
     /// Whether a predicate holds of an entry, which is there still.
     fn holds_of(&self, part: usize, seated: Seated, predicate: &mut impl FnMut(&K, &V) -> bool) -> bool {
         let (at, part) = (At { id: seated.id, part }, &self.shared.parts()[part]);
-        let is_it = |entry: &Entry<K, V>| seated.is(part, entry);
+        let is_it = |entry: &Entry<K, V>| seated.is_or_is_left(part, entry);
         let by_a_reader = with_desk(&self.shared, |desk| {
             let holds = desk?.read_if(at, is_it, |entry| predicate(&entry.key, &entry.value));
             Some(holds == Some(true))

@@ -81,6 +81,11 @@ impl<K, V, S> CacheBuilder<K, V, S> {
         CacheBuilder { spans: Spans { to_refresh: Some(time), ..self.spans }, ..self }
     }
 
+    /// With what `change` makes of the times of all entries.
+    pub(super) fn spans(self, change: impl FnOnce(Spans) -> Spans) -> CacheBuilder<K, V, S> {
+        CacheBuilder { spans: change(self.spans), ..self }
+    }
+
     /// How long after it was put an entry is found that has this key and value, where that is told: it expires by the
     /// first of its times. It is told as a value is loaded, inserted or filled, without a lock and by the thread that
     /// puts it; where it panics, so does that call, and a load has failed then. A value that a [`Change`](crate::Change)
@@ -151,7 +156,7 @@ const MAX_GROUPS: u32 = 516_000;
 
 /// How many loads, and how many changes, of a part may be under way at a time for which others wait, or after which rows are
 /// held: each is looked for among those that are.
-const MOST_AT_ONCE: u32 = 1024;
+pub(super) const MOST_AT_ONCE: u32 = 1024;
 
 /// What a part is opened with. Eight places for each five entries, so that few groups are full before the part is.
 fn shape(capacity: usize, threads: u32) -> IdShape {

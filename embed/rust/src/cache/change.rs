@@ -42,6 +42,15 @@ impl<K: Hash + Eq, V, S: BuildHasher> Cache<K, V, S> {
     /// by the same thread, and so are the key's changes. Whether a value that another thread has loaded, or that came by a
     /// [`Request`](crate::Request), is from before the change or from after it nobody can tell: it goes. For values that
     /// stand behind no base take [`Cache::upsert_with`].
+    ///
+    /// ```
+    /// let prices: nr::Cache<String, u64> = nr::Cache::builder().open()?;
+    /// assert_eq!(prices.get_with("tea", || 3), 3);
+    /// // Here this thread has raised the base's price.
+    /// assert!(prices.update_with("tea", |price| price + 1));
+    /// assert_eq!(prices.get("tea"), Some(4));
+    /// # Ok::<(), nr::Fault>(())
+    /// ```
     pub fn update_with<Q>(&self, key: &Q, change: impl FnOnce(&V) -> V) -> bool
     where
         K: Borrow<Q>,

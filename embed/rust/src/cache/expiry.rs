@@ -36,6 +36,8 @@ pub(super) struct Expiry {
     to_live: Option<u64>,
     to_idle: Option<u64>,
     to_refresh: Option<u64>,
+    /// How long an entry that has expired is left for a load that fails.
+    if_error: Option<u64>,
     /// Whether each entry may have a time to live of its own.
     by_entry: bool,
 }
@@ -46,13 +48,14 @@ pub(super) struct Spans {
     pub to_live: Option<Duration>,
     pub to_idle: Option<Duration>,
     pub to_refresh: Option<Duration>,
+    pub if_error: Option<Duration>,
 }
 
 impl Expiry {
     pub fn new(spans: Spans, by_entry: bool) -> Expiry {
-        let [to_live, to_idle, to_refresh] =
-            [spans.to_live, spans.to_idle, spans.to_refresh].map(|span| span.map(nanos));
-        Expiry { start: Instant::now(), to_live, to_idle, to_refresh, by_entry }
+        let [to_live, to_idle, to_refresh, if_error] =
+            [spans.to_live, spans.to_idle, spans.to_refresh, spans.if_error].map(|span| span.map(nanos));
+        Expiry { start: Instant::now(), to_live, to_idle, to_refresh, if_error, by_entry }
     }
 
     /// The present. Where nothing expires or is refreshed no clock is read.
@@ -66,6 +69,11 @@ impl Expiry {
     /// Whether anything is loaded anew while it is held.
     pub fn refreshes(&self) -> bool {
         self.to_refresh.is_some()
+    }
+
+    /// Whether what has expired is left for loads that fail.
+    pub fn leaves(&self) -> bool {
+        self.if_error.is_some()
     }
 
     /// Whether an entry is so old that its value is to be loaded anew.
@@ -96,16 +104,23 @@ impl Expiry {
         Life { born: now, dies }
     }
 
-    /// By what the store knows of an entry that is put when it will have lived, to four milliseconds, and where it
-    /// sits, and of the others whether they have lived.
+    /// By what the store knows of an entry that is put when nothing will be left of it, to four milliseconds, and where
+    /// it sits, and of the others whether anything is.
     pub fn times(&self, life: Life, seat: Seat) -> Times {
-        let (dies, bound) = if self.has_ages() { (life.dies, life.born.saturating_add(1)) } else { (0, 0) };
-        Times { stamp: dies & !SEATS | (u64::from(seat) + 1), bound }
+        let goes = life.dies.saturating_add(self.if_error.unwrap_or(0));
+        let (goes, bound) = if self.has_ages() { (goes, life.born.saturating_add(1)) } else { (0, 0) };
+        Times { stamp: goes & !SEATS | (u64::from(seat) + 1), bound }
     }
 
+    /// Whether an entry has expired.
     pub fn is_over<K, V>(&self, entry: &Entry<K, V>, now: Moment) -> bool {
-        let idles = || now.saturating_sub(entry.touched.load(Relaxed));
-        self.has_ages() && now >= entry.life.dies || self.to_idle.is_some_and(|limit| idles() >= limit)
+        let idles_until = |limit| entry.touched.load(Relaxed).saturating_add(limit);
+        self.has_ages() && now >= entry.life.dies || self.to_idle.is_some_and(|limit| now >= idles_until(limit))
+    }
+
+    /// Whether it had done so before the time for which it is left.
+    pub fn is_gone<K, V>(&self, entry: &Entry<K, V>, now: Moment) -> bool {
+        now.checked_sub(self.if_error.unwrap_or(0)).is_some_and(|before| self.is_over(entry, before))
     }
 
     /// Notes that the entry was found. Other threads see a write only once a sixteenth of the time to idle has passed.

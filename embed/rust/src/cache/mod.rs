@@ -21,6 +21,7 @@ mod reader;
 mod request;
 mod seats;
 mod shared;
+mod stale;
 mod stats;
 mod store;
 mod sync;

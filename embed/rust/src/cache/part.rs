@@ -8,6 +8,7 @@ use super::flights::{End, Flight};
 use super::hold::Hold;
 use super::leaving::{Listener, RemovalCause};
 use super::lock::{Lock, Locked};
+use super::stale::Met;
 use super::stats::CacheStats;
 use super::store::{self, Beside, Place, Store};
 use crate::drops::{with_each, with_each_then};
@@ -65,6 +66,8 @@ enum Kind {
     Flight(u64),
     /// Its value is to take the place of an entry that is held meanwhile.
     Beside(Beside),
+    /// A flight of that number, which the store doesn't know: its value is to take the place of what has expired.
+    BesideLeft(u64),
     /// None: nobody waits for it, and its value is the caller's own. Another key has the id, or too many are loaded.
     Alone { clashes: bool },
 }
@@ -195,11 +198,15 @@ impl<K, V> Part<K, V> {
             let kind = match store.begin(&flight) {
                 store::Begun::Load(number) => Kind::Flight(number),
                 store::Begun::Wait(other) if other.key().borrow() == key => return Begun::Wait(other),
-                store::Begun::Held if store.expire(id, now) => continue,
-                store::Begun::Held if store.find(id).is_some_and(|entry| entry.key.borrow() == key) => {
-                    return Begun::Held;
-                }
-                store::Begun::Held | store::Begun::Wait(_) => Kind::Alone { clashes: true },
+                store::Begun::Held => match store.meet(id, key, now) {
+                    Met::Own => return Begun::Held,
+                    Met::Other => Kind::Alone { clashes: true },
+                    Met::Left => {
+                        store.begin_beside_left(&flight).map_or(Kind::Alone { clashes: false }, Kind::BesideLeft)
+                    }
+                    Met::Gone => continue,
+                },
+                store::Begun::Wait(_) => Kind::Alone { clashes: true },
                 store::Begun::Full => Kind::Alone { clashes: false },
             };
             drop(store);
@@ -238,6 +245,7 @@ impl<K, V> Part<K, V> {
             let ended = match load.kind {
                 Kind::Flight(number) => store.land(number, entry),
                 Kind::Beside(beside) => store.refresh(beside, entry),
+                Kind::BesideLeft(number) => store.land_beside_left(number, entry, self.expiry.now()),
                 Kind::Alone { clashes } => {
                     store.counted.refused += 1;
                     store.counted.clashes += u64::from(clashes);
@@ -272,6 +280,7 @@ impl<K, V> Part<K, V> {
             match load.kind {
                 Kind::Flight(number) => store.fail(number),
                 Kind::Beside(beside) => _ = store.end_refresh(load.id(), beside),
+                Kind::BesideLeft(number) => _ = store.under_way.end(number),
                 Kind::Alone { .. } => {}
             }
         };

@@ -146,7 +146,7 @@ impl<K: Hash + Eq, V, S: BuildHasher> CacheReader<K, V, S> {
             self.counts(at).count_wait();
             match flight.wait(now().checked_add(timeout)) {
                 None => return Err(WaitError::TimedOut),
-                Some(End::Failed(why)) => return Err(WaitError::Failed(why.said())),
+                Some(End::Failed(why)) => return self.left(at, key).ok_or(WaitError::Failed(why.said())),
                 Some(End::Loaded | End::Outdated) => {}
             }
         }
@@ -178,6 +178,8 @@ impl<K: Hash + Eq, V, S: BuildHasher> CacheReader<K, V, S> {
                 return true;
             }
         }
+        // What has expired is from before this call.
+        self.part(at).expire_left(at.id);
         false
     }
 
@@ -214,8 +216,14 @@ impl<K: Hash + Eq, V, S: BuildHasher> CacheReader<K, V, S> {
         };
         let part = &self.cache.shared.parts()[at.part];
         // Where the load ends without a value, by an error or a panic, this wakes those who wait.
-        let _failing = Failing { part, load: &own };
-        let value = load().map_err(LoadError::Failed)?;
+        let failing = Failing { part, load: &own };
+        let value = match load() {
+            Ok(value) => value,
+            Err(why) => {
+                drop(failing);
+                return self.left(at, key).ok_or(LoadError::Failed(why));
+            }
+        };
         let entry = part.own_entry(at.id, key.to_owned(), value);
         let reader = &mut self.desk.ids[at.part];
         Ok(CacheRef(match part.land(&own, entry, Some(reader)) {
@@ -253,6 +261,18 @@ impl<K: Hash + Eq, V, S: BuildHasher> CacheReader<K, V, S> {
             None => self.counts(at).count_miss(),
         }
         found
+    }
+
+    /// What is left of a key whose load has failed.
+    fn left<Q: Eq + ?Sized>(&mut self, at: At, key: &Q) -> Option<CacheRef<'_, K, V>>
+    where
+        K: Borrow<Q>,
+    {
+        let part = &self.cache.shared.parts()[at.part];
+        let leaves = part.expiry.leaves();
+        let place = leaves.then(|| self.desk.find_if(at, |entry| part.is_left(entry, key))).flatten()?;
+        part.count(|counted| counted.stale += 1);
+        Some(self.borrowed(at, place))
     }
 
     /// What the last find has found.

@@ -39,6 +39,8 @@ impl<K: Hash + Eq, V, S: BuildHasher> Request<K, V, S> {
     }
 
     /// Ends it without a value. Those who wait without a load of their own are told why; of the others one loads the key.
+    /// Where something is left of the key ([`CacheBuilder::stale_if_error`](super::CacheBuilder::stale_if_error)), the
+    /// former have that; who calls this has no value.
     pub fn fail(self, why: impl Into<Box<dyn Error + Send + Sync>>) {
         self.part().crash(&self.load, Failure::Said(Cause::from(why.into())));
     }

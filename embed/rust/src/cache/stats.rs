@@ -26,12 +26,14 @@ pub struct CacheStats {
     pub refused: u64,
     /// How many of these had another key of their hash beside them.
     pub clashes: u64,
+    /// Gets of a key whose load failed that gave what was left of it ([`stale_if_error`](crate::CacheBuilder::stale_if_error)).
+    pub stale: u64,
     /// Values that were not held since their load began before their key's invalidation, insertion or change was over.
     pub outdated: u64,
 }
 
 impl CacheStats {
-    pub(super) fn named(&self) -> [(&'static str, u64); 11] {
+    pub(super) fn named(&self) -> [(&'static str, u64); 12] {
         [
             ("hits", self.hits),
             ("misses", self.misses),
@@ -43,6 +45,7 @@ impl CacheStats {
             ("expired", self.expired),
             ("refused", self.refused),
             ("clashes", self.clashes),
+            ("stale", self.stale),
             ("outdated", self.outdated),
         ]
     }
@@ -60,6 +63,7 @@ impl AddAssign for CacheStats {
         self.expired += other.expired;
         self.refused += other.refused;
         self.clashes += other.clashes;
+        self.stale += other.stale;
         self.outdated += other.outdated;
     }
 }

@@ -18,7 +18,7 @@ use std::sync::Arc;
 pub(super) type Place<K, V> = NonNull<Entry<K, V>>;
 
 /// Where an entry is held that was put, or the entry.
-type PutEntry<K, V> = Result<Place<K, V>, Box<Entry<K, V>>>;
+pub(super) type PutEntry<K, V> = Result<Place<K, V>, Box<Entry<K, V>>>;
 
 /// Where the entry lies that has that number.
 pub(super) fn place_of<K, V>(number: u64) -> Place<K, V> {
@@ -27,13 +27,13 @@ pub(super) fn place_of<K, V>(number: u64) -> Place<K, V> {
 
 pub(super) struct Store<K, V> {
     ids: Ids,
-    expiry: Expiry,
+    pub expiry: Expiry,
     pub seats: Seats,
     /// What came out: no reader holds it, and none can find it.
     came_out: Vec<Place<K, V>>,
     kept: KeptEntries<K, V>,
     /// How many entries were put, and how many when all were invalidated last.
-    turns: u64,
+    pub turns: u64,
     turns_before: u64,
     pub under_way: UnderWay<K>,
     /// How often all loads were outdated.
@@ -118,6 +118,11 @@ impl<K, V> Store<K, V> {
 
     /// Begins a flight, unless its id has an entry or is loaded.
     pub fn begin(&mut self, flight: &Arc<Flight<K>>) -> Begun<K> {
+        // Beside what is left of an id the store knows of no flight.
+        let known = self.expiry.leaves().then(|| self.under_way.of(flight.id())).flatten();
+        if let Some(known) = known {
+            return Begun::Wait(known);
+        }
         match self.ids.begin(flight.id()) {
             Miss::Held => Begun::Held,
             Miss::Wait => self.under_way.of(flight.id()).map_or(Begun::Full, Begun::Wait),
@@ -208,12 +213,16 @@ impl<K, V> Store<K, V> {
     pub fn swap(&mut self, old: Place<K, V>, entry: Box<Entry<K, V>>) -> PutEntry<K, V> {
         let id = entry.id;
         let leaves = self.place(id).filter(|place| *place == old);
+        if leaves.is_some() {
+            // A load that began once that had expired.
+            self.under_way.outdate(id);
+        }
         let put = self.put_with(entry, false, |ids, place, times| ids.swap(id, old.as_ptr() as u64, place, times));
         note(leaves, if put.is_ok() { RemovalCause::Replaced } else { RemovalCause::Explicit });
         put
     }
 
-    fn put_with(
+    pub fn put_with(
         &mut self,
         mut entry: Box<Entry<K, V>>,
         is_new: bool,
@@ -280,10 +289,13 @@ impl<K, V> Store<K, V> {
         is_over
     }
 
-    /// The same of those who sit on a few seats.
+    /// The same of those who sit on a few seats, and of whom nothing is left.
     pub fn expire_from(&mut self, first: usize, now: Moment) {
-        for seated in self.seats.from(first) {
-            self.expire(seated.id, now);
+        let expiry = self.expiry;
+        for Seated { id, .. } in self.seats.from(first) {
+            if self.find(id).is_some_and(|entry| expiry.is_gone(entry, now)) {
+                self.expire(id, now);
+            }
         }
     }
 

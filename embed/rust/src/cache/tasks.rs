@@ -42,12 +42,13 @@ impl<K: Hash + Eq + 'static, V: Clone + 'static, S: BuildHasher + 'static> Cache
                 Begun::Load(own) => {
                     // Where the task is cancelled, or the load panics, this ends it.
                     let _failing = Failing { part, load: &own };
-                    return end_by(part, &own, key.to_owned(), None, load.await);
+                    let gave = end_by(part, &own, key.to_owned(), None, load.await);
+                    return self.or_left(at, key, gave);
                 }
                 Begun::Wait(flight) => {
                     part.count(|counted| counted.waits += 1);
                     if let Some(why) = failure(flight.ended().await) {
-                        return Err(why);
+                        return self.or_left(at, key, Err(why));
                     }
                 }
                 Begun::Held => {}

@@ -63,11 +63,11 @@ impl<K: Hash + Eq + 'static, V: Clone + 'static, S: BuildHasher + 'static> Cache
                 return Ok(value);
             }
             match part.begin(at.id, key, key.to_owned()) {
-                Begun::Load(own) => return load_by(part, &own, key, load),
+                Begun::Load(own) => return self.or_left(at, key, load_by(part, &own, key, load)),
                 Begun::Wait(flight) => {
                     part.count(|counted| counted.waits += 1);
                     if let Some(why) = flight.wait(None).and_then(failure) {
-                        return Err(why);
+                        return self.or_left(at, key, Err(why));
                     }
                 }
                 Begun::Held => {}

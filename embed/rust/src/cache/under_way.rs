@@ -30,11 +30,14 @@ impl<K> UnderWay<K> {
         self.flights.iter().find(|known| known.id == id).map(|known| Arc::clone(&known.flight))
     }
 
-    /// Ends the flight of that number, if it hasn't ended.
-    pub fn end(&mut self, number: u64) {
-        if let Some(place) = self.flights.iter().position(|known| known.number == number) {
-            self.flights.swap_remove(place);
-        }
+    pub fn count(&self) -> usize {
+        self.flights.len()
+    }
+
+    /// Ends the flight of that number: whether it hadn't ended, by its value or since it was outdated.
+    pub fn end(&mut self, number: u64) -> bool {
+        let place = self.flights.iter().position(|known| known.number == number);
+        place.map(|place| self.flights.swap_remove(place)).is_some()
     }
 
     /// Ends the flight of an id, whose value will not be held: its number.

@@ -47,7 +47,10 @@ impl<K: Hash + Eq + 'static, V: Clone + 'static, S: BuildHasher + 'static> Futur
             End::Loaded | End::Outdated => {
                 self.cache.read(self.cache.shared.at_id(id), self.key(), V::clone).ok_or(WaitError::Missing)
             }
-            End::Failed(why) => Err(WaitError::Failed(why.said())),
+            End::Failed(why) => {
+                let at = self.cache.shared.at_id(id);
+                self.cache.or_left(at, self.key(), Err(WaitError::Failed(why.said())))
+            }
         })
     }
 }

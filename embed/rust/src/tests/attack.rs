@@ -404,14 +404,16 @@ struct Setting {
     /// For how many microseconds entries live, and stay where nobody finds them: 0 for ever.
     life: u64,
     idle: u64,
+    /// And are left then for loads that fail.
+    left: u64,
 }
 
 /// For a table.
 const fn setting(capacity: usize, readers: u32, sharing: u64, life: u64, idle: u64) -> Setting {
-    Setting { capacity, readers, sharing, life, idle }
+    Setting { capacity, readers, sharing, life, idle, left: 0 }
 }
 
-const SETTINGS: [Setting; 9] = [
+const SETTINGS: [Setting; 11] = [
     setting(1, 1, 1, 0, 0),
     setting(1, 12, 1, 0, 0),
     setting(8, 4, 1, 0, 0),
@@ -422,12 +424,17 @@ const SETTINGS: [Setting; 9] = [
     setting(8, 12, 1, 200, 0),
     setting(8, 4, 2, 0, 200),
     setting(300, 4, 1, 200, 100),
+    Setting { left: 500, ..setting(8, 4, 1, 100, 0) },
+    Setting { left: u64::MAX, ..setting(300, 12, 2, 0, 50) },
 ];
 
 impl Setting {
     fn open(&self) -> Values {
-        let &Setting { capacity, readers, sharing, life, idle } = self;
+        let &Setting { capacity, readers, sharing, life, idle, left } = self;
         let mut builder = Cache::builder().capacity(capacity).threads(readers).hasher(Sharing(sharing));
+        if left > 0 {
+            builder = builder.stale_if_error(Duration::from_micros(left));
+        }
         if life > 0 {
             builder = builder.time_to_live(Duration::from_micros(life));
         }

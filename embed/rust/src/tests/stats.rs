@@ -129,5 +129,5 @@ fn an_exporter_takes_each_number_by_its_name() {
     ] {
         assert_eq!(named.get(name), Some(&number), "{name}");
     }
-    assert_eq!(cache.metrics().count(), 13, "each has a name of its own");
+    assert_eq!(cache.metrics().count(), 14, "each has a name of its own");
 }
