@@ -22,10 +22,12 @@ pub(crate) fn drop_each<T>(doomed: impl IntoIterator<Item = T>) {
     with_each(doomed, drop);
 }
 
-/// Does it with each of them and gives the result, which is dropped where it panics with one: as it unwinds a second panic
-/// would end the program.
-pub(crate) fn with_each_then<T, R>(all: impl IntoIterator<Item = T>, result: R, work: impl FnMut(T)) -> R {
-    if let Some(why) = panic_of(|| with_each(all, work)) {
+/// Does both and gives what the second gives, also where the first panics, which goes on at the end. What the second
+/// gave is dropped then: as it unwinds a second panic would end the program.
+pub(crate) fn both<R>(first: impl FnOnce(), second: impl FnOnce() -> R) -> R {
+    let panicked = panic_of(first);
+    let result = second();
+    if let Some(why) = panicked {
         _ = panic_of(|| drop(result));
         resume_unwind(why);
     }

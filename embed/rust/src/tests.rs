@@ -15,6 +15,7 @@ mod leaving;
 mod loaders;
 mod lobby;
 mod many;
+mod misses;
 mod net;
 mod outdated;
 mod panics;

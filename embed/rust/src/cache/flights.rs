@@ -8,10 +8,8 @@ use std::sync::{Arc, PoisonError};
 use std::task::{Context, Poll, Waker};
 use std::time::Instant;
 
-/// One load of one key: its loader ends it, or who outdates it, and the others wait for that.
-pub(super) struct Flight<K> {
-    id: u64,
-    key: K,
+/// What those share who wait for one load: its loader ends it, or who outdates it.
+pub(super) struct Flight {
     end: OnceLock<End>,
     waiting: Mutex<Waiting>,
     ended: Condvar,
@@ -36,17 +34,9 @@ pub(super) enum End {
     Outdated,
 }
 
-impl<K> Flight<K> {
-    pub fn new(id: u64, key: K) -> Flight<K> {
-        Flight { id, key, end: OnceLock::new(), waiting: Mutex::default(), ended: Condvar::new() }
-    }
-
-    pub fn id(&self) -> u64 {
-        self.id
-    }
-
-    pub fn key(&self) -> &K {
-        &self.key
+impl Flight {
+    pub fn new() -> Flight {
+        Flight { end: OnceLock::new(), waiting: Mutex::default(), ended: Condvar::new() }
     }
 
     pub fn has_ended(&self) -> bool {
@@ -65,7 +55,7 @@ impl<K> Flight<K> {
     }
 
     /// The end of the load, for a task.
-    pub fn ended(self: Arc<Self>) -> Ended<K> {
+    pub fn ended(self: Arc<Self>) -> Ended {
         Ended { flight: self, number: None }
     }
 
@@ -98,19 +88,13 @@ impl<K> Flight<K> {
 }
 
 /// How a flight ended, once it has. Dropped before that it wakes nobody.
-pub(super) struct Ended<K> {
-    flight: Arc<Flight<K>>,
+pub(super) struct Ended {
+    flight: Arc<Flight>,
     /// That of its task among those that wait.
     number: Option<u64>,
 }
 
-impl<K> Ended<K> {
-    pub fn flight(&self) -> &Flight<K> {
-        &self.flight
-    }
-}
-
-impl<K> Future for Ended<K> {
+impl Future for Ended {
     type Output = End;
 
     fn poll(mut self: Pin<&mut Self>, context: &mut Context<'_>) -> Poll<End> {
@@ -132,7 +116,7 @@ impl<K> Future for Ended<K> {
     }
 }
 
-impl<K> Drop for Ended<K> {
+impl Drop for Ended {
     fn drop(&mut self) {
         if let Some(number) = self.number {
             let mut waiting = self.flight.waiting();

@@ -1,25 +1,24 @@
 //! Gets of many keys by one call.
 use super::flights::Flight;
 use super::part::{Begun, Load, Part};
-use super::threads::end_by;
+use super::threads::{end_by, own_id};
 use super::Cache;
 use std::borrow::Borrow;
 use std::convert::Infallible;
 use std::hash::{BuildHasher, Hash};
 use std::sync::Arc;
-use std::thread;
 
 /// What is still missing: what the caller loads, and what others do.
 struct Missing<'a, K, V> {
     own: Vec<Own<'a, K, V>>,
-    others: Vec<Arc<Flight<K>>>,
+    others: Vec<Arc<Flight>>,
 }
 
 /// A load of the caller's, and where its key stands. Dropped before its end it has failed.
 struct Own<'a, K, V> {
     place: usize,
     part: &'a Part<K, V>,
-    load: Load<K>,
+    load: Load,
 }
 
 impl<K, V> Drop for Own<'_, K, V> {
@@ -73,7 +72,7 @@ impl<K: Hash + Eq + 'static, V: Clone + 'static, S: BuildHasher + 'static> Cache
             match part.begin(at.id, *key, (*key).to_owned()) {
                 Begun::Held => *value = self.read(at, *key, V::clone),
                 Begun::Load(load) => missing.own.push(Own { place, part, load }),
-                Begun::Wait(flight) => {
+                Begun::Wait(flight, _) => {
                     part.count(|counted| counted.waits += 1);
                     missing.others.push(flight);
                 }
@@ -100,7 +99,7 @@ fn load_all<K, V, Q>(
     let values = load(&wanted);
     assert_eq!(values.len(), wanted.len(), "a load of many gives a value for each key");
     for (own, value) in own.iter().zip(values) {
-        let (key, maker) = (keys[own.place].to_owned(), Some(thread::current().id()));
+        let (key, maker) = (keys[own.place].to_owned(), Some(own_id()));
         found[own.place] = end_by(own.part, &own.load, key, maker, Ok::<V, Infallible>(value)).ok();
     }
 }

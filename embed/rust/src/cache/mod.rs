@@ -9,6 +9,7 @@ mod entry;
 mod expiry;
 mod failure;
 mod flights;
+mod handful;
 mod hold;
 mod kept;
 mod leaving;

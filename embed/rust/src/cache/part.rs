@@ -5,18 +5,22 @@ use super::entry::Entry;
 use super::expiry::{Expiry, Lifetime, Moment};
 use super::failure::Failure;
 use super::flights::{End, Flight};
+use super::handful::Handful;
 use super::hold::Hold;
 use super::leaving::{Listener, RemovalCause};
 use super::lock::{Lock, Locked};
 use super::stale::Met;
 use super::stats::CacheStats;
-use super::store::{self, Beside, Place, Store};
-use crate::drops::{with_each, with_each_then};
-use crate::ids::IdReader;
+use super::store::{Beside, Place, Store};
+use super::threads::own_id;
+use super::under_way::Over;
+use crate::drops::{both, with_each};
+use crate::ids::{IdReader, Miss};
 use std::borrow::Borrow;
+use std::panic::{catch_unwind, resume_unwind, AssertUnwindSafe};
 use std::sync::atomic::{AtomicBool, AtomicU64, Ordering::Relaxed};
 use std::sync::Arc;
-use std::thread::{self, ThreadId};
+use std::thread::ThreadId;
 use std::time::Instant;
 
 /// Apart from the lines of the others.
@@ -53,10 +57,10 @@ impl<K, V> Clone for Told<K, V> {
 pub(super) enum Begun<K> {
     /// The key is held by now.
     Held,
-    /// Another loads it, and its key has not changed since that began.
-    Wait(Arc<Flight<K>>),
+    /// Another loads it, and its key has not changed since that began. The caller has its key back.
+    Wait(Arc<Flight>, K),
     /// The caller loads it.
-    Load(Load<K>),
+    Load(Load),
 }
 
 /// What a load is for the store.
@@ -73,30 +77,21 @@ enum Kind {
 }
 
 /// A load that its caller makes.
-pub(super) struct Load<K> {
-    flight: Arc<Flight<K>>,
+pub(super) struct Load {
+    id: u64,
     kind: Kind,
     began: Instant,
     /// Whether its caller has ended it.
     is_over: AtomicBool,
 }
 
-impl<K> Load<K> {
-    fn of(flight: Arc<Flight<K>>, kind: Kind) -> Load<K> {
-        Load { flight, kind, began: Instant::now(), is_over: AtomicBool::new(false) }
+impl Load {
+    fn of(id: u64, kind: Kind) -> Load {
+        Load { id, kind, began: Instant::now(), is_over: AtomicBool::new(false) }
     }
 
     pub fn id(&self) -> u64 {
-        self.flight.id()
-    }
-
-    pub fn key(&self) -> &K {
-        self.flight.key()
-    }
-
-    fn end(&self, how: End) {
-        self.is_over.store(true, Relaxed);
-        self.flight.end(how);
+        self.id
     }
 }
 
@@ -111,7 +106,7 @@ pub(super) enum Landed<K, V> {
 /// A load that has failed where this is dropped before its end.
 pub(super) struct Failing<'a, K, V> {
     pub part: &'a Part<K, V>,
-    pub load: &'a Load<K>,
+    pub load: &'a Load,
 }
 
 impl<K, V> Drop for Failing<'_, K, V> {
@@ -129,7 +124,7 @@ impl<K, V> Part<K, V> {
 
     /// An entry whose value comes now, by the thread that calls.
     pub fn own_entry(&self, id: u64, key: K, value: V) -> Box<Entry<K, V>> {
-        self.entry(Some(thread::current().id()), id, key, value)
+        self.entry(Some(own_id()), id, key, value)
     }
 
     /// An entry whose value comes now, by that thread. It is told here how long it lives, so without a lock.
@@ -184,34 +179,38 @@ impl<K, V> Part<K, V> {
         count(&mut self.store().counted);
     }
 
-    /// Opens a flight of a key, unless it is held or there is one.
+    /// Opens a flight of a key, unless it is held or there is one. Where the caller's own key isn't needed it is dropped
+    /// without the lock.
     pub fn begin<Q: Eq + ?Sized>(&self, id: u64, key: &Q, owned: K) -> Begun<K>
     where
         K: Borrow<Q>,
     {
         let now = self.expiry.now();
-        // Made, and where it isn't needed dropped, without the lock.
-        let flight = Arc::new(Flight::new(id, owned));
         // What is taken out is dropped by a later call: where a drop panicked here, nobody would end the flight.
         let mut store = self.store();
-        loop {
-            let kind = match store.begin(&flight) {
-                store::Begun::Load(number) => Kind::Flight(number),
-                store::Begun::Wait(other) if other.key().borrow() == key => return Begun::Wait(other),
-                store::Begun::Held => match store.meet(id, key, now) {
-                    Met::Own => return Begun::Held,
-                    Met::Other => Kind::Alone { clashes: true },
-                    Met::Left => {
-                        store.begin_beside_left(&flight).map_or(Kind::Alone { clashes: false }, Kind::BesideLeft)
-                    }
-                    Met::Gone => continue,
+        let kind = loop {
+            match store.begin(id) {
+                Miss::Load(number) => break Kind::Flight(number),
+                Miss::Wait => match store.under_way.flight_of(id, key) {
+                    Some(flight) => return Begun::Wait(flight, owned),
+                    None => break Kind::Alone { clashes: true },
                 },
-                store::Begun::Wait(_) => Kind::Alone { clashes: true },
-                store::Begun::Full => Kind::Alone { clashes: false },
-            };
-            drop(store);
-            return Begun::Load(Load::of(flight, kind));
+                Miss::Held => match store.meet(id, key, now) {
+                    Met::Own => return Begun::Held,
+                    Met::Other => break Kind::Alone { clashes: true },
+                    Met::Left => {
+                        break store.begin_beside_left().map_or(Kind::Alone { clashes: false }, Kind::BesideLeft)
+                    }
+                    Met::Gone => {}
+                },
+                Miss::Full => break Kind::Alone { clashes: false },
+            }
+        };
+        if let Kind::Flight(number) | Kind::BesideLeft(number) = kind {
+            store.under_way.begin(id, number, owned);
         }
+        drop(store);
+        Begun::Load(Load::of(id, kind))
     }
 
     /// The turn of an entry beside which its value is to be loaded anew, and isn't yet.
@@ -221,25 +220,24 @@ impl<K, V> Part<K, V> {
     }
 
     /// Begins a load beside the entry of an id, unless another has, or the entry isn't the one of that turn any more.
-    pub fn begin_refresh(&self, id: u64, turn: u64, owned: K) -> Option<Load<K>> {
-        let flight = Arc::new(Flight::new(id, owned));
+    pub fn begin_refresh(&self, id: u64, turn: u64) -> Option<Load> {
         let beside = self.store().begin_refresh(id, turn)?;
-        Some(Load::of(flight, Kind::Beside(beside)))
+        Some(Load::of(id, Kind::Beside(beside)))
     }
 
-    /// The flight of a key, where there is one.
-    pub fn flight_of<Q: Eq + ?Sized>(&self, id: u64, key: &Q) -> Option<Arc<Flight<K>>>
+    /// What those share who wait for the load of a key, where there is one.
+    pub fn flight_of<Q: Eq + ?Sized>(&self, id: u64, key: &Q) -> Option<Arc<Flight>>
     where
         K: Borrow<Q>,
     {
-        let flight = self.store().under_way.of(id)?;
-        (flight.key().borrow() == key).then_some(flight)
+        self.store().under_way.flight_of(id, key)
     }
 
     /// Ends a flight by its value, which the reader holds then, where one is given.
-    pub fn land(&self, load: &Load<K>, entry: Box<Entry<K, V>>, reader: Option<&mut IdReader>) -> Landed<K, V> {
+    pub fn land(&self, load: &Load, entry: Box<Entry<K, V>>, reader: Option<&mut IdReader>) -> Landed<K, V> {
         let (mut hold, took) = (None, load.began.elapsed());
-        let land = |store: &mut Store<K, V>| {
+        let landed = self.change(|store| {
+            load.is_over.store(true, Relaxed);
             store.counted.loads += 1;
             store.counted.load_time += took;
             let ended = match load.kind {
@@ -263,8 +261,7 @@ impl<K, V> Part<K, V> {
                     Landed::Own(entry)
                 }
             }
-        };
-        let landed = self.change_then(land, || load.end(End::Loaded));
+        });
         if let Some(hold) = hold {
             hold.keep();
         }
@@ -272,23 +269,24 @@ impl<K, V> Part<K, V> {
     }
 
     /// Ends a flight without a value.
-    pub fn crash(&self, load: &Load<K>, why: Failure) {
-        let took = load.began.elapsed();
-        let fail = |store: &mut Store<K, V>| {
+    pub fn crash(&self, load: &Load, why: Failure) {
+        // What was told to nobody is dropped without the lock.
+        let (how, took) = (End::Failed(why), load.began.elapsed());
+        self.change(|store| {
+            load.is_over.store(true, Relaxed);
             store.counted.failures += 1;
             store.counted.load_time += took;
             match load.kind {
-                Kind::Flight(number) => store.fail(number),
-                Kind::Beside(beside) => _ = store.end_refresh(load.id(), beside),
-                Kind::BesideLeft(number) => _ = store.under_way.end(number),
+                Kind::Flight(number) => store.fail(number, &how),
+                Kind::Beside(beside) => _ = store.end_refresh(load.id, beside),
+                Kind::BesideLeft(number) => _ = store.under_way.end(number, &how),
                 Kind::Alone { .. } => {}
             }
-        };
-        self.change_then(fail, || load.end(End::Failed(why)));
+        });
     }
 
     /// Ends a flight without a value where its caller hasn't ended it yet.
-    pub fn fail(&self, load: &Load<K>) {
+    pub fn fail(&self, load: &Load) {
         if !load.is_over.load(Relaxed) {
             self.crash(load, Failure::Unsaid);
         }
@@ -350,43 +348,35 @@ impl<K, V> Part<K, V> {
     }
 
     /// All entries, of a cache that nobody uses any more.
-    pub fn take_all(&mut self) -> Vec<Box<Entry<K, V>>> {
+    pub fn take_all(&mut self) -> Handful<Box<Entry<K, V>>> {
         self.store.get_mut().take_all()
     }
 
-    /// Changes the store under its lock, and then drops what came back, without it, or gives it to who listens.
+    /// Changes the store under its lock. Then, without it, those are told who wait for what has ended, and what came back
+    /// is dropped, or given to who listens: also where the change panics, by a comparison of keys, which goes on at the end.
     pub fn change<R>(&self, change: impl FnOnce(&mut Store<K, V>) -> R) -> R {
-        self.change_then(change, || {})
-    }
-
-    /// The same, and tells before that whose loads were outdated, and does something else, of which a part may panic.
-    fn change_then<R>(&self, change: impl FnOnce(&mut Store<K, V>) -> R, then: impl FnOnce()) -> R {
-        // With room for as many as there are most often, so that none is made under the lock.
-        let mut doomed = Vec::with_capacity(2);
-        let (result, turns_before, outdated) = {
+        let (changed, over, doomed, turns_before) = {
             let mut store = self.store();
-            let result = change(&mut store);
-            doomed.extend(store.reap());
-            (result, store.turns_before(), store.under_way.take_outdated())
+            let changed = catch_unwind(AssertUnwindSafe(|| change(&mut store)));
+            (changed, store.under_way.take_over(), store.reap(), store.turns_before())
         };
-        let causes = self.causes_of(&doomed, turns_before);
-        then();
-        with_each(outdated, |flight| flight.end(End::Outdated));
-        let mut causes = causes.into_iter();
-        with_each_then(doomed, result, |entry| match (&self.listener, causes.next()) {
+        let result = || changed.unwrap_or_else(|why| resume_unwind(why));
+        let mut causes = self.causes_of(&doomed, turns_before).into_iter();
+        let leave = |entry: Box<Entry<K, V>>| match (&self.listener, causes.next()) {
             (Some(listener), Some(cause)) => listener(entry.key, entry.value, cause),
             _ => drop(entry),
-        })
+        };
+        both(|| with_each(over, Over::tell), || both(|| with_each(doomed, leave), result))
     }
 
     /// Why each entry left that came out, where somebody listens or entries expire; those that had expired are counted.
     /// Of the entries so many had been put when all were invalidated last.
-    fn causes_of(&self, doomed: &[Box<Entry<K, V>>], turns_before: u64) -> Vec<RemovalCause> {
+    fn causes_of(&self, doomed: &Handful<Box<Entry<K, V>>>, turns_before: u64) -> Handful<RemovalCause> {
         if doomed.is_empty() || self.listener.is_none() && !self.expiry.is_set() {
-            return Vec::new();
+            return Handful::default();
         }
         let now = self.expiry.now();
-        let causes: Vec<_> = doomed.iter().map(|entry| self.cause_of(entry, turns_before, now)).collect();
+        let causes: Handful<_> = doomed.iter().map(|entry| self.cause_of(entry, turns_before, now)).collect();
         let expired = causes.iter().filter(|cause| **cause == RemovalCause::Expired).count();
         self.expired.fetch_add(expired as u64, Relaxed);
         causes

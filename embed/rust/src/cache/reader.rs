@@ -118,16 +118,15 @@ impl<K: Hash + Eq, V, S: BuildHasher> CacheReader<K, V, S> {
             if let Some(place) = found {
                 let part = &self.cache.shared.parts()[at.part];
                 let held = CacheRef(Borrowed::Held(place, self.desk.hold(at)));
-                let load = part.due(held.entry()).and_then(|turn| part.begin_refresh(at.id, turn, key.to_owned()));
-                return match load {
-                    Some(load) => Sought::Aged(held, Request::of(self.cache.clone(), load)),
+                return match part.due(held.entry()).and_then(|turn| part.begin_refresh(at.id, turn)) {
+                    Some(load) => Sought::Aged(held, Request::of(self.cache.clone(), load, key)),
                     None => Sought::Held(held),
                 };
             }
             match self.begin(at, key) {
                 Begun::Held => found = self.find(at, key),
-                Begun::Wait(flight) => return Sought::UnderWay(Wait::of(self.cache.clone(), flight)),
-                Begun::Load(load) => return Sought::Missing(Request::of(self.cache.clone(), load)),
+                Begun::Wait(flight, key) => return Sought::UnderWay(Wait::of(self.cache.clone(), at.id, key, flight)),
+                Begun::Load(load) => return Sought::Missing(Request::of(self.cache.clone(), load, key)),
             }
         }
     }
@@ -202,7 +201,7 @@ impl<K: Hash + Eq, V, S: BuildHasher> CacheReader<K, V, S> {
         let own = loop {
             match self.begin(at, key) {
                 Begun::Load(own) => break own,
-                Begun::Wait(flight) => {
+                Begun::Wait(flight, _) => {
                     self.counts(at).count_wait();
                     if flight.wait(until).is_none() {
                         return Err(LoadError::TimedOut);

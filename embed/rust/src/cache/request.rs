@@ -12,47 +12,58 @@ use std::hash::{BuildHasher, Hash};
 /// key that is held, of whose value it is to load a newer one, nobody waits for it ([`Sought::Aged`]).
 #[must_use = "dropped, the load has failed"]
 pub struct Request<K: Hash + Eq, V, S: BuildHasher = RandomState> {
+    pending: Pending<K, V, S>,
+    key: K,
+}
+
+/// A load that has failed where this is dropped before its end.
+struct Pending<K: Hash + Eq, V, S: BuildHasher> {
     cache: Cache<K, V, S>,
-    load: Load<K>,
+    load: Load,
+}
+
+impl<K: Hash + Eq, V, S: BuildHasher> Pending<K, V, S> {
+    fn part(&self) -> &Part<K, V> {
+        self.cache.shared.part_of(self.load.id())
+    }
+}
+
+impl<K: Hash + Eq, V, S: BuildHasher> Drop for Pending<K, V, S> {
+    fn drop(&mut self) {
+        self.part().fail(&self.load);
+    }
 }
 
 impl<K: Hash + Eq, V, S: BuildHasher> Request<K, V, S> {
-    pub(super) fn of(cache: Cache<K, V, S>, load: Load<K>) -> Request<K, V, S> {
-        Request { cache, load }
+    /// The request that such a load is. Where the key's clone panics, the load has failed.
+    pub(super) fn of<Q>(cache: Cache<K, V, S>, load: Load, key: &Q) -> Request<K, V, S>
+    where
+        Q: ToOwned<Owned = K> + ?Sized,
+    {
+        let pending = Pending { cache, load };
+        Request { pending, key: key.to_owned() }
     }
 
     /// The key that is missing, or whose value is old.
     pub fn key(&self) -> &K {
-        self.load.key()
+        &self.key
     }
 
     /// Ends it with the key's value, and wakes those who wait. Whether the cache holds the value: it doesn't where the
     /// key was invalidated or put since, or was being changed, nor where it came beside too many others, nor, of a key
     /// that was held, where the value went that is to be replaced.
-    pub fn fill(self, value: V) -> bool
-    where
-        K: Clone,
-    {
-        let part = self.part();
-        let entry = part.entry(None, self.load.id(), self.key().clone(), value);
-        matches!(part.land(&self.load, entry, None), Landed::Held(_))
+    pub fn fill(self, value: V) -> bool {
+        let Request { pending, key } = self;
+        let part = pending.part();
+        let entry = part.entry(None, pending.load.id(), key, value);
+        matches!(part.land(&pending.load, entry, None), Landed::Held(_))
     }
 
     /// Ends it without a value. Those who wait without a load of their own are told why; of the others one loads the key.
     /// Where something is left of the key ([`CacheBuilder::stale_if_error`](super::CacheBuilder::stale_if_error)), the
     /// former have that; who calls this has no value.
     pub fn fail(self, why: impl Into<Box<dyn Error + Send + Sync>>) {
-        self.part().crash(&self.load, Failure::Said(Cause::from(why.into())));
-    }
-
-    fn part(&self) -> &Part<K, V> {
-        self.cache.shared.part_of(self.load.id())
-    }
-}
-
-impl<K: Hash + Eq, V, S: BuildHasher> Drop for Request<K, V, S> {
-    fn drop(&mut self) {
-        self.part().fail(&self.load);
+        self.pending.part().crash(&self.pending.load, Failure::Said(Cause::from(why.into())));
     }
 }
 

@@ -3,7 +3,7 @@ use super::builder::{CacheBuilder, MOST_AT_ONCE};
 use super::desk::At;
 use super::entry::Entry;
 use super::expiry::{Moment, Spans};
-use super::flights::Flight;
+use super::flights::End;
 use super::leaving::RemovalCause;
 use super::part::Part;
 use super::store::{PutEntry, Store};
@@ -11,7 +11,6 @@ use super::Cache;
 use crate::ids::{Miss, Put};
 use std::borrow::Borrow;
 use std::hash::{BuildHasher, Hash};
-use std::sync::Arc;
 use std::time::Duration;
 
 impl<K, V, S> CacheBuilder<K, V, S> {
@@ -113,21 +112,17 @@ impl<K, V> Store<K, V> {
         }
     }
 
-    /// Begins a flight of an id that has an entry which is left, unless too many are under way: its number, which is none
-    /// of the store's.
-    pub fn begin_beside_left(&mut self, flight: &Arc<Flight<K>>) -> Option<u64> {
+    /// The number of a flight that is to begin beside an entry which is left, unless too many are under way. It is none of
+    /// the store's, and [`Store::under_way`] is to be told of it.
+    pub fn begin_beside_left(&mut self) -> Option<u64> {
         self.turns += 1;
-        let number = !self.turns;
-        (self.under_way.count() < MOST_AT_ONCE as usize).then(|| {
-            self.under_way.begin(number, flight);
-            number
-        })
+        (self.under_way.count() < MOST_AT_ONCE as usize).then_some(!self.turns)
     }
 
     /// Ends it by an entry, in place of what is left where that is there still, or gives it back where it isn't held: as
     /// where the flight has ended since it was outdated.
     pub fn land_beside_left(&mut self, number: u64, entry: Box<Entry<K, V>>, now: Moment) -> PutEntry<K, V> {
-        if !self.under_way.end(number) {
+        if !self.under_way.end(number, &End::Loaded) {
             return Err(entry);
         }
         let (id, expiry) = (entry.id, self.expiry);

@@ -2,7 +2,8 @@
 use super::all::Seated;
 use super::entry::Entry;
 use super::expiry::{seat_of, Expiry, Moment};
-use super::flights::Flight;
+use super::flights::End;
+use super::handful::Handful;
 use super::kept::KeptEntries;
 use super::leaving::RemovalCause;
 use super::seats::Seats;
@@ -10,10 +11,10 @@ use super::stats::CacheStats;
 use super::under_way::UnderWay;
 use crate::ids::{CameOut, Ids, Miss, Put, Times};
 use std::borrow::Borrow;
+use std::mem::take;
 use std::panic::{catch_unwind, resume_unwind, AssertUnwindSafe};
 use std::ptr::NonNull;
 use std::sync::atomic::Ordering::Relaxed;
-use std::sync::Arc;
 
 pub(super) type Place<K, V> = NonNull<Entry<K, V>>;
 
@@ -29,8 +30,10 @@ pub(super) struct Store<K, V> {
     ids: Ids,
     pub expiry: Expiry,
     pub seats: Seats,
+    /// How many entries there are: those that are held, and those that left and haven't come out.
+    lying: usize,
     /// What came out: no reader holds it, and none can find it.
-    came_out: Vec<Place<K, V>>,
+    came_out: Handful<Place<K, V>>,
     kept: KeptEntries<K, V>,
     /// How many entries were put, and how many when all were invalidated last.
     pub turns: u64,
@@ -49,25 +52,14 @@ pub(super) struct Beside {
     clearings: u64,
 }
 
-/// What a miss of an id comes to.
-pub(super) enum Begun<K> {
-    /// It has an entry by now.
-    Held,
-    /// It is loaded.
-    Wait(Arc<Flight<K>>),
-    /// The caller loads it, by the flight of that number.
-    Load(u64),
-    /// There is no room for one more flight.
-    Full,
-}
-
 impl<K, V> Store<K, V> {
     pub fn new(ids: Ids, capacity: usize, expiry: Expiry) -> Store<K, V> {
         Store {
             ids,
             expiry,
             seats: Seats::new(capacity),
-            came_out: Vec::new(),
+            lying: 0,
+            came_out: Handful::default(),
             kept: KeptEntries::new(),
             turns: 0,
             turns_before: 0,
@@ -116,35 +108,26 @@ impl<K, V> Store<K, V> {
         (self.has_key(id, key) == Some(true)).then(|| self.place(id)).flatten()
     }
 
-    /// Begins a flight, unless its id has an entry or is loaded.
-    pub fn begin(&mut self, flight: &Arc<Flight<K>>) -> Begun<K> {
+    /// Begins the load of an id, unless that has an entry or is loaded. [`Store::under_way`] is to be told what begins.
+    pub fn begin(&mut self, id: u64) -> Miss {
         // Beside what is left of an id the store knows of no flight.
-        let known = self.expiry.leaves().then(|| self.under_way.of(flight.id())).flatten();
-        if let Some(known) = known {
-            return Begun::Wait(known);
+        if self.expiry.leaves() && self.under_way.has(id) {
+            return Miss::Wait;
         }
-        match self.ids.begin(flight.id()) {
-            Miss::Held => Begun::Held,
-            Miss::Wait => self.under_way.of(flight.id()).map_or(Begun::Full, Begun::Wait),
-            Miss::Load(number) => {
-                self.under_way.begin(number, flight);
-                Begun::Load(number)
-            }
-            Miss::Full => Begun::Full,
-        }
+        self.ids.begin(id)
     }
 
     /// Ends a flight by an entry, or gives it back where it isn't held: as where the flight has ended since it was
     /// outdated.
     pub fn land(&mut self, number: u64, entry: Box<Entry<K, V>>) -> PutEntry<K, V> {
-        self.under_way.end(number);
+        self.under_way.end(number, &End::Loaded);
         // While an id is loaded it has no entry.
         self.put_with(entry, true, |ids, place, times| ids.land(number, place, times))
     }
 
-    /// Ends it without one.
-    pub fn fail(&mut self, number: u64) {
-        self.under_way.end(number);
+    /// Ends it without one, in that way.
+    pub fn fail(&mut self, number: u64, how: &End) {
+        self.under_way.end(number, how);
         self.ids.fail(number);
     }
 
@@ -235,6 +218,7 @@ impl<K, V> Store<K, V> {
         let place = NonNull::from(Box::leak(entry));
         match put(&mut self.ids, place.as_ptr() as u64, times) {
             Put::Held(old) => {
+                self.lying += 1;
                 old.into_iter().for_each(|out| self.comes_out(out));
                 self.counted.evictions += (wanted - self.held()) as u64;
                 Ok(place)
@@ -322,15 +306,18 @@ impl<K, V> Store<K, V> {
     }
 
     /// The entries that came out: all that left but those that readers hold.
-    pub fn reap(&mut self) -> impl Iterator<Item = Box<Entry<K, V>>> + '_ {
-        while let Some(out) = self.ids.reap() {
+    pub fn reap(&mut self) -> Handful<Box<Entry<K, V>>> {
+        // None is asked for where none waits, since the store looks then through all that came out before.
+        for _ in self.held()..self.lying {
+            let Some(out) = self.ids.reap() else { break };
             self.comes_out(out);
         }
         // SAFETY: nobody can see them any more, and each came out once.
-        self.came_out.drain(..).map(|place| unsafe { Box::from_raw(place.as_ptr()) })
+        take(&mut self.came_out).into_iter().map(|place| unsafe { Box::from_raw(place.as_ptr()) }).collect()
     }
 
     fn comes_out(&mut self, out: CameOut) {
+        self.lying -= 1;
         self.seats.leave(seat_of(out.stamp));
         let place = place_of(out.number);
         if !self.kept.comes_out(place) {
@@ -350,9 +337,9 @@ impl<K, V> Store<K, V> {
     }
 
     /// All entries, of a cache that nobody uses any more: no reader holds one.
-    pub fn take_all(&mut self) -> Vec<Box<Entry<K, V>>> {
+    pub fn take_all(&mut self) -> Handful<Box<Entry<K, V>>> {
         self.ids.invalidate_all();
-        self.reap().collect()
+        self.reap()
     }
 }
 

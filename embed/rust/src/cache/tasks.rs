@@ -45,7 +45,7 @@ impl<K: Hash + Eq + 'static, V: Clone + 'static, S: BuildHasher + 'static> Cache
                     let gave = end_by(part, &own, key.to_owned(), None, load.await);
                     return self.or_left(at, key, gave);
                 }
-                Begun::Wait(flight) => {
+                Begun::Wait(flight, _) => {
                     part.count(|counted| counted.waits += 1);
                     if let Some(why) = failure(flight.ended().await) {
                         return self.or_left(at, key, Err(why));

@@ -64,7 +64,7 @@ impl<K: Hash + Eq + 'static, V: Clone + 'static, S: BuildHasher + 'static> Cache
             }
             match part.begin(at.id, key, key.to_owned()) {
                 Begun::Load(own) => return self.or_left(at, key, load_by(part, &own, key, load)),
-                Begun::Wait(flight) => {
+                Begun::Wait(flight, _) => {
                     part.count(|counted| counted.waits += 1);
                     if let Some(why) = flight.wait(None).and_then(failure) {
                         return self.or_left(at, key, Err(why));
@@ -89,16 +89,15 @@ impl<K: Hash + Eq + 'static, V: Clone + 'static, S: BuildHasher + 'static> Cache
         let mut found = self.look_with(at, key, seen);
         loop {
             if let Some((value, due)) = found {
-                let load = due.and_then(|turn| part.begin_refresh(at.id, turn, key.to_owned()));
-                return match load {
-                    Some(load) => Sought::Aged(value, Request::of(self.clone(), load)),
+                return match due.and_then(|turn| part.begin_refresh(at.id, turn)) {
+                    Some(load) => Sought::Aged(value, Request::of(self.clone(), load, key)),
                     None => Sought::Held(value),
                 };
             }
             match part.begin(at.id, key, key.to_owned()) {
                 Begun::Held => found = self.read_if(at, |entry| part.is_found(entry, key), seen),
-                Begun::Wait(flight) => return Sought::UnderWay(Wait::of(self.clone(), flight)),
-                Begun::Load(load) => return Sought::Missing(Request::of(self.clone(), load)),
+                Begun::Wait(flight, key) => return Sought::UnderWay(Wait::of(self.clone(), at.id, key, flight)),
+                Begun::Load(load) => return Sought::Missing(Request::of(self.clone(), load, key)),
             }
         }
     }
@@ -162,21 +161,27 @@ impl<K: Hash + Eq + 'static, V: Clone + 'static, S: BuildHasher + 'static> Cache
     }
 }
 
+/// The calling thread's id, for which it asks once: who asks counts the owners of the thread's handle.
+pub(super) fn own_id() -> ThreadId {
+    thread_local!(static OWN: ThreadId = thread::current().id());
+    OWN.with(|own| *own)
+}
+
 /// Ends a load by what it gives. Where it or a clone of its key panics, it has failed.
 fn load_by<Q: ToOwned + ?Sized, V: Clone, E: Send + Sync + 'static>(
     part: &Part<Q::Owned, V>,
-    own: &Load<Q::Owned>,
+    own: &Load,
     key: &Q,
     load: impl FnOnce() -> Result<V, E>,
 ) -> Result<V, Arc<E>> {
     let _failing = Failing { part, load: own };
-    end_by(part, own, key.to_owned(), Some(thread::current().id()), load())
+    end_by(part, own, key.to_owned(), Some(own_id()), load())
 }
 
 /// Ends a load by what it gave, in that thread where it ran in one.
 pub(super) fn end_by<K, V: Clone, E: Send + Sync + 'static>(
     part: &Part<K, V>,
-    own: &Load<K>,
+    own: &Load,
     key: K,
     maker: Option<ThreadId>,
     gave: Result<V, E>,

@@ -1,62 +1,93 @@
 //! The loads of a part that are under way, of each id one at most.
-use super::flights::Flight;
+use super::flights::{End, Flight};
+use super::handful::Handful;
+use std::borrow::Borrow;
 use std::sync::Arc;
 
-/// A flight, its id, and the number by which the store knows it.
+/// A load of a key, and the number by which the store knows it.
 struct Known<K> {
     id: u64,
     number: u64,
-    flight: Arc<Flight<K>>,
+    key: K,
+    /// What those share who wait for it. The first of them makes it: mostly nobody waits.
+    flight: Option<Arc<Flight>>,
 }
 
-/// The same flights as the store has. They are few, and each is looked for among all of them.
+/// A load that has ended, and how. Its key is the user's, whose drop is not run under the lock.
+pub(super) struct Over<K> {
+    load: Known<K>,
+    how: End,
+}
+
+impl<K> Over<K> {
+    /// Tells those who wait for it.
+    pub fn tell(self) {
+        if let Some(flight) = self.load.flight {
+            flight.end(self.how);
+        }
+    }
+}
+
+/// The same loads as the store has. They are few, and each is looked for among all of them.
 pub(super) struct UnderWay<K> {
-    flights: Vec<Known<K>>,
-    /// Those that ended since their values will not be held, and whose end nobody was told yet.
-    outdated: Vec<Arc<Flight<K>>>,
+    loads: Vec<Known<K>>,
+    /// Those that have ended, which nobody was told yet.
+    over: Handful<Over<K>>,
 }
 
 impl<K> UnderWay<K> {
     pub fn new() -> UnderWay<K> {
-        UnderWay { flights: Vec::new(), outdated: Vec::new() }
+        UnderWay { loads: Vec::new(), over: Handful::default() }
     }
 
-    pub fn begin(&mut self, number: u64, flight: &Arc<Flight<K>>) {
-        self.flights.push(Known { id: flight.id(), number, flight: Arc::clone(flight) });
+    pub fn begin(&mut self, id: u64, number: u64, key: K) {
+        self.loads.push(Known { id, number, key, flight: None });
     }
 
-    /// The flight of an id.
-    pub fn of(&self, id: u64) -> Option<Arc<Flight<K>>> {
-        self.flights.iter().find(|known| known.id == id).map(|known| Arc::clone(&known.flight))
+    /// What those share who wait for the load of a key, if there is one.
+    pub fn flight_of<Q: Eq + ?Sized>(&mut self, id: u64, key: &Q) -> Option<Arc<Flight>>
+    where
+        K: Borrow<Q>,
+    {
+        let load = self.loads.iter_mut().find(|load| load.id == id)?;
+        (load.key.borrow() == key).then(|| load.flight.get_or_insert_with(|| Arc::new(Flight::new())).clone())
     }
 
     pub fn count(&self) -> usize {
-        self.flights.len()
+        self.loads.len()
     }
 
-    /// Ends the flight of that number: whether it hadn't ended, by its value or since it was outdated.
-    pub fn end(&mut self, number: u64) -> bool {
-        let place = self.flights.iter().position(|known| known.number == number);
-        place.map(|place| self.flights.swap_remove(place)).is_some()
+    pub fn has(&self, id: u64) -> bool {
+        self.loads.iter().any(|load| load.id == id)
     }
 
-    /// Ends the flight of an id, whose value will not be held: its number.
+    /// Ends the load of that number: whether it hadn't ended, by its value or since it was outdated.
+    pub fn end(&mut self, number: u64, how: &End) -> bool {
+        let place = self.loads.iter().position(|load| load.number == number);
+        place.map(|place| self.end_at(place, how.clone())).is_some()
+    }
+
+    /// Ends the load of an id, whose value will not be held: its number.
     pub fn outdate(&mut self, id: u64) -> Option<u64> {
-        let place = self.flights.iter().position(|known| known.id == id)?;
-        let Known { number, flight, .. } = self.flights.swap_remove(place);
-        self.outdated.push(flight);
-        Some(number)
+        let place = self.loads.iter().position(|load| load.id == id)?;
+        Some(self.end_at(place, End::Outdated))
     }
 
     /// Ends one of them so.
     pub fn outdate_one(&mut self) -> Option<u64> {
-        let Known { number, flight, .. } = self.flights.pop()?;
-        self.outdated.push(flight);
-        Some(number)
+        let last = self.loads.len().checked_sub(1)?;
+        Some(self.end_at(last, End::Outdated))
     }
 
-    /// Those that were outdated since the last call, for those who wait for them to be told.
-    pub fn take_outdated(&mut self) -> Vec<Arc<Flight<K>>> {
-        std::mem::take(&mut self.outdated)
+    fn end_at(&mut self, place: usize, how: End) -> u64 {
+        let load = self.loads.swap_remove(place);
+        let number = load.number;
+        self.over.push(Over { load, how });
+        number
+    }
+
+    /// Those that ended since the last call, for those who wait for them to be told.
+    pub fn take_over(&mut self) -> Handful<Over<K>> {
+        std::mem::take(&mut self.over)
     }
 }

@@ -18,18 +18,22 @@ use std::task::{Context, Poll};
 #[must_use = "it waits once it is awaited"]
 pub struct Wait<K: Hash + Eq, V, S: BuildHasher = RandomState> {
     cache: Cache<K, V, S>,
-    ended: Ended<K>,
+    id: u64,
+    key: K,
+    ended: Ended,
     is_counted: bool,
 }
 
+impl<K: Hash + Eq, V, S: BuildHasher> Unpin for Wait<K, V, S> {}
+
 impl<K: Hash + Eq, V, S: BuildHasher> Wait<K, V, S> {
-    pub(super) fn of(cache: Cache<K, V, S>, flight: Arc<Flight<K>>) -> Wait<K, V, S> {
-        Wait { cache, ended: flight.ended(), is_counted: false }
+    pub(super) fn of(cache: Cache<K, V, S>, id: u64, key: K, flight: Arc<Flight>) -> Wait<K, V, S> {
+        Wait { cache, id, key, ended: flight.ended(), is_counted: false }
     }
 
     /// The key that is loaded.
     pub fn key(&self) -> &K {
-        self.ended.flight().key()
+        &self.key
     }
 }
 
@@ -37,19 +41,17 @@ impl<K: Hash + Eq + 'static, V: Clone + 'static, S: BuildHasher + 'static> Futur
     type Output = Result<V, WaitError>;
 
     fn poll(mut self: Pin<&mut Self>, context: &mut Context<'_>) -> Poll<Self::Output> {
-        let shared = &self.cache.shared;
-        let id = self.ended.flight().id();
         if !self.is_counted {
-            shared.part_of(id).count(|counted| counted.waits += 1);
+            self.cache.shared.part_of(self.id).count(|counted| counted.waits += 1);
             self.is_counted = true;
         }
         Pin::new(&mut self.ended).poll(context).map(|end| match end {
             End::Loaded | End::Outdated => {
-                self.cache.read(self.cache.shared.at_id(id), self.key(), V::clone).ok_or(WaitError::Missing)
+                self.cache.read(self.cache.shared.at_id(self.id), &self.key, V::clone).ok_or(WaitError::Missing)
             }
             End::Failed(why) => {
-                let at = self.cache.shared.at_id(id);
-                self.cache.or_left(at, self.key(), Err(WaitError::Failed(why.said())))
+                let at = self.cache.shared.at_id(self.id);
+                self.cache.or_left(at, &self.key, Err(WaitError::Failed(why.said())))
             }
         })
     }

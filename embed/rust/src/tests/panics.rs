@@ -20,6 +20,16 @@ fn hooked<T>(hook: impl Fn() + 'static, call: impl FnOnce() -> T) -> Option<T> {
     gave
 }
 
+/// Panics at its next call but so many.
+fn panicking_after(calls: u64) -> impl Fn() {
+    let made = Cell::new(0);
+    move || {
+        if made.replace(made.get() + 1) == calls {
+            panicking()
+        }
+    }
+}
+
 fn run_hook() {
     let hook = HOOK.with_borrow(Clone::clone);
     hook.into_iter().for_each(|hook| hook());
@@ -146,8 +156,13 @@ fn a_comparison_that_calls_the_cache_is_told_so() {
 fn a_load_whose_key_cannot_be_cloned_has_failed() {
     let cache: Cache<Key, u64> = Cache::builder().threads(2).open().unwrap();
     let (mut reader, mut other) = (cache.reader().unwrap(), cache.reader().unwrap());
-    let Sought::Missing(request) = reader.get_or_request(&Key(1)) else { panic!() };
-    assert!(hooked(panicking, || request.fill(1)).is_none());
+    // The key of a request is cloned for the cache and for the request, and is its value's then.
+    for clones in 0..2 {
+        assert!(hooked(panicking_after(clones), || _ = reader.get_or_request(&Key(1))).is_none());
+    }
+    let Sought::Missing(request) = reader.get_or_request(&Key(1)) else { panic!("nothing is under way") };
+    assert_eq!(hooked(panicking, || request.fill(1)), Some(true));
+    assert!(cache.invalidate(&Key(1)));
     assert!(hooked(panicking, || *other.get_with(&Key(1), || 2)).is_none());
     let found = other.get_with_timeout(&Key(1), Duration::from_secs(60), || 3);
     assert!(found.is_some_and(|found| *found == 3 && found.is_held()));
@@ -160,13 +175,7 @@ fn a_get_whose_key_cannot_be_cloned_leaves_nothing_under_way() {
     let cache: Cache<Key, u64> = Cache::builder().open().unwrap();
     // Before the load begins, and after.
     for clones in 0..2 {
-        let made = Cell::new(0);
-        let panics = move || {
-            if made.replace(made.get() + 1) == clones {
-                panicking()
-            }
-        };
-        assert_eq!(hooked(panics, || cache.get_with(&Key(1), || unreachable!())), None);
+        assert_eq!(hooked(panicking_after(clones), || cache.get_with(&Key(1), || unreachable!())), None);
         assert!(matches!(cache.reader().unwrap().get_or_request(&Key(1)), Sought::Missing(_)));
     }
 }
