@@ -1,6 +1,7 @@
 //! A cache of numbers by ids, as the cache of values calls it. What it decides is proved: which loads are under way, whether a
 //! loaded number is held, which one makes room for another, and when one comes out.
 use crate::answers::done;
+use crate::cache::sync::{changes_store, reads_store, sees};
 use crate::ffi::{self, Handle};
 use crate::{library, Fault};
 
@@ -88,7 +89,7 @@ pub struct CameOut {
 
 impl Given {
     fn came_out(&self) -> CameOut {
-        CameOut { number: self.number, stamp: self.stamp }
+        CameOut { number: sees(self.number), stamp: self.stamp }
     }
 }
 
@@ -106,8 +107,8 @@ pub fn open(shape: &IdShape) -> Result<(Ids, Vec<IdReader>), Fault> {
 #[derive(Debug)]
 pub struct IdReader {
     handle: Handle,
-    /// Whether it holds a number.
-    holds: bool,
+    /// The number that it holds.
+    holds: Option<u64>,
 }
 
 // SAFETY: a handle may go to another thread, and calls take it by `&mut`, so that two threads never use it at a time.
@@ -117,14 +118,17 @@ impl IdReader {
     /// The number of an id, which doesn't come out until the reader's next find or [`IdReader::let_go`].
     pub fn find(&mut self, id: u64) -> Option<u64> {
         let mut found = Stamped::default();
+        reads_store(self.holds);
         // SAFETY: the handle is live, and what is found is laid out as the header's.
-        self.holds = unsafe { ffi::nr_cache_find(&mut self.handle, id, &mut found) } == ffi::NR_ROWS;
-        self.holds.then_some(found.number)
+        let code = unsafe { ffi::nr_cache_find(&mut self.handle, id, &mut found) };
+        self.holds = (code == ffi::NR_ROWS).then(|| sees(found.number));
+        self.holds
     }
 
     /// Ends its hold, where it has one.
     pub fn let_go(&mut self) {
-        if std::mem::take(&mut self.holds) {
+        if let Some(held) = self.holds.take() {
+            reads_store(Some(held));
             // SAFETY: the handle is live.
             unsafe { ffi::nr_cache_release(&mut self.handle) };
         }
@@ -149,7 +153,7 @@ unsafe impl Send for Ids {}
 
 impl Ids {
     fn open_reader(&mut self) -> Result<IdReader, Fault> {
-        let mut reader = IdReader { handle: Handle::empty(), holds: false };
+        let mut reader = IdReader { handle: Handle::empty(), holds: None };
         // SAFETY: this handle is live, and the reader's is not.
         done(unsafe { ffi::nr_open_cache_reader(&mut self.handle, &mut reader.handle) })?;
         Ok(reader)
@@ -170,6 +174,7 @@ impl Ids {
     /// Ends the load of that flight by a number.
     pub fn land(&mut self, flight: u64, number: u64, times: Times) -> Put {
         let mut given = Given::default();
+        changes_store(Some(number));
         // SAFETY: the handle is live, and what comes out is laid out as the header's.
         let code =
             unsafe { ffi::nr_cache_land(&mut self.handle, flight, times.stamp, number, times.bound, &mut given) };
@@ -185,6 +190,7 @@ impl Ids {
     /// Puts a number in place of what an id has. What is loaded for it will not be held.
     pub fn put(&mut self, id: u64, number: u64, times: Times) -> Put {
         let mut given = Given::default();
+        changes_store(Some(number));
         // SAFETY: the handle is live, and what comes out is laid out as the header's.
         let code = unsafe { ffi::nr_cache_put(&mut self.handle, id, times.stamp, number, times.bound, &mut given) };
         put(code, &given)
@@ -193,6 +199,7 @@ impl Ids {
     /// The same where the id has that old one still: else nothing happens.
     pub fn swap(&mut self, id: u64, old: u64, number: u64, times: Times) -> Put {
         let mut given = Given::default();
+        changes_store(Some(number));
         // SAFETY: the handle is live, and what comes out is laid out as the header's.
         let code = unsafe { ffi::nr_cache_swap(&mut self.handle, id, old, times.stamp, number, &mut given) };
         put(code, &given)
@@ -208,18 +215,21 @@ impl Ids {
 
     /// Takes an id's number, and what is loaded for it will not be held: whether it had one.
     pub fn invalidate(&mut self, id: u64) -> bool {
+        changes_store(None);
         // SAFETY: the handle is live.
         unsafe { ffi::nr_cache_invalidate(&mut self.handle, id) == ffi::NR_EVICTED }
     }
 
     /// The same of all ids.
     pub fn invalidate_all(&mut self) {
+        changes_store(None);
         // SAFETY: the handle is live.
         unsafe { ffi::nr_cache_invalidate_all(&mut self.handle) };
     }
 
     /// Takes an id's number, and what is loaded for it will be held: whether it had one.
     pub fn evict(&mut self, id: u64) -> bool {
+        changes_store(None);
         // SAFETY: the handle is live.
         unsafe { ffi::nr_cache_evict(&mut self.handle, id) == ffi::NR_EVICTED }
     }
@@ -239,6 +249,7 @@ impl Ids {
     /// A number that nobody can see any more, or none where readers hold all that wait.
     pub fn reap(&mut self) -> Option<CameOut> {
         let mut given = Given::default();
+        changes_store(None);
         // SAFETY: the handle is live, and what comes out is laid out as the header's.
         let code = unsafe { ffi::nr_cache_reap(&mut self.handle, &mut given) };
         (code == ffi::NR_GIVEN).then(|| given.came_out())

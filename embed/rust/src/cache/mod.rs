@@ -25,7 +25,7 @@ mod shared;
 mod stale;
 mod stats;
 mod store;
-mod sync;
+pub(crate) mod sync;
 mod tasks;
 mod threads;
 mod under_way;

@@ -1,23 +1,47 @@
-//! What a cache's threads share their steps by: each lock, sleep, wake-up and word that one thread reads and another writes,
-//! where a wait hangs on it, has its name from here.
-use std::time::Instant;
+//! What a cache's threads share their steps by: each lock, sleep, wake-up and word that one thread reads and another
+//! writes, where a wait hangs on it, has its name from here, and so have the calls of the library that no lock orders.
+//! They are std's and nothing, but in a build of the tests, which step them.
+#[cfg(test)]
+pub(crate) use crate::tests::sync::{
+    changes_store, look_often, now, reads_store, sees, Condvar, Mutex, MutexGuard, OnceLock,
+};
+#[cfg(not(test))]
+pub(crate) use plain::{changes_store, look_often, now, reads_store, sees, Condvar, Mutex, MutexGuard, OnceLock};
 
-pub(super) use std::sync::{Condvar, Mutex, MutexGuard, OnceLock};
+#[cfg(not(test))]
+mod plain {
+    pub(crate) use std::sync::{Condvar, Mutex, MutexGuard, OnceLock};
+    use std::time::Instant;
 
-/// How often who waits looks before it sleeps: about as long as a sleep and a wake-up take.
-const LOOKS: u32 = 100;
+    /// How often who waits looks before it sleeps: about as long as a sleep and a wake-up take.
+    const LOOKS: u32 = 100;
 
-/// Looks until it is so, or has looked often.
-pub(super) fn look_often(is_so: impl Fn() -> bool) {
-    for _ in 0..LOOKS {
-        if is_so() {
-            break;
+    /// Looks until it is so, or has looked often.
+    pub(crate) fn look_often(is_so: impl Fn() -> bool) {
+        for _ in 0..LOOKS {
+            if is_so() {
+                break;
+            }
+            std::hint::spin_loop();
         }
-        std::hint::spin_loop();
     }
-}
 
-/// The time by which waits end.
-pub(super) fn now() -> Instant {
-    Instant::now()
+    /// The time by which waits end.
+    pub(crate) fn now() -> Instant {
+        Instant::now()
+    }
+
+    /// Stands before a call that takes no lock, and that ends a reader's hold of that number, where it has one.
+    #[inline(always)]
+    pub(crate) fn reads_store(_held: Option<u64>) {}
+
+    /// Stands before a call after which finds find something else, as that number, or which asks what they hold.
+    #[inline(always)]
+    pub(crate) fn changes_store(_put: Option<u64>) {}
+
+    /// Stands where a number is found, or came out.
+    #[inline(always)]
+    pub(crate) fn sees(number: u64) -> u64 {
+        number
+    }
 }

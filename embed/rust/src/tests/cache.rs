@@ -1,23 +1,14 @@
 //! A cache loads each missing value once, never gives one that was invalidated, and drops each once.
+pub(super) use super::chance::{caught, panicking, roll};
 use crate::*;
 use std::cell::Cell;
 use std::hash::{BuildHasher, BuildHasherDefault, Hasher};
-use std::panic::{catch_unwind, resume_unwind, AssertUnwindSafe};
 use std::sync::atomic::{AtomicU64, AtomicUsize, Ordering::SeqCst};
 use std::sync::{mpsc, Barrier, Mutex};
 use std::thread;
 use std::time::{Duration, Instant};
 
 const LONG: Duration = Duration::from_secs(3600);
-
-/// What a call gave that may panic by a load's own panic, and by no other.
-pub(super) fn caught<T>(call: impl FnOnce() -> T) -> Option<T> {
-    match catch_unwind(AssertUnwindSafe(call)) {
-        Ok(gave) => Some(gave),
-        Err(why) if why.downcast_ref() == Some(&"a load") => None,
-        Err(why) => resume_unwind(why),
-    }
-}
 
 /// Hashes each key to the same number.
 #[derive(Default)]
@@ -33,11 +24,6 @@ impl Hasher for Same {
 
 fn cache<V: Send + Sync>(capacity: usize) -> Cache<u64, V> {
     Cache::builder().capacity(capacity).threads(8).open().unwrap()
-}
-
-pub(super) fn panicking<T>() -> T {
-    // Without the hook's message.
-    resume_unwind(Box::new("a load"))
 }
 
 #[test]
@@ -519,13 +505,6 @@ impl Base {
 fn zipf(dice: u64) -> u64 {
     let even = (dice >> 11) as f64 / (1u64 << 53) as f64;
     (KEYS as f64).powf(even) as u64 - 1
-}
-
-pub(super) fn roll(dice: &mut u64) -> u64 {
-    *dice ^= *dice << 13;
-    *dice ^= *dice >> 7;
-    *dice ^= *dice << 17;
-    dice.wrapping_mul(0x2545_f491_4f6c_dd1d)
 }
 
 fn one_thread<'a, S: BuildHasher>(base: &'a Base, cache: &Cache<u64, Version<'a>, S>, mut dice: u64) {
