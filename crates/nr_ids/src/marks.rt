@@ -91,9 +91,9 @@ impl Directory {
         ensures caller { Sits self.now seat.new }
         ensures loads { LoadsGroup (group_of self.now.plan id) (token seat.old) (token seat.new) }
     {
-        let plan = self.plan();
-        self.load_hints(seat, plan.group_of(id));
-        self.load_name(seat, plan.first_way(id));
+        let group = self.plan().group_of(id);
+        self.load_hints(seat, group);
+        self.load_name(seat, WAYS * group);
     }
 
     fn has_mark(&self, seat: &mut Seat, way: u32) -> bool

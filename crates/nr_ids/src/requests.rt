@@ -135,8 +135,9 @@ impl Directory {
         ensures caller { Sits self.now seat.new }
         ensures scans { ScansGroup id group (token seat.old) (token seat.new) result }
     {
+        let hint = self.plan().hint_of(id);
         let hints = self.look_at_hints(seat, group);
-        let mut left = fitting(hints, self.plan().hint_of(id));
+        let mut left = fitting(hints, hint);
         while left != 0 {
             let way = WAYS * group + first(left);
             if self.look(seat, way) == id {

@@ -12,15 +12,15 @@ returns-clause-loads c =
     let plan : Plan = c.args.self.now.plan in
     let group : ℕ = group_of plan c.args.id in
     let old = token c.args.seat.now in let mid = token c.load_hints.new.seat in let new = token c.load_name.new.seat in
-    let plan_is = c.plan-plan.ensures.value in
+    let group_is = c.group_of-group.ensures.value ∙ ap (λ (p : Plan). group_of p c.args.id) c.plan.ensures.value in
     let hints
     = subst (λ (p : Plan). Grows (touched old.number (loaded (hints_place p group)) ∷ []) old mid)
     (sym (ap (λ (d : Opened). d.plan) c.requires.caller.own))
-    (subst (λ (g : ℕ). Grows (touched old.number (loaded (hints_place plan g)) ∷ []) old mid)
-    (c.group_of.ensures.value ∙ ap (λ (p : Plan). group_of p c.args.id) plan_is) c.load_hints.ensures.grows) in
+    (subst (λ (g : ℕ). Grows (touched old.number (loaded (hints_place plan g)) ∷ []) old mid) group_is
+    c.load_hints.ensures.grows) in
     let name
-    = subst (λ (way : ℕ). Grows (touched mid.number (loaded way) ∷ []) mid new)
-    (c.first_way.ensures.value ∙ ap (λ (p : Plan). 8 * group_of p c.args.id) plan_is) c.load_name.ensures.grows in
+    = subst (λ (g : ℕ). Grows (touched mid.number (loaded (8 * g)) ∷ []) mid new) group_is
+    c.load_name.ensures.grows in
     grows_on old mid new (touched old.number (loaded (hints_place old.directory.plan group)) ∷ [])
     (touched old.number (loaded (8 * group)) ∷ []) hints
     (subst (λ (n : ℕ). Grows (touched n (loaded (8 * group)) ∷ []) mid new) hints.number name)

@@ -14,7 +14,7 @@ loop-left-init c =
     let id = c.args.id in
     let hinted = c.look_at_hints-hints in
     let grows = hinted.ensures.grows in
-    let hint_is = c.hint_of.ensures.value
+    let hint_is = c.hint_of-hint.ensures.value
     ∙ ap (λ (p : Plan). hint_of p id)
     (c.plan.ensures.value ∙ ap (λ (d : Opened). d.plan) (sym c.requires.caller.own)) in
     record {
