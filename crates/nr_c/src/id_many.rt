@@ -94,7 +94,8 @@ fn look_up_from(
     }
 }
 
-// Writes the ids of a group over the first ones there.
+// Writes the ids of a group over the first ones there. It isn't inlined, as `look_up` isn't: the loop over all ids keeps
+// its values in registers so.
 #[inline(never)]
 fn copy_ids(group: &[NrWantedId], ids: &mut [u64; BATCH])
     requires few { length group.now ≤ 16 }

@@ -120,7 +120,8 @@ fn look_up_found(
     }
 }
 
-// Writes the ids of a group over the first ones there.
+// Writes the ids of a group over the first ones there. It isn't inlined, as `look_up` isn't: the loop over all ids keeps
+// its values in registers so.
 #[inline(never)]
 fn copy_found_ids(group: &[NrFoundId], ids: &mut [u64; BATCH])
     requires few { length group.now ≤ 16 }

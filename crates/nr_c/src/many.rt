@@ -92,7 +92,8 @@ fn load_from(map: &ReaderMap, hand: &mut Hand, place: usize, left: &[NrWanted])
     }
 }
 
-// Writes the keys of a group over the first ones there.
+// Writes the keys of a group over the first ones there. It isn't inlined, as `load_ahead` isn't: the loop over all keys
+// keeps its values in registers so.
 #[inline(never)]
 fn copy_keys(group: &[NrWanted], keys: &mut [u32; GROUP])
     requires few { length group.now ≤ 16 }

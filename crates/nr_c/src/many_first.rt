@@ -136,7 +136,8 @@ fn load_first_from(map: &ReaderMap, hand: &mut Hand, place: usize, left: &[NrFou
     }
 }
 
-// Writes the keys of a group over the first ones there.
+// Writes the keys of a group over the first ones there. It isn't inlined, as `load_ahead` isn't: the loop over all keys
+// keeps its values in registers so.
 #[inline(never)]
 fn copy_found_keys(group: &[NrFound], keys: &mut [u32; GROUP])
     requires few { length group.now ≤ 16 }

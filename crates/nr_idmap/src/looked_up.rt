@@ -25,20 +25,20 @@ impl IdHand {
         ensures near { All (IsNear map.now.map.shape.keys) ways.new }
     {
         map.directory.load_ahead(&mut self.ids, ids);
-        map.look_up_all(&mut self.ids, ids, ways);
         let mut keys = [0; BATCH];
-        map.copy_ways(&ways[..ids.len()], &mut keys);
+        map.look_up_all(&mut self.ids, ids, ways, &mut keys);
         self.hand.load_ahead(&map.map, &keys[..ids.len()]);
     }
 }
 
 impl IdMap {
-    // Writes the ids' ways over the first ones there.
+    // Writes the ids' ways over the first ones there, and the keys of these, with zeros in place of none.
     fn look_up_all(
         &self,
         reader: &mut nr_ids::Reader,
         ids: &[u64],
         ways: &mut [Option<NamedWay>; BATCH],
+        keys: &mut [u32; BATCH],
     )
         requires own { reader.old.directory ≡ self.now.directory }
         requires ids { All (λ id. 0 < id) ids.now }
@@ -47,23 +47,15 @@ impl IdMap {
         ensures own { reader.new.directory ≡ self.now.directory }
         ensures looks { LooksUpEach ids.now (take (length ids.now) ways.new) reader.old reader.new }
         ensures near { All (IsNear self.now.map.shape.keys) ways.new }
-    {
-        for place in 0..ids.len() {
-            ways[place] = self.look_up(reader, ids[place]);
-        }
-    }
-
-    // Writes the keys of ways over the first ones there, with zeros in place of none.
-    fn copy_ways(&self, ways: &[Option<NamedWay>], keys: &mut [u32; BATCH])
-        requires few { length ways.now ≤ 16 }
-        requires near { All (IsNear self.now.map.shape.keys) ways.now }
-        ensures keys { take (length ways.now) keys.new ≡ keys_named ways.now }
-        ensures near { All (λ key. key < self.now.map.shape.keys) (keys_named ways.now) }
+        ensures keys { take (length ids.now) keys.new ≡ keys_named (take (length ids.now) ways.new) }
+        ensures inside { All (λ key. key < self.now.map.shape.keys) (keys_named (take (length ids.now) ways.new)) }
     {
         // A directory has ways, so the map has keys.
         self.directory.plan();
-        for place in 0..ways.len() {
-            keys[place] = key_of(ways[place]);
+        for place in 0..ids.len() {
+            let at = self.look_up(reader, ids[place]);
+            ways[place] = at;
+            keys[place] = key_of(at);
         }
     }
 }
