@@ -17,8 +17,8 @@
 //! # Ok::<(), Box<dyn std::error::Error>>(())
 //! ```
 //!
-//! A [`CacheReader`] borrows values in place of clones, and a [`View`] is a cache of rows that change with their base. The
-//! map itself has a queue that brings the requests of missing keys to its writer:
+//! A [`CacheReader`] borrows values in place of clones. Values change with their base by a [`Change`], and a [`View`] is a
+//! cache of rows that do. The map itself has a queue that brings the requests of missing keys to its writer:
 //!
 //! ```
 //! use nr::{Asked, Queue, ReaderMap, Row, Rows, Shape};

@@ -4,7 +4,7 @@ use super::desk::{At, Desk};
 use super::entry::Entry;
 use super::flights::End;
 use super::hold::Hold;
-use super::part::{Begun, Failing, Landed, Part};
+use super::part::{Begun, Failing, Landed, Load, Part};
 use super::request::{Request, Sought};
 use super::shared::Shared;
 use super::store::Place;
@@ -213,19 +213,34 @@ impl<K: Hash + Eq, V, S: BuildHasher> CacheReader<K, V, S> {
                 return Ok(self.borrowed(at, place));
             }
         };
+        self.load_own(at, key, &own, load).map_err(LoadError::Failed)
+    }
+
+    /// Ends a load of its own by what that gives, or where it fails by what is left of the key.
+    fn load_own<Q, E>(
+        &mut self,
+        at: At,
+        key: &Q,
+        own: &Load,
+        load: impl FnOnce() -> Result<V, E>,
+    ) -> Result<CacheRef<'_, K, V>, E>
+    where
+        K: Borrow<Q>,
+        Q: Eq + ToOwned<Owned = K> + ?Sized,
+    {
         let part = &self.cache.shared.parts()[at.part];
         // Where the load ends without a value, by an error or a panic, this wakes those who wait.
-        let failing = Failing { part, load: &own };
+        let failing = Failing { part, load: own };
         let value = match load() {
             Ok(value) => value,
             Err(why) => {
                 drop(failing);
-                return self.left(at, key).ok_or(LoadError::Failed(why));
+                return self.left(at, key).ok_or(why);
             }
         };
         let entry = part.own_entry(at.id, key.to_owned(), value);
         let reader = &mut self.desk.ids[at.part];
-        Ok(CacheRef(match part.land(&own, entry, Some(reader)) {
+        Ok(CacheRef(match part.land(own, entry, Some(reader)) {
             Landed::Held(place) => Borrowed::Held(place, self.desk.hold(at)),
             Landed::Own(entry) => Borrowed::Own(entry),
         }))

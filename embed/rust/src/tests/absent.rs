@@ -83,6 +83,18 @@ fn what_is_loaded_meanwhile_is_not_held() {
 }
 
 #[test]
+fn what_a_load_from_before_gives_as_the_value_is_made_is_not_held() {
+    let cache = cache();
+    let Sought::Missing(request) = cache.get_or_request(&1) else { panic!("nobody loads it") };
+    let mut request = Some(request);
+    assert!(cache.upsert_with(&1, |old| {
+        assert!(old.is_none() && !request.take().unwrap().fill(5));
+        10
+    }));
+    assert_eq!(cache.get(&1), Some(10));
+}
+
+#[test]
 fn nothing_is_put_during_a_change() {
     let view: View<u64> = View::builder().open().unwrap();
     let rows = |a| Box::<[Row]>::from([Row { a, b: 0 }]);

@@ -1,8 +1,9 @@
 //! A value that has expired answers where its load fails, and no other get, until it is invalidated or its time is over.
 use super::cache::{caught, panicking};
 use crate::*;
-use std::future::{pending, ready, Future};
+use std::future::{pending, poll_fn, ready, Future};
 use std::hash::{BuildHasherDefault, Hasher};
+use std::mem::replace;
 use std::pin::pin;
 use std::sync::mpsc;
 use std::task::{Context, Poll, Waker};
@@ -104,6 +105,15 @@ fn a_task_has_it_too() {
         assert!(get.poll(&mut context).is_pending());
         assert!(matches!(cache.get_or_request(&1), Sought::UnderWay(_)));
     }
+    // One that waits for another's load shares its failure.
+    let mut is_begun = false;
+    let fails = poll_fn(|_| if replace(&mut is_begun, true) { Poll::Ready(AWAY) } else { Poll::Pending });
+    let mut loads = pin!(cache.try_get_with_async(&1, fails));
+    let mut shares =
+        pin!(cache.try_get_with_async(&1, poll_fn(|_| -> Poll<Result<u64, &str>> { unreachable!("it waits") })));
+    assert!(loads.as_mut().poll(&mut context).is_pending() && shares.as_mut().poll(&mut context).is_pending());
+    assert_eq!(loads.poll(&mut context), Poll::Ready(Ok(10)));
+    assert_eq!(shares.poll(&mut context), Poll::Ready(Ok(10)));
     assert!(request(&cache).fill(11));
 }
 
@@ -117,6 +127,62 @@ fn one_load_is_under_way_beside_it() {
     assert!(matches!(cache.get_or_request(&1), Sought::UnderWay(_)));
     assert!(own.fill(11));
     assert_eq!((cache.try_get_with(&1, || AWAY), cache.stats().outdated), (Ok(11), 0));
+}
+
+#[test]
+fn a_load_beside_too_many_others_is_its_callers_own() {
+    let cache = left_for(Duration::MAX).capacity(2000).threads(1).open().unwrap();
+    let loads: Vec<_> = (0..1024)
+        .map(|key| {
+            assert!(cache.insert(key, key));
+            let Sought::Missing(request) = cache.get_or_request(&key) else { panic!("nobody loads it") };
+            request
+        })
+        .collect();
+    assert!(cache.insert(5000, 1));
+    let Sought::Missing(own) = cache.get_or_request(&5000) else { panic!("it is left") };
+    assert!(matches!(cache.get_or_request(&5000), Sought::Missing(_)) && !own.fill(2));
+    assert_eq!(cache.stats().refused, 1);
+    assert!(matches!(cache.get_or_request(&0), Sought::UnderWay(_)));
+    drop(loads);
+    let Sought::Missing(own) = cache.get_or_request(&5000) else { panic!("nobody loads it") };
+    assert!(own.fill(2));
+}
+
+#[test]
+fn what_expires_as_it_is_changed_is_not_loaded_beside_that() {
+    let builder = Cache::builder().time_to_live(Duration::from_millis(5)).stale_if_error(Duration::MAX);
+    let cache: Cache<u64, u64> = builder.open().unwrap();
+    assert!(cache.insert(1, 10));
+    let mut begun = None;
+    assert!(cache.upsert_with(&1, |_| {
+        begun.get_or_insert_with(|| {
+            while cache.contains_key(&1) {
+                thread::yield_now();
+            }
+            request(&cache)
+        });
+        20
+    }));
+    assert!(!begun.unwrap().fill(15));
+    while cache.contains_key(&1) {
+        thread::yield_now();
+    }
+    assert_eq!(cache.try_get_with(&1, || AWAY), Ok(20));
+}
+
+#[test]
+fn it_makes_room_no_sooner_than_others() {
+    let lives = |key: &u64, _: &u64| (*key == 1).then_some(Duration::ZERO);
+    for _ in 0..50 {
+        let builder = Cache::<u64, u64>::builder().capacity(2).expire_after(lives);
+        let cache = builder.stale_if_error(Duration::MAX).open().unwrap();
+        assert!(cache.insert(1, 10) && cache.insert(2, 20));
+        // It was found since, and the other wasn't.
+        assert_eq!(cache.try_get_with(&1, || AWAY), Ok(10));
+        assert!(cache.insert(3, 30));
+        assert_eq!((cache.try_get_with(&1, || AWAY), cache.get(&2)), (Ok(10), None));
+    }
 }
 
 #[test]
@@ -197,6 +263,13 @@ fn it_is_left_no_longer() {
     }
     cache.run_pending_tasks();
     assert!(cache.is_empty());
+    // Nor once it is over as the load fails.
+    assert!(cache.insert(1, 10));
+    let fails = || {
+        thread::sleep(Duration::from_millis(20));
+        AWAY
+    };
+    assert_eq!(cache.try_get_with(&1, fails).map_err(|why| *why), AWAY);
 }
 
 #[test]
@@ -228,4 +301,11 @@ fn another_key_of_the_hash_takes_its_place() {
     assert_eq!(cache.try_get_with(&2, || AWAY).map_err(|why| *why), AWAY);
     assert_eq!(cache.try_get_with(&1, || AWAY).map_err(|why| *why), AWAY, "it has gone");
     assert_eq!((cache.get_with(&2, || 20), cache.try_get_with(&2, || AWAY)), (20, Ok(20)));
+    // One that lives stays, and is nothing that is left of the other.
+    let builder = Cache::<u64, u64>::builder().hasher(BuildHasherDefault::<Same>::default());
+    let cache = builder.stale_if_error(Duration::MAX).open().unwrap();
+    assert!(cache.insert(1, 10));
+    assert_eq!(cache.try_get_with(&2, || AWAY).map_err(|why| *why), AWAY);
+    assert!(cache.reader().unwrap().try_get_with(&2, || AWAY).is_err());
+    assert_eq!(cache.get(&1), Some(10));
 }
