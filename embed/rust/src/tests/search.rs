@@ -1,5 +1,6 @@
 //! Three threads get and change two keys in every order of their steps: nobody waits for ever, of a key there is one
 //! load at a time, each who waits gets what a load of its key came to, and what is outdated is not kept.
+use super::steps::{make, Op};
 use super::world::{block_on, block_on_another, cancelled, never, search, Load, Values, World, LONG};
 use crate::*;
 
@@ -20,6 +21,9 @@ fn all_who_get_a_key_have_it_by_one_load() {
 
 #[test]
 fn a_wake_up_by_chance_ends_no_wait() {
+    // A get without a limit that has waited for nothing is no good.
+    let reads: fn(&World) = |world| _ = world.get_by(&mut world.cache.reader().unwrap(), 0, None, Load::Gives);
+    assert!(search(1, [reads, reads, |_| {}], one_load) > 10);
     assert!(search(1, [gets, gets, |_| {}], one_load) > 10);
 }
 
@@ -58,6 +62,30 @@ fn what_was_loaded_before_an_invalidation_is_not_kept() {
     assert!(search(0, [gets, invalidates, gets], any) > 10);
 }
 
+/// It ends once a get has returned that may have waited for it.
+fn is_held_up(world: &World) {
+    let load = || {
+        make(Op::SetFlag(world.flags[0]));
+        make(Op::Await(world.flags[1]));
+        world.newest(0)
+    };
+    world.cache.get_with(&0, load);
+    make(Op::SetFlag(world.flags[0]));
+}
+
+#[test]
+fn an_invalidation_lets_those_go_on_who_wait() {
+    let invalidates: fn(&World) = |world| {
+        make(Op::Await(world.flags[0]));
+        world.cache.invalidate(&0);
+    };
+    let gets: fn(&World) = |world| {
+        world.cache.get_with(&0, || world.newest(0));
+        make(Op::SetFlag(world.flags[1]));
+    };
+    assert!(search(0, [is_held_up, invalidates, gets], any) > 10);
+}
+
 #[test]
 fn what_was_loaded_before_a_put_is_not_kept() {
     let puts: fn(&World) = |world| world.change(0, |cache, value| _ = cache.insert(0, value));
@@ -81,6 +109,7 @@ fn is_timed(world: &World) {
 #[test]
 fn a_time_out_takes_nothing_from_others() {
     assert!(search(0, [is_timed, gets, |_| {}], one_load) > 10);
+    assert!(search(0, [is_timed, gets, gets], one_load) > 10);
     let fails: fn(&World) = |world| _ = world.get_by(&mut world.cache.reader().unwrap(), 0, None, Load::Fails);
     assert!(search(0, [is_timed, fails, |_| {}], any) > 10);
 }

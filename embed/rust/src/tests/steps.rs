@@ -8,6 +8,9 @@ use std::sync::{mpsc, Arc, Condvar, Mutex, MutexGuard, PoisonError};
 use std::thread::{self, Thread};
 use std::time::{Duration, Instant};
 
+/// More steps than any run has, but one that has no end.
+const MOST_STEPS: usize = 2000;
+
 /// More runs than any search has.
 const MOST_RUNS: usize = 1_000_000;
 
@@ -109,8 +112,9 @@ impl Run {
             if self.failed.is_some() || self.going == 0 {
                 return None;
             }
-            if !self.goes_on() {
-                self.failed = Some("somebody waits for ever".into());
+            if !self.goes_on() || self.made.len() == MOST_STEPS {
+                let why = if self.goes_on() { "somebody goes on for ever" } else { "somebody waits for ever" };
+                self.failed = Some(why.into());
                 return None;
             }
             let chosen = self.search.next(self.nexts())?;

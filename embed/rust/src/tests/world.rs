@@ -114,6 +114,8 @@ pub(super) enum Load {
 
 pub(super) struct World {
     pub cache: Values,
+    /// Flags of the scene's own.
+    pub flags: [Thing; 2],
     records: [Record; KEYS],
     alive: Arc<Alive>,
 }
@@ -121,14 +123,20 @@ pub(super) struct World {
 impl World {
     fn new() -> World {
         let cache = Cache::builder().capacity(50).threads(8).hasher(BuildHasherDefault::default()).open().unwrap();
-        World { cache, records: [(); KEYS].map(|()| Record::new()), alive: Arc::default() }
+        World {
+            cache,
+            flags: [(); 2].map(|()| new_thing()),
+            records: [(); KEYS].map(|()| Record::new()),
+            alive: Arc::default(),
+        }
     }
 
     fn of(&self, key: u64) -> &Record {
         &self.records[key as usize]
     }
 
-    fn newest(&self, key: u64) -> Value {
+    /// What the base has of a key.
+    pub fn newest(&self, key: u64) -> Value {
         Value::new(&self.alive, key, self.of(key).begun.read())
     }
 
