@@ -120,7 +120,6 @@ impl Hand {
     }
 
     /// Writes the rows that are held over those of the caller's, in 2 steps a row.
-    #[inline(always)]
     pub fn copy_to<R: RowRoom>(&mut self, map: &ReaderMap, rows: &mut R)
         requires own { self.old.reader.table ≡ map.now }
         requires holds { IsSome self.old.key }
