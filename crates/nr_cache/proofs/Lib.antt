@@ -13,6 +13,7 @@ mod Admitting
 mod Placing
 mod AllGone
 mod LookingAt
+mod GoingFirst
 mod Older
 mod Seen
 mod Opening

@@ -23,6 +23,7 @@ use Rattle.nr_cache.specs.Stores.{BeginsFlight, ChangesId, LandsOwn, Looks, Only
 use Rattle.nr_cache.specs.Swaps.{FindsOld}
 use Rattle.nr_cache.proofs.InOrder.{each_flight_ends_once_lem, held_is_fresh_lem}
 use Rattle.nr_cache.proofs.AllGone.{each_quiet}
+use Rattle.nr_cache.proofs.GoingFirst.{first_quiet}
 use Rattle.nr_cache.proofs.LookingAt.{look_quiet}
 use Rattle.nr_cache.proofs.Placing.{counts_quiet, no_place_quiet, takes_quiet}
 use Rattle.nr_cache.proofs.Quiets.{goes_on_lem, moves_then, quiet_moves, quiet_same}
@@ -100,6 +101,8 @@ module _ {Room : Type 0} (shows : Room → List Row → Type 0) where
       swapped_loads history id was old swaps.mid new swaps.finds run swaps.puts.found swaps.puts.outdates
   loads history run (runs.EvictsIt id old new had evicts) =
       none history old.underway new.underway run evicts.rest.0
+  loads history run (runs.EvictsFirst bound old new given evicts) =
+      none history old.underway new.underway run evicts.rest.0
   loads history run (runs.InvalidatesEach old new does) =
       one history AllInvalidated old.underway new.underway run does.outdates
   loads history run (runs.CountsIt old new counts does) = none history old.underway new.underway run does.rest.0
@@ -170,6 +173,8 @@ module _ {Room : Type 0} (shows : Room → List Row → Type 0) where
       (put_own_sets id swaps.mid new before room swaps.puts)
   sets (runs.EvictsIt id old new had evicts) =
       quiet_moves shows (takes_quiet id old.keeper new.keeper had evicts.takes)
+  sets (runs.EvictsFirst bound old new given evicts) =
+      quiet_moves shows (first_quiet old.hand bound old.keeper new.keeper given evicts.takes)
   sets (runs.InvalidatesEach old new does) = quiet_moves shows (each_quiet does.takes)
   sets (runs.CountsIt old new counts does) =
       quiet_moves shows (counts_quiet old.keeper new.keeper counts.values does.values)

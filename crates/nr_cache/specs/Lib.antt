@@ -7,6 +7,7 @@ pub mod Stamps
 pub mod Places
 pub mod Stores
 pub mod Swaps
+pub mod Firsts
 pub mod Counts
 pub mod StoreRuns
 pub mod Finds

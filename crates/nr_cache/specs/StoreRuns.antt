@@ -9,8 +9,10 @@ use Rattle.nr_map.specs.Remains.{AllComeOut, Given, Left, TakenApart}
 use Rattle.nr_cache.specs.declared.counts.Counts.{Counts}
 use Rattle.nr_cache.specs.declared.finds.FoundValue.{FoundValue}
 use Rattle.nr_cache.specs.declared.flights.Flight.{Flight}
+use Rattle.nr_cache.specs.declared.given.GivenValue.{GivenValue}
 use Rattle.nr_cache.specs.declared.store.Begun.{Begun}
 use Rattle.nr_cache.specs.declared.store.Begun.TheVariants as begun
+use Rattle.nr_cache.specs.Firsts.{EvictsOne}
 use Rattle.nr_cache.specs.Flights.{EndsChange, none_under_way}
 use Rattle.nr_cache.specs.Counts.{CountsStore}
 use Rattle.nr_cache.specs.Histories.{AllInvalidated, Began, ChangeBegan, ChangeEnded, Ended, Event, Invalidated}
@@ -67,6 +69,8 @@ module _ {Room : Type 0} (shows : Room → List Row → Type 0) where
     SwapsNone : (id was : ℕ) (old new : StoreSeen) (before room : Room) → SwapsOwn shows id was old before new room
         → Calls old (Invalidated id ∷ []) [] [] new
     EvictsIt : (id : ℕ) (old new : StoreSeen) (had : Bool) → Evicts id old new had → Calls old [] [] [] new
+    EvictsFirst : (bound : ℕ) (old new : StoreSeen) (given : Option GivenValue) → EvictsOne bound old new given
+        → Calls old [] [] [] new
     InvalidatesEach : (old new : StoreSeen) → InvalidatesAll old new → Calls old (AllInvalidated ∷ []) [] [] new
     CountsIt : (old new : StoreSeen) (counts : Counts) → CountsStore old new counts → Calls old [] [] [] new
     ReapsIt : (old new : StoreSeen) (before room : Room) (answer : Reaped)

@@ -19,6 +19,7 @@ mod clock;
 mod counts;
 mod evictions;
 mod finds;
+mod firsts;
 mod flights;
 mod given;
 pub mod laws;

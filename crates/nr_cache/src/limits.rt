@@ -75,7 +75,7 @@ impl Limit {
 }
 
 // The id of a way with a stale value, if one is met, and else of any that isn't this one.
-fn first_to_go(
+pub(crate) fn first_to_go(
     map: &IdMap,
     writer: &mut IdWriter,
     found: &mut Pile,

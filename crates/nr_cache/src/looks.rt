@@ -22,7 +22,12 @@ impl Store {
     }
 }
 
-fn look_at(map: &IdMap, writer: &mut IdWriter, found: &mut Pile, id: u64) -> Option<FoundValue>
+pub(crate) fn look_at(
+    map: &IdMap,
+    writer: &mut IdWriter,
+    found: &mut Pile,
+    id: u64,
+) -> Option<FoundValue>
     requires own { writer.old.table ≡ map.now }
     requires owes { OwesNone writer.old }
     requires values { BringsValues writer.old }

@@ -3,7 +3,8 @@ ghost use Rattle.std.specs.Prelude.{◌≡◌, ◌<◌};
 
 use crate::ids::view::{is_same, is_set, row};
 use nr_cache::{
-    Begun, Counts, Flight, FoundValue, Landed, MAX_STORE_GROUPS, Store, StoreShape, Swapped, find,
+    Begun, Counts, Flight, FoundValue, GivenValue, Landed, MAX_STORE_GROUPS, Store, StoreShape,
+    Swapped, find,
 };
 use nr_idmap::{IdHand, IdMap, OpenFault, Reaped, Reclaimed};
 use nr_model::{Row, RowSet};
@@ -48,6 +49,24 @@ impl Shelf {
     /// Of that many values, in two groups.
     fn of_few<R: AllocGlobal + Abort>(rt: &R, capacity: u32) -> Shelf {
         Shelf::of(rt, &StoreShape { capacity, ..SMALL })
+    }
+
+    /// Of four values, one of them with the stamp 5, which was found, and the others with 6.
+    fn of_stale<R: AllocGlobal + Abort>(rt: &R, stale: u64) -> Shelf
+        requires { 0 < stale }
+    {
+        let shape = StoreShape {
+            groups: 1,
+            capacity: 4,
+            ..SMALL
+        };
+        let mut shelf = Shelf::of(rt, &shape);
+        for id in 1..5u64 {
+            let stamp = if id == stale { 5 } else { 6 };
+            assert!(rt; matches!(shelf.stamps(id, stamp, 10 * id, 0), Landed::Held(_)));
+        }
+        assert!(rt; find(&shelf.map, &mut shelf.hand, stale).is_some());
+        shelf
     }
 
     fn of<R: AllocGlobal + Abort>(rt: &R, shape: &StoreShape) -> Shelf
@@ -178,6 +197,18 @@ impl Shelf {
         requires { 0 < id }
     {
         self.store.evict(&self.map, id)
+    }
+
+    /// One value goes, so that many are left, and comes out as it was told.
+    fn makes_room<R: Abort>(&mut self, rt: &R, left: u32) {
+        let Some(given) = self.store.evict_one(&self.map, 0) else {
+            panic!(rt; "a value goes")
+        };
+        is_same(rt, &(given.value / 10), &given.id);
+        self.looks(rt, given.id, None);
+        self.counts(rt, left, 0, 0);
+        self.reaps(rt, Reaped::Set);
+        self.gave_out(rt, &[row(0, given.id), row(given.stamp, given.value)]);
     }
 
     fn counts<R: Abort>(&mut self, rt: &R, values: u32, flights: usize, changes: usize) {
@@ -419,23 +450,77 @@ fn a_value_below_the_bound_goes_first(rt: HostRuntime) {
 fn has_gone<R: AllocGlobal + Abort>(rt: &R, stale: u64, bound: u64, is_gone: bool)
     requires { 0 < stale }
 {
-    let mut shelf = Shelf::of(
-        rt,
-        &StoreShape {
-            groups: 1,
-            capacity: 4,
-            ..SMALL
-        },
-    );
-    for id in 1..5u64 {
-        let stamp = if id == stale { 5 } else { 6 };
-        assert!(rt; matches!(shelf.stamps(id, stamp, 10 * id, 0), Landed::Held(_)));
-    }
-    assert!(rt; find(&shelf.map, &mut shelf.hand, stale).is_some());
+    let mut shelf = Shelf::of_stale(rt, stale);
     assert!(rt; matches!(shelf.stamps(5, 6, 50, bound), Landed::Held(_)));
     let found = shelf.store.look(&shelf.map, stale);
     is_same(rt, &found.is_none(), &is_gone);
     shelf.closes(rt, &[]);
+}
+
+#[test]
+fn values_make_room_one_by_one(rt: HostRuntime) {
+    let mut shelf = Shelf::open(&rt);
+    assert!(&rt; shelf.store.evict_one(&shelf.map, 0).is_none());
+    for id in 1..6u64 {
+        assert!(&rt; matches!(shelf.puts(id, 10 * id), Landed::Held(_)));
+    }
+    for gone in 1..6u32 {
+        shelf.makes_room(&rt, 5 - gone);
+    }
+    assert!(&rt; shelf.store.evict_one(&shelf.map, 0).is_none());
+    shelf.reaps(&rt, Reaped::Nothing);
+    shelf.closes(&rt, &[]);
+}
+
+#[test]
+fn who_makes_room_leaves_the_flights(rt: HostRuntime) {
+    let mut shelf = Shelf::open(&rt);
+    let number = shelf.loads(&rt, 7, 70);
+    assert!(&rt; matches!(shelf.puts(8, 80), Landed::Held(_)));
+    let given = shelf.store.evict_one(&shelf.map, 0);
+    is_same(&rt, &given, &Some(eight()));
+    assert!(&rt; shelf.lands(number, 700));
+    shelf.finds(&rt, 7, Some(700));
+    shelf.closes(&rt, &[]);
+}
+
+// It is told at once, and comes out once its reader has found another.
+#[test]
+fn a_held_value_makes_room(rt: HostRuntime) {
+    let mut shelf = Shelf::open(&rt);
+    assert!(&rt; matches!(shelf.puts(8, 80), Landed::Held(_)));
+    shelf.finds(&rt, 8, Some(80));
+    let given = shelf.store.evict_one(&shelf.map, 0);
+    is_same(&rt, &given, &Some(eight()));
+    shelf.reaps(&rt, Reaped::Held);
+    assert!(&rt; shelf.store.evict_one(&shelf.map, 0).is_none());
+    shelf.finds(&rt, 8, None);
+    shelf.reaps(&rt, Reaped::Set);
+    shelf.gave_out(&rt, &[row(0, 8), row(1, 80)]);
+    shelf.closes(&rt, &[]);
+}
+
+fn eight() -> GivenValue {
+    GivenValue {
+        id: 8,
+        stamp: 1,
+        value: 80,
+    }
+}
+
+// What is below the bound makes room, wherever it is, and else what wasn't found.
+#[test]
+fn a_value_below_the_bound_makes_room_first(rt: HostRuntime) {
+    for stale in 1..5u64 {
+        let mut shelf = Shelf::of_stale(&rt, stale);
+        let given = shelf.store.evict_one(&shelf.map, 6);
+        is_same(&rt, &given.map(|given| given.id), &Some(stale));
+        shelf.closes(&rt, &[]);
+        let mut shelf = Shelf::of_stale(&rt, stale);
+        let given = shelf.store.evict_one(&shelf.map, 5);
+        assert!(&rt; given.is_some_and(|given| given.id != stale));
+        shelf.closes(&rt, &[]);
+    }
 }
 
 // Where all are found, one goes all the same.

@@ -1,0 +1,78 @@
+//! A value that goes because its caller wants room: the same one as in a full store.
+ghost use Rattle.std.specs.Prelude.{◌≡◌, ◌≤◌};
+ghost use Rattle.nr_cache.specs.Firsts.{TakesFirstOrNone};
+ghost use Rattle.nr_cache.specs.Places.{OwesNone};
+ghost use Rattle.nr_cache.specs.Values.{BringsValues, values_in};
+
+use crate::evictions::take_value;
+use crate::given::GivenValue;
+use crate::limits::{Limit, first_to_go};
+use crate::looks::look_at;
+use crate::store::Store;
+use nr_idmap::{IdMap, IdWriter, laws};
+
+impl Store {
+    ghost use Rattle.nr_cache.specs.Firsts.{EvictsOne};
+
+    /// Takes the value that goes next, as where one lands in a full store: one with a stamp below the bound, if
+    /// one is met. Tells it, with its id, and none only where no id has a value. It comes out by a later call, and
+    /// its id's flight stays as it is.
+    pub fn evict_one(&mut self, map: &IdMap, bound: u64) -> Option<GivenValue>
+        requires own { self.old.keeper.table ≡ map.now }
+        ensures own { self.new.keeper.table ≡ map.now }
+        ensures evicts { EvictsOne bound self.old self.new result }
+    {
+        take_first(map, &mut self.writer, &mut self.limit, bound)
+    }
+}
+
+// Takes the value of the way that goes first, and tells it.
+fn take_first(
+    map: &IdMap,
+    writer: &mut IdWriter,
+    limit: &mut Limit,
+    bound: u64,
+) -> Option<GivenValue>
+    requires own { writer.old.table ≡ map.now }
+    requires owes { OwesNone writer.old }
+    requires values { BringsValues writer.old }
+    ensures own { writer.new.table ≡ map.now }
+    ensures owes { OwesNone writer.new }
+    ensures values { BringsValues writer.new }
+    ensures takes { TakesFirstOrNone limit.old.clock.hand bound writer.old writer.new result }
+    ensures fewer { values_in writer.new ≤ values_in writer.old }
+    ensures same { limit.new.capacity ≡ limit.old.capacity }
+{
+    laws::named_is_owed_or_resident();
+    writer.is_tied();
+    // A way that there isn't: nobody is a newcomer.
+    let nobody = map.ways();
+    let named = first_to_go(
+        map,
+        writer,
+        &mut limit.found,
+        &mut limit.clock,
+        nobody,
+        bound,
+    );
+    writer.is_tied();
+    let id = match named {
+        Some(id) => id,
+        None => return None,
+    };
+    let seen = look_at(map, writer, &mut limit.found, id);
+    writer.is_tied();
+    let Some(found) = seen else {
+        // A way that has a name has a value.
+        unreachable!()
+    };
+    // It was seen.
+    if !take_value(map, writer, id) {
+        unreachable!()
+    }
+    Some(GivenValue {
+        id,
+        stamp: found.stamp,
+        value: found.value,
+    })
+}
