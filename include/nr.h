@@ -306,7 +306,7 @@ typedef struct nr_flight {
   uint64_t mark;
 } nr_flight;
 
-/* A value that came out of a cache, the id that had it, and its stamp. */
+/* A value that came out of a cache or was taken, the id that had it, and its stamp. */
 typedef struct nr_given {
   uint64_t id;
   uint64_t stamp;
@@ -787,6 +787,12 @@ uint32_t nr_cache_invalidate_all(nr_cache *cache);
 /* Takes an id's value to make room, and nothing else: NR_EVICTED, or NR_NOTHING if it had none. The value of a load of
    the id that is under way will be held. */
 uint32_t nr_cache_evict(nr_cache *cache, uint64_t id);
+
+/* Takes the value of the id that goes next, chosen as where one lands in a full cache, so that a caller makes room for
+   what it counts itself, as by the values' weight: NR_EVICTED, and `taken` tells the value. It comes out as any that
+   went, and is to be freed then. NR_NOTHING if no id has a value: `taken` stays as it was. The values of loads that are
+   under way will be held. */
+uint32_t nr_cache_evict_one(nr_cache *cache, uint64_t bound, nr_given *taken);
 
 /* Begins a change of an id in the base: NR_DONE, or NR_FULL if as many changes are under way as there is room for.
    Until it ends, the values of loads of the id that are under way, or begin, are their loaders' own. What the id has

@@ -224,6 +224,37 @@ static void test_bound(void) {
     }
 }
 
+/* As often as there are values one goes, which is told at once and comes out once nobody holds it. */
+static void test_evict_one(void) {
+  const nr_cache_shape shape = {.groups = 1, .capacity = 4, .readers = 1, .flights = 1, .changes = 1, .key = 0};
+  nr_cache small = {0};
+  nr_cache_reader finder = {0};
+  nr_given taken = {1, 2, 3};
+  WANTS(NR_DONE, nr_open_cache(&shape, &small));
+  WANTS(NR_DONE, nr_open_cache_reader(&small, &finder));
+  WANTS(NR_NOTHING, nr_cache_evict_one(&small, 9, &taken));
+  IS(taken.id == 1 && taken.stamp == 2 && taken.value == 3);
+  for (uint64_t id = 1; id <= 4; id++) WANTS(NR_DONE, nr_cache_put(&small, id, id == 3 ? 4 : 9, 10 * id, 0, &given));
+  /* What is below the bound goes first, though a reader holds it. */
+  WANTS(NR_ROWS, nr_cache_find(&finder, 3, &found));
+  WANTS(NR_EVICTED, nr_cache_evict_one(&small, 5, &taken));
+  IS(taken.id == 3 && taken.stamp == 4 && taken.value == 30);
+  WANTS(NR_HELD, nr_cache_reap(&small, &given));
+  WANTS(NR_DONE, nr_cache_release(&finder));
+  WANTS(NR_GIVEN, nr_cache_reap(&small, &given));
+  IS(came_out(3, 4, 30));
+  for (unsigned left = 3; left > 0; left--) {
+    WANTS(NR_EVICTED, nr_cache_evict_one(&small, 0, &taken));
+    WANTS(NR_HOLE, nr_cache_look(&small, taken.id, &found));
+    WANTS(NR_GIVEN, nr_cache_reap(&small, &given));
+    IS(came_out(taken.id, 9, 10 * taken.id) && taken.value == given.value);
+  }
+  WANTS(NR_NOTHING, nr_cache_evict_one(&small, 0, &taken));
+  WANTS(NR_NOTHING, nr_cache_reap(&small, &given));
+  nr_close_cache_reader(&finder);
+  nr_close_cache(&small);
+}
+
 static void test_refusals(void) {
   WANTS(NR_NO_KEY, nr_cache_find(&reader, 0, &found));
   WANTS(NR_NO_KEY, nr_cache_begin(&cache, 0, 1, &flight));
@@ -256,6 +287,7 @@ static void test_openings(const nr_cache_shape *shape) {
   WANTS(NR_CLOSED, nr_cache_release(&third));
   WANTS(NR_CLOSED, nr_cache_release(NULL));
   WANTS(NR_CLOSED, nr_cache_invalidate(NULL, 1));
+  WANTS(NR_CLOSED, nr_cache_evict_one(NULL, 0, &given));
 }
 
 /* What readers find stays found, and no other id is. */
@@ -274,6 +306,7 @@ static void test_closed(void) {
   WANTS(NR_CLOSED, nr_cache_swap(&cache, 1, 1, 1, 1, &given));
   WANTS(NR_CLOSED, nr_cache_look(&cache, 1, &found));
   WANTS(NR_CLOSED, nr_cache_evict(&cache, 1));
+  WANTS(NR_CLOSED, nr_cache_evict_one(&cache, 0, &given));
   WANTS(NR_CLOSED, nr_cache_invalidate_all(&cache));
   WANTS(NR_CLOSED, nr_cache_count(&cache, &(nr_cache_counts){0}));
   WANTS(NR_CLOSED, nr_cache_begin_change(&cache, 1));
@@ -301,6 +334,7 @@ int main(void) {
   test_room();
   test_full();
   test_bound();
+  test_evict_one();
   test_refusals();
   test_closed();
   puts("each answer of a cache came");

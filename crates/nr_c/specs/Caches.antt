@@ -13,6 +13,7 @@ use Rattle.nr_cache.specs.declared.swaps.Swapped.{Swapped}
 use Rattle.nr_cache.specs.declared.swaps.Swapped.TheVariants as swapped
 use Rattle.nr_cache.specs.Counts.{CountsStore}
 use Rattle.nr_cache.specs.Finds.{FindsValue}
+use Rattle.nr_cache.specs.Firsts.{EvictsOne}
 use Rattle.nr_cache.specs.Flights.{EndsChange}
 use Rattle.nr_cache.specs.GivenValues.{ShowsValue}
 use Rattle.nr_cache.specs.StoreSeen.{StoreSeen}
@@ -156,6 +157,20 @@ ReapsByCode before after old new code =
 abbrev pub EvictsValueByCode : ℕ → StoreSeen → StoreSeen → ℕ → Type 0
 EvictsValueByCode id old new code =
     (had : Bool) × (code ≡ (if had then answer_evicted else answer_nothing)) × Evicts id old new had
+
+abbrev pub taken_code : Option GivenValue → ℕ
+taken_code (Some taken) = answer_evicted
+taken_code None = answer_nothing
+
+-- the value that was taken, or what stood there
+abbrev pub taken_told : GivenValue → Option GivenValue → GivenValue
+taken_told stood (Some taken) = taken
+taken_told stood None = stood
+
+abbrev pub EvictsOneByCode : ℕ → GivenValue → GivenValue → StoreSeen → StoreSeen → ℕ → Type 0
+EvictsOneByCode bound stood stands old new code =
+    (taken : Option GivenValue) × (code ≡ taken_code taken) × EvictsOne bound old new taken
+    × (stands ≡ taken_told stood taken)
 
 abbrev pub InvalidatesAllByCode : StoreSeen → StoreSeen → ℕ → Type 0
 InvalidatesAllByCode old new code = (code ≡ answer_done) × InvalidatesAll old new

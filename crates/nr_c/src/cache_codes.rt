@@ -1,13 +1,13 @@
 //! The numbers that stand for a cache's answers, and what C is told beside them.
 ghost use Rattle.std.specs.Prelude.{◌≡◌, if◌then◌else◌};
-ghost use Rattle.nr_c.specs.Caches.{begun_code, begun_told, ended_code, flight_told, found_value_code, landed_code, swapped_code, value_told};
+ghost use Rattle.nr_c.specs.Caches.{begun_code, begun_told, ended_code, flight_told, found_value_code, landed_code, swapped_code, taken_code, taken_told, value_told};
 
 use crate::cache_flight::NrFlight;
 use crate::codes::{
-    NR_DONE, NR_FULL, NR_HOLE, NR_NOTHING, NR_OTHER, NR_OWN, NR_ROWS, NR_SEND, NR_WAITING,
-    of_reclaimed,
+    NR_DONE, NR_EVICTED, NR_FULL, NR_HOLE, NR_NOTHING, NR_OTHER, NR_OWN, NR_ROWS, NR_SEND,
+    NR_WAITING, of_reclaimed,
 };
-use nr_cache::{Begun, Flight, FoundValue, Landed, Swapped};
+use nr_cache::{Begun, Flight, FoundValue, GivenValue, Landed, Swapped};
 
 /// The number of a find's answer, and the value that was found.
 pub fn of_value(value: Option<FoundValue>, told: &mut FoundValue) -> u32
@@ -51,6 +51,20 @@ pub fn of_ended(ended: Option<Flight>, told: &mut NrFlight) -> u32
         Some(flight) => {
             *told = NrFlight::of(flight);
             NR_DONE
+        }
+        None => NR_NOTHING,
+    }
+}
+
+/// The number of a value's going, and the value.
+pub fn of_taken(value: Option<GivenValue>, told: &mut GivenValue) -> u32
+    ensures code { result ≡ taken_code value }
+    ensures told { told.new ≡ taken_told told.old value }
+{
+    match value {
+        Some(taken) => {
+            *told = taken;
+            NR_EVICTED
         }
         None => NR_NOTHING,
     }

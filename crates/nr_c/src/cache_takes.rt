@@ -1,10 +1,10 @@
 //! How values leave a cache. One thread at a time.
 ghost use Rattle.std.specs.Prelude.{◌≡◌, ⊤};
-ghost use Rattle.nr_c.specs.Caches.{CacheCalls, EvictsValueByCode, InvalidatesAllByCode, InvalidatesByCode, ReapsByCode};
+ghost use Rattle.nr_c.specs.Caches.{CacheCalls, EvictsOneByCode, EvictsValueByCode, InvalidatesAllByCode, InvalidatesByCode, ReapsByCode};
 ghost use Rattle.nr_c.specs.IdLive.{WithId};
 ghost use Rattle.nr_c.specs.Live.{WhenLive};
 
-use crate::cache_codes::either;
+use crate::cache_codes::{either, of_taken};
 use crate::cache_handle::NrCache;
 use crate::codes::{NR_CLOSED, NR_DONE, NR_EVICTED, NR_NO_KEY, NR_NOTHING, of_reaped};
 use nr_cache::GivenValue;
@@ -54,6 +54,20 @@ pub extern "C" fn nr_cache_evict(cache: &mut NrCache, id: u64) -> u32
     let side = cache.side();
     let had = side.store.evict(&side.map, id);
     either(had, NR_EVICTED, NR_NOTHING)
+}
+
+/// Takes the value that goes next, as where one lands in a full cache, so that there is room: `NR_EVICTED`, and
+/// `taken` tells it, which comes out by a later call. `NR_NOTHING` where no id has one, and `taken` stays.
+#[unsafe(no_mangle)]
+pub extern "C" fn nr_cache_evict_one(cache: &mut NrCache, bound: u64, taken: &mut GivenValue) -> u32
+    ensures { WhenLive (taken.new ≡ taken.old) (CacheCalls (EvictsOneByCode bound taken.old taken.new)) cache.old.live cache.new.live result }
+{
+    if !cache.is_live() {
+        return NR_CLOSED;
+    }
+    let side = cache.side();
+    let value = side.store.evict_one(&side.map, bound);
+    of_taken(value, taken)
 }
 
 /// Takes each id's value, and outdates each flight: `NR_DONE`. Changes stay under way.
