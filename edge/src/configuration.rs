@@ -1,5 +1,6 @@
 //! What an operator writes: where the rows are, which views of them an edge holds, and where it is asked for them.
 use crate::query::{Item, Query};
+use crate::wire::Limits;
 use serde::Deserialize;
 use std::{
     collections::HashSet, fs, net::IpAddr, net::SocketAddr, path::Path, path::PathBuf, str::FromStr, time::Duration,
@@ -107,12 +108,9 @@ impl Default for Listen {
 }
 
 impl Listen {
-    pub fn idle(&self) -> Duration {
-        Duration::from_secs(self.idle.into())
-    }
-
-    pub fn half_command(&self) -> Duration {
-        Duration::from_secs(self.half_command.into())
+    pub fn limits(&self) -> Limits {
+        let [idle, half] = [self.idle, self.half_command].map(|seconds| Duration::from_secs(seconds.into()));
+        Limits { idle, half }
     }
 
     pub fn token_wait(&self) -> Duration {

@@ -102,7 +102,7 @@ impl<'a> Dataflow<'a> {
                 Event::Refused(why) => return Err(why),
                 event => self.handle(event),
             }
-            self.shared.now.log.store(self.log.len() as u64, Relaxed);
+            self.shared.now.log.store(self.log.count() as u64, Relaxed);
             self.shared.now.waiting.store(self.waiting.len() as u64, Relaxed);
         }
         Ok(())
@@ -173,7 +173,7 @@ impl<'a> Dataflow<'a> {
         if !transaction.changes.is_empty() {
             self.log.push(transaction);
         }
-        if self.log.len() >= LONG_LOG && !self.log.is_awaited() {
+        if self.log.count() >= LONG_LOG && !self.log.is_awaited() {
             let number = self.log.send();
             self.queue.push(Request { number, asked: Asked::Snapshot, is_again: false });
         }

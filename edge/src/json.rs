@@ -1,6 +1,6 @@
 //! Rows and values as JSON, and otherwise, made of the texts that PostgreSQL writes.
 use crate::configuration::Encoding;
-use crate::wire::bulk;
+use crate::resp::bulk;
 use std::fmt::Write;
 
 /// What a column's texts are in JSON. NULL is null in each.

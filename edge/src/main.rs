@@ -5,39 +5,28 @@ mod changes;
 mod configuration;
 mod content;
 mod dataflow;
-mod ending;
 mod fault;
-mod fresh;
 mod group;
 mod json;
 mod key;
-mod listener;
-mod log;
-mod lsn;
 mod metrics;
 mod needs;
-mod parts;
-mod pgoutput;
-#[allow(dead_code)]
-mod pq;
 mod query;
 mod residents;
-mod resp;
 mod serve;
 mod session;
 mod shared;
 mod slot;
-mod snapshot;
 mod stats;
 mod stream;
 mod tables;
 mod upquery;
 mod value;
-#[allow(dead_code)]
-mod wire;
 
 use clap::{Parser, Subcommand};
 use configuration::Configuration;
+use edge_common::postgres::{fresh, log, lsn, parts, pgoutput, pq, snapshot};
+use edge_common::{ending, guest, listener, resp, wire};
 use needs::Lack;
 use std::{collections::HashSet, fs, path::Path, path::PathBuf, process::ExitCode};
 

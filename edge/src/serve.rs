@@ -1,19 +1,19 @@
 //! How the parts of an edge are put together.
 use crate::base::Base;
-use crate::configuration::Configuration;
+use crate::configuration::{Configuration, Listen};
 use crate::dataflow::{Dataflow, Event};
 use crate::ending::{self, Ending};
 use crate::fault::End;
+use crate::guest::Guest;
 use crate::listener::{self, Door, Listener};
 use crate::pq::Fault;
-use crate::resp::Version;
 use crate::session::Session;
 use crate::shared::Shared;
 use crate::stats::Count;
 use crate::upquery::{self, Queue};
 use crate::wire::Socket;
 use crate::{metrics, slot, stream::Stream, tables};
-use std::net::TcpListener;
+use std::net::{SocketAddr, TcpListener};
 use std::sync::{atomic::Ordering::SeqCst, mpsc, mpsc::SyncSender, Arc};
 use std::{fs, process, process::ExitCode, thread, thread::Builder, time::Duration};
 
@@ -34,12 +34,24 @@ pub fn serve(configuration: Configuration) -> Result<ExitCode, String> {
         Err(End::Over) => return Ok(ExitCode::SUCCESS),
         Ok(shared) => shared,
     };
-    let listeners = Listener::all(&shared.configuration.listen)?;
+    let listeners = listeners(&shared.configuration.listen)?;
     let metrics = shared.configuration.listen.metrics.map(TcpListener::bind).transpose();
     let metrics = metrics.map_err(|fault| format!("the address of metrics: {fault}"))?;
     let ending = Ending::new().map_err(|fault| fault.to_string())?;
     // They are there until the process ends, whatever waits then.
     Ok(run(Box::leak(Box::new(shared)), Box::leak(listeners.into()), metrics, &ending))
+}
+
+fn listeners(listen: &Listen) -> Result<Vec<Listener>, String> {
+    let at = SocketAddr::new(listen.address, listen.port);
+    let mut all = vec![Listener::tcp(at).map_err(|fault| format!("{at}: {fault}"))?];
+    if let Some(path) = &listen.unix_socket {
+        all.push(Listener::unix(path).map_err(|fault| format!("{}: {fault}", path.display()))?);
+    }
+    for listener in &all {
+        eprintln!("edge: listens on {}", listener.place().map_err(|fault| fault.to_string())?);
+    }
+    Ok(all)
 }
 
 fn shared(configuration: Configuration, base: Base) -> Result<Shared, End> {
@@ -83,10 +95,14 @@ fn run(
         eprintln!("edge: {fault}");
         return ExitCode::from(2);
     }
-    ending::notify("READY=1");
+    tell_systemd("READY=1");
     ending.wait();
-    ending::notify("STOPPING=1");
+    tell_systemd("STOPPING=1");
     process::exit(end(shared, door, 0))
+}
+
+fn tell_systemd(state: &str) {
+    _ = ending::notify(state).inspect_err(|fault| eprintln!("edge: systemd isn't told: {fault}"));
 }
 
 /// What the edge needs may go without a word of the stream, as the event trigger that has it tell of others: so it is
@@ -106,10 +122,9 @@ fn watch(shared: &Shared, events: SyncSender<Event>) {
 fn session(shared: &'static Shared, events: SyncSender<Event>) -> impl Fn(usize, Arc<dyn Socket>) + Clone + Send {
     move |number, client| {
         let Some(reader) = shared.cache.reader() else { return };
-        let (events, may_read) = (events.clone(), shared.password.is_none());
         shared.counts[number].up(Count::Clients);
-        let mut session =
-            Session { number, shared, reader, events, version: Version::Two, may_read, name: String::new() };
+        let guest = Guest::new(number, &shared.host);
+        let mut session = Session { number, shared, reader, events: events.clone(), guest };
         // That a client breaks off is no fault.
         _ = session.serve(client);
     }

@@ -1,6 +1,7 @@
 //! What the threads share.
 use crate::base::Base;
 use crate::configuration::{Configuration, Encoding};
+use crate::guest::Host;
 use crate::key::Key;
 use crate::stats::{Counts, Now};
 use crate::tables::Table;
@@ -13,7 +14,7 @@ use std::time::{Duration, Instant};
 pub struct Shared {
     pub configuration: Configuration,
     pub base: Base,
-    pub password: Option<String>,
+    pub host: Host,
     pub cache: Cache<Key, Arc<Value>>,
     /// The place in PostgreSQL's log whose changes are applied.
     pub progress: Progress,
@@ -44,7 +45,7 @@ impl Shared {
         let cache = Cache::builder().capacity(keys + keys / 4 + 128).threads(clients.into());
         Ok(Shared {
             base,
-            password: configuration.listen.password()?,
+            host: Host { name: "edge", version: env!("CARGO_PKG_VERSION"), password: configuration.listen.password()? },
             cache: cache.open().map_err(|fault| format!("the cache: {fault}"))?,
             progress: Progress::new(),
             told: AtomicU64::new(0),

@@ -2,11 +2,8 @@
 //! views: rows that changes tell whole, rows that they tell by their identity, and what a query makes of them.
 //!   cases PROGRAM ADDRESS RESTART [CASE]    RESTART is a command that ends PostgreSQL at once and starts it again
 mod edges;
-#[allow(dead_code)]
-#[path = "../src/pq.rs"]
-mod pq;
+use edge_common::postgres::pq::Connection;
 use edges::{last, signal, until, Edge};
-use pq::Connection;
 use std::process::Command;
 use std::{env, thread};
 
@@ -17,8 +14,10 @@ struct Case {
     base: Connection,
 }
 
-/// A name, and what happens.
-const CASES: [(&str, fn(&mut Case)); 12] = [
+/// What happens.
+type Run = fn(&mut Case);
+
+const CASES: [(&str, Run); 12] = [
     ("log", a_commit_that_no_snapshot_sees_yet),
     ("first_snapshot", a_commit_that_the_new_slot_does_not_carry),
     ("early", an_answer_that_is_older_than_the_slot),

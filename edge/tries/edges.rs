@@ -1,5 +1,5 @@
 //! Edges as processes, and clients of theirs.
-use crate::pq::{Connection, Table};
+use edge_common::postgres::pq::{Connection, Table};
 use std::fs::{self, File};
 use std::io::{BufRead, BufReader, Read, Write};
 use std::net::TcpStream;

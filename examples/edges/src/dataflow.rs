@@ -77,7 +77,7 @@ impl Dataflow<'_> {
                 Arrival::Event(event) => self.handle(event),
                 Arrival::Ticket(ticket) => self.upquery(ticket),
             }
-            self.shared.log.store(self.order.log.len() as u64, SeqCst);
+            self.shared.log.store(self.order.log.count() as u64, SeqCst);
             self.shared.is_following.store(self.order.is_following, SeqCst);
         }
         Ok(())
@@ -131,7 +131,7 @@ impl Dataflow<'_> {
         if !transaction.changes.is_empty() {
             self.order.log.push(transaction);
         }
-        if self.order.log.len() >= LONG_LOG && !self.order.log.is_awaited() {
+        if self.order.log.count() >= LONG_LOG && !self.order.log.is_awaited() {
             self.request("".into(), Asker::Log, false);
         }
         self.reach(end);

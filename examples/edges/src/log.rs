@@ -1,9 +1,7 @@
 //! The log of a rule over articles and signed rows.
+use edge_common::postgres::log as of_changes;
 use nr::Delta;
 use std::collections::HashMap;
-
-#[path = "../../../edge/src/log.rs"]
-mod of_changes;
 
 /// Signed rows by their articles.
 pub type Changes = HashMap<Box<str>, Vec<Delta>>;

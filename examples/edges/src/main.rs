@@ -2,34 +2,20 @@
 //!   edge ADDRESS SLOT [OPTION NUMBER]..    the address is a libpq connection string, the slot this edge's own name
 mod dataflow;
 mod door;
-#[path = "../../../edge/src/fresh.rs"]
-mod fresh;
 mod log;
-#[path = "../../../edge/src/lsn.rs"]
-mod lsn;
 mod names;
-#[path = "../../../edge/src/parts.rs"]
-mod parts;
-#[path = "../../../edge/src/pgoutput.rs"]
-mod pgoutput;
-#[allow(dead_code)]
-#[path = "../../../edge/src/pq.rs"]
-mod pq;
 mod residents;
 mod session;
 mod slot;
-#[path = "../../../edge/src/snapshot.rs"]
-mod snapshot;
 mod stats;
 mod stream;
 mod table;
 mod upquery;
 mod votes;
-#[allow(dead_code)]
-#[path = "../../../edge/src/wire.rs"]
-mod wire;
 
 use dataflow::{Dataflow, Event, Order};
+use edge_common::postgres::{fresh, lsn, parts, pgoutput, pq, snapshot};
+use edge_common::wire;
 use nr::{Inbox, Lobby, ReaderMap, Rows, Shape, Writer};
 use std::sync::atomic::{AtomicBool, AtomicU64, Ordering::SeqCst};
 use std::sync::{mpsc, Mutex};

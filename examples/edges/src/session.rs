@@ -1,7 +1,9 @@
 //! A session: a thread that answers one client's commands in their order.
 use crate::pq::{Connection, Fault};
 use crate::upquery::Told;
-use crate::{dataflow::Event, lsn::Lsn, stats, stats::Count, wire, wire::bulk, Shared};
+use crate::{dataflow::Event, lsn::Lsn, stats, stats::Count, wire, Shared};
+use edge_common::command::{Bounds, Command};
+use edge_common::resp::bulk;
 use nr::{Asked, EventSender, InboxPoster, Reader, Row, Rows};
 use std::sync::{atomic::Ordering::Relaxed, atomic::Ordering::SeqCst, mpsc, Arc};
 use std::{fmt::Write, io, net::TcpStream};
@@ -16,6 +18,8 @@ pub struct Session<'a> {
     pub shared: &'a Shared,
 }
 
+/// Of a command.
+const BOUNDS: Bounds = Bounds { words: 255, bytes: 65_536 };
 const WRONG_COUNT: &str = "wrong number of arguments";
 const UNKNOWN: &str = "unknown command: there are GET, READ, PEEK, VOTE, UNVOTE, STATS, PING and COMMAND";
 const ENDED: &str = "the edge has ended";
@@ -36,19 +40,14 @@ const MOST_AT_REST: usize = 4;
 impl Session<'_> {
     /// A command without meaning is answered by an error, which is the last reply where its end can't be told.
     pub fn serve(&mut self, client: Arc<TcpStream>) -> io::Result<()> {
-        let mut wire = wire::Wire::new(client, self.shared.limits)?;
-        loop {
-            match wire.command() {
-                Ok(words) => wire.reply(words.and_then(|words| self.answer(&words))),
-                Err(fault) if fault.kind() == io::ErrorKind::InvalidData => return wire.end(fault),
-                Err(fault) => return Err(fault),
-            }
-        }
+        wire::Wire::new(client, self.shared.limits, BOUNDS)?.serve(|command: Command, to| {
+            let reply = command.map_err(String::from).and_then(|words| self.answer(&words));
+            to.extend(reply.unwrap_or_else(|fault| format!("-ERR {fault}\r\n")).into_bytes());
+            true
+        })
     }
 
-    fn answer(&mut self, words: &[Vec<u8>]) -> Result<String, String> {
-        let words: Result<Vec<_>, _> = words.iter().map(|word| std::str::from_utf8(word)).collect();
-        let words = words.map_err(|_| "a word is not UTF-8")?;
+    fn answer(&mut self, words: &[&str]) -> Result<String, String> {
         let Some((command, arguments)) = words.split_first() else { return Ok(String::new()) };
         match (command.to_ascii_uppercase().as_str(), arguments) {
             ("GET", [article, token @ ..]) => self.after(token)?.get(name(article)?),

@@ -2,10 +2,8 @@
 //!   cases PROGRAM ADDRESS RESTART [CASE]    RESTART is a command that ends PostgreSQL at once and starts it again
 mod edges;
 mod operator;
-#[path = "../../../edge/src/pq.rs"]
-mod pq;
+use edge_common::postgres::pq::Connection;
 use edges::{last, rows_in_table, signal, token, until, Edge};
-use pq::Connection;
 use std::process::Command;
 use std::{env, thread};
 
@@ -16,8 +14,10 @@ struct Case {
     base: Connection,
 }
 
-/// A name, and what happens.
-const CASES: [(&str, fn(&mut Case)); 29] = [
+/// What happens.
+type Run = fn(&mut Case);
+
+const CASES: [(&str, Run); 29] = [
     ("log", a_commit_that_no_snapshot_sees_yet),
     ("first_snapshot", a_commit_that_the_new_slot_does_not_carry),
     ("early", an_answer_that_is_older_than_the_slot),

@@ -1,6 +1,6 @@
 //! Edges as processes, and clients of theirs that bear it when one ends.
 #![allow(dead_code)]
-use crate::pq::{Connection, Table};
+use edge_common::postgres::pq::{Connection, Table};
 use std::fs::{read_to_string, File};
 use std::io::{BufRead, BufReader, Error, ErrorKind, Read, Result, Write};
 use std::net::{Shutdown, TcpStream};

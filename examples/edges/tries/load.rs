@@ -5,10 +5,8 @@
 //!   load changes ADDRESS RATE SECONDS             that many one-row transactions a second, in turn a vote more and less
 //!   load visible ADDRESS SECONDS RATE PORT..      from a commit until every edge answers with it, beside changes
 mod edges;
-#[path = "../../../edge/src/pq.rs"]
-mod pq;
+use edge_common::postgres::pq::Connection;
 use edges::Client;
-use pq::Connection;
 use std::sync::atomic::{AtomicBool, AtomicU64, Ordering::SeqCst};
 use std::time::{Duration, Instant};
 use std::{env, thread};

@@ -1,7 +1,7 @@
 //! What an operator met: each was once wrong, or out of service, without a word.
 use crate::edges::{last, rows_in_table, until, Client, Edge};
-use crate::pq::Connection;
 use crate::Case;
+use edge_common::postgres::pq::Connection;
 use std::thread;
 
 const TRIGGER: &str = "ALTER EVENT TRIGGER edges_changed";

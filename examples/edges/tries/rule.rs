@@ -146,7 +146,7 @@ fn the_log_ends() {
     let request = trial.sent().expect("PostgreSQL is asked what a snapshot sees");
     assert!(trial.sent().is_none());
     trial.answer(request, "9999:9999:", &[]);
-    assert_eq!(trial.dataflow.order.log.len(), 0);
+    assert_eq!(trial.dataflow.order.log.count(), 0);
 }
 
 #[test]
@@ -337,15 +337,6 @@ fn what_is_held_of_another_table_goes() {
 }
 
 #[test]
-fn a_place_after_a_header_is_where_its_page_begins() {
-    let before = |place: u64| Lsn::before_header(&Lsn(place).to_string(), "1048576").unwrap().0;
-    let (page, file) = (3 * 8192, 5 << 20);
-    assert_eq!([page + 24, file + 40].map(before), [page, file]);
-    let others = [page, page + 16, page + 40, file, file + 24, file + 80];
-    assert_eq!(others.map(before), others);
-}
-
-#[test]
 fn a_fault_is_told_and_the_next_client_asks_again() {
     let mut trial = Trial::following();
     let (request, told) = trial.ask("a");
@@ -354,18 +345,4 @@ fn a_fault_is_told_and_the_next_client_asks_again() {
     assert!(matches!(told.try_recv(), Ok(Told::Fault(fault)) if *fault == *"gone"));
     trial.fill("a", "10:10:", &[ONE]);
     assert_eq!(trial.held("a"), Some(vec![ONE]));
-}
-
-#[test]
-fn a_snapshot_sees_what_committed_before_it() {
-    let snapshot: Snapshot = "10:20:12,15".parse().unwrap();
-    let seen: Vec<u32> = (8..22).filter(|xid| snapshot.sees(Xid(*xid))).collect();
-    assert_eq!(seen, [8, 9, 10, 11, 13, 14, 16, 17, 18, 19]);
-    // Numbers of 64 bits, of which the stream tells the low ones.
-    let later: Snapshot = "8589934591:8589934594:8589934593".parse().unwrap();
-    assert_eq!([u32::MAX, 0, 1, 2].map(|xid| later.sees(Xid(xid))), [true, true, false, false]);
-    for (one, covers) in [("10:20:12,15", true), ("20:20:", true), ("10:20:11,12,15", false), ("10:19:12,15", false)] {
-        assert_eq!(one.parse::<Snapshot>().unwrap().covers(&snapshot), covers, "{one}");
-    }
-    assert!("10:20:20".parse::<Snapshot>().is_ok() && "x".parse::<Snapshot>().is_err());
 }

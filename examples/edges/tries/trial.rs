@@ -2,10 +2,8 @@
 //! and at quiet moments what each edge holds is what the table has.
 //!   trial PROGRAM ADDRESS RESTART EDGES SECONDS SEED
 mod edges;
-#[path = "../../../edge/src/pq.rs"]
-mod pq;
+use edge_common::postgres::pq::Connection;
 use edges::{last, token, until, Client, Edge};
-use pq::Connection;
 use std::collections::{HashMap, HashSet};
 use std::process::Command;
 use std::sync::atomic::{AtomicBool, AtomicU64, Ordering::SeqCst};
@@ -106,7 +104,7 @@ fn statements(dice: &mut Dice, key: &str, id: u64) -> Vec<String> {
 /// Transactions of one to four keys, in one message or statement by statement; some are rolled back.
 fn write(world: &World, number: u64, seed: u64) {
     let mut dice = Dice(seed * 1000 + number * 77 + 1);
-    let options = if number % 3 == 0 { "-c synchronous_commit=off" } else { "" };
+    let options = if number.is_multiple_of(3) { "-c synchronous_commit=off" } else { "" };
     let (mut base, mut id) = (world.base(options), number * 1_000_000_000);
     while world.goes_on() {
         let open = world.quiet.read().unwrap();
@@ -217,7 +215,7 @@ fn write_and_read(world: &World, seed: u64) {
         let ask = |edge: usize, line: String| world.client(edge)?.ask(&line).ok();
         let token = ask(one, format!("VOTE {key} 5 {id}")).and_then(|it| Some(it.strip_prefix('+')?.to_owned()));
         let rows = token.and_then(|token| ask(other, format!("GET {key} {token}")));
-        let rows = rows.filter(|rows| !rows.starts_with('-') && age % 2 == 0 && world.age.load(SeqCst) == age);
+        let rows = rows.filter(|rows| !rows.starts_with('-') && age.is_multiple_of(2) && world.age.load(SeqCst) == age);
         if let Some(rows) = rows {
             world.own_reads.fetch_add(1, SeqCst);
             if !rows.split(' ').any(|row| row == format!("5:{id}")) {
@@ -320,7 +318,7 @@ fn begin(address: &str) {
 
 /// Some hold half of the keys, with no slot to spare, and ask for one at a time.
 fn edge(program: &str, address: &str, number: u64) -> Edge {
-    let [limit, batch, slots] = if number % 2 == 0 { ["30", "1", "30"] } else { ["60", "8", "0"] };
+    let [limit, batch, slots] = if number.is_multiple_of(2) { ["30", "1", "30"] } else { ["60", "8", "0"] };
     let sizes = ["--keys", "61", "--rows", "255", "--limit", limit, "--slots", slots];
     let options = [&sizes[..], &["--batch", batch, "--confirm", "700"]].concat();
     let slot = format!("trial_{number}");

@@ -1,7 +1,8 @@
 //! A client, and what has come from it and goes to it.
 use crate::poll::{Poll, CHANGE, NOTHING, READ, WRITE};
 use crate::session::{Need, Session};
-use crate::{now, wire};
+use crate::{now, BOUNDS};
+use edge_common::{command::command, guest::Guest, wire::MOST_REPLIES};
 use std::sync::{atomic::AtomicU64, atomic::Ordering::SeqCst, Mutex};
 use std::{io, io::ErrorKind, io::Read, io::Write, net::Shutdown, net::TcpStream};
 
@@ -26,8 +27,8 @@ pub enum Next {
 /// Of one client before others have their turn.
 pub const COMMANDS_A_TURN: usize = 32;
 
-#[derive(Default)]
 pub struct Talk {
+    guest: Guest,
     pub came: Vec<u8>,
     replies: Vec<u8>,
     /// Whether the last reply was made. Then it may send what it likes, until it has seen that.
@@ -63,7 +64,7 @@ impl Client {
         talk.is_away = false;
         let (mut next, is_sent) = loop {
             let next = talk.answer(session, &mut left);
-            let (is_full, is_sent) = (talk.replies.len() >= wire::MOST, talk.send(&self.stream)?);
+            let (is_full, is_sent) = (talk.replies.len() >= MOST_REPLIES, talk.send(&self.stream)?);
             if !is_full || !is_sent || next != Next::Socket {
                 break (next, is_sent);
             }
@@ -79,8 +80,8 @@ impl Client {
         let owed = std::mem::replace(&mut talk.owes, !is_sent || talk.has_ended || !talk.came.is_empty());
         // Who brings the rest bit by bit gains no time.
         if !owed || !talk.owes || talk.came.len() < had || talk.is_away {
-            let time = if talk.owes { shared.half } else { shared.idle };
-            self.due.store(if talk.is_away { u64::MAX } else { now() + time }, SeqCst);
+            let time = if talk.owes { shared.limits.half } else { shared.limits.idle };
+            self.due.store(if talk.is_away { u64::MAX } else { now() + time.as_millis() as u64 }, SeqCst);
         }
         let wanted = [[WRITE, READ][usize::from(is_sent)], NOTHING][usize::from(talk.is_away)];
         if std::mem::replace(&mut talk.wanted, wanted) != wanted {
@@ -91,18 +92,30 @@ impl Client {
 }
 
 impl Talk {
+    pub fn new(guest: Guest) -> Talk {
+        Talk {
+            guest,
+            came: Vec::new(),
+            replies: Vec::new(),
+            has_ended: false,
+            owes: false,
+            is_away: false,
+            has_turn: false,
+            wanted: 0,
+        }
+    }
+
     /// So many commands at most, in their order. On an errand the next turn is one too.
     fn answer(&mut self, session: &mut Session, left: &mut usize) -> Next {
         let (mut done, mut next) = (0, Next::Socket);
-        while next == Next::Socket && !self.has_ended && self.replies.len() < wire::MOST {
-            match wire::command(&self.came[done..]) {
+        while next == Next::Socket && !self.has_ended && self.replies.len() < MOST_REPLIES {
+            match command(&self.came[done..], &BOUNDS) {
                 Ok(None) => break,
                 Ok(Some(_)) if *left == 0 => next = session.errand.map_or(Next::Turn, Next::Errand),
-                Ok(Some((words, size))) => match session.answer(&words) {
+                Ok(Some((words, size))) => match session.answer(&words, &mut self.guest, &mut self.replies) {
                     Err(need) => next = Next::Errand(need),
-                    Ok(reply) => {
-                        self.replies.extend(reply.bytes());
-                        self.has_ended = words.is_ok_and(|it| it.len() == 1 && it[0].eq_ignore_ascii_case("QUIT"));
+                    Ok(stays) => {
+                        self.has_ended = !stays;
                         done += size;
                         *left -= 1;
                     }

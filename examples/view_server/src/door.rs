@@ -1,32 +1,30 @@
 //! The door: clients come in as long as there is room; who says nothing for too long goes; and all go when the process is
 //! told to end.
 use crate::poll::{Poll, ADD, READ};
-use crate::{client::Client, log, now, stats::Count, Shared, IS_OVER};
-use std::sync::atomic::{AtomicU64, Ordering::Relaxed, Ordering::SeqCst};
+use crate::{client::Client, client::Talk, log, now, stats::Count, Shared};
+use edge_common::{ending::Ending, guest::Guest, listener::NO_ROOM};
+use std::sync::atomic::{AtomicU64, Ordering::SeqCst};
 use std::sync::{Arc, Mutex};
 use std::{ffi::c_int, io::ErrorKind, io::Write, net::Shutdown, net::TcpListener, thread, time::Duration};
 
-extern "C" {
-    fn signal(number: c_int, handler: extern "C" fn(c_int)) -> usize;
-}
-
-/// On SIGINT and SIGTERM.
-extern "C" fn shut(_signal: c_int) {
-    IS_OVER.store(true, Relaxed);
-}
-
 /// In milliseconds, before those are looked for who say nothing.
 const PAUSE: u64 = 250;
+/// What is told of who comes, and of the end.
+const CLIENT: u64 = 0;
+const END: u64 = 1;
 
-pub fn serve(listener: TcpListener, desks: &[Poll], shared: &Shared) {
-    // SAFETY: the handler makes nothing but an atomic store.
-    [2, 15].iter().for_each(|number| _ = unsafe { signal(*number, shut) });
+pub fn serve(listener: TcpListener, ending: &Ending, desks: &[Poll], shared: &Shared) {
     let poll = Poll::new().expect("the system can wait for clients");
-    poll.set(ADD, &listener, 0, READ).and(listener.set_nonblocking(true)).expect("it is bound");
+    poll.set(ADD, ending, END, READ).expect("it is open");
+    poll.set(ADD, &listener, CLIENT, READ).and(listener.set_nonblocking(true)).expect("it is bound");
     println!("listening on {}", listener.local_addr().expect("it is bound"));
     let (mut token, mut last) = (0, now());
-    while !IS_OVER.load(Relaxed) {
-        if poll.wait(PAUSE as c_int).next().is_some() {
+    loop {
+        let came: Vec<_> = poll.wait(PAUSE as c_int).collect();
+        if came.contains(&END) {
+            return;
+        }
+        if came.contains(&CLIENT) {
             token += 1;
             come_in(&listener, token, &desks[token as usize % desks.len()], shared);
         }
@@ -51,9 +49,10 @@ fn come_in(listener: &TcpListener, token: u64, desk: &Poll, shared: &Shared) {
     if clients.len() >= shared.most_clients {
         log::say("client", "there are clients enough");
         shared.counts[0].up(Count::Refused);
-        return drop(stream.write_all(b"-ERR there are clients enough\r\n"));
+        return drop(stream.write_all(NO_ROOM));
     }
-    let (talk, due) = (Mutex::default(), AtomicU64::new(now() + shared.idle));
+    let talk = Mutex::new(Talk::new(Guest::new(token as usize, &shared.host)));
+    let due = AtomicU64::new(now() + shared.limits.idle.as_millis() as u64);
     let is_set = stream.set_nonblocking(true).and(stream.set_nodelay(true));
     if is_set.and_then(|()| desk.set(ADD, &stream, token, READ)).is_ok() {
         clients.insert(token, Arc::new(Client { token, stream, talk, due }));

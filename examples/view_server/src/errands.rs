@@ -2,7 +2,9 @@
 use crate::client::{Client, Next, COMMANDS_A_TURN};
 use crate::poll::{Poll, CHANGE, READ};
 use crate::session::{told, Load, Need, Session};
-use crate::{base::Base, base::Query, wire};
+use crate::BOUNDS;
+use base::{Base, Query};
+use edge_common::command::command;
 use std::sync::{mpsc::Receiver, mpsc::Sender, Arc, Mutex};
 
 /// A client that is brought to an errand, and where its desk waits for it again; or none, after which nobody comes.
@@ -58,9 +60,9 @@ pub fn run<'a>(
 fn look_ahead(mut came: &[u8], session: &mut Session, requests: &Sender<Load>) {
     let mut is_first = true;
     for _ in 0..COMMANDS_A_TURN {
-        let Ok(Some((command, size))) = wire::command(came) else { return };
+        let Ok(Some((words, size))) = command(came, &BOUNDS) else { return };
         came = &came[size..];
-        let Ok([get, article]) = command.as_deref() else { continue };
+        let Ok([get, article]) = words.as_deref() else { continue };
         if get.eq_ignore_ascii_case("GET") && !std::mem::take(&mut is_first) {
             session.request(article).map(|request| requests.send(request));
         }

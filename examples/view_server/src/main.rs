@@ -1,5 +1,4 @@
 //! Serves the view `votes by article` of a SQLite database, which it holds in part, over the Redis protocol.
-mod base;
 mod client;
 mod desk;
 mod door;
@@ -8,25 +7,28 @@ mod log;
 mod poll;
 mod session;
 mod stats;
-mod wire;
 
+use edge_common::command::Bounds;
+use edge_common::ending::Ending;
+use edge_common::guest::Host;
+use edge_common::wire::Limits;
 use nr::View;
 use session::Need;
 use std::sync::{atomic::AtomicBool, atomic::Ordering::Relaxed, mpsc, Arc, LazyLock, Mutex};
 use std::thread::{self, Builder, Scope};
-use std::{env, error::Error, net::TcpListener, time::Instant};
+use std::{env, error::Error, net::TcpListener, time::Duration, time::Instant};
 
-/// What the threads share. Times are in milliseconds.
+/// What the threads share.
 pub struct Shared {
     view: View<String>,
+    host: Host,
     /// Writes each vote.
     writes: Mutex<base::Base>,
     clients: Mutex<desk::Clients>,
     most_clients: usize,
-    /// How long a client may say nothing; owe the rest of a command or the reading of replies; wait for another's load.
-    idle: u64,
-    half: u64,
-    busy: u64,
+    limits: Limits,
+    /// How long a client may wait for another's load.
+    busy: Duration,
     /// The door's, and then those of each session.
     counts: Vec<stats::Counts>,
 }
@@ -36,6 +38,9 @@ fn now() -> u64 {
     static START: LazyLock<Instant> = LazyLock::new(Instant::now);
     START.elapsed().as_millis() as u64
 }
+
+/// Of a command.
+const BOUNDS: Bounds = Bounds { words: 255, bytes: 65_536 };
 
 static IS_OVER: AtomicBool = AtomicBool::new(false);
 
@@ -79,12 +84,15 @@ fn main() -> Result<(), Box<dyn Error>> {
     let view = View::builder().capacity(limit as usize).threads(sessions as u32).open()?;
     let (writes, clients, most_clients) = (Mutex::new(open_base()?), Mutex::default(), most_clients as usize);
     let counts = (0..=sessions).map(|_| stats::Counts::default()).collect();
-    let shared = &Shared { view, writes, most_clients, clients, idle, half, busy, counts };
+    let host = Host { name: "view_server", version: env!("CARGO_PKG_VERSION"), password: None };
+    let [idle, half, longest_wait] = [idle, half, busy].map(Duration::from_millis);
+    let limits = Limits { idle, half };
+    let shared = &Shared { view, host, writes, most_clients, clients, limits, busy: longest_wait, counts };
     let session = |number: usize, base, errand| {
         let reader = shared.view.reader().expect("there is a reader for each session");
         session::Session { reader, base, errand, may: false, counts: &shared.counts[number + 1], shared }
     };
-    let listener = TcpListener::bind((&address[..], u16::try_from(port)?))?;
+    let (listener, ending) = (TcpListener::bind((&address[..], u16::try_from(port)?))?, Ending::new()?);
     let desks: Vec<_> = (0..at_desks).map(|_| poll::Poll::new()).collect::<Result<_, _>>()?;
     let ((to_load, loads), (to_vote, votes), (request, requests)) = (mpsc::channel(), mpsc::channel(), mpsc::channel());
     let (bring, loads, votes) = (&errands::Bring { to_load, to_vote }, &Mutex::new(loads), &Mutex::new(votes));
@@ -110,7 +118,7 @@ fn main() -> Result<(), Box<dyn Error>> {
         // Where there are no loaders who requests learns that.
         drop((requests, request));
         let are_there = at_desks.min(on_errands).min(voters) > 0;
-        let served = are_there.then(|| door::serve(listener, &desks[..at_desks], shared));
+        let served = are_there.then(|| door::serve(listener, &ending, &desks[..at_desks], shared));
         IS_OVER.store(true, Relaxed);
         bring.end(errands, VOTERS);
         served.ok_or("there are no threads for clients".into())

@@ -1,9 +1,12 @@
 //! A session: what a thread answers commands with.
 use crate::stats::{self, Count, Counts};
-use crate::wire::{array, bulk, Command};
-use crate::{base::Base, base::Query, log, Shared};
+use crate::{log, Shared};
+use base::{Base, Query};
+use edge_common::command::Command;
+use edge_common::guest::{Answered, Fault, Guest, Host, WRONG_COUNT};
+use edge_common::resp::bulk;
 use nr::{CacheReader, Delta, Request, Row, Sought};
-use std::{fmt::Write, mem::take, time::Duration, time::Instant};
+use std::{fmt::Write, mem::take, time::Instant};
 
 pub struct Session<'a> {
     pub reader: CacheReader<String, Box<[Row]>>,
@@ -26,47 +29,41 @@ pub enum Need {
 const KNOWN: [&str; 8] = ["GET", "VOTE", "UNVOTE", "STATS", "PING", "SELECT", "HELLO", "CONFIG"];
 pub type Load = Request<String, Box<[Row]>>;
 type Reply = Result<String, String>;
+/// Whether the client stays, or the code of an error and its text.
+type Answer = Result<bool, Fault>;
 
 impl Session<'_> {
-    /// The reply to a command, or what it needs that can't be done here, or not in this turn.
-    pub fn answer(&mut self, command: &Command) -> Result<String, Need> {
-        let reply = match command {
-            Ok(words) => self.reply(words)?,
-            Err(why) => Err(why.to_string()),
+    /// Puts the reply to a command, and whether its client stays; or what it needs that can't be done here, or not in this
+    /// turn.
+    pub fn answer(&mut self, command: &Command, guest: &mut Guest, to: &mut Vec<u8>) -> Result<bool, Need> {
+        let begin = to.len();
+        let answered = match command {
+            Ok(words) => self.answer_words(words, guest, to)?,
+            Err(why) => Err(format!("ERR {why}")),
         };
-        Ok(reply.unwrap_or_else(|why| {
+        Ok(answered.unwrap_or_else(|fault| {
             self.counts.up(Count::Errors);
-            format!("-{}{why}\r\n", if why.starts_with("NOPROTO") { "" } else { "ERR " })
+            // Of a reply that was begun nothing stays.
+            to.truncate(begin);
+            guest.reply(to).error(&fault);
+            true
         }))
     }
 
-    fn reply(&mut self, words: &[&str]) -> Result<Reply, Need> {
-        let Some((command, arguments)) = words.split_first() else { return Ok(Ok(String::new())) };
-        match (command.to_ascii_uppercase().as_str(), arguments) {
-            ("GET", [article]) => self.get(article),
-            ("VOTE", [article, user, weight]) => self.vote(article, user, weight, true),
-            ("UNVOTE", [article, user, weight]) => self.vote(article, user, weight, false),
-            (other, _) => Ok(self.reply_of_server(other, arguments)),
-        }
-    }
-
-    /// What is told of the server, and what clients of Redis send before they begin.
-    fn reply_of_server(&self, command: &str, arguments: &[&str]) -> Reply {
-        Ok(match (command, arguments) {
-            ("STATS", []) | ("INFO", _) => bulk(&stats::text(self.shared)),
-            ("PING", []) => "+PONG\r\n".into(),
-            ("PING", [text]) => bulk(text),
-            ("QUIT" | "CLIENT", _) | ("SELECT", ["0"]) => "+OK\r\n".into(),
-            ("SELECT", [_]) => return Err("DB index is out of range".into()),
-            ("HELLO", [] | ["2", ..]) => {
-                array(&["server", "view_server", "proto", "2", "mode", "standalone"]).replace("$1\r\n2", ":2")
-            }
-            ("HELLO", _) => return Err("NOPROTO unsupported protocol version".into()),
-            ("CONFIG", [get, name]) if get.eq_ignore_ascii_case("GET") => array(&[name, ""]),
-            ("COMMAND", _) => array(&[]),
-            _ if KNOWN.contains(&command) => return Err("wrong number of arguments".into()),
-            _ => return Err(format!("unknown command: there are {}", KNOWN.join(", "))),
-        })
+    fn answer_words(&mut self, words: &[&str], guest: &mut Guest, to: &mut Vec<u8>) -> Result<Answer, Need> {
+        let Some((command, arguments)) = words.split_first() else { return Ok(Ok(true)) };
+        let command = command.to_ascii_uppercase();
+        let reply = match (&*command, arguments) {
+            ("GET", [article]) => self.get(article)?,
+            ("VOTE", [article, user, weight]) => self.vote(article, user, weight, true)?,
+            ("UNVOTE", [article, user, weight]) => self.vote(article, user, weight, false)?,
+            ("STATS", []) | ("INFO", _) => Ok(bulk(&stats::text(self.shared))),
+            _ => return Ok(answer_of_server(guest, &self.shared.host, (&command, arguments), to)),
+        };
+        Ok(reply.map_err(|why| format!("ERR {why}")).map(|text| {
+            to.extend(text.bytes());
+            true
+        }))
     }
 
     /// By the view, without a lock; or else by one load, however many miss the article together.
@@ -90,9 +87,9 @@ impl Session<'_> {
 
     fn load(&mut self, article: &str) -> Result<Reply, Need> {
         self.begin(Need::Load)?;
-        let (base, wait) = (self.base.as_mut().ok_or(Need::Load)?, Duration::from_millis(self.shared.busy));
+        let base = self.base.as_mut().ok_or(Need::Load)?;
         let load = || base.run(Query::Rows, article, &[]).map(Box::from);
-        let found = self.reader.try_get_with_timeout(article, wait, load);
+        let found = self.reader.try_get_with_timeout(article, self.shared.busy, load);
         Ok(found.map(|rows| text_of(&rows)).map_err(|why| told(why.to_string())))
     }
 
@@ -122,6 +119,21 @@ impl Session<'_> {
         let reply = write(self.shared, article, row, is_new);
         self.counts.took(Count::Votes, begun.elapsed());
         Ok(reply)
+    }
+}
+
+/// What each server answers, and that there is no such command.
+fn answer_of_server(guest: &mut Guest, host: &Host, (command, arguments): (&str, &[&str]), to: &mut Vec<u8>) -> Answer {
+    match (guest.answer(host, (command, arguments), to)?, command, arguments) {
+        (Answered::No, "CONFIG", [get, name]) if get.eq_ignore_ascii_case("GET") => {
+            let mut reply = guest.reply(to);
+            reply.map(1);
+            [name, ""].iter().for_each(|text| reply.bulk(text));
+            Ok(true)
+        }
+        (Answered::No, command, _) if KNOWN.contains(&command) => Err(WRONG_COUNT.into()),
+        (Answered::No, ..) => Err(format!("ERR unknown command: there are {}", KNOWN.join(", "))),
+        (answered, ..) => Ok(answered == Answered::Here),
     }
 }
 

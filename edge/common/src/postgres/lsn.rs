@@ -39,3 +39,17 @@ impl fmt::Display for Lsn {
 /// A transaction, by the 32 bits that the stream tells of its number.
 #[derive(Clone, Copy, Debug, PartialEq, Eq)]
 pub struct Xid(pub u32);
+
+#[cfg(test)]
+mod tests {
+    use super::*;
+
+    #[test]
+    fn a_place_after_a_header_is_where_its_page_begins() {
+        let before = |place: u64| Lsn::before_header(&Lsn(place).to_string(), "1048576").unwrap().0;
+        let (page, file) = (3 * 8192, 5 << 20);
+        assert_eq!([page + 24, file + 40].map(before), [page, file]);
+        let others = [page, page + 16, page + 40, file, file + 24, file + 80];
+        assert_eq!(others.map(before), others);
+    }
+}

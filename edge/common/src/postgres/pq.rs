@@ -342,3 +342,28 @@ fn state_in(message: &str) -> String {
     let is_state = |part: &&str| part.len() == 5 && part.chars().all(is_sign) && has_digit(part);
     message.rsplit(": ").map(str::trim).find(is_state).unwrap_or_default().into()
 }
+
+#[cfg(test)]
+mod tests {
+    use super::*;
+
+    #[test]
+    fn a_refusal_has_its_code() {
+        let of = |message: &str| state_in(message);
+        assert_eq!(of("connection failed: FATAL:  28000: role \"edge\" does not exist"), "28000");
+        assert_eq!(of("FATAL:  53300: too many: FATAL:  57P03: the database system is starting up"), "57P03");
+        assert_eq!(of("FATAL:  3D000: no database: X1"), "3D000");
+        assert_eq!([of("could not connect: Connection refused"), of("FATAL: WORDS: none")], ["", ""]);
+    }
+
+    #[test]
+    fn a_text_is_quoted() {
+        assert_eq!(quoted(r"it's a \"), r"E'it''s a \\'");
+    }
+
+    #[test]
+    fn who_is_not_there_is_a_fault_of_the_connection() {
+        let fault = Connection::open("host=/nowhere").err().unwrap();
+        assert!(fault.is_of_connection() && fault.state.is_empty(), "{fault}");
+    }
+}

@@ -21,6 +21,10 @@ impl Reply<'_> {
         self.line('+', text);
     }
 
+    pub fn ok(&mut self) {
+        self.simple("OK");
+    }
+
     /// With a code before it, such as ERR.
     pub fn error(&mut self, text: &str) {
         self.line('-', text);
@@ -73,6 +77,11 @@ impl Reply<'_> {
             Version::Three => b"_\r\n",
         });
     }
+}
+
+/// A text as a reply.
+pub fn bulk(text: &str) -> String {
+    format!("${}\r\n{text}\r\n", text.len())
 }
 
 #[cfg(test)]

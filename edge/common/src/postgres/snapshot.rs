@@ -1,5 +1,5 @@
 //! Which transactions a statement sees.
-use crate::lsn::{Lsn, Xid};
+use super::lsn::{Lsn, Xid};
 use std::str::FromStr;
 
 /// A table, by PostgreSQL's number of it. Another one that takes its name has another number.
@@ -53,5 +53,26 @@ impl Snapshot {
     /// The number of 64 bits that is nearest to `next` and has these as its low ones.
     fn whole(&self, Xid(low): Xid) -> u64 {
         self.next.wrapping_add_signed(i64::from(low.wrapping_sub(self.next as u32) as i32))
+    }
+}
+
+#[cfg(test)]
+mod tests {
+    use super::*;
+
+    #[test]
+    fn a_snapshot_sees_what_committed_before_it() {
+        let snapshot: Snapshot = "10:20:12,15".parse().unwrap();
+        let seen: Vec<u32> = (8..22).filter(|xid| snapshot.sees(Xid(*xid))).collect();
+        assert_eq!(seen, [8, 9, 10, 11, 13, 14, 16, 17, 18, 19]);
+        // Numbers of 64 bits, of which the stream tells the low ones.
+        let later: Snapshot = "8589934591:8589934594:8589934593".parse().unwrap();
+        assert_eq!([u32::MAX, 0, 1, 2].map(|xid| later.sees(Xid(xid))), [true, true, false, false]);
+        for (one, covers) in
+            [("10:20:12,15", true), ("20:20:", true), ("10:20:11,12,15", false), ("10:19:12,15", false)]
+        {
+            assert_eq!(one.parse::<Snapshot>().unwrap().covers(&snapshot), covers, "{one}");
+        }
+        assert!("10:20:20".parse::<Snapshot>().is_ok() && "x".parse::<Snapshot>().is_err());
     }
 }

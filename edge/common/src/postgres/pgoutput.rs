@@ -1,6 +1,6 @@
 //! The messages of PostgreSQL's plug-in `pgoutput`, version 1, as far as an edge needs them.
-use crate::lsn::{Lsn, Xid};
-use crate::snapshot::TableId;
+use super::lsn::{Lsn, Xid};
+use super::snapshot::TableId;
 use std::str;
 
 /// What is told of a row's column.

@@ -1,6 +1,6 @@
 //! The log: the transactions that were applied and that a snapshot may not see yet.
-use crate::lsn::{Lsn, Xid};
-use crate::{parts, snapshot::Snapshot};
+use super::lsn::{Lsn, Xid};
+use super::{parts, snapshot::Snapshot};
 use std::collections::{BTreeSet, VecDeque};
 
 /// A transaction, as the stream brings it.
@@ -37,7 +37,7 @@ impl<C> Log<C> {
         }
     }
 
-    pub fn len(&self) -> usize {
+    pub fn count(&self) -> usize {
         self.transactions.len()
     }
 

@@ -1,6 +1,6 @@
 //! What the statement that filled a key saw, until the stream has passed it.
-use crate::lsn::{Lsn, Xid};
-use crate::{parts, snapshot::Seen};
+use super::lsn::{Lsn, Xid};
+use super::{parts, snapshot::Seen};
 use std::collections::{BTreeSet, HashMap};
 use std::{hash::Hash, sync::Arc};
 

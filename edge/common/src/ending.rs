@@ -1,7 +1,7 @@
-//! How an edge is told to end, and what systemd is told of it.
+//! How a process is told to end, and what systemd is told of it.
 use std::ffi::c_int;
 use std::io::{self, Read};
-use std::os::fd::AsRawFd;
+use std::os::fd::{AsRawFd, RawFd};
 use std::os::linux::net::SocketAddrExt;
 use std::os::unix::net::{SocketAddr, UnixDatagram, UnixStream};
 use std::sync::atomic::{AtomicI32, Ordering::SeqCst};
@@ -28,6 +28,13 @@ pub struct Ending {
     _told: UnixStream,
 }
 
+/// Can be read from where the process is told to end.
+impl AsRawFd for Ending {
+    fn as_raw_fd(&self) -> RawFd {
+        self.heard.as_raw_fd()
+    }
+}
+
 impl Ending {
     pub fn new() -> io::Result<Ending> {
         let (heard, told) = UnixStream::pair()?;
@@ -43,13 +50,12 @@ impl Ending {
     }
 }
 
-/// Tells systemd, where it has started the edge and wants to know.
-pub fn notify(state: &str) {
-    let Ok(place) = env::var("NOTIFY_SOCKET") else { return };
+/// Tells systemd, where it has started the process and wants to know.
+pub fn notify(state: &str) -> io::Result<()> {
+    let Ok(place) = env::var("NOTIFY_SOCKET") else { return Ok(()) };
     let address = match place.strip_prefix('@') {
         Some(name) => SocketAddr::from_abstract_name(name),
         None => SocketAddr::from_pathname(place),
     };
-    let told = address.and_then(|address| UnixDatagram::unbound()?.send_to_addr(state.as_bytes(), &address));
-    _ = told.inspect_err(|fault| eprintln!("edge: systemd isn't told: {fault}"));
+    UnixDatagram::unbound()?.send_to_addr(state.as_bytes(), &address?).map(drop)
 }

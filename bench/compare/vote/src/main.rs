@@ -5,10 +5,7 @@
 //! MODE is counts, where a vote is an UPDATE of a number, or rows, where it is an INSERT. They begin for a fourth of the
 //! time before what is counted. Prints operations a second, the microseconds within which 50, 99 and 99.9 of 100 reads were
 //! done, of the articles that were voted for those that are stale a second later, and those that are cached.
-#[allow(dead_code)]
-#[path = "../../edge/src/pq.rs"]
-mod pq;
-use pq::Connection;
+use edge_common::postgres::pq::Connection;
 use std::collections::{HashMap, HashSet};
 use std::io::{BufRead, BufReader, Read, Write};
 use std::net::TcpStream;

@@ -1,0 +1,8 @@
+//! PostgreSQL's connections, its stream of changes, and the order of changes and answers.
+pub mod fresh;
+pub mod log;
+pub mod lsn;
+pub mod parts;
+pub mod pgoutput;
+pub mod pq;
+pub mod snapshot;
