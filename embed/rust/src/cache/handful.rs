@@ -16,6 +16,14 @@ impl<T> Handful<T> {
         }
     }
 
+    /// What is made of each of them.
+    pub fn map<U>(self, mut make: impl FnMut(T) -> U) -> Handful<U> {
+        let first = self.first.map(&mut make);
+        // Most often there is nothing to go through.
+        let others = if self.others.is_empty() { Vec::new() } else { self.others.into_iter().map(make).collect() };
+        Handful { first, others }
+    }
+
     pub fn is_empty(&self) -> bool {
         self.first.is_none()
     }

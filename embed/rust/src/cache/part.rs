@@ -14,10 +14,10 @@ use super::stats::CacheStats;
 use super::store::{Beside, Place, Store};
 use super::threads::own_id;
 use super::under_way::Over;
-use crate::drops::{both, with_each};
+use crate::drops::{with_each, FirstPanic};
 use crate::ids::{IdReader, Miss};
 use std::borrow::Borrow;
-use std::panic::{catch_unwind, resume_unwind, AssertUnwindSafe};
+use std::panic::{catch_unwind, AssertUnwindSafe};
 use std::sync::atomic::{AtomicBool, AtomicU64, Ordering::Relaxed};
 use std::sync::Arc;
 use std::thread::ThreadId;
@@ -360,13 +360,15 @@ impl<K, V> Part<K, V> {
             let changed = catch_unwind(AssertUnwindSafe(|| change(&mut store)));
             (changed, store.under_way.take_over(), store.reap(), store.turns_before())
         };
-        let result = || changed.unwrap_or_else(|why| resume_unwind(why));
         let mut causes = self.causes_of(&doomed, turns_before).into_iter();
         let leave = |entry: Box<Entry<K, V>>| match (&self.listener, causes.next()) {
             (Some(listener), Some(cause)) => listener(entry.key, entry.value, cause),
             _ => drop(entry),
         };
-        both(|| with_each(over, Over::tell), || both(|| with_each(doomed, leave), result))
+        let mut panic = FirstPanic::default();
+        panic.of_each(over, Over::tell);
+        panic.of_each(doomed, leave);
+        panic.then(changed)
     }
 
     /// Why each entry left that came out, where somebody listens or entries expire; those that had expired are counted.

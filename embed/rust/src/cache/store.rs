@@ -313,7 +313,7 @@ impl<K, V> Store<K, V> {
             self.comes_out(out);
         }
         // SAFETY: nobody can see them any more, and each came out once.
-        take(&mut self.came_out).into_iter().map(|place| unsafe { Box::from_raw(place.as_ptr()) }).collect()
+        take(&mut self.came_out).map(|place| unsafe { Box::from_raw(place.as_ptr()) })
     }
 
     fn comes_out(&mut self, out: CameOut) {

@@ -2,6 +2,7 @@
 use super::flights::{End, Flight};
 use super::handful::Handful;
 use std::borrow::Borrow;
+use std::mem::needs_drop;
 use std::sync::Arc;
 
 /// A load of a key, and the number by which the store knows it.
@@ -82,7 +83,10 @@ impl<K> UnderWay<K> {
     fn end_at(&mut self, place: usize, how: End) -> u64 {
         let load = self.loads.swap_remove(place);
         let number = load.number;
-        self.over.push(Over { load, how });
+        // Else there is nobody to tell, and nothing of the user's to drop.
+        if load.flight.is_some() || needs_drop::<K>() {
+            self.over.push(Over { load, how });
+        }
         number
     }
 
