@@ -132,16 +132,19 @@ impl Client<'_> {
     fn write(&mut self, key: u32) {
         let _alone = self.writes[key as usize].lock().expect("nobody panics with it");
         let version = model_writes(key);
-        let how = self.dice.roll(3);
-        let is_put = how == 0
-            && self.reader.update(&key, |old| {
-                old.look(key, 0);
-                Value::new(key, version)
-            });
-        match how {
-            1 => _ = self.cache.insert(key, Value::new(key, version)),
-            _ if !is_put => _ = self.cache.invalidate(&key),
-            _ => {}
+        let changed = |old: &Value| {
+            old.look(key, 0);
+            Value::new(key, version)
+        };
+        let is_put = match self.dice.roll(5) {
+            0 => self.reader.update(&key, changed),
+            1 => self.cache.upsert_with(&key, |old| old.map_or_else(|| Value::new(key, version), changed)),
+            2 => self.cache.change(&key).commit_with(changed),
+            3 => self.cache.insert(key, Value::new(key, version)),
+            _ => false,
+        };
+        if !is_put {
+            self.cache.invalidate(&key);
         }
         model_has_written(key, version);
     }
@@ -304,6 +307,8 @@ fn open(dice: &mut Dice) -> Values {
         if dice.roll(2) == 0 { builder.time_to_idle(Duration::from_millis(1 + dice.roll(50))) } else { builder };
     let builder =
         if dice.roll(2) == 0 { builder.refresh_after(Duration::from_millis(1 + dice.roll(20))) } else { builder };
+    let builder =
+        if dice.roll(2) == 0 { builder.stale_if_error(Duration::from_millis(1 + dice.roll(100))) } else { builder };
     builder.open().expect("there is memory")
 }
 
