@@ -1,7 +1,7 @@
 //! A value is put where its key has none, or in place of just the one that it was made of.
-use super::cache::{caught, panicking};
+use super::cache::{caught, panicking, Same};
 use crate::*;
-use std::hash::{BuildHasherDefault, Hasher};
+use std::hash::BuildHasherDefault;
 use std::sync::atomic::{AtomicUsize, Ordering::SeqCst};
 use std::sync::{mpsc, Arc, Barrier};
 use std::thread;
@@ -9,18 +9,6 @@ use std::time::Duration;
 
 fn cache() -> Cache<u64, u64> {
     Cache::builder().capacity(1000).threads(4).open().unwrap()
-}
-
-/// Hashes each key to the same number.
-#[derive(Default)]
-struct Same;
-
-impl Hasher for Same {
-    fn write(&mut self, _: &[u8]) {}
-
-    fn finish(&self) -> u64 {
-        7
-    }
 }
 
 /// In which all keys have one hash.

@@ -12,7 +12,7 @@ const LONG: Duration = Duration::from_secs(3600);
 
 /// Hashes each key to the same number.
 #[derive(Default)]
-struct Same;
+pub(super) struct Same;
 
 impl Hasher for Same {
     fn write(&mut self, _: &[u8]) {}

@@ -1,6 +1,7 @@
 //! A key's value changes with the base, in whatever order changes and loads come.
-use super::cache::{caught, panicking};
+use super::cache::{caught, panicking, Same};
 use crate::*;
+use std::hash::BuildHasherDefault;
 use std::sync::{mpsc, Arc};
 use std::thread;
 use std::time::Duration;
@@ -95,6 +96,16 @@ fn one_that_the_store_has_no_room_to_know_of_leaves_no_value() {
     assert_eq!(cache.get(&1), None);
     drop(others);
     assert!(cache.insert(1, 12) && cache.insert(2, 20));
+}
+
+#[test]
+fn a_commit_leaves_another_key_of_the_hash_and_a_drop_takes_it() {
+    let cache = Cache::<u64, u64>::builder().hasher(BuildHasherDefault::<Same>::default()).open().unwrap();
+    assert!(cache.insert(1, 10));
+    assert!(!cache.change(&2).commit_with(|_| unreachable!("the key has no value")));
+    assert_eq!(cache.get(&1), Some(10));
+    drop(cache.change(&2));
+    assert_eq!(cache.get(&1), None);
 }
 
 #[test]

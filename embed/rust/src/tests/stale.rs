@@ -1,8 +1,8 @@
 //! A value that has expired answers where its load fails, and no other get, until it is invalidated or its time is over.
-use super::cache::{caught, panicking};
+use super::cache::{caught, panicking, Same};
 use crate::*;
 use std::future::{pending, poll_fn, ready, Future};
-use std::hash::{BuildHasherDefault, Hasher};
+use std::hash::BuildHasherDefault;
 use std::mem::replace;
 use std::pin::pin;
 use std::sync::mpsc;
@@ -280,18 +280,6 @@ fn so_is_what_was_idle() {
     assert_eq!((cache.get(&1), cache.try_get_with(&1, || AWAY)), (None, Ok(10)));
     cache.run_pending_tasks();
     assert_eq!(cache.len(), 1);
-}
-
-/// Hashes each key to the same number.
-#[derive(Default)]
-struct Same;
-
-impl Hasher for Same {
-    fn write(&mut self, _: &[u8]) {}
-
-    fn finish(&self) -> u64 {
-        7
-    }
 }
 
 #[test]
