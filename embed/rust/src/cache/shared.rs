@@ -3,9 +3,10 @@ use super::desk::{At, Desk};
 use super::flights::spread;
 use super::part::Part;
 use super::stats::CacheStats;
+use super::sync::{Mutex, MutexGuard};
 use crate::drops::drop_each;
 use std::hash::{BuildHasher, Hash};
-use std::sync::{Mutex, MutexGuard, PoisonError};
+use std::sync::PoisonError;
 
 /// The id of the keys whose hash is 0, which is none: any other number, since a hasher of small numbers gives 1 to another key.
 const ID_OF_ZERO: u64 = 0x9e37_79b9_7f4a_7c15;

@@ -7,7 +7,7 @@ use std::time::Duration;
 
 const KEYS: u64 = 6;
 const THREADS: u64 = 4;
-const TURNS: u64 = 400;
+const TURNS: u64 = 1000;
 
 type Values = Cache<u64, Box<[u64]>>;
 type Reader = CacheReader<u64, Box<[u64]>>;

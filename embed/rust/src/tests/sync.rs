@@ -3,7 +3,7 @@ use super::schedule::Thing;
 use super::steps::{self, Op};
 use super::tsan;
 use std::ops::{Deref, DerefMut};
-use std::sync::{self, LockResult, PoisonError};
+use std::sync::{self, LockResult, PoisonError, TryLockError, TryLockResult};
 use std::time::{Duration, Instant};
 
 #[derive(Debug)]
@@ -20,6 +20,15 @@ impl<T> Mutex<T> {
     pub fn lock(&self) -> LockResult<MutexGuard<'_, T>> {
         steps::make(Op::Lock(self.thing));
         self.locked(self.inner.lock())
+    }
+
+    /// No step: what is locked so is locked by no other way but between steps.
+    pub fn try_lock(&self) -> TryLockResult<MutexGuard<'_, T>> {
+        match self.inner.try_lock() {
+            Ok(inner) => Ok(self.locked(Ok(inner))?),
+            Err(TryLockError::Poisoned(why)) => Ok(self.locked(Err(why))?),
+            Err(TryLockError::WouldBlock) => Err(TryLockError::WouldBlock),
+        }
     }
 
     pub fn get_mut(&mut self) -> LockResult<&mut T> {
