@@ -1,9 +1,12 @@
-//! How many gets of a trace hit, by the cache, by one that evicts what was used longest ago, and by a perfect one, which
-//! evicts what is used latest from now on.
+//! How many gets of a trace hit, by the cache and by others.
+mod peers;
 #[path = "../../../../tests/soak.d/cache/src/zipf.rs"]
 mod zipf;
 use nr::Cache;
-use std::collections::{BTreeSet, HashMap};
+use peers::{by_last_use, by_next_use, by_s3_fifo, by_sieve};
+use std::env;
+use std::io::Write;
+use std::process::{Command, Stdio};
 use zipf::{Dice, Zipf};
 
 const CAPACITY: usize = 10_000;
@@ -37,40 +40,22 @@ fn by_cache(trace: &[u64]) -> u64 {
     cache.stats().hits
 }
 
-/// The hits of a cache that evicts the entry of the least rank, which each get sets anew.
-fn by_rank(trace: &[u64], rank: impl Fn(usize) -> u64) -> u64 {
-    let mut ranks: HashMap<u64, u64> = HashMap::new();
-    let mut held: BTreeSet<(u64, u64)> = BTreeSet::new();
-    let mut hits = 0;
-    for (at, &key) in trace.iter().enumerate() {
-        match ranks.get(&key) {
-            Some(&had) => {
-                hits += 1;
-                held.remove(&(had, key));
-            }
-            None if held.len() == CAPACITY => {
-                let (_, victim) = held.pop_first().expect("it holds some");
-                ranks.remove(&victim);
-            }
-            None => {}
-        }
-        ranks.insert(key, rank(at));
-        held.insert((rank(at), key));
-    }
-    hits
-}
-
-fn by_last_use(trace: &[u64]) -> u64 {
-    by_rank(trace, |at| at as u64)
-}
-
-fn by_next_use(trace: &[u64]) -> u64 {
-    let mut next_of = HashMap::new();
-    let mut nexts = vec![u64::MAX; trace.len()];
-    for (at, key) in trace.iter().enumerate().rev() {
-        nexts[at] = next_of.insert(key, at as u64).unwrap_or(u64::MAX);
-    }
-    by_rank(trace, |at| u64::MAX - nexts[at])
+/// By Caffeine, where the environment's CAFFEINE names its archive.
+fn by_caffeine(trace: &[u64]) -> Option<u64> {
+    let archive = env::var_os("CAFFEINE")?;
+    let program = concat!(env!("CARGO_MANIFEST_DIR"), "/Caffeine.java");
+    let mut java = Command::new("java")
+        .arg("-cp")
+        .args([archive, program.into(), CAPACITY.to_string().into()])
+        .stdin(Stdio::piped())
+        .stdout(Stdio::piped())
+        .spawn()
+        .expect("java runs");
+    let numbers = [trace.len() as u64].into_iter().chain(trace.iter().copied());
+    let bytes: Vec<u8> = numbers.flat_map(u64::to_be_bytes).collect();
+    java.stdin.take().expect("it is piped").write_all(&bytes).expect("java reads it all");
+    let told = java.wait_with_output().expect("java ends").stdout;
+    Some(String::from_utf8_lossy(&told).trim().parse().expect("it tells its hits"))
 }
 
 fn main() {
@@ -81,10 +66,12 @@ fn main() {
         ("Zipf 0.99 and a scan", scanned(zipf(0.99))),
         ("a loop of 11,000", looping()),
     ];
-    println!("trace\tcache\tleast recently used\tperfect");
+    println!("trace\tcache\tCaffeine\tleast recently used\tS3-FIFO\tSIEVE\tperfect");
     for (name, trace) in traces {
-        let share = |hits: u64| 100.0 * hits as f64 / trace.len() as f64;
-        let (cache, last, next) = (by_cache(&trace), by_last_use(&trace), by_next_use(&trace));
-        println!("{name}\t{:.1}\t{:.1}\t{:.1}", share(cache), share(last), share(next));
+        let share = |hits: u64| format!("\t{:.1}", 100.0 * hits as f64 / trace.len() as f64);
+        let caffeine = by_caffeine(&trace).map_or("\t-".to_string(), share);
+        let peers = [by_last_use, by_s3_fifo, by_sieve, by_next_use];
+        let shares: String = peers.iter().map(|peer| share(peer(&trace, CAPACITY))).collect();
+        println!("{name}{}{caffeine}{shares}", share(by_cache(&trace)));
     }
 }
