@@ -108,6 +108,7 @@ extern "C" {
     pub fn nr_cache_invalidate(ids: *mut Handle, id: u64) -> u32;
     pub fn nr_cache_invalidate_all(ids: *mut Handle) -> u32;
     pub fn nr_cache_evict(ids: *mut Handle, id: u64) -> u32;
+    pub fn nr_cache_evict_one(ids: *mut Handle, bound: u64, taken: *mut Given) -> u32;
     pub fn nr_cache_begin_change(ids: *mut Handle, id: u64) -> u32;
     pub fn nr_cache_end_change(ids: *mut Handle, id: u64) -> u32;
     pub fn nr_cache_reap(ids: *mut Handle, given: *mut Given) -> u32;

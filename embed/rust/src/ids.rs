@@ -87,6 +87,13 @@ pub struct CameOut {
     pub stamp: u64,
 }
 
+/// Whose number was taken to make room, and the stamp that it was put with.
+#[derive(Clone, Copy, Debug, PartialEq, Eq)]
+pub struct Taken {
+    pub id: u64,
+    pub stamp: u64,
+}
+
 impl Given {
     fn came_out(&self) -> CameOut {
         CameOut { number: sees(self.number), stamp: self.stamp }
@@ -232,6 +239,15 @@ impl Ids {
         changes_store(None);
         // SAFETY: the handle is live.
         unsafe { ffi::nr_cache_evict(&mut self.handle, id) == ffi::NR_EVICTED }
+    }
+
+    /// Takes the number of the id that goes next, as for one that lands where there is no room: none where no id has one.
+    /// It comes out by a later call.
+    pub fn evict_one(&mut self, bound: u64) -> Option<Taken> {
+        let mut taken = Given::default();
+        // SAFETY: the handle is live, and what is taken is laid out as the header's.
+        let code = unsafe { ffi::nr_cache_evict_one(&mut self.handle, bound, &mut taken) };
+        (code == ffi::NR_EVICTED).then_some(Taken { id: taken.id, stamp: taken.stamp })
     }
 
     /// Begins a change of an id, until whose end nothing that is loaded for it will be held: whether there was room.

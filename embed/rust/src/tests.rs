@@ -37,6 +37,7 @@ mod threads;
 mod tsan;
 mod values;
 mod view;
+mod weights;
 mod world;
 
 const ONE: Row = Row { a: 1, b: 1 };

@@ -15,13 +15,16 @@ pub enum NotInserted<V> {
     Present(V),
     /// The key has none, and none is held until its [`Change`](crate::Change) is over.
     Changing(V),
+    /// It weighs more than its part of the cache may ([`CacheBuilder::max_weight`](crate::CacheBuilder::max_weight)), and
+    /// the key has none.
+    TooHeavy(V),
 }
 
 impl<V> NotInserted<V> {
     /// The value.
     pub fn into_value(self) -> V {
         match self {
-            NotInserted::Present(value) | NotInserted::Changing(value) => value,
+            NotInserted::Present(value) | NotInserted::Changing(value) | NotInserted::TooHeavy(value) => value,
         }
     }
 
@@ -29,6 +32,7 @@ impl<V> NotInserted<V> {
         match self {
             NotInserted::Present(value) => NotInserted::Present(map(value)),
             NotInserted::Changing(value) => NotInserted::Changing(map(value)),
+            NotInserted::TooHeavy(value) => NotInserted::TooHeavy(map(value)),
         }
     }
 }
@@ -38,6 +42,7 @@ impl<V> fmt::Display for NotInserted<V> {
         f.write_str(match self {
             NotInserted::Present(_) => "the key has a value",
             NotInserted::Changing(_) => "the key is being changed",
+            NotInserted::TooHeavy(_) => "it weighs more than may be held",
         })
     }
 }
@@ -47,7 +52,7 @@ impl<V: fmt::Debug> Error for NotInserted<V> {}
 impl<K: Hash + Eq, V, S: BuildHasher> Cache<K, V, S> {
     /// Puts a value where its key has none, or one that has expired. A load that is under way for the key will not be
     /// held then, and nobody waits for it any more. Of several threads that do so at a time one puts its value. Refused
-    /// with [`NotInserted::Present`] or [`NotInserted::Changing`], which give the value back.
+    /// with [`NotInserted::Present`], [`NotInserted::Changing`] or [`NotInserted::TooHeavy`], which give the value back.
     ///
     /// ```
     /// use nr::{Cache, NotInserted};
@@ -69,7 +74,7 @@ impl<K: Hash + Eq, V, S: BuildHasher> Cache<K, V, S> {
     /// again where it was replaced or has gone meanwhile, or where another has come. So of several threads that do so at
     /// a time none overwrites what another has put. `make` runs without a lock, and may call the cache. A load of the key
     /// that is under way will not be held. Whether the cache holds the value: it doesn't during a
-    /// [`Change`](crate::Change). Since any entry may go, `make` is told of none also where the key had one once.
+    /// [`Change`](crate::Change), nor where it is too heavy. Since any entry may go, `make` is told of none also where the key had one once.
     ///
     /// ```
     /// let visits: nr::Cache<String, u64> = nr::Cache::builder().open()?;
@@ -99,7 +104,7 @@ impl<K: Hash + Eq, V, S: BuildHasher> Cache<K, V, S> {
                 }
                 None => match part.put_if_absent(part.own_entry(id, key.to_owned(), value)) {
                     Ok(()) => return true,
-                    Err(NotInserted::Changing(_)) => return false,
+                    Err(NotInserted::Changing(_) | NotInserted::TooHeavy(_)) => return false,
                     Err(NotInserted::Present(_)) => {}
                 },
             }
@@ -117,7 +122,10 @@ impl<K: Eq, V> Part<K, V> {
             let is_present = entry.iter().any(|entry| store.of_key(id, &entry.key, now).is_some());
             match entry.take()? {
                 entry if is_present => Some(NotInserted::Present(entry)),
-                entry => store.put(entry).err().map(NotInserted::Changing),
+                entry => store.put(entry).err().map(|entry| match store.is_too_heavy(&entry) {
+                    true => NotInserted::TooHeavy(entry),
+                    false => NotInserted::Changing(entry),
+                }),
             }
         });
         refused.map_or(Ok(()), Err)

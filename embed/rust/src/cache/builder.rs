@@ -5,6 +5,7 @@ use super::leaving::{Listener, RemovalCause};
 use super::part::{Part, Told};
 use super::shared::Shared;
 use super::store::Store;
+use super::weights::{share, Weigher, Weights};
 use super::Cache;
 use crate::ids::{self, IdReader, IdShape};
 use crate::Fault;
@@ -34,6 +35,8 @@ pub struct CacheBuilder<K, V, S = RandomState> {
     spans: Spans,
     hasher: S,
     lifetime: Option<Lifetime<K, V>>,
+    pub(super) weigher: Option<Weigher<K, V>>,
+    pub(super) max_weight: Option<u64>,
     listener: Option<Listener<K, V>>,
 }
 
@@ -41,7 +44,8 @@ impl<K, V> CacheBuilder<K, V> {
     pub(super) fn new() -> CacheBuilder<K, V> {
         let hasher = RandomState::new();
         let spans = Spans::default();
-        CacheBuilder { capacity: 1000, threads: 16, spans, hasher, lifetime: None, listener: None }
+        let (lifetime, weigher, max_weight, listener) = (None, None, None, None);
+        CacheBuilder { capacity: 1000, threads: 16, spans, hasher, lifetime, weigher, max_weight, listener }
     }
 }
 
@@ -109,8 +113,8 @@ impl<K, V, S> CacheBuilder<K, V, S> {
     /// By what keys are hashed, in place of a hasher with keys drawn at random. Where strangers choose keys, theirs must
     /// be secret too. Keys of one hash are told apart, and one of them at a time is held.
     pub fn hasher<T: BuildHasher>(self, hasher: T) -> CacheBuilder<K, V, T> {
-        let CacheBuilder { capacity, threads, spans, lifetime, listener, hasher: _ } = self;
-        CacheBuilder { capacity, threads, spans, hasher, lifetime, listener }
+        let CacheBuilder { capacity, threads, spans, lifetime, weigher, max_weight, listener, hasher: _ } = self;
+        CacheBuilder { capacity, threads, spans, hasher, lifetime, weigher, max_weight, listener }
     }
 }
 
@@ -123,14 +127,16 @@ impl<K: Hash + Eq, V, S: BuildHasher> CacheBuilder<K, V, S> {
         }
         let count = parts(self.capacity, self.threads);
         let expiry = Expiry::new(self.spans, self.lifetime.is_some());
-        let told = Told { lifetime: self.lifetime, listener: self.listener };
+        let bound = self.bound();
+        let told = Told { lifetime: self.lifetime, weigher: self.weigher, listener: self.listener };
         let mut spare: Vec<Vec<IdReader>> = (0..self.threads).map(|_| Vec::with_capacity(count)).collect();
         let mut parts = Vec::with_capacity(count);
         for number in 0..count {
             let capacity = (self.capacity + number) / count;
             let (ids, readers) = ids::open(&shape(capacity, self.threads))?;
             spare.iter_mut().zip(readers).for_each(|(desk, reader)| desk.push(reader));
-            parts.push(Part::new(expiry, spare.len(), told.clone(), Store::new(ids, capacity, expiry)));
+            let weights = bound.map(|most| Weights::new(share(most, number, count), capacity));
+            parts.push(Part::new(expiry, spare.len(), told.clone(), Store::new(ids, capacity, expiry, weights)));
         }
         let spare = spare.into_iter().zip(0..).map(|(ids, number)| Desk::new(ids, number)).collect();
         Ok(Cache { shared: Arc::new(Shared::new(self.hasher, self.capacity, parts, spare)) })

@@ -11,6 +11,8 @@ pub(super) struct Entry<K, V> {
     pub key: K,
     pub value: V,
     pub life: Life,
+    /// How much it weighs, in a cache where that counts.
+    pub weight: u32,
     /// The thread by whose load or call the value came: none where it came by a request, whose load may have run anywhere.
     pub maker: Option<ThreadId>,
     /// When it was last found, as far as the time to idle asks.
@@ -31,6 +33,7 @@ impl<K, V> Entry<K, V> {
             key,
             value,
             life,
+            weight: 1,
             maker,
             touched: AtomicU64::new(life.born),
             turn: AtomicU64::new(0),

@@ -66,7 +66,7 @@ impl<K, V> Kept<'_, K, V> {
 
     /// Puts an entry in place of it, where that is what its key has still: whether it was.
     pub fn swap(self, entry: Box<Entry<K, V>>) -> bool {
-        let refused = self.end_by(|store, place| store.swap(place, entry).err());
+        let refused = self.end_by(|store, place| store.replace(place, entry).err());
         refused.is_none()
     }
 }

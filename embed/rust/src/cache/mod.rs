@@ -31,6 +31,7 @@ mod threads;
 mod under_way;
 mod view;
 mod wait;
+mod weights;
 
 pub use absent::NotInserted;
 pub use builder::CacheBuilder;
@@ -98,7 +99,7 @@ impl<K: Hash + Eq, V, S: BuildHasher> Cache<K, V, S> {
 
     /// Puts a value in place of what its key has, or another key of its hash. A load that is under way for the key will
     /// not be held, and nobody waits for it any more. Whether the cache holds the value: it doesn't during a
-    /// [`Change`].
+    /// [`Change`], nor where it is too heavy ([`CacheBuilder::max_weight`]).
     pub fn insert(&self, key: K, value: V) -> bool {
         let id = self.shared.id_of(&key);
         let part = self.shared.part_of(id);
@@ -151,7 +152,8 @@ impl<K: Hash + Eq, V, S: BuildHasher> Cache<K, V, S> {
     /// Names and numbers of what it has counted and of what it holds, for an exporter.
     pub fn metrics(&self) -> impl Iterator<Item = (&'static str, u64)> {
         let held = [("entries", self.len() as u64), ("capacity", self.capacity() as u64)];
-        self.stats().named().into_iter().chain(held)
+        let weighed = self.shared.weight().map(|it| [("weight", it.sum), ("max_weight", it.most)]);
+        self.stats().named().into_iter().chain(held).chain(weighed.into_iter().flatten())
     }
 }
 

@@ -14,6 +14,7 @@ use super::stats::CacheStats;
 use super::store::{Beside, Place, Store};
 use super::threads::own_id;
 use super::under_way::Over;
+use super::weights::{Weighed, Weigher};
 use crate::drops::{with_each, FirstPanic};
 use crate::ids::{IdReader, Miss};
 use std::borrow::Borrow;
@@ -32,6 +33,7 @@ pub(super) struct Part<K, V> {
     /// How many entries came out that had expired.
     expired: AtomicU64,
     lifetime: Option<Lifetime<K, V>>,
+    weigher: Option<Weigher<K, V>>,
     listener: Option<Listener<K, V>>,
     store: Lock<Store<K, V>>,
 }
@@ -44,12 +46,14 @@ unsafe impl<K: Send + Sync, V: Send + Sync> Sync for Part<K, V> {}
 /// What a cache's user has it call.
 pub(super) struct Told<K, V> {
     pub lifetime: Option<Lifetime<K, V>>,
+    pub weigher: Option<Weigher<K, V>>,
     pub listener: Option<Listener<K, V>>,
 }
 
 impl<K, V> Clone for Told<K, V> {
     fn clone(&self) -> Self {
-        Told { lifetime: self.lifetime.clone(), listener: self.listener.clone() }
+        let (lifetime, weigher, listener) = (self.lifetime.clone(), self.weigher.clone(), self.listener.clone());
+        Told { lifetime, weigher, listener }
     }
 }
 
@@ -118,8 +122,9 @@ impl<K, V> Drop for Failing<'_, K, V> {
 impl<K, V> Part<K, V> {
     pub fn new(expiry: Expiry, readers: usize, told: Told<K, V>, store: Store<K, V>) -> Self {
         let counts = (0..readers).map(|_| Counts::default()).collect();
-        let Told { lifetime, listener } = told;
-        Part { expiry, counts, expired: AtomicU64::new(0), lifetime, listener, store: Lock::new(store) }
+        let (expired, store) = (AtomicU64::new(0), Lock::new(store));
+        let Told { lifetime, weigher, listener } = told;
+        Part { expiry, counts, expired, lifetime, weigher, listener, store }
     }
 
     /// An entry whose value comes now, by the thread that calls.
@@ -127,10 +132,17 @@ impl<K, V> Part<K, V> {
         self.entry(Some(own_id()), id, key, value)
     }
 
-    /// An entry whose value comes now, by that thread. It is told here how long it lives, so without a lock.
+    /// An entry whose value comes now, by that thread. It is told here how long it lives and how much it weighs, so without a
+    /// lock.
     pub fn entry(&self, maker: Option<ThreadId>, id: u64, key: K, value: V) -> Box<Entry<K, V>> {
         let own = self.lifetime.as_ref().and_then(|lifetime| lifetime(&key, &value));
-        Box::new(Entry::of(maker, id, key, value, self.expiry.life(own)))
+        self.weighed(Entry::of(maker, id, key, value, self.expiry.life(own)))
+    }
+
+    /// An entry with what it weighs.
+    pub fn weighed(&self, entry: Entry<K, V>) -> Box<Entry<K, V>> {
+        let weight = self.weigher.as_ref().map_or(1, |weigher| weigher(&entry.key, &entry.value));
+        Box::new(Entry { weight, ..entry })
     }
 
     /// Whether an entry is a key's, and hasn't expired: then it was found.
@@ -257,7 +269,7 @@ impl<K, V> Part<K, V> {
                     Landed::Held(place)
                 }
                 Err(entry) => {
-                    store.counted.outdated += 1;
+                    store.count_own(&entry);
                     Landed::Own(entry)
                 }
             }
@@ -301,7 +313,7 @@ impl<K, V> Part<K, V> {
 
     /// Puts an entry in place of one that its key has still.
     pub fn swap(&self, old: Place<K, V>, entry: Box<Entry<K, V>>) -> bool {
-        let refused = self.change(|store| store.swap(old, entry).err());
+        let refused = self.change(|store| store.replace(old, entry).err());
         refused.is_none()
     }
 
@@ -338,6 +350,11 @@ impl<K, V> Part<K, V> {
 
     pub fn held(&self) -> usize {
         self.store().held()
+    }
+
+    /// How much its entries weigh, where weights count.
+    pub fn weight(&self) -> Option<Weighed> {
+        self.store().weight()
     }
 
     pub fn stats(&self) -> CacheStats {

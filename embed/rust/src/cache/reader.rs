@@ -343,7 +343,8 @@ impl<K, V> CacheRef<'_, K, V> {
     }
 
     /// Whether the cache held the value when it was borrowed. It doesn't hold what was loaded while its key was
-    /// invalidated, nor what was loaded while another key of its hash was there, or more than 1,024 others were.
+    /// invalidated, nor what was loaded while another key of its hash was there, or more than 1,024 others were, nor
+    /// what is too heavy.
     pub fn is_held(&self) -> bool {
         matches!(self.0, Borrowed::Held(..))
     }

@@ -50,8 +50,8 @@ impl<K: Hash + Eq, V, S: BuildHasher> Request<K, V, S> {
     }
 
     /// Ends it with the key's value, and wakes those who wait. Whether the cache holds the value: it doesn't where the
-    /// key was invalidated or put since, or was being changed, nor where it came beside too many others, nor, of a key
-    /// that was held, where the value went that is to be replaced.
+    /// key was invalidated or put since, or was being changed, nor where it came beside too many others or is too heavy,
+    /// nor, of a key that was held, where the value went that is to be replaced.
     pub fn fill(self, value: V) -> bool {
         let Request { pending, key } = self;
         let part = pending.part();

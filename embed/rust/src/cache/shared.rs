@@ -4,6 +4,7 @@ use super::flights::spread;
 use super::part::Part;
 use super::stats::CacheStats;
 use super::sync::{Mutex, MutexGuard};
+use super::weights::Weighed;
 use crate::drops::drop_each;
 use std::hash::{BuildHasher, Hash};
 use std::sync::PoisonError;
@@ -65,6 +66,11 @@ impl<K, V, S> Shared<K, V, S> {
 
     pub fn held(&self) -> usize {
         self.parts.iter().map(Part::held).sum()
+    }
+
+    /// How much the entries weigh, and how much at most, where weights count.
+    pub fn weight(&self) -> Option<Weighed> {
+        self.parts.iter().try_fold(Weighed::default(), |all, part| Some(all.plus(part.weight()?)))
     }
 
     pub fn stats(&self) -> CacheStats {

@@ -128,7 +128,7 @@ impl<K, V> Store<K, V> {
         let (id, expiry) = (entry.id, self.expiry);
         let Some(old) = self.place(id) else {
             // It has made room.
-            return self.put_with(entry, true, |ids, place, times| match ids.begin(id) {
+            return self.put_new(entry, |ids, place, times| match ids.begin(id) {
                 Miss::Load(number) => ids.land(number, place, times),
                 _ => Put::Own,
             });

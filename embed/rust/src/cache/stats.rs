@@ -22,7 +22,8 @@ pub struct CacheStats {
     pub evictions: u64,
     /// How many of these had expired: each is counted once no reader sees it.
     pub expired: u64,
-    /// Values that were not held since another key has their hash, or since more than 1,024 loads of a part were under way.
+    /// Values that were not held since another key has their hash, since more than 1,024 loads of a part were under way, or
+    /// since they were too heavy.
     pub refused: u64,
     /// How many of these had another key of their hash beside them.
     pub clashes: u64,

@@ -9,6 +9,7 @@ use super::leaving::RemovalCause;
 use super::seats::Seats;
 use super::stats::CacheStats;
 use super::under_way::UnderWay;
+use super::weights::Weights;
 use crate::ids::{CameOut, Ids, Miss, Put, Times};
 use std::borrow::Borrow;
 use std::mem::take;
@@ -27,9 +28,10 @@ pub(super) fn place_of<K, V>(number: u64) -> Place<K, V> {
 }
 
 pub(super) struct Store<K, V> {
-    ids: Ids,
+    pub ids: Ids,
     pub expiry: Expiry,
     pub seats: Seats,
+    pub weights: Option<Weights>,
     /// How many entries there are: those that are held, and those that left and haven't come out.
     lying: usize,
     /// What came out: no reader holds it, and none can find it.
@@ -53,11 +55,12 @@ pub(super) struct Beside {
 }
 
 impl<K, V> Store<K, V> {
-    pub fn new(ids: Ids, capacity: usize, expiry: Expiry) -> Store<K, V> {
+    pub fn new(ids: Ids, capacity: usize, expiry: Expiry, weights: Option<Weights>) -> Store<K, V> {
         Store {
             ids,
             expiry,
             seats: Seats::new(capacity),
+            weights,
             lying: 0,
             came_out: Handful::default(),
             kept: KeptEntries::new(),
@@ -120,9 +123,13 @@ impl<K, V> Store<K, V> {
     /// Ends a flight by an entry, or gives it back where it isn't held: as where the flight has ended since it was
     /// outdated.
     pub fn land(&mut self, number: u64, entry: Box<Entry<K, V>>) -> PutEntry<K, V> {
-        self.under_way.end(number, &End::Loaded);
+        let is_known = self.under_way.end(number, &End::Loaded);
+        if !is_known || self.is_too_heavy(&entry) {
+            self.ids.fail(number);
+            return Err(entry);
+        }
         // While an id is loaded it has no entry.
-        self.put_with(entry, true, |ids, place, times| ids.land(number, place, times))
+        self.put_new(entry, |ids, place, times| ids.land(number, place, times))
     }
 
     /// Ends it without one, in that way.
@@ -181,31 +188,70 @@ impl<K, V> Store<K, V> {
         }
     }
 
-    /// Puts an entry in place of what its id has, or gives it back where the id is being changed.
+    /// Puts an entry in place of what its id has, or gives it back where the id is being changed, or where it is too heavy. Then
+    /// the id has none.
     pub fn put(&mut self, entry: Box<Entry<K, V>>) -> PutEntry<K, V> {
         let id = entry.id;
         self.outdate(id);
         let old = self.place(id);
-        let put = self.put_with(entry, old.is_none(), |ids, place, times| ids.put(id, place, times));
-        note(old, if put.is_ok() { RemovalCause::Replaced } else { RemovalCause::Explicit });
-        self.counted.outdated += u64::from(put.is_err());
+        let put = self.put_in_place(old, entry, |ids, place, times| ids.put(id, place, times));
+        put.as_ref().err().into_iter().for_each(|entry| self.count_own(entry));
         put
     }
 
-    /// The same in place of an entry that the id has still, or gives it back.
+    /// The same in place of an entry that the id has still, or gives it back where that has gone.
     pub fn swap(&mut self, old: Place<K, V>, entry: Box<Entry<K, V>>) -> PutEntry<K, V> {
         let id = entry.id;
-        let leaves = self.place(id).filter(|place| *place == old);
-        if leaves.is_some() {
-            // A load that began once that had expired.
-            self.under_way.outdate(id);
+        if self.place(id) != Some(old) {
+            return Err(entry);
         }
-        let put = self.put_with(entry, false, |ids, place, times| ids.swap(id, old.as_ptr() as u64, place, times));
-        note(leaves, if put.is_ok() { RemovalCause::Replaced } else { RemovalCause::Explicit });
+        // A load that began once that had expired.
+        self.under_way.outdate(id);
+        self.put_in_place(Some(old), entry, |ids, place, times| ids.swap(id, old.as_ptr() as u64, place, times))
+    }
+
+    /// The same by who made the entry of that one: where it is too heavy that is counted.
+    pub fn replace(&mut self, old: Place<K, V>, entry: Box<Entry<K, V>>) -> PutEntry<K, V> {
+        let put = self.swap(old, entry);
+        let is_refused = put.as_ref().is_err_and(|entry| self.is_too_heavy(entry));
+        self.counted.refused += u64::from(is_refused);
         put
     }
 
-    pub fn put_with(
+    /// Puts an entry in place of the one that its id has, if any.
+    fn put_in_place(
+        &mut self,
+        old: Option<Place<K, V>>,
+        entry: Box<Entry<K, V>>,
+        put: impl FnOnce(&mut Ids, u64, Times) -> Put,
+    ) -> PutEntry<K, V> {
+        let id = entry.id;
+        if self.is_too_heavy(&entry) {
+            self.invalidate(id);
+            return Err(entry);
+        }
+        let put = match self.make_room(&entry) {
+            true => self.put_with(entry, true, |ids, place, times| ids.put(id, place, times)),
+            false => self.put_with(entry, old.is_none(), put),
+        };
+        self.leaves(old, if put.is_ok() { RemovalCause::Replaced } else { RemovalCause::Explicit });
+        put
+    }
+
+    /// Puts the entry of an id that has none.
+    pub fn put_new(
+        &mut self,
+        entry: Box<Entry<K, V>>,
+        put: impl FnOnce(&mut Ids, u64, Times) -> Put,
+    ) -> PutEntry<K, V> {
+        if self.is_too_heavy(&entry) {
+            return Err(entry);
+        }
+        self.make_room(&entry);
+        self.put_with(entry, true, put)
+    }
+
+    fn put_with(
         &mut self,
         mut entry: Box<Entry<K, V>>,
         is_new: bool,
@@ -215,10 +261,12 @@ impl<K, V> Store<K, V> {
         let times = self.expiry.times(entry.life, seat);
         self.turns += 1;
         (*entry.turn.get_mut(), entry.seat) = (self.turns, seat);
+        let weight = entry.weight;
         let place = NonNull::from(Box::leak(entry));
         match put(&mut self.ids, place.as_ptr() as u64, times) {
             Put::Held(old) => {
                 self.lying += 1;
+                self.weights.iter_mut().for_each(|weights| weights.come(seat, weight));
                 old.into_iter().for_each(|out| self.comes_out(out));
                 self.counted.evictions += (wanted - self.held()) as u64;
                 Ok(place)
@@ -235,7 +283,7 @@ impl<K, V> Store<K, V> {
     /// [`Store::reap`].
     pub fn invalidate(&mut self, id: u64) -> Option<&Entry<K, V>> {
         let place = self.place(id);
-        note(place, RemovalCause::Explicit);
+        self.leaves(place, RemovalCause::Explicit);
         self.ids.invalidate(id);
         self.outdate(id);
         // SAFETY: as of one that is found.
@@ -253,6 +301,7 @@ impl<K, V> Store<K, V> {
 
     pub fn invalidate_all(&mut self) {
         self.turns_before = self.turns;
+        self.weights.iter_mut().for_each(Weights::clear);
         self.ids.invalidate_all();
         self.outdate_all();
     }
@@ -296,7 +345,17 @@ impl<K, V> Store<K, V> {
 
     /// Notes why the entry of an id is about to leave.
     pub fn note(&mut self, id: u64, cause: RemovalCause) {
-        note(self.place(id), cause);
+        let place = self.place(id);
+        self.leaves(place, cause);
+    }
+
+    /// Notes why an entry leaves, which the store has still, or which has come out and isn't freed. Its weight counts no
+    /// longer.
+    fn leaves(&mut self, place: Option<Place<K, V>>, cause: RemovalCause) {
+        // SAFETY: an entry is freed once it came out, by a later call of `reap`.
+        let Some(entry) = place.map(|place| unsafe { &*place.as_ptr() }) else { return };
+        entry.cause.note(cause);
+        self.weights.iter_mut().for_each(|weights| weights.leave(entry.seat));
     }
 
     pub fn end_change(&mut self, id: u64) {
@@ -318,7 +377,9 @@ impl<K, V> Store<K, V> {
 
     fn comes_out(&mut self, out: CameOut) {
         self.lying -= 1;
-        self.seats.leave(seat_of(out.stamp));
+        let seat = seat_of(out.stamp);
+        self.seats.leave(seat);
+        self.weights.iter_mut().for_each(|weights| weights.leave(seat));
         let place = place_of(out.number);
         if !self.kept.comes_out(place) {
             self.came_out.push(place);
@@ -341,10 +402,4 @@ impl<K, V> Store<K, V> {
         self.ids.invalidate_all();
         self.reap()
     }
-}
-
-/// Notes why an entry leaves, which the store has still, or which has come out and isn't freed.
-fn note<K, V>(place: Option<Place<K, V>>, cause: RemovalCause) {
-    // SAFETY: an entry is freed once it came out, by a later call of `reap`.
-    place.into_iter().for_each(|place| unsafe { place.as_ref() }.cause.note(cause));
 }

@@ -406,14 +406,16 @@ struct Setting {
     idle: u64,
     /// And are left then for loads that fail.
     left: u64,
+    /// How much values weigh at most together, which burns too: 0 where they don't.
+    weight: u64,
 }
 
 /// For a table.
 const fn setting(capacity: usize, readers: u32, sharing: u64, life: u64, idle: u64) -> Setting {
-    Setting { capacity, readers, sharing, life, idle, left: 0 }
+    Setting { capacity, readers, sharing, life, idle, left: 0, weight: 0 }
 }
 
-const SETTINGS: [Setting; 11] = [
+const SETTINGS: [Setting; 14] = [
     setting(1, 1, 1, 0, 0),
     setting(1, 12, 1, 0, 0),
     setting(8, 4, 1, 0, 0),
@@ -426,11 +428,14 @@ const SETTINGS: [Setting; 11] = [
     setting(300, 4, 1, 200, 100),
     Setting { left: 500, ..setting(8, 4, 1, 100, 0) },
     Setting { left: u64::MAX, ..setting(300, 12, 2, 0, 50) },
+    Setting { weight: 30, ..setting(100, 4, 1, 0, 0) },
+    Setting { weight: 20, ..setting(8, 2, 2, 200, 0) },
+    Setting { weight: 40, left: 300, ..setting(300, 12, 1, 100, 0) },
 ];
 
 impl Setting {
     fn open(&self) -> Values {
-        let &Setting { capacity, readers, sharing, life, idle, left } = self;
+        let &Setting { capacity, readers, sharing, life, idle, left, weight } = self;
         let mut builder = Cache::builder().capacity(capacity).threads(readers).hasher(Sharing(sharing));
         if left > 0 {
             builder = builder.stale_if_error(Duration::from_micros(left));
@@ -440,6 +445,12 @@ impl Setting {
         }
         if idle > 0 {
             builder = builder.time_to_idle(Duration::from_micros(idle));
+        }
+        if weight > 0 {
+            builder = builder.max_weight(weight).weigher(|_, value: &Value| {
+                burn();
+                (value.number % 8) as u32
+            });
         }
         builder.open().unwrap()
     }
@@ -469,7 +480,7 @@ fn is_whole(cache: &Values, base: &Arc<Base>, readers: u32) {
     }
     drop(all);
     cache.invalidate_all();
-    assert_eq!((cache.len(), base.count()), (0, 0));
+    assert_eq!((cache.len(), cache.weighted_size(), base.count()), (0, 0, 0));
 }
 
 #[test]
@@ -479,6 +490,7 @@ fn whatever_panics_no_value_is_old_or_loaded_twice_or_lost() {
         let panics = attack(&cache, &base, seed);
         assert!(panics > THREADS * TURNS / 20, "{panics} calls panicked");
         assert!(cache.len() <= setting.capacity);
+        assert!(setting.weight == 0 || cache.weighted_size() <= setting.weight);
         is_whole(&cache, &base, setting.readers);
         drop(cache);
         assert!(!base.is_twice_dropped.load(SeqCst));
