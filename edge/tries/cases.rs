@@ -2,6 +2,7 @@
 //! views: rows that changes tell whole, rows that they tell by their identity, and what a query makes of them.
 //!   cases PROGRAM ADDRESS RESTART [CASE]    RESTART is a command that ends PostgreSQL at once and starts it again
 mod edges;
+mod operator;
 use edge_common::postgres::pq::Connection;
 use edges::{last, signal, until, Edge};
 use std::process::Command;
@@ -17,7 +18,7 @@ struct Case {
 /// What happens.
 type Run = fn(&mut Case);
 
-const CASES: [(&str, Run); 12] = [
+const CASES: [(&str, Run); 14] = [
     ("log", a_commit_that_no_snapshot_sees_yet),
     ("first_snapshot", a_commit_that_the_new_slot_does_not_carry),
     ("early", an_answer_that_is_older_than_the_slot),
@@ -30,6 +31,8 @@ const CASES: [(&str, Run); 12] = [
     ("crash", a_server_that_recovers_by_itself),
     ("killed", an_edge_that_is_killed),
     ("role", a_role_that_may_not_do_it_any_more),
+    ("error", operator::a_publication_that_is_gone_for_a_while),
+    ("text", operator::texts_that_are_no_sql),
 ];
 
 fn main() {
