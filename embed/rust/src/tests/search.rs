@@ -74,7 +74,7 @@ fn is_held_up(world: &World) {
 }
 
 #[test]
-fn an_invalidation_lets_those_go_on_who_wait() {
+fn a_change_lets_those_go_on_who_wait() {
     let invalidates: fn(&World) = |world| {
         make(Op::Await(world.flags[0]));
         world.cache.invalidate(&0);
@@ -83,7 +83,12 @@ fn an_invalidation_lets_those_go_on_who_wait() {
         world.cache.get_with(&0, || world.newest(0));
         make(Op::SetFlag(world.flags[1]));
     };
+    let puts: fn(&World) = |world| {
+        make(Op::Await(world.flags[0]));
+        world.cache.insert(0, world.newest(0));
+    };
     assert!(search(0, [is_held_up, invalidates, gets], any) > 10);
+    assert!(search(0, [is_held_up, puts, gets], any) > 10);
 }
 
 #[test]
@@ -95,7 +100,11 @@ fn what_was_loaded_before_a_put_is_not_kept() {
 #[test]
 fn all_keys_loads_are_outdated_at_once() {
     let clears: fn(&World) = |world| world.change(0, |cache, _| cache.invalidate_all());
-    assert!(search(0, [gets, clears, |world| world.get(1, Load::Gives)], any) > 10);
+    let both: fn(&World) = |world| {
+        world.get(1, Load::Gives);
+        world.get(0, Load::Gives);
+    };
+    assert!(search(0, [gets, clears, both], any) > 100);
 }
 
 /// Waits no longer than that, and then gets it without a limit.
