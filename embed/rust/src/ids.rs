@@ -245,6 +245,7 @@ impl Ids {
     /// It comes out by a later call.
     pub fn evict_one(&mut self, bound: u64) -> Option<Taken> {
         let mut taken = Given::default();
+        changes_store(None);
         // SAFETY: the handle is live, and what is taken is laid out as the header's.
         let code = unsafe { ffi::nr_cache_evict_one(&mut self.handle, bound, &mut taken) };
         (code == ffi::NR_EVICTED).then_some(Taken { id: taken.id, stamp: taken.stamp })
