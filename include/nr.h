@@ -174,7 +174,7 @@ typedef struct nr_delta {
    keys' ticket numbers at `first_number`, at most 4,194,303: set both to 0, except to test the end of a count.
    With keys + readers + 1 slots no fill, update or replacement answers NR_NO_SLOT or NR_ALL_FILLED. The map's words
    take 8 bytes a key, 16 * rows + 16 a slot and 64 a reader, and as much again during the opening. The writer's lists
-   take another 8 bytes a key, 18 a slot and 16 a reader. */
+   take another 8 bytes a key, 19 a slot and 16 a reader. */
 typedef struct nr_shape {
   uint32_t keys;
   uint32_t slots;
@@ -223,7 +223,7 @@ typedef struct nr_poster {
 /* The sizes of a map over ids: 1 to 536,870,911 groups of eight ways, 1 to 4,194,303 slots and 1 to 65,534
    readers. An id may have `rows` rows, 1 to 254. `key` decides which group an id has: draw it at random where strangers
    choose ids. Ticket numbers begin at `first_number`: set it to 0. With 8 * groups + readers + 2 slots no fill or
-   replacement answers NR_NO_SLOT or NR_ALL_FILLED. A group takes 536 bytes, a slot 16 * rows + 50, and a
+   replacement answers NR_NO_SLOT or NR_ALL_FILLED. A group takes 536 bytes, a slot 16 * rows + 51, and a
    reader 10,640. */
 typedef struct nr_id_shape {
   uint32_t groups;

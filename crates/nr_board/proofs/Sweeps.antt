@@ -22,7 +22,7 @@ use Rattle.atomic_table.proofs.Lists.{at_map}
 use Rattle.nr_core.specs.Steps.{LoadsWord}
 use Rattle.nr_core.specs.Slots.{departures}
 use Rattle.nr_core.specs.Sums.{only, total}
-use Rattle.nr_core.specs.Spares.{Spare}
+use Rattle.nr_core.specs.Spares.{AreReaped, Spare}
 use Rattle.nr_core.specs.States.{no_retired}
 use Rattle.nr_core.specs.declared.operation.Operation.TheVariants.{Load}
 use Rattle.nr_core.specs.declared.places.Place.TheVariants.{Idle}
@@ -416,6 +416,15 @@ module _ (spare : Spare) (before mid : MapSeat) (place : ℕ) (waits : Bool)
                     this.slot;
               }),
         )
+
+-- the first, which were reaped, are passed by
+pub swept_first : (spare : Spare) (seat : MapSeat) (count : ℕ) → AreReaped count spare.retired spare.reaped
+    → SweptTo spare seat seat count false
+swept_first spare seat zero known = swept_none spare seat
+swept_first spare seat (suc count) known =
+    let earlier = swept_first spare seat count (omega (arith, known.0), λ place first. known.1 place (omega arith)) in
+    let next = swept_past spare seat seat count false earlier (omega (arith, known.0)) (known.1 count (omega arith)) in
+    subst (λ place. SweptTo spare seat seat place false) (omega arith) next
 
 -- all were looked at
 module _ (spare : Spare) (before after : MapSeat) (place : ℕ) (all : length spare.retired ≤ place) where

@@ -79,8 +79,9 @@ impl Board {
         ensures own { seat.new.table_id ≡ seat.old.table_id }
         ensures sweeps { SweepsFor spare.now seat.old seat.new result }
     {
+        let first = spare.passed();
         let mut waits = false;
-        for place in 0..spare.retired_len() {
+        for place in first..spare.retired_len() {
             let entry = spare.retired_at(place);
             if !spare.is_reaped(entry.slot) {
                 waits = true;

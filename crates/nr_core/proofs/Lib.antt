@@ -15,6 +15,7 @@ pub mod Opening
 pub mod Seat
 pub mod Choices
 pub mod Sums
+mod Passed
 pub mod Histories
 pub mod KeyWords
 pub mod Frames
@@ -43,6 +44,7 @@ pub mod FindAgainMarks
 pub mod SeatMarks
 pub mod ExactPlace
 -- This crate's own.
+
 mod Walks
 mod Shapes
 mod OnKey

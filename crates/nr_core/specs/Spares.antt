@@ -1,8 +1,11 @@
 -- What the writer keeps beside the words: the slots that no key names, those that were never taken and the retired
 -- ones, the number of each key, and which slots were reaped.
-use Rattle.std.specs.Prelude.{◌≡◌, ℕ, ◌+◌, ◌-◌, ◌<◌, ◌≤◌, Bool, List, [], ◌∷◌, length, Option, Some, None}
+use Rattle.std.specs.Prelude.{◌≡◌, ℕ, ◌+◌, ◌-◌, ◌<◌, ◌≤◌, Bool, true, false, List, [], ◌∷◌, length, Option, Some, None}
+use Rattle.std.specs.Prelude.{slice_index, slice_index_or}
 use Rattle.nr_core.specs.declared.calls.NoSlot.{NoSlot}
 use Rattle.nr_core.specs.declared.places.Retired.{Retired}
+use Rattle.nr_core.specs.Roles.{retirements}
+use Rattle.nr_core.specs.States.{no_retired}
 
 -- of that many slots those from `fresh` on were never taken; the retired ones, oldest first
 pub record Spare : Type 0 where
@@ -28,3 +31,13 @@ TakesFresh old new None = (old.slots ≤ old.fresh) × (new ≡ old)
 abbrev pub TakesOldest : Spare → Spare → Option Retired → Type 0
 TakesOldest old new (Some oldest) = old ≡ record new { retired = oldest ∷ new.retired }
 TakesOldest old new None = (old.retired ≡ []) × (new ≡ old)
+
+-- so many of the first retired slots were reaped
+abbrev pub AreReaped : ℕ → List Retired → List Bool → Type 0
+AreReaped count retired reaped = (count ≤ length retired)
+    × ((place : ℕ) → place < count → slice_index_or reaped (slice_index_or retired place no_retired).slot false ≡ true)
+
+-- each slot is retired so often at most, but for those of which two tells nothing
+abbrev pub CountsRetirements : ℕ → List Retired → List ℕ → Type 0
+CountsRetirements slots retired counts = (length counts ≡ slots)
+    × ((slot : ℕ) → slot < slots → slice_index counts slot < 2 → retirements slot retired ≤ slice_index counts slot)

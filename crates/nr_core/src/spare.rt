@@ -1,9 +1,10 @@
 //! What the writer keeps beside the words: the slots that no key names, each key's ticket number, and which
 //! slots were reaped.
-ghost use Rattle.std.specs.Prelude.{◌≡◌, ◌<◌, ◌≤◌, ◌++◌, [], ◌∷◌, false, length, remove, replicate, slice_index, slice_index_or, slice_set, IfOk};
+ghost use Rattle.std.specs.Prelude.{ℕ, ◌≡◌, ◌<◌, ◌≤◌, ◌+◌, ◌++◌, [], ◌∷◌, false, length, remove, replicate, slice_index, slice_index_or, slice_set, IfOk};
 ghost use Rattle.nr_core.specs.States.{no_retired};
 ghost use Rattle.nr_core.specs.Writer.{unnamed};
-ghost use Rattle.nr_core.specs.Spares.{TakesFresh, TakesOldest, none_spare};
+ghost use Rattle.nr_core.specs.Sums.{only};
+ghost use Rattle.nr_core.specs.Spares.{AreReaped, TakesFresh, TakesOldest, none_spare};
 
 use crate::calls::NoSlot;
 use crate::places::Retired;
@@ -17,7 +18,9 @@ use std::marker::Model;
 /// retired ones, oldest first, wait until their readers have departed. They are a queue, so that to
 /// take the oldest costs the same whatever their number, and it has room to retire all slots. A
 /// filled key's word has its slot, so its ticket number is here alone. The set in a reaped slot was
-/// given out, and a call that takes the slot gives out none.
+/// given out, and a call that takes the slot gives out none. Most reaped slots are the oldest retired
+/// ones, and who looks for others passes those by (`passed`). For that it is counted how often each
+/// slot is retired, which is once at most: the set that is put in another is no reason to look again.
 #[derive(Drop)]
 pub struct Spare {
     slots: u32,
@@ -25,18 +28,20 @@ pub struct Spare {
     retired: VecDeque<Retired>,
     numbers: Vec<u64>,
     reaped: Vec<bool>,
+    retirements: Vec<u8>,
+    passed: usize,
 }
 
 impl Model for Spare {
     ghost use Rattle.std.specs.Prelude.{◌≡◌, ◌≤◌, length};
     ghost use Rattle.std.specs.VecDeque.{deque_capacity};
-    ghost use Rattle.nr_core.specs.Spares.{Spare as Slots};
+    ghost use Rattle.nr_core.specs.Spares.{AreReaped, CountsRetirements, Spare as Slots};
 
     ghost Value = { Slots };
 
     ghost view = { λ spare. record { slots = spare.slots; fresh = spare.fresh; retired = spare.retired.items; numbers = spare.numbers.items; reaped = spare.reaped.items } };
 
-    ghost invariant = { λ spare. (spare.slots ≤ deque_capacity spare.retired) × (length spare.reaped.items ≡ spare.slots) × (spare.fresh ≤ spare.slots) };
+    ghost invariant = { λ spare. (spare.slots ≤ deque_capacity spare.retired) × (length spare.reaped.items ≡ spare.slots) × (spare.fresh ≤ spare.slots) × CountsRetirements spare.slots spare.retired.items spare.retirements.items × AreReaped spare.passed spare.retired.items spare.reaped.items };
 }
 
 impl Spare {
@@ -49,12 +54,16 @@ impl Spare {
         numbers.resize(shape.keys as usize, shape.first_number)?;
         let mut reaped = Vec::with_capacity(alloc, shape.slots as usize)?;
         reaped.resize(shape.slots as usize, false)?;
+        let mut retirements = Vec::with_capacity(alloc, shape.slots as usize)?;
+        retirements.resize(shape.slots as usize, 0)?;
         Ok(Spare {
             slots: shape.slots,
             fresh: 0,
             retired,
             numbers,
             reaped,
+            retirements,
+            passed: 0,
         })
     }
 
@@ -98,7 +107,12 @@ impl Spare {
         requires { place < length self.old.retired }
         ensures { self.new ≡ record self.old { retired = remove self.old.retired place } }
     {
+        let entry = self.retired[place];
         self.retired.remove(place);
+        one_fewer(&mut self.retirements, entry.slot);
+        if place < self.passed {
+            self.passed -= 1;
+        }
     }
 
     /// Takes the oldest retired slot, if there is one. It costs less than to look at it and then
@@ -106,7 +120,10 @@ impl Spare {
     pub fn take_oldest(&mut self) -> Option<Retired>
         ensures { TakesOldest self.old self.new result }
     {
-        self.retired.pop_front()
+        let oldest = self.retired.pop_front()?;
+        one_fewer(&mut self.retirements, oldest.slot);
+        self.passed = self.passed.saturating_sub(1);
+        Some(oldest)
     }
 
     /// Puts the slot that was the oldest retired one back to where it was.
@@ -114,7 +131,9 @@ impl Spare {
         requires { length self.old.retired < self.old.slots }
         ensures { self.new ≡ record self.old { retired = oldest ∷ self.old.retired } }
     {
+        one_more(&mut self.retirements, oldest.slot);
         self.retired.push_front_reserved(oldest);
+        self.passed = 0;
     }
 
     /// Retires the slot that a key's old word names, if it names one.
@@ -124,6 +143,7 @@ impl Spare {
     {
         let old = parts(word);
         if old.filled {
+            one_more(&mut self.retirements, old.slot);
             self.retired.push_back_reserved(Retired {
                 slot: old.slot,
                 arrivals: old.arrivals,
@@ -161,6 +181,22 @@ impl Spare {
         ensures { self.new ≡ record self.old { reaped = slice_set self.old.reaped slot reaped } }
     {
         self.reaped[slot as usize] = reaped;
+        let known = if reaped || self.retirements[slot as usize] == 0 {
+            self.passed
+        } else {
+            0
+        };
+        // Two, so that those are caught up with that a reader held meanwhile.
+        let next = pass_one(&self.retired, &self.reaped, known);
+        self.passed = pass_one(&self.retired, &self.reaped, next);
+    }
+
+    /// How many of the oldest retired slots were reaped, at least.
+    pub fn passed(&self) -> usize
+        ensures range { result ≤ length self.now.retired }
+        ensures reaped { AreReaped result self.now.retired self.now.reaped }
+    {
+        self.passed
     }
 
     /// How many slots are named and how many retired, where every slot was taken.
@@ -175,4 +211,40 @@ impl Spare {
             held,
         }
     }
+}
+
+// Counts that a slot is retired once more: to two, which tells nothing from then on.
+fn one_more(counts: &mut Vec<u8>, slot: u32)
+    ensures length { length counts.new.items ≡ length counts.old.items }
+    ensures counts { (other : ℕ) → other < length counts.old.items → slice_index counts.new.items other < 2 → (slice_index counts.old.items other < 2) × (only other slot + slice_index counts.old.items other ≤ slice_index counts.new.items other) }
+{
+    let place = slot as usize;
+    if place < counts.len() && counts[place] < 2 {
+        counts[place] += 1;
+    }
+}
+
+// Counts that it is retired once less.
+fn one_fewer(counts: &mut Vec<u8>, slot: u32)
+    ensures length { length counts.new.items ≡ length counts.old.items }
+    ensures counts { (other : ℕ) → other < length counts.old.items → slice_index counts.new.items other < 2 → (slice_index counts.old.items other < 2) × (slice_index counts.old.items other ≤ only other slot + slice_index counts.new.items other) }
+{
+    let place = slot as usize;
+    if place < counts.len() && counts[place] == 1 {
+        counts[place] = 0;
+    }
+}
+
+// Of so many of the first retired slots it is known that they were reaped: of one more, if it was.
+fn pass_one(retired: &VecDeque<Retired>, reaped: &Vec<bool>, known: usize) -> usize
+    requires { AreReaped known retired.now.items reaped.now.items }
+    ensures { AreReaped result retired.now.items reaped.now.items }
+{
+    if known < retired.len() {
+        let place = retired[known].slot as usize;
+        if place < reaped.len() && reaped[place] {
+            return known + 1;
+        }
+    }
+    known
 }

@@ -12,7 +12,7 @@ use std::alloc::{AllocError, Global};
 impl IdMap {
     /// A map over ids with its writer and its readers, without an id. Refused where a size is out of its
     /// limits, and then where there is no memory: a group takes 208 bytes, and a slot of a map whose ids
-    /// may have n rows 16n + 50.
+    /// may have n rows 16n + 51.
     pub fn open(
         alloc: Global,
         shape: &IdShape,

@@ -10,7 +10,7 @@ use Rattle.nr_board.specs.WriterSeats.{MapSeat, RestsAt}
 use Rattle.nr_words.specs.KeyWords.{same_count}
 use Rattle.nr_core.specs.States.{no_retired}
 use Rattle.nr_core.specs.declared.places.Retired.{Retired}
-use Rattle.nr_board.proofs.Sweeps.{probes_at, retired_near, swept_more, swept_none, swept_past, swept_unheard}
+use Rattle.nr_board.proofs.Sweeps.{probes_at, retired_near, swept_first, swept_more, swept_past, swept_unheard}
 use Rattle.nr_board.proofs.Sweeps.{sweeps_free}
 use Rattle.nr_board.specs.Reaping.{ProbesAt, ProbesTo, SweepsFor, SweptTo}
 use Rattle.nr_board.specs.declared.reaping.Sweep.TheVariants as sweep
@@ -19,7 +19,7 @@ use Rattle.nr_board.proofs.board.Board.sweep.Goals.{then-not-is_reaped+else-not-
 use Rattle.nr_board.proofs.board.Board.sweep.Goals as goal
 
 pub loop-place-init : goal.loop-place-init
-loop-place-init c = swept_none c.args.spare.now c.args.seat.now
+loop-place-init c = swept_first c.args.spare.now c.args.seat.now c.passed-first.result c.passed-first.ensures.reaped
 
 pub is_reaped-requires : goal.is_reaped-requires
 is_reaped-requires c =
