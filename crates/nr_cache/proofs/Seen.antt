@@ -8,10 +8,10 @@ use Rattle.nr_cache.specs.declared.flights.Fate.TheVariants as fate
 use Rattle.nr_cache.specs.declared.store.Begun.{Begun}
 use Rattle.nr_cache.specs.declared.store.Landed.{Landed}
 use Rattle.nr_cache.specs.declared.store.Landed.TheVariants as landed
-use Rattle.nr_cache.specs.Flights.{BeginsChange, Ends, Outdates, Underway, is_changing}
+use Rattle.nr_cache.specs.Flights.{BeginsChange, Ends, EndsChange, Outdates, Underway, is_changing}
 use Rattle.nr_cache.specs.Places.{IsGone, TakesValue}
 use Rattle.nr_cache.specs.StoreSeen.{StoreSeen}
-use Rattle.nr_cache.specs.Stores.{BeginsFlight, ChangesId, HoldsOrNot, Invalidates, Lands, Puts, Reaps}
+use Rattle.nr_cache.specs.Stores.{BeginsFlight, ChangesId, Fails, HoldsOrNot, Invalidates, Lands, Puts, Reaps}
 use Rattle.nr_cache.specs.Stores.{limits_of}
 use Rattle.nr_cache.specs.Values.{row_of}
 use Rattle.nr_cache.proofs.Quiets.{reap_moves}
@@ -27,6 +27,17 @@ pub changes_from : (id : ℕ) (parts seen new : StoreSeen) (found : Option Fligh
 changes_from id parts seen new found mid told is outdates begins rest =
     subst (λ (s : StoreSeen). ChangesId id s new told) is
     (record { found = found; mid = mid; outdates = outdates; begins = begins; rest = rest })
+
+pub fails_from : (number : ℕ) (parts seen new : StoreSeen) (found : Option Flight) → parts ≡ seen
+    → Ends number parts.underway new.underway found → new ≡ record parts { underway = new.underway }
+    → Fails number seen new found
+fails_from number parts seen new found is ends rest =
+    subst (λ (s : StoreSeen). Fails number s new found) is (record { ends = ends; rest = rest })
+
+pub ends_change_from : (id : ℕ) (parts seen : StoreSeen) (after : Underway) (told : Bool) → parts ≡ seen
+    → EndsChange id parts.underway after told → EndsChange id seen.underway after told
+ends_change_from id parts seen after told is ends =
+    subst (λ (s : StoreSeen). EndsChange id s.underway after told) is ends
 
 pub invalidates_from : (id : ℕ) (parts seen new : StoreSeen) (found : Option Flight) (had : Bool) → parts ≡ seen
     → Outdates id parts.underway new.underway found → TakesValue id parts.keeper new.keeper had → IsGone id new.keeper

@@ -39,7 +39,7 @@ fn take_first(
     ensures own { writer.new.table ≡ map.now }
     ensures owes { OwesNone writer.new }
     ensures values { BringsValues writer.new }
-    ensures takes { TakesFirstOrNone limit.old.clock.hand bound writer.old writer.new result }
+    ensures takes { TakesFirstOrNone limit.old.choice.hand bound writer.old writer.new result }
     ensures fewer { values_in writer.new ≤ values_in writer.old }
     ensures same { limit.new.capacity ≡ limit.old.capacity }
 {
@@ -51,7 +51,7 @@ fn take_first(
         map,
         writer,
         &mut limit.found,
-        &mut limit.clock,
+        &mut limit.choice,
         nobody,
         bound,
     );

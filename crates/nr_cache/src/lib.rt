@@ -9,24 +9,29 @@
 //! A miss begins a flight: of each id one is under way at most (`Begins`). It takes no way of the map until
 //! its value lands, so what is under way evicts nothing, and a load that fails leaves nothing behind. A
 //! flight is outdated where its id is invalidated, put or changed meanwhile; then its value is its loader's
-//! own (`HoldsFresh`). A landing makes room itself, by an eviction (`Lands`).
+//! own (`HoldsFresh`). A landing makes room itself, by an eviction (`Lands`). Whose value goes a choice tells
+//! (`Choice`), on which nothing rests but how often misses come.
 //!
 //! What an id had comes out by a later call, once no reader holds it (`EachValueComesOutOnce`).
 #![tactic(auto)]
 
+mod choice;
 mod clearing;
-mod clock;
 mod counts;
+mod entrants;
 mod evictions;
 mod finds;
 mod firsts;
 mod flights;
 mod given;
 pub mod laws;
+mod leavers;
 mod limits;
 mod looks;
+mod mood;
 mod shape;
 mod stamps;
+mod standing;
 mod store;
 mod swaps;
 mod values;

@@ -6,7 +6,7 @@ ghost use Rattle.nr_cache.specs.Places.{HasNoOther, HasOther, IsOther, KeepsWith
 ghost use Rattle.nr_cache.specs.Stamps.{GoesFirst, LooksAround};
 ghost use Rattle.nr_cache.specs.Values.{BringsValues, IsWithin, values_in};
 
-use crate::clock::Clock;
+use crate::choice::Choice;
 use crate::counts::count_values;
 use crate::stamps::stale_way;
 use nr_idmap::{Evict, IdMap, IdWriter, Upquery, laws};
@@ -16,7 +16,7 @@ use nr_model::Pile;
 #[derive(Drop)]
 pub(crate) struct Limit {
     pub capacity: u32,
-    pub clock: Clock,
+    pub choice: Choice,
     /// The rows that a look found last.
     pub found: Pile,
 }
@@ -33,13 +33,14 @@ impl Limit {
         ensures own { writer.new.table ≡ map.now }
         ensures owes { OwesOnly upquery.now.owed writer.new }
         ensures values { BringsValues writer.new }
-        ensures keeps { KeepsWithin (record { capacity = self.old.capacity; hand = self.old.clock.hand; bound = bound }) upquery.now.owed writer.old writer.new }
+        ensures keeps { KeepsWithin (record { capacity = self.old.capacity; hand = self.old.choice.hand; bound = bound }) upquery.now.owed writer.old writer.new }
         ensures room { values_in writer.new < self.old.capacity }
         ensures same { self.new.capacity ≡ self.old.capacity }
     {
         if count_values(map, writer) >= self.capacity {
             self.let_one_go(map, writer, upquery, bound);
         }
+        self.choice.enter(upquery.way(), upquery.id());
     }
 
     // Takes the value of one that isn't the upquery's id.
@@ -51,7 +52,7 @@ impl Limit {
         ensures own { writer.new.table ≡ map.now }
         ensures owes { OwesOnly upquery.now.owed writer.new }
         ensures values { BringsValues writer.new }
-        ensures goes { LetsOneGo (record { capacity = self.old.capacity; hand = self.old.clock.hand; bound = bound }) upquery.now.owed writer.old writer.new }
+        ensures goes { LetsOneGo (record { capacity = self.old.capacity; hand = self.old.choice.hand; bound = bound }) upquery.now.owed writer.old writer.new }
         ensures fewer { values_in writer.new < values_in writer.old }
         ensures same { self.new.capacity ≡ self.old.capacity }
     {
@@ -61,7 +62,7 @@ impl Limit {
             map,
             writer,
             &mut self.found,
-            &mut self.clock,
+            &mut self.choice,
             newcomer,
             bound,
         );
@@ -79,33 +80,33 @@ pub(crate) fn first_to_go(
     map: &IdMap,
     writer: &mut IdWriter,
     found: &mut Pile,
-    clock: &mut Clock,
+    choice: &mut Choice,
     newcomer: u32,
     bound: u64,
 ) -> Option<u64>
     requires own { writer.old.table ≡ map.now }
     ensures own { writer.new.table ≡ map.now }
     ensures looks { LooksAround writer.old writer.new }
-    ensures some { IfSome result (λ id. (way : ℕ) × IsOther newcomer way id writer.new × GoesFirst clock.old.hand bound newcomer writer.new way) }
+    ensures some { IfSome result (λ id. (way : ℕ) × IsOther newcomer way id writer.new × GoesFirst choice.old.hand bound newcomer writer.new way) }
     ensures none { IfNone result (HasNoOther newcomer writer.new) }
 {
-    let stale = stale_way(map, writer, found, clock.hand, newcomer, bound);
+    let stale = stale_way(map, writer, found, choice.hand, newcomer, bound);
     writer.is_tied();
     match stale {
         Some(way) => other_at(map, writer, way, newcomer),
-        None => victim(map, writer, clock, newcomer),
+        None => victim(map, writer, choice, newcomer),
     }
 }
 
-// The id that has the way which the clock chose; where that may not go, any that has another way than this one.
-fn victim(map: &IdMap, writer: &mut IdWriter, clock: &mut Clock, newcomer: u32) -> Option<u64>
+// The id that has the way which the choice chose; where that may not go, any that has another way than this one.
+fn victim(map: &IdMap, writer: &mut IdWriter, choice: &mut Choice, newcomer: u32) -> Option<u64>
     requires own { writer.old.table ≡ map.now }
     ensures own { writer.new.table ≡ map.now }
     ensures stays { StaysButClerk writer.old writer.new }
     ensures some { IfSome result (λ id. HasOther newcomer id writer.new) }
     ensures none { IfNone result (HasNoOther newcomer writer.new) }
 {
-    let way = clock.choose(map, writer, newcomer);
+    let way = choice.choose(map, writer, newcomer);
     match other_at(map, writer, way, newcomer) {
         Some(id) => Some(id),
         None => any_other(map, writer, newcomer),

@@ -2,7 +2,7 @@
 ghost use Rattle.std.specs.Prelude.{◌≡◌, ◌<◌, ◌↔◌, Err, IfOk};
 ghost use Rattle.nr_cache.specs.Openings.{IsBadStoreShape, OpensStore};
 
-use crate::clock::Clock;
+use crate::choice::Choice;
 use crate::flights::{Flight, Flights};
 use crate::limits::Limit;
 use crate::shape::StoreShape;
@@ -52,7 +52,7 @@ impl Model for Store {
 
     ghost Value = { StoreSeen };
 
-    ghost view = { λ store. record { keeper = store.writer; asker = store.asker; underway = store.flights; capacity = store.limit.capacity; hand = store.limit.clock.hand } };
+    ghost view = { λ store. record { keeper = store.writer; asker = store.asker; underway = store.flights; capacity = store.limit.capacity; hand = store.limit.choice.hand } };
 
     ghost invariant = { λ store. (id_table_of store.asker ≡ store.writer.table) × OwesNone store.writer × HasSlots store.limit.capacity store.writer.table.map × (0 < id_rows store.writer.table) × BringsValues store.writer × (0 < store.limit.capacity) × IsWithin store.limit.capacity store.writer };
 }
@@ -85,9 +85,12 @@ impl Store {
         else {
             return Err(OpenFault::Memory);
         };
+        let Ok(choice) = Choice::open(alloc, shape) else {
+            return Err(OpenFault::Memory);
+        };
         let limit = Limit {
             capacity: shape.capacity,
-            clock: Clock::new(),
+            choice,
             found: Pile::new(),
         };
         let store = Store {

@@ -141,7 +141,7 @@ fn put_value<R: RowRoom>(
     ensures values { BringsValues writer.new }
     ensures within { IsWithin limit.old.capacity writer.new }
     ensures same { limit.new.capacity ≡ limit.old.capacity }
-    ensures puts { HoldsOrNot R.shows (record { capacity = limit.old.capacity; hand = limit.old.clock.hand; bound = bound }) id row writer.old asker.old had.old writer.new asker.new had.new result }
+    ensures puts { HoldsOrNot R.shows (record { capacity = limit.old.capacity; hand = limit.old.choice.hand; bound = bound }) id row writer.old asker.old had.old writer.new asker.new had.new result }
 {
     nr_map::laws::no_slot_is_rare();
     laws::unnamed_is_absent();

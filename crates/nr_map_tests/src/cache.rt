@@ -426,7 +426,7 @@ fn one_value_goes_where_the_store_is_full(rt: HostRuntime) {
     shelf.closes(&rt, &[]);
 }
 
-// The hand passes what was found since it came there last.
+// The choice passes what was found since it came there last.
 #[test]
 fn what_is_found_stays(rt: HostRuntime) {
     let mut shelf = Shelf::of_few(&rt, 4);
@@ -434,6 +434,69 @@ fn what_is_found_stays(rt: HostRuntime) {
         assert!(&rt; matches!(shelf.puts(id, 10 * id), Landed::Held(_)));
         shelf.finds(&rt, 1, Some(10));
     }
+    shelf.closes(&rt, &[]);
+}
+
+/// A store of sixteen values, in four groups.
+fn roomy<R: AllocGlobal + Abort>(rt: &R) -> Shelf {
+    Shelf::of(rt, &StoreShape { groups: 4, ..SMALL })
+}
+
+// Ids that are put once and never found take the places of their like.
+#[test]
+fn a_scan_takes_none_that_were_found(rt: HostRuntime) {
+    let mut shelf = roomy(&rt);
+    for id in 1..13u64 {
+        assert!(&rt; matches!(shelf.puts(id, 10 * id), Landed::Held(_)));
+        shelf.finds(&rt, id, Some(10 * id));
+    }
+    for id in 13..200u64 {
+        assert!(&rt; matches!(shelf.puts(id, 10 * id), Landed::Held(_)));
+        shelf.looks(&rt, id, Some(10 * id));
+    }
+    for id in 1..13u64 {
+        shelf.finds(&rt, id, Some(10 * id));
+    }
+    shelf.closes(&rt, &[]);
+}
+
+// Ids that are asked for again and again take the places of others, which were there before.
+#[test]
+fn a_set_below_the_capacity_stops_missing(rt: HostRuntime) {
+    let mut shelf = roomy(&rt);
+    for id in 101..133u64 {
+        assert!(&rt; matches!(shelf.puts(id, 10 * id), Landed::Held(_)));
+    }
+    for _round in 0..6 {
+        for id in 1..9u64 {
+            let found = find(&shelf.map, &mut shelf.hand, id);
+            if found.is_none() {
+                assert!(&rt; matches!(shelf.puts(id, 10 * id), Landed::Held(_)));
+            }
+        }
+    }
+    for id in 1..9u64 {
+        shelf.finds(&rt, id, Some(10 * id));
+    }
+    shelf.closes(&rt, &[]);
+}
+
+// Where all ways of a group are taken one of its values goes, whatever the choice says.
+#[test]
+fn a_full_group_makes_room(rt: HostRuntime) {
+    let mut shelf = Shelf::of(
+        &rt,
+        &StoreShape {
+            groups: 1,
+            capacity: 8,
+            ..SMALL
+        },
+    );
+    for id in 1..60u64 {
+        assert!(&rt; matches!(shelf.puts(id, 10 * id), Landed::Held(_)));
+        shelf.looks(&rt, id, Some(10 * id));
+    }
+    shelf.counts(&rt, 8, 0, 0);
     shelf.closes(&rt, &[]);
 }
 
@@ -446,7 +509,7 @@ fn a_value_below_the_bound_goes_first(rt: HostRuntime) {
     }
 }
 
-/// Whether the one of four values goes whose stamp is 5, for the bound. The clock passes it.
+/// Whether the one of four values goes whose stamp is 5, for the bound. The choice passes it.
 fn has_gone<R: AllocGlobal + Abort>(rt: &R, stale: u64, bound: u64, is_gone: bool)
     requires { 0 < stale }
 {

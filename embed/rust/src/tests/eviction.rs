@@ -9,7 +9,7 @@ fn misses(reader: &mut CacheReader<u64, u64, impl std::hash::BuildHasher>, keys:
 }
 
 #[test]
-fn a_hot_set_far_below_the_capacity_stays_once_it_was_loaded() {
+fn a_hot_set_far_below_the_capacity_stays_once_it_was_loaded_twice() {
     for (capacity, threads) in [(1, 1), (40, 1), (1000, 1), (5000, 8)] {
         let cache = Cache::<u64, u64>::builder().capacity(capacity).threads(threads).open().unwrap();
         let (mut reader, others) = (cache.reader().unwrap(), 3 * capacity as u64);
@@ -17,9 +17,10 @@ fn a_hot_set_far_below_the_capacity_stays_once_it_was_loaded() {
         let hot = others..others + (2 * capacity as u64).div_ceil(5);
         let count = hot.end - hot.start;
         assert_eq!(misses(&mut reader, hot.clone()), count);
-        // The hand has met some of them before they were found, and they are loaded once more.
+        // Each was asked for once and went before those that were there. Some met others that had been found, and are
+        // loaded once more.
         let again: u64 = (0..4).map(|_| misses(&mut reader, hot.clone())).sum();
-        assert!(again <= count.div_ceil(4), "{again} of {count} are loaded again");
+        assert!(again <= count + count.div_ceil(4), "{again} of {count} are loaded again");
         assert_eq!((0..10).map(|_| misses(&mut reader, hot.clone())).sum::<u64>(), 0);
         assert!(cache.len() <= capacity);
     }

@@ -67,7 +67,7 @@ returns-clause-takes c =
       way = first.0;
       has = first.1.1;
       real = first.1.2;
-      first = subst (λ (taken : ℕ). GoesFirst c.args.limit.now.clock.hand c.args.bound taken
+      first = subst (λ (taken : ℕ). GoesFirst c.args.limit.now.choice.hand c.args.bound taken
           c.first_to_go-named.new.writer first.0) keys first.2;
       seen = c.look_at-seen.new.writer;
       tells = c.in-Some-seen.ensures.looks;

@@ -15,7 +15,7 @@ use Rattle.nr_cache.proofs.values.put_value.Goals as goal
 pub returns-in-Ok-clause-puts : goal.returns-in-Ok-clause-puts
 returns-in-Ok-clause-puts g c =
     holds_replaced g.R.RowRoom.shows
-    (record { capacity = c.args.limit.now.capacity; hand = c.args.limit.now.clock.hand; bound = c.args.bound })
+    (record { capacity = c.args.limit.now.capacity; hand = c.args.limit.now.choice.hand; bound = c.args.bound })
     c.args.id c.args.row c.args.writer.now c.args.asker.now
     c.args.had.now
     c.replace_reclaiming.new.writer c.args.asker.now c.replace_reclaiming.new.had c.in-Ok.given c.is_tied.ensures
@@ -66,7 +66,7 @@ returns-clause-puts g c =
     admitted_id c.args.id c.replace_reclaiming.new.writer c.admit-admitted.new.writer c.in-Some.upquery
     c.in-Some.ensures.admits in
     holds_filled g.R.RowRoom.shows
-    (record { capacity = c.args.limit.now.capacity; hand = c.args.limit.now.clock.hand; bound = c.args.bound })
+    (record { capacity = c.args.limit.now.capacity; hand = c.args.limit.now.choice.hand; bound = c.args.bound })
     c.args.id c.args.row c.args.writer.now c.args.asker.now
     c.args.had.now c.fill.new.writer c.claim.new.asker c.fill.new.had c.fill.result c.is_tied.ensures
     (record {

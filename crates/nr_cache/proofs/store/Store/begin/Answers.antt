@@ -12,7 +12,7 @@ returns-in-Some-way-clause-begins c =
       asker = c.self.inside.asker;
       underway = c.self.inside.flights;
       capacity = c.self.inside.limit.capacity;
-      hand = c.self.inside.limit.clock.hand;
+      hand = c.self.inside.limit.choice.hand;
     })
     c.args.self.now
     (record {
@@ -20,7 +20,7 @@ returns-in-Some-way-clause-begins c =
       asker = c.self.inside.asker;
       underway = c.self.inside.flights;
       capacity = c.self.inside.limit.capacity;
-      hand = c.self.inside.limit.clock.hand;
+      hand = c.self.inside.limit.choice.hand;
     })
     begun.Held c.self.view_is (
       c.in_default.ensures,

@@ -10,7 +10,7 @@ returns c =
       underway =
           c.self.inside.flights;
       capacity = c.self.inside.limit.capacity;
-      hand = c.self.inside.limit.clock.hand;
+      hand = c.self.inside.limit.choice.hand;
     })
     c.args.self.now
     (record {
@@ -18,7 +18,7 @@ returns c =
       asker = c.self.inside.asker;
       underway = c.begin_change.new.self;
       capacity = c.self.inside.limit.capacity;
-      hand = c.self.inside.limit.clock.hand;
+      hand = c.self.inside.limit.choice.hand;
     })
     c.outdate.result c.outdate.new.self c.begin_change.result c.self.view_is c.outdate.ensures c.begin_change.ensures
     refl

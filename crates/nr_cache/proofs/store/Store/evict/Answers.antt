@@ -11,7 +11,7 @@ returns-clause-evicts c =
       asker = c.self.inside.asker;
       underway = c.self.inside.flights;
       capacity = c.self.inside.limit.capacity;
-      hand = c.self.inside.limit.clock.hand;
+      hand = c.self.inside.limit.choice.hand;
     })
     c.take_value.result) c.self.view_is
     (record { takes = c.take_value.ensures.takes; gone = c.take_value.ensures.gone; rest = (refl, refl, refl) })

@@ -11,7 +11,7 @@ returns-clause-evicts c =
       asker = c.self.inside.asker;
       underway = c.self.inside.flights;
       capacity = c.take_first.new.limit.capacity;
-      hand = c.take_first.new.limit.clock.hand;
+      hand = c.take_first.new.limit.choice.hand;
     })
     c.take_first.result) c.self.view_is
     (record { takes = c.take_first.ensures.takes; rest = (refl, refl, c.take_first.ensures.same) })

@@ -10,7 +10,7 @@ returns-clause-invalidates c =
       asker = c.self.inside.asker;
       underway = c.self.inside.flights;
       capacity = c.self.inside.limit.capacity;
-      hand = c.self.inside.limit.clock.hand;
+      hand = c.self.inside.limit.choice.hand;
     })
     c.args.self.now
     (record {
@@ -18,7 +18,7 @@ returns-clause-invalidates c =
       asker = c.self.inside.asker;
       underway = c.outdate.new.self;
       capacity = c.self.inside.limit.capacity;
-      hand = c.self.inside.limit.clock.hand;
+      hand = c.self.inside.limit.choice.hand;
     })
     c.outdate.result c.take_value.result c.self.view_is c.outdate.ensures c.take_value.ensures.takes
     c.take_value.ensures.gone refl refl

@@ -10,7 +10,7 @@ returns-in_default-clause-lands g c =
       asker = c.self.inside.asker;
       underway = c.self.inside.flights;
       capacity = c.self.inside.limit.capacity;
-      hand = c.self.inside.limit.clock.hand;
+      hand = c.self.inside.limit.choice.hand;
     })
     c.args.self.now c.args.had.now
     (record {
@@ -18,7 +18,7 @@ returns-in_default-clause-lands g c =
       asker = c.self.inside.asker;
       underway = c.end.new.self;
       capacity = c.self.inside.limit.capacity;
-      hand = c.self.inside.limit.clock.hand;
+      hand = c.self.inside.limit.choice.hand;
     })
     c.self.view_is c.in_default.ensures.ends refl refl refl
 
@@ -30,7 +30,7 @@ returns-in-Hold-clause-lands g c =
       asker = c.self.inside.asker;
       underway = c.self.inside.flights;
       capacity = c.self.inside.limit.capacity;
-      hand = c.self.inside.limit.clock.hand;
+      hand = c.self.inside.limit.choice.hand;
     })
     c.args.self.now c.args.had.now
     (record {
@@ -38,7 +38,7 @@ returns-in-Hold-clause-lands g c =
       asker = c.put_value.new.asker;
       underway = c.end.new.self;
       capacity = c.put_value.new.limit.capacity;
-      hand = c.put_value.new.limit.clock.hand;
+      hand = c.put_value.new.limit.choice.hand;
     })
     c.put_value.new.had c.in-Some.flight c.put_value.result c.self.view_is c.in-Some.ensures.ends c.in-Hold.is
     c.put_value.ensures.same
@@ -52,7 +52,7 @@ returns-in-Outdated-clause-lands g c =
       asker = c.self.inside.asker;
       underway = c.self.inside.flights;
       capacity = c.self.inside.limit.capacity;
-      hand = c.self.inside.limit.clock.hand;
+      hand = c.self.inside.limit.choice.hand;
     })
     c.args.self.now c.args.had.now
     (record {
@@ -60,6 +60,6 @@ returns-in-Outdated-clause-lands g c =
       asker = c.self.inside.asker;
       underway = c.end.new.self;
       capacity = c.self.inside.limit.capacity;
-      hand = c.self.inside.limit.clock.hand;
+      hand = c.self.inside.limit.choice.hand;
     })
     c.in-Some.flight c.self.view_is c.in-Some.ensures.ends c.in-Outdated.is refl refl refl

@@ -10,7 +10,7 @@ returns-then-is_changing-clause-puts g c =
       asker = c.self.inside.asker;
       underway = c.self.inside.flights;
       capacity = c.self.inside.limit.capacity;
-      hand = c.self.inside.limit.clock.hand;
+      hand = c.self.inside.limit.choice.hand;
     })
     c.args.self.now c.args.had.now
     (record {
@@ -18,7 +18,7 @@ returns-then-is_changing-clause-puts g c =
       asker = c.self.inside.asker;
       underway = c.outdate.new.self;
       capacity = c.self.inside.limit.capacity;
-      hand = c.self.inside.limit.clock.hand;
+      hand = c.self.inside.limit.choice.hand;
     })
     c.outdate.result c.take_value.result c.self.view_is c.outdate.ensures
     (sym (same_changing c.args.id c.args.id c.self.inside.flights c.outdate.new.self c.outdate.result c.outdate.ensures)
@@ -33,7 +33,7 @@ returns-clause-puts g c =
       asker = c.self.inside.asker;
       underway = c.self.inside.flights;
       capacity = c.self.inside.limit.capacity;
-      hand = c.self.inside.limit.clock.hand;
+      hand = c.self.inside.limit.choice.hand;
     })
     c.args.self.now c.args.had.now
     (record {
@@ -41,7 +41,7 @@ returns-clause-puts g c =
       asker = c.put_value.new.asker;
       underway = c.outdate.new.self;
       capacity = c.put_value.new.limit.capacity;
-      hand = c.put_value.new.limit.clock.hand;
+      hand = c.put_value.new.limit.choice.hand;
     })
     c.put_value.new.had c.outdate.result c.put_value.result c.self.view_is c.outdate.ensures
     (sym (same_changing c.args.id c.args.id c.self.inside.flights c.outdate.new.self c.outdate.result c.outdate.ensures)

@@ -10,7 +10,7 @@ returns-clause-reaps g c =
       asker = c.self.inside.asker;
       underway = c.self.inside.flights;
       capacity = c.self.inside.limit.capacity;
-      hand = c.self.inside.limit.clock.hand;
+      hand = c.self.inside.limit.choice.hand;
     })
     c.args.self.now c.args.had.now
     (record {
@@ -18,7 +18,7 @@ returns-clause-reaps g c =
       asker = c.self.inside.asker;
       underway = c.self.inside.flights;
       capacity = c.self.inside.limit.capacity;
-      hand = c.self.inside.limit.clock.hand;
+      hand = c.self.inside.limit.choice.hand;
     })
     c.reap.new.had c.reap.result c.self.view_is c.reap.ensures.reaps refl refl
     c.reap.ensures.clerk c.reap.ensures.asker refl

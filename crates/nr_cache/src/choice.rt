@@ -1,0 +1,307 @@
+//! Whose value goes next. It is a choice alone: whatever way this names, the store looks whether its value may
+//! go, and else takes another. So nothing rests on it but how often misses come.
+//!
+//! Who comes is an entrant. Where there are as many as may be, the oldest goes if it is known to have been asked for
+//! but once. Else it stands against a resident. Residents stand in the order of their ways, and a turn goes round:
+//! who was found since the turn came there last is passed and counts one more, and the first other one is the
+//! entrant's match. The one with the greater count stays. Of the ids that went some are told, with their counts.
+//!
+//! Where those who went are asked for again, and those who stayed aren't found, the counts tell little. So that is
+//! counted, and decides by how much residents lose who win (`Mood`).
+ghost use Rattle.std.specs.Prelude.{◌≡◌, ◌<◌};
+ghost use Rattle.nr_idmap.specs.IdChoices.{StaysButClerk};
+
+use crate::entrants::Entrants;
+use crate::leavers::Leavers;
+use crate::mood::{Doubt, Mood};
+use crate::shape::StoreShape;
+use crate::standing::{Stake, Standing, Standings, counted};
+use nr_idmap::{IdMap, IdWriter};
+use std::alloc::{AllocError, Global};
+
+/// From which count on an entrant stands against a resident.
+const ENOUGH: u8 = 2;
+
+/// How many residents that were found a turn passes at most.
+const PATIENCE: u32 = 8;
+
+/// By how many ways the hand goes on.
+const STRIDE: u32 = 8;
+
+#[derive(Drop)]
+pub(crate) struct Choice {
+    /// The way at which the next look for a stale value begins.
+    pub hand: u32,
+    /// The way that comes next in the turn of the residents.
+    turn: u32,
+    /// The way of the last who came. Who loaded its value may have found it since, which tells nothing.
+    newest: Option<u32>,
+    standings: Standings,
+    entrants: Entrants,
+    leavers: Leavers,
+    doubt: Doubt,
+}
+
+/// Who may go: an id with its way and its count.
+#[derive(Clone, Copy)]
+struct Rival {
+    way: u32,
+    id: u64,
+    count: u8,
+}
+
+impl Choice {
+    /// Takes all the memory that it has room in.
+    pub fn open(alloc: Global, shape: &StoreShape) -> Result<Choice, AllocError> {
+        let most = Mood::Moving.room(shape.capacity).saturating_add(2);
+        Ok(Choice {
+            hand: 0,
+            turn: 0,
+            newest: None,
+            standings: Standings::open(alloc, shape.groups.saturating_mul(8))?,
+            entrants: Entrants::open(alloc, most)?,
+            leavers: Leavers::open(alloc, shape.groups.saturating_mul(2))?,
+            doubt: Doubt::new(shape.capacity),
+        })
+    }
+
+    /// An id has a way now, which it had not. Where none had to go since the last one came, that stays.
+    pub fn enter(&mut self, way: u32, id: u64) {
+        if let Some(newest) = self.newest.take() {
+            self.standings.stay_uncounted(newest);
+        }
+        let count = match self.leavers.recall(id) {
+            Some(leaver) => {
+                self.doubt.misses(leaver.stake);
+                counted(leaver.count)
+            }
+            None => 1,
+        };
+        self.standings.set(way, Standing::Entrant { count });
+        self.newest = Some(way);
+    }
+
+    /// The way of one whose value is to go, which isn't the newcomer's unless no other has a value. Takes 1 or 2 steps
+    /// of the directory for the newest's mark, up to 3 for each entrant or resident that it comes to, and none for
+    /// other ways. It comes to one entrant and to nine residents at most, but for those whose values were
+    /// taken since by other calls, and to nine times as many residents where there are fewer entrants than may be.
+    pub fn choose(&mut self, map: &IdMap, writer: &mut IdWriter, newcomer: u32) -> u32
+        requires own { writer.old.table ≡ map.now }
+        ensures own { writer.new.table ≡ map.now }
+        ensures stays { StaysButClerk writer.old writer.new }
+    {
+        self.hand = place_after(self.hand, STRIDE, map.ways());
+        self.newest_waits(map, writer);
+        if self.entrants.count() > self.doubt.room {
+            if let Some(entrant) = self.oldest_entrant(map, writer, newcomer) {
+                return self.challenge(map, writer, newcomer, entrant);
+            }
+        }
+        if let Some(resident) = self.least_resident(map, writer, newcomer) {
+            return self.goes(resident, Stake::Nothing);
+        }
+        match self.oldest_entrant(map, writer, newcomer) {
+            Some(entrant) => self.goes(entrant, Stake::Nothing),
+            None => newcomer,
+        }
+    }
+
+    // The last who came waits behind the other entrants from now on. Where they are too many, since the mood has
+    // changed, the oldest stays, so that they become fewer.
+    fn newest_waits(&mut self, map: &IdMap, writer: &mut IdWriter)
+        requires own { writer.old.table ≡ map.now }
+        ensures own { writer.new.table ≡ map.now }
+        ensures stays { StaysButClerk writer.old writer.new }
+    {
+        let Some(newest) = self.newest.take() else {
+            return;
+        };
+        self.entrants.push(newest);
+        if self.entrants.count() > self.doubt.room.saturating_add(1) {
+            if let Some(oldest) = self.entrants.pop() {
+                self.standings.stay(oldest);
+            }
+        }
+        if newest < map.ways() {
+            map.uses_way(writer, newest);
+        }
+    }
+
+    // Who of an entrant and its match goes.
+    fn challenge(
+        &mut self,
+        map: &IdMap,
+        writer: &mut IdWriter,
+        newcomer: u32,
+        entrant: Rival,
+    ) -> u32
+        requires own { writer.old.table ≡ map.now }
+        ensures own { writer.new.table ≡ map.now }
+        ensures stays { StaysButClerk writer.old writer.new }
+    {
+        if entrant.count < ENOUGH {
+            return self.goes(entrant, Stake::Nothing);
+        }
+        match self.next_resident(map, writer, newcomer) {
+            Some(resident) => self.decide(entrant, resident),
+            None => self.goes(entrant, Stake::Nothing),
+        }
+    }
+
+    fn decide(&mut self, entrant: Rival, resident: Rival) -> u32 {
+        if entrant.count > resident.count {
+            return self.wins(entrant, resident, Stake::Nothing);
+        }
+        match self.doubt.mood {
+            Mood::Moving => self.wins(entrant, resident, Stake::ByAge),
+            Mood::Wary => self.loses(entrant, resident.way, resident.count / 2),
+            Mood::Steady => self.loses(entrant, resident.way, resident.count.saturating_sub(1)),
+        }
+    }
+
+    fn wins(&mut self, entrant: Rival, resident: Rival, stake: Stake) -> u32 {
+        self.standings
+            .set_resident(entrant.way, entrant.count, stake);
+        self.goes(resident, stake)
+    }
+
+    fn loses(&mut self, entrant: Rival, way: u32, left: u8) -> u32 {
+        self.standings.set_resident(way, left, Stake::ByCount);
+        self.goes(entrant, Stake::ByCount)
+    }
+
+    fn goes(&mut self, rival: Rival, stake: Stake) -> u32 {
+        self.standings.set(rival.way, Standing::Absent);
+        self.leavers.note(rival.id, rival.count, stake);
+        rival.way
+    }
+
+    // The first resident in turn whose count is 0, where each that isn't loses one; the ninth goes anyway.
+    fn least_resident(&mut self, map: &IdMap, writer: &mut IdWriter, newcomer: u32) -> Option<Rival>
+        requires own { writer.old.table ≡ map.now }
+        ensures own { writer.new.table ≡ map.now }
+        ensures stays { StaysButClerk writer.old writer.new }
+    {
+        for _ in 0..PATIENCE {
+            match self.next_resident(map, writer, newcomer) {
+                Some(resident) if resident.count > 0 => {
+                    self.standings
+                        .set_resident(resident.way, resident.count - 1, Stake::Nothing);
+                }
+                other => return other,
+            }
+        }
+        self.next_resident(map, writer, newcomer)
+    }
+
+    // The first resident in turn that wasn't found since the turn came there last, or the ninth.
+    fn next_resident(&mut self, map: &IdMap, writer: &mut IdWriter, newcomer: u32) -> Option<Rival>
+        requires own { writer.old.table ≡ map.now }
+        ensures own { writer.new.table ≡ map.now }
+        ensures stays { StaysButClerk writer.old writer.new }
+    {
+        let mut patience = PATIENCE;
+        for _ in 0..map.ways() {
+            let way = self.turn;
+            self.turn = place_after(way, 1, map.ways());
+            if way != newcomer {
+                let match_there = self.resident_at(map, writer, way, &mut patience);
+                if match_there.is_some() {
+                    return match_there;
+                }
+            }
+        }
+        None
+    }
+
+    // The resident that has a way, unless it is passed.
+    fn resident_at(
+        &mut self,
+        map: &IdMap,
+        writer: &mut IdWriter,
+        way: u32,
+        patience: &mut u32,
+    ) -> Option<Rival>
+        requires own { writer.old.table ≡ map.now }
+        ensures own { writer.new.table ≡ map.now }
+        ensures stays { StaysButClerk writer.old writer.new }
+    {
+        let Standing::Resident { count, stake } = self.standings.of(way) else {
+            return None;
+        };
+        let (count, is_found) = count_anew(map, writer, way, count);
+        if is_found {
+            self.doubt.finds(stake);
+        }
+        self.standings.set_resident(way, count, Stake::Nothing);
+        if is_found && *patience > 0 {
+            *patience -= 1;
+            return None;
+        }
+        self.rival_at(map, writer, way, count)
+    }
+
+    // The entrant that has waited longest, which waits no more.
+    fn oldest_entrant(&mut self, map: &IdMap, writer: &mut IdWriter, newcomer: u32) -> Option<Rival>
+        requires own { writer.old.table ≡ map.now }
+        ensures own { writer.new.table ≡ map.now }
+        ensures stays { StaysButClerk writer.old writer.new }
+    {
+        for _ in 0..self.entrants.count() {
+            let way = self.entrants.pop()?;
+            if way != newcomer {
+                let oldest = self.entrant_at(map, writer, way);
+                if oldest.is_some() {
+                    return oldest;
+                }
+            }
+        }
+        None
+    }
+
+    fn entrant_at(&mut self, map: &IdMap, writer: &mut IdWriter, way: u32) -> Option<Rival>
+        requires own { writer.old.table ≡ map.now }
+        ensures own { writer.new.table ≡ map.now }
+        ensures stays { StaysButClerk writer.old writer.new }
+    {
+        let Standing::Entrant { count } = self.standings.of(way) else {
+            return None;
+        };
+        let (count, _is_found) = count_anew(map, writer, way, count);
+        self.rival_at(map, writer, way, count)
+    }
+
+    // Who has a way. Where its value was taken since, it has no standing any more.
+    fn rival_at(&mut self, map: &IdMap, writer: &mut IdWriter, way: u32, count: u8) -> Option<Rival>
+        requires own { writer.old.table ≡ map.now }
+        ensures own { writer.new.table ≡ map.now }
+        ensures stays { StaysButClerk writer.old writer.new }
+    {
+        if way < map.ways() {
+            if let Some(id) = map.id_at(writer, way) {
+                return Some(Rival { way, id, count });
+            }
+        }
+        self.standings.set(way, Standing::Absent);
+        None
+    }
+}
+
+// A way's count, with one more where its value was found since this was asked last, and whether it was.
+fn count_anew(map: &IdMap, writer: &mut IdWriter, way: u32, count: u8) -> (u8, bool)
+    requires own { writer.old.table ≡ map.now }
+    ensures own { writer.new.table ≡ map.now }
+    ensures stays { StaysButClerk writer.old writer.new }
+{
+    if way < map.ways() && map.uses_way(writer, way) {
+        (counted(count), true)
+    } else {
+        (count, false)
+    }
+}
+
+// The way that comes so many after this one, or the first.
+fn place_after(way: u32, count: u32, ways: u32) -> u32 {
+    let next = way.saturating_add(count);
+    if next < ways { next } else { 0 }
+}

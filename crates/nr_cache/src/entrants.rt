@@ -1,0 +1,55 @@
+//! The ways of entrants, as they came.
+use std::alloc::{AllocError, Global};
+
+/// A ring with a place for each that may wait. A way that got another id meanwhile stands in it twice.
+#[derive(Drop)]
+pub(crate) struct Entrants {
+    ring: Vec<u32>,
+    oldest: usize,
+    next: usize,
+    count: u32,
+}
+
+impl Entrants {
+    pub fn open(alloc: Global, most: u32) -> Result<Entrants, AllocError> {
+        let ring = vec![in alloc; 0; most as usize]?;
+        Ok(Entrants {
+            ring,
+            oldest: 0,
+            next: 0,
+            count: 0,
+        })
+    }
+
+    pub fn count(&self) -> u32 {
+        self.count
+    }
+
+    /// Adds the newest, where there is a place.
+    pub fn push(&mut self, way: u32) {
+        if self.count as usize >= self.ring.len() {
+            return;
+        }
+        if let Some(place) = self.ring.get_mut(self.next) {
+            *place = way;
+        }
+        self.next = self.after(self.next);
+        self.count = self.count.saturating_add(1);
+    }
+
+    /// Takes the oldest, if there is one.
+    pub fn pop(&mut self) -> Option<u32> {
+        if self.count == 0 {
+            return None;
+        }
+        let way = self.ring.get(self.oldest).copied();
+        self.oldest = self.after(self.oldest);
+        self.count -= 1;
+        way
+    }
+
+    fn after(&self, place: usize) -> usize {
+        let next = place.saturating_add(1);
+        if next < self.ring.len() { next } else { 0 }
+    }
+}
