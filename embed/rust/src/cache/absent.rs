@@ -74,7 +74,8 @@ impl<K: Hash + Eq, V, S: BuildHasher> Cache<K, V, S> {
     /// again where it was replaced or has gone meanwhile, or where another has come. So of several threads that do so at
     /// a time none overwrites what another has put. `make` runs without a lock, and may call the cache. A load of the key
     /// that is under way will not be held. Whether the cache holds the value: it doesn't during a
-    /// [`Change`](crate::Change), nor where it is too heavy. Since any entry may go, `make` is told of none also where the key had one once.
+    /// [`Change`](crate::Change), nor where it is too heavy. Since any entry may go, `make` is told of none also where the
+    /// key had one once.
     ///
     /// ```
     /// let visits: nr::Cache<String, u64> = nr::Cache::builder().open()?;

@@ -2,13 +2,13 @@
 use super::entry::Entry;
 use super::kept::Kept;
 use super::part::Part;
+use super::threads::own_id;
 use super::Cache;
 use std::borrow::Borrow;
 use std::collections::hash_map::RandomState;
 use std::convert::Infallible;
 use std::fmt;
 use std::hash::{BuildHasher, Hash};
-use std::thread;
 
 impl<K: Hash + Eq, V, S: BuildHasher> Cache<K, V, S> {
     /// Begins a change of a key's value in the base. No load that begins before the change has ended will be held, since it
@@ -82,7 +82,7 @@ impl<'a, K: Hash + Eq, V, S: BuildHasher> Change<'a, K, V, S> {
 
     /// The same by what may fail, and then the value goes; where the thread that calls hasn't made the value, it goes too.
     pub(super) fn end_own<E>(self, change: impl FnOnce(&V) -> Result<V, E>) -> Result<bool, E> {
-        let own = Some(thread::current().id());
+        let own = Some(own_id());
         self.end(|old| if old.maker == own { change(&old.value).map(Some) } else { Ok(None) })
     }
 
