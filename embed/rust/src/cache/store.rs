@@ -366,7 +366,7 @@ impl<K, V> Store<K, V> {
 
     /// The entries that came out: all that left but those that readers hold.
     pub fn reap(&mut self) -> Handful<Box<Entry<K, V>>> {
-        // None is asked for where none waits, since the store looks then through all that came out before.
+        // None is asked for where none waits: mostly that saves the call.
         for _ in self.held()..self.lying {
             let Some(out) = self.ids.reap() else { break };
             self.comes_out(out);
