@@ -188,6 +188,32 @@ class File:
         pieces = self.pieces(function.body + 1, function.end - 1)
         return [(deed, self.lines[first]) for first, end in pieces if (deed := self.spelled(first, end))]
 
+    def binds(self, i):
+        """The names that a `let` or a `for` there binds, and the place behind its pattern."""
+        end, names = self.up_to(i + 1, "=", ":", ";", "in"), []
+        for at in range(i + 1, end):
+            is_field = self.words[at + 1] == ":" and at + 1 < end
+            if re.match("[a-z_]", self.words[at]) and not is_field and self.words[at + 1] not in ("(", "::", "{"):
+                names.append(self.words[at])
+        return [name for name in names if name not in ("mut", "ref", "_")], end
+
+    def bound_anew(self, function):
+        """Each place of a function that binds a name which it has there already."""
+        given = range(function.start, function.body)
+        scopes, waiting, i = [{self.words[at - 1] for at in given if self.words[at] == ":"}], set(), function.body
+        while i < function.end:
+            word, end = self.words[i], i + 1
+            if word == "{":
+                scopes, waiting = [*scopes, waiting], set()
+            elif word == "}":
+                scopes.pop()
+            elif word in ("let", "for") and self.words[i + 1] != "<":
+                names, end = self.binds(i)
+                yield from ((i, name) for name in names if name in set().union(*scopes))
+                is_within = word == "for" or self.words[i - 1] in ("if", "while")
+                (waiting if is_within else scopes[-1]).update(names)
+            i = end
+
     def constants(self):
         """Each constant outside of a function, with its line."""
         for i, word in enumerate(self.words):
