@@ -17,7 +17,7 @@ use Rattle.nr_board.proofs.ScannedWords.{flag_elsewhere}
 use Rattle.nr_core.specs.Marks.{LoggedLoad}
 use Rattle.nr_board.specs.Callers.{Table}
 use Rattle.nr_board.specs.Flags.{Flagged, IsFlagged}
-use Rattle.nr_board.specs.Passes.{AreHeard, unflagged}
+use Rattle.nr_board.specs.Passes.{unflagged}
 use Rattle.nr_board.specs.Spares.{TookBySearch, heard_all, not_passed}
 use Rattle.nr_board.specs.WholeScans.{is_unheard}
 
@@ -35,9 +35,6 @@ module _ (table : Table) (retired : List Retired) (heard : List ℕ) (flags : Li
   -- a pass polls just the slots that all readers were heard of
   pub polls_are : (place : ℕ) → unflagged retired flags place ≡ heard_all table.announcers heard (take place retired)
   polls_are place = λ j. not_passed (λ slot. flag_is slot j) (take place retired)
-
-  pub all_heard : AreHeard retired flags table.announcers heard
-  all_heard slot waits unset = flagged.whole slot unset
 
 -- SETS THAT ARE PUT
 

@@ -1,5 +1,5 @@
 -- How a reader comes to hold a set, step by step.
-use Rattle.std.proofs.Common.{◌≡◌, ◌≢◌, ℕ, suc, ◌+◌, ◌-◌, ◌<◌, inl, inr, Bool, true, false, cond, eq-eqb, List, [], ◌∷◌}
+use Rattle.std.proofs.Common.{◌≡◌, ◌≢◌, ℕ, suc, ◌+◌, ◌-◌, inl, inr, Bool, true, false, cond, eq-eqb, List, [], ◌∷◌}
 use Rattle.std.proofs.Common.{◌++◌, append_assoc, append-nil, refl, ap, sym, subst, arith, ◌∙◌}
 use Rattle.std.specs.Prelude.{Option, Some, None}
 use Rattle.nr_model.specs.Histories.{Entry, IsLegal}
@@ -87,15 +87,6 @@ module _ (table : Table) (key m n sum : ℕ) (marks : Marks) (old mid new : MapS
         gains = rests_gains m n sum (token old) (token mid) (token new) (model.Find key) reply.Hole is rests so.gains;
         marks_are = so.marks_are;
       }
-
--- a reader keeps its word
-pub word_kept : (own steps : ℕ) (entries : List Entry) (before after : MapSeat)
-    → Grows steps entries (token before) (token after) → HasWord own before.me.0 → HasWord own after.me.0
-word_kept own steps entries before after grows has =
-    record {
-      number = grows.number ∙ has.number;
-      within = subst (λ (t : Table). own < t.announcers) (sym grows.table) has.within;
-    }
 
 -- who holds nothing lets nothing go
 pub idle_marks : (role : Role) (marks : Marks) → IsIdle role → let_go (grip_of role) marks ≡ marks
@@ -310,16 +301,3 @@ finds_none table key word empty before after idles gains marks =
                 ∙ ap (λ (n : ℕ). acted (with_look before.me.0.marks key n) (put_number after.me.0.seen key)) none;
           };
     }
-
--- by the count it makes no look
-pub holds_counted : (table : Table) (key steps : ℕ) (marks : Marks) (before after : MapSeat) (answer : Option Held)
-    → TakesSteps false answer [] steps → IsAnswered table key (steps + 0) marks before after answer
-    → HoldsAfter 0 false table key marks before after answer
-holds_counted table key steps marks before after answer takes answered = record {
-  steps = steps;
-  named = [];
-  takes = takes;
-  answered =
-      subst (λ (m : Marks). IsAnswered table key (steps + 0) m before after answer)
-      (sym (looked_none marks key [] refl)) answered;
-}

@@ -1,5 +1,5 @@
 -- What the look of a call tells the writer, by the word that it found.
-use Rattle.std.proofs.Common.{Bool, List, [], ap, cond, eq-eqb, false, ne_eqb, not, refl, subst, sym, true, ℕ, ◌<◌, ◌∙◌}
+use Rattle.std.proofs.Common.{Bool, List, [], ap, cond, eq-eqb, false, ne_eqb, not, subst, sym, true, ℕ, ◌<◌, ◌∙◌}
 use Rattle.std.proofs.Common.{◌≡◌, ◌≢◌, ◌≤◌}
 use Rattle.std.proofs.lemmas.Bool.{le-ltb, lt-ltb, not-false, not-true}
 use Rattle.nr_model.specs.declared.calls.Reply.TheVariants as reply
@@ -22,7 +22,7 @@ use Rattle.nr_board.specs.Callers.{Table, token}
 use Rattle.nr_core.specs.Spares.{Spare}
 use Rattle.nr_board.specs.Spares.{desk_with}
 use Rattle.nr_core.specs.Marks.{with_polls}
-use Rattle.nr_board.specs.WriterSeats.{IsBetween, LeadsIn, MapSeat, RestsAt}
+use Rattle.nr_board.specs.WriterSeats.{LeadsIn, MapSeat, RestsAt}
 
 -- the writer rests with its slots at its own map
 pub rests_own : (table : Table) (spare : Spare) (seat : MapSeat) → RestsAt table spare seat
@@ -32,9 +32,6 @@ rests_own table spare seat rests = subst (λ (t : Table). RestsAt t spare seat) 
 pub rests_here : (table : Table) (spare : Spare) (seat : MapSeat) → (token seat).table ≡ table
     → RestsAt (token seat).table spare seat → RestsAt table spare seat
 rests_here table spare seat own rests = subst (λ (t : Table). RestsAt t spare seat) own rests
-
-pub between_calls : (table : Table) (spare : Spare) (seat : MapSeat) → RestsAt table spare seat → IsBetween table seat
-between_calls table spare seat rests = record { desk = desk_with spare Idle; writes = rests.writes; place = refl }
 
 -- what the parts of the word that was found say
 module _ {parts : KeyParts} (word : ℕ) (is : parts ≡ parts_of word) where

@@ -8,7 +8,7 @@ use Rattle.atomic_table.specs.Table.{opening}
 use Rattle.nr_model.specs.declared.states.KeyState.TheVariants as states
 use Rattle.std.proofs.lemmas.List.{get_or-replicate}
 use Rattle.nr_core.proofs.Opening.{blank_at_opening, core_opens}
-use Rattle.nr_core.specs.Core.{AreNumbers, ShowsState}
+use Rattle.nr_core.specs.Core.{ShowsState}
 use Rattle.nr_core.specs.Roles.{is_by}
 use Rattle.nr_core.specs.Sizes.{IsShape}
 use Rattle.nr_core.specs.Slots.{departures, layout, name_number, words_at_opening}
@@ -23,7 +23,6 @@ use Rattle.nr_board.specs.declared.board.Plan.{Plan}
 use Rattle.nr_board.specs.Rule.{Fits, Kept, marks_of, role_of}
 use Rattle.nr_board.specs.Views.{View, opener}
 use Rattle.nr_core.specs.States.{opening_desk}
-use Rattle.nr_core.specs.Story.{map_after}
 use Rattle.nr_core.specs.declared.roles.Role.TheVariants.{Writer}
 
 only_one : {A : Type 0} (a : A) (j : ℕ) (b : A) → get_elem? (a ∷ []) j ≡ some b → a ≡ b
@@ -128,8 +127,3 @@ opens_so plan fits small = let shape = plan.shape in let view = opener plan in
           (only_one view place who there) (no_places (Since role_of marks_of (view ∷ [])));
       maker = λ j u at w. ap (λ (y : View). y.made) (sym (only_one view j u at));
     }
-
--- each key has the first number
-pub numbers_open : (shape : Shape) → IsShape shape
-    → AreNumbers shape (map_after shape []) (replicate shape.keys shape.first_number)
-numbers_open shape fits = ((core_opens shape fits 0 (omega arith)).knows 0 (Writer (opening_desk shape)) refl).numbers

@@ -307,21 +307,3 @@ module _ (table : Table) (spare : Spare) (before : MapSeat) (rests : RestsAt tab
     kept_rests =
         rests_after table spare before now _ _ keeps.scanned rests same keeps.view spare
         (λ j. record spare { reaped = rests.reaped j })
-
-  -- nothing waits
-  pub none_waits : (now : MapSeat) → SweepsHeard spare before now sweep.Nothing
-      → (waiting (token before).marks.reaped (token before).retired ≡ []) × (now.me.0 ≡ before.me.0)
-  none_waits now found = ⊎_elim
-      (λ (once : SweepsFor spare before now sweep.Nothing × (sweep.Nothing ≡ sweep.Held → before.me.0.announcers ≡ 0)).
-      (sym waiting_is ∙ once.0.0, once.0.1))
-      (λ (twice : (0 < before.me.0.announcers) × (mid last : MapSeat) × SweepsFor spare before mid sweep.Held
-      × (loads : List LoggedLoad)
-      × WordsTell before.me.0.announcers spare.retired before.me.0.shape.slots loads last.me.0.heard
-      × (last.me.0 ≡ scanned_to loads last.me.0.heard mid.me.0) × SweepsFor spare last now sweep.Nothing).
-      absurd (let some_wait = twice.3.1 in let none = ap length twice.7.0 in omega arith)) found
-
-  -- the seat as it was
-  pub stays_rests : (now : MapSeat) → now.table_id ≡ before.table_id → now.me.0 ≡ before.me.0 → RestsAt table spare now
-  stays_rests now same view =
-      rests_after table spare before now before.me.0.steps before.me.0.marks before.me.0.heard rests same view spare
-      (λ j. record spare { reaped = rests.reaped j })

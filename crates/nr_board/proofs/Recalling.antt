@@ -3,7 +3,6 @@ use Rattle.std.proofs.Common.{◌≡◌, ℕ, ◌<◌, ◌∙◌, List, inl, ref
 use lib.Seq.{set-get_or}
 use mathlib.Core.Option.{none}
 use Rattle.atomic_table.specs.Table.{Allows, Me, keeps, step}
-use Rattle.nr_model.specs.Rows.{IsRowSet}
 use Rattle.nr_core.specs.Roles.{is_writer}
 use Rattle.nr_core.specs.Slots.{bound_of, content, slot_room}
 use Rattle.nr_core.proofs.WordPlaces.{content_inside}
@@ -14,12 +13,10 @@ use Rattle.nr_core.specs.Marked.{KnowsMarks}
 use Rattle.nr_core.specs.Marks.{set_in}
 use Rattle.nr_board.proofs.Notes.{heard_same, replaced}
 use Rattle.nr_board.proofs.Rows.{length-encode}
-use Rattle.nr_board.specs.Callers.{Table}
 use Rattle.nr_board.specs.Notes.{has_noted}
-use Rattle.nr_board.specs.Recalls.{IsWordOf, RecallsAt, RecallsRows, has_recalled, waited}
+use Rattle.nr_board.specs.Recalls.{IsWordOf, has_recalled}
 use Rattle.nr_board.specs.Rule.{Fits, Kept, marks_of, role_of}
 use Rattle.nr_board.specs.Views.{View}
-use Rattle.nr_board.specs.WriterSeats.{MapSeat}
 
 pub recalls_so : (shape : Shape) (slots id : ℕ) (me : Me (Unit {0}) View) (place : ℕ)
     → Allows (Kept shape) slots id me place (λ word. word) (has_recalled (step slots place 0 0 none) me)
@@ -71,21 +68,3 @@ recalls_so shape slots id me place state kept homes at bounded =
             )) near there;
       },
     )
-
--- the seat can recall the slot after steps that tell it nothing
-pub recalls_later : (table : Table) (slot : ℕ) (before after : MapSeat) (steps : ℕ) → after.table_id ≡ before.table_id
-    → after.me.0 ≡ waited steps before.me.0 → RecallsAt table slot before → RecallsAt table slot after
-recalls_later table slot before after steps same waits at = record {
-  own = (λ j. record { id = same j; shape = (waits j).shape; announcers = (waits j).announcers }) ∙ at.own;
-  desk = at.desk;
-  role = ap (λ (v : View). v.role) waits ∙ at.role;
-  inside = at.inside;
-  untouched = at.untouched;
-}
-
-pub rows_later : (table : Table) (slot : ℕ) (before after : MapSeat) (steps : ℕ) → after.table_id ≡ before.table_id
-    → after.me.0 ≡ waited steps before.me.0 → RecallsRows table slot before → RecallsRows table slot after
-rows_later table slot before after steps same waits ready = record {
-  at = recalls_later table slot before after steps same waits ready.at;
-  row_set = subst (λ (v : View). IsRowSet (bound_of table.shape) (set_in v.marks slot)) (sym waits) ready.row_set;
-}

@@ -1,8 +1,8 @@
 -- The two passes of a search and the scan between them, put together.
-use Rattle.std.proofs.Common.{◌≡◌, ℕ, suc, ◌+◌, ◌<◌, ◌≤◌, ◌⊎◌, ⊎_elim, inl, inr, List, [], ◌∷◌, ◌++◌, Bool, true, cond}
+use Rattle.std.proofs.Common.{◌≡◌, ℕ, suc, ◌+◌, ◌<◌, ◌≤◌, ◌⊎◌, inl, inr, List, [], ◌∷◌, ◌++◌, Bool, true, cond}
 use Rattle.std.proofs.Common.{ne_eqb, get_or, append_assoc, length, length-append, take, take_all, refl, sym, ap, ◌∙◌}
 use Rattle.std.proofs.Common.{subst, arith}
-use mathlib.Core.Option.{some, some-ne-none}
+use mathlib.Core.Option.{some}
 use lib.ListN.{get_elem?}
 use Rattle.nr_core.proofs.Choices.{by_cases}
 use Rattle.nr_core.specs.Spares.{Spare, none_spare}
@@ -11,17 +11,14 @@ use Rattle.nr_core.specs.declared.places.Retired.{Retired}
 use Rattle.nr_core.proofs.ListPlaces.{at_left}
 use Rattle.nr_core.specs.Marks.{Marks, OfSlot, OfWord, Past, LoggedLoad, with_scan}
 use Rattle.nr_core.specs.Roles.{retirements}
-use Rattle.std.specs.Prelude.{Some}
-use Rattle.nr_model.specs.Histories.{IsLegal}
-use Rattle.nr_board.specs.Entries.{AreCallers}
 use Rattle.nr_board.proofs.Keepers.{adds_both, at_behind, held_within, kept_back}
 use Rattle.nr_board.proofs.Passes.{notes_few}
 use Rattle.nr_board.proofs.PollNotes.{reached_all, reached_waits}
 use Rattle.nr_board.proofs.Searching.{grows_from}
 use Rattle.nr_board.proofs.Tokens.{grows_both, grows_rests, seat_grows}
-use Rattle.nr_board.specs.Callers.{Grows, IsSound, Rests, Table, map_at_opening, token}
+use Rattle.nr_board.specs.Callers.{Grows, Rests, Table, token}
 use Rattle.nr_board.specs.Flags.{Flagged}
-use Rattle.nr_board.specs.Passes.{NotesTo, PassTakes, PassedTo, PolledTo, polls_before, unflagged}
+use Rattle.nr_board.specs.Passes.{PassTakes, PassedTo, PolledTo, polls_before, unflagged}
 use Rattle.nr_board.specs.Noting.{Adds}
 use Rattle.nr_board.specs.Polls.{HeldThen, KeptThen, SaidThen}
 use Rattle.nr_board.specs.Spares.{heard_all, held_polls, not_passed}
@@ -48,25 +45,6 @@ use Rattle.nr_board.specs.Views.{View}
 use Rattle.nr_board.specs.WholeScans.{FlaggedIn, KeepBack, SaidBehind, ScannedTo, is_unheard, misses}
 use Rattle.nr_board.specs.WriterSeats.{MapSeat}
 
--- no notes, before the first pass
-pub no_notes : (retired : List Retired) (flags : List Bool) (readers : ℕ) (notes : List Past) → notes ≡ []
-    → NotesTo retired flags readers 0 (length notes) notes
-no_notes retired flags readers notes none = record {
-  many = omega arith;
-  each = λ at note there. absurd (some-ne-none note (sym there ∙ ap (λ (l : List Past). get_elem? l at) none));
-  apart = λ reader.
-      let empty = ap (λ (l : List Past). total (λ (n : Past). only reader n.reader) l) none in omega arith;
-}
-
--- what a caller knows stays sound as it grows
-pub sound_on : (steps : ℕ) (table : Table) (old new : MapSeat) → Grows steps [] (token old) (token new)
-    → IsSound (token new)
-sound_on steps table old new grows = record {
-  legal = subst (λ (t : Table). IsLegal (map_at_opening t) (token new).seen) (sym grows.table) grows.legal;
-  own = grows.own;
-  callers = subst (λ (t : Table). AreCallers t.shape (token new).seen) (sym grows.table) grows.callers;
-}
-
 module _ (table : Table) (spare : Spare) (flags : List Bool) (before now : MapSeat)
     (same : now.table_id ≡ before.table_id) (sized : (token before).table ≡ table) (some_words : 0 < table.announcers)
     (scanned : ScannedTo spare.retired before.me.0 now.me.0 flags table.announcers) where
@@ -88,22 +66,6 @@ module _ (table : Table) (spare : Spare) (flags : List Bool) (before now : MapSe
 
   keep : KeepBack spare.retired flags table.announcers now.me.0.marks.polls
   keep = subst (KeepBack spare.retired flags table.announcers) base_is scanned.keep
-
-  -- its notes are those that the second pass begins with
-  pub scan_notes : table.announcers ≤ table.shape.readers
-      → NotesTo spare.retired flags table.shape.readers 0 (length now.me.0.marks.polls) now.me.0.marks.polls
-  scan_notes few = record {
-    many = omega arith;
-    each = λ at note there. let one = keep.each at note there in record {
-      made = one.made;
-      few = let low = one.few in omega arith;
-      holds =
-          ⊎_elim inl
-          (λ (h : (slot : ℕ) × (note.slot ≡ Some slot) × (is_unheard flags slot ≡ true)). inr (h.0, h.1, inl h.2))
-          one.holds;
-    };
-    apart = keep.apart;
-  }
 
   pub scan_many : length now.me.0.marks.polls ≡ total (misses flags) spare.retired
   scan_many = keep.many

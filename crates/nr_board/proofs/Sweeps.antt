@@ -42,7 +42,7 @@ use Rattle.nr_board.proofs.PollNotes.{at_get}
 use Rattle.nr_board.specs.Callers.{Caller, Table, caller_of, map_seen, token}
 use Rattle.nr_board.specs.Entries.{AreCallers}
 use Rattle.nr_board.specs.Plays.{Room}
-use Rattle.nr_board.specs.Reaping.{HeldEach, ProbesAt, ProbesTo, SweepsFor, SweptTo, probed, ready, ready_in, waiting}
+use Rattle.nr_board.specs.Reaping.{HeldEach, ProbesAt, ProbesTo, SweepsFor, SweptTo, probed, ready_in, waiting}
 use Rattle.nr_board.specs.Rule.{Kept, marks_of, role_of}
 use Rattle.nr_board.specs.Spares.{desk_with, held_polls, not_passed}
 use Rattle.nr_board.specs.Views.{View, caller_number, desk_of}
@@ -129,12 +129,6 @@ drop_at : (l : List Retired) (place : ℕ) → place < length l
 drop_at [] place low = absurd (omega arith)
 drop_at (x ∷ l) zero low = refl
 drop_at (x ∷ l) (suc place) low = drop_at l place (omega arith)
-
-drop_all : (l : List Retired) (place : ℕ) → length l ≤ place → drop place l ≡ []
-drop_all [] zero all = refl
-drop_all [] (suc place) all = refl
-drop_all (x ∷ l) zero all = absurd (omega arith)
-drop_all (x ∷ l) (suc place) all = drop_all l place (omega arith)
 
 abbrev flag : List Bool → ℕ → Bool
 flag flags slot = get_or flags slot false
@@ -425,31 +419,6 @@ swept_first spare seat (suc count) known =
     let earlier = swept_first spare seat count (omega (arith, known.0), λ place first. known.1 place (omega arith)) in
     let next = swept_past spare seat seat count false earlier (omega (arith, known.0)) (known.1 count (omega arith)) in
     subst (λ place. SweptTo spare seat seat place false) (omega arith) next
-
--- all were looked at
-module _ (spare : Spare) (before after : MapSeat) (place : ℕ) (all : length spare.retired ≤ place) where
-  all_held : (waits : Bool) (so_far : SweptTo spare before after place waits) → ready_in spare before.me.0 ≡ so_far.held
-  all_held waits so_far =
-      so_far.split
-      ∙ ap (λ (l : List Retired). so_far.held ++ ready before.me.0.announcers before.me.0.heard spare.reaped l)
-      (drop_all spare.retired place all)
-      ∙ append-nil so_far.held
-
-  pub sweeps_held : SweptTo spare before after place true → SweepsFor spare before after sweep.Held
-  sweeps_held so_far = (
-    so_far.notes,
-    so_far.some_wait refl,
-    subst (λ (l : List Retired). HeldEach before.me.0.shape.readers l so_far.notes) (sym (all_held true so_far))
-        so_far.each,
-    so_far.view
-        ∙ ap (λ (l : List Retired). probed so_far.notes (held_polls l) before.me.0) (sym (all_held true so_far)),
-  )
-
-  pub sweeps_nothing : SweptTo spare before after place false → SweepsFor spare before after sweep.Nothing
-  sweeps_nothing so_far = let none = so_far.none_wait refl in (
-    none.2 ∙ ap (waiting spare.reaped) (drop_all spare.retired place all),
-    so_far.view ∙ (λ j. probed (none.0 j) (held_polls (none.1 j)) before.me.0) ∙ probed_none before.me.0,
-  )
 
 -- THE SEAT
 

@@ -32,13 +32,6 @@ spare_shown table spare seat rests = λ j. record {
   reaped = sym rests.reaped j;
 }
 
--- no steps
-pub later_none : (seat : MapSeat) → later 0 seat ≡ seat
-later_none seat = λ j. record seat { me = (record seat.me.0 { steps = none j }, seat.me.1) }
-  where
-    none : seat.me.0.steps + 0 ≡ seat.me.0.steps
-    none = omega arith
-
 waited_token : (mid new : MapSeat) (steps : ℕ) → new.table_id ≡ mid.table_id → new.me.0 ≡ waited steps mid.me.0
     → token new ≡ with_steps steps (token mid)
 waited_token mid new steps same waits = λ j. caller_of (same j) (waits j)

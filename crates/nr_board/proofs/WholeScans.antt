@@ -12,7 +12,7 @@ use Rattle.nr_core.specs.declared.places.Retired.{Retired}
 use Rattle.nr_core.specs.declared.roles.Desk.{Desk}
 use Rattle.nr_core.specs.Marks.{with_loads}
 use Rattle.nr_board.proofs.WordLoads.{words_begin, words_many, words_more, words_told}
-use Rattle.nr_board.specs.Flags.{Flagged, OthersFlagged}
+use Rattle.nr_board.specs.Flags.{OthersFlagged}
 use Rattle.nr_board.specs.Scans.{heard_from}
 use Rattle.nr_board.specs.Callers.{Table}
 use Rattle.nr_board.specs.Plays.{Room}
@@ -155,30 +155,6 @@ scan_goes table spare before now next flags own found so_far same tells =
           listed quiet;
     }
 
--- after the last word the flags tell just what was heard
-all_flagged : (table : Table) (retired : List Retired) (heard : List ℕ) (flags : List Bool) → 0 < table.announcers
-    → length flags ≡ table.shape.slots → HeardTo retired flags table.announcers heard → OthersFlagged retired flags
-    → ((slot : ℕ) → retirements slot retired ≡ 0 → get_or heard slot 0 ≡ 0) → Flagged table retired heard flags
-all_flagged table retired heard flags some_words wide told others quiet = record {
-  wide = wide;
-  whole = λ slot unset. dite (ℕ_discrete (retirements slot retired) 0)
-      (λ none. absurd (differ (sym (others slot none) ∙ unset)))
-      (λ waits. let is = told.whole slot (omega arith) unset in omega arith);
-  stuck = λ slot set_now. dite (ℕ_discrete (retirements slot retired) 0)
-      (λ none. let is = quiet slot none in omega arith)
-      (λ waits. told.stuck slot (omega arith) set_now);
-  others = others;
-}
-  where
-    differ : true ≡ false → ⊥
-    differ clash = absurd (cc)
-
-pub scan_flagged : (table : Table) (spare : Spare) (before now : MapSeat) (flags : List Bool) → 0 < table.announcers
-    → ScanGoes table spare before now flags table.announcers → Flagged table spare.retired now.me.0.heard flags
-scan_flagged table spare before now flags some_words goes =
-    all_flagged table spare.retired now.me.0.heard flags some_words goes.wide (goes.scanned.heard some_words)
-    goes.others (goes.quiet some_words)
-
 -- BETWEEN CALLS
 
 -- the scan so far of a writer that rests
@@ -285,13 +261,6 @@ module _ (table : Table) (spare : Spare) (before now : MapSeat) (flags : List Bo
         quiet = λ _. quiet_so desk now.me.0 next.me.0 flags own found once near wide so_far.first so_far.heard heard
             so_far.quiet;
       }
-
-pub resting_scan_flagged : (table : Table) (spare : Spare) (before now : MapSeat) (flags : List Bool)
-    → 0 < table.announcers → RestingScan table spare before now flags table.announcers
-    → Flagged table spare.retired now.me.0.heard flags
-resting_scan_flagged table spare before now flags some_words goes =
-    all_flagged table spare.retired now.me.0.heard flags some_words goes.wide (goes.heard some_words) goes.others
-    (goes.quiet some_words)
 
 -- and the words that were loaded are what it heard by
 pub resting_scan_hears : (table : Table) (spare : Spare) (before now : MapSeat) (flags : List Bool)

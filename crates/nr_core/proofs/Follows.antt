@@ -5,11 +5,9 @@ use Rattle.std.proofs.lemmas.Bool.{eqb-true, leb-true, ltb-true}
 use Rattle.std.specs.Prelude.{None, Option, Some, nat_le, ◌&&◌}
 use Rattle.nr_model.specs.Histories.{Entry, entries_of}
 use Rattle.nr_model.specs.Maps.{ask_reply, find_reply}
-use Rattle.nr_model.specs.Rows.{IsRowSet}
 use Rattle.nr_model.specs.declared.calls.Call.{Call}
 use Rattle.nr_model.specs.declared.calls.Reply.{Reply}
 use Rattle.nr_model.specs.declared.states.KeyState.{KeyState}
-use Rattle.nr_model.specs.declared.rows.Row.{Row}
 use Rattle.nr_words.specs.SetWords.{encode}
 use Rattle.nr_core.proofs.Choices.{by_cases}
 use Rattle.nr_core.proofs.Go.{own_ending_at}
@@ -21,7 +19,7 @@ use Rattle.nr_core.proofs.Settle.{own_ending}
 use Rattle.nr_core.proofs.Stands.{holder}
 use Rattle.nr_core.proofs.StateRoles.{IsCoreState}
 use Rattle.nr_core.proofs.WordPlaces.{content_apart, content_inside, departures_inside, same_content}
-use Rattle.nr_core.specs.Core.{AtDesk, AtPlace, Puts}
+use Rattle.nr_core.specs.Core.{AtDesk, AtPlace}
 use Rattle.nr_core.specs.Laws.{EndsWithout, Follows, IsJustified, caller_of_event}
 use Rattle.nr_core.specs.Machine.{found_by, moved, names_held, unless}
 use Rattle.nr_core.specs.Operations.{going, operation, target_of}
@@ -32,14 +30,13 @@ use Rattle.nr_core.specs.Refusals.{has_key, has_reader, if_busy, if_holding, if_
 use Rattle.nr_core.specs.Refusals.{if_unreadable, refusal}
 use Rattle.nr_core.specs.Roles.{held}
 use Rattle.nr_words.specs.KeyWords.{naming}
-use Rattle.nr_core.specs.Slots.{bound_of, content, slot_room}
+use Rattle.nr_core.specs.Slots.{content, slot_room}
 use Rattle.nr_core.specs.States.{retired_at, Arrive, Ask, Depart, Event, FindAgain, Go, Read, Start, State, hold_of}
 use Rattle.nr_core.specs.States.{key_of, slot_in}
 use Rattle.nr_core.specs.Story.{Story, answering, call_of, map_after, polls_after, shown, told}
 use Rattle.nr_core.specs.Writer.{looked, went}
 use Rattle.nr_core.specs.declared.calls.NoSlot.{NoSlot}
 use Rattle.nr_core.specs.declared.calls.Refusal.{Refusal}
-use Rattle.nr_core.specs.declared.calls.WriterCall.{WriterCall}
 use Rattle.nr_core.specs.declared.places.Hold.{Hold}
 use Rattle.nr_core.specs.declared.places.Place.{Place}
 use Rattle.nr_core.specs.declared.places.Place.TheVariants.{Idle, Leaving, Putting, Reading, Searching, Withdrawing}
@@ -72,18 +69,6 @@ told_by_caller state (Start call) c =
     own_ending (call_of call) (looked state.shape state.desk call (found_by state (Start call))).1 c
 told_by_caller state Go c =
     own_ending_at state.desk.place (went state.shape state.desk state.desk.place (found_by state Go)).1 c
-
--- the set that is put is a row set
-taken_set : (state : State) (log : List Entry) → IsCoreState state log
-    → (call : WriterCall) (rows : List Row) (slot departed index : ℕ)
-    → state.desk.place ≡ Putting call rows slot departed index → IsRowSet (bound_of state.shape) rows
-taken_set state log is_core call rows slot departed index is =
-    let p : Puts state.shape state.words (map_after state.shape log) (held is_core.roles) call rows slot departed index
-    = subst
-    (AtPlace state.shape state.words (map_after state.shape log) (held is_core.roles) state.desk.fresh
-    state.desk.retired)
-    is (is_core.core.knows 0 (Writer state.desk) is_core.fit.writer).place in
-    p.wants.row_set
 
 -- the word of a read that is not refused is a slot's, and so is that of a departure
 readable_room : (shape : Shape) (index : ℕ) (held : Hold) → if_unreadable index held ≡ None → RoomOf shape held

@@ -77,6 +77,5 @@ mod PollMarks
 mod HowOften
 mod Tidy
 mod Strays
-mod PutLists
 mod ByHistory
 mod InTime

@@ -1,7 +1,7 @@
 -- What is known of the retired slots as their list changes: how often each is there, and that the first were reaped.
 use Rattle.std.proofs.Common.{List, [], Bool, true, false, ap, arith, get_or, length, refl, remove, set, subst, suc}
-use Rattle.std.proofs.Common.{sym, zero, ℕ, ◌++◌, ◌+◌, ◌-◌}
-use Rattle.std.proofs.Common.{◌<◌, ◌∙◌, ◌∷◌, ◌≡◌, ◌≢◌, ◌≤◌, slice_index, slice_index_or}
+use Rattle.std.proofs.Common.{zero, ℕ, ◌++◌, ◌+◌, ◌-◌}
+use Rattle.std.proofs.Common.{◌<◌, ◌∙◌, ◌∷◌, ◌≡◌, ◌≤◌, slice_index, slice_index_or}
 use mathlib.Core.Logic.{dite}
 use native.Mathlib.Decide.{ℕ_discrete, dec_lt}
 use Rattle.std.proofs.lemmas.List.{get_or-set_other, get_or-set_same, length-append}
@@ -130,16 +130,6 @@ module _ (count : ℕ) (retired : List Retired) (reaped : List Bool) (known : Ar
         let moved = ap (λ it. retirements it retired) same in
         absurd (omega arith))
         ∙ known.1 place first,
-  )
-
-  -- the next one was too
-  pub reaped_next : count < length retired → get_or reaped (get_or retired count no_retired).slot false ≡ true
-      → AreReaped (count + 1) retired reaped
-  reaped_next inside next = (
-    omega arith,
-    λ place first. dite (ℕ_discrete place count)
-        (λ same. ap (λ it. get_or reaped (get_or retired it no_retired).slot false) same ∙ next)
-        (λ other. known.1 place (omega arith)),
   )
 
 pub reaped_tail : (count : ℕ) (first : Retired) (others : List Retired) (reaped : List Bool)

@@ -332,10 +332,6 @@ module _ (id way : ℕ) (real : 0 < id) (old first second third fourth : Token) 
 -- a way's name is taken, and then its hint
 module _ (way : ℕ) (old mid new : Token) (clerk : old.number ≡ 0) (takes : Grows (unnamed way ∷ []) old mid)
     (hint : SetsHint way 0 mid new) where
-  pub unnamed_free : name_of mid.seen way ≡ 0
-  unnamed_free =
-      clerk_names old (unnamed way ∷ []) mid way clerk takes ∙ cond_same 0 (name_of old.seen way) way way refl
-
   pub unhinted : Grows
       (touched old.number (hinted (group_of_way way) hint.hints) ∷ looked old.number ∷ unnamed way ∷ []) old new
   unhinted =

@@ -10,7 +10,7 @@ use Rattle.std.proofs.lemmas.Nat.{div-mul-add}
 use lib.Count.{leading_top}
 use native.Mathlib.Nat.{two-pow-succ}
 use Rattle.std.proofs.lemmas.List.{get_or-map}
-use Rattle.std.proofs.lemmas.Simd.{bit_mask_l, mask_l-lt}
+use Rattle.std.proofs.lemmas.Simd.{bit_mask_l}
 use Rattle.std.proofs.lemmas.Nat.Bits.{bit_at-suc, bit_at_above, bit_at_and, bit_at_lowest}
 use Rattle.nr_ids.specs.Events.{hint_at}
 use Rattle.nr_ids.specs.Looking.{IsFirst}
@@ -32,9 +32,6 @@ fits_so hints hint place low on = dite (ℕ_discrete (hint_at hints place) hint)
 
 pub is_fitting : (hints hint place : ℕ) → place < 8 → hint_at hints place ≡ hint → bit_at (matches hints hint) place ≡ 1
 is_fitting hints hint place low e = bit_here hints hint place low ∙ cond_same 1 0 (hint_at hints place) hint e
-
-pub matches_few : (hints hint : ℕ) → matches hints hint < 2 ^ 8
-matches_few hints hint = mask_l-lt (map (λ (x : ℕ). x == hint) (to_le_bytes w64 hints))
 
 -- the first of some places is one of eight
 pub first_inside : (bits place : ℕ) → bits < 2 ^ 8 → bit_at bits place ≡ 1 → place < 8

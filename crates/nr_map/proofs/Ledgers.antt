@@ -5,7 +5,7 @@ use Rattle.std.proofs.Common.{get_or-set_same, inl, inr, length, length-append, 
 use Rattle.std.proofs.Common.{suc, sym, take, true, zero, ℕ, ⊎_elim, ◌++◌, ◌+◌, ◌<◌, ◌∙◌, ◌∷◌, ◌≡◌, ◌≤◌, ◌≢◌, ◌⊎◌}
 use Rattle.std.specs.Prelude.{◌||◌, Some, replicate}
 use Rattle.std.proofs.lemmas.Bool.{eqb-false, le-ltb, lt-ltb, ne_eqb}
-use Rattle.std.proofs.lemmas.List.{length-replicate, take_all}
+use Rattle.std.proofs.lemmas.List.{get_or-take, length-replicate, length-take-le, take_all}
 use lib.ListN.{get_elem?}
 use mathlib.Core.Logic.{dite}
 use mathlib.Core.Option.{some, some-injective, some-ne-none}
@@ -106,17 +106,6 @@ take_put (y ∷ l) (suc n) x low = ap (λ (t : List ℕ). y ∷ t) (take_put l n
 take_zero : (l : List ℕ) → take 0 l ≡ []
 take_zero [] = refl
 take_zero (y ∷ l) = refl
-
-pub length_take : (l : List ℕ) (n : ℕ) → n ≤ length l → length (take n l) ≡ n
-length_take l zero low = ap length (take_zero l)
-length_take [] (suc n) low = absurd (omega arith)
-length_take (y ∷ l) (suc n) low = let rest = length_take l n (omega arith) in omega arith
-
-pub get_take : (l : List ℕ) (n i : ℕ) → i < n → get_or (take n l) i 0 ≡ get_or l i 0
-get_take l zero i low = absurd (omega arith)
-get_take [] (suc n) i low = refl
-get_take (y ∷ l) (suc n) zero low = refl
-get_take (y ∷ l) (suc n) (suc i) low = get_take l n i (omega arith)
 
 -- COUNTS OF WHAT WAS NOT REAPED
 
@@ -251,8 +240,8 @@ pub stands_once : (writer : Caller) (gone : List ℕ) (slot number : ℕ) → Le
     → get_or writer.marks.reaped slot false ≡ false → (number < put_count writer.mine) × (count_of_put gone number ≡ 0)
 stands_once writer gone slot number ledger low is kept =
     let stands = count_at number (take writer.fresh writer.marks.puts) writer.marks.reaped slot
-    (omega (arith, length_take writer.marks.puts writer.fresh (omega (arith, ledger.slots.0, ledger.slots.1))))
-    (get_take writer.marks.puts writer.fresh slot low ∙ is) kept in
+    (omega (arith, length-take-le writer.fresh writer.marks.puts (omega (arith, ledger.slots.0, ledger.slots.1))))
+    (get_or-take writer.fresh writer.marks.puts slot 0 low ∙ is) kept in
     dite (dec_le (put_count writer.mine) number) (λ high. absurd (let none = ledger.later number high in omega arith))
     (λ low'. let one = ledger.put number (omega arith) in (omega arith, omega arith))
 
@@ -321,7 +310,7 @@ module _ (steps : ℕ) (call : Call) (rows : List Row) (old new : Caller) (gone 
       let flags = old.marks.reaped in
       let n : ℕ = published.number in
       let size : length (take old.fresh old.marks.puts) ≡ old.fresh
-      = length_take old.marks.puts old.fresh (omega (arith, ledger.slots.0, fresh.0)) in
+      = length-take-le old.fresh old.marks.puts (omega (arith, ledger.slots.0, fresh.0)) in
       let stands : standing new ≡ standing old ++ n ∷ []
       = (λ j. unreaped (take (grown j) (puts_are j)) (flags_are j))
       ∙ ap (λ (i : ℕ). unreaped (take (suc old.fresh) (set old.marks.puts i n)) (set flags i false)) fresh.1
@@ -497,7 +486,7 @@ reaped_once_lem held later entry notes steps scanned loads old new gone waits is
     let puts = old.marks.puts in
     let n : ℕ = get_or puts slot 0 in
     let low = ledger.taken slot (inr (there.0, entry, there.1, refl)) in
-    let size = length_take puts old.fresh (omega (arith, ledger.slots.0, ledger.slots.1)) in
+    let size = length-take-le old.fresh puts (omega (arith, ledger.slots.0, ledger.slots.1)) in
     let counts : (number : ℕ)
     → count_of_put (unreaped (take old.fresh puts) (set old.marks.reaped slot true)) number
     + count_of_put (gone ++ n ∷ []) number
@@ -506,7 +495,7 @@ reaped_once_lem held later entry notes steps scanned loads old new gone waits is
       arith,
       count_reaped number (take old.fresh puts) old.marks.reaped slot (omega arith)
           (omega (arith, ledger.slots.1, ledger.slots.2)) there.2,
-      ap (one_if number) (get_take puts old.fresh slot low),
+      ap (one_if number) (get_or-take old.fresh puts slot 0 low),
       count_both number gone
           (n ∷ []),
       count_cons number n [],

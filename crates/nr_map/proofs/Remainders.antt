@@ -13,7 +13,7 @@ use Rattle.nr_board.specs.Callers.{Caller}
 use Rattle.nr_map.specs.Reclaims.{standing, unreaped}
 use Rattle.nr_map.specs.Remains.{AllComeOut, Given, Left, NextSlot, NoMore, OneMore, RestComesOutOnce, given_at}
 use Rattle.nr_map.specs.Remains.{numbers}
-use Rattle.nr_map.proofs.Ledgers.{get_take, length_take}
+use Rattle.std.proofs.lemmas.List.{drop_all, get_or-take, length-take-le}
 
 -- THE SLOTS FROM ONE ON
 
@@ -45,12 +45,6 @@ past l flags (suc n) from end is low near gone =
     past_one l flags from (omega arith) (omega arith) (gone from (omega arith) (omega arith))
     ∙ past l flags n (suc from) end (omega arith) low near (λ slot first before. gone slot (omega arith) before)
 
-drop_whole : (l : List ℕ) (i : ℕ) → length l ≤ i → drop i l ≡ []
-drop_whole [] zero all = refl
-drop_whole [] (suc i) all = refl
-drop_whole (y ∷ l) zero all = absurd (omega arith)
-drop_whole (y ∷ l) (suc i) all = drop_whole l i (omega arith)
-
 -- WHAT COMES OUT
 
 -- the writer's lists are as long as it has slots
@@ -73,23 +67,23 @@ next_stands : (writer : Caller) (from slot : ℕ) → Sized writer → NextSlot 
 next_stands writer from slot sized next =
     let l = take writer.fresh writer.marks.puts in
     let flags = writer.marks.reaped in
-    let size = length_take writer.marks.puts writer.fresh sized.puts in
+    let size = length-take-le writer.fresh writer.marks.puts sized.puts in
     let wide = sized.reaped in
     let first = next.0 in let low = next.1 in let more : suc slot ≡ slot + 1 = omega arith in
     past l flags (slot - from) from slot (omega arith) (omega arith) (omega arith) next.2
     ∙ here l flags slot (omega arith) (omega arith) next.3
-    ∙ (λ j. get_take writer.marks.puts writer.fresh slot low j ∷ unreaped (drop (more j) l) (drop (more j) flags))
+    ∙ (λ j. get_or-take writer.fresh writer.marks.puts slot 0 low j ∷ unreaped (drop (more j) l) (drop (more j) flags))
 
 none_stands : (writer : Caller) (from : ℕ) → Sized writer → NextSlot writer from None → standing_from writer from ≡ []
 none_stands writer from sized gone =
     let l = take writer.fresh writer.marks.puts in
     let flags = writer.marks.reaped in
-    let size = length_take writer.marks.puts writer.fresh sized.puts in
+    let size = length-take-le writer.fresh writer.marks.puts sized.puts in
     let wide = sized.reaped in
     dite (dec_le from writer.fresh)
     (λ low. past l flags (writer.fresh - from) from writer.fresh (omega arith) (omega arith) (omega arith) gone
-    ∙ ap (λ (m : List ℕ). unreaped m (drop writer.fresh flags)) (drop_whole l writer.fresh (omega arith)))
-    (λ high. ap (λ (m : List ℕ). unreaped m (drop from flags)) (drop_whole l from (omega arith)))
+    ∙ ap (λ (m : List ℕ). unreaped m (drop writer.fresh flags)) (drop_all writer.fresh l (omega arith)))
+    (λ high. ap (λ (m : List ℕ). unreaped m (drop from flags)) (drop_all from l (omega arith)))
 
 module _ {Room : Type 0} (shows : Room → List Row → Type 0) where
   rest_numbers : {left : Left} {rest : List Given} → AllComeOut shows left rest → Sized left.writer
