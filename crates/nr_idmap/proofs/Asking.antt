@@ -143,9 +143,6 @@ module _ (way : ℕ) (a w a' w' : Caller) (rested : Rested w) (asks : AsksWay wa
   before : List Entry
   before = asks.meets.seen.rest ++ asks.asks.between
 
-  request : Entry
-  request = entry asks.met.number (Ask way) asks.answer
-
   parts : asks.hears.learns.seen.rest
       ≡ (asks.meets.seen.rest ++ asks.asks.between) ++ (entry asks.met.number (Ask way) asks.answer ∷ []) ++
       asks.hears.seen.rest

@@ -1,8 +1,6 @@
 -- Calls for each of a list, as a loop makes them one by one, each in its place.
-use Rattle.std.proofs.Common.{◌≡◌, ℕ, zero, suc, ◌+◌, ◌<◌, ◌≤◌, List, [], ◌∷◌, ◌++◌, length, take, drop, set, get_or}
+use Rattle.std.proofs.Common.{◌≡◌, ℕ, suc, ◌+◌, ◌<◌, ◌≤◌, List, [], ◌∷◌, ◌++◌, length, take, drop, set, get_or}
 use Rattle.std.proofs.Common.{refl, sym, ap, ◌∙◌, subst, arith}
-use Rattle.std.specs.List.{All}
-use Rattle.std.proofs.lemmas.List.Elements.{All-append}
 use Rattle.std.proofs.lemmas.List.{drop_more, drop-set-lt, length-set, take_all, take_more, take_more_set}
 use Rattle.nr_idmap.specs.InTurn.{InTurn}
 
@@ -31,9 +29,6 @@ module _ {State One : Type 0} (call : State → One → State → One → Type 0
     pub long : length are ≡ length were
     pub rest : drop made are ≡ drop made were
     pub turn : InTurn call first (take made were) now (take made are)
-
-  pub none_made : (first : State) (were : List One) → Made first were 0 first were
-  none_made first were = record { long = refl; rest = refl; turn = refl }
 
   module _ (first : State) (were : List One) (made : ℕ) (now : State) (are : List One)
       (begun : Made first were made now are) where
@@ -66,14 +61,3 @@ module _ {State One : Type 0} (call : State → One → State → One → Type 0
     all_made end =
         subst (λ (l : List One). InTurn call first l now are) (take_all made were (omega (arith, begun.long)))
         (subst (λ (l : List One). InTurn call first (take made were) now l) (take_all made are end) begun.turn)
-
-pub all_of_one : {One : Type 0} (P : One → Type 0) (one : One) → P one → All P (one ∷ [])
-all_of_one P one holds zero other low = holds
-all_of_one P one holds (suc at) other low = absurd (omega arith)
-
--- what holds of each of the first ones, and of the next one's successor, holds of one more
-pub all_one_more : {One : Type 0} (P : One → Type 0) (ones : List One) (at : ℕ) (done : One) → at < length ones
-    → All P (take at ones) → P done →
-    All P (take (at + 1) (set ones at done))
-all_one_more P ones at done low first holds = subst (All P) (sym (take_more_set ones at done low))
-    (All-append P (take at ones) (done ∷ []) first (all_of_one P done holds))

@@ -160,10 +160,6 @@ module _ (sets now : Sets) (ids : Ids) (key : ℕ) (matches : Matches sets ids)
       subst (λ (f : Sets). Matches f ids) all matches
 
 -- ONE ENTRY
--- what a step shows: the entry as one of ids is legal, and the sets are the ids' rows after it
-record Step (map : PartialMap) (ids : PartialIds) (e : Entry) : Type 0 where
-  legal : IsIdLegal ids (entry_by_id map e)
-  shows : TellsIds (next map e.call) (ids_after ids (entry_by_id map e))
 
 -- the parts of what the maps show
 matches_of : (map : PartialMap) (ids : PartialIds) → TellsIds map ids → Matches (set_at map) ids.rows_of
