@@ -13,3 +13,4 @@ pub mod StoreRuns
 pub mod Finds
 pub mod GivenValues
 pub mod Openings
+pub mod Theorem

@@ -3,8 +3,21 @@ ghost use Rattle.nr_cache.specs.Finds.{FindsNothingOlder};
 ghost use Rattle.nr_cache.specs.Histories.{EachFlightEndsOnce, HeldIsFresh};
 ghost use Rattle.nr_cache.specs.Moves.{GoesOn};
 ghost use Rattle.nr_cache.specs.StoreRuns.{EachValueComesOutOnce, HoldsFresh, StoresInOrder};
+ghost use Rattle.nr_cache.specs.Theorem.{Theorem};
 
 use nr_model::RowRoom;
+
+/// What a caller of a store may rely on: of an id one flight at most is under way, and each that began has
+/// ended once or is under way; what is held is fresh; each value comes out once; after an invalidation nothing
+/// older is found; and a count tells no more values than the capacity.
+pub fn theorem<R: RowRoom>()
+    ensures { Theorem R.shows }
+{
+    stores_in_order::<R>();
+    holds_fresh::<R>();
+    each_value_comes_out_once::<R>();
+    finds_nothing_older();
+}
 
 /// Of each id one flight at most is under way, each that began has ended once or is under way, and one whose
 /// value is to be held began after the last invalidation, put and change of its id.

@@ -20,3 +20,4 @@ pub mod Remainders
 pub mod GivenBack
 pub mod SlotCounting
 pub mod Evictions
+pub mod Answered

@@ -17,3 +17,4 @@ pub mod Reclaims
 pub mod Remains
 pub mod GivenBack
 pub mod SlotCounts
+pub mod Theorem

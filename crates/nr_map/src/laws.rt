@@ -8,9 +8,18 @@ ghost use Rattle.nr_map.specs.Reclaims.{CancelLeaves, EvictionLeaves, GatheredSt
 ghost use Rattle.nr_map.specs.GivenBack.{EachSetComesOutOnce};
 ghost use Rattle.nr_map.specs.Remains.{RestComesOutOnce};
 ghost use Rattle.nr_map.specs.RowBounds.{RowsFitTheMap};
+ghost use Rattle.nr_map.specs.Theorem.{Theorem};
 ghost use Rattle.nr_map.specs.Rounds.{BeginningsMeet, CallsStay, EntriesAreCallers, RoundsTellAll, SendsOfAll, SendsOfAllKeys};
 
 use nr_model::RowRoom;
+
+/// What a caller of the map may rely on: each call is one entry of a legal history, which begins with all
+/// that its caller had seen, and is answered as the partial map answers after the entries before it; a write
+/// without a slot is none, and with slots enough there is no such write; who heard a note is answered after
+/// all that its maker had seen; and each set that was put comes out once.
+pub fn theorem<R: RowRoom>()
+    ensures { Theorem R.shows }
+{}
 
 /// Of a map whose readers have no words, finds take the steps of the counted way: 2n + 3 for n rows, and
 /// 1 for a hole.
