@@ -2,7 +2,7 @@
 use super::desk::Desk;
 use super::expiry::{Expiry, Lifetime, Spans};
 use super::leaving::{Listener, RemovalCause};
-use super::part::{Part, Told};
+use super::part::{Arrange, Part, Told};
 use super::shared::Shared;
 use super::store::Store;
 use super::weights::{share, Weigher, Weights};
@@ -34,6 +34,7 @@ pub struct CacheBuilder<K, V, S = RandomState> {
     threads: u32,
     spans: Spans,
     hasher: S,
+    pub(super) arrange: Option<Arrange<V>>,
     lifetime: Option<Lifetime<K, V>>,
     pub(super) weigher: Option<Weigher<K, V>>,
     pub(super) max_weight: Option<u64>,
@@ -44,8 +45,8 @@ impl<K, V> CacheBuilder<K, V> {
     pub(super) fn new() -> CacheBuilder<K, V> {
         let hasher = RandomState::new();
         let spans = Spans::default();
-        let (lifetime, weigher, max_weight, listener) = (None, None, None, None);
-        CacheBuilder { capacity: 1000, threads: 16, spans, hasher, lifetime, weigher, max_weight, listener }
+        let (arrange, lifetime, weigher, max_weight, listener) = (None, None, None, None, None);
+        CacheBuilder { capacity: 1000, threads: 16, spans, hasher, arrange, lifetime, weigher, max_weight, listener }
     }
 }
 
@@ -113,8 +114,8 @@ impl<K, V, S> CacheBuilder<K, V, S> {
     /// By what keys are hashed, in place of a hasher with keys drawn at random. Where strangers choose keys, theirs must
     /// be secret too. Keys of one hash are told apart, and one of them at a time is held.
     pub fn hasher<T: BuildHasher>(self, hasher: T) -> CacheBuilder<K, V, T> {
-        let CacheBuilder { capacity, threads, spans, lifetime, weigher, max_weight, listener, hasher: _ } = self;
-        CacheBuilder { capacity, threads, spans, hasher, lifetime, weigher, max_weight, listener }
+        let CacheBuilder { capacity, threads, spans, arrange, lifetime, weigher, max_weight, listener, .. } = self;
+        CacheBuilder { capacity, threads, spans, hasher, arrange, lifetime, weigher, max_weight, listener }
     }
 }
 
@@ -128,7 +129,8 @@ impl<K: Hash + Eq, V, S: BuildHasher> CacheBuilder<K, V, S> {
         let count = parts(self.capacity, self.threads);
         let expiry = Expiry::new(self.spans, self.lifetime.is_some());
         let bound = self.bound();
-        let told = Told { lifetime: self.lifetime, weigher: self.weigher, listener: self.listener };
+        let Self { arrange, lifetime, weigher, listener, .. } = self;
+        let told = Told { arrange, lifetime, weigher, listener };
         let mut spare: Vec<Vec<IdReader>> = (0..self.threads).map(|_| Vec::with_capacity(count)).collect();
         let mut parts = Vec::with_capacity(count);
         for number in 0..count {

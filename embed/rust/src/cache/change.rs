@@ -99,7 +99,7 @@ impl<'a, K: Hash + Eq, V, S: BuildHasher> Change<'a, K, V, S> {
         // Without a value, its drop takes the old one.
         let (Some(value), Some(key)) = (made, self.key.take()) else { return Ok(false) };
         let life = part.expiry.as_long_as(old.life, part.expiry.now());
-        let entry = part.weighed(Entry::of(old.maker, self.id, key, value, life));
+        let entry = part.weighed(Entry::of(old.maker, self.id, key, part.arranged(value), life));
         self.is_known = None;
         Ok(part.end_change(old, entry))
     }

@@ -32,9 +32,7 @@ pub(super) struct Part<K, V> {
     pub counts: Box<[Counts]>,
     /// How many entries came out that had expired.
     expired: AtomicU64,
-    lifetime: Option<Lifetime<K, V>>,
-    weigher: Option<Weigher<K, V>>,
-    listener: Option<Listener<K, V>>,
+    told: Told<K, V>,
     store: Lock<Store<K, V>>,
 }
 
@@ -43,8 +41,12 @@ unsafe impl<K: Send + Sync, V: Send + Sync> Send for Part<K, V> {}
 // SAFETY: as above.
 unsafe impl<K: Send + Sync, V: Send + Sync> Sync for Part<K, V> {}
 
-/// What a cache's user has it call.
+/// What puts a value in the form in which it is kept.
+pub(super) type Arrange<V> = Arc<dyn Fn(&mut V) + Send + Sync>;
+
+/// What a cache calls with keys and values, without a lock.
 pub(super) struct Told<K, V> {
+    pub arrange: Option<Arrange<V>>,
     pub lifetime: Option<Lifetime<K, V>>,
     pub weigher: Option<Weigher<K, V>>,
     pub listener: Option<Listener<K, V>>,
@@ -52,8 +54,8 @@ pub(super) struct Told<K, V> {
 
 impl<K, V> Clone for Told<K, V> {
     fn clone(&self) -> Self {
-        let (lifetime, weigher, listener) = (self.lifetime.clone(), self.weigher.clone(), self.listener.clone());
-        Told { lifetime, weigher, listener }
+        let (arrange, lifetime) = (self.arrange.clone(), self.lifetime.clone());
+        Told { arrange, lifetime, weigher: self.weigher.clone(), listener: self.listener.clone() }
     }
 }
 
@@ -123,8 +125,7 @@ impl<K, V> Part<K, V> {
     pub fn new(expiry: Expiry, readers: usize, told: Told<K, V>, store: Store<K, V>) -> Self {
         let counts = (0..readers).map(|_| Counts::default()).collect();
         let (expired, store) = (AtomicU64::new(0), Lock::new(store));
-        let Told { lifetime, weigher, listener } = told;
-        Part { expiry, counts, expired, lifetime, weigher, listener, store }
+        Part { expiry, counts, expired, told, store }
     }
 
     /// An entry whose value comes now, by the thread that calls.
@@ -135,13 +136,20 @@ impl<K, V> Part<K, V> {
     /// An entry whose value comes now, by that thread. It is told here how long it lives and how much it weighs, so without a
     /// lock.
     pub fn entry(&self, maker: Option<ThreadId>, id: u64, key: K, value: V) -> Box<Entry<K, V>> {
-        let own = self.lifetime.as_ref().and_then(|lifetime| lifetime(&key, &value));
+        let value = self.arranged(value);
+        let own = self.told.lifetime.as_ref().and_then(|lifetime| lifetime(&key, &value));
         self.weighed(Entry::of(maker, id, key, value, self.expiry.life(own)))
+    }
+
+    /// A value in the form in which it is kept.
+    pub fn arranged(&self, mut value: V) -> V {
+        self.told.arrange.iter().for_each(|arrange| arrange(&mut value));
+        value
     }
 
     /// An entry with what it weighs.
     pub fn weighed(&self, entry: Entry<K, V>) -> Box<Entry<K, V>> {
-        let weight = self.weigher.as_ref().map_or(1, |weigher| weigher(&entry.key, &entry.value));
+        let weight = self.told.weigher.as_ref().map_or(1, |weigher| weigher(&entry.key, &entry.value));
         Box::new(Entry { weight, ..entry })
     }
 
@@ -378,7 +386,7 @@ impl<K, V> Part<K, V> {
             (changed, store.under_way.take_over(), store.reap(), store.turns_before())
         };
         let mut causes = self.causes_of(&doomed, turns_before).into_iter();
-        let leave = |entry: Box<Entry<K, V>>| match (&self.listener, causes.next()) {
+        let leave = |entry: Box<Entry<K, V>>| match (&self.told.listener, causes.next()) {
             (Some(listener), Some(cause)) => listener(entry.key, entry.value, cause),
             _ => drop(entry),
         };
@@ -391,7 +399,7 @@ impl<K, V> Part<K, V> {
     /// Why each entry left that came out, where somebody listens or entries expire; those that had expired are counted.
     /// Of the entries so many had been put when all were invalidated last.
     fn causes_of(&self, doomed: &Handful<Box<Entry<K, V>>>, turns_before: u64) -> Handful<RemovalCause> {
-        if doomed.is_empty() || self.listener.is_none() && !self.expiry.is_set() {
+        if doomed.is_empty() || self.told.listener.is_none() && !self.expiry.is_set() {
             return Handful::default();
         }
         let now = self.expiry.now();

@@ -188,7 +188,9 @@ pub(super) fn end_by<K, V: Clone, E: Send + Sync + 'static>(
 ) -> Result<V, Arc<E>> {
     match gave {
         Ok(value) => {
-            part.land(own, part.entry(maker, own.id(), key, value.clone()), None);
+            let entry = part.entry(maker, own.id(), key, value);
+            let value = entry.value.clone();
+            part.land(own, entry, None);
             Ok(value)
         }
         Err(why) => {

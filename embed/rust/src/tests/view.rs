@@ -1,6 +1,6 @@
 //! A view's rows change with the base, whatever loads are at work meanwhile.
 use crate::*;
-use std::sync::{Barrier, Mutex};
+use std::sync::{Barrier, Mutex, OnceLock};
 use std::thread;
 use std::time::Duration;
 
@@ -46,6 +46,56 @@ fn rows_are_as_their_load_gives_them_until_they_change() {
     assert_eq!(view.get(&1), Some(rows(&[8, 5])));
     assert_eq!(view.update(&1, &[Delta::plus(row(7))]), Ok(true));
     assert_eq!(view.get(&1), Some(rows(&[5, 7, 8])));
+}
+
+/// How rows come to key 1 of a view, by what they are in what order.
+type Comes = fn(&View<u64>, Box<[Row]>);
+
+#[test]
+fn rows_of_a_sorted_view_are_in_order_however_they_come() {
+    let all: [Comes; 9] = [
+        |view, rows| assert_eq!(view.get_with(&1, || rows), sorted()),
+        |view, rows| assert_eq!(view.try_get_with(&1, || Ok::<_, ()>(rows)), Ok(sorted())),
+        |view, rows| assert_eq!(**view.reader().unwrap().get_with(&1, || rows), *sorted()),
+        |view, rows| assert_eq!(view.get_many_with(&[&1], |_| vec![rows.clone()]), [sorted()]),
+        |view, rows| match view.get_or_request(&1) {
+            Sought::Missing(request) => assert!(request.fill(rows)),
+            _ => panic!("it is missing"),
+        },
+        |view, rows| assert!(view.insert(1, rows)),
+        |view, rows| assert_eq!(view.insert_if_absent(1, rows), Ok(())),
+        |view, rows| assert!(view.upsert_with(&1, |_| rows.clone())),
+        |view, rows| {
+            view.insert(1, [].into());
+            assert!(view.change(&1).commit_with(|_| rows));
+        },
+    ];
+    for comes in all {
+        let view: View<u64> = View::builder().capacity(100).threads(2).sorted().open().unwrap();
+        comes(&view, rows(&[8, 5, 9, 5]));
+        assert_eq!(view.get(&1), Some(sorted()));
+    }
+}
+
+fn sorted() -> Box<[Row]> {
+    rows(&[5, 5, 8, 9])
+}
+
+#[test]
+fn rows_that_are_not_held_are_sorted_too_and_no_lock_is_had_meanwhile() {
+    let slot: &'static OnceLock<View<u64>> = Box::leak(Box::default());
+    // It is told the rows once they are in order, and calls the view, which a thread can't that has a lock of it.
+    let weigh = |_: &u64, rows: &Box<[Row]>| {
+        assert!(rows.is_sorted() && slot.get().is_some_and(|view| !view.contains_key(&1)));
+        3
+    };
+    let view = View::builder().threads(2).sorted().weigher(weigh).max_weight(2).open().unwrap();
+    slot.set(view.clone()).unwrap();
+    assert_eq!(view.get_with(&1, || rows(&[8, 5])), rows(&[5, 8]));
+    let mut reader = view.reader().unwrap();
+    let found = reader.get_with(&1, || rows(&[8, 5]));
+    assert!(!found.is_held());
+    assert_eq!(**found, *rows(&[5, 8]));
 }
 
 #[test]
