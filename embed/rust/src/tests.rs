@@ -24,6 +24,7 @@ mod panics;
 mod pending;
 mod progress;
 mod races;
+mod reaping;
 mod reclaiming;
 mod refresh;
 mod schedule;

@@ -3,6 +3,7 @@ use super::desk::Desk;
 use super::expiry::{Expiry, Lifetime, Spans};
 use super::leaving::{Listener, RemovalCause};
 use super::part::{Arrange, Part, Told};
+use super::reaping::Reaping;
 use super::shared::Shared;
 use super::store::Store;
 use super::weights::{share, Weigher, Weights};
@@ -138,7 +139,9 @@ impl<K: Hash + Eq, V, S: BuildHasher> CacheBuilder<K, V, S> {
             let (ids, readers) = ids::open(&shape(capacity, self.threads))?;
             spare.iter_mut().zip(readers).for_each(|(desk, reader)| desk.push(reader));
             let weights = bound.map(|most| Weights::new(share(most, number, count), capacity));
-            parts.push(Part::new(expiry, spare.len(), told.clone(), Store::new(ids, capacity, expiry, weights)));
+            let reaping = Reaping::new(capacity, spare.len(), told.listener.is_some() || weights.is_some());
+            let store = Store::new(ids, capacity, expiry, weights, reaping);
+            parts.push(Part::new(expiry, spare.len(), told.clone(), store));
         }
         let spare = spare.into_iter().zip(0..).map(|(ids, number)| Desk::new(ids, number)).collect();
         Ok(Cache { shared: Arc::new(Shared::new(self.hasher, self.capacity, parts, spare)) })

@@ -19,6 +19,7 @@ mod many;
 mod own;
 mod part;
 mod reader;
+mod reaping;
 mod request;
 mod seats;
 mod shared;
@@ -123,7 +124,7 @@ impl<K: Hash + Eq, V, S: BuildHasher> Cache<K, V, S> {
     }
 
     /// Takes what has expired, and frees what left and nobody sees any more: so values are dropped, or given to the
-    /// listener, without the next write of their part. What a reader borrows stays until a later call. It looks at 64
+    /// listener, without another write of their part. What a reader borrows stays until a later call. It looks at 64
     /// entries at a time under their part's lock. Where a value's drop panics, the others go before the panic goes on.
     pub fn run_pending_tasks(&self) {
         with_each(self.shared.parts(), Part::run_pending_tasks);

@@ -15,7 +15,7 @@ use super::store::{Beside, Place, Store};
 use super::threads::own_id;
 use super::under_way::Over;
 use super::weights::{Weighed, Weigher};
-use crate::drops::{with_each, FirstPanic};
+use crate::drops::FirstPanic;
 use crate::ids::{IdReader, Miss};
 use std::borrow::Borrow;
 use std::panic::{catch_unwind, AssertUnwindSafe};
@@ -258,6 +258,7 @@ impl<K, V> Part<K, V> {
         let (mut hold, took) = (None, load.began.elapsed());
         let landed = self.change(|store| {
             load.is_over.store(true, Relaxed);
+            store.reaping.lands();
             store.counted.loads += 1;
             store.counted.load_time += took;
             let ended = match load.kind {
@@ -349,11 +350,13 @@ impl<K, V> Part<K, V> {
 
     /// Takes what has expired, and frees what left and nobody sees any more.
     pub fn run_pending_tasks(&self) {
+        let mut panic = FirstPanic::default();
         if self.expiry.is_set() {
             let now = self.expiry.now();
-            with_each(self.firsts(), |first| self.change(|store| store.expire_from(first, now)));
+            panic.of_each(self.firsts(), |first| self.change(|store| store.expire_from(first, now)));
         }
-        self.change(|_| {});
+        panic.of_each([()], |()| self.change(|store| store.reaping.hurry()));
+        panic.then(Ok(()));
     }
 
     pub fn held(&self) -> usize {

@@ -20,7 +20,7 @@ pub struct CacheStats {
     pub waits: u64,
     /// Entries that made room for others or had expired.
     pub evictions: u64,
-    /// How many of these had expired: each is counted once no reader sees it.
+    /// How many of these had expired as they were freed, which is once no reader sees them.
     pub expired: u64,
     /// Values that were not held since another key has their hash, since more than 1,024 loads of a part were under way, or
     /// since they were too heavy.

@@ -6,6 +6,7 @@ use super::flights::End;
 use super::handful::Handful;
 use super::kept::KeptEntries;
 use super::leaving::RemovalCause;
+use super::reaping::Reaping;
 use super::seats::Seats;
 use super::stats::CacheStats;
 use super::under_way::UnderWay;
@@ -36,6 +37,7 @@ pub(super) struct Store<K, V> {
     lying: usize,
     /// What came out: no reader holds it, and none can find it.
     came_out: Handful<Place<K, V>>,
+    pub reaping: Reaping,
     kept: KeptEntries<K, V>,
     /// How many entries were put, and how many when all were invalidated last.
     pub turns: u64,
@@ -55,7 +57,7 @@ pub(super) struct Beside {
 }
 
 impl<K, V> Store<K, V> {
-    pub fn new(ids: Ids, capacity: usize, expiry: Expiry, weights: Option<Weights>) -> Store<K, V> {
+    pub fn new(ids: Ids, capacity: usize, expiry: Expiry, weights: Option<Weights>, reaping: Reaping) -> Store<K, V> {
         Store {
             ids,
             expiry,
@@ -63,6 +65,7 @@ impl<K, V> Store<K, V> {
             weights,
             lying: 0,
             came_out: Handful::default(),
+            reaping,
             kept: KeptEntries::new(),
             turns: 0,
             turns_before: 0,
@@ -364,15 +367,24 @@ impl<K, V> Store<K, V> {
         self.outdate(id);
     }
 
-    /// The entries that came out: all that left but those that readers hold.
+    /// The entries that came out. Where it is time to look these are all that left but those that readers hold.
     pub fn reap(&mut self) -> Handful<Box<Entry<K, V>>> {
-        // None is asked for where none waits: mostly that saves the call.
-        for _ in self.held()..self.lying {
-            let Some(out) = self.ids.reap() else { break };
-            self.comes_out(out);
+        let waiting = self.lying - self.held();
+        if self.reaping.is_due(waiting) {
+            let still = self.look_for(waiting);
+            self.reaping.looked(still);
         }
         // SAFETY: nobody can see them any more, and each came out once.
         take(&mut self.came_out).map(|place| unsafe { Box::from_raw(place.as_ptr()) })
+    }
+
+    /// Looks for those who wait, so many: how many wait still.
+    fn look_for(&mut self, waiting: usize) -> usize {
+        for found in 0..waiting {
+            let Some(out) = self.ids.reap() else { return waiting - found };
+            self.comes_out(out);
+        }
+        0
     }
 
     fn comes_out(&mut self, out: CameOut) {
@@ -400,6 +412,7 @@ impl<K, V> Store<K, V> {
     /// All entries, of a cache that nobody uses any more: no reader holds one.
     pub fn take_all(&mut self) -> Handful<Box<Entry<K, V>>> {
         self.ids.invalidate_all();
+        self.reaping.hurry();
         self.reap()
     }
 }
