@@ -27,6 +27,7 @@ mod races;
 mod reaping;
 mod reclaiming;
 mod refresh;
+mod scenes;
 mod schedule;
 mod search;
 mod stale;

@@ -1,6 +1,7 @@
 //! When entries expire.
 use super::entry::Entry;
 use super::seats::Seat;
+use super::sync;
 use crate::ids::Times;
 use std::sync::atomic::Ordering::Relaxed;
 use std::sync::Arc;
@@ -55,7 +56,7 @@ impl Expiry {
     pub fn new(spans: Spans, by_entry: bool) -> Expiry {
         let [to_live, to_idle, to_refresh, if_error] =
             [spans.to_live, spans.to_idle, spans.to_refresh, spans.if_error].map(|span| span.map(nanos));
-        Expiry { start: Instant::now(), to_live, to_idle, to_refresh, if_error, by_entry }
+        Expiry { start: sync::now(), to_live, to_idle, to_refresh, if_error, by_entry }
     }
 
     /// The present. Where nothing expires or is refreshed no clock is read.
@@ -63,7 +64,7 @@ impl Expiry {
         if !self.is_set() && !self.refreshes() {
             return 0;
         }
-        self.start.elapsed().as_nanos() as u64
+        sync::now().saturating_duration_since(self.start).as_nanos() as u64
     }
 
     /// Whether anything is loaded anew while it is held.

@@ -26,7 +26,7 @@ mod plain {
         }
     }
 
-    /// The time by which waits end.
+    /// The time by which waits end, and entries expire.
     pub(crate) fn now() -> Instant {
         Instant::now()
     }

@@ -14,6 +14,9 @@ const MOST_STEPS: usize = 2000;
 /// More runs than any search has.
 const MOST_RUNS: usize = 1_000_000;
 
+/// What tells the time.
+const CLOCK: Thing = Thing::MAX - 1;
+
 /// What a thread is about to do.
 #[derive(Clone, Copy, Debug, PartialEq, Eq)]
 pub(super) enum Op {
@@ -39,6 +42,8 @@ pub(super) enum Op {
         bell: Thing,
         all: bool,
     },
+    /// Time passes for all.
+    Pass(Duration),
     /// Once the flag is set, which that takes down.
     Await(Thing),
     SetFlag(Thing),
@@ -48,6 +53,7 @@ impl Op {
     fn touch(self) -> Touch {
         let thing = match self {
             Op::Begin => return Touch { thing: 0, writes: false },
+            Op::Pass(_) => CLOCK,
             Op::Read(thing) => return Touch { thing, writes: false },
             Op::Write(thing) | Op::Lock(thing) | Op::Await(thing) | Op::SetFlag(thing) => thing,
             Op::Sleep { bell, .. } | Op::WakeUp { bell, .. } | Op::Ring { bell, .. } => bell,
@@ -70,15 +76,16 @@ pub(super) struct Scene {
 pub(super) type Act = Box<dyn FnOnce() + Send>;
 
 /// What stands in a run.
-#[derive(Default)]
 struct Run {
     search: Search,
+    began: Instant,
     /// None of who goes on just now, or has ended.
     about: [Option<Op>; THREADS],
     locked: HashSet<Thing>,
     flags: HashSet<Thing>,
-    /// How long each has slept in all.
+    /// How long each has slept in all, and how much time has passed for all beside that.
     slept: [Duration; THREADS],
+    passed: Duration,
     /// How often sleepers may yet wake up by chance.
     chances: u32,
     going: usize,
@@ -87,6 +94,23 @@ struct Run {
 }
 
 impl Run {
+    /// One that begins now.
+    fn new(search: Search, chances: u32) -> Run {
+        Run {
+            search,
+            began: Instant::now(),
+            about: [Some(Op::Begin); THREADS],
+            locked: HashSet::new(),
+            flags: HashSet::new(),
+            slept: Default::default(),
+            passed: Duration::ZERO,
+            chances,
+            going: THREADS,
+            made: Vec::new(),
+            failed: None,
+        }
+    }
+
     fn can(&self, op: Op) -> bool {
         match op {
             Op::Lock(lock) => !self.locked.contains(&lock),
@@ -133,6 +157,7 @@ impl Run {
             Op::Lock(lock) => _ = self.locked.insert(lock),
             Op::Await(flag) => _ = self.flags.remove(&flag),
             Op::SetFlag(flag) => _ = self.flags.insert(flag),
+            Op::Pass(time) => self.passed += time,
             Op::Ring { bell, all } => self.ring(thread, bell, all),
             Op::Sleep { bell, lock, limit } => {
                 self.unlock(thread, lock);
@@ -176,7 +201,6 @@ struct Stage {
     /// Told once all have ended, or the run has failed.
     over: Condvar,
     turn: AtomicUsize,
-    began: Instant,
 }
 
 const NOBODY: usize = THREADS;
@@ -274,12 +298,12 @@ pub(super) fn unlock(lock: Thing) {
     }
 }
 
-/// The time as the thread has it: it moves where the thread has slept as long as it said.
+/// The time as the thread has it: it moves where the thread has slept as long as it said, or time has passed for all.
 pub(super) fn now() -> Instant {
-    match actor() {
-        Some(actor) => actor.stage.began + actor.stage.run().slept[actor.own],
-        None => Instant::now(),
-    }
+    let Some(actor) = actor() else { return Instant::now() };
+    actor.make(Op::Read(CLOCK));
+    let run = actor.stage.run();
+    run.began + run.slept[actor.own] + run.passed
 }
 
 /// The three threads, which end with this.
@@ -291,8 +315,8 @@ struct Actors {
 
 impl Actors {
     fn new() -> Actors {
-        let (run, began) = (Mutex::default(), Instant::now());
-        let stage = Arc::new(Stage { run, over: Condvar::new(), turn: AtomicUsize::new(NOBODY), began });
+        let run = Mutex::new(Run::new(Search::default(), 0));
+        let stage = Arc::new(Stage { run, over: Condvar::new(), turn: AtomicUsize::new(NOBODY) });
         let (acts, waiting): (Vec<_>, Vec<_>) = (0..THREADS).map(|_| mpsc::channel()).unzip();
         let (tell, told) = mpsc::channel::<Arc<[Thread; THREADS]>>();
         let told = Arc::new(Mutex::new(told));
@@ -316,7 +340,7 @@ impl Actors {
     fn play(&self, scene: Scene, chances: u32) -> bool {
         let mut run = self.stage.run();
         let search = std::mem::take(&mut run.search);
-        *run = Run { search, about: [Some(Op::Begin); THREADS], chances, going: THREADS, ..Run::default() };
+        *run = Run::new(search, chances);
         for (actor, act) in self.acts.iter().zip(scene.acts) {
             actor.send(act).expect("its thread is there");
         }

@@ -85,6 +85,7 @@ fn sorted() -> Box<[Row]> {
 fn rows_that_are_not_held_are_sorted_too_and_no_lock_is_had_meanwhile() {
     let slot: &'static OnceLock<View<u64>> = Box::leak(Box::default());
     // It is told the rows once they are in order, and calls the view, which a thread can't that has a lock of it.
+    #[allow(clippy::borrowed_box)]
     let weigh = |_: &u64, rows: &Box<[Row]>| {
         assert!(rows.is_sorted() && slot.get().is_some_and(|view| !view.contains_key(&1)));
         3

@@ -35,6 +35,11 @@ impl Word {
         make(Op::Write(self.thing));
         self.value.fetch_add(1, SeqCst);
     }
+
+    fn take_one(&self) {
+        make(Op::Write(self.thing));
+        self.value.fetch_sub(1, SeqCst);
+    }
 }
 
 fn locked<T>(lock: &Mutex<T>) -> MutexGuard<'_, T> {
@@ -46,6 +51,8 @@ struct Record {
     /// How many changes have begun, by which its values are told apart, and how many have ended.
     begun: Word,
     ended: Word,
+    /// How many changes are under way in the cache, of which each outdates loads from its begin on.
+    under_way: Word,
     loading: Thing,
     /// Of each load that is under way how many changes had ended before its get.
     loads: Mutex<Vec<u64>>,
@@ -55,8 +62,8 @@ struct Record {
 
 impl Record {
     fn new() -> Record {
-        let (begun, ended, loading) = (Word::new(), Word::new(), new_thing());
-        Record { begun, ended, loading, loads: Mutex::default(), failures: Mutex::default() }
+        let (begun, ended, under_way, loading) = (Word::new(), Word::new(), Word::new(), new_thing());
+        Record { begun, ended, under_way, loading, loads: Mutex::default(), failures: Mutex::default() }
     }
 }
 
@@ -65,6 +72,8 @@ impl Record {
 struct Alive {
     made: AtomicU64,
     numbers: Mutex<HashSet<u64>>,
+    /// Why each value left that a listener was told of.
+    causes: Mutex<Vec<RemovalCause>>,
 }
 
 /// A version of a key.
@@ -72,6 +81,8 @@ pub(super) struct Value {
     key: u64,
     version: u64,
     number: u64,
+    /// That of the one which the base gave, of which this is a clone.
+    first: u64,
     alive: Arc<Alive>,
 }
 
@@ -79,7 +90,17 @@ impl Value {
     fn new(alive: &Arc<Alive>, key: u64, version: u64) -> Value {
         let number = alive.made.fetch_add(1, SeqCst);
         locked(&alive.numbers).insert(number);
-        Value { key, version, number, alive: alive.clone() }
+        Value { key, version, number, first: number, alive: alive.clone() }
+    }
+
+    /// Of the next version.
+    pub fn next(&self) -> Value {
+        Value::new(&self.alive, self.key, self.version + 1)
+    }
+
+    /// Tells why it left.
+    pub fn left(&self, cause: RemovalCause) {
+        locked(&self.alive.causes).push(cause);
     }
 
     /// It is there, is of the key, and no older than that.
@@ -92,7 +113,9 @@ impl Value {
 
 impl Clone for Value {
     fn clone(&self) -> Value {
-        Value::new(&self.alive, self.key, self.version)
+        let mut clone = Value::new(&self.alive, self.key, self.version);
+        clone.first = self.first;
+        clone
     }
 }
 
@@ -102,7 +125,8 @@ impl Drop for Value {
     }
 }
 
-pub(super) type Values = Cache<u64, Value, BuildHasherDefault<DefaultHasher>>;
+type Hashes = BuildHasherDefault<DefaultHasher>;
+pub(super) type Values = Cache<u64, Value, Hashes>;
 
 /// How a load comes out.
 #[derive(Clone, Copy, PartialEq, Eq)]
@@ -120,11 +144,13 @@ pub(super) struct World {
     alive: Arc<Alive>,
 }
 
+pub(super) type Builder = CacheBuilder<u64, Value, Hashes>;
+
 impl World {
-    fn new() -> World {
-        let cache = Cache::builder().capacity(50).threads(8).hasher(BuildHasherDefault::default()).open().unwrap();
+    fn new(setting: fn(Builder) -> Builder) -> World {
+        let builder = Cache::builder().capacity(50).threads(8).hasher(BuildHasherDefault::default());
         World {
-            cache,
+            cache: setting(builder).open().unwrap(),
             flags: [(); 2].map(|()| new_thing()),
             records: [(); KEYS].map(|()| Record::new()),
             alive: Arc::default(),
@@ -144,8 +170,10 @@ impl World {
     /// may have outdated.
     fn load(&self, key: u64, ended: u64, load: Load) -> Result<Value, u64> {
         let record = self.of(key);
+        let is_at_rest = record.under_way.read() == 0;
         let value = self.newest(key);
-        let overlaps = value.version == ended && locked(&record.loads).contains(&ended);
+        let is_of_now = is_at_rest && value.version == ended;
+        let overlaps = is_of_now && locked(&record.loads).contains(&ended);
         assert!(!overlaps, "two loads of key {key} overlap");
         locked(&record.loads).push(ended);
         make(Op::Write(record.loading));
@@ -179,7 +207,7 @@ impl World {
         });
         match got {
             None => assert!(load == Load::Panics),
-            Some(Ok(found)) => found.is_right(key, ended),
+            Some(Ok(found)) => self.sees(&found, key, ended),
             Some(Err(LoadError::Failed(_))) => assert!(load == Load::Fails, "the failure is its own"),
             Some(Err(LoadError::TimedOut)) => return true,
         }
@@ -197,7 +225,7 @@ impl World {
     fn has_got(&self, key: u64, ended: u64, load: Load, got: Option<Result<Value, Arc<u64>>>) {
         match got {
             None => assert!(load == Load::Panics),
-            Some(Ok(found)) => found.is_right(key, ended),
+            Some(Ok(found)) => self.sees(&found, key, ended),
             Some(Err(why)) => assert!(locked(&self.of(key).failures).contains(&why), "no load of it has failed so"),
         }
     }
@@ -213,23 +241,62 @@ impl World {
     pub fn hold(&self, reader: &mut Reader, key: u64) {
         let ended = self.of(key).ended.read();
         let Some(found) = reader.get(&key) else { return };
-        found.is_right(key, ended);
+        self.sees(&found, key, ended);
         // Others go on meanwhile.
         self.of(key).ended.read();
-        found.is_right(key, ended);
+        self.sees(&found, key, ended);
     }
 
-    /// Where it has a key's request, it fills it, fails it, or drops it.
+    /// Where it has a key's request, it fills it, or fails it.
     pub fn request(&self, key: u64, load: Load) {
         let ended = self.of(key).ended.read();
         match self.cache.get_or_request(&key) {
-            Sought::Held(found) | Sought::Aged(found, _) => found.is_right(key, ended),
+            Sought::Held(found) => self.sees(&found, key, ended),
+            Sought::Aged(found, request) => {
+                self.sees(&found, key, ended);
+                self.answer(request, ended, load);
+            }
             Sought::UnderWay(_) => {}
-            Sought::Missing(request) => match self.load(key, ended, load) {
-                Ok(value) => _ = request.fill(value),
-                Err(_) => request.fail("the base is away"),
-            },
+            Sought::Missing(request) => self.answer(request, ended, load),
         }
+    }
+
+    fn answer(&self, request: Request<u64, Value, Hashes>, ended: u64, load: Load) {
+        match self.load(*request.key(), ended, load) {
+            Ok(value) => _ = request.fill(value),
+            Err(_) => request.fail("the base is away"),
+        }
+    }
+
+    /// What was found is there, is of the key, no older than that, and of no change that hasn't begun.
+    fn sees(&self, found: &Value, key: u64, floor: u64) {
+        found.is_right(key, floor);
+        let begun = self.of(key).begun.value.load(SeqCst);
+        assert!(found.version <= begun, "version {} of key {key} is newer than {begun}", found.version);
+    }
+
+    /// Which of the base's values a get of a key has got.
+    pub fn origin(&self, key: u64) -> u64 {
+        let ended = self.of(key).ended.read();
+        let found = self.cache.try_get_with(&key, || self.load(key, ended, Load::Gives)).expect("it gives");
+        self.sees(&found, key, ended);
+        found.first
+    }
+
+    /// Changes a key's value in the base, and by a change that is under way meanwhile in the cache.
+    pub fn commit(&self, key: u64) {
+        let record = self.of(key);
+        record.under_way.add_one();
+        let change = self.cache.change(&key);
+        record.begun.add_one();
+        change.commit_with(Value::next);
+        record.ended.add_one();
+        record.under_way.take_one();
+    }
+
+    /// Why each value left that a listener was told of.
+    pub fn causes(&self) -> Vec<RemovalCause> {
+        locked(&self.alive.causes).clone()
     }
 
     /// Nobody uses the cache any more: nothing is under way, and what it holds is there and not older than the last
@@ -239,7 +306,7 @@ impl World {
         for key in 0..KEYS as u64 {
             let floor = self.of(key).ended.read();
             match reader.get_or_request(&key) {
-                Sought::Held(found) | Sought::Aged(found, _) => found.is_right(key, floor),
+                Sought::Held(found) | Sought::Aged(found, _) => self.sees(&found, key, floor),
                 Sought::Missing(request) => drop(request),
                 Sought::UnderWay(_) => panic!("the load of key {key} has no end"),
             }
@@ -251,7 +318,7 @@ impl World {
     }
 }
 
-pub(super) type Reader = CacheReader<u64, Value, BuildHasherDefault<DefaultHasher>>;
+pub(super) type Reader = CacheReader<u64, Value, Hashes>;
 
 /// A task's flag, which its wakes set.
 struct Flag(Thing);
@@ -305,11 +372,24 @@ pub(super) async fn never<T>() -> T {
     std::future::pending().await
 }
 
+/// What a search begins with: what a cache is opened with, and what is done before the threads begin.
+#[derive(Clone, Copy)]
+pub(super) struct Setting {
+    pub builder: fn(Builder) -> Builder,
+    pub first: fn(&World),
+}
+
 /// What three threads do, in every order of their steps, in which sleepers wake up so often by chance: how many orders
 /// there are.
 pub(super) fn search(chances: u32, acts: [fn(&World); 3], end: fn(&World)) -> u64 {
+    search_in(Setting { builder: |builder| builder, first: |_| {} }, chances, acts, end)
+}
+
+/// The same in another setting.
+pub(super) fn search_in(setting: Setting, chances: u32, acts: [fn(&World); 3], end: fn(&World)) -> u64 {
     every_order(chances, || {
-        let world = Arc::new(World::new());
+        let world = Arc::new(World::new(setting.builder));
+        (setting.first)(&world);
         let act = |act: fn(&World)| {
             let world = world.clone();
             Box::new(move || act(&world)) as Act
