@@ -1,13 +1,14 @@
 //! The cache under load: rounds, each with threads of its own, until SIGTERM.    soak_cache KEYS SEED
 mod model;
+mod tasks;
 
 use model::*;
-use nr::{Cache, CacheReader, LoadError, Request, Sought, WaitError};
+use nr::{Cache, CacheReader, CacheRef, LoadError, RemovalCause, Request, Sought, WaitError};
 use std::hash::{BuildHasher, Hasher};
 use std::panic::{catch_unwind, resume_unwind, AssertUnwindSafe};
 use std::sync::atomic::{AtomicBool, AtomicU64, Ordering::SeqCst};
 use std::sync::{mpsc, Mutex};
-use std::thread::{Builder, Scope};
+use std::thread::{Builder, Scope, ScopedJoinHandle};
 use std::{env, ffi::c_int, time::Duration};
 
 const KEYS: u32 = 512;
@@ -22,11 +23,15 @@ struct Value {
     version: u64,
     number: u32,
     bytes: Box<[u8]>,
+    /// Whether the cache held it, as a reader has seen, and whether the listener was told of it since.
+    was_held: AtomicBool,
+    was_told: AtomicBool,
 }
 
 impl Value {
     fn new(key: u32, version: u64) -> Value {
-        Value { key, version, number: model_makes(), bytes: vec![key as u8; 64].into() }
+        let (number, bytes) = (model_makes(), vec![key as u8; 64].into());
+        Value { key, version, number, bytes, was_held: AtomicBool::new(false), was_told: AtomicBool::new(false) }
     }
 
     fn look(&self, key: u32, floor: u64) {
@@ -42,8 +47,25 @@ impl Value {
     }
 }
 
+/// As a get without a reader in hand has it.
+impl Clone for Value {
+    fn clone(&self) -> Value {
+        self.look(self.key, 0);
+        Value::new(self.key, self.version)
+    }
+}
+
+/// Looks at what a reader borrows.
+fn look(found: &CacheRef<'_, u32, Value>, key: u32, floor: u64) {
+    found.look(key, floor);
+    found.was_held.fetch_or(found.is_held(), SeqCst);
+}
+
 impl Drop for Value {
     fn drop(&mut self) {
+        if LISTENS.load(SeqCst) && *self.was_held.get_mut() && !*self.was_told.get_mut() {
+            fails(c"not told");
+        }
         model_drops(self.number);
         self.bytes.fill(!self.key as u8);
     }
@@ -125,6 +147,7 @@ impl Client<'_> {
                 let limit = Duration::from_micros(self.dice.roll(500));
                 self.load(key, Some(limit));
             }
+            37..=42 => self.load_by_task(key),
             _ => self.load(key, None),
         }
     }
@@ -157,7 +180,7 @@ impl Client<'_> {
             model_sleeps(self.place, milliseconds);
             counts(c"holder stopped", 1);
         }
-        found.look(key, floor);
+        look(&found, key, floor);
     }
 
     fn load(&mut self, key: u32, limit: Option<Duration>) {
@@ -169,9 +192,20 @@ impl Client<'_> {
             None => self.reader.try_get_with(&key, load).map_err(LoadError::Failed),
         };
         match found {
-            Ok(found) => found.look(key, floor),
+            Ok(found) => look(&found, key, floor),
             Err(LoadError::TimedOut) => counts(c"load timed out", 1),
             Err(LoadError::Failed(())) => counts(c"load failed", 1),
+        }
+    }
+
+    /// Gets by a task, which loads where it has to, and may be cancelled as it does or as it waits.
+    fn load_by_task(&mut self, key: u32) {
+        let (floor, ended, luck) = (model_floor(key), ended(key), self.dice.roll(64));
+        let polls = if self.dice.roll(2) == 0 { u64::MAX } else { 1 + self.dice.roll(3) };
+        match tasks::run(self.cache.try_get_with_async(&key, loaded_by_task(key, luck, ended)), polls) {
+            Some(Ok(found)) => found.look(key, floor),
+            Some(Err(_)) => counts(c"load failed", 1),
+            None => counts(c"task cancelled", 1),
         }
     }
 
@@ -179,9 +213,9 @@ impl Client<'_> {
     fn request(&mut self, key: u32) {
         let (floor, ended) = (model_floor(key), ended(key));
         match self.reader.get_or_request(&key) {
-            Sought::Held(found) => found.look(key, floor),
+            Sought::Held(found) => look(&found, key, floor),
             Sought::Aged(found, request) => {
-                found.look(key, floor);
+                look(&found, key, floor);
                 _ = self.pool.send(Wanted { request, ended: None });
             }
             Sought::Missing(request) => _ = self.pool.send(Wanted { request, ended: Some(ended) }),
@@ -192,7 +226,7 @@ impl Client<'_> {
     fn wait(&mut self, key: u32) {
         let floor = model_floor(key);
         match self.reader.get_waiting(&key, Duration::from_micros(self.dice.roll(1000))) {
-            Ok(found) => found.look(key, floor),
+            Ok(found) => look(&found, key, floor),
             Err(WaitError::TimedOut) => counts(c"load timed out", 1),
             Err(WaitError::Missing | WaitError::Failed(_)) => {}
         }
@@ -255,6 +289,17 @@ fn loaded(key: u32, luck: u64, place: u32, ended: Option<u64>) -> Result<Value, 
     Ok(Value::new(key, version))
 }
 
+/// The same by a task, beside whose load its thread's others go on.
+async fn loaded_by_task(key: u32, luck: u64, ended: u64) -> Result<Value, ()> {
+    let _load = Load::of(key, ended);
+    let version = model_newest(key);
+    tasks::yields(luck % 4).await;
+    if luck < 4 {
+        return Err(());
+    }
+    Ok(Value::new(key, version))
+}
+
 /// The thread that loads for others, until these have ended.
 fn pool(wanted: &mpsc::Receiver<Wanted>, mut dice: Dice) {
     model_begins(POOL);
@@ -270,37 +315,77 @@ fn pool(wanted: &mpsc::Receiver<Wanted>, mut dice: Dice) {
 }
 
 /// Makes a thread, or counts that it is refused.
-fn spawn<'s>(scope: &'s Scope<'s, '_>, place: u32, work: impl FnOnce() + Send + 's) {
+fn spawn<'s>(
+    scope: &'s Scope<'s, '_>,
+    place: u32,
+    work: impl FnOnce() + Send + 's,
+) -> Option<ScopedJoinHandle<'s, ()>> {
     model_spawns(place);
-    if Builder::new().spawn_scoped(scope, work).is_err() {
+    let thread = Builder::new().spawn_scoped(scope, work).ok();
+    if thread.is_none() {
         model_ends(place);
     }
+    thread
 }
 
 fn round(cache: &Values, writes: &[Mutex<()>], dice: &mut Dice) {
     let (sender, requests) = mpsc::channel();
     std::thread::scope(|scope| {
         let its_dice = Dice(dice.roll(u64::MAX) | 1);
-        spawn(scope, POOL, move || pool(&requests, its_dice));
+        let mut threads = vec![spawn(scope, POOL, move || pool(&requests, its_dice))];
         for place in 0..THREADS {
             let Some(reader) = cache.reader() else { fails(c"slot leaked") };
             let (dice, pool) = (Dice(dice.roll(u64::MAX) | 1), sender.clone());
             let client = Client { cache, reader, dice, place, writes, pool };
-            spawn(scope, place, move || client.run());
+            threads.push(spawn(scope, place, move || client.run()));
         }
         drop(sender);
         model_awaits(0, POOL + 1);
+        // What a thread keeps for itself is back once it has ended.
+        threads.into_iter().flatten().for_each(|thread| thread.join().expect("it catches what panics"));
     });
     // A write to each part, so that what others took out there is dropped.
     (KEYS..KEYS + 64).for_each(|other| _ = cache.invalidate(&other));
+    look_at_weights(cache);
     model_lives(cache.len() as u64);
+}
+
+/// What a key's entry weighs: of some keys too much.
+fn weight(key: u32) -> u32 {
+    match key % 61 {
+        7 => 1_000_000,
+        _ => 1 + key % 8,
+    }
+}
+
+/// While nobody else uses it a cache of weighed entries knows what they weigh, but for those that have expired.
+fn look_at_weights(cache: &Values) {
+    let most = MOST_WEIGHT.load(SeqCst);
+    let all = cache.iter().map(|(key, _)| u64::from(weight(key))).sum::<u64>();
+    if most > 0 && (all > cache.weighted_size() || cache.weighted_size() > most) {
+        fails(c"weighed wrong");
+    }
+}
+
+/// Is given each value that a cache held and that left.
+fn is_told(key: u32, value: Value, _: RemovalCause) {
+    value.look(key, 0);
+    value.was_told.store(true, SeqCst);
+    counts(c"told to a listener", 1);
 }
 
 fn open(dice: &mut Dice) -> Values {
     let capacity = [5, 60, 300][dice.roll(3) as usize];
     let sharing = 1 + dice.roll(2) as u32;
     HASHES_ARE_SHARED.store(sharing > 1, SeqCst);
-    let builder = Cache::builder().capacity(capacity).threads(THREADS).hasher(Sharing(sharing));
+    // Some for calls without one in hand, of which others look under a lock.
+    let builder = Cache::builder().capacity(capacity).threads(THREADS + 4).hasher(Sharing(sharing));
+    let (is_weighed, listens) = (dice.roll(2) == 0, dice.roll(2) == 0);
+    MOST_WEIGHT.store(if is_weighed { 3 * capacity as u64 } else { 0 }, SeqCst);
+    LISTENS.store(listens, SeqCst);
+    let builder = if listens { builder.eviction_listener(is_told) } else { builder };
+    let builder =
+        if is_weighed { builder.weigher(|key, _| weight(*key)).max_weight(3 * capacity as u64) } else { builder };
     let builder =
         if dice.roll(2) == 0 { builder.time_to_live(Duration::from_millis(1 + dice.roll(50))) } else { builder };
     let builder =
@@ -314,6 +399,10 @@ fn open(dice: &mut Dice) -> Values {
 
 static IS_OVER: AtomicBool = AtomicBool::new(false);
 static HASHES_ARE_SHARED: AtomicBool = AtomicBool::new(false);
+/// Of the cache that there is: how much its entries may weigh, where that is bounded, and whether somebody is told what
+/// leaves, as nobody is of what it holds at its end.
+static MOST_WEIGHT: AtomicU64 = AtomicU64::new(0);
+static LISTENS: AtomicBool = AtomicBool::new(false);
 
 extern "C" {
     fn signal(number: c_int, handler: extern "C" fn(c_int)) -> usize;
@@ -336,14 +425,17 @@ fn main() {
         let cache = open(&mut dice);
         for _ in 0..caches {
             if IS_OVER.load(SeqCst) {
+                LISTENS.store(false, SeqCst);
                 return model_tells_counts();
             }
             round(&cache, &writes, &mut dice);
             counts(c"rounds", 1);
         }
         let stats = cache.stats();
-        counts(c"two keys of one hash", stats.refused);
+        counts(c"two keys of one hash", stats.clashes);
+        counts(c"too heavy", stats.refused - stats.clashes);
         counts(c"late load refused", stats.outdated);
+        LISTENS.store(false, SeqCst);
         drop(cache);
         model_lives(0);
     }
