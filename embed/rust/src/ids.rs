@@ -110,8 +110,9 @@ pub fn open(shape: &IdShape) -> Result<(Ids, Vec<IdReader>), Fault> {
     Ok((ids, readers))
 }
 
-/// A reader, which takes no lock.
+/// A reader, which takes no lock, apart from the lines of others: each find writes what it holds.
 #[derive(Debug)]
+#[repr(align(128))]
 pub struct IdReader {
     handle: Handle,
     /// The number that it holds.
@@ -123,6 +124,7 @@ unsafe impl Send for IdReader {}
 
 impl IdReader {
     /// The number of an id, which doesn't come out until the reader's next find or [`IdReader::let_go`].
+    #[inline]
     pub fn find(&mut self, id: u64) -> Option<u64> {
         let mut found = Stamped::default();
         reads_store(self.holds);
@@ -133,6 +135,7 @@ impl IdReader {
     }
 
     /// Ends its hold, where it has one.
+    #[inline]
     pub fn let_go(&mut self) {
         if let Some(held) = self.holds.take() {
             reads_store(Some(held));

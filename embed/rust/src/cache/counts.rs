@@ -12,10 +12,12 @@ pub(super) struct Counts {
 }
 
 impl Counts {
+    #[inline]
     pub fn count_hit(&self) {
         count(&self.hits);
     }
 
+    #[inline]
     pub fn count_miss(&self) {
         count(&self.misses);
     }
@@ -32,6 +34,7 @@ impl Counts {
 }
 
 /// One more. Only their reader counts.
+#[inline]
 fn count(counter: &AtomicU64) {
     counter.store(counter.load(Relaxed) + 1, Relaxed);
 }

@@ -56,11 +56,13 @@ impl Desk {
     }
 
     /// The hold of what was found there last.
+    #[inline]
     pub fn hold(&mut self, at: At) -> Hold<'_> {
         Hold::had(&mut self.ids[at.part])
     }
 
     /// Lets go what was found last, if that is still held.
+    #[inline]
     pub fn let_go(&mut self) {
         self.ids[self.last].let_go();
     }

@@ -41,6 +41,9 @@ pub(super) struct Expiry {
     if_error: Option<u64>,
     /// Whether each entry may have a time to live of its own.
     by_entry: bool,
+    /// Whether anything expires, and whether anything asks for the time: most often neither, and each get asks.
+    is_set: bool,
+    ticks: bool,
 }
 
 /// The times of all entries.
@@ -56,14 +59,22 @@ impl Expiry {
     pub fn new(spans: Spans, by_entry: bool) -> Expiry {
         let [to_live, to_idle, to_refresh, if_error] =
             [spans.to_live, spans.to_idle, spans.to_refresh, spans.if_error].map(|span| span.map(nanos));
-        Expiry { start: sync::now(), to_live, to_idle, to_refresh, if_error, by_entry }
+        let is_set = to_live.is_some() || to_idle.is_some() || by_entry;
+        let ticks = is_set || to_refresh.is_some();
+        Expiry { start: sync::now(), to_live, to_idle, to_refresh, if_error, by_entry, is_set, ticks }
     }
 
     /// The present. Where nothing expires or is refreshed no clock is read.
+    #[inline]
     pub fn now(&self) -> Moment {
-        if !self.is_set() && !self.refreshes() {
-            return 0;
+        if self.ticks {
+            self.read_clock()
+        } else {
+            0
         }
+    }
+
+    fn read_clock(&self) -> Moment {
         sync::now().saturating_duration_since(self.start).as_nanos() as u64
     }
 
@@ -83,8 +94,9 @@ impl Expiry {
     }
 
     /// Whether anything expires.
+    #[inline]
     pub fn is_set(&self) -> bool {
-        self.has_ages() || self.to_idle.is_some()
+        self.is_set
     }
 
     /// Whether anything does by its age.
@@ -115,6 +127,9 @@ impl Expiry {
 
     /// Whether an entry has expired.
     pub fn is_over<K, V>(&self, entry: &Entry<K, V>, now: Moment) -> bool {
+        if !self.is_set {
+            return false;
+        }
         let idles_until = |limit| entry.touched.load(Relaxed).saturating_add(limit);
         self.has_ages() && now >= entry.life.dies || self.to_idle.is_some_and(|limit| now >= idles_until(limit))
     }

@@ -6,6 +6,7 @@ pub(super) struct Hold<'a>(&'a mut IdReader);
 
 impl<'a> Hold<'a> {
     /// The hold that a reader has.
+    #[inline]
     pub fn had(reader: &'a mut IdReader) -> Hold<'a> {
         Hold(reader)
     }
@@ -17,12 +18,14 @@ impl<'a> Hold<'a> {
     }
 
     /// Leaves it with the reader, of whom it is to be had again.
+    #[inline]
     pub fn keep(self) {
         std::mem::forget(self);
     }
 }
 
 impl Drop for Hold<'_> {
+    #[inline]
     fn drop(&mut self) {
         self.0.let_go();
     }

@@ -24,7 +24,11 @@ use std::sync::Arc;
 use std::thread::ThreadId;
 use std::time::Instant;
 
-/// Apart from the lines of the others.
+/// Apart from the lines of others.
+#[repr(align(128))]
+struct Apart<T>(T);
+
+/// What each get reads, and behind a lock what misses and changes write, apart from it.
 #[repr(align(128))]
 pub(super) struct Part<K, V> {
     pub expiry: Expiry,
@@ -33,7 +37,7 @@ pub(super) struct Part<K, V> {
     /// How many entries came out that had expired.
     expired: AtomicU64,
     told: Told<K, V>,
-    store: Lock<Store<K, V>>,
+    store: Apart<Lock<Store<K, V>>>,
 }
 
 // SAFETY: the entries go between threads, and are read by several at a time; the rest is behind a lock or atomic.
@@ -124,7 +128,7 @@ impl<K, V> Drop for Failing<'_, K, V> {
 impl<K, V> Part<K, V> {
     pub fn new(expiry: Expiry, readers: usize, told: Told<K, V>, store: Store<K, V>) -> Self {
         let counts = (0..readers).map(|_| Counts::default()).collect();
-        let (expired, store) = (AtomicU64::new(0), Lock::new(store));
+        let (expired, store) = (AtomicU64::new(0), Apart(Lock::new(store)));
         Part { expiry, counts, expired, told, store }
     }
 
@@ -377,7 +381,7 @@ impl<K, V> Part<K, V> {
 
     /// All entries, of a cache that nobody uses any more.
     pub fn take_all(&mut self) -> Handful<Box<Entry<K, V>>> {
-        self.store.get_mut().take_all()
+        self.store.0.get_mut().take_all()
     }
 
     /// Changes the store under its lock. Then, without it, those are told who wait for what has ended, and what came back
@@ -388,27 +392,33 @@ impl<K, V> Part<K, V> {
             let changed = catch_unwind(AssertUnwindSafe(|| change(&mut store)));
             (changed, store.under_way.take_over(), store.reap(), store.turns_before())
         };
-        let mut causes = self.causes_of(&doomed, turns_before).into_iter();
-        let leave = |entry: Box<Entry<K, V>>| match (&self.told.listener, causes.next()) {
-            (Some(listener), Some(cause)) => listener(entry.key, entry.value, cause),
-            _ => drop(entry),
-        };
         let mut panic = FirstPanic::default();
-        panic.of_each(over, Over::tell);
-        panic.of_each(doomed, leave);
+        // Mostly nobody waits, and nothing came out.
+        if !over.is_empty() {
+            panic.of_each(over, Over::tell);
+        }
+        if !doomed.is_empty() {
+            let mut causes = self.causes_of(&doomed, turns_before).into_iter();
+            panic.of_each(doomed, |entry| match (&self.told.listener, causes.next()) {
+                (Some(listener), Some(cause)) => listener(entry.key, entry.value, cause),
+                _ => drop(entry),
+            });
+        }
         panic.then(changed)
     }
 
     /// Why each entry left that came out, where somebody listens or entries expire; those that had expired are counted.
     /// Of the entries so many had been put when all were invalidated last.
     fn causes_of(&self, doomed: &Handful<Box<Entry<K, V>>>, turns_before: u64) -> Handful<RemovalCause> {
-        if doomed.is_empty() || self.told.listener.is_none() && !self.expiry.is_set() {
+        if self.told.listener.is_none() && !self.expiry.is_set() {
             return Handful::default();
         }
         let now = self.expiry.now();
         let causes: Handful<_> = doomed.iter().map(|entry| self.cause_of(entry, turns_before, now)).collect();
         let expired = causes.iter().filter(|cause| **cause == RemovalCause::Expired).count();
-        self.expired.fetch_add(expired as u64, Relaxed);
+        if expired > 0 {
+            self.expired.fetch_add(expired as u64, Relaxed);
+        }
         causes
     }
 
@@ -423,6 +433,6 @@ impl<K, V> Part<K, V> {
     }
 
     fn store(&self) -> Locked<'_, Store<K, V>> {
-        self.store.lock()
+        self.store.0.lock()
     }
 }
