@@ -61,7 +61,8 @@ impl<K: Hash + Eq, V, S: BuildHasher> Cache<K, V, S> {
 }
 
 /// A change of a key's value that is under way in the base. Dropped before its end, it takes what the cache holds of the key,
-/// or of another key of its hash.
+/// or of another key of its hash. Forgotten, it is under way for good: from then on each get of the key that finds nothing
+/// loads a value that is its own.
 #[must_use = "dropped, it takes the key's value from the cache"]
 pub struct Change<'a, K: Hash + Eq, V, S: BuildHasher = RandomState> {
     cache: &'a Cache<K, V, S>,

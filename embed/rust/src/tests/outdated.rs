@@ -50,6 +50,32 @@ fn who_misses_after_a_change_loads_anew() {
 }
 
 #[test]
+fn a_forgotten_request_ends_by_whatever_outdates_it() {
+    for change in CHANGES {
+        let cache = cache();
+        std::mem::forget(request(&cache, 1));
+        assert!(is_under_way(&cache, 1));
+        change(&cache);
+        assert_eq!((cache.get_with(&1, || 5), cache.get(&1)), (5, Some(5)));
+    }
+}
+
+#[test]
+fn a_forgotten_change_keeps_its_key_out_and_nobody_waiting() {
+    let cache = cache();
+    assert!(cache.insert(1, 4));
+    std::mem::forget(cache.change(&1));
+    assert_eq!(cache.get(&1), Some(4));
+    cache.invalidate(&1);
+    for value in 5..8 {
+        assert_eq!((cache.get_with(&1, || value), cache.get(&1)), (value, None));
+        assert!(!cache.insert(1, value));
+    }
+    // Other keys are held as before.
+    assert!(cache.insert(2, 4) && cache.get(&2) == Some(4));
+}
+
+#[test]
 fn a_load_of_another_key_stays_under_way() {
     let cache = cache();
     let old = request(&cache, 1);
