@@ -4,8 +4,11 @@ use std::time::Duration;
 
 pub struct Base {
     address: String,
-    deadline: Duration,
+    pub deadline: Duration,
 }
+
+/// What PostgreSQL has in which to cancel a statement that takes too long, before the connection is given up.
+const TO_CANCEL: Duration = Duration::from_secs(1);
 
 /// So that a connection to a machine that is gone breaks, and none is to a standby, which has no slots. What the operator's
 /// address says goes before it.
@@ -41,6 +44,7 @@ impl Base {
     }
 
     fn limit(&self, connection: &mut Connection) -> Result<(), Fault> {
+        connection.limit(self.deadline + TO_CANCEL);
         connection.run(&format!("SET statement_timeout = {}", self.deadline.as_millis())).map(drop)
     }
 }

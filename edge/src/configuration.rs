@@ -1,5 +1,6 @@
 //! What an operator writes: where the rows are, which views of them an edge holds, and where it is asked for them.
 use crate::query::{Item, Query};
+use crate::session::COMMANDS;
 use crate::wire::Limits;
 use serde::Deserialize;
 use std::{
@@ -16,6 +17,8 @@ pub struct Configuration {
     pub listen: Listen,
     #[serde(rename = "view", default)]
     pub views: Vec<View>,
+    #[serde(rename = "write", default)]
+    pub writes: Vec<Write>,
 }
 
 #[derive(Debug, Deserialize)]
@@ -39,6 +42,12 @@ pub struct Source {
     recheck: u32,
     /// Seconds without word of the stream, after which PostgreSQL is asked for what is held.
     max_staleness: Option<u32>,
+    /// By which clients write.
+    #[serde(default = "four")]
+    pub write_connections: u8,
+    /// The slot stays when its connection breaks, so that the edge goes on with what it holds.
+    #[serde(default)]
+    pub lasting_slot: bool,
 }
 
 fn edge() -> String {
@@ -152,6 +161,25 @@ pub struct View {
     pub limit_bytes: Option<u64>,
 }
 
+/// A statement that clients may have run, by a command of its name.
+#[derive(Debug, Deserialize)]
+#[serde(deny_unknown_fields)]
+pub struct Write {
+    pub name: String,
+    /// One of SQL that writes, whose parameters $1, $2, .. are the command's words.
+    pub statement: String,
+}
+
+impl Write {
+    fn check(&self) -> Result<(), String> {
+        if !is_name(&self.name) {
+            return Err("its name is lowercase letters, digits and _".into());
+        }
+        let is_free = !COMMANDS.contains(&&*self.name.to_ascii_uppercase());
+        is_free.then_some(()).ok_or("there is a command of its name".into())
+    }
+}
+
 /// What a row is in a value.
 #[derive(Clone, Copy, Debug, Default, Deserialize, PartialEq, Eq)]
 #[serde(rename_all = "lowercase")]
@@ -186,9 +214,10 @@ impl Configuration {
         if !is_name(&self.source.publication) {
             return Err("the publication's name is lowercase letters, digits and _".into());
         }
-        let Source { connections, deadline, recheck, max_staleness, .. } = &self.source;
-        if *connections == 0 || *deadline == 0 || *recheck == 0 || *max_staleness == Some(0) {
-            return Err("connections, deadline, recheck and max_staleness are 1 or more each".into());
+        let Source { connections, deadline, recheck, max_staleness, write_connections, .. } = &self.source;
+        let is_one_or_more = *connections > 0 && *write_connections > 0 && *deadline > 0 && *recheck > 0;
+        if !is_one_or_more || *max_staleness == Some(0) {
+            return Err("connections, write_connections, deadline, recheck and max_staleness are 1 or more each".into());
         }
         if !(1..=2_000_000).contains(&self.cache.keys) {
             return Err("the keys are 1 to 2000000".into());
@@ -197,13 +226,10 @@ impl Configuration {
         if self.views.is_empty() {
             return Err("there is no [[view]]".into());
         }
-        let mut names = HashSet::new();
-        for view in &mut self.views {
-            view.check().map_err(|why| format!("the view {}: {why}", view.name))?;
-            if !names.insert(&view.name) {
-                return Err(format!("there are two views {}", view.name));
-            }
-        }
+        self.views.iter_mut().try_for_each(|it| it.check().map_err(|why| format!("the view {}: {why}", it.name)))?;
+        self.writes.iter().try_for_each(|it| it.check().map_err(|why| format!("the write {}: {why}", it.name)))?;
+        once("views", self.views.iter().map(|view| &view.name))?;
+        once("writes", self.writes.iter().map(|write| &write.name))?;
         Ok(self)
     }
 
@@ -273,6 +299,11 @@ impl View {
     }
 }
 
+fn once<'a>(what: &str, mut names: impl Iterator<Item = &'a String>) -> Result<(), String> {
+    let mut all = HashSet::new();
+    names.find(|name| !all.insert(*name)).map_or(Ok(()), |name| Err(format!("there are two {what} {name}")))
+}
+
 fn is_name(text: &str) -> bool {
     let is_sign = |sign: u8| sign.is_ascii_lowercase() || sign.is_ascii_digit() || sign == b'_';
     !text.is_empty() && text.bytes().all(is_sign) && !text.as_bytes()[0].is_ascii_digit()
@@ -283,6 +314,8 @@ mod tests {
     use super::*;
 
     const VIEW: &str = "[[view]]\nname = 'votes'\ntable = 'votes'\nkey = ['article']\ncolumns = ['voter', 'weight']\n";
+
+    const WRITE: &str = "[[write]]\nname = 'vote'\nstatement = 'INSERT INTO votes VALUES ($1)'\n";
 
     fn refused(text: &str) -> String {
         text.parse::<Configuration>().expect_err(text)
@@ -337,6 +370,10 @@ mod tests {
             (with(here, &VIEW.replace("'weight'", "'article'")), "twice"),
             (with(here, &format!("{VIEW}encoding = 'text'\n")), "of one column"),
             (with(here, &format!("{VIEW}encoding = 'xml'\n")), "unknown variant `xml`"),
+            (with(&format!("{here}\nwrite_connections = 0"), VIEW), "1 or more each"),
+            (with(here, &format!("{VIEW}{}", WRITE.replace("vote", "Vote"))), "the write Vote: its name is"),
+            (with(here, &format!("{VIEW}{}", WRITE.replace("vote", "mget"))), "there is a command"),
+            (with(here, &format!("{VIEW}{WRITE}{WRITE}")), "two writes vote"),
         ] {
             assert!(told.contains(why), "{told}");
         }

@@ -35,6 +35,8 @@ pub enum Event {
     Lost,
     /// A new slot stands.
     Begun(First),
+    /// The slot of before goes on, and brings all since.
+    Resumed,
     /// The stream can't go on, for this reason, until an operator mends it.
     Refused(String),
 }
@@ -75,6 +77,8 @@ pub struct Dataflow<'a> {
     fresh: Fresh<Key>,
     /// What the slot began with, while it stands.
     first: Option<First>,
+    /// The same while the slot may go on.
+    paused: Option<First>,
     applied: Lsn,
     /// The requests up to this one were taken back.
     emptied_after: u64,
@@ -90,6 +94,7 @@ impl<'a> Dataflow<'a> {
             log: Log::default(),
             fresh: Fresh::default(),
             first: None,
+            paused: None,
             applied: Lsn(0),
             emptied_after: 0,
         }
@@ -117,6 +122,7 @@ impl<'a> Dataflow<'a> {
             Event::Broken => self.pause(),
             Event::Lost => self.begin_anew(),
             Event::Begun(first) => self.follow(first),
+            Event::Resumed => self.go_on(),
             Event::Refused(_) => {}
         }
     }
@@ -189,17 +195,23 @@ impl<'a> Dataflow<'a> {
         }
     }
 
-    /// Nothing is filled until a new slot stands. What is held stays until then, and is what it was when the stream
-    /// broke.
+    /// Nothing is filled until a slot stands. What is held stays until then, and is what it was when the stream broke.
     fn pause(&mut self) {
-        self.first = None;
+        self.paused = self.first.take().or(self.paused.take());
         self.shared.follows(false);
+    }
+
+    fn go_on(&mut self) {
+        self.first = self.paused.take();
+        self.shared.hears();
+        self.shared.follows(self.first.is_some());
     }
 
     /// Nothing that is held may be told any more, and no answer that is under way may fill. The log stays until the new
     /// slot stands: PostgreSQL may not show yet what clients were told.
     fn begin_anew(&mut self) {
         self.pause();
+        self.paused = None;
         self.shared.progress.restart(0);
         self.fresh = Fresh::default();
         self.residents.empty();
@@ -295,9 +307,7 @@ impl<'a> Dataflow<'a> {
 
     /// The rows can't be had now, so the next who asks has PostgreSQL asked again.
     fn refuse_all(&mut self, requests: &[Request], fault: &Fault) {
-        // PostgreSQL's own begins with how severe it is.
-        let fault = fault.to_string();
-        let told = Told::Fault(fault.split_once(":  ").map_or(&*fault, |(_, what)| what).into());
+        let told = Told::Fault(fault.without_severity().into());
         requests.iter().for_each(|request| self.tell(request, &told));
     }
 

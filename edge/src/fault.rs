@@ -33,8 +33,8 @@ impl From<Fault> for End {
         match (fault.state.get(..2).unwrap_or_default(), &*fault.state) {
             // A role that may not, a password that is wrong, a database that is gone, a type without an order.
             (_, "42501" | "42883" | "57P04" | "3D000") | ("28", _) => End::Refused(why),
-            // No connection, no room, a server that is ended or cancels.
-            ("" | "08" | "53" | "57", _) => End::Broken(why),
+            // No connection, no room, a server that is ended or cancels; a slot that a process still has.
+            ("" | "08" | "53" | "57", _) | (_, "55006") => End::Broken(why),
             _ => End::Lost(why),
         }
     }
@@ -51,7 +51,7 @@ mod tests {
             fault.state = state.into();
             End::from(fault).to_string()
         };
-        for state in ["08006", "53300", "57P01", "57014"] {
+        for state in ["08006", "53300", "57P01", "57014", "55006"] {
             assert_eq!(of(state), format!("waits for PostgreSQL: why ({state})"));
         }
         for state in ["42501", "28P01", "3D000", "57P04"] {

@@ -22,7 +22,9 @@ mod stream;
 mod tables;
 mod upquery;
 mod value;
+mod writes;
 
+use base::Base;
 use clap::{Parser, Subcommand};
 use configuration::Configuration;
 use edge_common::postgres::{fresh, log, lsn, parts, pgoutput, pq, snapshot};
@@ -59,7 +61,8 @@ fn read(path: &Path) -> Result<Configuration, String> {
 
 fn lacks(path: &Path) -> Result<Vec<Lack>, String> {
     let configuration = read(path)?;
-    let mut connection = pq::Connection::open(&configuration.address()?).map_err(|fault| fault.to_string())?;
+    let base = Base::new(&configuration.address()?, configuration.source.deadline());
+    let mut connection = base.as_it_is().map_err(|fault| fault.to_string())?;
     needs::lacking(&configuration, &mut connection).map_err(|fault| fault.to_string())
 }
 

@@ -27,7 +27,9 @@ fn answer(mut client: &TcpStream, shared: &Shared) -> io::Result<()> {
         }
     }
     let (status, body) = match first.split(' ').take(2).collect::<Vec<_>>()[..] {
-        ["GET", "/metrics"] => ("200 OK", stats::metrics(shared)),
+        ["GET", "/metrics"] => {
+            stats::metrics(shared).map_or(("500 Internal Server Error", String::new()), |text| ("200 OK", text))
+        }
         ["GET", "/healthz"] if shared.is_stale() => ("503 Service Unavailable", "stale\n".into()),
         ["GET", "/healthz"] if !shared.is_following() => ("503 Service Unavailable", "not following\n".into()),
         ["GET", "/healthz"] => ("200 OK", "following\n".into()),

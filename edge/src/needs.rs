@@ -3,6 +3,7 @@ use crate::configuration::{Configuration, View};
 use crate::pq::{Connection, Fault};
 use crate::query::Item;
 use crate::tables::IDENTITY;
+use crate::writes;
 
 /// Something that an edge needs and that isn't there.
 pub struct Lack {
@@ -186,6 +187,7 @@ pub fn lacking(configuration: &Configuration, connection: &mut Connection) -> Re
         }
         lacks.extend(of_view.into_iter().map(|it| Lack { says: format!("the view {}: {}", view.name, it.says), ..it }));
     }
+    lacks.extend(writes::lacking(&configuration.writes, connection)?);
     Ok(lacks)
 }
 

@@ -9,13 +9,14 @@ use crate::listener::{self, Door, Listener};
 use crate::pq::Fault;
 use crate::session::Session;
 use crate::shared::Shared;
+use crate::slot::{self, Lasting};
 use crate::stats::Count;
 use crate::upquery::{self, Queue};
 use crate::wire::Socket;
-use crate::{metrics, slot, stream::Stream, tables};
+use crate::{metrics, stream::Stream, tables};
 use std::net::{SocketAddr, TcpListener};
 use std::sync::{atomic::Ordering::SeqCst, mpsc, mpsc::SyncSender, Arc};
-use std::{fs, process, process::ExitCode, thread, thread::Builder, time::Duration};
+use std::{fs, io, process, process::ExitCode, thread, thread::Builder, time::Duration};
 
 /// The most events that the dataflow hasn't taken: who has more waits.
 const EVENTS: usize = 1024;
@@ -39,7 +40,16 @@ pub fn serve(configuration: Configuration) -> Result<ExitCode, String> {
     let metrics = metrics.map_err(|fault| format!("the address of metrics: {fault}"))?;
     let ending = Ending::new().map_err(|fault| fault.to_string())?;
     // They are there until the process ends, whatever waits then.
-    Ok(run(Box::leak(Box::new(shared)), Box::leak(listeners.into()), metrics, &ending))
+    let (shared, listeners): (&_, &[_]) = (Box::leak(Box::new(shared)), Box::leak(listeners.into()));
+    let door: &Door = Box::leak(Box::new(Door::new(shared.configuration.listen.clients)));
+    begin(shared, door, listeners, metrics).map_err(|fault| format!("a thread: {fault}"))?;
+    for listener in listeners {
+        eprintln!("edge: listens on {}", listener.place().map_err(|fault| fault.to_string())?);
+    }
+    tell_systemd("READY=1");
+    ending.wait();
+    tell_systemd("STOPPING=1");
+    process::exit(end(shared, door, 0))
 }
 
 fn listeners(listen: &Listen) -> Result<Vec<Listener>, String> {
@@ -47,9 +57,6 @@ fn listeners(listen: &Listen) -> Result<Vec<Listener>, String> {
     let mut all = vec![Listener::tcp(at).map_err(|fault| format!("{at}: {fault}"))?];
     if let Some(path) = &listen.unix_socket {
         all.push(Listener::unix(path).map_err(|fault| format!("{}: {fault}", path.display()))?);
-    }
-    for listener in &all {
-        eprintln!("edge: listens on {}", listener.place().map_err(|fault| fault.to_string())?);
     }
     Ok(all)
 }
@@ -61,44 +68,39 @@ fn shared(configuration: Configuration, base: Base) -> Result<Shared, End> {
     Shared::new(configuration, base, tables).map_err(End::Broken)
 }
 
-fn run(
+/// All threads but those of clients.
+fn begin(
     shared: &'static Shared,
+    door: &'static Door,
     listeners: &'static [Listener],
     metrics: Option<TcpListener>,
-    ending: &Ending,
-) -> ExitCode {
+) -> io::Result<()> {
     let queue: &Queue = Box::leak(Box::default());
-    let door: &Door = Box::leak(Box::new(Door::new(shared.configuration.listen.clients)));
     let (events, taken) = mpsc::sync_channel(EVENTS);
     for _ in 0..shared.configuration.source.connections {
         let events = events.clone();
-        thread::spawn(move || upquery::run(shared, queue, events));
+        run(move || upquery::run(shared, queue, events))?;
     }
     let for_watch = events.clone();
-    thread::spawn(move || watch(shared, for_watch));
-    let stream = Stream::new(shared, events.clone());
-    thread::spawn(move || stream.run());
-    for listener in listeners {
-        let session = session(shared, events.clone());
-        thread::spawn(move || listener::run(listener, door, session, || shared.work.up(Count::Refused)));
-    }
-    if let Some(listener) = metrics {
-        thread::spawn(move || metrics::run(&listener, shared));
-    }
-    let dataflow = Builder::new().spawn(move || {
+    run(move || watch(shared, for_watch))?;
+    run(move || {
         if let Err(why) = Dataflow::new(shared, queue).run(taken) {
             eprintln!("edge: {why}");
             process::exit(end(shared, door, 1));
         }
-    });
-    if let Err(fault) = dataflow {
-        eprintln!("edge: {fault}");
-        return ExitCode::from(2);
+    })?;
+    if let Some(listener) = metrics {
+        run(move || metrics::run(&listener, shared))?;
     }
-    tell_systemd("READY=1");
-    ending.wait();
-    tell_systemd("STOPPING=1");
-    process::exit(end(shared, door, 0))
+    for listener in listeners {
+        let session = session(shared, events.clone());
+        run(move || listener::run(listener, door, session, || shared.work.up(Count::Refused)))?;
+    }
+    run(move || Stream::new(shared, events).run())
+}
+
+fn run(work: impl FnOnce() + Send + 'static) -> io::Result<()> {
+    Builder::new().spawn(work).map(drop)
 }
 
 fn tell_systemd(state: &str) {
@@ -138,27 +140,28 @@ fn end(shared: &'static Shared, door: &Door, status: i32) -> i32 {
         _ = fs::remove_file(path);
     }
     let (done, is_done) = mpsc::channel();
-    thread::spawn(move || done.send(leave(shared)));
-    match is_done.recv_timeout(GRACE) {
-        Ok(Ok(())) => {}
-        Ok(Err(fault)) => eprintln!("edge: the slot goes when PostgreSQL sees that the edge is gone: {fault}"),
-        Err(_) => eprintln!("edge: the slot goes when PostgreSQL sees that the edge is gone: it doesn't answer"),
+    // Where there is no thread for it, there is none that answers.
+    _ = run(move || _ = done.send(leave(shared)));
+    let left = is_done.recv_timeout(GRACE).map_err(|_| "it doesn't answer".to_string());
+    if let Err(why) = left.and_then(|left| left.map_err(|fault| fault.to_string())) {
+        let goes = |_| String::from("goes when PostgreSQL sees that the edge is gone");
+        let stays = |lasting: Lasting| format!("{} stays, and is an operator's to drop", lasting.name);
+        eprintln!("edge: the slot {}: {why}", shared.lasting().map_or_else(|| goes(()), stays));
     }
     status
 }
 
-/// Ends PostgreSQL's process that brings the changes, and with it the slot.
+/// Ends PostgreSQL's process that brings the changes, and with it a temporary slot. A lasting one is dropped.
 fn leave(shared: &Shared) -> Result<(), Fault> {
     let process = shared.stream.swap(0, SeqCst);
-    if process == 0 {
-        return Ok(());
+    if process != 0 {
+        let mut connection = shared.base.as_it_is()?;
+        let names = format!("edge_{}_%", process::id());
+        connection.run_with("SELECT pg_terminate_backend($1::integer)", &[&process.to_string()])?;
+        let is_there = "SELECT 1 FROM pg_replication_slots WHERE slot_name LIKE $1 AND active_pid = $2::integer";
+        while !connection.run_with(is_there, &[&names, &process.to_string()])?.is_empty() {
+            thread::sleep(Duration::from_millis(10));
+        }
     }
-    let mut connection = shared.base.as_it_is()?;
-    let names = format!("edge_{}_%", process::id());
-    connection.run_with("SELECT pg_terminate_backend($1::integer)", &[&process.to_string()])?;
-    let is_there = "SELECT 1 FROM pg_replication_slots WHERE slot_name LIKE $1 AND active_pid = $2::integer";
-    while !connection.run_with(is_there, &[&names, &process.to_string()])?.is_empty() {
-        thread::sleep(Duration::from_millis(10));
-    }
-    Ok(())
+    slot::drop_lasting(shared)
 }

@@ -6,7 +6,7 @@ use crate::lsn::Lsn;
 use crate::resp::Reply;
 use crate::shared::Shared;
 use crate::wire::{Socket, Wire};
-use crate::{stats, stats::Count, value::Value};
+use crate::{stats, stats::Count, value::Value, writes};
 use edge_common::command::{Bounds, Command};
 use nr::CacheReader;
 use std::sync::{atomic::Ordering::SeqCst, mpsc, mpsc::SyncSender, Arc};
@@ -23,9 +23,9 @@ pub struct Session<'a> {
 
 /// As many keys as one MGET has, each as long as a word may be.
 const BOUNDS: Bounds = Bounds { words: 1024, bytes: 1024 * (4096 + 16) };
-const UNKNOWN: &str =
-    "ERR unknown command: there are GET, READ, MGET, EXISTS, INFO, PING, HELLO, AUTH, CLIENT, COMMAND, \
-    SELECT and QUIT";
+/// Those that no write may be called.
+pub const COMMANDS: [&str; 12] =
+    ["GET", "READ", "MGET", "EXISTS", "INFO", "PING", "HELLO", "AUTH", "CLIENT", "COMMAND", "SELECT", "QUIT"];
 const NOT_REACHED: &str = "ERR the edge has not come as far as the token: try again, or ask another edge";
 const SLOW: &str = "ERR PostgreSQL doesn't answer in time";
 const ENDED: &str = "ERR the edge has ended";
@@ -69,8 +69,21 @@ impl Session<'_> {
                 Ok(())
             }
             ("GET" | "READ" | "MGET" | "EXISTS", _) => Err(WRONG_COUNT.into()),
-            _ => Err(UNKNOWN.into()),
+            _ => self.write(command, arguments, reply),
         }
+    }
+
+    /// By the statement that has the command's name.
+    fn write(&mut self, command: &str, arguments: &[&str], mut reply: Reply) -> Result<(), Fault> {
+        let writes = &self.shared.configuration.writes;
+        let Some(write) = writes.iter().position(|write| write.name.eq_ignore_ascii_case(command)) else {
+            let names = writes.iter().map(|write| format!(", {}", write.name.to_ascii_uppercase()));
+            return Err(format!("ERR unknown command: there are {}{}", COMMANDS.join(", "), names.collect::<String>()));
+        };
+        let place = writes::write(self.shared, write, arguments)?;
+        self.shared.counts[self.number].up(Count::Writes);
+        reply.simple(&place.to_string());
+        Ok(())
     }
 
     /// Waits until the edge has come as far as a token, where one is brought.

@@ -3,12 +3,15 @@ use crate::base::Base;
 use crate::configuration::{Configuration, Encoding};
 use crate::guest::Host;
 use crate::key::Key;
+use crate::lsn::Lsn;
+use crate::slot::Lasting;
 use crate::stats::{Counts, Now};
 use crate::tables::Table;
 use crate::value::Value;
+use edge_common::postgres::pool::Pool;
 use nr::{Cache, Progress};
 use std::sync::atomic::{AtomicBool, AtomicI32, AtomicU64, Ordering::Relaxed, Ordering::SeqCst};
-use std::sync::{Arc, PoisonError, RwLock};
+use std::sync::{Arc, Mutex, PoisonError, RwLock};
 use std::time::{Duration, Instant};
 
 pub struct Shared {
@@ -24,8 +27,11 @@ pub struct Shared {
     pub counts: Vec<Counts>,
     pub work: Counts,
     pub now: Now,
+    pub writers: Pool,
     /// PostgreSQL's process that brings the changes, or 0.
     pub stream: AtomicI32,
+    /// The slot that doesn't go by itself.
+    lasting: Mutex<Option<Lasting>>,
     /// Another table has the name of one that the stream brings.
     pub has_other_table: AtomicBool,
     /// The edge ends, and what is broken then stays so.
@@ -52,7 +58,9 @@ impl Shared {
             counts: (0..clients).map(|_| Counts::default()).collect(),
             work: Counts::default(),
             now: Now::default(),
+            writers: Pool::new(configuration.source.write_connections),
             stream: AtomicI32::new(0),
+            lasting: Mutex::default(),
             has_other_table: AtomicBool::new(false),
             is_over: AtomicBool::new(false),
             tables: RwLock::new(tables.into()),
@@ -74,6 +82,20 @@ impl Shared {
 
     pub fn encoding(&self, view: usize) -> Encoding {
         self.configuration.views[view].encoding
+    }
+
+    pub fn lasting(&self) -> Option<Lasting> {
+        self.lasting.lock().unwrap_or_else(PoisonError::into_inner).clone()
+    }
+
+    pub fn set_lasting(&self, lasting: Option<Lasting>) {
+        *self.lasting.lock().unwrap_or_else(PoisonError::into_inner) = lasting;
+    }
+
+    /// Before PostgreSQL is told of the place, and needn't keep what came before it.
+    pub fn has_reached(&self, place: Lsn) {
+        let mut lasting = self.lasting.lock().unwrap_or_else(PoisonError::into_inner);
+        lasting.iter_mut().for_each(|lasting| lasting.reached = place);
     }
 
     pub fn follows(&self, is_following: bool) {

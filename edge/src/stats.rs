@@ -1,6 +1,7 @@
 //! What INFO and /metrics tell. Each thread counts in a cache line of its own, so that no read writes where another
 //! does.
 use crate::{lsn::Lsn, shared::Shared};
+use prometheus::{IntCounter, IntGauge, Registry, TextEncoder};
 use std::fmt::Write;
 use std::sync::atomic::{AtomicU64, Ordering::Relaxed};
 
@@ -15,7 +16,7 @@ macro_rules! counts {
 counts!(
     Hits "hits", Misses "misses", Waits "waits", Upqueries "upqueries", Statements "statements", Fills "fills",
     Evictions "evictions", TooLarge "too_large", Transactions "transactions", Updates "updates", Repeats "repeats",
-    Skips "skips", Replays "replays", Again "again", Losses "losses", Untold "untold", Disagreements "disagreements", Clients "clients",
+    Writes "writes", Skips "skips", Replays "replays", Again "again", Losses "losses", Untold "untold", Disagreements "disagreements", Clients "clients",
     Refused "refused_clients"
 );
 
@@ -68,11 +69,16 @@ pub fn info(shared: &Shared) -> String {
 }
 
 /// As Prometheus reads them.
-pub fn metrics(shared: &Shared) -> String {
-    let mut text = String::new();
+pub fn metrics(shared: &Shared) -> prometheus::Result<String> {
+    let registry = Registry::new();
     for (name, is_count, number) in numbers(shared) {
-        let (kind, end) = if is_count { ("counter", "_total") } else { ("gauge", "") };
-        _ = write!(text, "# TYPE edge_{name}{end} {kind}\nedge_{name}{end} {number}\n");
+        let (end, help) = (if is_count { "_total" } else { "" }, format!("As {name} of INFO."));
+        let name = format!("edge_{name}{end}");
+        let count = IntCounter::new(&name, &help)?;
+        count.inc_by(number);
+        let gauge = IntGauge::new(&name, &help)?;
+        gauge.set(number as i64);
+        registry.register(if is_count { Box::new(count) } else { Box::new(gauge) })?;
     }
-    text
+    TextEncoder::new().encode_to_string(&registry.gather())
 }

@@ -10,6 +10,7 @@ use crate::shared::Shared;
 use crate::slot;
 use crate::snapshot::TableId;
 use crate::tables::Table;
+use edge_common::pause::Pause;
 use std::collections::HashMap;
 use std::convert::Infallible;
 use std::sync::{atomic::Ordering::SeqCst, mpsc::SyncSender, Arc};
@@ -27,13 +28,15 @@ const CHANGED: &str = "edges: changed";
 pub struct Stream<'a> {
     pub shared: &'a Shared,
     pub events: SyncSender<Event>,
+    /// Where it is, while the slot stands.
+    place: Option<Place<'a>>,
     said: String,
-    pause: Duration,
+    pause: Pause,
 }
 
-impl Stream<'_> {
-    pub fn new(shared: &Shared, events: SyncSender<Event>) -> Stream<'_> {
-        Stream { shared, events, said: String::new(), pause: SHORTEST_PAUSE }
+impl<'a> Stream<'a> {
+    pub fn new(shared: &'a Shared, events: SyncSender<Event>) -> Stream<'a> {
+        Stream { shared, events, place: None, said: String::new(), pause: Pause::new(SHORTEST_PAUSE, LONGEST_PAUSE) }
     }
 
     pub fn run(mut self) {
@@ -45,6 +48,9 @@ impl Stream<'_> {
             self.shared.stream.store(0, SeqCst);
             if self.shared.is_over.load(SeqCst) {
                 return;
+            }
+            if !self.shared.configuration.source.lasting_slot || matches!(end, End::Lost(_)) {
+                self.place = None;
             }
             let line = end.to_string();
             let event = match end {
@@ -61,8 +67,7 @@ impl Stream<'_> {
             if self.events.send(event).is_err() {
                 return;
             }
-            thread::sleep(self.pause.mul_f64(0.5 + (slot::random() % 1000) as f64 / 2000.0));
-            self.pause = (self.pause * 2).min(LONGEST_PAUSE);
+            thread::sleep(self.pause.draw());
         }
     }
 
@@ -77,32 +82,55 @@ impl Stream<'_> {
     fn follow(&mut self) -> Result<Infallible, End> {
         let mut connection = self.shared.base.for_changes()?;
         self.shared.stream.store(connection.process(), SeqCst);
-        let (slot, first, tables) = slot::make(self.shared, &mut connection)?;
-        let publication = &self.shared.configuration.source.publication;
-        let options = format!("proto_version '1', publication_names '{publication}', messages 'true'");
-        connection.run(&format!("START_REPLICATION SLOT {slot} LOGICAL 0/0 ({options})"))?;
-        self.shared.has_tables(tables);
-        self.shared.has_other_table.store(false, SeqCst);
-        self.tell(Event::Begun(first))?;
+        // Who ends the edge looked for that process after it had said so.
+        if self.shared.is_over.load(SeqCst) {
+            return Err(End::Over);
+        }
+        let slot = if self.place.is_some() { self.go_on(&mut connection)? } else { self.begin(&mut connection)? };
         self.says(format!("follows by the slot {slot}"));
-        self.pause = SHORTEST_PAUSE;
+        self.pause.begin_anew();
         self.read(connection)
     }
 
-    fn tell(&self, event: Event) -> Result<(), End> {
-        self.events.send(event).map_err(|_| End::Over)
+    fn begin(&mut self, connection: &mut Connection) -> Result<String, End> {
+        slot::drop_lasting(self.shared)?;
+        let (slot, first, tables) = slot::make(self.shared, connection)?;
+        self.replicate(&slot, connection)?;
+        self.shared.has_tables(tables);
+        self.shared.has_other_table.store(false, SeqCst);
+        self.place = Some(Place::new(self.shared, first.place));
+        tell(&self.events, Event::Begun(first))?;
+        Ok(slot)
     }
 
-    fn read(&self, mut connection: Connection) -> Result<Infallible, End> {
+    /// By the lasting slot. What comes again is known by its place.
+    fn go_on(&mut self, connection: &mut Connection) -> Result<String, End> {
+        slot::may_go_on(self.shared, connection)?;
+        let slot = self.shared.lasting().map_or(String::new(), |lasting| lasting.name);
+        self.replicate(&slot, connection)?;
+        slot::is_whole(self.shared)?;
+        self.place.iter_mut().for_each(|place| place.open = None);
+        tell(&self.events, Event::Resumed)?;
+        Ok(slot)
+    }
+
+    fn replicate(&self, slot: &str, connection: &mut Connection) -> Result<(), End> {
+        let publication = &self.shared.configuration.source.publication;
+        let options = format!("proto_version '1', publication_names '{publication}', messages 'true'");
+        connection.run(&format!("START_REPLICATION SLOT {slot} LOGICAL 0/0 ({options})"))?;
+        Ok(())
+    }
+
+    fn read(&mut self, mut connection: Connection) -> Result<Infallible, End> {
         let max_staleness = self.shared.configuration.source.max_staleness();
         let beat = max_staleness.map_or(BEAT, |most| BEAT.min(most / 4));
-        let mut place = Place::new(self.shared);
+        let Some(place) = &mut self.place else { return Err(End::Over) };
         let (mut confirmed, mut heard) = (Instant::now(), Instant::now());
         loop {
             if let Some(message) = connection.message_within(beat.saturating_sub(confirmed.elapsed()))? {
                 heard = Instant::now();
                 let event = place.after(&message).ok_or_else(|| End::Lost(place.lacks.into()))?;
-                event.map_or(Ok(()), |event| self.tell(event))?;
+                event.map_or(Ok(()), |event| tell(&self.events, event))?;
             }
             if self.shared.has_other_table.swap(false, SeqCst) {
                 return Err(End::Lost("another table has the name of a view's".into()));
@@ -111,11 +139,16 @@ impl Stream<'_> {
                 return Err(End::Broken("the stream is silent".into()));
             }
             if confirmed.elapsed() >= beat {
+                self.shared.has_reached(place.reached);
                 connection.send(&place.confirmation())?;
                 confirmed = Instant::now();
             }
         }
     }
+}
+
+fn tell(events: &SyncSender<Event>, event: Event) -> Result<(), End> {
+    events.send(event).map_err(|_| End::Over)
 }
 
 /// Where the stream is.
@@ -139,9 +172,9 @@ struct Known {
 }
 
 impl Place<'_> {
-    fn new(shared: &Shared) -> Place<'_> {
+    fn new(shared: &Shared, reached: Lsn) -> Place<'_> {
         let lacks = "a message of PostgreSQL's isn't understood";
-        Place { shared, tables: shared.tables(), known: HashMap::new(), reached: Lsn(0), open: None, lacks }
+        Place { shared, tables: shared.tables(), known: HashMap::new(), reached, open: None, lacks }
     }
 
     /// What a message brings. None where changes are missing from here on.
@@ -165,7 +198,7 @@ impl Place<'_> {
             Message::Change(table, change) if self.is_of_views(table) => self.change(table, change)?,
             Message::Table(description) if self.is_of_views(description.table) => self.know(description)?,
             Message::Commit(end) => {
-                self.reached = end;
+                self.reached = self.reached.max(end);
                 return Some(Some(Event::Transaction(Transaction { end, ..self.open.take()? })));
             }
             Message::Truncate(tables) if tables.iter().any(|table| self.is_of_views(*table)) => {

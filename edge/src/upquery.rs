@@ -117,9 +117,8 @@ pub fn run(shared: &Shared, queue: &Queue, events: SyncSender<Event>) {
 /// One answer. Where a key is no text of its type, that is no matter of the others: each is asked alone.
 fn answers(shared: &Shared, at: &mut Option<Prepared>, requests: Vec<Request>) -> Vec<Answer> {
     // A connection may have broken since its last use, so another is tried.
-    let is_broken = |fault: &Fault| fault.is_of_connection() && fault.state != CANCELLED;
     let told = match told(shared, at, &requests) {
-        Err(fault) if is_broken(&fault) => self::told(shared, at, &requests),
+        Err(fault) if fault.is_of_connection() => self::told(shared, at, &requests),
         told => told,
     };
     let is_of_a_value = |fault: &Fault| OF_A_VALUE.iter().any(|class| fault.state.starts_with(class));
@@ -131,7 +130,6 @@ fn answers(shared: &Shared, at: &mut Option<Prepared>, requests: Vec<Request>) -
     }
 }
 
-const CANCELLED: &str = "57014";
 /// A text that is none of its type, or not of its domain.
 const OF_A_VALUE: [&str; 2] = ["22", "23"];
 

@@ -2,9 +2,11 @@
 //! views: rows that changes tell whole, rows that they tell by their identity, and what a query makes of them.
 //!   cases PROGRAM ADDRESS RESTART [CASE]    RESTART is a command that ends PostgreSQL at once and starts it again
 mod edges;
+mod lasting;
 mod operator;
+mod writers;
 use edge_common::postgres::pq::Connection;
-use edges::{last, signal, until, Edge};
+use edges::{last, signal, token, until, Edge};
 use std::process::Command;
 use std::{env, thread};
 
@@ -12,46 +14,74 @@ struct Case {
     program: String,
     address: String,
     restart: String,
+    /// Of an edge's source.
+    lines: &'static str,
     base: Connection,
 }
 
 /// What happens.
 type Run = fn(&mut Case);
 
-const CASES: [(&str, Run); 14] = [
-    ("log", a_commit_that_no_snapshot_sees_yet),
-    ("first_snapshot", a_commit_that_the_new_slot_does_not_carry),
-    ("early", an_answer_that_is_older_than_the_slot),
-    ("skip", an_answer_that_is_ahead_of_the_stream),
-    ("moves", rows_that_move_behind_a_snapshot),
-    ("cut", a_stream_that_is_cut),
-    ("missed", changes_that_a_slot_has_missed),
-    ("truncate", a_table_that_is_truncated_or_changed),
-    ("restart", a_server_that_is_restarted),
-    ("crash", a_server_that_recovers_by_itself),
-    ("killed", an_edge_that_is_killed),
-    ("role", a_role_that_may_not_do_it_any_more),
-    ("error", operator::a_publication_that_is_gone_for_a_while),
-    ("text", operator::texts_that_are_no_sql),
+const LASTING: &str = "lasting_slot = true";
+const CASES: [(&str, &str, Run); 33] = [
+    ("log", "", a_commit_that_no_snapshot_sees_yet),
+    ("first_snapshot", "", a_commit_that_the_new_slot_does_not_carry),
+    ("early", "", an_answer_that_is_older_than_the_slot),
+    ("skip", "", an_answer_that_is_ahead_of_the_stream),
+    ("moves", "", rows_that_move_behind_a_snapshot),
+    ("cut", "", a_stream_that_is_cut),
+    ("missed", "", changes_that_a_slot_has_missed),
+    ("truncate", "", a_table_that_is_truncated_or_changed),
+    ("restart", "", a_server_that_is_restarted),
+    ("crash", "", a_server_that_recovers_by_itself),
+    ("killed", "", an_edge_that_is_killed),
+    ("role", "", a_role_that_may_not_do_it_any_more),
+    ("error", "", operator::a_publication_that_is_gone_for_a_while),
+    ("text", "", operator::texts_that_are_no_sql),
+    ("log_lasting", LASTING, a_commit_that_no_snapshot_sees_yet),
+    ("skip_lasting", LASTING, an_answer_that_is_ahead_of_the_stream),
+    ("truncate_lasting", LASTING, a_table_that_is_truncated_or_changed),
+    ("restart_lasting", LASTING, a_server_that_is_restarted),
+    ("crash_lasting", LASTING, a_server_that_recovers_by_itself),
+    ("error_lasting", LASTING, operator::a_publication_that_is_gone_for_a_while),
+    ("repeats_guard", LASTING, lasting::a_stream_that_goes_on),
+    ("halves", LASTING, lasting::a_transaction_that_is_cut_in_two),
+    ("emptying", LASTING, lasting::a_slot_that_is_dropped),
+    ("limit", LASTING, lasting::a_slot_that_is_too_far_behind),
+    ("anew", LASTING, lasting::a_slot_that_another_made_anew),
+    ("left", LASTING, lasting::a_slot_that_is_left),
+    ("tokens", "", writers::a_write_and_its_token),
+    ("texts", "", writers::texts_that_are_no_sql),
+    ("page", "", writers::a_web_page_that_writes),
+    ("locked", "", writers::a_row_that_another_has_locked),
+    ("rest", "", writers::clients_that_wrote_once),
+    ("apart", "", writers::writes_and_misses_apart),
+    ("end", "", writers::an_end_while_a_write_waits_for_a_lock),
 ];
 
 fn main() {
     let words: Vec<String> = env::args().collect();
     let [program, address, restart] = [1, 2, 3].map(|place| words[place].clone());
-    for (name, run) in CASES.iter().filter(|(name, _)| words.get(4).is_none_or(|wanted| wanted == name)) {
+    for (name, lines, run) in CASES.iter().filter(|(name, ..)| words.get(4).is_none_or(|wanted| wanted == name)) {
         // What the case itself writes does not wait for a standby.
         let base = Connection::open(&format!("{address} options='-c synchronous_commit=local'")).unwrap();
-        let mut case = Case { program: program.clone(), address: address.clone(), restart: restart.clone(), base };
+        let [program, address, restart] = [&program, &address, &restart].map(String::clone);
+        let mut case = Case { program, address, restart, lines, base };
         case.sql("TRUNCATE votes, kept");
         run(&mut case);
-        until("no slot is left", || case.sql("SELECT count(*) FROM pg_replication_slots") == "0");
+        let drop =
+            "SELECT pg_drop_replication_slot(slot_name) FROM pg_replication_slots WHERE NOT active AND NOT temporary";
+        until("no slot is left", || {
+            case.sql(drop);
+            case.sql("SELECT count(*) FROM pg_replication_slots") == "0"
+        });
         println!("cases: {name}");
     }
 }
 
 impl Case {
     fn edge(&self) -> Edge {
-        Edge::start(&self.program, &self.address, "")
+        Edge::start(&self.program, &self.address, self.lines)
     }
 
     fn following(&self) -> Edge {
@@ -67,9 +97,7 @@ impl Case {
     /// A write, and the token of a read that is to see it.
     fn write(&mut self, sql: &str) -> String {
         self.sql(sql);
-        // This commit flushes those before it that were not waited for, so it must end before the place is read.
-        self.sql("SELECT pg_logical_emit_message(true, 'now', '')");
-        self.sql("SELECT pg_current_wal_flush_lsn()")
+        token(&mut self.base)
     }
 
     fn rows(&mut self, article: &str) -> String {
@@ -181,6 +209,7 @@ fn a_commit_that_the_new_slot_does_not_carry(case: &mut Case) {
 /// Its statement has its snapshot before it waits for a lock. The answer comes after another one that saw all that the slot
 /// began with.
 fn an_answer_that_is_older_than_the_slot(case: &mut Case) {
+    case.sql("ALTER DATABASE cases SET default_transaction_isolation = 'repeatable read'");
     let (mut open, xid) = case.open_transaction();
     last(&mut open, "INSERT INTO votes VALUES ('o', 1, 1)");
     let edge = Edge::start(&case.program, &case.address, "connections = 2\ndeadline = 60");
@@ -207,6 +236,7 @@ fn an_answer_that_is_older_than_the_slot(case: &mut Case) {
     // It was taken back when the slot stood, and asked for anew.
     assert_eq!((client.join().unwrap(), edge.get("o", "")), ("[[1,1]]".into(), "1:1".into()));
     assert_eq!(edge.held("o", ""), "1:1");
+    case.sql("ALTER DATABASE cases RESET default_transaction_isolation");
 }
 
 fn an_answer_that_is_ahead_of_the_stream(case: &mut Case) {

@@ -1,7 +1,8 @@
-//! Edges as processes, and clients of theirs.
+//! Edges as processes, and clients of theirs that bear it when one ends.
+#![allow(dead_code)]
 use edge_common::postgres::pq::{Connection, Table};
 use std::fs::{self, File};
-use std::io::{BufRead, BufReader, Read, Write};
+use std::io::{BufRead, BufReader, ErrorKind, Read, Result, Write};
 use std::net::TcpStream;
 use std::path::PathBuf;
 use std::process::{Child, Command, Stdio};
@@ -14,8 +15,12 @@ const LONG: Duration = Duration::from_secs(60);
 const VIEWS: &str = include_str!("cases.toml");
 
 pub struct Edge {
+    program: String,
+    /// Its configuration, but for the port.
+    lines: String,
+    file: PathBuf,
     process: Child,
-    port: u16,
+    pub port: u16,
     said: PathBuf,
 }
 
@@ -26,14 +31,24 @@ impl Edge {
         let path = |kind: &str| env::current_exe().unwrap().with_extension(format!("{kind}-{}", NEXT.load(SeqCst)));
         NEXT.fetch_add(1, SeqCst);
         let (file, said) = (path("toml"), path("said"));
-        let text = format!("[source]\naddress = \"{address}\"\n{lines}\n[listen]\nport = 0\ntoken_wait = 30\n{VIEWS}");
-        fs::write(&file, text).unwrap();
-        let errors = File::create(&said).unwrap();
-        let process = Command::new(program).arg("serve").arg(file).stdin(Stdio::null()).stderr(errors).spawn().unwrap();
-        let mut edge = Edge { process, port: 0, said };
+        let lines = format!("[source]\naddress = \"{address}\"\n{lines}\n{VIEWS}\n[listen]\ntoken_wait = 30\n");
+        let process = started(program, &lines, 0, &file, &said);
+        let mut edge = Edge { program: program.into(), lines, file, process, port: 0, said };
         edge.says("listens on ");
         edge.port = edge.said().lines().find_map(|line| line.rsplit_once(':')?.1.parse().ok()).unwrap();
         edge
+    }
+
+    /// By SIGKILL.
+    pub fn kill(&mut self) {
+        self.process.kill().unwrap();
+        self.process.wait().unwrap();
+    }
+
+    /// At the same port.
+    pub fn start_again(&mut self) {
+        self.process = started(&self.program, &self.lines, self.port, &self.file, &self.said);
+        self.says("listens on ");
     }
 
     fn said(&self) -> String {
@@ -59,12 +74,16 @@ impl Edge {
 
     /// A text, a line with its first sign, or the parts of an array with spaces between. Nil is nothing.
     pub fn ask(&self, line: &str) -> String {
-        ask(self.port, line)
+        self.client().ask(line).expect("the edge answers")
     }
 
     pub fn asks(&self, line: &str) -> thread::JoinHandle<String> {
-        let (port, line) = (self.port, line.to_owned());
-        thread::spawn(move || ask(port, &line))
+        let (client, line) = (self.client(), line.to_owned());
+        thread::spawn(move || ({ client }).ask(&line).expect("the edge answers"))
+    }
+
+    pub fn client(&self) -> Client {
+        Client::connect(self.port).expect("the edge listens")
     }
 
     pub fn count(&self, name: &str) -> u64 {
@@ -79,17 +98,25 @@ impl Edge {
 
     /// What all three views have of an article, which is the same.
     pub fn get(&self, article: &str, token: &str) -> String {
-        let [votes, kept, sums] = ["votes", "kept", "sums"].map(|view| {
-            let told = self.ask(&format!("GET {view}:{article} {token}"));
-            assert!(!told.starts_with('-'), "{view}:{article}: {told}");
-            numbers(&told)
-        });
-        let of_all: Vec<_> = votes.chunks(2).map(|row| (row[0], row[1])).collect();
-        let of_kept: Vec<_> = kept.chunks(2).map(|row| (row[0], row[1])).collect();
-        let sum = of_all.iter().map(|(_, weight)| weight).sum();
-        let wanted = of_all.iter().map(|(voter, _)| *voter).max().map(|max| vec![of_all.len() as u64, sum, max]);
-        assert_eq!((sorted(of_all.clone()), wanted.unwrap_or_default()), (sorted(of_kept), sums), "{article}");
-        sorted(of_all)
+        self.rows(article, token).unwrap_or_else(|told| panic!("{article}: {told}"))
+    }
+
+    /// The same, or what is said where there is no answer, or where the views differ.
+    pub fn rows(&self, article: &str, token: &str) -> std::result::Result<String, String> {
+        let mut all = [const { Vec::new() }; 3];
+        for (view, numbers) in ["votes", "kept", "sums"].iter().zip(&mut all) {
+            let told = self.client().ask(&format!("GET {view}:{article} {token}")).map_err(|_| "it has gone")?;
+            if told.starts_with('-') {
+                return Err(told);
+            }
+            *numbers = numbers_in(&told);
+        }
+        let [votes, kept, sums] = all;
+        let [votes, kept] = [votes, kept].map(|numbers| rows_of(&numbers));
+        let sum = votes.iter().map(|(_, weight)| weight).sum();
+        let wanted = votes.iter().map(|(voter, _)| *voter).max().map(|max| vec![votes.len() as u64, sum, max]);
+        let is_same = votes == kept && wanted.clone().unwrap_or_default() == sums;
+        is_same.then(|| text_of(&votes)).ok_or_else(|| format!("the views differ: {votes:?}, {kept:?}, {sums:?}"))
     }
 
     /// The same of what it holds.
@@ -108,12 +135,28 @@ impl Drop for Edge {
     }
 }
 
-fn numbers(text: &str) -> Vec<u64> {
+fn started(program: &str, lines: &str, port: u16, file: &PathBuf, said: &PathBuf) -> Child {
+    fs::write(file, format!("{lines}port = {port}\n")).unwrap();
+    let errors = File::create(said).unwrap();
+    Command::new(program).arg("serve").arg(file).stdin(Stdio::null()).stderr(errors).spawn().unwrap()
+}
+
+fn numbers_in(text: &str) -> Vec<u64> {
     text.split(|sign: char| !sign.is_ascii_digit()).filter_map(|digits| digits.parse().ok()).collect()
 }
 
-fn sorted(mut rows: Vec<(u64, u64)>) -> String {
+fn rows_of(numbers: &[u64]) -> Vec<(u64, u64)> {
+    let mut rows: Vec<_> = numbers.chunks(2).map(|row| (row[0], row[1])).collect();
     rows.sort_unstable();
+    rows
+}
+
+/// The rows of an answer, in their order.
+pub fn rows_in(answer: &str) -> Vec<(u64, u64)> {
+    rows_of(&numbers_in(answer))
+}
+
+fn text_of(rows: &[(u64, u64)]) -> String {
     rows.iter().map(|(voter, weight)| format!("{voter}:{weight}")).collect::<Vec<_>>().join(" ")
 }
 
@@ -129,25 +172,54 @@ pub fn until(what: &str, mut is_so: impl FnMut() -> bool) {
     }
 }
 
-fn ask(port: u16, line: &str) -> String {
-    let mut client = BufReader::new(TcpStream::connect(("127.0.0.1", port)).expect("the edge listens"));
-    client.get_ref().set_read_timeout(Some(LONG)).unwrap();
-    client.get_mut().write_all(format!("{line}\r\n").as_bytes()).unwrap();
-    reply(&mut client)
+pub struct Client(BufReader<TcpStream>);
+
+impl Client {
+    pub fn connect(port: u16) -> Result<Client> {
+        let stream = TcpStream::connect(("127.0.0.1", port))?;
+        stream.set_nodelay(true)?;
+        stream.set_read_timeout(Some(LONG))?;
+        Ok(Client(BufReader::new(stream)))
+    }
+
+    pub fn ask(&mut self, line: &str) -> Result<String> {
+        self.send(&format!("{line}\r\n"))
+    }
+
+    /// A command whose words may have any signs.
+    pub fn ask_words(&mut self, words: &[&str]) -> Result<String> {
+        let words = words.iter().map(|word| format!("${}\r\n{word}\r\n", word.len())).collect::<Vec<_>>();
+        self.send(&format!("*{}\r\n{}", words.len(), words.concat()))
+    }
+
+    fn send(&mut self, bytes: &str) -> Result<String> {
+        self.0.get_mut().write_all(bytes.as_bytes())?;
+        self.reply()
+    }
+
+    fn reply(&mut self) -> Result<String> {
+        let mut line = String::new();
+        if self.0.read_line(&mut line)? == 0 {
+            return Err(ErrorKind::UnexpectedEof.into());
+        }
+        let line = line.trim_end();
+        if let Some(count) = line.strip_prefix('*') {
+            let parts: Result<Vec<_>> = (0..count.parse().unwrap()).map(|_| self.reply()).collect();
+            return Ok(parts?.join(" "));
+        }
+        let Some(size) = line.strip_prefix('$') else { return Ok(line.into()) };
+        let Ok(size) = size.parse::<usize>() else { return Ok(String::new()) };
+        let mut text = vec![0; size + 2];
+        self.0.read_exact(&mut text)?;
+        Ok(String::from_utf8(text[..size].to_vec()).unwrap())
+    }
 }
 
-fn reply(client: &mut BufReader<TcpStream>) -> String {
-    let mut line = String::new();
-    client.read_line(&mut line).unwrap();
-    let line = line.trim_end();
-    if let Some(count) = line.strip_prefix('*') {
-        return (0..count.parse().unwrap()).map(|_| reply(client)).collect::<Vec<_>>().join(" ");
-    }
-    let Some(size) = line.strip_prefix('$') else { return line.into() };
-    let Ok(size) = size.parse::<usize>() else { return String::new() };
-    let mut text = vec![0; size + 2];
-    client.read_exact(&mut text).unwrap();
-    String::from_utf8(text[..size].to_vec()).unwrap()
+/// A read that brings it sees all that was committed before.
+pub fn token(base: &mut Connection) -> String {
+    // This commit flushes those before it that were not waited for, so it must end before the place is read.
+    last(base, "SELECT pg_logical_emit_message(true, 'now', '')");
+    last(base, "SELECT pg_current_wal_flush_lsn()").concat().concat()
 }
 
 /// Of some statements, the last one's rows.

@@ -272,6 +272,45 @@ fn what_is_held_stays_while_the_stream_is_broken() {
 }
 
 #[test]
+fn a_slot_that_goes_on_holds_and_fills_as_before() {
+    let mut trial = Trial::following();
+    trial.fill("a", "10:10:", &[ONE]);
+    trial.commit(12, 210, "a", &[plus(TWO)]);
+    let (late, client) = trial.ask("b");
+    trial.dataflow.handle(Event::Broken);
+    trial.dataflow.handle(Event::Broken);
+    assert!(!trial.shared.is_following());
+    // It is told and not held, since the slot may be gone.
+    trial.answer(late, "13:13:", &[ONE]);
+    assert_eq!((told(&client), trial.held("b")), ("[1]".into(), None));
+    let (later, _) = trial.ask("b");
+    trial.dataflow.handle(Event::Resumed);
+    assert!(trial.shared.is_following());
+    // What PostgreSQL wasn't told of comes again, and then what is new.
+    trial.commit(12, 210, "a", &[plus(TWO)]);
+    trial.commit(13, 220, "a", &[plus("3")]);
+    is(trial.held("a"), "[1,2,3]");
+    trial.answer(later, "14:14:", &[ONE]);
+    is(trial.held("b"), "[1]");
+    // What the slot began with is to be seen as before.
+    let (early, _) = trial.ask("c");
+    trial.answer(early, "9:9:", &[]);
+    assert_eq!(trial.held("c"), None);
+    assert_eq!(trial.sent().map(|request| request.is_again), Some(true));
+}
+
+#[test]
+fn a_slot_that_was_lost_does_not_go_on() {
+    let mut trial = Trial::following();
+    trial.dataflow.handle(Event::Broken);
+    trial.lose();
+    trial.dataflow.handle(Event::Resumed);
+    assert!(!trial.shared.is_following());
+    trial.fill("a", "10:10:", &[ONE]);
+    assert_eq!(trial.held("a"), None);
+}
+
+#[test]
 fn a_late_answer_fills_nothing() {
     let mut trial = Trial::following();
     let (late, client) = trial.ask("a");

@@ -4,6 +4,7 @@ pub mod command;
 pub mod ending;
 pub mod guest;
 pub mod listener;
+pub mod pause;
 #[cfg(feature = "postgres")]
 pub mod postgres;
 pub mod resp;

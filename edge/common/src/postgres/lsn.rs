@@ -1,4 +1,5 @@
 //! PostgreSQL's names for a place in its log and for a transaction.
+use super::pq::{Connection, Fault};
 use std::{fmt, str::FromStr};
 
 /// A place in the log, which grows by the bytes that are written.
@@ -24,6 +25,18 @@ impl Lsn {
         Ok(Lsn(if place % PAGE == header { place - header } else { place }))
     }
 }
+
+impl Lsn {
+    /// Behind a connection's last commit: what nobody waits to see flushed isn't on the disk yet.
+    pub fn of_commit(connection: &mut Connection) -> Result<Lsn, Fault> {
+        let told = connection.run(OF_COMMIT)?.concat().concat();
+        let [place, size] = &told[..] else { return Err(String::from("PostgreSQL tells no place").into()) };
+        Ok(Lsn::before_header(place, size)?)
+    }
+}
+
+const OF_COMMIT: &str = "SELECT CASE current_setting('synchronous_commit') WHEN 'off' THEN pg_current_wal_insert_lsn()
+    ELSE pg_current_wal_flush_lsn() END, pg_size_bytes(current_setting('wal_segment_size'))";
 
 /// In bytes, as PostgreSQL is built. A file's first page has a longer header.
 const PAGE: u64 = 8192;

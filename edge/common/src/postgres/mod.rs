@@ -4,5 +4,6 @@ pub mod log;
 pub mod lsn;
 pub mod parts;
 pub mod pgoutput;
+pub mod pool;
 pub mod pq;
 pub mod snapshot;

@@ -36,10 +36,12 @@ extern "C" {
         format: c_int,
     ) -> c_int;
     fn PQconsumeInput(connection: Handle) -> c_int;
+    fn PQisBusy(connection: Handle) -> c_int;
     fn PQgetResult(connection: Handle) -> Handle;
     fn PQresultStatus(result: Handle) -> c_int;
     fn PQresultErrorField(result: Handle, field: c_int) -> Text;
     fn PQntuples(result: Handle) -> c_int;
+    fn PQcmdTuples(result: Handle) -> Text;
     fn PQnfields(result: Handle) -> c_int;
     fn PQgetvalue(result: Handle, row: c_int, column: c_int) -> Text;
     fn PQgetisnull(result: Handle, row: c_int, column: c_int) -> c_int;
@@ -91,10 +93,21 @@ pub struct Fault {
     message: String,
 }
 
+/// Of a statement that took too long, and of one that has others than are brought.
+const CANCELLED: &str = "57014";
+pub const WRONG_PARAMETERS: &str = "08P01";
+
 impl Fault {
-    /// Whether other connections of before may be broken too.
+    /// Whether the connection is of no use any more, and other ones of before may be so too.
     pub fn is_of_connection(&self) -> bool {
-        self.state.is_empty() || self.state.starts_with("57") || self.state.starts_with("08")
+        let is_of_statement = [CANCELLED, WRONG_PARAMETERS].contains(&&*self.state);
+        ["57", "08"].contains(&self.state.get(..2).unwrap_or("08")) && !is_of_statement
+    }
+
+    /// PostgreSQL's own begins with how severe it is.
+    pub fn without_severity(&self) -> String {
+        let fault = self.to_string();
+        fault.split_once(":  ").map_or(fault.clone(), |(_, what)| what.into())
     }
 }
 
@@ -110,7 +123,11 @@ impl fmt::Display for Fault {
     }
 }
 
-pub struct Connection(Handle);
+pub struct Connection {
+    handle: Handle,
+    /// How long an answer is waited for, where that has a limit.
+    limit: Option<Duration>,
+}
 
 // SAFETY: another thread may have it next, and calls take it by `&mut`, so that two threads never use it at a time.
 unsafe impl Send for Connection {}
@@ -119,37 +136,47 @@ impl Connection {
     pub fn open(address: &str) -> Result<Connection, Fault> {
         let address = text(address);
         // SAFETY: the address ends with a zero. What is given back is a connection also where this fails.
-        let connection = Connection(unsafe { PQconnectStart(address.as_ptr()) });
+        let connection = Connection { handle: unsafe { PQconnectStart(address.as_ptr()) }, limit: None };
         // SAFETY: the connection is there. A refusal then has its code.
-        unsafe { PQsetErrorVerbosity(connection.0, WITH_CODE) };
+        unsafe { PQsetErrorVerbosity(connection.handle, WITH_CODE) };
         let mut step = WANTS_TO_WRITE;
         while let WANTS_TO_READ | WANTS_TO_WRITE = step {
             connection.wait_until_ready(if step == WANTS_TO_READ { READ } else { WRITE })?;
             // SAFETY: the connection is there.
-            step = unsafe { PQconnectPoll(connection.0) };
+            step = unsafe { PQconnectPoll(connection.handle) };
         }
         if step != CONNECTED {
             let Fault { message, .. } = connection.fault();
             return Err(Fault { state: state_in(&message), message });
         }
         // SAFETY: the connection is there.
-        unsafe { PQsetErrorVerbosity(connection.0, IN_SHORT) };
+        unsafe { PQsetErrorVerbosity(connection.handle, IN_SHORT) };
         Ok(connection)
     }
 
+    /// From here on an answer that takes longer is a fault, after which the connection is of no use.
+    pub fn limit(&mut self, limit: Duration) {
+        self.limit = Some(limit);
+    }
+
     fn wait_until_ready(&self, wanted: i16) -> Result<(), Fault> {
+        let is_ready = self.is_ready(wanted, LONGEST_STEP);
+        is_ready.then_some(()).ok_or_else(|| String::from("PostgreSQL doesn't answer").into())
+    }
+
+    /// Whether the socket is ready, or a signal has ended the wait, so that libpq sees for what it has to wait on.
+    fn is_ready(&self, wanted: i16, millis: c_int) -> bool {
         // SAFETY: the connection is there.
-        let mut socket = Socket { number: unsafe { PQsocket(self.0) }, wanted, came: 0 };
+        let mut socket = Socket { number: unsafe { PQsocket(self.handle) }, wanted, came: 0 };
         // SAFETY: there is one socket, or a number below 0, which the system passes over.
-        let count = unsafe { poll(&mut socket, 1, if socket.number < 0 { 0 } else { LONGEST_STEP }) };
-        // A signal ends the wait too, and then libpq sees that it has to wait on.
-        (count != 0 || socket.number < 0).then_some(()).ok_or_else(|| String::from("PostgreSQL doesn't answer").into())
+        let count = unsafe { poll(&mut socket, 1, if socket.number < 0 { 0 } else { millis }) };
+        count != 0 || socket.number < 0
     }
 
     /// PostgreSQL's process at the other end.
     pub fn process(&self) -> i32 {
         // SAFETY: the connection is there.
-        unsafe { PQbackendPID(self.0) }
+        unsafe { PQbackendPID(self.handle) }
     }
 
     /// Sends one statement with texts for its parameters, and gives its table.
@@ -159,7 +186,7 @@ impl Connection {
         let count = values.len() as c_int;
         // SAFETY: the connection is there, each text ends with a zero, and there are as many as are told.
         let is_sent =
-            unsafe { PQsendQueryParams(self.0, sql.as_ptr(), count, null(), values.as_ptr(), null(), null(), 0) };
+            unsafe { PQsendQueryParams(self.handle, sql.as_ptr(), count, null(), values.as_ptr(), null(), null(), 0) };
         if is_sent == 0 {
             return Err(self.fault());
         }
@@ -169,26 +196,39 @@ impl Connection {
 
     /// Runs a statement that was prepared by this name, with texts for its parameters.
     pub fn run_prepared(&mut self, name: &str, parameters: &[&str]) -> Result<Cells, Fault> {
+        self.send_prepared(name, parameters)?;
+        let mut cells = Err(self.fault());
+        while let Some(answer) = self.next_answer()? {
+            cells = answer.cells(self);
+        }
+        cells
+    }
+
+    /// The same of one that writes: how many rows it has written.
+    pub fn write_prepared(&mut self, name: &str, parameters: &[&str]) -> Result<u64, Fault> {
+        self.send_prepared(name, parameters)?;
+        let mut written = Err(self.fault());
+        while let Some(answer) = self.next_answer()? {
+            written = answer.cells(self).map(|_| answer.written());
+        }
+        written
+    }
+
+    fn send_prepared(&mut self, name: &str, parameters: &[&str]) -> Result<(), Fault> {
         let (name, parameters) = (text(name), parameters.iter().map(|it| text(it)).collect::<Vec<_>>());
         let values: Vec<_> = parameters.iter().map(|it| it.as_ptr()).collect();
         let count = values.len() as c_int;
         // SAFETY: the connection is there, each text ends with a zero, and there are as many as are told.
-        let is_sent = unsafe { PQsendQueryPrepared(self.0, name.as_ptr(), count, values.as_ptr(), null(), null(), 0) };
-        if is_sent == 0 {
-            return Err(self.fault());
-        }
-        let mut cells = Err(self.fault());
-        while let Some(answer) = self.next_answer() {
-            cells = answer.cells(self);
-        }
-        cells
+        let is_sent =
+            unsafe { PQsendQueryPrepared(self.handle, name.as_ptr(), count, values.as_ptr(), null(), null(), 0) };
+        (is_sent == 1).then_some(()).ok_or_else(|| self.fault())
     }
 
     /// Sends one or more statements at once, and gives a table of each. One that begins a copy is the last.
     pub fn run(&mut self, sql: &str) -> Result<Vec<Table>, Fault> {
         let sql = text(sql);
         // SAFETY: the connection is there, and the text ends with a zero.
-        if unsafe { PQsendQuery(self.0, sql.as_ptr()) } == 0 {
+        if unsafe { PQsendQuery(self.handle, sql.as_ptr()) } == 0 {
             return Err(self.fault());
         }
         self.answers()
@@ -196,7 +236,7 @@ impl Connection {
 
     fn answers(&mut self) -> Result<Vec<Table>, Fault> {
         let mut tables = Vec::new();
-        while let Some(answer) = self.next_answer() {
+        while let Some(answer) = self.next_answer()? {
             tables.push(answer.table(self));
             if answer.status() == COPY_BOTH_WAYS {
                 break;
@@ -205,10 +245,26 @@ impl Connection {
         tables.into_iter().collect()
     }
 
-    fn next_answer(&mut self) -> Option<Answer> {
+    fn next_answer(&mut self) -> Result<Option<Answer>, Fault> {
+        if let Some(limit) = self.limit {
+            self.await_answer(limit)?;
+        }
         // SAFETY: the connection is there.
-        let answer = unsafe { PQgetResult(self.0) };
-        (!answer.is_null()).then_some(Answer(answer))
+        let answer = unsafe { PQgetResult(self.handle) };
+        Ok((!answer.is_null()).then_some(Answer(answer)))
+    }
+
+    fn await_answer(&mut self, limit: Duration) -> Result<(), Fault> {
+        let until = Instant::now() + limit;
+        // SAFETY: the connection is there.
+        while unsafe { PQisBusy(self.handle) } == 1 {
+            let left = until.saturating_duration_since(Instant::now());
+            if left.is_zero() {
+                return Err(String::from("PostgreSQL doesn't answer in time").into());
+            }
+            self.take_in(left)?;
+        }
+        Ok(())
     }
 
     /// The next message of a copy, which is waited for.
@@ -226,22 +282,23 @@ impl Connection {
             if message.is_some() || left.is_zero() {
                 return Ok(message);
             }
-            // SAFETY: the connection is there.
-            let mut socket = Socket { number: unsafe { PQsocket(self.0) }, wanted: READ, came: 0 };
-            // SAFETY: there is one socket, or a number below 0, which the system passes over.
-            unsafe { poll(&mut socket, 1, left.as_millis().clamp(1, 60_000) as c_int) };
-            // SAFETY: the connection is there.
-            if unsafe { PQconsumeInput(self.0) } == 0 {
-                return Err(self.fault());
-            }
+            self.take_in(left)?;
         }
+    }
+
+    /// Waits so long for more to come, and takes in what is there.
+    fn take_in(&mut self, wait: Duration) -> Result<(), Fault> {
+        self.is_ready(READ, wait.as_millis().clamp(1, 60_000) as c_int);
+        // SAFETY: the connection is there.
+        let is_good = unsafe { PQconsumeInput(self.handle) } == 1;
+        is_good.then_some(()).ok_or_else(|| self.fault())
     }
 
     /// The next message of a copy, or none where there is none at once.
     fn copied(&mut self, at_once: bool) -> Result<Option<Vec<u8>>, Fault> {
         let mut bytes = null_mut();
         // SAFETY: the connection is there, and there is room for an address.
-        let length = unsafe { PQgetCopyData(self.0, &mut bytes, at_once.into()) };
+        let length = unsafe { PQgetCopyData(self.handle, &mut bytes, at_once.into()) };
         if length == 0 {
             return Ok(None);
         }
@@ -258,27 +315,31 @@ impl Connection {
 
     /// What PostgreSQL says is wrong, where it has ended a copy since something was.
     fn end_of_copy(&mut self) -> Fault {
-        let answer = self.next_answer().map(|answer| answer.table(self));
-        answer.and_then(Result::err).unwrap_or_else(|| String::from("PostgreSQL has ended the stream").into())
+        let ended = || String::from("PostgreSQL has ended the stream").into();
+        match self.next_answer() {
+            Ok(answer) => answer.and_then(|answer| answer.table(self).err()).unwrap_or_else(ended),
+            Err(fault) => fault,
+        }
     }
 
     pub fn send(&mut self, message: &[u8]) -> Result<(), Fault> {
         // SAFETY: the connection is there, and so are as many bytes as are told.
-        let is_sent =
-            unsafe { PQputCopyData(self.0, message.as_ptr(), message.len() as c_int) == 1 && PQflush(self.0) >= 0 };
+        let is_sent = unsafe {
+            PQputCopyData(self.handle, message.as_ptr(), message.len() as c_int) == 1 && PQflush(self.handle) >= 0
+        };
         is_sent.then_some(()).ok_or_else(|| self.fault())
     }
 
     fn fault(&self) -> Fault {
         // SAFETY: the connection is there, and its text until its next call.
-        unsafe { CStr::from_ptr(PQerrorMessage(self.0)) }.to_string_lossy().into_owned().into()
+        unsafe { CStr::from_ptr(PQerrorMessage(self.handle)) }.to_string_lossy().into_owned().into()
     }
 }
 
 impl Drop for Connection {
     fn drop(&mut self) {
         // SAFETY: the connection is there, and is not used again.
-        unsafe { PQfinish(self.0) }
+        unsafe { PQfinish(self.handle) }
     }
 }
 
@@ -307,6 +368,13 @@ impl Answer {
         // SAFETY: the answer is there.
         let (rows, columns) = unsafe { (PQntuples(self.0), PQnfields(self.0)) };
         Ok((0..rows).map(|row| (0..columns).map(|column| self.cell(row, column)).collect()).collect())
+    }
+
+    /// How many rows the statement has written, or given.
+    fn written(&self) -> u64 {
+        // SAFETY: the answer is there, and the text is its own.
+        let digits = unsafe { CStr::from_ptr(PQcmdTuples(self.0)) };
+        digits.to_str().ok().and_then(|digits| digits.parse().ok()).unwrap_or_default()
     }
 
     /// Of a row and a column that the answer has.
@@ -354,6 +422,15 @@ mod tests {
         assert_eq!(of("FATAL:  53300: too many: FATAL:  57P03: the database system is starting up"), "57P03");
         assert_eq!(of("FATAL:  3D000: no database: X1"), "3D000");
         assert_eq!([of("could not connect: Connection refused"), of("FATAL: WORDS: none")], ["", ""]);
+    }
+
+    #[test]
+    fn a_statement_s_fault_leaves_the_connection() {
+        let of = |state: &str| Fault { state: state.into(), message: "ERROR:  why\nDETAIL".into() };
+        let is_of_connection = |state: &&str| of(state).is_of_connection();
+        assert!(["", "08006", "57P01", "57P03"].iter().all(is_of_connection));
+        assert!(!["57014", "08P01", "22P02", "42501"].iter().any(is_of_connection));
+        assert_eq!(of("").without_severity(), "why");
     }
 
     #[test]
