@@ -1,5 +1,6 @@
 """The model of a table of votes behind a server that holds a part of it: what each article's votes may be."""
 import os
+import re
 import threading
 
 KEPT = 6  # votes of an article
@@ -14,6 +15,11 @@ def fails(check, text):
                 end()
         finally:
             os._exit(1)
+
+
+def is_gone(reply):
+    """Whether a server says that there was no such vote to take away."""
+    return reply in ("-ERR there is no such vote", "-ERR no row was written")
 
 
 class Article:
@@ -36,7 +42,7 @@ class Article:
     def check(self, before, reply):
         """A vote that was there throughout is there, once, and none that was gone before is."""
         sure, maybe, last, _ = before
-        rows = [tuple(map(int, row.split(":"))) for row in reply.split()]
+        rows = [(int(vote), int(weight)) for vote, weight in re.findall(r"(\d+)[:,](\d+)", reply)]
         votes = [vote for vote, _ in rows]
         with self.guard:
             throughout, newest = sure & self.sure, self.last
@@ -66,10 +72,10 @@ class Article:
                 self.gone.clear()
                 if adds:
                     self.sure.add(vote)
-            elif "no such vote" in reply:
+            elif is_gone(reply):
                 self.open.discard(vote)
                 (self.doubtful if vote in self.lost else self.gone).add(vote)
             elif not reply or "memory" in reply:
                 self.lost.add(vote)
-        if was_sure and "no such vote" in reply:
+        if was_sure and is_gone(reply):
             fails("lost write", f"vote {vote} of {self.name} was acknowledged, and is gone")

@@ -68,7 +68,7 @@ class Worker(threading.Thread):
         return self.bed.articles[self.dice.choice(self.bed.keys) % len(self.bed.articles)]
 
     def get(self, article, before):
-        return f"GET {article.name} {before[3] if self.bed.has_tokens else ''}".rstrip()
+        return f"GET {self.bed.key(article)} {before[3] if self.bed.has_tokens else ''}".rstrip()
 
 
 class Reader(Worker):
@@ -111,10 +111,11 @@ class Leaver(Worker):
         article, count = self.article(), self.dice.randrange(1, 40)
         client = Client(self.dice.choice(self.bed.servers).port)
         if self.dice.random() < 0.5:
-            client.socket.sendall(f"*2\r\n$3\r\nGET\r\n${len(article.name)}\r\n{article.name[:4]}".encode()[:count])
+            key = self.bed.key(article)
+            client.socket.sendall(f"*2\r\n$3\r\nGET\r\n${len(key)}\r\n{key[:4]}".encode()[:count])
             self.bed.counts["half a request"] += 1
             time.sleep(self.dice.random() * 0.1)
             return client.close()
-        client.send(*[f"GET {article.name}"] * count)
+        client.send(*[f"GET {self.bed.key(article)}"] * count)
         client.is_killed()
         self.bed.counts["client killed"] += 1

@@ -15,12 +15,16 @@ from articles import fails
 from clients import Client
 
 PATIENCE = 20  # seconds, since the edge may be stopped meanwhile
-# Who has a slot ends some time after it is told.
-DROP = """DO $$ BEGIN LOOP BEGIN
-    PERFORM pg_terminate_backend(active_pid), pg_sleep(0.005) FROM pg_replication_slots WHERE slot_name = '{0}';
-    PERFORM pg_drop_replication_slot('{0}');
+# Who has a slot ends some time after it is told. A temporary one is gone then.
+DROP = """DO $$ DECLARE slot name; BEGIN
+SELECT slot_name INTO slot FROM pg_replication_slots JOIN pg_stat_replication ON active_pid = pid WHERE application_name = '{0}';
+LOOP BEGIN
+    PERFORM pg_terminate_backend(active_pid), pg_sleep(0.005) FROM pg_replication_slots WHERE slot_name = slot AND active;
+    PERFORM pg_drop_replication_slot(slot_name) FROM pg_replication_slots WHERE slot_name = slot;
     RETURN;
-EXCEPTION WHEN object_in_use THEN END; END LOOP; END $$"""
+EXCEPTION WHEN object_in_use OR undefined_object THEN END; END LOOP; END $$"""
+# By which an edge asks for rows.
+ASKS = "query LIKE 'PREPARE view_%'"
 
 
 class Psql:
@@ -56,7 +60,7 @@ class Asker(threading.Thread):
     def run(self):
         try:
             # With a token it would wait for the slot, and ask after that.
-            Client(self.server.port).ask(f"GET {self.awaits.name}")
+            Client(self.server.port).ask(f"GET {self.server.bed.key(self.awaits)}")
         except OSError:
             pass
         self.is_at_rest = True
@@ -117,33 +121,34 @@ class Early:
         waits = self.stat("waits")
         self.locker.begin("BEGIN;\nLOCK TABLE votes;\nCOMMIT")
         self.locks = True
-        self.until(lambda: self.waiting("LOCK%"))
+        self.until(lambda: self.waiting("query LIKE 'LOCK%'"))
         self.askers = [Asker(self.server, self.article) for _ in range(2)]
         self.until(lambda: self.stat("waits") > waits)
-        self.upquery = int(self.until(lambda: self.waiting(f'EXECUTE%"{self.article.name}"%'))[0])
+        self.upquery = int(self.until(lambda: self.waiting(f"{ASKS} AND application_name = '{self.server.name}'"))[0])
         os.kill(self.upquery, signal.SIGSTOP)
 
     def is_prepared(self):
         """Whether each connection of the edge has asked, which later ones do without a look at the table before."""
         self.held()
-        used = "FROM pg_stat_activity WHERE query LIKE 'EXECUTE%' AND application_name"
+        used = f"FROM pg_stat_activity WHERE {ASKS} AND application_name"
         return self.eye.ask(f"SELECT count(*) {used} = '{self.server.name}'") == [str(self.bed.connections)]
 
-    def waiting(self, query):
-        """The base's processes that wait for the table with such a query."""
-        return self.eye.ask(f"SELECT pid FROM pg_stat_activity WHERE wait_event = 'relation' AND query LIKE '{query}'")
+    def waiting(self, which):
+        """The base's processes that wait for the table, of those."""
+        return self.eye.ask(f"SELECT pid FROM pg_stat_activity WHERE wait_event = 'relation' AND {which}")
 
     def held(self):
         """An article that the edge holds, and another one than before."""
         others = [article for article in self.bed.articles if article is not self.article]
         for article in self.bed.dice.sample(others, 9):
-            self.client.ask(f"GET {article.name}")
-            if not self.client.ask(f"PEEK {article.name}").startswith(("$", "-")):
+            self.client.ask(f"GET {self.bed.key(article)}")
+            asked = self.stat("upqueries")
+            if not self.client.ask(f"GET {self.bed.key(article)}").startswith("-") and self.stat("upqueries") == asked:
                 return article
         return None
 
     def stat(self, name):
-        told = re.search(rf"^{name}:(\d+)$", self.client.ask("STATS"), re.M)
+        told = re.search(rf"^{name}:(\d+)\r?$", self.client.ask("INFO"), re.M)
         if not told:
             raise ConnectionError("it has gone")
         return int(told[1])

@@ -10,6 +10,7 @@ import collections
 import os
 import pathlib
 import random
+import re
 import signal
 import sqlite3
 import struct
@@ -25,6 +26,35 @@ from early import Early
 ARTICLES = 60
 READERS = 24
 LOOKS = 30
+CONFIGURATION = """
+[source]
+address = "{address}"
+connections = {connections}
+deadline = 60
+lasting_slot = {is_lasting}
+
+[cache]
+keys = 20
+
+[listen]
+port = {port}
+clients = {clients}
+
+[[view]]
+name = "votes"
+table = "votes"
+key = ["article"]
+columns = ["voter", "weight"]
+encoding = "arrays"
+
+[[write]]
+name = "vote"
+statement = "INSERT INTO votes (article, voter, weight) VALUES ($1, $2, $3)"
+
+[[write]]
+name = "unvote"
+statement = "DELETE FROM votes WHERE (article, voter, weight) = ($1, $2, $3)"
+"""
 EARLY = "answer of before a slot"
 
 
@@ -43,21 +73,22 @@ class Server:
 
     def begin(self):
         """Without memory or a thread it may end at its start, and is started once more."""
-        room, port = self.bed.room, ["--port", str(self.port)] if self.port else []
+        room = self.bed.room
         faults = {"LD_PRELOAD": str(room / "faults.so"), "SOAK_CONTROL": str(room / f"{self.bed.name}.control")}
         # To print one takes more memory than all else.
         faults["RUST_BACKTRACE"] = "0"
-        while True:
-            with open(room / f"{self.name}.errors", "ab") as errors:
-                self.process = subprocess.Popen(
-                    self.words + port, stdout=subprocess.PIPE, stderr=errors, env={**os.environ, **faults}
-                )
-            line = self.process.stdout.readline().decode()
-            if line.startswith("listening on"):
-                break
+        while not (port := self.listens({**os.environ, **faults})):
             self.process.wait()
             self.bed.counts["not started"] += 1
-        self.port = int(line.rsplit(":")[-1])
+        self.port = port
+
+    def listens(self, env):
+        """Starts the process: the port where it listens, or none where it has ended before."""
+        port = ["--port", str(self.port)] if self.port else []
+        with open(self.bed.room / f"{self.name}.errors", "ab") as errors:
+            self.process = subprocess.Popen(self.words + port, stdout=subprocess.PIPE, stderr=errors, env=env)
+        line = self.process.stdout.readline().decode()
+        return int(line.rsplit(":")[-1]) if line.startswith("listening on") else None
 
     def work_at_once(self):
         """Has each session of it work, so that its memory isn't the more the more clients once came together."""
@@ -93,6 +124,24 @@ class Server:
         return all(stat.rpartition(")")[2].split()[0] == "S" for stat in stats)
 
 
+class Edge(Server):
+    """Its port stands in its configuration, and it says on standard error that it listens."""
+
+    def listens(self, env):
+        file, said = self.bed.room / f"{self.name}.toml", self.bed.room / f"{self.name}.errors"
+        file.write_text(self.bed.configuration(self.name, self.port))
+        with open(said, "ab") as errors:
+            begun = errors.tell()
+            self.process = subprocess.Popen([self.bed.program, "serve", str(file)], stderr=errors, env=env)
+        while True:
+            has_ended = self.process.poll() is not None
+            if listens := re.search(rb"^edge: listens on 127\.0\.0\.1:(\d+)$", said.read_bytes()[begun:], re.M):
+                return int(listens[1])
+            if has_ended:
+                return None
+            time.sleep(0.01)
+
+
 class Bed:
     def __init__(self, name, room, program, seed):
         self.name, self.room, self.program, self.dice = name, pathlib.Path(room), program, random.Random(seed)
@@ -106,6 +155,9 @@ class Bed:
         self.workers = [kind(self, self.dice.random()) for kind in kinds]
         for worker in self.workers:
             worker.start()
+
+    def key(self, article):
+        return article.name
 
     def may_end(self, server):
         told = (self.room / f"{server.name}.errors").read_bytes()[-2000:]
@@ -254,13 +306,21 @@ class Edges(Bed):
         self.base = subprocess.Popen(script, stdin=subprocess.PIPE, stdout=subprocess.PIPE, text=True)
         self.address = self.base.stdout.readline().strip()
         self.folder = pathlib.Path(self.address.split()[0].removeprefix("host="))
-        sizes = f"--readers {READERS} --keys 50 --rows 15 --limit 20 --slots 30 --connections {self.connections}".split()
-        # The second one's ticket numbers begin next to their end.
-        numbers = [0, 4194300]
-        self.counts["ticket numbers next to 2^22"] += 1
-        for name, number in zip(["edge_1", "edge_2"], numbers):
-            words = [self.program, f"{self.address} application_name={name}", name, *sizes, "--number", str(number)]
-            self.servers.append(Server(self, name, words))
+        file = self.room / "edge.toml"
+        file.write_text(self.configuration("edge", 0))
+        self.tell(f"prepare {file}")
+        for name in ["edge_1", "edge_2"]:
+            self.servers.append(Edge(self, name, []))
+
+    def configuration(self, name, port):
+        """The second edge's slot lasts."""
+        return CONFIGURATION.format(
+            address=f"{self.address} application_name={name}", port=port, clients=READERS, connections=self.connections,
+            is_lasting=str(name == "edge_2").lower(),
+        )
+
+    def key(self, article):
+        return f"votes:{article.name}"
 
     def tell(self, line):
         self.base.stdin.write(line + "\n")
@@ -275,8 +335,8 @@ class Edges(Bed):
         for server in self.servers:
             try:
                 client = Client(server.port, patience=5)
-                held = [f"{article.name}|{client.ask(f'PEEK {article.name}')}" for article in self.articles]
-                print(server.name, client.ask("STATS"), *held, sep="\n", flush=True)
+                held = [f"{article.name}|{client.ask(f'GET {self.key(article)}')}" for article in self.articles]
+                print(server.name, client.ask("INFO"), *held, sep="\n", flush=True)
             except OSError as fault:
                 print(server.name, fault, flush=True)
 
@@ -297,7 +357,7 @@ class Edges(Bed):
             return
 
     def others(self):
-        return [self.restart, self.crash, self.drop, self.drop]
+        return [self.restart, self.crash, self.cut, self.drop, self.drop]
 
     def restart(self):
         self.tell("restart")
@@ -307,6 +367,11 @@ class Edges(Bed):
         """The base ends its other processes and recovers by itself."""
         self.tell("crash")
         self.counts["base's process killed"] += 1
+
+    def cut(self):
+        """One edge begins anew, and the other goes on, some times."""
+        self.tell("cut")
+        self.counts["streams cut"] += 1
 
     def drop(self):
         """Each edge begins anew with a new slot, while processes stop that answer upqueries of before."""
@@ -321,11 +386,12 @@ class Edges(Bed):
 
     def stop(self, is_over):
         """Those of PostgreSQL's processes that are seen to answer an upquery, one at a time, for a while."""
-        server = (self.folder / "data/postmaster.pid").read_text().split()[0]
+        asking = "SELECT pid FROM pg_stat_activity WHERE query LIKE 'PREPARE view_%'"
         while not is_over.wait(0.002):
-            for process in pathlib.Path(f"/proc/{server}/task/{server}/children").read_text().split():
+            told = subprocess.run(["psql", "-X", "-t", "-A", self.address, "-c", asking], capture_output=True, text=True)
+            for process in told.stdout.split() * 50:
                 try:
-                    if b"EXECUTE" in pathlib.Path(f"/proc/{process}/cmdline").read_bytes():
+                    if b"SELECT" in pathlib.Path(f"/proc/{process}/cmdline").read_bytes():
                         os.kill(int(process), signal.SIGSTOP)
                         time.sleep(0.15)
                         os.kill(int(process), signal.SIGCONT)
