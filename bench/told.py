@@ -41,6 +41,15 @@ def cells_of(run):
     return {key: {name: over_processes(told) for name, told in maps.items()} for key, maps in cells.items()}
 
 
+MODES = {"counts": "updates of a count", "rows": "inserts of rows"}
+
+
+def votes_of(run):
+    """The lines of a run of bench/vote: how votes are kept, the server, and numbers."""
+    lines = [line.split("\t") for line in run.splitlines()]
+    return [line for line in lines if line[0] in MODES and len(line) == 8]
+
+
 def spread(cells):
     """How far the quartiles lie from their medians: half of them, and nine of ten, at most."""
     far = sorted(max(high - middle, middle - low) / middle for it in cells.values() for middle, low, high in it.values() if middle)
