@@ -1,5 +1,5 @@
-/* What the tests of the map and of ids through C share: sets of rows, of which the model knows each value, requests on
-   their way, and threads that sleep and wake. */
+/* What the tests of the map, of ids and of a store through C share: sets of rows, of which the model knows each value,
+   requests on their way, and threads that sleep and wake. */
 #ifndef SETS_H
 #define SETS_H
 #include "../../include/nr.h"
