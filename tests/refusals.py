@@ -6,7 +6,8 @@ that the others call the right one. A function of a trait is edited in its place
 refused where a goal of its own function is open: the prover tried it, and found no proof. Where it stands in no function, or
 another one's goal shows it, a line `refused in: NAME` of the edit, which rt passes over, names that one, and the wrong body
 has a check for itself. What isn't refused so is tried on the whole crate. A check begins with what the crate's own proof
-left in its library, and so proves no function again that a wrong body calls. Each keeps what it proved, for the next.
+left in its library, and so proves no function again that a wrong body calls. Each keeps what it proved, for the next. Of a
+crate whose proof leaves no library the first check proves these functions, and the others begin with them.
 
 Where the text of the proof alone doesn't fit the wrong body, by a type, by a name that is gone, or by a path that `rw` doesn't
 find, nothing is known of its goal: so that is no refusal here, as it is one of rt. Such an edit brings its proof's text with
@@ -14,18 +15,20 @@ it, in further pairs, or keeps the names.
 The kit has no check of several wrong bodies at once, so all of this stands here.
 """
 import collections
+import contextlib
 import os
 import pathlib
 import re
 import shutil
 import subprocess
 import tempfile
+import threading
 from typing import NamedTuple
 
 import kit
 from functions import files_of
 
-PART = 36  # wrong bodies, at most
+PART = 54  # wrong bodies, at most
 HEAD = re.compile(r"[^#/]*\bfn \w+")
 TOLD = re.compile(r"(?:note: )?(?:\./)?(\S+?):(\d+):\d+: (.*)")
 # What the prover says of a goal that it tried, or that a tactic of its proof did.
@@ -211,6 +214,16 @@ def put(rt, room, group):
     return tried, later
 
 
+def words_of(crate, only):
+    """What a check of some functions takes. A static library is read as any other: for its own form a check reads all the code
+    that it links, and proves the same."""
+    words = crate.words(["--jobs", "1", *only], keeps=False)
+    if crate.is_static:
+        at = words.index("--crate-type")
+        del words[at : at + 2]
+    return words
+
+
 def try_group(rt, crate, group, kept):
     """How each wrong body is refused that is, all being tried by one check, over what is kept."""
     with tempfile.TemporaryDirectory(prefix="rt-edit-") as room:
@@ -219,7 +232,7 @@ def try_group(rt, crate, group, kept):
                 shutil.copytree(f"{crate.folder}/{part}", f"{room}/{part}")
         tried, later = put(rt, room, group)
         only = [word for body in tried for name in body.functions for word in ("--only", name)]
-        words = [rt.rtlib.RATTLE, "check", *crate.words(["--jobs", "1", *only], keeps=False), "--incremental", kept]
+        words = [rt.rtlib.RATTLE, "check", *words_of(crate, only), "--incremental", kept]
         how = {"cwd": room, "stdin": subprocess.DEVNULL, "stdout": subprocess.PIPE, "stderr": subprocess.STDOUT}
         ran = subprocess.run([*rt.rtlib.guarded(), *words], text=True, errors="replace", **how)
     said = ran.stdout.split("\n")
@@ -261,14 +274,40 @@ def unpack(rt, crate, kept):
     subprocess.run([unpacker, "x", f"{crate.rlib}/toolchain/checked.a"], cwd=place, check=True)
 
 
+class Called:
+    """What wrong bodies of a crate without a library call. The first check proves it, and the others wait for that."""
+
+    def __init__(self):
+        self.lock, self.place = threading.Lock(), None
+
+    @contextlib.contextmanager
+    def in_check(self, kept):
+        """In this a check is made over what is kept, which the crate's other parts have too."""
+        with self.lock:
+            is_first = self.place is None
+            if is_first:
+                yield
+                self.place = tempfile.TemporaryDirectory(prefix="rt-called-")
+                shutil.copytree(kept, self.place.name, dirs_exist_ok=True)
+            elif not os.listdir(kept):
+                shutil.copytree(self.place.name, kept, dirs_exist_ok=True)
+        if not is_first:
+            yield
+
+
+called = {}
+
+
 def try_part(rt, crate, edits):
     with tempfile.TemporaryDirectory(prefix="rt-edits-") as kept:
         if os.path.isdir(crate.rlib):
             unpack(rt, crate, kept)
-        return try_all(rt, crate, edits, kept)
+            return try_all(rt, crate, edits, kept, contextlib.nullcontext)
+        shared = called.setdefault(crate.name, Called())
+        return try_all(rt, crate, edits, kept, lambda: shared.in_check(kept))
 
 
-def try_all(rt, crate, edits, kept):
+def try_all(rt, crate, edits, kept, in_check):
     """Tries wrong bodies of a crate in turn, says what comes of each, and counts them: those that are refused, those that
     aren't, those of which only a proof's text is, and those that had a check of the whole crate."""
     found, left = {}, [it for number, edit in enumerate(edits) if (it := read(rt, crate, edit, number))]
@@ -284,7 +323,9 @@ def try_all(rt, crate, edits, kept):
     # after it. No function calls a copy.
     while left and is_waiting:
         for group in groups(left):
-            say(try_group(rt, crate, group, kept))
+            with in_check():
+                refused = try_group(rt, crate, group, kept)
+            say(refused)
         is_waiting = any(it.edit in found and not it.copy for it in left)
         left = [it for it in left if it.edit not in found]
     alone = [edit for edit in edits if edit not in found]
