@@ -23,7 +23,7 @@ struct Case {
 type Run = fn(&mut Case);
 
 const LASTING: &str = "lasting_slot = true";
-const CASES: [(&str, &str, Run); 33] = [
+const CASES: [(&str, &str, Run); 34] = [
     ("log", "", a_commit_that_no_snapshot_sees_yet),
     ("first_snapshot", "", a_commit_that_the_new_slot_does_not_carry),
     ("early", "", an_answer_that_is_older_than_the_slot),
@@ -56,6 +56,7 @@ const CASES: [(&str, &str, Run); 33] = [
     ("locked", "", writers::a_row_that_another_has_locked),
     ("rest", "", writers::clients_that_wrote_once),
     ("apart", "", writers::writes_and_misses_apart),
+    ("hangs", "", writers::a_base_that_hangs),
     ("end", "", writers::an_end_while_a_write_waits_for_a_lock),
 ];
 

@@ -1,6 +1,6 @@
 //! Writes by an edge: what is written is read with its token, nothing is written that nobody asked for, and writes and misses
 //! don't wait for each other.
-use crate::edges::{last, until, Client, Edge};
+use crate::edges::{last, signal, until, Client, Edge};
 use crate::Case;
 use edge_common::postgres::pq::Connection;
 use std::io::{Read, Write};
@@ -88,10 +88,17 @@ pub fn a_row_that_another_has_locked(case: &mut Case) {
 }
 
 pub fn clients_that_wrote_once(case: &mut Case) {
-    let edge = case.following();
-    let mut clients: Vec<_> = (0..20).map(|_| edge.client()).collect();
-    let votes: Vec<_> = clients.iter_mut().map(|client| client.ask("VOTE c 1 1").unwrap()).collect();
-    assert!(votes.iter().all(|vote| vote.starts_with('+')), "{votes:?}");
+    let edge = Edge::start(&case.program, &case.address, "deadline = 60");
+    edge.follows();
+    let mut other = Connection::open(&case.address).unwrap();
+    last(&mut other, "BEGIN; LOCK TABLE votes");
+    let before = edge.count("clients");
+    let votes: Vec<_> = (0..20).map(|_| edge.asks("VOTE c 1 1")).collect();
+    until("all have come", || edge.count("clients") >= before + 20);
+    until("four wait for the lock", || case.sql(WAITS).parse::<u32>().unwrap() >= 4);
+    last(&mut other, "ROLLBACK");
+    assert!(votes.into_iter().all(|vote| vote.join().unwrap().starts_with('+')));
+    let mut clients = [edge.client(), edge.client()];
     let connections = "SELECT count(*) FROM pg_stat_activity WHERE application_name = 'edge'";
     // Of those that write there are four at most, and as many that ask, and that of the stream.
     assert!(case.sql(connections).parse::<u32>().unwrap() <= 9);
@@ -123,6 +130,23 @@ pub fn writes_and_misses_apart(case: &mut Case) {
     assert!(edge.ask("NOTE y").starts_with('+'), "a write waits for no miss");
     assert!(client.join().unwrap().starts_with("-ERR "));
     last(&mut other, "ROLLBACK");
+}
+
+/// Its processes stand still, so that it cancels nothing.
+pub fn a_base_that_hangs(case: &mut Case) {
+    let edge = Edge::start(&case.program, &case.address, "connections = 1\nwrite_connections = 1\ndeadline = 1");
+    edge.follows();
+    assert!(edge.ask("NOTE x").starts_with('+'));
+    assert_eq!(edge.get("h", ""), "");
+    let of_edge = "WHERE application_name = 'edge' AND backend_type = 'client backend'";
+    let processes = case.sql(&format!("SELECT string_agg(pid::text, ' ') FROM pg_stat_activity {of_edge}"));
+    processes.split(' ').for_each(|process| signal("STOP", process));
+    let told = edge.ask("NOTE y");
+    assert_eq!(told, "-ERR nobody knows whether it was written: PostgreSQL doesn't answer in time");
+    assert_eq!(edge.ask("GET votes:i"), "-ERR PostgreSQL doesn't answer in time");
+    until("the edge asks by another connection", || edge.ask("GET votes:i").is_empty());
+    assert!(edge.ask("NOTE z").starts_with('+'));
+    processes.split(' ').for_each(|process| signal("CONT", process));
 }
 
 pub fn an_end_while_a_write_waits_for_a_lock(case: &mut Case) {
