@@ -269,13 +269,15 @@ typedef struct nr_found_id {
 
 /* The sizes of a cache: 1 to 516,000 groups of eight places, at most `capacity` values, of which each group can have
    eight at most, and 1 to 65,533 readers. `flights` is how many loads may be under way at a time, and `changes` how many
-   changes of the base. `key` is as in an nr_id_shape. */
+   changes of the base. All values together weigh `weight` at most; where that is 0 nothing is weighed. `key` is as in
+   an nr_id_shape. */
 typedef struct nr_cache_shape {
   uint32_t groups;
   uint32_t capacity;
   uint32_t readers;
   uint32_t flights;
   uint32_t changes;
+  uint64_t weight;
   uint64_t key;
 } nr_cache_shape;
 
@@ -293,9 +295,10 @@ typedef struct nr_cache_value {
   uint64_t value;
 } nr_cache_value;
 
-/* How many values a cache holds, and how many loads and changes are under way. */
+/* How many values a cache holds, what they weigh, and how many loads and changes are under way. */
 typedef struct nr_cache_counts {
   uint64_t values;
+  uint64_t weight;
   uint64_t flights;
   uint64_t changes;
 } nr_cache_counts;
@@ -721,6 +724,10 @@ uint32_t nr_choose_id(nr_id_writer *writer, uint64_t id, uint64_t *chosen);
    goes round all places: of the next eight the first value goes whose stamp is below the call's `bound`, and else the
    next one to which the hand comes, which passes up to sixteen that were found since it came there last. With the times
    at which values expire as their stamps, and the time as the bound, what has expired goes first; the bound 0 is none.
+   Weights. Each value has a weight, and a cache may have a bound for what all weigh together, nr_cache_shape's
+   `weight`. Where a value comes that is too heavy beside the others, others go in the same way, one after another and
+   no more than need be, before it is held; in place of a value of its id it counts without that. What is heavier than
+   the bound is its caller's own: NR_OWN. What went, and hasn't come out, doesn't count.
    A value stands in one of its id's two groups, of eight places each. If all sixteen are taken, a value of the first
    group goes, however many there are: with eight places for each five values that is rare.
    A value that went. It comes out once no reader holds it: from a later landing or put (NR_GIVEN), or from
@@ -757,21 +764,24 @@ uint32_t nr_cache_begin(nr_cache *cache, uint64_t id, uint64_t mark, nr_flight *
 /* Ends the load of that number by its value. NR_DONE: the id has it now. NR_GIVEN: so it has, and a value that nobody
    can see any more came out; `given` tells it. NR_OWN: the value is the caller's own, since the id was invalidated, put
    or changed since the load began, or was being changed then, or no load of that number is under way, or 2^61 values
-   came into the id's group. NR_DONE and NR_OWN leave `given` as it was. */
-uint32_t nr_cache_land(nr_cache *cache, uint64_t number, uint64_t stamp, uint64_t value, uint64_t bound,
-  nr_given *given);
+   came into the id's group, or it is heavier than all may be. NR_DONE and NR_OWN leave `given` as it was. */
+uint32_t nr_cache_land(nr_cache *cache, uint64_t number, uint64_t stamp, uint64_t value, uint32_t weight,
+  uint64_t bound, nr_given *given);
 
 /* Ends the load of that number without a value: NR_DONE, and `flight` is that. NR_NOTHING if none of that number is
    under way, and `flight` stays as it was. */
 uint32_t nr_cache_fail(nr_cache *cache, uint64_t number, nr_flight *flight);
 
 /* Puts a value in place of what the id has. Answers as nr_cache_land; the value of a load of the id that is under way
-   will be its loader's own. NR_OWN while the id is being changed: it has no value then. */
-uint32_t nr_cache_put(nr_cache *cache, uint64_t id, uint64_t stamp, uint64_t value, uint64_t bound, nr_given *given);
+   will be its loader's own. NR_OWN while the id is being changed, and for a value that is heavier than all may be: the
+   id has no value then. */
+uint32_t nr_cache_put(nr_cache *cache, uint64_t id, uint64_t stamp, uint64_t value, uint32_t weight, uint64_t bound,
+  nr_given *given);
 
 /* Puts a value in place of the id's where that is `old` still, as nr_cache_put. NR_OTHER if the id has another value,
    NR_HOLE if it has none: nothing else happened, and `given` stays as it was. */
-uint32_t nr_cache_swap(nr_cache *cache, uint64_t id, uint64_t old, uint64_t stamp, uint64_t value, nr_given *given);
+uint32_t nr_cache_swap(nr_cache *cache, uint64_t id, uint64_t old, uint64_t stamp, uint64_t value, uint32_t weight,
+  uint64_t bound, nr_given *given);
 
 /* The cache's own find, by which nothing is held: NR_ROWS, and `found` has the value; NR_HOLE if the id has none, and
    `found` stays as it was. */
@@ -789,8 +799,8 @@ uint32_t nr_cache_invalidate_all(nr_cache *cache);
 uint32_t nr_cache_evict(nr_cache *cache, uint64_t id);
 
 /* Takes the value of the id that goes next, chosen as where one lands in a full cache, so that a caller makes room for
-   what it counts itself, as by the values' weight: NR_EVICTED, and `taken` tells the value. It comes out as any that
-   went, and is to be freed then. NR_NOTHING if no id has a value: `taken` stays as it was. The values of loads that are
+   what it counts itself: NR_EVICTED, and `taken` tells the value. It comes out as any that went, and is to be freed
+   then. NR_NOTHING if no id has a value: `taken` stays as it was. The values of loads that are
    under way will be held. */
 uint32_t nr_cache_evict_one(nr_cache *cache, uint64_t bound, nr_given *taken);
 

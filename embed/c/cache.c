@@ -83,7 +83,7 @@ static unsigned load(const char *key, uint64_t number) {
   pthread_mutex_lock(&lock);
   made++, queried++;
   NR_PUTS(&order);
-  uint32_t said = nr_cache_land(&cache, number, 1, (uint64_t)(uintptr_t)one, 0, &given);
+  uint32_t said = nr_cache_land(&cache, number, 1, (uint64_t)(uintptr_t)one, 1, 0, &given);
   if (said == NR_GIVEN) free_entry(&given);
   if (said == NR_OWN) free(one), freed++;
   reap();

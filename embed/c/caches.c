@@ -56,13 +56,13 @@ static void test_miss(void) {
   WANTS(NR_WAITING, nr_cache_begin(&cache, USER, 66, &flight));
   IS(flight.number == number && flight.mark == 55);
   given = (nr_given){1, 2, 3};
-  WANTS(NR_DONE, nr_cache_land(&cache, number, 9, 100, 0, &given));
+  WANTS(NR_DONE, nr_cache_land(&cache, number, 9, 100, 1, 0, &given));
   IS(came_out(1, 2, 3) && has(USER, 9, 100));
   flight = (nr_flight){3, 4};
   WANTS(NR_ROWS, nr_cache_begin(&cache, USER, 66, &flight));
   IS(flight.number == 3 && flight.mark == 4);
   /* It has landed. */
-  WANTS(NR_OWN, nr_cache_land(&cache, number, 9, 101, 0, &given));
+  WANTS(NR_OWN, nr_cache_land(&cache, number, 9, 101, 1, 0, &given));
   WANTS(NR_NOTHING, nr_cache_fail(&cache, number, &flight));
   IS(came_out(1, 2, 3) && flight.number == 3 && has(USER, 9, 100));
 }
@@ -83,7 +83,7 @@ static void test_invalidation(void) {
   WANTS(NR_NOTHING, nr_cache_invalidate(&cache, USER));
   uint64_t number = begun(USER, 1);
   WANTS(NR_NOTHING, nr_cache_invalidate(&cache, USER));
-  WANTS(NR_OWN, nr_cache_land(&cache, number, 9, 102, 0, &given));
+  WANTS(NR_OWN, nr_cache_land(&cache, number, 9, 102, 1, 0, &given));
   IS(lacks(USER));
   WANTS(NR_GIVEN, nr_cache_reap(&cache, &given));
   IS(came_out(USER, 9, 100));
@@ -94,17 +94,17 @@ static void test_invalidation(void) {
 static void test_change(void) {
   uint64_t before = begun(USER, 1);
   WANTS(NR_DONE, nr_cache_begin_change(&cache, USER));
-  WANTS(NR_OWN, nr_cache_land(&cache, before, 9, 103, 0, &given));
+  WANTS(NR_OWN, nr_cache_land(&cache, before, 9, 103, 1, 0, &given));
   uint64_t within = begun(USER, 2);
-  WANTS(NR_OWN, nr_cache_land(&cache, within, 9, 104, 0, &given));
-  WANTS(NR_OWN, nr_cache_put(&cache, USER, 9, 105, 0, &given));
+  WANTS(NR_OWN, nr_cache_land(&cache, within, 9, 104, 1, 0, &given));
+  WANTS(NR_OWN, nr_cache_put(&cache, USER, 9, 105, 1, 0, &given));
   IS(lacks(USER));
   WANTS(NR_DONE, nr_cache_begin_change(&cache, OTHER));
   WANTS(NR_FULL, nr_cache_begin_change(&cache, OTHER));
   WANTS(NR_DONE, nr_cache_end_change(&cache, USER));
   WANTS(NR_NOTHING, nr_cache_end_change(&cache, USER));
   WANTS(NR_DONE, nr_cache_end_change(&cache, OTHER));
-  WANTS(NR_DONE, nr_cache_land(&cache, begun(USER, 3), 9, 106, 0, &given));
+  WANTS(NR_DONE, nr_cache_land(&cache, begun(USER, 3), 9, 106, 1, 0, &given));
   IS(has(USER, 9, 106));
 }
 
@@ -112,7 +112,7 @@ static void test_change(void) {
 static void test_hold(void) {
   WANTS(NR_NOT_HOLDING, nr_cache_release(&reader));
   WANTS(NR_ROWS, nr_cache_find(&reader, USER, &found));
-  WANTS(NR_DONE, nr_cache_put(&cache, USER, 10, 107, 0, &given));
+  WANTS(NR_DONE, nr_cache_put(&cache, USER, 10, 107, 1, 0, &given));
   WANTS(NR_HELD, nr_cache_reap(&cache, &given));
   WANTS(NR_ROWS, nr_cache_find(&second, USER, &found));
   IS(found.stamp == 10 && found.value == 107);
@@ -127,16 +127,16 @@ static void test_hold(void) {
 /* A value in place of one that is there still. */
 static void test_swap(void) {
   given = (nr_given){1, 2, 3};
-  WANTS(NR_HOLE, nr_cache_swap(&cache, OTHER, 1, 9, 2, &given));
-  WANTS(NR_OTHER, nr_cache_swap(&cache, USER, 1, 9, 2, &given));
+  WANTS(NR_HOLE, nr_cache_swap(&cache, OTHER, 1, 9, 2, 1, 0, &given));
+  WANTS(NR_OTHER, nr_cache_swap(&cache, USER, 1, 9, 2, 1, 0, &given));
   IS(came_out(1, 2, 3) && has(USER, 10, 107) && lacks(OTHER));
-  WANTS(NR_DONE, nr_cache_swap(&cache, USER, 107, 11, 108, &given));
+  WANTS(NR_DONE, nr_cache_swap(&cache, USER, 107, 11, 108, 1, 0, &given));
   IS(has(USER, 11, 108));
   WANTS(NR_DONE, nr_cache_begin_change(&cache, USER));
-  WANTS(NR_OWN, nr_cache_swap(&cache, USER, 108, 12, 109, &given));
+  WANTS(NR_OWN, nr_cache_swap(&cache, USER, 108, 12, 109, 1, 0, &given));
   IS(lacks(USER));
   WANTS(NR_DONE, nr_cache_end_change(&cache, USER));
-  WANTS(NR_DONE, nr_cache_put(&cache, USER, 13, 110, 0, &given));
+  WANTS(NR_DONE, nr_cache_put(&cache, USER, 13, 110, 1, 0, &given));
 }
 
 /* A look tells what is there, and a count how much. */
@@ -155,17 +155,17 @@ static void test_looks(void) {
   /* An eviction leaves the load, whose value is held. */
   WANTS(NR_NOTHING, nr_cache_evict(&cache, OTHER));
   WANTS(NR_EVICTED, nr_cache_evict(&cache, USER));
-  WANTS(NR_DONE, nr_cache_land(&cache, number, 1, 111, 0, &given));
+  WANTS(NR_DONE, nr_cache_land(&cache, number, 1, 111, 1, 0, &given));
   IS(lacks(USER) && has(OTHER, 1, 111));
 }
 
 static void test_all(void) {
   nr_cache_counts counts;
-  WANTS(NR_DONE, nr_cache_put(&cache, USER, 1, 112, 0, &given));
+  WANTS(NR_DONE, nr_cache_put(&cache, USER, 1, 112, 1, 0, &given));
   uint64_t number = begun(9, 1);
   WANTS(NR_DONE, nr_cache_invalidate_all(&cache));
   IS(lacks(USER) && lacks(OTHER));
-  WANTS(NR_OWN, nr_cache_land(&cache, number, 1, 113, 0, &given));
+  WANTS(NR_OWN, nr_cache_land(&cache, number, 1, 113, 1, 0, &given));
   while (nr_cache_reap(&cache, &given) == NR_GIVEN) {
   }
   WANTS(NR_DONE, nr_cache_count(&cache, &counts));
@@ -187,7 +187,7 @@ static void test_full(void) {
   unsigned out[VALUES] = {0}, are_there = 0;
   nr_cache_counts counts;
   for (uint64_t id = 1; id <= VALUES; id++) {
-    uint32_t answer = nr_cache_land(&cache, begun(id, id), 1, 1000 + id, 0, &given);
+    uint32_t answer = nr_cache_land(&cache, begun(id, id), 1, 1000 + id, 1, 0, &given);
     if (answer != NR_GIVEN) WANTS(NR_DONE, answer);
     if (answer == NR_GIVEN) out[given.id - 1]++;
     while (nr_cache_reap(&cache, &given) == NR_GIVEN) out[given.id - 1]++;
@@ -214,10 +214,10 @@ static void test_bound(void) {
       WANTS(NR_DONE, nr_open_cache(&shape, &small));
       WANTS(NR_DONE, nr_open_cache_reader(&small, &finder));
       for (uint64_t id = 1; id <= 4; id++)
-        WANTS(NR_DONE, nr_cache_put(&small, id, id == stale ? 4 : 9, id, 0, &given));
+        WANTS(NR_DONE, nr_cache_put(&small, id, id == stale ? 4 : 9, id, 1, 0, &given));
       WANTS(NR_ROWS, nr_cache_find(&finder, stale, &found));
       WANTS(NR_DONE, nr_cache_release(&finder));
-      WANTS(NR_DONE, nr_cache_put(&small, 5, 9, 5, bound, &given));
+      WANTS(NR_DONE, nr_cache_put(&small, 5, 9, 5, 1, bound, &given));
       WANTS(bound == 5 ? NR_HOLE : NR_ROWS, nr_cache_look(&small, stale, &found));
       nr_close_cache_reader(&finder);
       nr_close_cache(&small);
@@ -234,7 +234,7 @@ static void test_evict_one(void) {
   WANTS(NR_DONE, nr_open_cache_reader(&small, &finder));
   WANTS(NR_NOTHING, nr_cache_evict_one(&small, 9, &taken));
   IS(taken.id == 1 && taken.stamp == 2 && taken.value == 3);
-  for (uint64_t id = 1; id <= 4; id++) WANTS(NR_DONE, nr_cache_put(&small, id, id == 3 ? 4 : 9, 10 * id, 0, &given));
+  for (uint64_t id = 1; id <= 4; id++) WANTS(NR_DONE, nr_cache_put(&small, id, id == 3 ? 4 : 9, 10 * id, 1, 0, &given));
   /* What is below the bound goes first, though a reader holds it. */
   WANTS(NR_ROWS, nr_cache_find(&finder, 3, &found));
   WANTS(NR_EVICTED, nr_cache_evict_one(&small, 5, &taken));
@@ -255,20 +255,57 @@ static void test_evict_one(void) {
   nr_close_cache(&small);
 }
 
+/* So many values are held, which weigh that. */
+static int weighs(nr_cache *weighed, uint64_t values, uint64_t weight) {
+  nr_cache_counts counts;
+  WANTS(NR_DONE, nr_cache_count(weighed, &counts));
+  return counts.values == values && counts.weight == weight;
+}
+
+/* Others go until a value fits, what is heavier than all may be is its caller's own, and what leaves weighs nothing. */
+static void test_weights(void) {
+  const nr_cache_shape shape = {
+    .groups = 1, .capacity = 8, .readers = 1, .flights = 1, .changes = 1, .weight = 10, .key = 0};
+  nr_cache small = {0};
+  nr_flight load;
+  WANTS(NR_DONE, nr_open_cache(&shape, &small));
+  for (uint64_t id = 1; id <= 3; id++) WANTS(NR_DONE, nr_cache_put(&small, id, 9, 10 * id, 3, 0, &given));
+  IS(weighs(&small, 3, 9));
+  WANTS(NR_DONE, nr_cache_put(&small, 4, 9, 40, 1, 0, &given));
+  IS(weighs(&small, 4, 10));
+  /* In place of its own three it weighs four, for which another goes. */
+  WANTS(NR_DONE, nr_cache_swap(&small, 2, 20, 9, 21, 4, 0, &given));
+  WANTS(NR_ROWS, nr_cache_look(&small, 2, &found));
+  nr_cache_counts counts;
+  WANTS(NR_DONE, nr_cache_count(&small, &counts));
+  IS(counts.values == 3 && (counts.weight == 8 || counts.weight == 10));
+  WANTS(NR_SEND, nr_cache_begin(&small, 5, 1, &load));
+  uint32_t landed = nr_cache_land(&small, load.number, 9, 50, 10, 0, &given);
+  IS(landed == NR_DONE || landed == NR_GIVEN);
+  IS(weighs(&small, 1, 10));
+  WANTS(NR_ROWS, nr_cache_look(&small, 5, &found));
+  WANTS(NR_OWN, nr_cache_put(&small, 5, 9, 51, 11, 0, &given));
+  WANTS(NR_HOLE, nr_cache_look(&small, 5, &found));
+  IS(weighs(&small, 0, 0));
+  WANTS(NR_SEND, nr_cache_begin(&small, 6, 1, &load));
+  WANTS(NR_OWN, nr_cache_land(&small, load.number, 9, 60, 11, 0, &given));
+  nr_close_cache(&small);
+}
+
 static void test_refusals(void) {
   WANTS(NR_NO_KEY, nr_cache_find(&reader, 0, &found));
   WANTS(NR_NO_KEY, nr_cache_begin(&cache, 0, 1, &flight));
-  WANTS(NR_NO_KEY, nr_cache_put(&cache, 0, 0, 1, 0, &given));
-  WANTS(NR_NO_KEY, nr_cache_swap(&cache, 0, 1, 0, 1, &given));
+  WANTS(NR_NO_KEY, nr_cache_put(&cache, 0, 0, 1, 1, 0, &given));
+  WANTS(NR_NO_KEY, nr_cache_swap(&cache, 0, 1, 0, 1, 1, 0, &given));
   WANTS(NR_NO_KEY, nr_cache_look(&cache, 0, &found));
   WANTS(NR_NO_KEY, nr_cache_evict(&cache, 0));
   WANTS(NR_NO_KEY, nr_cache_invalidate(&cache, 0));
   WANTS(NR_NO_KEY, nr_cache_begin_change(&cache, 0));
   WANTS(NR_NO_KEY, nr_cache_end_change(&cache, 0));
-  WANTS(NR_BAD_ROW, nr_cache_put(&cache, 1, 0, 1, 0, &given));
-  WANTS(NR_BAD_ROW, nr_cache_swap(&cache, 1, 1, 0, 1, &given));
+  WANTS(NR_BAD_ROW, nr_cache_put(&cache, 1, 0, 1, 1, 0, &given));
+  WANTS(NR_BAD_ROW, nr_cache_swap(&cache, 1, 1, 0, 1, 1, 0, &given));
   uint64_t number = begun(200, 1);
-  WANTS(NR_BAD_ROW, nr_cache_land(&cache, number, 0, 1, 0, &given));
+  WANTS(NR_BAD_ROW, nr_cache_land(&cache, number, 0, 1, 1, 0, &given));
   WANTS(NR_DONE, nr_cache_fail(&cache, number, &flight));
 }
 
@@ -279,8 +316,8 @@ static void test_openings(const nr_cache_shape *shape) {
   WANTS(NR_LIVE, nr_open_cache_reader(&cache, &reader));
   WANTS(NR_NO_READER, nr_open_cache_reader(&cache, &third));
   WANTS(NR_CLOSED, nr_open_cache_reader(&none, &third));
-  const nr_cache_shape bad[] = {{0, 1, 1, 1, 1, 0}, {516001, 1, 1, 1, 1, 0}, {1, 1, 0, 1, 1, 0}, {1, 1, 65534, 1, 1, 0},
-    {1, 0, 1, 1, 1, 0}, {1, 9, 1, 1, 1, 0}};
+  const nr_cache_shape bad[] = {{0, 1, 1, 1, 1, 0, 0}, {516001, 1, 1, 1, 1, 0, 0}, {1, 1, 0, 1, 1, 0, 0},
+    {1, 1, 65534, 1, 1, 0, 0}, {1, 0, 1, 1, 1, 0, 0}, {1, 9, 1, 1, 1, 0, 0}};
   for (size_t at = 0; at < sizeof bad / sizeof *bad; at++) WANTS(NR_BAD_SIZE, nr_open_cache(&bad[at], &none));
   WANTS(NR_CLOSED, nr_cache_begin(&none, 1, 1, &flight));
   WANTS(NR_CLOSED, nr_cache_find(&third, 1, &found));
@@ -295,15 +332,15 @@ static void test_closed(void) {
   WANTS(NR_DONE, nr_cache_invalidate_all(&cache));
   while (nr_cache_reap(&cache, &given) == NR_GIVEN) {
   }
-  WANTS(NR_DONE, nr_cache_put(&cache, USER, 1, 5, 0, &given));
+  WANTS(NR_DONE, nr_cache_put(&cache, USER, 1, 5, 1, 0, &given));
   nr_close_cache(&cache);
   nr_close_cache(&cache);
   IS(has(USER, 1, 5));
   WANTS(NR_CLOSED, nr_cache_find(&reader, OTHER, &found));
-  WANTS(NR_CLOSED, nr_cache_land(&cache, 1, 1, 1, 0, &given));
+  WANTS(NR_CLOSED, nr_cache_land(&cache, 1, 1, 1, 1, 0, &given));
   WANTS(NR_CLOSED, nr_cache_fail(&cache, 1, &flight));
-  WANTS(NR_CLOSED, nr_cache_put(&cache, 1, 1, 1, 0, &given));
-  WANTS(NR_CLOSED, nr_cache_swap(&cache, 1, 1, 1, 1, &given));
+  WANTS(NR_CLOSED, nr_cache_put(&cache, 1, 1, 1, 1, 0, &given));
+  WANTS(NR_CLOSED, nr_cache_swap(&cache, 1, 1, 1, 1, 1, 0, &given));
   WANTS(NR_CLOSED, nr_cache_look(&cache, 1, &found));
   WANTS(NR_CLOSED, nr_cache_evict(&cache, 1));
   WANTS(NR_CLOSED, nr_cache_evict_one(&cache, 0, &given));
@@ -335,6 +372,7 @@ int main(void) {
   test_full();
   test_bound();
   test_evict_one();
+  test_weights();
   test_refusals();
   test_closed();
   puts("each answer of a cache came");

@@ -129,9 +129,9 @@ static void call_cache(nr_cache *cache, nr_cache_reader *reader) {
   nr_flight flight;
   nr_given given;
   want(nr_cache_begin(cache, 1, 1, &flight) == NR_SEND, "a load");
-  want(nr_cache_land(cache, flight.number, 1, 5, 0, &given) == NR_DONE, "a landing");
+  want(nr_cache_land(cache, flight.number, 1, 5, 1, 0, &given) == NR_DONE, "a landing");
   want(nr_cache_find(reader, 1, &found) == NR_ROWS && nr_cache_release(reader) == NR_DONE, "a find in a cache");
-  want(nr_cache_put(cache, 1, 1, 6, 0, &given) == NR_DONE && nr_cache_reap(cache, &given) == NR_GIVEN, "a put");
+  want(nr_cache_put(cache, 1, 1, 6, 1, 0, &given) == NR_DONE && nr_cache_reap(cache, &given) == NR_GIVEN, "a put");
   want(nr_cache_begin_change(cache, 1) == NR_DONE && nr_cache_end_change(cache, 1) == NR_DONE, "a change");
   want(nr_cache_invalidate(cache, 1) == NR_EVICTED && nr_cache_reap(cache, &given) == NR_GIVEN, "an invalidation");
   want(nr_cache_begin(cache, 1, 1, &flight) == NR_SEND, "a second load");
@@ -148,7 +148,7 @@ static bool refuse(long after) {
   const nr_id_shape ids = {2, 8, 1, 4, 0, 0};
   nr_id_writer id_writer = {0};
   nr_id_reader id_reader = {0};
-  const nr_cache_shape cached = {2, 16, 1, 1, 1, 0};
+  const nr_cache_shape cached = {2, 16, 1, 1, 1, 100, 0};
   nr_cache cache = {0};
   nr_cache_reader cache_reader = {0};
   refusals = 0;

@@ -16,6 +16,7 @@ cache_shape_of shape =
     record {
       groups = shape.groups;
       capacity = shape.capacity;
+      weight = shape.weight;
       key = shape.key;
       readers = shape.readers;
       flights = shape.flights;

@@ -70,7 +70,8 @@ LooksByValueCode id stood stands old new code =
     × (stands ≡ value_told stood value)
 
 abbrev pub counts_of : Counts → NrCacheCounts
-counts_of counts = record { values = counts.values; flights = counts.flights; changes = counts.changes }
+counts_of counts =
+    record { values = counts.values; weight = counts.weight; flights = counts.flights; changes = counts.changes }
 
 abbrev pub CountsCache : NrCacheCounts → StoreSeen → StoreSeen → ℕ → Type 0
 CountsCache told old new code =
@@ -126,15 +127,15 @@ abbrev pub landed_code : Landed → ℕ
 landed_code (landed.Held given) = reclaimed_code given
 landed_code landed.Own = answer_own
 
-abbrev pub LandsByCode : ℕ → ℕ → ℕ → ℕ → GivenValue → GivenValue → StoreSeen → StoreSeen → ℕ → Type 0
-LandsByCode number stamp value bound before after old new code =
+abbrev pub LandsByCode : ℕ → ℕ → ℕ → ℕ → ℕ → GivenValue → GivenValue → StoreSeen → StoreSeen → ℕ → Type 0
+LandsByCode number stamp value weight bound before after old new code =
     (answer : Landed) × (code ≡ landed_code answer)
-    × Lands ShowsValue number stamp value bound old before new after answer
+    × Lands ShowsValue number stamp value weight bound old before new after answer
 
-abbrev pub PutsByCode : ℕ → ℕ → ℕ → ℕ → GivenValue → GivenValue → StoreSeen → StoreSeen → ℕ → Type 0
-PutsByCode id stamp value bound before after old new code =
+abbrev pub PutsByCode : ℕ → ℕ → ℕ → ℕ → ℕ → GivenValue → GivenValue → StoreSeen → StoreSeen → ℕ → Type 0
+PutsByCode id stamp value weight bound before after old new code =
     (answer : Landed) × (code ≡ landed_code answer)
-    × Puts ShowsValue id stamp value bound old before new after answer
+    × Puts ShowsValue id stamp value weight bound old before new after answer
 
 abbrev pub swapped_code : Swapped → ℕ
 swapped_code (swapped.Held given) = reclaimed_code given
@@ -142,9 +143,10 @@ swapped_code swapped.Own = answer_own
 swapped_code (swapped.Other found) = answer_other
 swapped_code swapped.Absent = answer_hole
 
-abbrev pub SwapsByCode : ℕ → ℕ → ℕ → ℕ → GivenValue → GivenValue → StoreSeen → StoreSeen → ℕ → Type 0
-SwapsByCode id was stamp value before after old new code =
-    (answer : Swapped) × (code ≡ swapped_code answer) × Swaps ShowsValue id was stamp value old before new after answer
+abbrev pub SwapsByCode : ℕ → ℕ → ℕ → ℕ → ℕ → ℕ → GivenValue → GivenValue → StoreSeen → StoreSeen → ℕ → Type 0
+SwapsByCode id was stamp value weight bound before after old new code =
+    (answer : Swapped) × (code ≡ swapped_code answer)
+    × Swaps ShowsValue id was stamp value weight bound old before new after answer
 
 abbrev pub InvalidatesByCode : ℕ → StoreSeen → StoreSeen → ℕ → Type 0
 InvalidatesByCode id old new code =

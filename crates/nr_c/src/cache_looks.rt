@@ -9,11 +9,12 @@ use crate::cache_handle::NrCache;
 use crate::codes::{NR_CLOSED, NR_DONE, NR_NO_KEY};
 use nr_cache::{Counts, FoundValue};
 
-/// How many values a cache holds, and how many loads and changes are under way.
+/// How many values a cache holds, what they weigh, and how many loads and changes are under way.
 #[repr(C)]
 #[derive(Clone, Copy)]
 pub struct NrCacheCounts {
     pub values: u64,
+    pub weight: u64,
     pub flights: u64,
     pub changes: u64,
 }
@@ -24,6 +25,7 @@ impl NrCacheCounts {
     {
         NrCacheCounts {
             values: counts.values as u64,
+            weight: counts.weight,
             flights: counts.flights as u64,
             changes: counts.changes as u64,
         }

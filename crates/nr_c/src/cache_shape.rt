@@ -13,6 +13,7 @@ pub struct NrCacheShape {
     pub readers: u32,
     pub flights: u32,
     pub changes: u32,
+    pub weight: u64,
     pub key: u64,
 }
 
@@ -24,6 +25,7 @@ impl NrCacheShape {
         StoreShape {
             groups: self.groups,
             capacity: self.capacity,
+            weight: self.weight,
             key: self.key,
             readers: self.readers,
             flights: self.flights,

@@ -11,20 +11,21 @@ use crate::codes::{NR_BAD_ROW, NR_CLOSED, NR_NO_KEY};
 use nr_cache::GivenValue;
 
 /// Ends the flight of that number by its value, with a stamp above 0. It is held unless its id was invalidated, put
-/// or changed since the flight began, or was being changed then: `NR_DONE`, or `NR_GIVEN` where a value that nobody
+/// or changed since the flight began, or was being changed then, or it is heavier than all may be: `NR_DONE`, or `NR_GIVEN` where a value that nobody
 /// can see any more came out, and `given` tells it. `NR_OWN` where it is the caller's own, and `given` stays.
-/// `NR_BAD_ROW` for the stamp 0. Where the cache is full, one with a stamp below the bound goes first, of the next
-/// eight ways that it comes to.
+/// `NR_BAD_ROW` for the stamp 0. Where the cache is full, or the value too heavy beside the others, others go until it
+/// fits: first one with a stamp below the bound, of the next eight ways that it comes to.
 #[unsafe(no_mangle)]
 pub extern "C" fn nr_cache_land(
     cache: &mut NrCache,
     number: u64,
     stamp: u64,
     value: u64,
+    weight: u32,
     bound: u64,
     given: &mut GivenValue,
 ) -> u32
-    ensures { WhenLive (given.new ≡ given.old) (WithNumber answer_bad_row stamp (given.new ≡ given.old) (CacheCalls (LandsByCode number stamp value bound given.old given.new))) cache.old.live cache.new.live result }
+    ensures { WhenLive (given.new ≡ given.old) (WithNumber answer_bad_row stamp (given.new ≡ given.old) (CacheCalls (LandsByCode number stamp value weight bound given.old given.new))) cache.old.live cache.new.live result }
 {
     if !cache.is_live() {
         return NR_CLOSED;
@@ -35,12 +36,13 @@ pub extern "C" fn nr_cache_land(
     let side = cache.side();
     let landed = side
         .store
-        .land(&side.map, number, stamp, value, bound, given);
+        .land(&side.map, number, stamp, value, weight, bound, given);
     of_landed(landed)
 }
 
 /// Puts a value, with a stamp above 0, in place of what the id has; its flight is outdated. Answers as
-/// `nr_cache_land`; while the id is being changed the value is the caller's own, and the id has none. `NR_NO_KEY`
+/// `nr_cache_land`; while the id is being changed, or where the value is heavier than all may be, it is the caller's
+/// own, and the id has none. `NR_NO_KEY`
 /// for the id 0.
 #[unsafe(no_mangle)]
 pub extern "C" fn nr_cache_put(
@@ -48,10 +50,11 @@ pub extern "C" fn nr_cache_put(
     id: u64,
     stamp: u64,
     value: u64,
+    weight: u32,
     bound: u64,
     given: &mut GivenValue,
 ) -> u32
-    ensures { BringsToCache id stamp (given.new ≡ given.old) (PutsByCode id stamp value bound given.old given.new) cache.old.live cache.new.live result }
+    ensures { BringsToCache id stamp (given.new ≡ given.old) (PutsByCode id stamp value weight bound given.old given.new) cache.old.live cache.new.live result }
 {
     if !cache.is_live() {
         return NR_CLOSED;
@@ -63,7 +66,9 @@ pub extern "C" fn nr_cache_put(
         return NR_BAD_ROW;
     }
     let side = cache.side();
-    let landed = side.store.put(&side.map, id, stamp, value, bound, given);
+    let landed = side
+        .store
+        .put(&side.map, id, stamp, value, weight, bound, given);
     of_landed(landed)
 }
 
@@ -76,9 +81,11 @@ pub extern "C" fn nr_cache_swap(
     old: u64,
     stamp: u64,
     value: u64,
+    weight: u32,
+    bound: u64,
     given: &mut GivenValue,
 ) -> u32
-    ensures { BringsToCache id stamp (given.new ≡ given.old) (SwapsByCode id old stamp value given.old given.new) cache.old.live cache.new.live result }
+    ensures { BringsToCache id stamp (given.new ≡ given.old) (SwapsByCode id old stamp value weight bound given.old given.new) cache.old.live cache.new.live result }
 {
     if !cache.is_live() {
         return NR_CLOSED;
@@ -90,6 +97,8 @@ pub extern "C" fn nr_cache_swap(
         return NR_BAD_ROW;
     }
     let side = cache.side();
-    let swapped = side.store.swap(&side.map, id, old, stamp, value, given);
+    let swapped = side
+        .store
+        .swap(&side.map, id, old, stamp, value, weight, bound, given);
     of_swapped(swapped)
 }

@@ -62,7 +62,7 @@ const _: () = prove!(size_of::<NrIdReader>() == 8);
 
 const _: () = prove!(size_of::<NrWantedId>() == 8 + 8 + 8 + 255 * 16);
 
-const _: () = prove!(size_of::<NrCacheShape>() == 32);
+const _: () = prove!(size_of::<NrCacheShape>() == 40);
 
 const _: () = prove!(size_of::<NrCache>() == 8);
 
@@ -70,7 +70,7 @@ const _: () = prove!(size_of::<NrCacheReader>() == 8);
 
 const _: () = prove!(size_of::<FoundValue>() == 16);
 
-const _: () = prove!(size_of::<NrCacheCounts>() == 24);
+const _: () = prove!(size_of::<NrCacheCounts>() == 32);
 
 const _: () = prove!(size_of::<NrFlight>() == 16);
 
@@ -114,7 +114,7 @@ pub extern "C" fn nr_struct_size(place: u32) -> u32
 fn later_size(place: u32) -> usize
     requires { 17 ≤ place }
     ensures size { result ≡ struct_size place }
-    ensures few { result ≤ 32 }
+    ensures few { result ≤ 40 }
 {
     match place {
         17 => size_of::<NrCacheShape>(),

@@ -1,5 +1,5 @@
 -- What a choice and an eviction leave where each of an id's ways was taken: room, and the id without a way.
-use Rattle.std.proofs.Common.{◌≡◌, ◌+◌, ◌*◌, ◌/◌, ◌%◌, ◌<◌, ℕ, true, Some, None, Option, inl, inr, sym, ap, ◌∙◌, arith}
+use Rattle.std.proofs.Common.{◌≡◌, ◌+◌, ◌*◌, ◌/◌, ◌%◌, ◌<◌, ℕ, Some, None, Option, inl, inr, sym, ap, ◌∙◌, arith}
 use Rattle.std.proofs.lemmas.Bool.{cases_eq}
 use Rattle.nr_ids.specs.declared.plan.Plan.{Plan}
 use Rattle.nr_ids.specs.declared.admissions.Refused.{Refused}
@@ -11,13 +11,10 @@ use Rattle.nr_ids.specs.Looking.{IsFull, group_for, way_for}
 use Rattle.nr_ids.specs.Tokens.{Grows, Opened, Token}
 use Rattle.nr_ids.proofs.Calls.{chooses_leave, clerk_looks, leaves_names}
 use Rattle.nr_ids.proofs.Admitting.{refusal_looks}
-use Rattle.nr_ids.proofs.Logs.{one_way}
-use Rattle.nr_ids.proofs.Through.{way_looks}
 use Rattle.nr_idmap.specs.IdChoices.{ChoosesId}
-use Rattle.nr_idmap.specs.IdWrites.{AdmitsId, EvictsWay, RefusesId}
-use Rattle.nr_idmap.specs.Keepers.{ClosesOne, IsTied, Keeper, Owed, owed_at}
-use Rattle.nr_cache.specs.Places.{OwesNone, OwesOnly, TakesValue}
-use Rattle.nr_cache.proofs.Gone.{found_named, named_before, unnamed_at}
+use Rattle.nr_idmap.specs.IdWrites.{AdmitsId, RefusesId}
+use Rattle.nr_idmap.specs.Keepers.{ClosesOne, IsTied, Keeper, Owed, name_at, owed_at}
+use Rattle.nr_cache.specs.Places.{OwesNone, OwesOnly, Unnames}
 
 -- A LOOK BY THE CLERK
 looked : (count : ℕ) (old new : Token) (way : ℕ) → old.number ≡ 0 → Grows (looks count old.number) old new
@@ -107,32 +104,25 @@ chooses_one id old new tied full choice =
     ∙ sym (chosen_names id old.clerk new None tied.names.1 choice choice.way) ∙ choice.names.1)
 
 -- ROOM
-module _ (id victim : ℕ) (old mid new : Keeper) (tied : IsTied old) (later : IsTied mid) (real : 0 < id)
-    (choice : ChoosesId id old.clerk mid.clerk (Some victim)) (takes : TakesValue victim mid new true)
+module _ (id victim : ℕ) (old mid new : Keeper) (tied : IsTied old) (real : 0 < id)
+    (choice : ChoosesId id old.clerk mid.clerk (Some victim)) (unnames : Unnames victim mid new)
   where
-    evicts : EvictsWay victim takes.1.0 mid new
-    evicts = takes.1.1
-
-    -- the eviction was of the way that was chosen
-    same_way : choice.way ≡ takes.1.0
-    same_way =
-        one_way mid.table.directory.plan mid.clerk.seen choice.way takes.1.0 victim later.legal choice.names.2
-        choice.names.1.has (found_named victim takes.1.0 mid evicts.mid later evicts.finds)
-
     directory : new.clerk.directory ≡ old.clerk.directory
     directory =
         let leaves = chooses_leave (group_for old.clerk id) choice.way old.clerk choice.mid choice.chooses in
-        let finds = way_looks victim mid.clerk evicts.mid (Some takes.1.0) evicts.finds in
-        evicts.unnames.grows.directory ∙ finds.1.directory ∙ choice.names.0.directory ∙ leaves.1.directory
+        unnames.directory ∙ choice.names.0.directory ∙ leaves.1.directory
 
+    -- the way that was chosen has no name any more
     pub room_is_free : IsFull id new.clerk → ⊥
     room_is_free full =
         let at = chosen_way id old.clerk mid.clerk (Some victim) choice in
         full at.0 at.1
-        (unnamed_at victim takes.1.0 mid new later evicts (way_for new.clerk id at.0)
-        (same_places id old.clerk new.clerk at.0 directory ∙ sym at.2 ∙ same_way))
+        (unnames.gone (way_for new.clerk id at.0)
+        (ap (λ (way : ℕ). name_at mid way) (same_places id old.clerk new.clerk at.0 directory ∙ sym at.2)
+        ∙ choice.names.1.has))
 
     pub absent_still : IsAbsent old.clerk.seen id → IsAbsent new.clerk.seen id
     absent_still absent k named =
-        let was = named_before victim takes.1.0 mid new later evicts k id real named in
-        absent k (sym (chosen_names id old.clerk mid.clerk (Some victim) tied.names.1 choice k) ∙ was.1)
+        absent k
+        (sym (chosen_names id old.clerk mid.clerk (Some victim) tied.names.1 choice k)
+        ∙ unnames.before k id real named)

@@ -225,24 +225,29 @@ undone_counts {steps} {call} {answer} old new writer undone gains =
       undone_weighs c.bound call c.state (ap is_done (sym c.answered) ∙ undone),
     )
 
+-- to learn is to grow by no entry
+abbrev pub learnt_grows : (steps : ℕ) (old new : Caller) → Learns steps old new
+    → Grows steps [] old (record new { pasts = old.pasts })
+learnt_grows steps old new learns = record {
+  table = learns.table;
+  number = learns.number;
+  between = learns.seen.rest;
+  seen = learns.seen.is ∙ sym (append-nil (old.seen ++ learns.seen.rest));
+  mine = learns.mine ∙ sym (append-nil old.mine);
+  legal = learns.legal;
+  own = learns.own;
+  callers = learns.callers;
+  steps_made = learns.steps_made;
+  pasts = refl;
+  loaded_ahead = learns.loaded_ahead;
+}
+
 -- to learn counts nothing
 learnt_counts : (steps : ℕ) (old new : Caller) → IsWriter old → Learns steps old new
     → IsWriter new × (filled_count (map_seen new) ≡ filled_count (map_seen old))
 learnt_counts steps old new writer learns =
     let less : Caller = record new { pasts = old.pasts } in
-    let grows : Grows steps [] old less = record {
-      table = learns.table;
-      number = learns.number;
-      between = learns.seen.rest;
-      seen = learns.seen.is ∙ sym (append-nil (old.seen ++ learns.seen.rest));
-      mine = learns.mine ∙ sym (append-nil old.mine);
-      legal = learns.legal;
-      own = learns.own;
-      callers = learns.callers;
-      steps_made = learns.steps_made;
-      pasts = refl;
-      loaded_ahead = learns.loaded_ahead;
-    } in (
+    let grows = learnt_grows steps old new learns in (
       record { number = learns.number ∙ writer.number; own = learns.own },
       ap (λ (t : Table). filled_count (after (map_at_opening t) new.seen)) learns.table
           ∙ ap (λ (l : List Entry). filled_count (map_after old.table.shape l)) learns.seen.is

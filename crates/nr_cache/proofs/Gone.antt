@@ -18,7 +18,7 @@ use Rattle.nr_idmap.specs.IdLaws.{NamedIsOwedOrResident, UnnamedIsAbsent}
 use Rattle.nr_idmap.specs.IdWrites.{EvictsId, EvictsWay}
 use Rattle.nr_idmap.specs.Keepers.{IsTied, Keeper, name_at, owed_at}
 use Rattle.nr_idmap.specs.Tags.{IsResident}
-use Rattle.nr_cache.specs.Places.{HasValue, IsGone, OwesNone, TakesValue}
+use Rattle.nr_cache.specs.Places.{HasValue, IsGone, OwesNone, TakesValue, Unnames}
 use Rattle.nr_cache.proofs.LastCalls.{evicts_it, last_call}
 
 -- A LOOK-UP
@@ -142,3 +142,31 @@ gone_after law id old new false tied later none real (gone, inl absent, stays) =
     is_gone law id new later (λ way named. absent.0.1 way named)
 gone_after law id old new false tied later none real (gone, inr (way, finds, evicts), stays) =
     absurd (passed_over id way old new tied later (none way) real finds evicts)
+
+-- an eviction after a look-up takes the name of the way that was found, and no other changes
+pub unnames_one : (id way : ℕ) (old mid new : Keeper) → IsTied old → IsTied mid → 0 < id
+    → FindsWay id old.clerk mid.clerk (Some way) → TakesValue id mid new true → Unnames id old new
+unnames_one id way old mid new tied later real found takes =
+    let evicts = takes.1.1 in
+    let first = way_looks id old.clerk mid.clerk (Some way) found in
+    let more = way_looks id mid.clerk evicts.mid (Some takes.1.0) evicts.finds in
+    record {
+      directory = evicts.unnames.grows.directory ∙ more.1.directory ∙ first.1.directory;
+      gone = λ k named.
+          unnamed_at id takes.1.0 mid new later evicts k
+          (one_way mid.table.directory.plan mid.clerk.seen k takes.1.0 id later.legal real
+          (looked_names id old mid.clerk (Some way) tied found k ∙ named)
+          (found_named id takes.1.0 mid evicts.mid later evicts.finds));
+      before = λ k name some named.
+          sym (looked_names id old mid.clerk (Some way) tied found k)
+          ∙ (named_before id takes.1.0 mid new later evicts k name some named).1;
+    }
+
+pub unnames_none : (id : ℕ) (old new : Keeper) → IsTied old → FindsWay id old.clerk new.clerk None → Unnames id old new
+unnames_none id old new tied found =
+    let looked = way_looks id old.clerk new.clerk None found in
+    record {
+      directory = looked.1.directory;
+      gone = λ k named. absurd (found_none id old new.clerk tied found k named);
+      before = λ k name some named. sym (looked_names id old new.clerk None tied found k) ∙ named;
+    }

@@ -56,7 +56,7 @@ last_call {steps} {call} {answer} {old} {new} near gains =
     }
 
 -- A WAY THAT IS NAMED HAS ROWS, WHERE NO UPQUERY IS OPEN
-named_has_rows : (way name : ℕ) (state : KeyState) → 0 < name → Agrees name state → owed_for way name state ≡ None
+pub named_has_rows : (way name : ℕ) (state : KeyState) → 0 < name → Agrees name state → owed_for way name state ≡ None
     → (n : ℕ) × (rows : List Row) × (state ≡ Rows n rows)
 named_has_rows way name (Hole n) real agrees none = absurd (omega (arith, real, agrees))
 named_has_rows way zero (Asked n) real agrees none = absurd (omega (arith, real))

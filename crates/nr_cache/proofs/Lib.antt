@@ -5,12 +5,15 @@ mod Filled
 mod InOrder
 mod Quiets
 mod LastCalls
+mod Ways
 mod Shown
 mod Gone
+mod Weighing
 mod Stale
 mod MakingRoom
 mod Admitting
 mod Placing
+mod Comes
 mod AllGone
 mod LookingAt
 mod GoingFirst

@@ -19,6 +19,7 @@ use Rattle.nr_cache.specs.StoreSeen.{StoreSeen}
 use Rattle.nr_cache.specs.Stores.{PutsOwn}
 use Rattle.nr_cache.specs.Swaps.{FindsOld, SwapsOwn}
 use Rattle.nr_cache.specs.Values.{BringsValues, IsValueSet, row_of, set_of}
+use Rattle.nr_cache.specs.Weights.{Load}
 use Rattle.nr_cache.proofs.Brought.{is_value}
 use Rattle.nr_cache.proofs.Gone.{found_near, found_none, is_gone}
 use Rattle.nr_cache.proofs.LastCalls.{finds_it, found_has, last_call}
@@ -60,17 +61,22 @@ look_quiet id old new None looks = quiet_same old.writer new.writer looks.0.1.wr
 
 -- A SWAP
 -- an id that has a value has a place, so a put that is refused finds the id being changed
-pub swaps_own : {Room : Type 0} (shows : Room → List Row → Type 0) (id was : ℕ) (old mid : StoreSeen) (before : Room)
-    (new : StoreSeen) (room : Room) → UnnamedIsAbsent → IsTied mid.keeper → (finds : FindsOld id was old mid)
-    → PutsOwn shows id mid before new room → SwapsOwn shows id was old before new room
-swaps_own shows id was old mid before new room law tied finds puts = record {
+pub swaps_own : {Room : Type 0} (shows : Room → List Row → Type 0) (id was weight : ℕ) (old mid : StoreSeen)
+    (before : Room) (new : StoreSeen) (room : Room) → UnnamedIsAbsent → IsTied mid.keeper
+    → (finds : FindsOld id was old mid) → PutsOwn shows id weight mid before new room
+    → SwapsOwn shows id was weight old before new room
+swaps_own shows id was weight old mid before new room law tied finds puts = record {
   mid = mid;
   finds = finds;
-  changing = elim puts.why [
-    | inl changed ↦ ap (λ (u : Underway). is_changing id u) (sym finds.looks.1) ∙ changed.0
+  why = elim puts.why [
+    | inl changed ↦ elim changed.0 [
+      | inl changing ↦ inl (ap (λ (u : Underway). is_changing id u) (sym finds.looks.1) ∙ changing)
+      | inr heavy ↦
+          inr (subst (λ (l : Load). l.most < weight) finds.looks.3.2 heavy)
+    ]
     | inr place ↦
-        let absent = place.1.absent in
-        absurd (is_gone law id mid.keeper tied (found_none id mid.keeper place.1.mid.clerk tied absent.0) _
+        let absent = place.2.absent in
+        absurd (is_gone law id mid.keeper tied (found_none id mid.keeper place.2.mid.clerk tied absent.0) _
         finds.looks.0.3)
   ];
   puts = puts;

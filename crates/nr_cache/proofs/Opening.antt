@@ -1,5 +1,8 @@
 -- A new store: no upquery is open, and there is a slot for each way, each reader and one more.
-use Rattle.std.proofs.Common.{◌≡◌, ◌<◌, ◌-◌, ◌*◌, ℕ, List, ap, sym, subst, ◌∙◌, arith}
+use Rattle.std.proofs.Common.{◌≡◌, ◌<◌, ◌≤◌, ◌⊎◌, ◌-◌, ◌*◌, ◌==◌, ◌^◌, ℕ, zero, suc, Bool, true, false}
+use Rattle.std.proofs.Common.{List, [], inl, inr, ap, refl, sym, subst, ◌∙◌, arith, get_or, length}
+use Rattle.std.specs.Prelude.{if◌then◌else◌, replicate}
+use Rattle.std.proofs.lemmas.List.{get_or-replicate, get_or_past, length-replicate}
 use Rattle.std.specs.List.{All}
 use Rattle.std.proofs.lemmas.List.Elements.{All-nil}
 use Rattle.nr_model.specs.Histories.{Entry}
@@ -15,9 +18,10 @@ use Rattle.nr_idmap.specs.declared.id_map.IdShape.{IdShape}
 use Rattle.nr_idmap.specs.IdOpenings.{OpensIds, shape_of}
 use Rattle.nr_idmap.specs.Keepers.{IdCaller, IdTable, Keeper, owed_for, state_at}
 use Rattle.nr_cache.specs.declared.shape.StoreShape.{StoreShape}
-use Rattle.nr_cache.specs.Openings.{ids_of}
+use Rattle.nr_cache.specs.Openings.{IsBadStoreShape, ids_of}
 use Rattle.nr_cache.specs.Places.{OwesNone}
 use Rattle.nr_cache.specs.Values.{BringsValue, BringsValues, HasSlots, IsWithin, values_in}
+use Rattle.nr_cache.specs.Weights.{Load, OnlyValuesWeigh, no_load}
 
 pub opened_owes_none : (shape : IdShape) (table : IdTable) (keeper : Keeper) (readers : List IdCaller)
     → OpensIds shape table keeper readers → OwesNone keeper
@@ -59,3 +63,40 @@ opened_is_within shape table keeper readers capacity opens =
     sum_by-replicate (λ (state : KeyState). one (is_filled_key state)) table.map.shape.keys
     (Hole table.map.shape.first_number) in
     omega (arith, seen, none)
+
+-- there is a way
+pub opened_has_ways : (shape : StoreShape) (table : IdTable) (keeper : Keeper) (readers : List IdCaller)
+    → (IsBadStoreShape shape → ⊥) → OpensIds (ids_of shape) table keeper readers → 0 < keeper.table.map.shape.keys
+opened_has_ways shape table keeper readers good opens =
+    let keys = ap (λ (s : Shape). s.keys) (shape_is (ids_of shape) table keeper readers opens) in
+    let some = above_zero shape.groups (λ none. good (inl (inl none))) in
+    omega (arith, keys, some)
+  where
+    above_zero : (groups : ℕ) → (groups ≡ 0 → ⊥) → 0 < groups
+    above_zero zero some = absurd (some refl)
+    above_zero (suc groups) some = omega arith
+
+-- nothing weighs anything
+below_or_past : (place count : ℕ) → (place < count) ⊎ (count ≤ place)
+below_or_past place count = grind arith
+
+abbrev no_weights : ℕ → List ℕ
+no_weights count = replicate count 0
+
+weightless : (place count : ℕ) → get_or (no_weights count) place 0 ≡ 0
+weightless place count = elim (below_or_past place count) [
+  | inl near ↦ get_or-replicate count place 0 0 near
+  | inr past ↦
+      let long : length (no_weights count) ≡ count = length-replicate count 0 in
+      get_or_past (no_weights count) place 0 (omega (arith, past, long))
+]
+
+either_weightless : (off : Bool) (way : ℕ) (one other : Load) → get_or one.each way 0 ≡ 0
+    → get_or other.each way 0 ≡ 0 → get_or (if off then one else other).each way 0 ≡ 0
+either_weightless true way one other none nor = none
+either_weightless false way one other none nor = nor
+
+pub opened_weighs_none : (most ways : ℕ) (keeper : Keeper) → OnlyValuesWeigh (no_load most ways) keeper
+opened_weighs_none most ways keeper way none =
+    either_weightless (most == 0) way (record { each = []; most = 2 ^ 64 - 1 })
+    (record { each = replicate ways 0; most = most }) refl (weightless way ways)

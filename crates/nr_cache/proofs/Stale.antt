@@ -1,87 +1,44 @@
 -- What a look at a way tells of its value's stamp, and that looks change none.
-use Rattle.std.proofs.Common.{◌≡◌, ◌<◌, ◌==◌, ℕ, true, List, [], ◌∷◌, ◌++◌, inl, inr, Some}
-use Rattle.std.proofs.Common.{refl, sym, ap, ◌∙◌, subst, arith, append-nil, append_assoc}
-use Rattle.std.specs.List.{All}
-use Rattle.std.proofs.lemmas.Bool.{cases_eq}
-use Rattle.nr_model.specs.declared.calls.Call.{Call}
-use Rattle.nr_model.specs.declared.calls.Call.TheVariants.{Find, Ask, Fill, Update, Replace, Evict, Cancel}
-use Rattle.nr_model.specs.declared.calls.Reply.{Reply}
+use Rattle.std.proofs.Common.{◌≡◌, ◌<◌, ℕ, List, [], ◌∷◌, Option, Some, None}
+use Rattle.std.proofs.Common.{refl, sym, ap, ◌∙◌, subst, arith}
+use Rattle.nr_model.specs.declared.calls.Call.TheVariants.{Find}
 use Rattle.nr_model.specs.declared.calls.Reply.TheVariants as reply
 use Rattle.nr_model.specs.declared.rows.Row.{Row}
 use Rattle.nr_model.specs.declared.states.KeyState.{KeyState}
 use Rattle.nr_model.specs.declared.states.KeyState.TheVariants.{Hole, Asked, Rows}
-use Rattle.nr_model.specs.Histories.{Entry, after, entries_of}
-use Rattle.nr_model.specs.Maps.{call_key, filled_count, find_reply, state_after, state_of}
-use Rattle.nr_core.proofs.Histories.{state_other, state_same}
-use Rattle.nr_core.specs.Slots.{bound_of}
-use Rattle.nr_core.specs.Story.{entry, map_after}
-use Rattle.nr_core.specs.declared.shape.Shape.{Shape}
-use Rattle.nr_board.proofs.Entries.{callers_of_more}
-use Rattle.nr_board.specs.Callers.{Caller, Gains, Table, map_at_opening, map_seen}
-use Rattle.nr_board.specs.Entries.{AreCallers, is_reading}
+use Rattle.nr_model.specs.Maps.{filled_count, find_reply, state_of}
+use Rattle.nr_board.specs.Callers.{Caller, Gains, map_seen}
 use Rattle.nr_ids.specs.Answers.{FindsWay}
 use Rattle.nr_ids.proofs.Logs.{one_way}
 use Rattle.nr_idmap.specs.IdLooks.{LooksInWay}
 use Rattle.nr_idmap.specs.Keepers.{Agrees, IsTied, Keeper, OwesSame, name_at, state_at}
-use Rattle.nr_idmap.specs.Tags.{tag_of}
+use Rattle.nr_idmap.specs.Tags.{IdSet, id_set_of, tag_of}
 use Rattle.nr_cache.specs.Stamps as stamps
 use Rattle.nr_cache.specs.Stamps.{LooksAround, first_stamp, stamp_at, stamp_of}
 use Rattle.nr_cache.specs.Values.{BringsValues, values_in}
-use Rattle.nr_cache.proofs.Brought.{brings_one, brings_same, of_first, other_own}
-use Rattle.nr_cache.proofs.Filled.{IsWriter, Reads, find_counts, own_entry, readers_between, writer_still, writes}
+use Rattle.nr_cache.specs.Weights.{value_at}
+use Rattle.nr_cache.proofs.Brought.{brings_one, brings_same}
+use Rattle.nr_cache.proofs.Filled.{IsWriter, find_counts, writer_still, writes}
 use Rattle.nr_cache.proofs.Gone.{found_named, found_near}
 use Rattle.nr_cache.proofs.LastCalls.{found_has, last_call}
+use Rattle.nr_cache.proofs.Ways.{reading_values}
 
--- ONE KEY
-reading_stamp : (bound : ℕ) (call : Call) (state : KeyState) → is_reading call ≡ true
-    → stamp_of (state_after bound call state) ≡ stamp_of state
-reading_stamp bound (Find key) state reads = refl
-reading_stamp bound (Ask key) (Hole n) reads = refl
-reading_stamp bound (Ask key) (Asked n) reads = refl
-reading_stamp bound (Ask key) (Rows n rows) reads = refl
-reading_stamp bound (Fill key number rows) state reads = absurd (cc (reads))
-reading_stamp bound (Update key batch) state reads = absurd (cc (reads))
-reading_stamp bound (Replace key rows) state reads = absurd (cc (reads))
-reading_stamp bound (Evict key) state reads = absurd (cc (reads))
-reading_stamp bound (Cancel key) state reads = absurd (cc (reads))
+-- ONE STAMP
+abbrev stamp_told : Option IdSet → ℕ
+stamp_told None = 0
+stamp_told (Some set) = first_stamp set.rows
 
-entry_stamp : (shape : Shape) (log : List Entry) (e : Entry) (key : ℕ) → call_key e.call < shape.keys
-    → is_reading e.call ≡ true
-    → stamp_of (state_of (map_after shape (log ++ e ∷ [])) key) ≡ stamp_of (state_of (map_after shape log) key)
-entry_stamp shape log e key near reads = elim (cases_eq key (call_key e.call)) [
-  | inl same ↦
-      ap (λ (k : ℕ). stamp_of (state_of (map_after shape (log ++ e ∷ [])) k)) same
-      ∙ ap stamp_of (state_same shape log e near)
-      ∙ reading_stamp (bound_of shape) e.call (state_of (map_after shape log) (call_key e.call)) reads
-      ∙ ap (λ (k : ℕ). stamp_of (state_of (map_after shape log) k)) (sym same)
-  | inr other ↦ ap stamp_of (state_other shape log e key other)
-]
+-- a way's stamp is its value's
+stamp_is : (state : KeyState) → stamp_of state ≡ stamp_told (id_set_of state)
+stamp_is (Hole n) = refl
+stamp_is (Asked n) = refl
+stamp_is (Rows n []) = refl
+stamp_is (Rows n (tag ∷ rows)) = refl
 
-readers_stamps : (shape : Shape) (log more : List Entry) (key : ℕ) → AreCallers shape more
-    → All Reads (entries_of more 0)
-    → stamp_of (state_of (map_after shape (log ++ more)) key) ≡ stamp_of (state_of (map_after shape log) key)
-readers_stamps shape log [] key callers reads =
-    ap (λ (l : List Entry). stamp_of (state_of (map_after shape l) key)) (append-nil log)
-readers_stamps shape log (e ∷ more) key callers reads =
-    ap (λ (l : List Entry). stamp_of (state_of (map_after shape l) key)) (sym (append_assoc log (e ∷ []) more))
-    ∙ readers_stamps shape (log ++ e ∷ []) more key callers.1
-    (other_own Reads (e.caller == 0) e (entries_of more 0) reads)
-    ∙ entry_stamp shape log e key callers.0.0 (of_first Reads shape e more (λ it. it) callers.0 reads)
-
--- A FIND OF THE WRITER'S
-find_stamps : {steps way : ℕ} {answer : Reply} (old new : Caller) → IsWriter old
-    → Gains steps (Find way) old new answer → (key : ℕ)
-    → stamp_of (state_of (map_seen new) key) ≡ stamp_of (state_of (map_seen old) key)
-find_stamps {steps} {way} {answer} old new writer gains key =
-    let shape = old.table.shape in
-    let log = old.seen ++ gains.between in
-    let last = entry old.number (Find way) answer in
-    let readers = readers_between steps (last ∷ []) old new writer (own_entry old.number (Find way) answer) gains in
-    let here = callers_of_more shape log (last ∷ []) (subst (AreCallers shape) gains.seen gains.callers) in
-    ap (λ (t : Table). stamp_of (state_of (after (map_at_opening t) new.seen) key)) gains.table
-    ∙ ap (λ (l : List Entry). stamp_of (state_of (map_after shape l) key)) gains.seen
-    ∙ entry_stamp shape log last key here.0.0 refl
-    ∙ readers_stamps shape old.seen gains.between key readers.0 readers.1
+stamps_same : (old new : Keeper) → ((key : ℕ) → value_at new key ≡ value_at old key) → (key : ℕ)
+    → stamp_at new key ≡ stamp_at old key
+stamps_same old new values key =
+    stamp_is (state_at new key) ∙ ap stamp_told (values key) ∙ sym (stamp_is (state_at old key))
 
 -- LOOKS
 -- they leave what the store holds
@@ -90,6 +47,7 @@ pub record Leaves (old new : Keeper) : Type 0 where
   pub owes : OwesSame old new
   pub asker : new.asker ≡ old.asker
   pub values : values_in new ≡ values_in old
+  pub sets : (key : ℕ) → value_at new key ≡ value_at old key
   pub stamps : (key : ℕ) → stamp_at new key ≡ stamp_at old key
   pub brings : BringsValues old → BringsValues new
 
@@ -100,6 +58,7 @@ rested old new writer same owes asker = record {
   owes = owes;
   asker = asker;
   values = ap (λ (w : Caller). filled_count (map_seen w)) same;
+  sets = λ key. ap (λ (w : Caller). id_set_of (state_of (map_seen w) key)) same;
   stamps = λ key. ap (λ (w : Caller). stamp_of (state_of (map_seen w) key)) same;
   brings = brings_same old new same;
 }
@@ -110,6 +69,7 @@ then_leaves old mid new first more = record {
   owes = λ way. more.owes way ∙ first.owes way;
   asker = more.asker ∙ first.asker;
   values = more.values ∙ first.values;
+  sets = λ key. more.sets key ∙ first.sets key;
   stamps = λ key. more.stamps key ∙ first.stamps key;
   brings = λ brings. more.brings (first.brings brings);
 }
@@ -123,7 +83,8 @@ around_leaves writer (stamps.Finds steps way answer old mid new before undone ga
       owes = owes;
       asker = asker;
       values = find_counts mid.writer new.writer first.writer gains;
-      stamps = λ key. find_stamps mid.writer new.writer first.writer gains key;
+      sets = λ key. reading_values mid.writer new.writer first.writer gains refl key;
+      stamps = stamps_same mid new (λ key. reading_values mid.writer new.writer first.writer gains refl key);
       brings = λ brings. brings_one mid.writer new.writer gains tt brings;
     })
 around_leaves writer (stamps.ThenStays old mid new before stays) =

@@ -2,7 +2,6 @@
 use Rattle.std.proofs.Common.{◌≡◌, ℕ, Bool, true, false, List, [], ◌∷◌, ◌++◌, Option, Some, None, inl, inr, sym, ap}
 use Rattle.std.proofs.Common.{subst}
 use Rattle.nr_model.specs.declared.rows.Row.{Row}
-use Rattle.nr_idmap.specs.Keepers.{Keeper}
 use Rattle.nr_map.specs.GivenBack as map
 use Rattle.nr_map.specs.GivenBack.{EachSetComesOutOnce}
 use Rattle.nr_map.specs.Remains.{Given}
@@ -15,17 +14,18 @@ use Rattle.nr_cache.specs.Histories.{AllInvalidated, Began, ChangeBegan, ChangeE
 use Rattle.nr_cache.specs.Histories as flights
 use Rattle.nr_cache.specs.Moves.{Moves}
 use Rattle.nr_cache.specs.Moves as quiet
-use Rattle.nr_cache.specs.StoreSeen.{StoreSeen}
+use Rattle.nr_cache.specs.StoreSeen.{StoreSeen, stock_in}
 use Rattle.nr_cache.specs.StoreRuns as runs
 use Rattle.nr_cache.specs.StoreRuns.{Calls, EachValueComesOutOnce, HoldsFresh, StoreRun, StoresInOrder, began_by}
 use Rattle.nr_cache.specs.StoreRuns.{changed_by, ended_by}
 use Rattle.nr_cache.specs.Stores.{BeginsFlight, ChangesId, LandsOwn, Looks, OnlyLooksUp, PutsOwn}
 use Rattle.nr_cache.specs.Swaps.{FindsOld}
+use Rattle.nr_cache.specs.Weights.{Stock}
 use Rattle.nr_cache.proofs.InOrder.{each_flight_ends_once_lem, held_is_fresh_lem}
 use Rattle.nr_cache.proofs.AllGone.{each_quiet}
 use Rattle.nr_cache.proofs.GoingFirst.{first_quiet}
 use Rattle.nr_cache.proofs.LookingAt.{look_quiet}
-use Rattle.nr_cache.proofs.Placing.{counts_quiet, no_place_quiet, takes_quiet}
+use Rattle.nr_cache.proofs.Placing.{counts_quiet, loses_quiet, no_place_quiet}
 use Rattle.nr_cache.proofs.Quiets.{goes_on_lem, moves_then, quiet_moves, quiet_same}
 
 -- the flights after it, and the map's writer
@@ -78,26 +78,26 @@ module _ {Room : Type 0} (shows : Room → List Row → Type 0) where
       → flights.Run history old.underway → Calls shows old events more out new → flights.Run (events ++ history)
       new.underway
   loads history run (runs.Begins id mark old new answer begins) = begun_loads history id mark old new answer run begins
-  loads history run (runs.LandsIt number stamp value bound old new before room given lands) =
+  loads history run (runs.LandsIt number stamp value weight bound old new before room given lands) =
       one history (Ended lands.flight) old.underway new.underway run (number, lands.ends)
-  loads history run (runs.LandsNone number old new before room lands) =
+  loads history run (runs.LandsNone number weight old new before room lands) =
       ended_loads history number lands.found old.underway new.underway run lands.ends
   loads history run (runs.FailsIt number old new found fails) =
       ended_loads history number found old.underway new.underway run fails.ends
   loads history run (runs.InvalidatesIt id old new had does) =
       one history (Invalidated id) old.underway new.underway run (does.found, does.outdates)
-  loads history run (runs.PutsIt id stamp value bound old new before room given puts) =
+  loads history run (runs.PutsIt id stamp value weight bound old new before room given puts) =
       one history (Invalidated id) old.underway new.underway run (puts.found, puts.outdates)
-  loads history run (runs.PutsNone id old new before room puts) =
+  loads history run (runs.PutsNone id weight old new before room puts) =
       one history (Invalidated id) old.underway new.underway run (puts.found, puts.outdates)
   loads history run (runs.ChangeBegins id old new told does) = changed_loads history id old new told run does
   loads history run (runs.ChangeEnds id old new ends rest) =
       one history (ChangeEnded id) old.underway new.underway run ends
   loads history run (runs.LooksIt id old new found looks) =
       none history old.underway new.underway run looks.1
-  loads history run (runs.SwapsIt id was stamp value old new before room given swaps) =
+  loads history run (runs.SwapsIt id was stamp value weight bound old new before room given swaps) =
       swapped_loads history id was old swaps.mid new swaps.finds run swaps.puts.found swaps.puts.outdates
-  loads history run (runs.SwapsNone id was old new before room swaps) =
+  loads history run (runs.SwapsNone id was weight old new before room swaps) =
       swapped_loads history id was old swaps.mid new swaps.finds run swaps.puts.found swaps.puts.outdates
   loads history run (runs.EvictsIt id old new had evicts) =
       none history old.underway new.underway run evicts.rest.0
@@ -131,22 +131,24 @@ module _ {Room : Type 0} (shows : Room → List Row → Type 0) where
   begun_sets id mark old new begun.Held begins = looks id old new (Some begins.3) begins.4
   begun_sets id mark old new begun.Alone begins = looks id old new None begins.4
 
-  own_sets : (number : ℕ) (old new : StoreSeen) (before room : Room) → LandsOwn shows number old before new room
+  own_sets : (number weight : ℕ) (old new : StoreSeen) (before room : Room)
+      → LandsOwn shows number weight old before new room
       → Moves shows old.keeper.writer [] [] new.keeper.writer
-  own_sets number old new before room lands = elim lands.why [
+  own_sets number weight old new before room lands = elim lands.why [
     | inl late ↦
         quiet_moves shows
-        (quiet_same old.keeper.writer new.keeper.writer (ap (λ (k : Keeper). k.writer) late.1))
-    | inr (flight, found, fated, place) ↦
-        quiet_moves shows (no_place_quiet flight.id old.keeper old.asker new.keeper new.asker place)
+        (quiet_same old.keeper.writer new.keeper.writer (ap (λ (s : Stock). s.keeper.writer) late.1))
+    | inr (flight, found, fated, light, place) ↦
+        quiet_moves shows (no_place_quiet flight.id (stock_in old) old.asker (stock_in new) new.asker place)
   ]
 
-  put_own_sets : (id : ℕ) (old new : StoreSeen) (before room : Room) → PutsOwn shows id old before new room
+  put_own_sets : (id weight : ℕ) (old new : StoreSeen) (before room : Room)
+      → PutsOwn shows id weight old before new room
       → Moves shows old.keeper.writer [] [] new.keeper.writer
-  put_own_sets id old new before room puts =
+  put_own_sets id weight old new before room puts =
       elim puts.why [
-        | inl changed ↦ quiet_moves shows (takes_quiet id old.keeper new.keeper changed.1.0 changed.1.1)
-        | inr place ↦ quiet_moves shows (no_place_quiet id old.keeper old.asker new.keeper new.asker place.1)
+        | inl changed ↦ quiet_moves shows (loses_quiet id old.keeper new.keeper changed.1.0 changed.1.1)
+        | inr place ↦ quiet_moves shows (no_place_quiet id (stock_in old) old.asker (stock_in new) new.asker place.2)
       ]
 
   looked_sets : (id : ℕ) (old new : StoreSeen) (found : Option FoundValue) → Looks id old new found
@@ -156,25 +158,25 @@ module _ {Room : Type 0} (shows : Room → List Row → Type 0) where
   sets : {old new : StoreSeen} {events : List Event} {more : List (List Row)} {out : List Given}
       → Calls shows old events more out new → Moves shows old.keeper.writer more out new.keeper.writer
   sets (runs.Begins id mark old new answer begins) = begun_sets id mark old new answer begins
-  sets (runs.LandsIt number stamp value bound old new before room given lands) = lands.holds.moves
-  sets (runs.LandsNone number old new before room lands) = own_sets number old new before room lands
+  sets (runs.LandsIt number stamp value weight bound old new before room given lands) = lands.holds.moves
+  sets (runs.LandsNone number weight old new before room lands) = own_sets number weight old new before room lands
   sets (runs.FailsIt number old new found fails) = rests old new fails.rest
   sets (runs.InvalidatesIt id old new had does) =
-      quiet_moves shows (takes_quiet id old.keeper new.keeper had does.takes)
-  sets (runs.PutsIt id stamp value bound old new before room given puts) = puts.holds.moves
-  sets (runs.PutsNone id old new before room puts) = put_own_sets id old new before room puts
+      quiet_moves shows (loses_quiet id old.keeper new.keeper had does.takes)
+  sets (runs.PutsIt id stamp value weight bound old new before room given puts) = puts.holds.moves
+  sets (runs.PutsNone id weight old new before room puts) = put_own_sets id weight old new before room puts
   sets (runs.ChangeBegins id old new told does) = rests old new does.rest
   sets (runs.ChangeEnds id old new ends rest) = rests old new rest
   sets (runs.LooksIt id old new found looks) = looked_sets id old new found looks
-  sets (runs.SwapsIt id was stamp value old new before room given swaps) =
+  sets (runs.SwapsIt id was stamp value weight bound old new before room given swaps) =
       moves_then shows (looked_sets id old swaps.mid (Some swaps.finds.found) swaps.finds.looks) swaps.puts.holds.moves
-  sets (runs.SwapsNone id was old new before room swaps) =
+  sets (runs.SwapsNone id was weight old new before room swaps) =
       moves_then shows (looked_sets id old swaps.mid (Some swaps.finds.found) swaps.finds.looks)
-      (put_own_sets id swaps.mid new before room swaps.puts)
+      (put_own_sets id weight swaps.mid new before room swaps.puts)
   sets (runs.EvictsIt id old new had evicts) =
-      quiet_moves shows (takes_quiet id old.keeper new.keeper had evicts.takes)
+      quiet_moves shows (loses_quiet id old.keeper new.keeper had evicts.takes)
   sets (runs.EvictsFirst bound old new given evicts) =
-      quiet_moves shows (first_quiet old.hand bound old.keeper new.keeper given evicts.takes)
+      quiet_moves shows (first_quiet bound (stock_in old) (stock_in new) given evicts.takes)
   sets (runs.InvalidatesEach old new does) = quiet_moves shows (each_quiet does.takes)
   sets (runs.CountsIt old new counts does) =
       quiet_moves shows (counts_quiet old.keeper new.keeper counts.values does.values)
@@ -198,7 +200,7 @@ module _ {Room : Type 0} (shows : Room → List Row → Type 0) where
       run).loads
 
   pub holds_fresh_lem : HoldsFresh shows
-  holds_fresh_lem history put given number stamp value bound old new before room some run lands =
+  holds_fresh_lem history put given number stamp value weight bound old new before room some run lands =
       held_is_fresh_lem history old.underway new.underway lands.flight (run_goes run).loads (number, lands.ends)
       lands.fated
 

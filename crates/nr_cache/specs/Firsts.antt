@@ -1,32 +1,34 @@
--- One value goes, whichever goes first: for a caller that counts something else than values, as what they weigh.
+-- One value goes, whichever goes first, where its caller wants room.
 use Rattle.std.specs.Prelude.{◌≡◌, ◌<◌, ℕ, Option, Some, None, true}
-use Rattle.nr_idmap.specs.Keepers.{Keeper, name_at}
+use Rattle.nr_idmap.specs.Keepers.{Keeper}
 use Rattle.nr_cache.specs.declared.given.GivenValue.{GivenValue}
-use Rattle.nr_cache.specs.Places.{IsGone, LooksAtValue, TakesValue}
-use Rattle.nr_cache.specs.Stamps.{GoesFirst, LooksAround}
-use Rattle.nr_cache.specs.StoreSeen.{StoreSeen}
+use Rattle.nr_cache.specs.Places.{IsGone, IsOther, LooksAtValue, TakesValue}
+use Rattle.nr_cache.specs.Stamps.{GoesNext, LooksAround}
+use Rattle.nr_cache.specs.StoreSeen.{StoreSeen, stock_in}
 use Rattle.nr_cache.specs.Values.{values_in}
+use Rattle.nr_cache.specs.Weights.{Lightens, Stock}
 
 -- the value of a way that goes first was looked at, and is evicted; no way is a newcomer's
-pub record TakesFirst (hand bound : ℕ) (old new : Keeper) (given : GivenValue) : Type 0 where
+pub record TakesFirst (bound : ℕ) (old new : Stock) (given : GivenValue) : Type 0 where
   pub mid : Keeper
-  pub looks : LooksAround old mid
+  pub looks : LooksAround old.keeper mid
   pub way : ℕ
-  pub has : name_at mid way ≡ given.id
-  pub real : 0 < given.id
-  pub first : GoesFirst hand bound mid.table.map.shape.keys mid way
+  pub has : IsOther mid.table.map.shape.keys way given.id mid
+  pub next : GoesNext bound mid.table.map.shape.keys old.hand new.hand way mid
   pub seen : Keeper
   pub tells : LooksAtValue given.id mid seen (Some (record { stamp = given.stamp; value = given.value }))
-  pub takes : TakesValue given.id seen new true
-  pub gone : IsGone given.id new
-  pub fewer : values_in new < values_in old
+  pub takes : TakesValue given.id seen new.keeper true
+  pub lightens : Lightens old.keeper old.load new.keeper new.load
+  pub gone : IsGone given.id new.keeper
+  pub fewer : values_in new.keeper < values_in old.keeper
 
 -- or there is none
-abbrev pub TakesFirstOrNone : ℕ → ℕ → Keeper → Keeper → Option GivenValue → Type 0
-TakesFirstOrNone hand bound old new (Some given) = TakesFirst hand bound old new given
-TakesFirstOrNone hand bound old new None = LooksAround old new × ((id : ℕ) → IsGone id new)
+abbrev pub TakesFirstOrNone : ℕ → Stock → Stock → Option GivenValue → Type 0
+TakesFirstOrNone bound old new (Some given) = TakesFirst bound old new given
+TakesFirstOrNone bound old new None =
+    LooksAround old.keeper new.keeper × ((id : ℕ) → IsGone id new.keeper) × (new.load ≡ old.load)
 
 -- the flights stay
 pub record EvictsOne (bound : ℕ) (old new : StoreSeen) (given : Option GivenValue) : Type 0 where
-  pub takes : TakesFirstOrNone old.hand bound old.keeper new.keeper given
+  pub takes : TakesFirstOrNone bound (stock_in old) (stock_in new) given
   pub rest : (new.underway ≡ old.underway) × (new.asker ≡ old.asker) × (new.capacity ≡ old.capacity)

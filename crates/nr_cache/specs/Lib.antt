@@ -3,6 +3,7 @@ pub mod Histories
 pub mod StoreSeen
 pub mod Moves
 pub mod Values
+pub mod Weights
 pub mod Stamps
 pub mod Places
 pub mod Stores

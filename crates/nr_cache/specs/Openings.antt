@@ -8,6 +8,7 @@ use Rattle.nr_cache.specs.declared.shape.StoreShape.{StoreShape}
 use Rattle.nr_cache.specs.declared.shape.TheConstants.{MAX_STORE_GROUPS, MAX_STORE_READERS}
 use Rattle.nr_cache.specs.Flights.{none_under_way}
 use Rattle.nr_cache.specs.StoreSeen.{StoreSeen}
+use Rattle.nr_cache.specs.Weights.{no_load}
 
 -- no more values than the groups hold, eight each
 abbrev pub IsBadStoreShape : StoreShape → Type 0
@@ -26,9 +27,11 @@ ids_of shape =
       first_number = 0;
     }
 
--- the map is new, the store has its writer and the last of its readers, nothing is under way, and there may be so many
--- values
+-- the map is new, the store has its writer and the last of its readers, nothing is under way or weighs anything, and
+-- there may be so many values
 pub record OpensStore (shape : StoreShape) (map : IdTable) (store : StoreSeen) (readers : List IdCaller) : Type 0 where
   pub opens : OpensIds (ids_of shape) map store.keeper (readers ++ store.asker ∷ [])
   pub nothing : store.underway ≡ none_under_way shape.flights shape.changes
   pub bound : store.capacity ≡ shape.capacity
+  pub hand : store.hand ≡ 0
+  pub weighs : store.load ≡ no_load shape.weight map.map.shape.keys

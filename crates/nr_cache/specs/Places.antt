@@ -22,9 +22,12 @@ use Rattle.nr_idmap.specs.Keepers.{IdCaller, Keeper, Owed, OwesSame, Sent, name_
 use Rattle.nr_idmap.specs.Tags.{IsResident, tag_of}
 use Rattle.nr_map.specs.Remains.{Given}
 use Rattle.nr_cache.specs.declared.finds.FoundValue.{FoundValue}
+use Rattle.nr_cache.specs.declared.store.Landed.{Landed}
+use Rattle.nr_cache.specs.declared.store.Landed.TheVariants as landed
 use Rattle.nr_cache.specs.Moves.{Moves, ShowsGiven}
-use Rattle.nr_cache.specs.Stamps.{GoesFirst, Limits, LooksAround}
+use Rattle.nr_cache.specs.Stamps.{GoesNext, LooksAround}
 use Rattle.nr_cache.specs.Values.{row_of, set_of, values_in}
+use Rattle.nr_cache.specs.Weights.{Fits, Lightens, Stock, value_at, weighs_at}
 
 -- in all that the writer has seen the id has a value, or has none
 abbrev pub HasValue : ℕ → Keeper → Type 0
@@ -42,6 +45,10 @@ pub record OwesOnly (owed : Owed) (keeper : Keeper) : Type 0 where
   pub stands : owed_at keeper owed.way ≡ Some owed
   pub others : (way : ℕ) → way ≢ owed.way → owed_at keeper way ≡ None
 
+-- nor is one of another way than this one
+abbrev pub OwesNoneBut : ℕ → Keeper → Type 0
+OwesNoneBut taken keeper = (way : ℕ) → way ≢ taken → owed_at keeper way ≡ None
+
 -- the id was looked up, and else nothing happened
 abbrev pub LooksUp : ℕ → Keeper → Keeper → Option ℕ → Type 0
 LooksUp id old new way = FindsWay id old.clerk new.clerk way × StaysButClerk old new
@@ -58,6 +65,23 @@ LooksAtValue id old new None = LooksUp id old new None × IsGone id new
 abbrev pub TakesValue : ℕ → Keeper → Keeper → Bool → Type 0
 TakesValue id old new true = HasValue id old × EvictsId id old new evict.Evicted × (new.asker ≡ old.asker)
 TakesValue id old new false = IsGone id old × EvictsId id old new evict.Nothing × (new.asker ≡ old.asker)
+
+-- the id was looked up, and loses its value, or it had none
+pub record FindsAndTakes (id : ℕ) (old new : Keeper) : Type 0 where
+  pub way : ℕ
+  pub mid : Keeper
+  pub looks : LooksUp id old mid (Some way)
+  pub takes : TakesValue id mid new true
+
+abbrev pub Loses : ℕ → Keeper → Keeper → Bool → Type 0
+Loses id old new true = FindsAndTakes id old new
+Loses id old new false = LooksUp id old new None × IsGone id old
+
+-- no way has the id's name any more, and none got one
+pub record Unnames (id : ℕ) (old new : Keeper) : Type 0 where
+  pub directory : new.clerk.directory ≡ old.clerk.directory
+  pub gone : (way : ℕ) → name_at old way ≡ id → name_at new way ≡ 0
+  pub before : (way name : ℕ) → 0 < name → name_at new way ≡ name → name_at old way ≡ name
 
 -- the id that has the way, if one has, loses its value
 abbrev pub TakesFrom : Option ℕ → Keeper → Keeper → Type 0
@@ -84,28 +108,29 @@ pub record MakesRoom (id : ℕ) (old new : Keeper) : Type 0 where
   pub mid : Keeper
   pub chooses : ChoosesId id old.clerk mid.clerk (Some victim)
   pub stays : StaysButClerk old mid
-  pub takes : TakesValue victim mid new true
+  pub takes : Loses victim mid new true
 
 -- an id has another way than this one, or none has
 abbrev pub IsOther : ℕ → ℕ → ℕ → Keeper → Type 0
 IsOther taken way id keeper = (way ≢ taken) × (name_at keeper way ≡ id) × (0 < id)
 
-abbrev pub HasOther : ℕ → ℕ → Keeper → Type 0
-HasOther taken id keeper = (way : ℕ) × IsOther taken way id keeper
-
 abbrev pub HasNoOther : ℕ → Keeper → Type 0
 HasNoOther taken keeper = (way : ℕ) → way < keeper.table.map.shape.keys → way ≢ taken → name_at keeper way ≡ 0
 
--- the value of another id is evicted, whichever it is, but a stale one where one was met
-pub record LetsOneGo (limits : Limits) (newcomer : Owed) (old new : Keeper) : Type 0 where
-  pub victim : ℕ
-  pub other : victim ≢ newcomer.id
-  pub mid : Keeper
-  pub looks : LooksAround old mid
+-- no other way has a value
+abbrev pub HoldsNoOther : ℕ → Keeper → Type 0
+HoldsNoOther taken keeper = (way : ℕ) → way ≢ taken → value_at keeper way ≡ None
+
+-- the value of another way is evicted, whichever it is, but the first stale one where one was met
+pub record LetsOneGo (bound taken : ℕ) (old new : Stock) : Type 0 where
   pub way : ℕ
-  pub has : name_at mid way ≡ victim
-  pub first : GoesFirst limits.hand limits.bound newcomer.way mid way
-  pub takes : TakesValue victim mid new true
+  pub victim : ℕ
+  pub mid : Keeper
+  pub looks : LooksAround old.keeper mid
+  pub has : IsOther taken way victim mid
+  pub next : GoesNext bound taken old.hand new.hand way mid
+  pub takes : TakesValue victim mid new.keeper true
+  pub lightens : Lightens old.keeper old.load new.keeper new.load
 
 -- the values were counted after the history so far, which the writer learnt
 pub record CountsValues (old new : Keeper) (count : ℕ) : Type 0 where
@@ -113,12 +138,22 @@ pub record CountsValues (old new : Keeper) (count : ℕ) : Type 0 where
   pub learns : Learns 1 old.writer new.writer
   pub rest : (new.clerk ≡ old.clerk) × (new.asker ≡ old.asker) × OwesSame old new
 
--- one goes where, and only where, there are as many as may be
-pub record KeepsWithin (limits : Limits) (newcomer : Owed) (old new : Keeper) : Type 0 where
+-- the values of other ways go, one after the other, and each only while so much is too heavy for this way
+pub data LightensFor (bound taken weight : ℕ) : Stock → Stock → Type 0 where
+  NoneGoes : (stock : Stock) → LightensFor bound taken weight stock stock
+  OneMoreGoes : (old mid new : Stock) → LightensFor bound taken weight old mid → (Fits taken weight mid.load → ⊥)
+      → LetsOneGo bound taken mid new → LightensFor bound taken weight old new
+
+-- one goes where, and only where, there are as many as may be; and then others, until so much fits
+pub record KeepsWithin (capacity bound taken weight : ℕ) (old new : Stock) : Type 0 where
   pub count : ℕ
-  pub mid : Keeper
-  pub counts : CountsValues old mid count
-  pub goes : ((count < limits.capacity) × (new ≡ mid)) ⊎ ((limits.capacity ≤ count) × LetsOneGo limits newcomer mid new)
+  pub counted : Keeper
+  pub counts : CountsValues old.keeper counted count
+  pub fewer : Stock
+  pub goes : ((count < capacity) × (fewer ≡ record old { keeper = counted }))
+      ⊎ ((capacity ≤ count) × LetsOneGo bound taken (record old { keeper = counted }) fewer)
+  pub lightens : LightensFor bound taken weight fewer new
+  pub fits : Fits taken weight new.load
 
 -- IN
 -- the id's group is claimed by a request, or it wasn't to be had, since another reader has it or it is worn out
@@ -149,12 +184,18 @@ abbrev pub AdmitsOrNot : ℕ → Keeper → Keeper → Option Sent → Type 0
 AdmitsOrNot id old new answer = AdmitsAtOnce id old new answer ⊎ MakesRoomFirst id old new answer
 
 -- the id has no way, and gets none
-pub record HasNoPlace (id : ℕ) (old : Keeper) (asker : IdCaller) (new : Keeper) (asker' : IdCaller) : Type 0 where
+pub record LacksPlace (id : ℕ) (old : Stock) (asker : IdCaller) (new : Stock) (asker' : IdCaller) : Type 0 where
+  pub why : (ClaimsOr id asker asker' false × (new.keeper ≡ old.keeper))
+      ⊎ (ClaimsOr id asker asker' true × AdmitsOrNot id old.keeper new.keeper None)
+  pub gone : IsGone id new.keeper
+  pub lightens : Lightens old.keeper old.load new.keeper new.load
+  pub hand : new.hand ≡ old.hand
+
+-- once it was looked up
+pub record HasNoPlace (id : ℕ) (old : Stock) (asker : IdCaller) (new : Stock) (asker' : IdCaller) : Type 0 where
   pub mid : Keeper
-  pub absent : LooksUp id old mid None
-  pub why : (ClaimsOr id asker asker' false × (new ≡ mid))
-      ⊎ (ClaimsOr id asker asker' true × AdmitsOrNot id mid new None)
-  pub gone : IsGone id new
+  pub absent : LooksUp id old.keeper mid None
+  pub lacks : LacksPlace id (record old { keeper = mid }) asker new asker'
 
 module _ {Room : Type 0} (shows : Room → List Row → Type 0) where
   -- the call of the map that puts the row in place of what the id has
@@ -165,32 +206,61 @@ module _ {Room : Type 0} (shows : Room → List Row → Type 0) where
       ReplacesReclaiming shows way (tag_of id ∷ row ∷ []) o before n after r)
       id old new answer
 
-  -- the row takes the place of what the id has
-  pub record TakesPlace (id : ℕ) (row : Row) (old : Keeper) (asker : IdCaller) (before : Room) (new : Keeper)
+  -- the row takes the place of what the id's way has, once others went as long as it was too heavy there
+  pub record ReplacesAt (bound weight way id : ℕ) (row : Row) (old : Stock) (before : Room) (new : Stock) (after : Room)
+      (given : Reclaimed) : Type 0 where
+    pub roomy : Stock
+    pub lightens : LightensFor bound way weight old roomy
+    pub fits : Fits way weight roomy.load
+    pub replaces : Replaces id row roomy.keeper before new.keeper after (Ok given)
+    pub has : IsResident (map_seen new.keeper.writer) id (row ∷ [])
+    pub weighs : new.load ≡ weighs_at way weight roomy.load
+    pub still : (new.keeper.asker ≡ old.keeper.asker) × (new.hand ≡ roomy.hand)
+
+  pub record TakesPlace (bound weight id : ℕ) (row : Row) (old : Stock) (asker : IdCaller) (before : Room) (new : Stock)
       (asker' : IdCaller) (after : Room) (given : Reclaimed) : Type 0 where
-    pub replaces : Replaces id row old before new after (Ok given)
-    pub still : (new.asker ≡ old.asker) × (asker' ≡ asker)
-
-  -- or the id, which has no way, gets one with its row, for which another's goes where there are as many as may be
-  pub record GetsPlace (limits : Limits) (id : ℕ) (row : Row) (old : Keeper) (asker : IdCaller) (before : Room)
-      (new : Keeper) (asker' : IdCaller) (after : Room) (given : Reclaimed) : Type 0 where
+    pub way : ℕ
     pub mid : Keeper
-    pub absent : LooksUp id old mid None
-    pub claims : ClaimsOr id asker asker' true
-    pub late : Keeper
-    pub sent : Sent
-    pub admits : AdmitsOrNot id mid late (Some sent)
-    pub roomy : Keeper
-    pub keeps : KeepsWithin limits sent.owed late roomy
-    pub fills : FillsAndGives shows sent.owed (row ∷ []) roomy before new after given
-    pub stays : new.asker ≡ roomy.asker
+    pub finds : LooksUp id old.keeper mid (Some way)
+    pub replaces : ReplacesAt bound weight way id row (record old { keeper = mid }) before new after given
+    pub asks : asker' ≡ asker
 
-  -- it has the row then; one set was put, and one that nobody can see any more may have come out
-  pub record Holds (limits : Limits) (id : ℕ) (row : Row) (old : Keeper) (asker : IdCaller) (before : Room)
-      (new : Keeper) (asker' : IdCaller) (after : Room) (given : Reclaimed) : Type 0 where
-    pub how : TakesPlace id row old asker before new asker' after given
-        ⊎ GetsPlace limits id row old asker before new asker' after given
-    pub has : IsResident (map_seen new.writer) id (row ∷ [])
+  -- an id that has no way gets one with its row, for which another's goes where there are as many as may be, and
+  -- others' as long as it is too heavy
+  pub record FillsPlace (capacity bound weight id : ℕ) (row : Row) (old : Stock) (asker : IdCaller) (before : Room)
+      (new : Stock) (asker' : IdCaller) (after : Room) (given : Reclaimed) : Type 0 where
+    pub claims : ClaimsOr id asker asker' true
+    pub late : Stock
+    pub sent : Sent
+    pub admits : AdmitsOrNot id old.keeper late.keeper (Some sent)
+    pub lightens : Lightens old.keeper old.load late.keeper late.load
+    pub roomy : Stock
+    pub keeps : KeepsWithin capacity bound sent.owed.way weight late roomy
+    pub fills : FillsAndGives shows sent.owed (row ∷ []) roomy.keeper before new.keeper after given
+    pub has : IsResident (map_seen new.keeper.writer) id (row ∷ [])
+    pub weighs : new.load ≡ weighs_at sent.owed.way weight roomy.load
+    pub stays : (new.keeper.asker ≡ roomy.keeper.asker) × (late.hand ≡ old.hand) × (new.hand ≡ roomy.hand)
+
+  pub record GetsPlace (capacity bound weight id : ℕ) (row : Row) (old : Stock) (asker : IdCaller) (before : Room)
+      (new : Stock) (asker' : IdCaller) (after : Room) (given : Reclaimed) : Type 0 where
+    pub mid : Keeper
+    pub absent : LooksUp id old.keeper mid None
+    pub fills : FillsPlace capacity bound weight id row (record old { keeper = mid }) asker before new asker' after
+        given
+
+  -- it has one, or doesn't get it
+  abbrev pub Enters : ℕ → ℕ → ℕ → ℕ → Row → Stock → IdCaller → Room → Stock → IdCaller → Room → Landed → Type 0
+  Enters capacity bound weight id row old asker before new asker' after (landed.Held given) =
+      FillsPlace capacity bound weight id row old asker before new asker' after given
+  Enters capacity bound weight id row old asker before new asker' after landed.Own =
+      LacksPlace id old asker new asker' × (after ≡ before)
+
+  -- a row takes a place or gets one; one set was put, and one that nobody can see any more may have come out
+  pub record Holds (capacity bound weight id : ℕ) (row : Row) (old : Stock) (asker : IdCaller) (before : Room)
+      (new : Stock) (asker' : IdCaller) (after : Room) (given : Reclaimed) : Type 0 where
+    pub how : TakesPlace bound weight id row old asker before new asker' after given
+        ⊎ GetsPlace capacity bound weight id row old asker before new asker' after given
+    pub has : IsResident (map_seen new.keeper.writer) id (row ∷ [])
     pub out : List Given
-    pub moves : Moves shows old.writer ((tag_of id ∷ row ∷ []) ∷ []) out new.writer
+    pub moves : Moves shows old.keeper.writer ((tag_of id ∷ row ∷ []) ∷ []) out new.keeper.writer
     pub gives : ShowsGiven shows out after given

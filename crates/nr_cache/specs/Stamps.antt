@@ -1,5 +1,5 @@
 -- The stamps of values, and a choice of one that is below a bound.
-use Rattle.std.specs.Prelude.{◌≡◌, ◌≢◌, ◌+◌, ◌<◌, ◌≤◌, ◌⊎◌, ℕ, false, List, [], ◌∷◌}
+use Rattle.std.specs.Prelude.{◌≡◌, ◌≢◌, ◌+◌, ◌<◌, ◌≤◌, ◌⊎◌, ℕ, false, if◌then◌else◌, nat_lt, List, [], ◌∷◌}
 use Rattle.nr_model.specs.declared.rows.Row.{Row}
 use Rattle.nr_model.specs.declared.calls.Call.TheVariants.{Find}
 use Rattle.nr_model.specs.declared.calls.Reply.{Reply}
@@ -33,21 +33,30 @@ stamp_at keeper way = stamp_of (state_at keeper way)
 abbrev pub IsStale : ℕ → ℕ → Type 0
 IsStale bound stamp = (0 < stamp) × (stamp < bound)
 
--- how many values there may be, the way at which a choice begins, and the bound of stamps that go first
-pub record Limits : Type 0 where
-  pub capacity : ℕ
-  pub hand : ℕ
-  pub bound : ℕ
-
 -- of the next eight ways from the hand on none but the newcomer's has a stale value
 abbrev pub NoneIsStale : ℕ → ℕ → ℕ → Keeper → Type 0
 NoneIsStale hand bound taken keeper =
     (way : ℕ) → hand ≤ way → way < hand + 8 → way < keeper.table.map.shape.keys → way ≢ taken
     → IsStale bound (stamp_at keeper way) → ⊥
 
--- the way's value is stale, or none of those is
-abbrev pub GoesFirst : ℕ → ℕ → ℕ → Keeper → ℕ → Type 0
-GoesFirst hand bound taken keeper way = IsStale bound (stamp_at keeper way) ⊎ NoneIsStale hand bound taken keeper
+-- the way's is the first of them that is
+pub record IsFirstStale (hand bound taken : ℕ) (keeper : Keeper) (way : ℕ) : Type 0 where
+  pub from : hand ≤ way
+  pub near : way < hand + 8
+  pub inside : way < keeper.table.map.shape.keys
+  pub other : way ≢ taken
+  pub stale : IsStale bound (stamp_at keeper way)
+  pub first : (before : ℕ) → hand ≤ before → before < way → before ≢ taken → IsStale bound (stamp_at keeper before) → ⊥
+
+-- the way that comes so many after this one, or the first
+abbrev pub way_after : ℕ → ℕ → ℕ → ℕ
+way_after way count ways = if nat_lt (way + count) ways then way + count else 0
+
+-- the first stale value's way goes, and the hand stays; or none is stale, and the hand goes on by the eight ways
+abbrev pub GoesNext : ℕ → ℕ → ℕ → ℕ → ℕ → Keeper → Type 0
+GoesNext bound taken hand hand' way keeper =
+    (IsFirstStale hand bound taken keeper way × (hand' ≡ hand))
+    ⊎ (NoneIsStale hand bound taken keeper × (hand' ≡ way_after hand 8 keeper.table.map.shape.keys))
 
 -- the writer looked at ways, at their values each by a find of its own, and else nothing happened
 pub data LooksAround : Keeper → Keeper → Type 0 where

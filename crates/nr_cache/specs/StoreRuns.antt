@@ -42,20 +42,20 @@ module _ {Room : Type 0} (shows : Room → List Row → Type 0) where
   pub data Calls : StoreSeen → List Event → List (List Row) → List Given → StoreSeen → Type 0 where
     Begins : (id mark : ℕ) (old new : StoreSeen) (answer : Begun) → BeginsFlight id mark old new answer
         → Calls old (began_by answer) [] [] new
-    LandsIt : (number stamp value bound : ℕ) (old new : StoreSeen) (before room : Room) (given : Reclaimed)
-        → (lands : LandsHeld shows number stamp value bound old before new room given)
+    LandsIt : (number stamp value weight bound : ℕ) (old new : StoreSeen) (before room : Room) (given : Reclaimed)
+        → (lands : LandsHeld shows number stamp value weight bound old before new room given)
         → Calls old (Ended lands.flight ∷ []) (set_of lands.flight.id stamp value ∷ []) lands.holds.out new
-    LandsNone : (number : ℕ) (old new : StoreSeen) (before room : Room)
-        → (lands : LandsOwn shows number old before new room) → Calls old (ended_by lands.found) [] [] new
+    LandsNone : (number weight : ℕ) (old new : StoreSeen) (before room : Room)
+        → (lands : LandsOwn shows number weight old before new room) → Calls old (ended_by lands.found) [] [] new
     FailsIt : (number : ℕ) (old new : StoreSeen) (found : Option Flight) → Fails number old new found
         → Calls old (ended_by found) [] [] new
     InvalidatesIt : (id : ℕ) (old new : StoreSeen) (had : Bool) → Invalidates id old new had
         → Calls old (Invalidated id ∷ []) [] [] new
-    PutsIt : (id stamp value bound : ℕ) (old new : StoreSeen) (before room : Room) (given : Reclaimed)
-        → (puts : PutsHeld shows id stamp value bound old before new room given)
+    PutsIt : (id stamp value weight bound : ℕ) (old new : StoreSeen) (before room : Room) (given : Reclaimed)
+        → (puts : PutsHeld shows id stamp value weight bound old before new room given)
         → Calls old (Invalidated id ∷ []) (set_of id stamp value ∷ []) puts.holds.out new
-    PutsNone : (id : ℕ) (old new : StoreSeen) (before room : Room) → PutsOwn shows id old before new room
-        → Calls old (Invalidated id ∷ []) [] [] new
+    PutsNone : (id weight : ℕ) (old new : StoreSeen) (before room : Room)
+        → PutsOwn shows id weight old before new room → Calls old (Invalidated id ∷ []) [] [] new
     ChangeBegins : (id : ℕ) (old new : StoreSeen) (told : Bool) → ChangesId id old new told
         → Calls old (changed_by id told) [] [] new
     ChangeEnds : (id : ℕ) (old new : StoreSeen) → EndsChange id old.underway new.underway true
@@ -63,11 +63,11 @@ module _ {Room : Type 0} (shows : Room → List Row → Type 0) where
     -- a look; a swap that found another value or none is one, and else it puts or takes what was looked at
     LooksIt : (id : ℕ) (old new : StoreSeen) (found : Option FoundValue) → Looks id old new found
         → Calls old [] [] [] new
-    SwapsIt : (id was stamp value : ℕ) (old new : StoreSeen) (before room : Room) (given : Reclaimed)
-        → (swaps : SwapsHeld shows id was stamp value old before new room given)
+    SwapsIt : (id was stamp value weight bound : ℕ) (old new : StoreSeen) (before room : Room) (given : Reclaimed)
+        → (swaps : SwapsHeld shows id was stamp value weight bound old before new room given)
         → Calls old (Invalidated id ∷ []) (set_of id stamp value ∷ []) swaps.puts.holds.out new
-    SwapsNone : (id was : ℕ) (old new : StoreSeen) (before room : Room) → SwapsOwn shows id was old before new room
-        → Calls old (Invalidated id ∷ []) [] [] new
+    SwapsNone : (id was weight : ℕ) (old new : StoreSeen) (before room : Room)
+        → SwapsOwn shows id was weight old before new room → Calls old (Invalidated id ∷ []) [] [] new
     EvictsIt : (id : ℕ) (old new : StoreSeen) (had : Bool) → Evicts id old new had → Calls old [] [] [] new
     EvictsFirst : (bound : ℕ) (old new : StoreSeen) (given : Option GivenValue) → EvictsOne bound old new given
         → Calls old [] [] [] new
@@ -95,9 +95,10 @@ module _ {Room : Type 0} (shows : Room → List Row → Type 0) where
   -- A value that landed and is held: since its flight began its id was neither invalidated nor put nor changed.
   abbrev pub HoldsFresh : Type 0
   HoldsFresh =
-      (history : List Event) (put : List (List Row)) (given : List Given) (number stamp value bound : ℕ)
+      (history : List Event) (put : List (List Row)) (given : List Given) (number stamp value weight bound : ℕ)
       (old new : StoreSeen) (before room : Room) (some : Reclaimed)
-      → StoreRun history put given old → (lands : LandsHeld shows number stamp value bound old before new room some)
+      → StoreRun history put given old
+      → (lands : LandsHeld shows number stamp value weight bound old before new room some)
       → IsFresh lands.flight history
 
   -- Each value that was held comes out once: by then, or when the map is taken apart.

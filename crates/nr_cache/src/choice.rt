@@ -10,6 +10,7 @@
 //! counted, and decides by how much residents lose who win (`Mood`).
 ghost use Rattle.std.specs.Prelude.{◌≡◌, ◌<◌};
 ghost use Rattle.nr_idmap.specs.IdChoices.{StaysButClerk};
+ghost use Rattle.nr_cache.specs.Stamps.{way_after};
 
 use crate::entrants::Entrants;
 use crate::leavers::Leavers;
@@ -25,13 +26,8 @@ const ENOUGH: u8 = 2;
 /// How many residents that were found a turn passes at most.
 const PATIENCE: u32 = 8;
 
-/// By how many ways the hand goes on.
-const STRIDE: u32 = 8;
-
 #[derive(Drop)]
 pub(crate) struct Choice {
-    /// The way at which the next look for a stale value begins.
-    pub hand: u32,
     /// The way that comes next in the turn of the residents.
     turn: u32,
     /// The way of the last who came. Who loaded its value may have found it since, which tells nothing.
@@ -55,7 +51,6 @@ impl Choice {
     pub fn open(alloc: Global, shape: &StoreShape) -> Result<Choice, AllocError> {
         let most = Mood::Moving.room(shape.capacity).saturating_add(2);
         Ok(Choice {
-            hand: 0,
             turn: 0,
             newest: None,
             standings: Standings::open(alloc, shape.groups.saturating_mul(8))?,
@@ -90,7 +85,6 @@ impl Choice {
         ensures own { writer.new.table ≡ map.now }
         ensures stays { StaysButClerk writer.old writer.new }
     {
-        self.hand = place_after(self.hand, STRIDE, map.ways());
         self.newest_waits(map, writer);
         if self.entrants.count() > self.doubt.room {
             if let Some(entrant) = self.oldest_entrant(map, writer, newcomer) {
@@ -301,7 +295,9 @@ fn count_anew(map: &IdMap, writer: &mut IdWriter, way: u32, count: u8) -> (u8, b
 }
 
 // The way that comes so many after this one, or the first.
-fn place_after(way: u32, count: u32, ways: u32) -> u32 {
+pub(crate) fn place_after(way: u32, count: u32, ways: u32) -> u32
+    ensures { result ≡ way_after way count ways }
+{
     let next = way.saturating_add(count);
     if next < ways { next } else { 0 }
 }

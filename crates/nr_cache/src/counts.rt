@@ -1,16 +1,18 @@
 //! How much a store holds.
-ghost use Rattle.std.specs.Prelude.{◌≡◌};
+ghost use Rattle.std.specs.Prelude.{◌≡◌, ℕ};
 ghost use Rattle.nr_cache.specs.Counts.{CountsStore};
 ghost use Rattle.nr_cache.specs.Places.{CountsValues};
 ghost use Rattle.nr_cache.specs.Values.{BringsValues, values_in};
+ghost use Rattle.nr_cache.specs.Weights.{value_at};
 
 use crate::store::Store;
 use nr_idmap::{IdMap, IdWriter};
 
-/// How many values are held, how many flights are under way, and how many changes.
+/// How many values are held, what they weigh, how many flights are under way, and how many changes.
 #[derive(Clone, Copy, Debug, PartialEq, Eq)]
 pub struct Counts {
     pub values: u32,
+    pub weight: u64,
     pub flights: usize,
     pub changes: usize,
 }
@@ -24,6 +26,7 @@ impl Store {
     {
         Counts {
             values: count_values(map, &mut self.writer),
+            weight: self.limit.weights.sum(),
             flights: self.flights.len(),
             changes: self.flights.changes(),
         }
@@ -38,6 +41,7 @@ pub(crate) fn count_values(map: &IdMap, writer: &mut IdWriter) -> u32
     ensures values { BringsValues writer.new }
     ensures counts { CountsValues writer.old writer.new result }
     ensures same { values_in writer.new ≡ values_in writer.old }
+    ensures stay { (way : ℕ) → value_at writer.new way ≡ value_at writer.old way }
 {
     writer.is_tied();
     map.slot_counts(writer).filled

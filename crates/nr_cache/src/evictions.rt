@@ -2,10 +2,12 @@
 ghost use Rattle.std.specs.Prelude.{◌≡◌, ◌≤◌, ◌<◌};
 ghost use Rattle.nr_ids.specs.Events.{IsAbsent};
 ghost use Rattle.nr_ids.specs.Looking.{IsFull};
-ghost use Rattle.nr_cache.specs.Places.{IsGone, MakesRoom, OwesNone, TakesValue};
+ghost use Rattle.nr_cache.specs.Places.{IsGone, Loses, MakesRoom, OwesNone, TakesValue, Unnames};
 ghost use Rattle.nr_cache.specs.Values.{BringsValues, values_in};
+ghost use Rattle.nr_cache.specs.Weights.{Lightens, OnlyValuesWeigh};
 
 use crate::store::Store;
+use crate::weights::Weights;
 use nr_idmap::{Evict, IdMap, IdWriter, laws};
 
 impl Store {
@@ -18,8 +20,41 @@ impl Store {
         ensures own { self.new.keeper.table ≡ map.now }
         ensures evicts { Evicts id self.old self.new result }
     {
-        take_value(map, &mut self.writer, id)
+        let_go(map, &mut self.writer, &mut self.limit.weights, id)
     }
+}
+
+// Takes an id's value with its weight: whether there was one.
+pub(crate) fn let_go(map: &IdMap, writer: &mut IdWriter, weights: &mut Weights, id: u64) -> bool
+    requires own { writer.old.table ≡ map.now }
+    requires owes { OwesNone writer.old }
+    requires values { BringsValues writer.old }
+    requires only { OnlyValuesWeigh weights.old writer.old }
+    requires id { 0 < id }
+    ensures own { writer.new.table ≡ map.now }
+    ensures owes { OwesNone writer.new }
+    ensures values { BringsValues writer.new }
+    ensures only { OnlyValuesWeigh weights.new writer.new }
+    ensures loses { Loses id writer.old writer.new result }
+    ensures unnames { Unnames id writer.old writer.new }
+    ensures lightens { Lightens writer.old weights.old writer.new weights.new }
+    ensures gone { IsGone id writer.new }
+    ensures fewer { values_in writer.new ≤ values_in writer.old }
+{
+    laws::unnamed_is_absent();
+    laws::named_is_owed_or_resident();
+    writer.is_tied();
+    let found = map.way_of(writer, id);
+    writer.is_tied();
+    let Some(way) = found else {
+        return false;
+    };
+    // A way that has a name has a value.
+    if !take_value(map, writer, id) {
+        unreachable!()
+    }
+    weights.leave(way);
+    true
 }
 
 // Takes an id's value: whether there was one.
@@ -47,10 +82,11 @@ pub(crate) fn take_value(map: &IdMap, writer: &mut IdWriter, id: u64) -> bool
 }
 
 // Takes the value of one of an id's group, where each of the id's ways is taken.
-pub(crate) fn make_room(map: &IdMap, writer: &mut IdWriter, id: u64)
+pub(crate) fn make_room(map: &IdMap, writer: &mut IdWriter, weights: &mut Weights, id: u64)
     requires own { writer.old.table ≡ map.now }
     requires owes { OwesNone writer.old }
     requires values { BringsValues writer.old }
+    requires only { OnlyValuesWeigh weights.old writer.old }
     requires id { 0 < id }
     requires absent { IsAbsent writer.old.clerk.seen id }
     requires full { IsFull id writer.old.clerk }
@@ -58,6 +94,8 @@ pub(crate) fn make_room(map: &IdMap, writer: &mut IdWriter, id: u64)
     ensures owes { OwesNone writer.new }
     ensures values { BringsValues writer.new }
     ensures absent { IsAbsent writer.new.clerk.seen id }
+    ensures only { OnlyValuesWeigh weights.new writer.new }
+    ensures lightens { Lightens writer.old weights.old writer.new weights.new }
     ensures room { MakesRoom id writer.old writer.new }
     ensures free { IsFull id writer.new.clerk → ⊥ }
 {
@@ -69,7 +107,7 @@ pub(crate) fn make_room(map: &IdMap, writer: &mut IdWriter, id: u64)
     };
     writer.is_tied();
     // A way that has a name has a value.
-    if !take_value(map, writer, victim) {
+    if !let_go(map, writer, weights, victim) {
         unreachable!()
     }
 }

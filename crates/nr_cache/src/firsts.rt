@@ -1,12 +1,13 @@
 //! A value that goes because its caller wants room: the same one as in a full store.
-ghost use Rattle.std.specs.Prelude.{◌≡◌, ◌≤◌};
+ghost use Rattle.std.specs.Prelude.{◌≡◌, ◌<◌, ◌≤◌};
 ghost use Rattle.nr_cache.specs.Firsts.{TakesFirstOrNone};
 ghost use Rattle.nr_cache.specs.Places.{OwesNone};
 ghost use Rattle.nr_cache.specs.Values.{BringsValues, values_in};
+ghost use Rattle.nr_cache.specs.Weights.{OnlyValuesWeigh, stock_of};
 
 use crate::evictions::take_value;
 use crate::given::GivenValue;
-use crate::limits::{Limit, first_to_go};
+use crate::limits::Limit;
 use crate::looks::look_at;
 use crate::store::Store;
 use nr_idmap::{IdMap, IdWriter, laws};
@@ -36,10 +37,14 @@ fn take_first(
     requires own { writer.old.table ≡ map.now }
     requires owes { OwesNone writer.old }
     requires values { BringsValues writer.old }
+    requires only { OnlyValuesWeigh limit.old.weights writer.old }
+    requires hand { limit.old.hand < map.now.map.shape.keys }
     ensures own { writer.new.table ≡ map.now }
     ensures owes { OwesNone writer.new }
     ensures values { BringsValues writer.new }
-    ensures takes { TakesFirstOrNone limit.old.choice.hand bound writer.old writer.new result }
+    ensures only { OnlyValuesWeigh limit.new.weights writer.new }
+    ensures hand { limit.new.hand < map.now.map.shape.keys }
+    ensures takes { TakesFirstOrNone bound (stock_of writer.old limit.old.weights limit.old.hand) (stock_of writer.new limit.new.weights limit.new.hand) result }
     ensures fewer { values_in writer.new ≤ values_in writer.old }
     ensures same { limit.new.capacity ≡ limit.old.capacity }
 {
@@ -47,31 +52,25 @@ fn take_first(
     writer.is_tied();
     // A way that there isn't: nobody is a newcomer.
     let nobody = map.ways();
-    let named = first_to_go(
-        map,
-        writer,
-        &mut limit.found,
-        &mut limit.choice,
-        nobody,
-        bound,
-    );
+    let named = limit.first_to_go(map, writer, nobody, bound);
     writer.is_tied();
-    let id = match named {
-        Some(id) => id,
+    let victim = match named {
+        Some(victim) => victim,
         None => return None,
     };
-    let seen = look_at(map, writer, &mut limit.found, id);
+    let seen = look_at(map, writer, &mut limit.found, victim.id);
     writer.is_tied();
     let Some(found) = seen else {
         // A way that has a name has a value.
         unreachable!()
     };
     // It was seen.
-    if !take_value(map, writer, id) {
+    if !take_value(map, writer, victim.id) {
         unreachable!()
     }
+    limit.weights.leave(victim.way);
     Some(GivenValue {
-        id,
+        id: victim.id,
         stamp: found.stamp,
         value: found.value,
     })

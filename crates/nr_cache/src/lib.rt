@@ -10,7 +10,8 @@
 //! its value lands, so what is under way evicts nothing, and a load that fails leaves nothing behind. A
 //! flight is outdated where its id is invalidated, put or changed meanwhile; then its value is its loader's
 //! own (`HoldsFresh`). A landing makes room itself, by an eviction (`Lands`). Whose value goes a choice tells
-//! (`Choice`), on which nothing rests but how often misses come.
+//! (`Choice`), on which nothing rests but how often misses come. Where values have weights others go as long as the
+//! newcomer is too heavy beside them (`LightensFor`), so never more is held than the bound (`IsLight`).
 //!
 //! What an id had comes out by a later call, once no reader holds it (`EachValueComesOutOnce`).
 #![tactic(auto)]
@@ -35,6 +36,7 @@ mod standing;
 mod store;
 mod swaps;
 mod values;
+mod weights;
 
 pub use counts::Counts;
 pub use finds::{FoundValue, find};

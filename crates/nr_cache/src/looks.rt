@@ -1,7 +1,8 @@
 //! The store's own look at an id.
-ghost use Rattle.std.specs.Prelude.{◌≡◌, ◌≤◌, ◌<◌};
+ghost use Rattle.std.specs.Prelude.{◌≡◌, ◌≤◌, ◌<◌, ℕ};
 ghost use Rattle.nr_cache.specs.Places.{LooksAtValue, OwesNone};
 ghost use Rattle.nr_cache.specs.Values.{BringsValues, values_in};
+ghost use Rattle.nr_cache.specs.Weights.{value_at};
 
 use crate::finds::{FoundValue, value_of};
 use crate::store::Store;
@@ -36,6 +37,7 @@ pub(crate) fn look_at(
     ensures owes { OwesNone writer.new }
     ensures values { BringsValues writer.new }
     ensures looks { LooksAtValue id writer.old writer.new result }
+    ensures stay { (way : ℕ) → value_at writer.new way ≡ value_at writer.old way }
     ensures fewer { values_in writer.new ≤ values_in writer.old }
 {
     laws::unnamed_is_absent();

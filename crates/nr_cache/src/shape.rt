@@ -15,11 +15,12 @@ pub const MAX_STORE_READERS: u32 = 65_533;
 /// id's two groups are chosen by a hash with that key, which should be drawn at random and told to nobody who
 /// may choose ids. Where both are full a value of theirs makes room, however many there are: half as many
 /// places again as values make that rare. It has room for so many flights, and so many changes of the base, at
-/// a time.
+/// a time. The values may weigh `weight` together; where that is 0 nothing is weighed.
 #[derive(Clone, Copy, Debug)]
 pub struct StoreShape {
     pub groups: u32,
     pub capacity: u32,
+    pub weight: u64,
     pub key: u64,
     pub readers: u32,
     pub flights: u32,

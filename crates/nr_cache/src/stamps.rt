@@ -1,6 +1,6 @@
 //! The stamps of values, by which those below a caller's bound go first.
 ghost use Rattle.std.specs.Prelude.{◌≡◌, ◌≢◌, ◌<◌, ◌↔◌, ℕ, IfNone, IfSome, IsTrue};
-ghost use Rattle.nr_cache.specs.Stamps.{IsStale, LooksAround, NoneIsStale, first_stamp, stamp_at};
+ghost use Rattle.nr_cache.specs.Stamps.{IsFirstStale, IsStale, LooksAround, NoneIsStale, first_stamp, stamp_at};
 
 use nr_idmap::{IdMap, IdWriter, Looked};
 use nr_model::{Pile, Row};
@@ -22,7 +22,7 @@ pub(crate) fn stale_way(
     requires own { writer.old.table ≡ map.now }
     ensures own { writer.new.table ≡ map.now }
     ensures looks { LooksAround writer.old writer.new }
-    ensures some { IfSome result (λ way. (way < map.now.map.shape.keys) × (way ≢ newcomer) × IsStale bound (stamp_at writer.new way)) }
+    ensures some { IfSome result (λ way. IsFirstStale hand bound newcomer writer.new way) }
     ensures none { IfNone result (NoneIsStale hand bound newcomer writer.new) }
 {
     if bound == 0 {

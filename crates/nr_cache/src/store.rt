@@ -6,6 +6,7 @@ use crate::choice::Choice;
 use crate::flights::{Flight, Flights};
 use crate::limits::Limit;
 use crate::shape::StoreShape;
+use crate::weights::Weights;
 use nr_idmap::{IdMap, IdReader, IdWriter, OpenFault, ReadersOut, Reclaimed, Rest, laws};
 use nr_model::Pile;
 use std::alloc::Global;
@@ -49,12 +50,13 @@ impl Model for Store {
     ghost use Rattle.nr_cache.specs.Places.{OwesNone};
     ghost use Rattle.nr_cache.specs.StoreSeen.{StoreSeen};
     ghost use Rattle.nr_cache.specs.Values.{BringsValues, HasSlots, IsWithin};
+    ghost use Rattle.nr_cache.specs.Weights.{OnlyValuesWeigh};
 
     ghost Value = { StoreSeen };
 
-    ghost view = { λ store. record { keeper = store.writer; asker = store.asker; underway = store.flights; capacity = store.limit.capacity; hand = store.limit.choice.hand } };
+    ghost view = { λ store. record { keeper = store.writer; asker = store.asker; underway = store.flights; capacity = store.limit.capacity; hand = store.limit.hand; load = store.limit.weights } };
 
-    ghost invariant = { λ store. (id_table_of store.asker ≡ store.writer.table) × OwesNone store.writer × HasSlots store.limit.capacity store.writer.table.map × (0 < id_rows store.writer.table) × BringsValues store.writer × (0 < store.limit.capacity) × IsWithin store.limit.capacity store.writer };
+    ghost invariant = { λ store. (id_table_of store.asker ≡ store.writer.table) × OwesNone store.writer × HasSlots store.limit.capacity store.writer.table.map × (0 < id_rows store.writer.table) × BringsValues store.writer × (0 < store.limit.capacity) × IsWithin store.limit.capacity store.writer × OnlyValuesWeigh store.limit.weights store.writer × (store.limit.hand < store.writer.table.map.shape.keys) };
 }
 
 impl Store {
@@ -62,6 +64,7 @@ impl Store {
     ghost use Rattle.nr_cache.specs.Flights.{EndsChange, none_under_way};
     ghost use Rattle.nr_cache.specs.Stores.{BeginsFlight, ChangesId, Fails};
     ghost use Rattle.nr_cache.specs.Values.{IsWithin};
+    ghost use Rattle.nr_cache.specs.Weights.{IsLight, OnlyValuesWeigh};
 
     /// A store with its map and its readers, without a value. Refused where a size is out of its limits, and
     /// then where there is no memory; no other call takes any.
@@ -88,8 +91,13 @@ impl Store {
         let Ok(choice) = Choice::open(alloc, shape) else {
             return Err(OpenFault::Memory);
         };
+        let Ok(weights) = Weights::open(alloc, shape.weight, map.ways()) else {
+            return Err(OpenFault::Memory);
+        };
         let limit = Limit {
             capacity: shape.capacity,
+            hand: 0,
+            weights,
             choice,
             found: Pile::new(),
         };
@@ -102,11 +110,16 @@ impl Store {
         Ok((map, store, readers))
     }
 
-    /// The store holds no more values than its capacity. Takes no step.
+    /// The store holds no more values than its capacity, and they weigh no more than they may; nothing but values
+    /// weighs. Takes no step.
     pub fn is_within(&self)
-        ensures { IsWithin self.now.capacity self.now.keeper }
+        ensures capacity { IsWithin self.now.capacity self.now.keeper }
+        ensures weight { IsLight self.now.load }
+        ensures only { OnlyValuesWeigh self.now.load self.now.keeper }
+        ensures hand { self.now.hand < self.now.keeper.table.map.shape.keys }
     {
         let _held = &self.writer;
+        self.limit.weights.sum();
     }
 
     /// What a miss of an id comes to: the first begins the id's flight, with a number of the caller's for

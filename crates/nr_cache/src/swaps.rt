@@ -11,7 +11,7 @@ use nr_model::RowRoom;
 pub enum Swapped {
     /// It is held. A value that nobody can see any more may have come out.
     Held(Reclaimed),
-    /// It is the caller's own, since the id is being changed, and the id has none.
+    /// It is the caller's own, since the id is being changed or the value is too heavy, and the id has none.
     Own,
     /// The id has another value.
     Other(FoundValue),
@@ -30,13 +30,15 @@ impl Store {
         old: u64,
         stamp: u64,
         value: u64,
+        weight: u32,
+        bound: u64,
         had: &mut R,
     ) -> Swapped
         requires own { self.old.keeper.table ≡ map.now }
         requires id { 0 < id }
         requires stamp { 0 < stamp }
         ensures own { self.new.keeper.table ≡ map.now }
-        ensures swaps { Swaps R.shows id old stamp value self.old had.old self.new had.new result }
+        ensures swaps { Swaps R.shows id old stamp value weight bound self.old had.old self.new had.new result }
     {
         match self.look(map, id) {
             Some(found) if found.value == old => {}
@@ -45,7 +47,7 @@ impl Store {
         }
         laws::unnamed_is_absent();
         self.writer.is_tied();
-        match self.put(map, id, stamp, value, 0, had) {
+        match self.put(map, id, stamp, value, weight, bound, had) {
             Landed::Held(given) => Swapped::Held(given),
             Landed::Own => Swapped::Own,
         }

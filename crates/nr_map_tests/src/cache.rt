@@ -1,6 +1,8 @@
 //! A store of a cache: flights, values, and what comes out.
 ghost use Rattle.std.specs.Prelude.{◌≡◌, ◌<◌};
 
+mod weights;
+
 use crate::ids::view::{is_same, is_set, row};
 use nr_cache::{
     Begun, Counts, Flight, FoundValue, GivenValue, Landed, MAX_STORE_GROUPS, Store, StoreShape,
@@ -15,6 +17,7 @@ use std::process::Abort;
 const SMALL: StoreShape = StoreShape {
     groups: 2,
     capacity: 16,
+    weight: 0,
     key: 0x9E37_79B9_7F4A_7C15,
     readers: 1,
     flights: 2,
@@ -153,7 +156,7 @@ impl Shelf {
     fn lands(&mut self, number: u64, value: u64) -> bool {
         let landed = self
             .store
-            .land(&self.map, number, 1, value, 0, &mut self.had);
+            .land(&self.map, number, 1, value, 1, 0, &mut self.had);
         matches!(landed, Landed::Held(_))
     }
 
@@ -167,7 +170,7 @@ impl Shelf {
         requires { (0 < id) × (0 < stamp) }
     {
         let had = &mut self.had;
-        self.store.put(&self.map, id, stamp, value, bound, had)
+        self.store.put(&self.map, id, stamp, value, 1, bound, had)
     }
 
     fn finds<R: Abort>(&mut self, rt: &R, id: u64, value: Option<u64>)
@@ -190,7 +193,15 @@ impl Shelf {
     fn swaps(&mut self, id: u64, old: u64, value: u64) -> Swapped
         requires { 0 < id }
     {
-        self.store.swap(&self.map, id, old, 1, value, &mut self.had)
+        self.swaps_for(id, old, value, 1)
+    }
+
+    fn swaps_for(&mut self, id: u64, old: u64, value: u64, weight: u32) -> Swapped
+        requires { 0 < id }
+    {
+        let had = &mut self.had;
+        self.store
+            .swap(&self.map, id, old, 1, value, weight, 0, had)
     }
 
     fn evicts(&mut self, id: u64) -> bool
@@ -215,6 +226,7 @@ impl Shelf {
         let counts = self.store.count(&self.map);
         let wanted = Counts {
             values,
+            weight: 0,
             flights,
             changes,
         };

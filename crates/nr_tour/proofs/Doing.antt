@@ -96,20 +96,21 @@ begins_so id mark deeds old new begun.Alone begins did =
     goes deeds [] [] [] old new did (runs.Begins id mark old new begun.Alone begins) refl
 
 -- what is held is fresh, as a law of the store says
-held_so : HoldsFresh ShowsValue → (deeds : List Deed) (number stamp value bound : ℕ) (old new : StoreSeen)
+held_so : HoldsFresh ShowsValue → (deeds : List Deed) (number stamp value weight bound : ℕ) (old new : StoreSeen)
     (before room : GivenValue) (given : Reclaimed)
-    → LandsHeld ShowsValue number stamp value bound old before new room given → Did deeds old
+    → LandsHeld ShowsValue number stamp value weight bound old before new room given → Did deeds old
     → Did (Held number ∷ deeds) new
-held_so law deeds number stamp value bound old new before room given lands did =
+held_so law deeds number stamp value weight bound old new before room given lands did =
     let flight = lands.flight in
     let fresh
-    = law did.history did.put did.given number stamp value bound old new before room given did.run lands in
+    = law did.history did.put did.given number stamp value weight bound old new before room given did.run lands in
     record {
       history = happened.Ended flight ∷ did.history;
       put = did.put ++ set_of flight.id stamp value ∷ [];
       given = did.given ++ lands.holds.out;
       run = runs.Goes did.history (happened.Ended flight ∷ []) did.put (set_of flight.id stamp value ∷ []) did.given
-          lands.holds.out old new did.run (runs.LandsIt number stamp value bound old new before room given lands);
+          lands.holds.out old new did.run
+          (runs.LandsIt number stamp value weight bound old new before room given lands);
       told = did.told;
       fresh = (
         (
@@ -122,14 +123,14 @@ held_so law deeds number stamp value bound old new before room given lands did =
       );
     }
 
-pub lands_so : HoldsFresh ShowsValue → (deeds : List Deed) (number stamp value bound : ℕ) (old new : StoreSeen)
+pub lands_so : HoldsFresh ShowsValue → (deeds : List Deed) (number stamp value weight bound : ℕ) (old new : StoreSeen)
     (before room : GivenValue) (answer : Landed)
-    → Lands ShowsValue number stamp value bound old before new room answer → Did deeds old
+    → Lands ShowsValue number stamp value weight bound old before new room answer → Did deeds old
     → Did (with_landed number answer deeds) new
-lands_so law deeds number stamp value bound old new before room (landed.Held given) lands did =
-    held_so law deeds number stamp value bound old new before room given lands did
-lands_so law deeds number stamp value bound old new before room landed.Own lands did =
-    goes deeds (ended_by lands.found) [] [] old new did (runs.LandsNone number old new before room lands)
+lands_so law deeds number stamp value weight bound old new before room (landed.Held given) lands did =
+    held_so law deeds number stamp value weight bound old new before room given lands did
+lands_so law deeds number stamp value weight bound old new before room landed.Own lands did =
+    goes deeds (ended_by lands.found) [] [] old new did (runs.LandsNone number weight old new before room lands)
     (end_untold lands.found did.history)
 
 pub fails_so : (deeds : List Deed) (number : ℕ) (old new : StoreSeen) (found : Option Flight)

@@ -100,15 +100,39 @@ extern "C" {
     pub fn nr_cache_find(reader: *mut Handle, id: u64, found: *mut Stamped) -> u32;
     pub fn nr_cache_release(reader: *mut Handle) -> u32;
     pub fn nr_cache_begin(ids: *mut Handle, id: u64, mark: u64, flight: *mut Loading) -> u32;
-    pub fn nr_cache_land(ids: *mut Handle, number: u64, stamp: u64, value: u64, bound: u64, given: *mut Given) -> u32;
+    pub fn nr_cache_land(
+        ids: *mut Handle,
+        number: u64,
+        stamp: u64,
+        value: u64,
+        weight: u32,
+        bound: u64,
+        given: *mut Given,
+    ) -> u32;
     pub fn nr_cache_fail(ids: *mut Handle, number: u64, flight: *mut Loading) -> u32;
-    pub fn nr_cache_put(ids: *mut Handle, id: u64, stamp: u64, value: u64, bound: u64, given: *mut Given) -> u32;
-    pub fn nr_cache_swap(ids: *mut Handle, id: u64, old: u64, stamp: u64, value: u64, given: *mut Given) -> u32;
+    pub fn nr_cache_put(
+        ids: *mut Handle,
+        id: u64,
+        stamp: u64,
+        value: u64,
+        weight: u32,
+        bound: u64,
+        given: *mut Given,
+    ) -> u32;
+    pub fn nr_cache_swap(
+        ids: *mut Handle,
+        id: u64,
+        old: u64,
+        stamp: u64,
+        value: u64,
+        weight: u32,
+        bound: u64,
+        given: *mut Given,
+    ) -> u32;
     pub fn nr_cache_look(ids: *mut Handle, id: u64, found: *mut Stamped) -> u32;
     pub fn nr_cache_invalidate(ids: *mut Handle, id: u64) -> u32;
     pub fn nr_cache_invalidate_all(ids: *mut Handle) -> u32;
     pub fn nr_cache_evict(ids: *mut Handle, id: u64) -> u32;
-    pub fn nr_cache_evict_one(ids: *mut Handle, bound: u64, taken: *mut Given) -> u32;
     pub fn nr_cache_begin_change(ids: *mut Handle, id: u64) -> u32;
     pub fn nr_cache_end_change(ids: *mut Handle, id: u64) -> u32;
     pub fn nr_cache_reap(ids: *mut Handle, given: *mut Given) -> u32;

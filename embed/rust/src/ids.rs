@@ -14,6 +14,8 @@ pub struct IdShape {
     pub readers: u32,
     pub flights: u32,
     pub changes: u32,
+    /// How much all numbers weigh together at most; 0 where nothing is weighed.
+    pub weight: u64,
     pub key: u64,
 }
 
@@ -47,14 +49,17 @@ pub struct Given {
 #[derive(Debug, Default)]
 pub struct Counted {
     numbers: u64,
+    weight: u64,
     flights: u64,
     changes: u64,
 }
 
-/// When a number expires, above 0, and the time before which one that has expired goes first.
+/// What a number is put with: when it expires, above 0, what it weighs, and the time before which one that has expired goes
+/// first.
 #[derive(Clone, Copy, Debug)]
-pub struct Times {
+pub struct Terms {
     pub stamp: u64,
+    pub weight: u32,
     pub bound: u64,
 }
 
@@ -84,13 +89,6 @@ pub enum Put {
 #[derive(Clone, Copy, Debug, PartialEq, Eq)]
 pub struct CameOut {
     pub number: u64,
-    pub stamp: u64,
-}
-
-/// Whose number was taken to make room, and the stamp that it was put with.
-#[derive(Clone, Copy, Debug, PartialEq, Eq)]
-pub struct Taken {
-    pub id: u64,
     pub stamp: u64,
 }
 
@@ -182,12 +180,11 @@ impl Ids {
     }
 
     /// Ends the load of that flight by a number.
-    pub fn land(&mut self, flight: u64, number: u64, times: Times) -> Put {
-        let mut given = Given::default();
+    pub fn land(&mut self, flight: u64, number: u64, terms: Terms) -> Put {
+        let (Terms { stamp, weight, bound }, mut given) = (terms, Given::default());
         changes_store(Some(number));
         // SAFETY: the handle is live, and what comes out is laid out as the header's.
-        let code =
-            unsafe { ffi::nr_cache_land(&mut self.handle, flight, times.stamp, number, times.bound, &mut given) };
+        let code = unsafe { ffi::nr_cache_land(&mut self.handle, flight, stamp, number, weight, bound, &mut given) };
         put(code, &given)
     }
 
@@ -198,20 +195,20 @@ impl Ids {
     }
 
     /// Puts a number in place of what an id has. What is loaded for it will not be held.
-    pub fn put(&mut self, id: u64, number: u64, times: Times) -> Put {
-        let mut given = Given::default();
+    pub fn put(&mut self, id: u64, number: u64, terms: Terms) -> Put {
+        let (Terms { stamp, weight, bound }, mut given) = (terms, Given::default());
         changes_store(Some(number));
         // SAFETY: the handle is live, and what comes out is laid out as the header's.
-        let code = unsafe { ffi::nr_cache_put(&mut self.handle, id, times.stamp, number, times.bound, &mut given) };
+        let code = unsafe { ffi::nr_cache_put(&mut self.handle, id, stamp, number, weight, bound, &mut given) };
         put(code, &given)
     }
 
     /// The same where the id has that old one still: else nothing happens.
-    pub fn swap(&mut self, id: u64, old: u64, number: u64, times: Times) -> Put {
-        let mut given = Given::default();
+    pub fn swap(&mut self, id: u64, old: u64, number: u64, terms: Terms) -> Put {
+        let (Terms { stamp, weight, bound }, mut given) = (terms, Given::default());
         changes_store(Some(number));
         // SAFETY: the handle is live, and what comes out is laid out as the header's.
-        let code = unsafe { ffi::nr_cache_swap(&mut self.handle, id, old, times.stamp, number, &mut given) };
+        let code = unsafe { ffi::nr_cache_swap(&mut self.handle, id, old, stamp, number, weight, bound, &mut given) };
         put(code, &given)
     }
 
@@ -244,16 +241,6 @@ impl Ids {
         unsafe { ffi::nr_cache_evict(&mut self.handle, id) == ffi::NR_EVICTED }
     }
 
-    /// Takes the number of the id that goes next, as for one that lands where there is no room: none where no id has one.
-    /// It comes out by a later call.
-    pub fn evict_one(&mut self, bound: u64) -> Option<Taken> {
-        let mut taken = Given::default();
-        changes_store(None);
-        // SAFETY: the handle is live, and what is taken is laid out as the header's.
-        let code = unsafe { ffi::nr_cache_evict_one(&mut self.handle, bound, &mut taken) };
-        (code == ffi::NR_EVICTED).then_some(Taken { id: taken.id, stamp: taken.stamp })
-    }
-
     /// Begins a change of an id, until whose end nothing that is loaded for it will be held: whether there was room.
     pub fn begin_change(&mut self, id: u64) -> bool {
         // SAFETY: the handle is live.
@@ -277,10 +264,19 @@ impl Ids {
 
     /// How many ids have a number.
     pub fn held(&mut self) -> usize {
+        self.count().numbers as usize
+    }
+
+    /// What their numbers weigh, of a cache where that counts.
+    pub fn weight(&mut self) -> u64 {
+        self.count().weight
+    }
+
+    fn count(&mut self) -> Counted {
         let mut counted = Counted::default();
         // SAFETY: the handle is live, and what is counted is laid out as the header's.
         unsafe { ffi::nr_cache_count(&mut self.handle, &mut counted) };
-        counted.numbers as usize
+        counted
     }
 }
 

@@ -56,7 +56,7 @@ impl<'m> Desk<'m> {
     {
         laws::holds_fresh::<GivenValue>();
         self.deeds.reserve(1)?;
-        let landed = self.store.land(self.map, number, 1, value, 0, gone);
+        let landed = self.store.land(self.map, number, 1, value, 1, 0, gone);
         tell_landed(&mut self.deeds, number, landed);
         Ok(landed)
     }

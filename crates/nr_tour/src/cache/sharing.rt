@@ -18,6 +18,7 @@ use std::thread::{Threads, join};
 const SHAPE: StoreShape = StoreShape {
     groups: 2,
     capacity: 16,
+    weight: 0,
     // The key of a program that serves strangers is drawn at random.
     key: 5,
     readers: 1,

@@ -6,7 +6,7 @@ use super::part::{Arrange, Part, Told};
 use super::reaping::Reaping;
 use super::shared::Shared;
 use super::store::Store;
-use super::weights::{share, Weigher, Weights};
+use super::weights::{share, Weigher};
 use super::Cache;
 use crate::ids::{self, IdReader, IdShape};
 use crate::Fault;
@@ -136,11 +136,11 @@ impl<K: Hash + Eq, V, S: BuildHasher> CacheBuilder<K, V, S> {
         let mut parts = Vec::with_capacity(count);
         for number in 0..count {
             let capacity = (self.capacity + number) / count;
-            let (ids, readers) = ids::open(&shape(capacity, self.threads))?;
+            let most = bound.map(|most| share(most, number, count));
+            let (ids, readers) = ids::open(&shape(capacity, self.threads, most))?;
             spare.iter_mut().zip(readers).for_each(|(desk, reader)| desk.push(reader));
-            let weights = bound.map(|most| Weights::new(share(most, number, count), capacity));
-            let reaping = Reaping::new(capacity, spare.len(), told.listener.is_some() || weights.is_some());
-            let store = Store::new(ids, capacity, expiry, weights, reaping);
+            let reaping = Reaping::new(capacity, spare.len(), told.listener.is_some() || most.is_some());
+            let store = Store::new(ids, capacity, expiry, most, reaping);
             parts.push(Part::new(expiry, spare.len(), told.clone(), store));
         }
         let spare = spare.into_iter().zip(0..).map(|(ids, number)| Desk::new(ids, number)).collect();
@@ -169,10 +169,12 @@ const MAX_GROUPS: u32 = 516_000;
 /// held: each is looked for among those that are.
 pub(super) const MOST_AT_ONCE: u32 = 1024;
 
-/// What a part is opened with. Eight places for each five entries, so that few groups are full before the part is.
-fn shape(capacity: usize, threads: u32) -> IdShape {
+/// What a part is opened with. Eight places for each five entries, so that few groups are full before the part is. A part of
+/// which the share of a weight is none holds what weighs nothing alone, so its bound tells nothing.
+fn shape(capacity: usize, threads: u32, most: Option<u64>) -> IdShape {
     let groups = (capacity.div_ceil(5) as u32).min(MAX_GROUPS);
     let (flights, changes) = (MOST_AT_ONCE.max(threads), MOST_AT_ONCE);
     let key = RandomState::new().hash_one(0u8);
-    IdShape { groups, capacity: capacity as u32, readers: threads, flights, changes, key }
+    let weight = most.map_or(0, |most| most.max(1));
+    IdShape { groups, capacity: capacity as u32, readers: threads, flights, changes, weight, key }
 }

@@ -2,7 +2,7 @@
 use super::entry::Entry;
 use super::seats::Seat;
 use super::sync;
-use crate::ids::Times;
+use crate::ids::Terms;
 use std::sync::atomic::Ordering::Relaxed;
 use std::sync::Arc;
 use std::time::{Duration, Instant};
@@ -119,10 +119,10 @@ impl Expiry {
 
     /// By what the store knows of an entry that is put when nothing will be left of it, to four milliseconds, and where
     /// it sits, and of the others whether anything is.
-    pub fn times(&self, life: Life, seat: Seat) -> Times {
+    pub fn terms(&self, life: Life, weight: u32, seat: Seat) -> Terms {
         let goes = life.dies.saturating_add(self.if_error.unwrap_or(0));
         let (goes, bound) = if self.has_ages() { (goes, life.born.saturating_add(1)) } else { (0, 0) };
-        Times { stamp: goes & !SEATS | (u64::from(seat) + 1), bound }
+        Terms { stamp: goes & !SEATS | (u64::from(seat) + 1), weight, bound }
     }
 
     /// Whether an entry has expired.

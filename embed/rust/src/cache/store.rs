@@ -10,8 +10,7 @@ use super::reaping::Reaping;
 use super::seats::Seats;
 use super::stats::CacheStats;
 use super::under_way::UnderWay;
-use super::weights::Weights;
-use crate::ids::{CameOut, Ids, Miss, Put, Times};
+use crate::ids::{CameOut, Ids, Miss, Put, Terms};
 use std::borrow::Borrow;
 use std::mem::take;
 use std::panic::{catch_unwind, resume_unwind, AssertUnwindSafe};
@@ -32,7 +31,8 @@ pub(super) struct Store<K, V> {
     pub ids: Ids,
     pub expiry: Expiry,
     pub seats: Seats,
-    pub weights: Option<Weights>,
+    /// How much its entries weigh together at most, where weights count.
+    pub most: Option<u64>,
     /// How many entries there are: those that are held, and those that left and haven't come out.
     lying: usize,
     /// What came out: no reader holds it, and none can find it.
@@ -57,12 +57,12 @@ pub(super) struct Beside {
 }
 
 impl<K, V> Store<K, V> {
-    pub fn new(ids: Ids, capacity: usize, expiry: Expiry, weights: Option<Weights>, reaping: Reaping) -> Store<K, V> {
+    pub fn new(ids: Ids, capacity: usize, expiry: Expiry, most: Option<u64>, reaping: Reaping) -> Store<K, V> {
         Store {
             ids,
             expiry,
             seats: Seats::new(capacity),
-            weights,
+            most,
             lying: 0,
             came_out: Handful::default(),
             reaping,
@@ -132,7 +132,7 @@ impl<K, V> Store<K, V> {
             return Err(entry);
         }
         // While an id is loaded it has no entry.
-        self.put_new(entry, |ids, place, times| ids.land(number, place, times))
+        self.put_new(entry, |ids, place, terms| ids.land(number, place, terms))
     }
 
     /// Ends it without one, in that way.
@@ -197,7 +197,7 @@ impl<K, V> Store<K, V> {
         let id = entry.id;
         self.outdate(id);
         let old = self.place(id);
-        let put = self.put_in_place(old, entry, |ids, place, times| ids.put(id, place, times));
+        let put = self.put_in_place(old, entry, |ids, place, terms| ids.put(id, place, terms));
         put.as_ref().err().into_iter().for_each(|entry| self.count_own(entry));
         put
     }
@@ -210,7 +210,7 @@ impl<K, V> Store<K, V> {
         }
         // A load that began once that had expired.
         self.under_way.outdate(id);
-        self.put_in_place(Some(old), entry, |ids, place, times| ids.swap(id, old.as_ptr() as u64, place, times))
+        self.put_in_place(Some(old), entry, |ids, place, terms| ids.swap(id, old.as_ptr() as u64, place, terms))
     }
 
     /// The same by who made the entry of that one: where it is too heavy that is counted.
@@ -226,17 +226,14 @@ impl<K, V> Store<K, V> {
         &mut self,
         old: Option<Place<K, V>>,
         entry: Box<Entry<K, V>>,
-        put: impl FnOnce(&mut Ids, u64, Times) -> Put,
+        put: impl FnOnce(&mut Ids, u64, Terms) -> Put,
     ) -> PutEntry<K, V> {
         let id = entry.id;
         if self.is_too_heavy(&entry) {
             self.invalidate(id);
             return Err(entry);
         }
-        let put = match self.make_room(&entry) {
-            true => self.put_with(entry, true, |ids, place, times| ids.put(id, place, times)),
-            false => self.put_with(entry, old.is_none(), put),
-        };
+        let put = self.put_with(entry, old.is_none(), put);
         self.leaves(old, if put.is_ok() { RemovalCause::Replaced } else { RemovalCause::Explicit });
         put
     }
@@ -245,12 +242,11 @@ impl<K, V> Store<K, V> {
     pub fn put_new(
         &mut self,
         entry: Box<Entry<K, V>>,
-        put: impl FnOnce(&mut Ids, u64, Times) -> Put,
+        put: impl FnOnce(&mut Ids, u64, Terms) -> Put,
     ) -> PutEntry<K, V> {
         if self.is_too_heavy(&entry) {
             return Err(entry);
         }
-        self.make_room(&entry);
         self.put_with(entry, true, put)
     }
 
@@ -258,18 +254,16 @@ impl<K, V> Store<K, V> {
         &mut self,
         mut entry: Box<Entry<K, V>>,
         is_new: bool,
-        put: impl FnOnce(&mut Ids, u64, Times) -> Put,
+        put: impl FnOnce(&mut Ids, u64, Terms) -> Put,
     ) -> PutEntry<K, V> {
         let (wanted, seat) = (self.held() + usize::from(is_new), self.seats.take(entry.id));
-        let times = self.expiry.times(entry.life, seat);
+        let terms = self.expiry.terms(entry.life, entry.weight, seat);
         self.turns += 1;
         (*entry.turn.get_mut(), entry.seat) = (self.turns, seat);
-        let weight = entry.weight;
         let place = NonNull::from(Box::leak(entry));
-        match put(&mut self.ids, place.as_ptr() as u64, times) {
+        match put(&mut self.ids, place.as_ptr() as u64, terms) {
             Put::Held(old) => {
                 self.lying += 1;
-                self.weights.iter_mut().for_each(|weights| weights.come(seat, weight));
                 old.into_iter().for_each(|out| self.comes_out(out));
                 self.counted.evictions += (wanted - self.held()) as u64;
                 Ok(place)
@@ -304,7 +298,6 @@ impl<K, V> Store<K, V> {
 
     pub fn invalidate_all(&mut self) {
         self.turns_before = self.turns;
-        self.weights.iter_mut().for_each(Weights::clear);
         self.ids.invalidate_all();
         self.outdate_all();
     }
@@ -352,13 +345,11 @@ impl<K, V> Store<K, V> {
         self.leaves(place, cause);
     }
 
-    /// Notes why an entry leaves, which the store has still, or which has come out and isn't freed. Its weight counts no
-    /// longer.
+    /// Notes why an entry leaves, which the store has still, or which has come out and isn't freed.
     fn leaves(&mut self, place: Option<Place<K, V>>, cause: RemovalCause) {
         // SAFETY: an entry is freed once it came out, by a later call of `reap`.
         let Some(entry) = place.map(|place| unsafe { &*place.as_ptr() }) else { return };
         entry.cause.note(cause);
-        self.weights.iter_mut().for_each(|weights| weights.leave(entry.seat));
     }
 
     pub fn end_change(&mut self, id: u64) {
@@ -391,7 +382,6 @@ impl<K, V> Store<K, V> {
         self.lying -= 1;
         let seat = seat_of(out.stamp);
         self.seats.leave(seat);
-        self.weights.iter_mut().for_each(|weights| weights.leave(seat));
         let place = place_of(out.number);
         if !self.kept.comes_out(place) {
             self.came_out.push(place);

@@ -1,7 +1,5 @@
 //! What entries weigh, of a cache that has a bound for that beside the one for their count.
 use super::entry::Entry;
-use super::expiry::seat_of;
-use super::seats::Seat;
 use super::store::Store;
 use super::{Cache, CacheBuilder};
 use std::hash::{BuildHasher, Hash};
@@ -23,97 +21,15 @@ impl Weighed {
     }
 }
 
-/// The weights of a part's entries, by their seats. An entry counts from its put on until it leaves, and until it comes out
-/// at the longest.
-pub(super) struct Weights {
-    all: Weighed,
-    /// How many entries there may be.
-    capacity: usize,
-    seated: Vec<u32>,
-}
-
-impl Weights {
-    pub fn new(most: u64, capacity: usize) -> Weights {
-        Weights { all: Weighed { sum: 0, most }, capacity, seated: Vec::with_capacity(capacity) }
-    }
-
-    pub fn all(&self) -> Weighed {
-        self.all
-    }
-
-    /// Whether an entry of that weight can't be held, whatever goes for it.
-    pub fn is_too_much(&self, weight: u32) -> bool {
-        u64::from(weight) > self.all.most
-    }
-
-    /// Whether an entry of that weight fits beside so many others, or in place of the one of them that sits there.
-    pub fn fits(&self, weight: u32, others: usize, old: Option<Seat>) -> bool {
-        let has_room = old.is_some() || others < self.capacity;
-        let old = old.map_or(0, |seat| self.of(seat));
-        has_room && self.all.sum - u64::from(old) + u64::from(weight) <= self.all.most
-    }
-
-    /// What counts for a seat.
-    fn of(&self, seat: Seat) -> u32 {
-        self.seated.get(seat as usize).copied().unwrap_or(0)
-    }
-
-    /// An entry of that weight comes.
-    pub fn come(&mut self, seat: Seat, weight: u32) {
-        let place = seat as usize;
-        if place >= self.seated.len() {
-            self.seated.resize(place + 1, 0);
-        }
-        self.all.sum += u64::from(weight);
-        self.seated[place] = weight;
-    }
-
-    /// One leaves, if it hasn't left yet.
-    pub fn leave(&mut self, seat: Seat) {
-        self.all.sum -= u64::from(self.of(seat));
-        if let Some(weight) = self.seated.get_mut(seat as usize) {
-            *weight = 0;
-        }
-    }
-
-    /// All leave.
-    pub fn clear(&mut self) {
-        self.all.sum = 0;
-        self.seated.fill(0);
-    }
-}
-
 impl<K, V> Store<K, V> {
-    pub fn weight(&self) -> Option<Weighed> {
-        self.weights.as_ref().map(Weights::all)
+    /// What its entries weigh, as the library counts it: one weighs until it leaves.
+    pub fn weight(&mut self) -> Option<Weighed> {
+        self.most.map(|most| Weighed { sum: self.ids.weight(), most })
     }
 
     /// Whether an entry can't be held, whatever goes for it.
     pub fn is_too_heavy(&self, entry: &Entry<K, V>) -> bool {
-        self.weights.as_ref().is_some_and(|weights| weights.is_too_much(entry.weight))
-    }
-
-    /// Lets entries go until this one fits in place of what its id has: whether that went. Where weights count it makes room in
-    /// a full store too, so that it is known who goes.
-    pub fn make_room(&mut self, entry: &Entry<K, V>) -> bool {
-        let mut has_gone = false;
-        while !self.fits(entry) {
-            let bound = self.expiry.times(entry.life, 0).bound;
-            let Some(gone) = self.ids.evict_one(bound) else { break };
-            self.weights.iter_mut().for_each(|weights| weights.leave(seat_of(gone.stamp)));
-            let is_its_own = gone.id == entry.id;
-            has_gone |= is_its_own;
-            self.counted.evictions += u64::from(!is_its_own);
-        }
-        has_gone
-    }
-
-    fn fits(&mut self, entry: &Entry<K, V>) -> bool {
-        if self.weights.is_none() {
-            return true;
-        }
-        let (others, old) = (self.held(), self.find(entry.id).map(|old| old.seat));
-        self.weights.as_ref().is_some_and(|weights| weights.fits(entry.weight, others, old))
+        self.most.is_some_and(|most| u64::from(entry.weight) > most)
     }
 
     /// Counts an entry that isn't held, which was too heavy, or came too late.

@@ -1,9 +1,10 @@
-use Rattle.std.proofs.Common.{◌≡◌, ◌≤◌, ◌∙◌, ℕ, ap, arith, below_more}
+use Rattle.std.proofs.Common.{◌≡◌, ◌≤◌, ◌∙◌, ℕ, ap, arith, below_more, refl}
 use Rattle.nr_board.specs.Callers.{Table}
 use Rattle.nr_idmap.specs.Keepers.{IdTable, name_at}
 use Rattle.nr_cache.specs.Places as places
 use Rattle.nr_cache.proofs.AllGone.{all_gone, each_quiet}
 use Rattle.nr_cache.proofs.Filled.{quiet_fewer}
+use Rattle.nr_cache.proofs.Weighing.{lightens_same, lightens_then}
 use Rattle.nr_cache.proofs.clearing.take_all.Goals as goal
 
 pub loop-way-init : goal.loop-way-init
@@ -11,6 +12,8 @@ loop-way-init c = record {
   own = c.requires.own;
   owes = c.requires.owes;
   values = c.requires.values;
+  only = c.requires.only;
+  lightens = lightens_same c.args.writer.now c.args.writer.now c.args.weights.now (λ way. refl);
   takes = places.NoneTaken c.args.writer.now;
   none = λ other low. absurd (omega arith);
 }
@@ -21,6 +24,8 @@ loop-way-preserved c = record {
   own = c.take_at.ensures.own;
   owes = c.take_at.ensures.owes;
   values = c.take_at.ensures.values;
+  only = c.take_at.ensures.only;
+  lightens = lightens_then c.loop-way.invariant.lightens c.take_at.ensures.lightens;
   takes = places.OneMoreTaken c.loop-way.way c.args.writer.now c.loop-way.writer c.take_at.new.writer
       c.loop-way.invariant.takes c.take_at.ensures.takes;
   none = below_more (λ (other : ℕ). name_at c.take_at.new.writer other ≡ 0) c.loop-way.way

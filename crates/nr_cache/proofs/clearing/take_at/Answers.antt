@@ -1,6 +1,7 @@
 use Rattle.std.proofs.Common.{◌∙◌}
 use Rattle.nr_cache.proofs.AllGone.{no_more_names, no_name}
 use Rattle.nr_cache.proofs.Gone.{has_value}
+use Rattle.nr_cache.proofs.Weighing.{evicted_lightens, lightens_stays, lightens_then, only_still}
 use Rattle.nr_cache.proofs.clearing.take_at.Goals as goal
 
 pub unreachable-requires : goal.unreachable-requires
@@ -22,3 +23,14 @@ returns-clause-others c =
     no_more_names c.args.way c.in-Some.id c.args.writer.now c.id_at-named.new.writer c.take_value.new.writer
     c.is_tied.ensures c.is_tied-2.ensures c.in-Some.ensures.names.2 c.in-Some.ensures.names
     c.if-not-take_value.ensures.takes
+
+pub returns-clause-lightens : goal.returns-clause-lightens
+returns-clause-lightens c =
+    lightens_then
+    (lightens_stays c.args.writer.now c.id_at-named.new.writer c.args.weights.now c.in-Some.ensures.stays)
+    (evicted_lightens c.args.way c.in-Some.id c.id_at-named.new.writer c.take_value.new.writer c.args.weights.now
+    c.leave.new.self c.is_tied-2.ensures c.if-not-take_value.ensures.takes.1.1 c.in-Some.ensures.names.2
+    c.in-Some.ensures.names.1.has c.leave.ensures)
+
+pub returns-clause-only : goal.returns-clause-only
+returns-clause-only c = only_still c.requires.only (returns-clause-lightens c)

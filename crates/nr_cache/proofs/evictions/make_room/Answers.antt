@@ -1,6 +1,7 @@
 use Rattle.std.proofs.Common.{◌∙◌}
 use Rattle.nr_cache.proofs.Admitting.{absent_still, chooses_one, room_is_free}
 use Rattle.nr_cache.proofs.Gone.{has_value}
+use Rattle.nr_cache.proofs.Weighing.{lightens_stays, lightens_then, only_still}
 use Rattle.nr_cache.proofs.evictions.make_room.Goals as goal
 
 pub unreachable-requires : goal.unreachable-requires
@@ -8,21 +9,31 @@ unreachable-requires c =
     chooses_one c.args.id c.args.writer.now c.choose.new.writer.clerk c.is_tied.ensures c.requires.full
     c.in_default.ensures.chooses
 
-pub unreachable-requires-then-not-take_value : goal.unreachable-requires-then-not-take_value
-unreachable-requires-then-not-take_value c =
+pub unreachable-requires-then-not-let_go : goal.unreachable-requires-then-not-let_go
+unreachable-requires-then-not-let_go c =
     let choice = c.in-Some.ensures.chooses in
     let has =
     has_value c.named_is_owed_or_resident.ensures c.in-Some.victim choice.way c.choose.new.writer c.is_tied-2.ensures
     (λ way. c.in-Some.ensures.stays.owes way ∙ c.requires.owes way) choice.names.2 choice.names.1.has in
-    c.if-not-take_value.ensures.takes.0 has.0 has.1
+    c.if-not-let_go.ensures.loses.1 has.0 has.1
 
 pub returns-clause-free : goal.returns-clause-free
 returns-clause-free c =
-    room_is_free c.args.id c.in-Some.victim c.args.writer.now c.choose.new.writer c.take_value.new.writer
-    c.is_tied.ensures c.is_tied-2.ensures c.requires.id c.in-Some.ensures.chooses c.if-not-take_value.ensures.takes
+    room_is_free c.args.id c.in-Some.victim c.args.writer.now c.choose.new.writer c.let_go.new.writer
+    c.is_tied.ensures c.requires.id c.in-Some.ensures.chooses c.let_go.ensures.unnames
 
 pub returns-clause-absent : goal.returns-clause-absent
 returns-clause-absent c =
-    absent_still c.args.id c.in-Some.victim c.args.writer.now c.choose.new.writer c.take_value.new.writer
-    c.is_tied.ensures c.is_tied-2.ensures c.requires.id c.in-Some.ensures.chooses c.if-not-take_value.ensures.takes
-    c.requires.absent
+    absent_still c.args.id c.in-Some.victim c.args.writer.now c.choose.new.writer c.let_go.new.writer
+    c.is_tied.ensures c.requires.id c.in-Some.ensures.chooses c.let_go.ensures.unnames c.requires.absent
+
+pub let_go-requires-clause-only : goal.let_go-requires-clause-only
+let_go-requires-clause-only c =
+    only_still c.requires.only
+    (lightens_stays c.args.writer.now c.choose.new.writer c.args.weights.now c.in-Some.ensures.stays)
+
+pub returns-clause-lightens : goal.returns-clause-lightens
+returns-clause-lightens c =
+    lightens_then
+    (lightens_stays c.args.writer.now c.choose.new.writer c.args.weights.now c.in-Some.ensures.stays)
+    c.let_go.ensures.lightens

@@ -1,4 +1,4 @@
-use Rattle.std.proofs.Common.{◌≡◌, ◌∙◌, ◌∷◌, Option, ap, sym, subst}
+use Rattle.std.proofs.Common.{◌≡◌, ◌∙◌, ◌∷◌, Option, ap, refl, sym, subst}
 use Rattle.nr_idmap.specs.Tags.{tag_of}
 use Rattle.nr_cache.specs.declared.finds.FoundValue.{FoundValue}
 use Rattle.nr_cache.specs.Finds.{tells_value}
@@ -6,6 +6,8 @@ use Rattle.nr_cache.specs.Places.{LooksAtValue}
 use Rattle.nr_cache.proofs.Brought.{look_brings}
 use Rattle.nr_cache.proofs.Filled.{quiet_fewer}
 use Rattle.nr_cache.proofs.LookingAt.{look_quiet, looked_at, not_passed}
+use Rattle.nr_cache.proofs.Filled.{writes}
+use Rattle.nr_cache.proofs.Ways.{reading_values}
 use Rattle.nr_cache.proofs.looks.look_at.Goals as goal
 
 pub unreachable-requires : goal.unreachable-requires
@@ -36,3 +38,8 @@ returns-in-Rows-clause-fewer c =
     quiet_fewer c.args.writer.now c.look-looked.new.writer c.is_tied.ensures
     (look_quiet c.args.id c.args.writer.now c.look-looked.new.writer c.value_of.result
     (returns-in-Rows-clause-looks c))
+
+pub returns-in-Rows-clause-stay : goal.returns-in-Rows-clause-stay
+returns-in-Rows-clause-stay c =
+    reading_values c.args.writer.now.writer c.look-looked.new.writer.writer
+    (writes c.args.writer.now c.is_tied.ensures) c.in-Rows.ensures.looks.2.1 refl

@@ -2,7 +2,8 @@ use Rattle.std.proofs.Common.{◌∙◌, inr, subst, sym}
 use Rattle.nr_ids.specs.declared.admissions.Refused.{Refused}
 use Rattle.nr_ids.specs.declared.admissions.Refused.TheVariants as refused
 use Rattle.nr_idmap.specs.IdWrites.{RefusesId}
-use Rattle.nr_cache.proofs.Admitting.{not_full, not_met, refused_absent}
+use Rattle.nr_cache.proofs.Admitting.{not_full, not_met, owes_only, refused_absent}
+use Rattle.nr_cache.proofs.Weighing.{lightens_admitted, lightens_then, lightens_writer, only_still}
 use Rattle.nr_cache.proofs.values.admit.Goals as goal
 
 pub returns-in-Err-NoClaim-clause-none : goal.returns-in-Err-NoClaim-clause-none
@@ -71,3 +72,54 @@ returns-in-Err-NoClaim-admit-clause-admits c =
       admits = subst (λ (why : Refused). RefusesId c.args.id c.make_room.new.writer c.admit-2.new.writer why)
           c.in-Err-NoClaim-admit.field-0-is c.in-Err-NoClaim-admit.ensures.refused;
     })
+
+pub returns-in-Ok-clause-lightens : goal.returns-in-Ok-clause-lightens
+returns-in-Ok-clause-lightens c =
+    lightens_admitted c.args.id c.args.writer.now c.admit.new.writer c.in-Ok.upquery.owed c.args.weights.now
+    c.is_tied.ensures c.in-Ok.ensures.admits.1
+
+pub returns-in-Ok-clause-only : goal.returns-in-Ok-clause-only
+returns-in-Ok-clause-only c = only_still c.requires.only (returns-in-Ok-clause-lightens c)
+
+pub returns-in-Err-NoClaim-clause-lightens : goal.returns-in-Err-NoClaim-clause-lightens
+returns-in-Err-NoClaim-clause-lightens c =
+    lightens_writer c.args.writer.now c.admit.new.writer c.args.weights.now c.in-Err-NoClaim.ensures.refused.writer
+
+pub returns-in-Err-NoClaim-clause-only : goal.returns-in-Err-NoClaim-clause-only
+returns-in-Err-NoClaim-clause-only c = only_still c.requires.only (returns-in-Err-NoClaim-clause-lightens c)
+
+pub make_room-requires-clause-only : goal.make_room-requires-clause-only
+make_room-requires-clause-only c =
+    only_still c.requires.only
+    (lightens_writer c.args.writer.now c.admit.new.writer c.args.weights.now c.in-Err-Full.ensures.refused.writer)
+
+pub returns-in-Ok-admit-clause-lightens : goal.returns-in-Ok-admit-clause-lightens
+returns-in-Ok-admit-clause-lightens c =
+    lightens_then
+    (lightens_then
+    (lightens_writer c.args.writer.now c.admit.new.writer c.args.weights.now c.in-Err-Full.ensures.refused.writer)
+    c.make_room.ensures.lightens)
+    (lightens_admitted c.args.id c.make_room.new.writer c.admit-2.new.writer c.in-Ok-admit.upquery.owed
+    c.make_room.new.weights c.is_tied-2.ensures c.in-Ok-admit.ensures.admits.1)
+
+pub returns-in-Ok-admit-clause-only : goal.returns-in-Ok-admit-clause-only
+returns-in-Ok-admit-clause-only c = only_still c.requires.only (returns-in-Ok-admit-clause-lightens c)
+
+pub returns-in-Err-NoClaim-admit-clause-lightens : goal.returns-in-Err-NoClaim-admit-clause-lightens
+returns-in-Err-NoClaim-admit-clause-lightens c =
+    lightens_then
+    (lightens_then
+    (lightens_writer c.args.writer.now c.admit.new.writer c.args.weights.now c.in-Err-Full.ensures.refused.writer)
+    c.make_room.ensures.lightens)
+    (lightens_writer c.make_room.new.writer c.admit-2.new.writer c.make_room.new.weights
+    c.in-Err-NoClaim-admit.ensures.refused.writer)
+
+pub returns-in-Err-NoClaim-admit-clause-only : goal.returns-in-Err-NoClaim-admit-clause-only
+returns-in-Err-NoClaim-admit-clause-only c = only_still c.requires.only (returns-in-Err-NoClaim-admit-clause-lightens c)
+
+pub returns-in-Ok-admit-clause-upquery : goal.returns-in-Ok-admit-clause-upquery
+returns-in-Ok-admit-clause-upquery c = (
+  c.in-Ok-admit.ensures.admits.0,
+  owes_only c.args.id c.make_room.new.writer c.admit-2.new.writer c.in-Ok-admit.upquery.owed c.make_room.ensures.owes
+      c.in-Ok-admit.ensures.admits.1,
+)

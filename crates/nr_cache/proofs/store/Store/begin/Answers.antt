@@ -12,7 +12,8 @@ returns-in-Some-way-clause-begins c =
       asker = c.self.inside.asker;
       underway = c.self.inside.flights;
       capacity = c.self.inside.limit.capacity;
-      hand = c.self.inside.limit.choice.hand;
+      hand = c.self.inside.limit.hand;
+      load = c.self.inside.limit.weights;
     })
     c.args.self.now
     (record {
@@ -20,7 +21,8 @@ returns-in-Some-way-clause-begins c =
       asker = c.self.inside.asker;
       underway = c.self.inside.flights;
       capacity = c.self.inside.limit.capacity;
-      hand = c.self.inside.limit.choice.hand;
+      hand = c.self.inside.limit.hand;
+      load = c.self.inside.limit.weights;
     })
     begun.Held c.self.view_is (
       c.in_default.ensures,
@@ -30,5 +32,5 @@ returns-in-Some-way-clause-begins c =
           c.in-Some-way.ensures.finds.1.has),
       refl,
       c.in-Some-way._way,
-      ((c.in-Some-way.ensures.finds, c.way_of-way.ensures.stays), refl, refl),
+      ((c.in-Some-way.ensures.finds, c.way_of-way.ensures.stays), refl, (refl, refl, refl)),
     )

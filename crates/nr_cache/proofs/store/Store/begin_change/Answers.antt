@@ -10,7 +10,8 @@ returns c =
       underway =
           c.self.inside.flights;
       capacity = c.self.inside.limit.capacity;
-      hand = c.self.inside.limit.choice.hand;
+      hand = c.self.inside.limit.hand;
+      load = c.self.inside.limit.weights;
     })
     c.args.self.now
     (record {
@@ -18,7 +19,8 @@ returns c =
       asker = c.self.inside.asker;
       underway = c.begin_change.new.self;
       capacity = c.self.inside.limit.capacity;
-      hand = c.self.inside.limit.choice.hand;
+      hand = c.self.inside.limit.hand;
+      load = c.self.inside.limit.weights;
     })
     c.outdate.result c.outdate.new.self c.begin_change.result c.self.view_is c.outdate.ensures c.begin_change.ensures
     refl

@@ -9,6 +9,7 @@ returns-clause-ends c =
       asker = c.self.inside.asker;
       underway = c.self.inside.flights;
       capacity = c.self.inside.limit.capacity;
-      hand = c.self.inside.limit.choice.hand;
+      hand = c.self.inside.limit.hand;
+      load = c.self.inside.limit.weights;
     })
     c.args.self.now c.end_change.new.self c.end_change.result c.self.view_is c.end_change.ensures

@@ -1,17 +1,26 @@
-use Rattle.std.proofs.Common.{refl, subst}
-use Rattle.nr_cache.specs.StoreSeen.{StoreSeen}
-use Rattle.nr_cache.specs.Stores.{Evicts}
+use Rattle.std.proofs.Common.{refl}
+use Rattle.nr_cache.proofs.Seen.{evicts_from}
 use Rattle.nr_cache.proofs.store.Store.evict.Goals as goal
 
 pub returns-clause-evicts : goal.returns-clause-evicts
 returns-clause-evicts c =
-    subst (λ (s : StoreSeen). Evicts c.args.id s
+    evicts_from c.args.id
     (record {
-      keeper = c.take_value.new.writer;
+      keeper = c.self.inside.writer;
       asker = c.self.inside.asker;
       underway = c.self.inside.flights;
       capacity = c.self.inside.limit.capacity;
-      hand = c.self.inside.limit.choice.hand;
+      hand = c.self.inside.limit.hand;
+      load = c.self.inside.limit.weights;
     })
-    c.take_value.result) c.self.view_is
-    (record { takes = c.take_value.ensures.takes; gone = c.take_value.ensures.gone; rest = (refl, refl, refl) })
+    c.args.self.now
+    (record {
+      keeper = c.let_go.new.writer;
+      asker = c.self.inside.asker;
+      underway = c.self.inside.flights;
+      capacity = c.self.inside.limit.capacity;
+      hand = c.self.inside.limit.hand;
+      load = c.let_go.new.weights;
+    })
+    c.let_go.result c.self.view_is c.let_go.ensures.loses
+    c.let_go.ensures.gone refl refl (refl, refl, c.let_go.ensures.lightens)

@@ -11,7 +11,8 @@ returns-clause-evicts c =
       asker = c.self.inside.asker;
       underway = c.self.inside.flights;
       capacity = c.take_first.new.limit.capacity;
-      hand = c.take_first.new.limit.choice.hand;
+      hand = c.take_first.new.limit.hand;
+      load = c.take_first.new.limit.weights;
     })
     c.take_first.result) c.self.view_is
     (record { takes = c.take_first.ensures.takes; rest = (refl, refl, c.take_first.ensures.same) })

@@ -10,7 +10,8 @@ returns c =
       asker = c.self.inside.asker;
       underway = c.self.inside.flights;
       capacity = c.self.inside.limit.capacity;
-      hand = c.self.inside.limit.choice.hand;
+      hand = c.self.inside.limit.hand;
+      load = c.self.inside.limit.weights;
     })
     c.args.self.now
     (record {
@@ -18,6 +19,7 @@ returns c =
       asker = c.self.inside.asker;
       underway = c.end.new.self;
       capacity = c.self.inside.limit.capacity;
-      hand = c.self.inside.limit.choice.hand;
+      hand = c.self.inside.limit.hand;
+      load = c.self.inside.limit.weights;
     })
     c.end.result c.self.view_is c.end.ensures.ends refl

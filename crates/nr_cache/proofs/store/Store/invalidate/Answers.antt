@@ -10,15 +10,17 @@ returns-clause-invalidates c =
       asker = c.self.inside.asker;
       underway = c.self.inside.flights;
       capacity = c.self.inside.limit.capacity;
-      hand = c.self.inside.limit.choice.hand;
+      hand = c.self.inside.limit.hand;
+      load = c.self.inside.limit.weights;
     })
     c.args.self.now
     (record {
-      keeper = c.take_value.new.writer;
+      keeper = c.let_go.new.writer;
       asker = c.self.inside.asker;
       underway = c.outdate.new.self;
       capacity = c.self.inside.limit.capacity;
-      hand = c.self.inside.limit.choice.hand;
+      hand = c.self.inside.limit.hand;
+      load = c.let_go.new.weights;
     })
-    c.outdate.result c.take_value.result c.self.view_is c.outdate.ensures c.take_value.ensures.takes
-    c.take_value.ensures.gone refl refl
+    c.outdate.result c.let_go.result c.self.view_is c.outdate.ensures c.let_go.ensures.loses
+    c.let_go.ensures.gone refl (refl, refl, c.let_go.ensures.lightens)

@@ -4,8 +4,9 @@ use Rattle.nr_idmap.specs.declared.id_map.IdShape.{IdShape}
 use Rattle.nr_idmap.specs.IdOpenings.{OpensIds}
 use Rattle.nr_idmap.specs.Keepers.{IdCaller, id_table_of}
 use Rattle.nr_cache.specs.Openings.{ids_of}
+use Rattle.nr_cache.specs.Weights.{Load, OnlyValuesWeigh}
 use Rattle.nr_cache.proofs.Opening.{opened_brings_none, opened_has_slots, opened_has_row, opened_is_within}
-use Rattle.nr_cache.proofs.Opening.{opened_owes_none}
+use Rattle.nr_cache.proofs.Opening.{opened_has_ways, opened_owes_none, opened_weighs_none}
 use Rattle.nr_cache.proofs.store.Store.open.Goals as goal
 
 pub invariant_of-store : goal.invariant_of-store
@@ -21,4 +22,8 @@ invariant_of-store c =
       opened_brings_none (ids_of c.args.shape.now) c.in-Ok.map c.in-Ok.writer c.in-Ok.readers.items opens,
       search rules,
       opened_is_within (ids_of c.args.shape.now) c.in-Ok.map c.in-Ok.writer c.in-Ok.readers.items _ opens,
+      subst (λ (l : Load). OnlyValuesWeigh l c.in-Ok.writer) (sym c.in-Ok-open-3.ensures)
+          (opened_weighs_none c.args.shape.now.weight c.ways.result c.in-Ok.writer),
+      opened_has_ways c.args.shape.now c.in-Ok.map c.in-Ok.writer c.in-Ok.readers.items
+          (λ bad. let is = c.is_bad.ensures.1 bad in absurd (cc (is, c.if-is_bad.false))) opens,
     )

@@ -10,7 +10,8 @@ returns-clause-reaps g c =
       asker = c.self.inside.asker;
       underway = c.self.inside.flights;
       capacity = c.self.inside.limit.capacity;
-      hand = c.self.inside.limit.choice.hand;
+      hand = c.self.inside.limit.hand;
+      load = c.self.inside.limit.weights;
     })
     c.args.self.now c.args.had.now
     (record {
@@ -18,7 +19,8 @@ returns-clause-reaps g c =
       asker = c.self.inside.asker;
       underway = c.self.inside.flights;
       capacity = c.self.inside.limit.capacity;
-      hand = c.self.inside.limit.choice.hand;
+      hand = c.self.inside.limit.hand;
+      load = c.self.inside.limit.weights;
     })
     c.reap.new.had c.reap.result c.self.view_is c.reap.ensures.reaps refl refl
-    c.reap.ensures.clerk c.reap.ensures.asker refl
+    c.reap.ensures.clerk c.reap.ensures.asker (refl, refl, refl)

@@ -9,6 +9,6 @@ invariant_of-self-2 c =
       did =
           rw (c.tell_landed.ensures.told, c.reserve.ensures.items)
           (∥∥₁_map c.args.self.now.did
-          (lands_so c.holds_fresh.ensures _ c.args.number 1 c.args.value 0 _ _ _ _ c.land-landed.result
+          (lands_so c.holds_fresh.ensures _ c.args.number 1 c.args.value 1 0 _ _ _ _ c.land-landed.result
           c.land-landed.ensures.lands));
     }

@@ -1,5 +1,5 @@
 use Rattle.nr_cache.specs.Stamps as stamps
-use Rattle.nr_cache.proofs.limits.first_to_go.Goals as goal
+use Rattle.nr_cache.proofs.limits.Limit.first_to_go.Goals as goal
 
 pub returns-in-Some-clause-looks : goal.returns-in-Some-clause-looks
 returns-in-Some-clause-looks c =
