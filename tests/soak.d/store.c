@@ -38,6 +38,10 @@ static uint64_t value_of(uint32_t key) { return (uint64_t)key << 32 | model_make
 static uint32_t key_of(uint64_t value) { return (uint32_t)(value >> 32); }
 static void drop(uint64_t value) { model_drops((uint32_t)value); }
 
+/* A value of some versions is heavier than all together may be, where that has a bound. */
+static uint32_t weight_of(uint64_t version) { return (uint32_t)(version % 16); }
+static bool is_too_heavy(uint64_t version) { return shape.weight && weight_of(version) > shape.weight; }
+
 static void see(uint32_t key, uint64_t floor, const nr_cache_value *found) {
   model_answers(key, key_of(found->value), found->stamp - 1, floor);
   model_reads((uint32_t)found->value);
@@ -61,6 +65,7 @@ static uint64_t held(void) {
   nr_cache_counts counts;
   model_wants(nr_cache_count(&cache, &counts) == NR_DONE, "answer", "of nr_cache_count");
   model_wants(counts.values <= shape.capacity, "too many values", "more than the capacity");
+  model_wants(!shape.weight || counts.weight <= shape.weight, "too heavy", "more than the bound");
   return counts.values;
 }
 
@@ -106,14 +111,16 @@ static void land(uint32_t key, uint64_t number, uint64_t version, uint64_t bound
   nr_given given;
   pthread_mutex_lock(&lock);
   uint64_t value = value_of(key), before = held();
-  bool is_first = loads[key].number == number, may_stay = is_first && !loads[key].is_void;
-  bool is_held = has_put(nr_cache_land(&cache, number, version + 1, value, bound, &given), value, &given);
+  bool is_first = loads[key].number == number, may_stay = is_first && !loads[key].is_void && !is_too_heavy(version);
+  uint32_t answer = nr_cache_land(&cache, number, version + 1, value, weight_of(version), bound, &given);
+  bool is_held = has_put(answer, value, &given);
   if (is_held && !may_stay) model_fails("stale fill", "of key %u by load %lu", key, number);
   if (!is_held && may_stay) model_fails("answer", "a load of key %u that nothing outdated isn't held", key);
   if (is_first) ends(key);
   pthread_mutex_unlock(&lock);
   if (!is_held) model_counts("late load refused", 1);
   if (is_held && before == shape.capacity) model_counts("room made for a value", 1);
+  if (is_first && is_too_heavy(version)) model_counts("too heavy to be held", 1);
 }
 
 static void load_key(client *client, uint32_t key, uint64_t number, uint64_t floor) {
@@ -181,10 +188,12 @@ static bool put(uint32_t key, uint64_t version, bool is_swap) {
   nr_cache_value old;
   nr_given given;
   uint64_t value = value_of(key), id = id_of(key);
-  if (!is_swap) return has_put(nr_cache_put(&cache, id, version + 1, value, 0, &given), value, &given);
+  uint32_t weight = weight_of(version);
+  if (!is_swap) return has_put(nr_cache_put(&cache, id, version + 1, value, weight, 0, &given), value, &given);
   if (nr_cache_look(&cache, id, &old) != NR_ROWS) return drop(value), false;
-  model_wants(nr_cache_swap(&cache, id, old.value + 1, version + 1, value, &given) == NR_OTHER, "answer", "of nr_cache_swap");
-  return has_put(nr_cache_swap(&cache, id, old.value, version + 1, value, &given), value, &given);
+  uint32_t answer = nr_cache_swap(&cache, id, old.value + 1, version + 1, value, weight, 0, &given);
+  model_wants(answer == NR_OTHER, "answer", "of nr_cache_swap");
+  return has_put(nr_cache_swap(&cache, id, old.value, version + 1, value, weight, 0, &given), value, &given);
 }
 
 /* A key that was written has a new value, or none. */
@@ -262,8 +271,9 @@ static void *write_all(void *place) {
 
 static void open_all(unsigned number) {
   uint32_t capacity = 1 + (uint32_t)(model_rolls(&dice) % LARGEST), groups = 1 + capacity / (number % 2 ? 5 : 8);
+  uint64_t weights[] = {0, 10, 8 + 4 * capacity};
   shape = (nr_cache_shape){.groups = groups, .capacity = capacity, .readers = READERS, .flights = 1 + number % FLIGHTS,
-    .changes = 1, .key = model_rolls(&dice)};
+    .changes = 1, .weight = weights[number % 3], .key = model_rolls(&dice)};
   DONE_AT_LAST(nr_open_cache(&shape, &cache));
   for (uint32_t place = 0; place < READERS; place++) {
     clients[place] = (client){.dice = model_rolls(&dice) + 1, .place = place};
