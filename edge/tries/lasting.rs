@@ -89,6 +89,7 @@ pub fn a_slot_that_is_too_far_behind(case: &mut Case) {
     assert_eq!(edge.get("l", &now), "1:1");
     edge.follows();
     assert_eq!((edge.count("losses"), slot(case) != slot_before), (1, true));
+    assert_eq!(case.sql("SELECT count(*) FROM pg_replication_slots"), "1", "the slot that is lost is dropped");
     case.sql("ALTER SYSTEM RESET max_slot_wal_keep_size");
     case.sql("SELECT pg_reload_conf()");
 }
