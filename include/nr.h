@@ -720,10 +720,11 @@ uint32_t nr_choose_id(nr_id_writer *writer, uint64_t id, uint64_t *chosen);
    value without landing it.
    A write in the base. Invalidate the id afterwards; or begin a change before it and end it afterwards, so that a load
    that began meanwhile isn't held either.
-   Room. Where there are as many values as the capacity, one goes for each id that gets one, of whichever group. A hand
-   goes round all places: of the next eight the first value goes whose stamp is below the call's `bound`, and else the
-   next one to which the hand comes, which passes up to sixteen that were found since it came there last. With the times
-   at which values expire as their stamps, and the time as the bound, what has expired goes first; the bound 0 is none.
+   Room. Where there are as many values as the capacity, one goes for each id that gets one, of whichever group. Of the
+   eight places that come next, in a turn that goes round all of them, the first value goes whose stamp is below the
+   call's `bound`. With the times at which values expire as their stamps, and the time as the bound, what has expired
+   goes first; the bound 0 is none. Else one goes that came of late and was asked for but once, or that was asked for
+   less often than such a one; rely on no value's turn.
    Weights. Each value has a weight, and a cache may have a bound for what all weigh together, nr_cache_shape's
    `weight`. Where a value comes that is too heavy beside the others, others go in the same way, one after another and
    no more than need be, before it is held; in place of a value of its id it counts without that. What is heavier than
