@@ -1,40 +1,49 @@
 //! Other caches' ways to evict: by least recent use, by S3-FIFO, by SIEVE, and by a perfect knowledge of what is used next.
-use std::collections::{BTreeSet, HashMap, VecDeque};
+use std::collections::{BinaryHeap, HashMap, VecDeque};
 
-/// The hits of a cache that evicts the entry of the least rank, which each get sets anew.
-fn by_rank(trace: &[u64], capacity: usize, rank: impl Fn(usize) -> u64) -> u64 {
-    let mut ranks: HashMap<u64, u64> = HashMap::new();
-    let mut held: BTreeSet<(u64, u64)> = BTreeSet::new();
+pub fn by_last_use(trace: &[u64], capacity: usize) -> u64 {
+    // Of each key that is held its last use; and all uses, of which a key that was used since has others behind.
+    let (mut last, mut uses) = (HashMap::new(), VecDeque::new());
     let mut hits = 0;
     for (at, &key) in trace.iter().enumerate() {
-        match ranks.get(&key) {
-            Some(&had) => {
-                hits += 1;
-                held.remove(&(had, key));
+        let is_hit = last.insert(key, at).is_some();
+        hits += u64::from(is_hit);
+        uses.push_back((key, at));
+        while last.len() > capacity {
+            let (key, at) = uses.pop_front().expect("each key that is held has a use");
+            if last[&key] == at {
+                last.remove(&key);
             }
-            None if held.len() == capacity => {
-                let (_, victim) = held.pop_first().expect("it holds some");
-                ranks.remove(&victim);
-            }
-            None => {}
         }
-        ranks.insert(key, rank(at));
-        held.insert((rank(at), key));
+        while uses.front().is_some_and(|(key, at)| last.get(key) != Some(at)) {
+            uses.pop_front();
+        }
     }
     hits
 }
 
-pub fn by_last_use(trace: &[u64], capacity: usize) -> u64 {
-    by_rank(trace, capacity, |at| at as u64)
-}
-
 pub fn by_next_use(trace: &[u64], capacity: usize) -> u64 {
     let mut next_of = HashMap::new();
-    let mut nexts = vec![u64::MAX; trace.len()];
+    let mut nexts = vec![usize::MAX; trace.len()];
     for (at, key) in trace.iter().enumerate().rev() {
-        nexts[at] = next_of.insert(key, at as u64).unwrap_or(u64::MAX);
+        nexts[at] = next_of.insert(key, at).unwrap_or(usize::MAX);
     }
-    by_rank(trace, capacity, |at| u64::MAX - nexts[at])
+    // Of each key that is held its next use; and all of them, the last first, of which some are over.
+    let (mut held, mut uses) = (HashMap::new(), BinaryHeap::new());
+    let mut hits = 0;
+    for (at, &key) in trace.iter().enumerate() {
+        let is_hit = held.contains_key(&key);
+        hits += u64::from(is_hit);
+        while !is_hit && held.len() >= capacity {
+            let (next, key) = uses.pop().expect("each key that is held has a use");
+            if held.get(&key) == Some(&next) {
+                held.remove(&key);
+            }
+        }
+        held.insert(key, nexts[at]);
+        uses.push((nexts[at], key));
+    }
+    hits
 }
 
 /// A queue from which who was found since goes round again, and else goes: a clock, with marks up to three.
@@ -72,11 +81,43 @@ impl Queue {
     }
 }
 
+/// The last keys that went, so many at most.
+struct Ghosts {
+    most: usize,
+    /// Each with the turn at which it went; one that came back since, or went again, stands in it once more.
+    keys: VecDeque<(u64, u64)>,
+    turns: HashMap<u64, u64>,
+    turn: u64,
+}
+
+impl Ghosts {
+    fn new(most: usize) -> Ghosts {
+        Ghosts { most, keys: VecDeque::new(), turns: HashMap::new(), turn: 0 }
+    }
+
+    fn push(&mut self, key: u64) {
+        self.turn += 1;
+        self.keys.push_back((key, self.turn));
+        self.turns.insert(key, self.turn);
+        while self.turns.len() > self.most {
+            let (key, turn) = self.keys.pop_front().expect("each key stands in it");
+            if self.turns.get(&key) == Some(&turn) {
+                self.turns.remove(&key);
+            }
+        }
+    }
+
+    /// Whether the key was one of them.
+    fn take(&mut self, key: u64) -> bool {
+        self.turns.remove(&key).is_some()
+    }
+}
+
 /// S3-FIFO: a tenth of the capacity for who comes, a queue for who was asked for twice more or came back, and as many keys
 /// of those that went as that holds.
 pub fn by_s3_fifo(trace: &[u64], capacity: usize) -> u64 {
     let small_most = capacity / 10;
-    let (mut small, mut main, mut ghost) = (Queue::default(), Queue::default(), Queue::default());
+    let (mut small, mut main, mut ghosts) = (Queue::default(), Queue::default(), Ghosts::new(capacity - small_most));
     let mut hits = 0;
     for &key in trace {
         if small.find(key) || main.find(key) {
@@ -90,15 +131,11 @@ pub fn by_s3_fifo(trace: &[u64], capacity: usize) -> u64 {
             }
             match small.pop() {
                 Some((key, 2..)) => main.push(key, 0),
-                Some((key, _)) => ghost.push(key, 0),
+                Some((key, _)) => ghosts.push(key),
                 None => main.evict(),
             }
         }
-        if ghost.keys.len() > capacity - small_most {
-            ghost.pop();
-        }
-        let is_back = ghost.marks.remove(&key).is_some();
-        ghost.keys.retain(|other| !is_back || *other != key);
+        let is_back = ghosts.take(key);
         if is_back { &mut main } else { &mut small }.push(key, 0);
     }
     hits
@@ -126,6 +163,10 @@ pub fn by_sieve(trace: &[u64], capacity: usize) -> u64 {
                     marks.remove(&next);
                 }
             }
+        }
+        // Who comes is the newest, which the hand reaches last.
+        if ahead.is_empty() {
+            std::mem::swap(&mut passed, &mut ahead);
         }
         ahead.push_back(key);
         marks.insert(key, false);
