@@ -53,10 +53,11 @@ fn who_misses_after_a_change_loads_anew() {
 fn a_forgotten_request_ends_by_whatever_outdates_it() {
     for change in CHANGES {
         let cache = cache();
-        std::mem::forget(request(&cache, 1));
+        let forgotten = request(&cache, 1);
         assert!(is_under_way(&cache, 1));
         change(&cache);
         assert_eq!((cache.get_with(&1, || 5), cache.get(&1)), (5, Some(5)));
+        drop(forgotten);
     }
 }
 

@@ -83,15 +83,15 @@ fn sorted() -> Box<[Row]> {
 
 #[test]
 fn rows_that_are_not_held_are_sorted_too_and_no_lock_is_had_meanwhile() {
-    let slot: &'static OnceLock<View<u64>> = Box::leak(Box::default());
+    static VIEW: OnceLock<View<u64>> = OnceLock::new();
     // It is told the rows once they are in order, and calls the view, which a thread can't that has a lock of it.
     #[allow(clippy::borrowed_box)]
     let weigh = |_: &u64, rows: &Box<[Row]>| {
-        assert!(rows.is_sorted() && slot.get().is_some_and(|view| !view.contains_key(&1)));
+        assert!(rows.is_sorted() && VIEW.get().is_some_and(|view| !view.contains_key(&1)));
         3
     };
     let view = View::builder().threads(2).sorted().weigher(weigh).max_weight(2).open().unwrap();
-    slot.set(view.clone()).unwrap();
+    VIEW.set(view.clone()).unwrap();
     assert_eq!(view.get_with(&1, || rows(&[8, 5])), rows(&[5, 8]));
     let mut reader = view.reader().unwrap();
     let found = reader.get_with(&1, || rows(&[8, 5]));
