@@ -76,6 +76,27 @@ static void test_failure(void) {
   WANTS(NR_DONE, nr_cache_fail(&cache, number + 1, &flight));
 }
 
+/* Before a close: each load ends, as they began, and tells by which mark its waiters wake. */
+static void test_ends(void) {
+  flight = (nr_flight){3, 4};
+  WANTS(NR_NOTHING, nr_cache_fail_oldest(&cache, &flight));
+  IS(flight.number == 3 && flight.mark == 4);
+  uint64_t first = begun(USER + 100, 8), second = begun(OTHER + 100, 7);
+  WANTS(NR_DONE, nr_cache_fail_oldest(&cache, &flight));
+  IS(flight.number == first && flight.mark == 8);
+  /* One that ended is passed, and one that began since comes last. */
+  uint64_t third = begun(USER + 100, 6);
+  WANTS(NR_DONE, nr_cache_fail(&cache, second, &flight));
+  uint64_t fourth = begun(OTHER + 100, 5);
+  WANTS(NR_DONE, nr_cache_fail_oldest(&cache, &flight));
+  IS(flight.number == third && flight.mark == 6);
+  WANTS(NR_OWN, nr_cache_land(&cache, third, 9, 101, 1, 0, &given));
+  WANTS(NR_DONE, nr_cache_fail_oldest(&cache, &flight));
+  IS(flight.number == fourth && flight.mark == 5);
+  WANTS(NR_NOTHING, nr_cache_fail_oldest(&cache, &flight));
+  IS(flight.number == fourth && lacks(USER + 100) && lacks(OTHER + 100));
+}
+
 /* What was queried before a write in the base isn't held. */
 static void test_invalidation(void) {
   WANTS(NR_EVICTED, nr_cache_invalidate(&cache, USER));
@@ -325,6 +346,7 @@ static void test_openings(const nr_cache_shape *shape) {
   WANTS(NR_CLOSED, nr_cache_release(NULL));
   WANTS(NR_CLOSED, nr_cache_invalidate(NULL, 1));
   WANTS(NR_CLOSED, nr_cache_evict_one(NULL, 0, &given));
+  WANTS(NR_CLOSED, nr_cache_fail_oldest(NULL, &flight));
 }
 
 /* What readers find stays found, and no other id is. */
@@ -339,6 +361,7 @@ static void test_closed(void) {
   WANTS(NR_CLOSED, nr_cache_find(&reader, OTHER, &found));
   WANTS(NR_CLOSED, nr_cache_land(&cache, 1, 1, 1, 1, 0, &given));
   WANTS(NR_CLOSED, nr_cache_fail(&cache, 1, &flight));
+  WANTS(NR_CLOSED, nr_cache_fail_oldest(&cache, &flight));
   WANTS(NR_CLOSED, nr_cache_put(&cache, 1, 1, 1, 1, 0, &given));
   WANTS(NR_CLOSED, nr_cache_swap(&cache, 1, 1, 1, 1, 1, 0, &given));
   WANTS(NR_CLOSED, nr_cache_look(&cache, 1, &found));
@@ -362,6 +385,7 @@ int main(void) {
   test_openings(&shape);
   test_miss();
   test_failure();
+  test_ends();
   test_invalidation();
   test_change();
   test_hold();

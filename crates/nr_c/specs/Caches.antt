@@ -17,8 +17,8 @@ use Rattle.nr_cache.specs.Firsts.{EvictsOne}
 use Rattle.nr_cache.specs.Flights.{EndsChange}
 use Rattle.nr_cache.specs.GivenValues.{ShowsValue}
 use Rattle.nr_cache.specs.StoreSeen.{StoreSeen}
-use Rattle.nr_cache.specs.Stores.{BeginsFlight, ChangesId, Evicts, Fails, Invalidates, InvalidatesAll, Lands, Looks}
-use Rattle.nr_cache.specs.Stores.{Puts, Reaps}
+use Rattle.nr_cache.specs.Stores.{BeginsFlight, ChangesId, Evicts, Fails, FailsOldest, Invalidates, InvalidatesAll}
+use Rattle.nr_cache.specs.Stores.{Lands, Looks, Puts, Reaps}
 use Rattle.nr_cache.specs.Swaps.{Swaps}
 use Rattle.nr_idmap.specs.IdHands.{IdHanded}
 use Rattle.nr_c.specs.declared.cache_flight.NrFlight.{NrFlight}
@@ -110,6 +110,11 @@ flight_told stood None = stood
 abbrev pub FailsByCode : ℕ → NrFlight → NrFlight → StoreSeen → StoreSeen → ℕ → Type 0
 FailsByCode number stood stands old new code =
     (ended : Option Flight) × (code ≡ ended_code ended) × Fails number old new ended
+    × (stands ≡ flight_told stood ended)
+
+abbrev pub FailsOldestByCode : NrFlight → NrFlight → StoreSeen → StoreSeen → ℕ → Type 0
+FailsOldestByCode stood stands old new code =
+    (ended : Option Flight) × (code ≡ ended_code ended) × FailsOldest old new ended
     × (stands ≡ flight_told stood ended)
 
 -- CHANGES OF THE BASE

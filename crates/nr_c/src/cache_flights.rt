@@ -1,6 +1,6 @@
 //! What a cache's caller begins and ends: loads of ids, and changes of the base. One thread at a time.
 ghost use Rattle.std.specs.Prelude.{◌≡◌, ⊤};
-ghost use Rattle.nr_c.specs.Caches.{BeginsByCode, CacheCalls, ChangesByCode, EndsChangeByCode, FailsByCode};
+ghost use Rattle.nr_c.specs.Caches.{BeginsByCode, CacheCalls, ChangesByCode, EndsChangeByCode, FailsByCode, FailsOldestByCode};
 ghost use Rattle.nr_c.specs.IdLive.{WithId};
 ghost use Rattle.nr_c.specs.Live.{WhenLive};
 
@@ -44,6 +44,20 @@ pub extern "C" fn nr_cache_fail(cache: &mut NrCache, number: u64, flight: &mut N
     }
     let side = cache.side();
     let ended = side.store.fail(number);
+    of_ended(ended, flight)
+}
+
+/// Ends the flight that began first of those under way, without a value: `NR_DONE`, and `flight` tells it, so that who
+/// waits for it is woken before a close; or `NR_NOTHING` where none is under way.
+#[unsafe(no_mangle)]
+pub extern "C" fn nr_cache_fail_oldest(cache: &mut NrCache, flight: &mut NrFlight) -> u32
+    ensures { WhenLive (flight.new ≡ flight.old) (CacheCalls (FailsOldestByCode flight.old flight.new)) cache.old.live cache.new.live result }
+{
+    if !cache.is_live() {
+        return NR_CLOSED;
+    }
+    let side = cache.side();
+    let ended = side.store.fail_oldest();
     of_ended(ended, flight)
 }
 

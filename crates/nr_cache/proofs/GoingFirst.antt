@@ -23,7 +23,7 @@ first_quiet bound old new (Some given) takes =
     (look_quiet given.id takes.mid takes.seen (Some (record { stamp = given.stamp; value = given.value }))
     takes.tells))
     (takes_quiet given.id takes.seen new.keeper true takes.takes)
-first_quiet bound old new None none = around_quiet none.0
+first_quiet bound old new None none = around_quiet none.looks
 
 -- a value that was looked at is there for an eviction
 pub is_taken : (id : ℕ) (found : FoundValue) (old mid new : Keeper) → LooksAtValue id old mid (Some found)

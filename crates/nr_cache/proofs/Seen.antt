@@ -9,11 +9,11 @@ use Rattle.nr_cache.specs.declared.flights.Fate.TheVariants as fate
 use Rattle.nr_cache.specs.declared.store.Begun.{Begun}
 use Rattle.nr_cache.specs.declared.store.Landed.{Landed}
 use Rattle.nr_cache.specs.declared.store.Landed.TheVariants as landed
-use Rattle.nr_cache.specs.Flights.{BeginsChange, Ends, EndsChange, Outdates, Underway, is_changing}
+use Rattle.nr_cache.specs.Flights.{BeginsChange, Ends, EndsChange, EndsOldest, Outdates, Underway, is_changing}
 use Rattle.nr_cache.specs.Places.{IsGone, Loses}
 use Rattle.nr_cache.specs.StoreSeen.{KeepsLimits, StoreSeen, stock_in}
-use Rattle.nr_cache.specs.Stores.{BeginsFlight, ChangesId, Evicts, Fails, HoldsOrNot, Invalidates, Lands, LosesWeight}
-use Rattle.nr_cache.specs.Stores.{Puts, Reaps}
+use Rattle.nr_cache.specs.Stores.{BeginsFlight, ChangesId, Evicts, Fails, FailsOldest, HoldsOrNot, Invalidates, Lands}
+use Rattle.nr_cache.specs.Stores.{LosesWeight, Puts, Reaps}
 use Rattle.nr_cache.specs.Values.{row_of}
 use Rattle.nr_cache.proofs.Quiets.{reap_moves}
 
@@ -34,6 +34,12 @@ pub fails_from : (number : ℕ) (parts seen new : StoreSeen) (found : Option Fli
     → Fails number seen new found
 fails_from number parts seen new found is ends rest =
     subst (λ (s : StoreSeen). Fails number s new found) is (record { ends = ends; rest = rest })
+
+pub oldest_from : (parts seen new : StoreSeen) (found : Option Flight) → parts ≡ seen
+    → EndsOldest parts.underway new.underway found → new ≡ record parts { underway = new.underway }
+    → FailsOldest seen new found
+oldest_from parts seen new found is ends rest =
+    subst (λ (s : StoreSeen). FailsOldest s new found) is (record { ends = ends; rest = rest })
 
 pub ends_change_from : (id : ℕ) (parts seen : StoreSeen) (after : Underway) (told : Bool) → parts ≡ seen
     → EndsChange id parts.underway after told → EndsChange id seen.underway after told

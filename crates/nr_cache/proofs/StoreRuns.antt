@@ -1,6 +1,8 @@
 -- A store's calls in a row.
 use Rattle.std.proofs.Common.{◌≡◌, ℕ, Bool, true, false, List, [], ◌∷◌, ◌++◌, Option, Some, None, inl, inr, sym, ap}
-use Rattle.std.proofs.Common.{subst}
+use Rattle.std.proofs.Common.{arith, cond, length, refl, subst, ◌∙◌}
+use Rattle.std.specs.List.{position, remove}
+use Rattle.std.proofs.lemmas.Bool.{eq-eqb, lt-ltb}
 use Rattle.nr_model.specs.declared.rows.Row.{Row}
 use Rattle.nr_map.specs.GivenBack as map
 use Rattle.nr_map.specs.GivenBack.{EachSetComesOutOnce}
@@ -9,7 +11,7 @@ use Rattle.nr_cache.specs.declared.finds.FoundValue.{FoundValue}
 use Rattle.nr_cache.specs.declared.flights.Flight.{Flight}
 use Rattle.nr_cache.specs.declared.store.Begun.{Begun}
 use Rattle.nr_cache.specs.declared.store.Begun.TheVariants as begun
-use Rattle.nr_cache.specs.Flights.{Ends, Outdates, Underway}
+use Rattle.nr_cache.specs.Flights.{Ends, EndsOldest, IsFirst, Outdates, Underway, has_number}
 use Rattle.nr_cache.specs.Histories.{AllInvalidated, Began, ChangeBegan, ChangeEnded, Does, Ended, Event, Invalidated}
 use Rattle.nr_cache.specs.Histories as flights
 use Rattle.nr_cache.specs.Moves.{Moves}
@@ -34,6 +36,22 @@ record Goes_on {Room : Type 0} (shows : Room → List Row → Type 0) (history :
   pub loads : flights.Run history store.underway
   pub sets : map.Run shows store.keeper.writer put given
 
+-- the first of them is the first that has its number
+oldest_ends : (old new : Underway) (flight : Flight) → EndsOldest old new (Some flight)
+    → Ends flight.number old new (Some flight)
+oldest_ends old new flight ends =
+    let (later, had, is) = ends in
+    let same = eq-eqb flight.number flight.number refl in
+    let some = lt-ltb 0 (length (flight ∷ later)) (omega arith) in
+    let first : position (has_number flight.number) (flight ∷ later) ≡ Some 0
+    = rw same (subst (λ (b : Bool). cond {A = Option ℕ} b (Some 0) None ≡ Some 0) (sym some) refl) in (
+      0,
+      subst (λ (flights : List Flight). IsFirst (has_number flight.number) flights 0 flight) (sym had)
+          (first, omega arith, refl),
+      is ∙ subst (λ (flights : List Flight). record old { flights = later } ≡ record old { flights = remove flights 0 })
+          (sym had) refl,
+    )
+
 module _ {Room : Type 0} (shows : Room → List Row → Type 0) where
   -- no event, and one
   none : (history : List Event) (old new : Underway) → flights.Run history old → new ≡ old → flights.Run history new
@@ -57,6 +75,12 @@ module _ {Room : Type 0} (shows : Room → List Row → Type 0) where
       → flights.Run history old → Ends number old new found → flights.Run (ended_by found ++ history) new
   ended_loads history number (Some flight) old new run ends = one history (Ended flight) old new run (number, ends)
   ended_loads history number None old new run ends = none history old new run ends.1
+
+  oldest_loads : (history : List Event) (found : Option Flight) (old new : Underway) → flights.Run history old
+      → EndsOldest old new found → flights.Run (ended_by found ++ history) new
+  oldest_loads history (Some flight) old new run ends =
+      one history (Ended flight) old new run (flight.number, oldest_ends old new flight ends)
+  oldest_loads history None old new run ends = none history old new run ends.1
 
   changed_loads : (history : List Event) (id : ℕ) (old new : StoreSeen) (told : Bool)
       → flights.Run history old.underway → ChangesId id old new told
@@ -84,6 +108,8 @@ module _ {Room : Type 0} (shows : Room → List Row → Type 0) where
       ended_loads history number lands.found old.underway new.underway run lands.ends
   loads history run (runs.FailsIt number old new found fails) =
       ended_loads history number found old.underway new.underway run fails.ends
+  loads history run (runs.FailsFirst old new found fails) =
+      oldest_loads history found old.underway new.underway run fails.ends
   loads history run (runs.InvalidatesIt id old new had does) =
       one history (Invalidated id) old.underway new.underway run (does.found, does.outdates)
   loads history run (runs.PutsIt id stamp value weight bound old new before room given puts) =
@@ -161,6 +187,7 @@ module _ {Room : Type 0} (shows : Room → List Row → Type 0) where
   sets (runs.LandsIt number stamp value weight bound old new before room given lands) = lands.holds.moves
   sets (runs.LandsNone number weight old new before room lands) = own_sets number weight old new before room lands
   sets (runs.FailsIt number old new found fails) = rests old new fails.rest
+  sets (runs.FailsFirst old new found fails) = rests old new fails.rest
   sets (runs.InvalidatesIt id old new had does) =
       quiet_moves shows (loses_quiet id old.keeper new.keeper had does.takes)
   sets (runs.PutsIt id stamp value weight bound old new before room given puts) = puts.holds.moves

@@ -70,6 +70,12 @@ Ends number old new (Some flight) =
     × (new ≡ record old { flights = remove old.flights place })
 Ends number old new None = (position (has_number number) old.flights ≡ None) × (new ≡ old)
 
+-- the flight that began first of those under way ends, or none is under way
+abbrev pub EndsOldest : Underway → Underway → Option Flight → Type 0
+EndsOldest old new (Some flight) =
+    (later : List Flight) × (old.flights ≡ flight ∷ later) × (new ≡ record old { flights = later })
+EndsOldest old new None = (old.flights ≡ []) × (new ≡ old)
+
 abbrev pub outdated : Flight → Flight
 outdated flight = record flight { fate = Outdated }
 

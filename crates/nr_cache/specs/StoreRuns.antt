@@ -18,9 +18,8 @@ use Rattle.nr_cache.specs.Counts.{CountsStore}
 use Rattle.nr_cache.specs.Histories.{AllInvalidated, Began, ChangeBegan, ChangeEnded, Ended, Event, Invalidated}
 use Rattle.nr_cache.specs.Histories.{IsFresh, IsInOrder}
 use Rattle.nr_cache.specs.StoreSeen.{StoreSeen}
-use Rattle.nr_cache.specs.Stores.{BeginsFlight, ChangesId, Evicts, Fails, Invalidates, InvalidatesAll, LandsHeld}
-use Rattle.nr_cache.specs.Stores.{LandsOwn, Looks, PutsHeld, PutsOwn}
-use Rattle.nr_cache.specs.Stores.{Reaps}
+use Rattle.nr_cache.specs.Stores.{BeginsFlight, ChangesId, Evicts, Fails, FailsOldest, Invalidates, InvalidatesAll}
+use Rattle.nr_cache.specs.Stores.{LandsHeld, LandsOwn, Looks, PutsHeld, PutsOwn, Reaps}
 use Rattle.nr_cache.specs.Swaps.{SwapsHeld, SwapsOwn}
 use Rattle.nr_cache.specs.Values.{set_of}
 
@@ -48,6 +47,8 @@ module _ {Room : Type 0} (shows : Room → List Row → Type 0) where
     LandsNone : (number weight : ℕ) (old new : StoreSeen) (before room : Room)
         → (lands : LandsOwn shows number weight old before new room) → Calls old (ended_by lands.found) [] [] new
     FailsIt : (number : ℕ) (old new : StoreSeen) (found : Option Flight) → Fails number old new found
+        → Calls old (ended_by found) [] [] new
+    FailsFirst : (old new : StoreSeen) (found : Option Flight) → FailsOldest old new found
         → Calls old (ended_by found) [] [] new
     InvalidatesIt : (id : ℕ) (old new : StoreSeen) (had : Bool) → Invalidates id old new had
         → Calls old (Invalidated id ∷ []) [] [] new

@@ -13,8 +13,8 @@ use Rattle.nr_cache.specs.declared.store.Begun.{Begun}
 use Rattle.nr_cache.specs.declared.store.Begun.TheVariants as begun
 use Rattle.nr_cache.specs.declared.store.Landed.{Landed}
 use Rattle.nr_cache.specs.declared.store.Landed.TheVariants as landed
-use Rattle.nr_cache.specs.Flights.{Begins, BeginsChange, Ends, FindsFlight, IsFree, IsFull, Outdates, OutdatesAll}
-use Rattle.nr_cache.specs.Flights.{Underway, is_changing}
+use Rattle.nr_cache.specs.Flights.{Begins, BeginsChange, Ends, EndsOldest, FindsFlight, IsFree, IsFull, Outdates}
+use Rattle.nr_cache.specs.Flights.{OutdatesAll, Underway, is_changing}
 use Rattle.nr_cache.specs.Moves.{Moves, ShowsReaped}
 use Rattle.nr_cache.specs.Places.{HasNoPlace, HasValue, Holds, IsGone, LooksAtValue, LooksUp, Loses, TakesEach}
 use Rattle.nr_cache.specs.StoreSeen.{KeepsLimits, StoreSeen, stock_in}
@@ -159,6 +159,11 @@ module _ {Room : Type 0} (shows : Room → List Row → Type 0) where
 -- the flight of that number ended without a value
 pub record Fails (number : ℕ) (old new : StoreSeen) (found : Option Flight) : Type 0 where
   pub ends : Ends number old.underway new.underway found
+  pub rest : new ≡ record old { underway = new.underway }
+
+-- the one that began first of those under way did
+pub record FailsOldest (old new : StoreSeen) (found : Option Flight) : Type 0 where
+  pub ends : EndsOldest old.underway new.underway found
   pub rest : new ≡ record old { underway = new.underway }
 
 -- the id's flight is outdated, and a change of the id is under way where there was room

@@ -6,6 +6,9 @@
 //! who was found since the turn came there last is passed and counts one more, and the first other one is the
 //! entrant's match. The one with the greater count stays. Of the ids that went some are told, with their counts.
 //!
+//! Where room is made for weight, entrants go first, however many there are, so that those who come bear their own
+//! weight. Where one wins, residents go on going for it until they weigh what it does, each that has the lesser count.
+//!
 //! Where those who went are asked for again, and those who stayed aren't found, the counts tell little. So that is
 //! counted, and decides by how much residents lose who win (`Mood`).
 ghost use Rattle.std.specs.Prelude.{◌≡◌, ◌<◌};
@@ -17,6 +20,7 @@ use crate::leavers::Leavers;
 use crate::mood::{Doubt, Mood};
 use crate::shape::StoreShape;
 use crate::standing::{Stake, Standing, Standings, counted};
+use crate::weights::Weights;
 use nr_idmap::{IdMap, IdWriter};
 use std::alloc::{AllocError, Global};
 
@@ -26,12 +30,23 @@ const ENOUGH: u8 = 2;
 /// How many residents that were found a turn passes at most.
 const PATIENCE: u32 = 8;
 
+/// What a value goes for.
+#[derive(Clone, Copy, PartialEq, Eq, Debug)]
+pub(crate) enum Need {
+    /// There are as many as may be.
+    Place,
+    /// One is too heavy beside the others.
+    Weight,
+}
+
 #[derive(Drop)]
 pub(crate) struct Choice {
     /// The way that comes next in the turn of the residents.
     turn: u32,
     /// The way of the last who came. Who loaded its value may have found it since, which tells nothing.
     newest: Option<u32>,
+    /// The last who won, if those who went for it are lighter.
+    winner: Option<Winner>,
     standings: Standings,
     entrants: Entrants,
     leavers: Leavers,
@@ -46,6 +61,13 @@ struct Rival {
     count: u8,
 }
 
+/// Who stays, and how much is to go for it yet.
+#[derive(Clone, Copy)]
+struct Winner {
+    way: u32,
+    lacks: u32,
+}
+
 impl Choice {
     /// Takes all the memory that it has room in.
     pub fn open(alloc: Global, shape: &StoreShape) -> Result<Choice, AllocError> {
@@ -53,17 +75,18 @@ impl Choice {
         Ok(Choice {
             turn: 0,
             newest: None,
+            winner: None,
             standings: Standings::open(alloc, shape.groups.saturating_mul(8))?,
             entrants: Entrants::open(alloc, most)?,
             leavers: Leavers::open(alloc, shape.groups.saturating_mul(2))?,
-            doubt: Doubt::new(shape.capacity),
+            doubt: Doubt::new(shape.capacity, shape.weight),
         })
     }
 
-    /// An id has a way now, which it had not. Where none had to go since the last one came, that stays.
-    pub fn enter(&mut self, way: u32, id: u64) {
+    /// An id has a way now, which it had not.
+    pub fn enter(&mut self, way: u32, id: u64, weights: &Weights) {
         if let Some(newest) = self.newest.take() {
-            self.standings.stay_uncounted(newest);
+            self.settle(newest, weights);
         }
         let count = match self.leavers.recall(id) {
             Some(leaver) => {
@@ -76,19 +99,48 @@ impl Choice {
         self.newest = Some(way);
     }
 
+    // None had to go since the last one came: that stays. Where values are weighed it waits, and those stay who
+    // came before, as long as more waits than may.
+    fn settle(&mut self, newest: u32, weights: &Weights) {
+        self.standings.uncount(newest);
+        if !self.doubt.weighs() {
+            return self.standings.stay(newest);
+        }
+        self.entrants.push(newest, weights.of(newest));
+        for _ in 0..self.entrants.count() {
+            if !self.doubt.is_exceeded(&self.entrants) {
+                return;
+            }
+            if let Some(oldest) = self.entrants.pop() {
+                self.standings.stay(oldest);
+            }
+        }
+    }
+
     /// The way of one whose value is to go, which isn't the newcomer's unless no other has a value. Takes 1 or 2 steps
     /// of the directory for the newest's mark, up to 3 for each entrant or resident that it comes to, and none for
     /// other ways. It comes to one entrant and to nine residents at most, but for those whose values were
-    /// taken since by other calls, and to nine times as many residents where there are fewer entrants than may be.
-    pub fn choose(&mut self, map: &IdMap, writer: &mut IdWriter, newcomer: u32) -> u32
+    /// taken since by other calls, to nine more where a winner lacks weight, and to nine times as many where no
+    /// entrant is to go.
+    pub fn choose(
+        &mut self,
+        map: &IdMap,
+        writer: &mut IdWriter,
+        weights: &Weights,
+        need: Need,
+        newcomer: u32,
+    ) -> u32
         requires own { writer.old.table ≡ map.now }
         ensures own { writer.new.table ≡ map.now }
         ensures stays { StaysButClerk writer.old writer.new }
     {
-        self.newest_waits(map, writer);
-        if self.entrants.count() > self.doubt.room {
+        self.newest_waits(map, writer, weights);
+        if let Some(way) = self.goes_for_winner(map, writer, weights, need, newcomer) {
+            return way;
+        }
+        if need == Need::Weight || self.entrants.count() > self.doubt.room {
             if let Some(entrant) = self.oldest_entrant(map, writer, newcomer) {
-                return self.challenge(map, writer, newcomer, entrant);
+                return self.challenge(map, writer, weights, need, newcomer, entrant);
             }
         }
         if let Some(resident) = self.least_resident(map, writer, newcomer) {
@@ -102,7 +154,7 @@ impl Choice {
 
     // The last who came waits behind the other entrants from now on. Where they are too many, since the mood has
     // changed, the oldest stays, so that they become fewer.
-    fn newest_waits(&mut self, map: &IdMap, writer: &mut IdWriter)
+    fn newest_waits(&mut self, map: &IdMap, writer: &mut IdWriter, weights: &Weights)
         requires own { writer.old.table ≡ map.now }
         ensures own { writer.new.table ≡ map.now }
         ensures stays { StaysButClerk writer.old writer.new }
@@ -110,7 +162,7 @@ impl Choice {
         let Some(newest) = self.newest.take() else {
             return;
         };
-        self.entrants.push(newest);
+        self.entrants.push(newest, weights.of(newest));
         if self.entrants.count() > self.doubt.room.saturating_add(1) {
             if let Some(oldest) = self.entrants.pop() {
                 self.standings.stay(oldest);
@@ -121,11 +173,43 @@ impl Choice {
         }
     }
 
+    // The last who won stands against one more resident, where those who went for it are lighter.
+    fn goes_for_winner(
+        &mut self,
+        map: &IdMap,
+        writer: &mut IdWriter,
+        weights: &Weights,
+        need: Need,
+        newcomer: u32,
+    ) -> Option<u32>
+        requires own { writer.old.table ≡ map.now }
+        ensures own { writer.new.table ≡ map.now }
+        ensures stays { StaysButClerk writer.old writer.new }
+    {
+        if need == Need::Place {
+            return None;
+        }
+        let Winner { way, lacks } = self.winner.take()?;
+        let Standing::Resident { count, .. } = self.standings.of(way) else {
+            return None;
+        };
+        let winner = self.rival_at(map, writer, way, count)?;
+        let resident = self.next_resident(map, writer, newcomer)?;
+        if way == newcomer || resident.way == way {
+            return None;
+        }
+        let gone = self.decide(winner, resident);
+        self.weigh(winner, gone, lacks, weights);
+        Some(gone)
+    }
+
     // Who of an entrant and its match goes.
     fn challenge(
         &mut self,
         map: &IdMap,
         writer: &mut IdWriter,
+        weights: &Weights,
+        need: Need,
         newcomer: u32,
         entrant: Rival,
     ) -> u32
@@ -136,9 +220,24 @@ impl Choice {
         if entrant.count < ENOUGH {
             return self.goes(entrant, Stake::Nothing);
         }
-        match self.next_resident(map, writer, newcomer) {
-            Some(resident) => self.decide(entrant, resident),
-            None => self.goes(entrant, Stake::Nothing),
+        let Some(resident) = self.next_resident(map, writer, newcomer) else {
+            return self.goes(entrant, Stake::Nothing);
+        };
+        let gone = self.decide(entrant, resident);
+        if need == Need::Weight {
+            self.weigh(entrant, gone, weights.of(entrant.way), weights);
+        }
+        gone
+    }
+
+    // Who won lacks what the other that went is lighter by.
+    fn weigh(&mut self, winner: Rival, gone: u32, lacks: u32, weights: &Weights) {
+        let lacks = lacks.saturating_sub(weights.of(gone));
+        if gone != winner.way && lacks > 0 {
+            self.winner = Some(Winner {
+                way: winner.way,
+                lacks,
+            });
         }
     }
 
@@ -243,7 +342,9 @@ impl Choice {
     {
         for _ in 0..self.entrants.count() {
             let way = self.entrants.pop()?;
-            if way != newcomer {
+            if way == newcomer {
+                self.standings.stay(way);
+            } else {
                 let oldest = self.entrant_at(map, writer, way);
                 if oldest.is_some() {
                     return oldest;

@@ -5,6 +5,7 @@ ghost use Rattle.nr_cache.specs.Places.{OwesNone};
 ghost use Rattle.nr_cache.specs.Values.{BringsValues, values_in};
 ghost use Rattle.nr_cache.specs.Weights.{OnlyValuesWeigh, stock_of};
 
+use crate::choice::Need;
 use crate::evictions::take_value;
 use crate::given::GivenValue;
 use crate::limits::Limit;
@@ -17,7 +18,7 @@ impl Store {
 
     /// Takes the value that goes next, as where one lands in a full store: one with a stamp below the bound, if
     /// one is met. Tells it, with its id, and none only where no id has a value. It comes out by a later call, and
-    /// its id's flight stays as it is.
+    /// its id's flight stays as it is. The next look for a stale value begins eight ways on, unless one was met.
     pub fn evict_one(&mut self, map: &IdMap, bound: u64) -> Option<GivenValue>
         requires own { self.old.keeper.table ≡ map.now }
         ensures own { self.new.keeper.table ≡ map.now }
@@ -52,7 +53,7 @@ fn take_first(
     writer.is_tied();
     // A way that there isn't: nobody is a newcomer.
     let nobody = map.ways();
-    let named = limit.first_to_go(map, writer, nobody, bound);
+    let named = limit.first_to_go(map, writer, nobody, Need::Place, bound);
     writer.is_tied();
     let victim = match named {
         Some(victim) => victim,

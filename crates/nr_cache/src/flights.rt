@@ -47,7 +47,7 @@ impl Model for Flights {
 }
 
 impl Flights {
-    ghost use Rattle.nr_cache.specs.Flights.{Begins, BeginsChange, Ends, EndsChange, FindsFlight, IsFree, Outdates, OutdatesAll, none_under_way};
+    ghost use Rattle.nr_cache.specs.Flights.{Begins, BeginsChange, Ends, EndsChange, EndsOldest, FindsFlight, IsFree, Outdates, OutdatesAll, none_under_way};
 
     /// Nothing is under way, and there is room for so many flights and changes.
     pub fn open(alloc: Global, flights: usize, changes: usize) -> Result<Flights, AllocError>
@@ -96,6 +96,16 @@ impl Flights {
     {
         let place = place_of_number(&self.under_way, number)?;
         Some(self.under_way.remove(place))
+    }
+
+    /// Ends the flight that began first of those under way.
+    pub fn end_oldest(&mut self) -> Option<Flight>
+        ensures { EndsOldest self.old self.new result }
+    {
+        if self.under_way.is_empty() {
+            return None;
+        }
+        Some(self.under_way.remove(0))
     }
 
     /// The value of an id's flight will not be held: the flight as it was.

@@ -3,11 +3,11 @@ ghost use Rattle.std.specs.Prelude.{◌≡◌, ◌≢◌, ◌<◌, ◌≤◌, �
 ghost use Rattle.nr_idmap.specs.IdChoices.{StaysButClerk};
 ghost use Rattle.nr_idmap.specs.Keepers.{OwesSame, name_at};
 ghost use Rattle.nr_cache.specs.Places.{HasNoOther, HoldsNoOther, IsOther, KeepsWithin, LetsOneGo, LightensFor, OwesNoneBut, OwesOnly, TakesValue};
-ghost use Rattle.nr_cache.specs.Stamps.{GoesNext, LooksAround};
+ghost use Rattle.nr_cache.specs.Stamps.{GoesNext, LooksAround, way_after};
 ghost use Rattle.nr_cache.specs.Values.{BringsValues, IsWithin, values_in};
 ghost use Rattle.nr_cache.specs.Weights.{Fits, Lightens, OnlyValuesWeigh, value_at};
 
-use crate::choice::{Choice, place_after};
+use crate::choice::{Choice, Need, place_after};
 use crate::counts::count_values;
 use crate::stamps::stale_way;
 use crate::weights::Weights;
@@ -71,10 +71,10 @@ impl Limit {
         let count = count_values(map, writer);
         writer.is_tied();
         if count >= self.capacity {
-            self.let_one_go(map, writer, way, bound);
+            self.let_one_go(map, writer, way, Need::Place, bound);
         }
         self.lighten(map, writer, way, weight, bound);
-        self.choice.enter(way, upquery.id());
+        self.choice.enter(way, upquery.id(), &self.weights);
     }
 
     /// Lets the values of others go until one of that weight fits in the way, in place of what the way has.
@@ -98,12 +98,12 @@ impl Limit {
         ensures same { self.new.capacity ≡ self.old.capacity }
     {
         'too_heavy: while !self.weights.fits(way, weight) {
-            self.let_one_go(map, writer, way, bound);
+            self.let_one_go(map, writer, way, Need::Weight, bound);
         }
     }
 
     // Takes the value of one that hasn't that way.
-    fn let_one_go(&mut self, map: &IdMap, writer: &mut IdWriter, way: u32, bound: u64)
+    fn let_one_go(&mut self, map: &IdMap, writer: &mut IdWriter, way: u32, need: Need, bound: u64)
         requires own { writer.old.table ≡ map.now }
         requires owes { OwesNoneBut way writer.old }
         requires values { BringsValues writer.old }
@@ -122,7 +122,7 @@ impl Limit {
         ensures same { self.new.capacity ≡ self.old.capacity }
     {
         writer.is_tied();
-        let victim = self.first_to_go(map, writer, way, bound);
+        let victim = self.first_to_go(map, writer, way, need, bound);
         writer.is_tied();
         let Some(victim) = victim else {
             // Another way has a value.
@@ -137,6 +137,7 @@ impl Limit {
         map: &IdMap,
         writer: &mut IdWriter,
         newcomer: u32,
+        need: Need,
         bound: u64,
     ) -> Option<Other>
         requires own { writer.old.table ≡ map.now }
@@ -146,6 +147,7 @@ impl Limit {
         ensures looks { LooksAround writer.old writer.new }
         ensures some { IfSome result (λ other. IsOther newcomer other.way other.id writer.new × GoesNext bound newcomer self.old.hand self.new.hand other.way writer.new) }
         ensures none { IfNone result (HasNoOther newcomer writer.new) }
+        ensures past { IfNone result (self.new.hand ≡ way_after self.old.hand 8 map.now.map.shape.keys) }
         ensures weights { self.new.weights ≡ self.old.weights }
         ensures same { self.new.capacity ≡ self.old.capacity }
     {
@@ -155,21 +157,29 @@ impl Limit {
             Some(way) => other_at(map, writer, way, newcomer),
             None => {
                 self.hand = place_after(self.hand, STRIDE, map.ways());
-                victim(map, writer, &mut self.choice, newcomer)
+                let choice = &mut self.choice;
+                victim(map, writer, choice, &self.weights, need, newcomer)
             }
         }
     }
 }
 
 // The id that has the way which the choice chose; where that may not go, any that has another way than this one.
-fn victim(map: &IdMap, writer: &mut IdWriter, choice: &mut Choice, newcomer: u32) -> Option<Other>
+fn victim(
+    map: &IdMap,
+    writer: &mut IdWriter,
+    choice: &mut Choice,
+    weights: &Weights,
+    need: Need,
+    newcomer: u32,
+) -> Option<Other>
     requires own { writer.old.table ≡ map.now }
     ensures own { writer.new.table ≡ map.now }
     ensures stays { StaysButClerk writer.old writer.new }
     ensures some { IfSome result (λ other. IsOther newcomer other.way other.id writer.new) }
     ensures none { IfNone result (HasNoOther newcomer writer.new) }
 {
-    let way = choice.choose(map, writer, newcomer);
+    let way = choice.choose(map, writer, weights, need, newcomer);
     match other_at(map, writer, way, newcomer) {
         Some(other) => Some(other),
         None => any_other(map, writer, newcomer),

@@ -1,5 +1,8 @@
 //! Whether counts tell who will be found again. It is learnt from those who were challenged: of each two one stays,
 //! who may be found, and one goes, who may be asked for again.
+ghost use Rattle.std.specs.Prelude.{◌<◌};
+
+use crate::entrants::Entrants;
 use crate::standing::Stake;
 
 /// What it counts that one who stayed is found.
@@ -20,13 +23,24 @@ pub(crate) enum Mood {
 impl Mood {
     /// How many of so many values may be entrants: eight at least, of a store that has many more.
     pub fn room(self, capacity: u32) -> u32 {
-        let share = match self {
+        let least = (capacity / 8).min(8).max(1);
+        (capacity / self.share()).max(least)
+    }
+
+    /// How much of so much weight entrants may have.
+    fn weight(self, most: u64) -> u64 {
+        most / self.share() as u64
+    }
+
+    // Of how many values, or how much weight, one is an entrant's.
+    fn share(self) -> u32
+        ensures { 0 < result }
+    {
+        match self {
             Mood::Steady => 50,
             Mood::Wary => 20,
             Mood::Moving => 10,
-        };
-        let least = (capacity / 8).min(8).max(1);
-        (capacity / share).max(least)
+        }
     }
 
     fn next(self) -> Mood {
@@ -50,21 +64,38 @@ pub(crate) struct Doubt {
     pub mood: Mood,
     /// How many entrants there may be, beside the one that comes.
     pub room: u32,
+    /// How much they may weigh.
+    weight: u64,
     capacity: u32,
+    most: u64,
     points: u32,
     middle: u32,
 }
 
 impl Doubt {
-    pub fn new(capacity: u32) -> Doubt {
+    /// Of so many values, which weigh so much.
+    pub fn new(capacity: u32, most: u64) -> Doubt {
         let middle = (capacity / 5).max(16);
         Doubt {
             mood: Mood::Wary,
             room: Mood::Wary.room(capacity),
+            weight: Mood::Wary.weight(most),
             capacity,
+            most,
             points: middle,
             middle,
         }
+    }
+
+    /// Whether values have weights that count.
+    pub fn weighs(&self) -> bool {
+        self.most > 0
+    }
+
+    /// Whether more waits than may, or more than one and too heavy.
+    pub fn is_exceeded(&self, entrants: &Entrants) -> bool {
+        let count = entrants.count();
+        count > self.room || (count > 1 && entrants.weight() > self.weight)
     }
 
     /// One who stayed for that was found.
@@ -102,6 +133,7 @@ impl Doubt {
     fn turns(&mut self, mood: Mood) {
         self.mood = mood;
         self.room = mood.room(self.capacity);
+        self.weight = mood.weight(self.most);
         self.points = self.middle;
     }
 }

@@ -59,10 +59,11 @@ impl Standings {
         }
     }
 
-    /// The same of one whose loader may have found it, which will count: that is taken off.
-    pub fn stay_uncounted(&mut self, way: u32) {
+    /// Of an entrant whose loader may have found it, which will count, that is taken off.
+    pub fn uncount(&mut self, way: u32) {
         if let Standing::Entrant { count } = self.of(way) {
-            self.set_resident(way, count.saturating_sub(1), Stake::Nothing);
+            let count = count.saturating_sub(1);
+            self.set(way, Standing::Entrant { count });
         }
     }
 

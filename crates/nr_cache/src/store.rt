@@ -62,7 +62,7 @@ impl Model for Store {
 impl Store {
     ghost use Rattle.nr_map.specs.Remains.{TakenApart};
     ghost use Rattle.nr_cache.specs.Flights.{EndsChange, none_under_way};
-    ghost use Rattle.nr_cache.specs.Stores.{BeginsFlight, ChangesId, Fails};
+    ghost use Rattle.nr_cache.specs.Stores.{BeginsFlight, ChangesId, Fails, FailsOldest};
     ghost use Rattle.nr_cache.specs.Values.{IsWithin};
     ghost use Rattle.nr_cache.specs.Weights.{IsLight, OnlyValuesWeigh};
 
@@ -151,6 +151,14 @@ impl Store {
         ensures { Fails number self.old self.new result }
     {
         self.flights.end(number)
+    }
+
+    /// Ends the flight that began first of those under way, without a value: none only where none is under way.
+    /// Called until then, before the store is closed, it tells of each the mark by which those wake that wait for it.
+    pub fn fail_oldest(&mut self) -> Option<Flight>
+        ensures { FailsOldest self.old self.new result }
+    {
+        self.flights.end_oldest()
     }
 
     /// Begins a change of an id in the base: until it ends the values of the id's flights are their loaders'

@@ -90,8 +90,8 @@ impl Weights {
         }
     }
 
-    // What a way weighs.
-    fn of(&self, way: u32) -> u32
+    /// What a way weighs.
+    pub fn of(&self, way: u32) -> u32
         ensures { result ≡ slice_index self.now.each way }
     {
         match self.each.get(way as usize) {

@@ -129,6 +129,12 @@ impl Shelf {
         }
     }
 
+    /// The oldest flight ends, which has that mark.
+    fn fails<R: Abort>(&mut self, rt: &R, mark: Option<u64>) {
+        let ended = self.store.fail_oldest();
+        is_same(rt, &ended.map(|flight| flight.mark), &mark);
+    }
+
     fn waits<R: Abort>(&mut self, rt: &R, id: u64, mark: u64)
         requires { 0 < id }
     {
@@ -406,6 +412,22 @@ fn flights_have_room_and_end_with_the_store(rt: HostRuntime) {
     assert!(&rt; shelf.store.fail(first).is_none());
     let _third = shelf.loads(&rt, 3, 30);
     shelf.closes(&rt, &[20, 30]);
+}
+
+#[test]
+fn the_oldest_flight_ends_first(rt: HostRuntime) {
+    let mut shelf = Shelf::open(&rt);
+    assert!(&rt; shelf.store.fail_oldest().is_none());
+    let _first = shelf.loads(&rt, 1, 10);
+    let second = shelf.loads(&rt, 2, 20);
+    shelf.fails(&rt, Some(10));
+    let _third = shelf.loads(&rt, 1, 30);
+    assert!(&rt; shelf.store.fail(second).is_some());
+    let _fourth = shelf.loads(&rt, 2, 40);
+    shelf.fails(&rt, Some(30));
+    shelf.fails(&rt, Some(40));
+    shelf.fails(&rt, None);
+    shelf.closes(&rt, &[]);
 }
 
 #[test]

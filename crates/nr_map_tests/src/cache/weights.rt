@@ -132,6 +132,47 @@ fn whatever_leaves_weighs_nothing(rt: HostRuntime) {
 }
 
 #[test]
+fn heavy_values_that_come_once_take_each_others_room(rt: HostRuntime) {
+    let mut shelf = of_weight(&rt, 100);
+    for id in 1..11u64 {
+        assert!(&rt; shelf.bears(id, 5));
+    }
+    for id in 100..140u64 {
+        assert!(&rt; shelf.bears(id, 20));
+    }
+    for id in 1..11u64 {
+        shelf.looks(&rt, id, Some(10 * id));
+    }
+    shelf.weighs(&rt, 12, 90);
+    shelf.closes(&rt, &[]);
+}
+
+#[test]
+fn a_heavy_value_that_comes_again_takes_the_room_of_light_ones(rt: HostRuntime) {
+    let mut shelf = of_weight(&rt, 40);
+    assert!(&rt; shelf.bears(100, 10));
+    assert!(&rt; shelf.bears(101, 40));
+    for id in 1..11u64 {
+        assert!(&rt; shelf.bears(id, 3));
+    }
+    assert!(&rt; shelf.bears(100, 10));
+    assert!(&rt; shelf.bears(102, 3));
+    shelf.weighs(&rt, 11, 40);
+    // Three of those that weigh three go, for the one of ten, and not the one that came between.
+    assert!(&rt; shelf.bears(103, 9));
+    shelf.weighs(&rt, 9, 40);
+    shelf.looks(&rt, 100, Some(1000));
+    shelf.looks(&rt, 102, Some(1020));
+    // A fourth goes, and then it has had its weight.
+    assert!(&rt; shelf.bears(104, 3));
+    shelf.looks(&rt, 102, Some(1020));
+    assert!(&rt; shelf.bears(105, 3));
+    shelf.looks(&rt, 102, None);
+    shelf.looks(&rt, 100, Some(1000));
+    shelf.closes(&rt, &[]);
+}
+
+#[test]
 fn without_a_bound_nothing_is_weighed(rt: HostRuntime) {
     let mut shelf = Shelf::open(&rt);
     assert!(&rt; shelf.bears(1, 4_000_000_000));

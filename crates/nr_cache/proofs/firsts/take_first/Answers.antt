@@ -1,7 +1,7 @@
 use Rattle.std.proofs.Common.{◌≡◌, ℕ, arith, ap, sym, subst, ◌∙◌}
 use Rattle.nr_idmap.specs.Keepers.{IdTable}
 use Rattle.nr_cache.specs.Places.{IsOther}
-use Rattle.nr_cache.specs.Stamps.{GoesNext}
+use Rattle.nr_cache.specs.Stamps.{GoesNext, way_after}
 use Rattle.nr_cache.specs.Weights.{Load, OnlyValuesWeigh, weighs_at}
 use Rattle.nr_cache.proofs.Filled.{evicted_fewer}
 use Rattle.nr_cache.proofs.GoingFirst.{is_taken, none_left, seen_names_same}
@@ -51,13 +51,16 @@ returns-in-None-clause-only c =
     (lightens_same c.args.writer.now c.first_to_go-named.new.writer c.args.limit.now.weights leaves.sets))
 
 pub returns-in-None-clause-takes : goal.returns-in-None-clause-takes
-returns-in-None-clause-takes c = (
-  c.first_to_go-named.ensures.looks,
-  none_left c.ways-nobody.result c.first_to_go-named.new.writer c.is_tied-2.ensures
-      (c.ways-nobody.ensures ∙ sym (ap (λ (t : IdTable). t.map.shape.keys) c.first_to_go-named.ensures.own))
-      c.in-None.ensures.none,
-  c.first_to_go-named.ensures.weights,
-)
+returns-in-None-clause-takes c =
+    let keys = ap (λ (t : IdTable). t.map.shape.keys) c.first_to_go-named.ensures.own in
+    record {
+      looks = c.first_to_go-named.ensures.looks;
+      gone = none_left c.ways-nobody.result c.first_to_go-named.new.writer c.is_tied-2.ensures
+          (c.ways-nobody.ensures ∙ sym keys) c.in-None.ensures.none;
+      hand = subst (λ (keys : ℕ). c.first_to_go-named.new.self.hand ≡ way_after c.args.limit.now.hand 8 keys) (sym keys)
+          c.in-None.ensures.past;
+      weighs = c.first_to_go-named.ensures.weights;
+    }
 
 pub unreachable-requires-then-not-take_value : goal.unreachable-requires-then-not-take_value
 unreachable-requires-then-not-take_value c =
