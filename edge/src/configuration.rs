@@ -1,11 +1,11 @@
 //! What an operator writes: where the rows are, which views of them an edge holds, and where it is asked for them.
 use crate::query::{Item, Query};
 use crate::session::COMMANDS;
-use crate::wire::Limits;
+use edge_common::session::Limits;
 use serde::Deserialize;
-use std::{
-    collections::HashSet, fs, net::IpAddr, net::SocketAddr, path::Path, path::PathBuf, str::FromStr, time::Duration,
-};
+use std::net::{IpAddr, SocketAddr};
+use std::path::{Path, PathBuf};
+use std::{collections::HashSet, fs, str::FromStr, thread::available_parallelism, time::Duration};
 
 #[derive(Debug, Deserialize)]
 #[serde(deny_unknown_fields)]
@@ -90,6 +90,8 @@ pub struct Listen {
     pub port: u16,
     pub unix_socket: Option<PathBuf>,
     pub clients: u16,
+    /// The threads that serve them, an event loop each: one for each processor where nothing is said.
+    workers: Option<u8>,
     idle: u32,
     half_command: u32,
     /// How long a token is waited for.
@@ -107,6 +109,7 @@ impl Default for Listen {
             port: 6390,
             unix_socket: None,
             clients: 64,
+            workers: None,
             idle: 300,
             half_command: 10,
             token_wait: 10,
@@ -122,6 +125,11 @@ impl Listen {
         Limits { idle, half }
     }
 
+    pub fn workers(&self) -> u8 {
+        let processors = || available_parallelism().map_or(1, usize::from);
+        self.workers.unwrap_or_else(|| processors().try_into().unwrap_or(u8::MAX))
+    }
+
     pub fn token_wait(&self) -> Duration {
         Duration::from_secs(self.token_wait.into())
     }
@@ -133,8 +141,8 @@ impl Listen {
     }
 
     fn check(&self) -> Result<(), String> {
-        let is_right = self.clients > 0 && self.idle > 0 && self.half_command > 0;
-        is_right.then_some(()).ok_or("clients, idle and half_command are 1 or more each".into())
+        let is_right = self.clients > 0 && self.workers != Some(0) && self.idle > 0 && self.half_command > 0;
+        is_right.then_some(()).ok_or("clients, workers, idle and half_command are 1 or more each".into())
     }
 }
 
@@ -360,6 +368,7 @@ mod tests {
             (with("address = ''\npublication = 'A'", VIEW), "publication's name"),
             (with(&format!("{here}\nmax_staleness = 0"), VIEW), "1 or more each"),
             (with(here, &format!("[listen]\nclients = 0\n{VIEW}")), "1 or more each"),
+            (with(here, &format!("[listen]\nworkers = 0\n{VIEW}")), "1 or more each"),
             (with(here, &format!("[cache]\nkeys = 0\n{VIEW}")), "1 to 2000000"),
             (with(here, ""), "no [[view]]"),
             (with(here, &format!("{VIEW}{VIEW}")), "two views votes"),

@@ -12,6 +12,7 @@ use crate::shared::Shared;
 use crate::snapshot::{Seen, Snapshot, TableId};
 use crate::upquery::{self, Answer, Asked, Queue, Request};
 use crate::{parts, stats::Count, value::Value};
+use edge_common::later::Giver;
 use std::collections::HashMap;
 use std::sync::atomic::Ordering::{Relaxed, SeqCst};
 use std::sync::{mpsc, Arc};
@@ -23,7 +24,7 @@ pub enum Event {
     Asked {
         key: Key,
         view: usize,
-        client: mpsc::Sender<Told>,
+        client: Giver<Told>,
     },
     Answer(Answer),
     Transaction(Transaction),
@@ -62,7 +63,7 @@ pub enum Told {
 /// Who waits for the answer of a key's last request.
 struct Waiting {
     number: u64,
-    clients: Vec<mpsc::Sender<Told>>,
+    clients: Vec<Giver<Told>>,
 }
 
 /// After this many applied transactions without an upquery, PostgreSQL is asked what a snapshot sees.
@@ -127,14 +128,13 @@ impl<'a> Dataflow<'a> {
         }
     }
 
-    fn ask(&mut self, key: Key, view: usize, client: mpsc::Sender<Told>) {
+    fn ask(&mut self, key: Key, view: usize, client: Giver<Told>) {
         if let Some(waiting) = self.waiting.get_mut(&key) {
             self.shared.work.up(Count::Waits);
             return waiting.clients.push(client);
         }
         if let Some(value) = self.residents.value(&key).filter(|_| !self.shared.is_stale()) {
-            _ = client.send(Told::Value(value));
-            return;
+            return client.give(Told::Value(value));
         }
         self.shared.work.up(Count::Upqueries);
         let number = self.log.send();
@@ -218,7 +218,7 @@ impl<'a> Dataflow<'a> {
         if parts::CANCEL {
             self.emptied_after = self.log.last_sent();
             let taken_back = self.waiting.drain().flat_map(|(_, waiting)| waiting.clients);
-            taken_back.for_each(|client| _ = client.send(Told::Again));
+            taken_back.for_each(|client| client.give(Told::Again));
         }
     }
 
@@ -317,7 +317,7 @@ impl<'a> Dataflow<'a> {
         if let Asked::Key { key, .. } = &request.asked {
             self.waiting.remove(key);
         }
-        clients.iter().for_each(|client| _ = client.send(told.clone()));
+        clients.into_iter().for_each(|client| client.give(told.clone()));
     }
 }
 

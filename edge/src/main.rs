@@ -11,7 +11,6 @@ mod json;
 mod key;
 mod metrics;
 mod needs;
-mod query;
 mod residents;
 mod serve;
 mod session;
@@ -27,8 +26,8 @@ mod writes;
 use base::Base;
 use clap::{Parser, Subcommand};
 use configuration::Configuration;
-use edge_common::postgres::{fresh, log, lsn, parts, pgoutput, pq, snapshot};
-use edge_common::{ending, guest, listener, resp, wire};
+use edge_common::postgres::{fresh, log, lsn, parts, pgoutput, pq, query, snapshot};
+use edge_common::{ending, guest, listener, resp};
 use needs::Lack;
 use std::{collections::HashSet, fs, path::Path, path::PathBuf, process::ExitCode};
 

@@ -4,18 +4,17 @@ use crate::configuration::{Configuration, Listen};
 use crate::dataflow::{Dataflow, Event};
 use crate::ending::{self, Ending};
 use crate::fault::End;
-use crate::guest::Guest;
-use crate::listener::{self, Door, Listener};
+use crate::listener::{Door, Listener, Refusal};
 use crate::pq::Fault;
-use crate::session::Session;
+use crate::session::{Service, BOUNDS};
 use crate::shared::Shared;
 use crate::slot::{self, Lasting};
 use crate::stats::Count;
 use crate::upquery::{self, Queue};
-use crate::wire::Socket;
-use crate::{metrics, stream::Stream, tables};
+use crate::{metrics, stream::Stream, tables, writes};
+use edge_common::event_loop::EventLoop;
 use std::net::{SocketAddr, TcpListener};
-use std::sync::{atomic::Ordering::SeqCst, mpsc, mpsc::SyncSender, Arc};
+use std::sync::{atomic::Ordering::SeqCst, mpsc, mpsc::SyncSender, Mutex};
 use std::{fs, io, process, process::ExitCode, thread, thread::Builder, time::Duration};
 
 /// The most events that the dataflow hasn't taken: who has more waits.
@@ -41,7 +40,7 @@ pub fn serve(configuration: Configuration) -> Result<ExitCode, String> {
     let ending = Ending::new().map_err(|fault| fault.to_string())?;
     // They are there until the process ends, whatever waits then.
     let (shared, listeners): (&_, &[_]) = (Box::leak(Box::new(shared)), Box::leak(listeners.into()));
-    let door: &Door = Box::leak(Box::new(Door::new(shared.configuration.listen.clients)));
+    let door: &Door = Box::leak(Box::new(Door::new(shared.configuration.listen.clients.into())));
     begin(shared, door, listeners, metrics).map_err(|fault| format!("a thread: {fault}"))?;
     for listener in listeners {
         eprintln!("edge: listens on {}", listener.place().map_err(|fault| fault.to_string())?);
@@ -68,7 +67,7 @@ fn shared(configuration: Configuration, base: Base) -> Result<Shared, End> {
     Shared::new(configuration, base, tables).map_err(End::Broken)
 }
 
-/// All threads but those of clients.
+/// All threads.
 fn begin(
     shared: &'static Shared,
     door: &'static Door,
@@ -79,28 +78,50 @@ fn begin(
     let (events, taken) = mpsc::sync_channel(EVENTS);
     for _ in 0..shared.configuration.source.connections {
         let events = events.clone();
-        run(move || upquery::run(shared, queue, events))?;
+        run("upquery", move || upquery::run(shared, queue, events))?;
     }
     let for_watch = events.clone();
-    run(move || watch(shared, for_watch))?;
-    run(move || {
+    run("watch", move || watch(shared, for_watch))?;
+    run("dataflow", move || {
         if let Err(why) = Dataflow::new(shared, queue).run(taken) {
             eprintln!("edge: {why}");
             process::exit(end(shared, door, 1));
         }
     })?;
     if let Some(listener) = metrics {
-        run(move || metrics::run(&listener, shared))?;
+        run("metrics", move || metrics::run(&listener, shared))?;
     }
+    begin_workers(shared, door, &events)?;
     for listener in listeners {
-        let session = session(shared, events.clone());
-        run(move || listener::run(listener, door, session, || shared.work.up(Count::Refused)))?;
+        let refuse = |refusal: &Refusal| {
+            if let Refusal::NoRoom = refusal {
+                shared.work.up(Count::Refused);
+            }
+        };
+        run("listener", move || listener.run(door, refuse))?;
     }
-    run(move || Stream::new(shared, events).run())
+    run("stream", move || Stream::new(shared, events).run())
 }
 
-fn run(work: impl FnOnce() + Send + 'static) -> io::Result<()> {
-    Builder::new().spawn(work).map(drop)
+/// Those who serve clients, and those who write for them.
+fn begin_workers(shared: &'static Shared, door: &'static Door, events: &SyncSender<Event>) -> io::Result<()> {
+    let (writes, orders) = mpsc::channel();
+    let orders: &Mutex<_> = Box::leak(Box::new(Mutex::new(orders)));
+    for _ in 0..shared.configuration.source.write_connections {
+        run("writer", move || writes::run(shared, orders))?;
+    }
+    for counts in &shared.counts {
+        let reader = shared.cache.reader().ok_or_else(|| io::Error::other("the cache has no reader for it"))?;
+        let service = Service { shared, counts, reader, events: events.clone(), writes: writes.clone() };
+        let (event_loop, limits) = (EventLoop::new()?, shared.configuration.listen.limits());
+        door.leads_to(event_loop.mailbox());
+        run("worker", move || event_loop.run(door, service, limits, BOUNDS))?;
+    }
+    Ok(())
+}
+
+fn run(name: &str, work: impl FnOnce() + Send + 'static) -> io::Result<()> {
+    Builder::new().name(name.into()).spawn(work).map(drop)
 }
 
 fn tell_systemd(state: &str) {
@@ -120,18 +141,6 @@ fn watch(shared: &Shared, events: SyncSender<Event>) {
     }
 }
 
-/// Serves a client by a session with a reader of its own.
-fn session(shared: &'static Shared, events: SyncSender<Event>) -> impl Fn(usize, Arc<dyn Socket>) + Clone + Send {
-    move |number, client| {
-        let Some(reader) = shared.cache.reader() else { return };
-        shared.counts[number].up(Count::Clients);
-        let guest = Guest::new(number, &shared.host);
-        let mut session = Session { number, shared, reader, events: events.clone(), guest };
-        // That a client breaks off is no fault.
-        _ = session.serve(client);
-    }
-}
-
 /// Clients have their last replies, and the slot goes. The status with which to end.
 fn end(shared: &'static Shared, door: &Door, status: i32) -> i32 {
     shared.is_over.store(true, SeqCst);
@@ -141,7 +150,7 @@ fn end(shared: &'static Shared, door: &Door, status: i32) -> i32 {
     }
     let (done, is_done) = mpsc::channel();
     // Where there is no thread for it, there is none that answers.
-    _ = run(move || _ = done.send(leave(shared)));
+    _ = run("end", move || _ = done.send(leave(shared)));
     let left = is_done.recv_timeout(GRACE).map_err(|_| "it doesn't answer".to_string());
     if let Err(why) = left.and_then(|left| left.map_err(|fault| fault.to_string())) {
         let goes = |_| String::from("goes when PostgreSQL sees that the edge is gone");

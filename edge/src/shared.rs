@@ -9,7 +9,8 @@ use crate::stats::{Counts, Now};
 use crate::tables::Table;
 use crate::value::Value;
 use edge_common::postgres::pool::Pool;
-use nr::{Cache, Progress};
+use edge_common::progress::Progress;
+use nr::Cache;
 use std::sync::atomic::{AtomicBool, AtomicI32, AtomicU64, Ordering::Relaxed, Ordering::SeqCst};
 use std::sync::{Arc, Mutex, PoisonError, RwLock};
 use std::time::{Duration, Instant};
@@ -23,7 +24,7 @@ pub struct Shared {
     pub progress: Progress,
     /// All that clients were told was committed before this place. It never falls.
     pub told: AtomicU64,
-    /// Those of the sessions, and those of all other threads.
+    /// Those of the workers, and those of all other threads.
     pub counts: Vec<Counts>,
     pub work: Counts,
     pub now: Now,
@@ -46,19 +47,19 @@ pub struct Shared {
 
 impl Shared {
     pub fn new(configuration: Configuration, base: Base, tables: Vec<Table>) -> Result<Shared, String> {
-        let (clients, keys) = (configuration.listen.clients, configuration.cache.keys as usize);
+        let (workers, keys) = (configuration.listen.workers(), configuration.cache.keys as usize);
         // It is in parts: with some room, none is full while the keys are fewer than they may be.
-        let cache = Cache::builder().capacity(keys + keys / 4 + 128).threads(clients.into());
+        let cache = Cache::builder().capacity(keys + keys / 4 + 128).threads(workers.into());
         Ok(Shared {
             base,
             host: Host { name: "edge", version: env!("CARGO_PKG_VERSION"), password: configuration.listen.password()? },
             cache: cache.open().map_err(|fault| format!("the cache: {fault}"))?,
-            progress: Progress::new(),
+            progress: Progress::default(),
             told: AtomicU64::new(0),
-            counts: (0..clients).map(|_| Counts::default()).collect(),
+            counts: (0..workers).map(|_| Counts::default()).collect(),
             work: Counts::default(),
             now: Now::default(),
-            writers: Pool::new(configuration.source.write_connections),
+            writers: Pool::default(),
             stream: AtomicI32::new(0),
             lasting: Mutex::default(),
             has_other_table: AtomicBool::new(false),

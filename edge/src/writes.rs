@@ -6,8 +6,10 @@ use crate::lsn::Lsn;
 use crate::needs::Lack;
 use crate::pq::{Connection, Fault, WRONG_PARAMETERS};
 use crate::shared::Shared;
+use edge_common::later::Giver;
+use std::sync::{mpsc::Receiver, Arc, Mutex, PoisonError};
 
-const NO_ROOM: &str = "ERR other writes take too long: nothing was written";
+pub const NO_ROOM: &str = "ERR other writes take too long: nothing was written";
 
 fn name_of(write: usize) -> String {
     format!("write_{write}")
@@ -34,11 +36,42 @@ pub fn lacking(writes: &[Write], connection: &mut Connection) -> Result<Vec<Lack
     Ok(lacks)
 }
 
+/// A client's write, which waits for a connection. Who takes it either writes or refuses.
+pub struct Order(Mutex<Option<Asked>>);
+
+pub struct Asked {
+    write: usize,
+    arguments: Vec<String>,
+    client: Giver<Result<Lsn, String>>,
+}
+
+impl Order {
+    pub fn new(write: usize, arguments: &[&str], client: Giver<Result<Lsn, String>>) -> Arc<Order> {
+        let arguments = arguments.iter().map(|word| (*word).into()).collect();
+        Arc::new(Order(Mutex::new(Some(Asked { write, arguments, client }))))
+    }
+
+    pub fn take(&self) -> Option<Asked> {
+        self.0.lock().unwrap_or_else(PoisonError::into_inner).take()
+    }
+}
+
+/// Writes for one client after another.
+pub fn run(shared: &Shared, orders: &Mutex<Receiver<Arc<Order>>>) {
+    loop {
+        let next = orders.lock().unwrap_or_else(PoisonError::into_inner).recv();
+        let Ok(order) = next else { return };
+        if let Some(Asked { write, arguments, client }) = order.take() {
+            let arguments: Vec<_> = arguments.iter().map(String::as_str).collect();
+            client.give(self::write(shared, write, &arguments));
+        }
+    }
+}
+
 /// Writes, and gives the place of the commit: a read that brings it sees what was written, at any edge.
-pub fn write(shared: &Shared, number: usize, arguments: &[&str]) -> Result<Lsn, String> {
+fn write(shared: &Shared, number: usize, arguments: &[&str]) -> Result<Lsn, String> {
     let (mut was_sent, mut was_written) = (false, false);
     let written = shared.writers.with(
-        shared.base.deadline,
         || opened(shared),
         |connection| {
             was_sent = true;
@@ -48,11 +81,10 @@ pub fn write(shared: &Shared, number: usize, arguments: &[&str]) -> Result<Lsn, 
         },
     );
     match written {
-        None => Err(NO_ROOM.into()),
-        Some(Ok((0, _))) => Err("ERR no row was written".into()),
-        Some(Ok((_, place))) => Ok(place),
-        Some(Err(fault)) if fault.state == WRONG_PARAMETERS => Err(WRONG_COUNT.into()),
-        Some(Err(fault)) => {
+        Ok((0, _)) => Err("ERR no row was written".into()),
+        Ok((_, place)) => Ok(place),
+        Err(fault) if fault.state == WRONG_PARAMETERS => Err(WRONG_COUNT.into()),
+        Err(fault) => {
             let known = match fault.is_of_connection() {
                 _ if was_written => "it was written, and its place isn't known: ",
                 true if was_sent => "nobody knows whether it was written: ",

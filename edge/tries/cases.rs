@@ -1,6 +1,7 @@
 //! What may happen between an edge and PostgreSQL, step by step: nothing here is left to chance. Each read is of three
 //! views: rows that changes tell whole, rows that they tell by their identity, and what a query makes of them.
 //!   cases PROGRAM ADDRESS RESTART [CASE]    RESTART is a command that ends PostgreSQL at once and starts it again
+mod clients;
 mod edges;
 mod lasting;
 mod operator;
@@ -23,7 +24,7 @@ struct Case {
 type Run = fn(&mut Case);
 
 const LASTING: &str = "lasting_slot = true";
-const CASES: [(&str, &str, Run); 34] = [
+const CASES: [(&str, &str, Run); 38] = [
     ("log", "", a_commit_that_no_snapshot_sees_yet),
     ("first_snapshot", "", a_commit_that_the_new_slot_does_not_carry),
     ("early", "", an_answer_that_is_older_than_the_slot),
@@ -58,6 +59,10 @@ const CASES: [(&str, &str, Run); 34] = [
     ("apart", "", writers::writes_and_misses_apart),
     ("hangs", "", writers::a_base_that_hangs),
     ("end", "", writers::an_end_while_a_write_waits_for_a_lock),
+    ("turns", "", clients::a_client_that_sends_much_at_once),
+    ("threads", "", clients::many_clients_and_few_threads),
+    ("miss", "", clients::a_miss_that_waits_for_a_lock),
+    ("together", "", clients::keys_that_are_missing_together),
 ];
 
 fn main() {

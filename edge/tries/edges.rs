@@ -27,14 +27,20 @@ pub struct Edge {
 impl Edge {
     /// One that listens, with these lines of its source.
     pub fn start(program: &str, address: &str, lines: &str) -> Edge {
+        Edge::listening(program, address, lines, "")
+    }
+
+    /// With lines of where it listens too.
+    pub fn listening(program: &str, address: &str, lines: &str, listen: &str) -> Edge {
         static NEXT: AtomicU32 = AtomicU32::new(0);
         let path = |kind: &str| env::current_exe().unwrap().with_extension(format!("{kind}-{}", NEXT.load(SeqCst)));
         NEXT.fetch_add(1, SeqCst);
         let (file, said) = (path("toml"), path("said"));
-        let lines = format!("[source]\naddress = \"{address}\"\n{lines}\n{VIEWS}\n[listen]\ntoken_wait = 30\n");
+        let lines =
+            format!("[source]\naddress = \"{address}\"\n{lines}\n{VIEWS}\n[listen]\ntoken_wait = 30\n{listen}\n");
         let process = started(program, &lines, 0, &file, &said);
         let mut edge = Edge { program: program.into(), lines, file, process, port: 0, said };
-        edge.says("listens on ");
+        edge.says("listens on 127.");
         edge.port = edge.said().lines().find_map(|line| line.rsplit_once(':')?.1.parse().ok()).unwrap();
         edge
     }
@@ -48,7 +54,7 @@ impl Edge {
     /// At the same port.
     pub fn start_again(&mut self) {
         self.process = started(&self.program, &self.lines, self.port, &self.file, &self.said);
-        self.says("listens on ");
+        self.says("listens on 127.");
     }
 
     fn said(&self) -> String {
@@ -70,6 +76,13 @@ impl Edge {
 
     pub fn signal(&self, name: &str) {
         signal(name, &self.process.id().to_string());
+    }
+
+    /// The names of its threads.
+    pub fn threads(&self) -> Vec<String> {
+        let tasks = fs::read_dir(format!("/proc/{}/task", self.process.id())).unwrap();
+        let name = |task: Result<fs::DirEntry>| fs::read_to_string(task.unwrap().path().join("comm")).unwrap();
+        tasks.map(|task| name(task).trim_end().into()).collect()
     }
 
     /// A text, a line with its first sign, or the parts of an array with spaces between. Nil is nothing.
@@ -193,11 +206,21 @@ impl Client {
     }
 
     fn send(&mut self, bytes: &str) -> Result<String> {
-        self.0.get_mut().write_all(bytes.as_bytes())?;
+        self.say(bytes)?;
         self.reply()
     }
 
-    fn reply(&mut self) -> Result<String> {
+    /// For another thread to send by.
+    pub fn stream(&self) -> TcpStream {
+        self.0.get_ref().try_clone().unwrap()
+    }
+
+    /// Sends without a look for replies.
+    pub fn say(&mut self, bytes: &str) -> Result<()> {
+        self.0.get_mut().write_all(bytes.as_bytes())
+    }
+
+    pub fn reply(&mut self) -> Result<String> {
         let mut line = String::new();
         if self.0.read_line(&mut line)? == 0 {
             return Err(ErrorKind::UnexpectedEof.into());

@@ -4,7 +4,9 @@ use super::*;
 use crate::base::Base;
 use crate::changes::{Delta, Place};
 use crate::lsn::Xid;
+use edge_common::later::later;
 use std::collections::VecDeque;
+use std::task::Waker;
 use std::thread;
 use std::time::Duration;
 
@@ -47,7 +49,7 @@ impl Trial {
     }
 
     fn wait(&mut self, key: &str) -> mpsc::Receiver<Told> {
-        let (client, told) = mpsc::channel();
+        let (client, told) = later(Waker::noop());
         self.dataflow.handle(Event::Asked { key: key.into(), view: 0, client });
         told
     }

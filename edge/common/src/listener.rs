@@ -1,18 +1,27 @@
-//! The listeners: a client comes in while there is room, and all go when the process is told to end.
+//! The listeners: a client comes in while there is room, and is one worker's from then on; all go when the process is told
+//! to end.
+use crate::event_loop::{Mail, Mailbox};
 use crate::wire::Socket;
-use std::net::{Shutdown, SocketAddr, TcpListener};
+use std::net::{SocketAddr, TcpListener};
 use std::os::unix::{fs::FileTypeExt, net::UnixListener, net::UnixStream};
-use std::sync::{Arc, Mutex, PoisonError};
-use std::{collections::HashMap, fs, io, path::Path, thread, time::Duration, time::Instant};
+use std::sync::{Arc, Condvar, Mutex, MutexGuard, PoisonError};
+use std::{fs, io, path::Path, thread, time::Duration, time::Instant};
 
 pub enum Listener {
     Tcp(TcpListener),
     Unix(UnixListener),
 }
 
+/// Why who comes is not let in.
+pub enum Refusal {
+    NoRoom,
+    /// The system has no more files, or the like. Who comes then waits.
+    Fault(io::Error),
+}
+
 /// What is said to who comes where there is no room.
-pub const NO_ROOM: &[u8] = b"-ERR max number of clients reached\r\n";
-/// After a fault such as that there are no more files.
+const NO_ROOM: &[u8] = b"-ERR max number of clients reached\r\n";
+/// After a fault.
 const PAUSE: Duration = Duration::from_millis(50);
 
 impl Listener {
@@ -40,86 +49,113 @@ impl Listener {
         })
     }
 
-    fn next(&self) -> io::Result<Arc<dyn Socket>> {
+    fn next(&self) -> io::Result<Box<dyn Socket>> {
         Ok(match self {
             Listener::Tcp(listener) => {
                 let client = listener.accept()?.0;
                 // Replies go at once.
-                client.set_nodelay(true)?;
-                Arc::new(client)
+                client.set_nodelay(true).and(client.set_nonblocking(true))?;
+                Box::new(mio::net::TcpStream::from_std(client))
             }
-            Listener::Unix(listener) => Arc::new(listener.accept()?.0),
+            Listener::Unix(listener) => {
+                let client = listener.accept()?.0;
+                client.set_nonblocking(true)?;
+                Box::new(mio::net::UnixStream::from_std(client))
+            }
         })
+    }
+
+    /// Lets in who comes, while the process is there.
+    pub fn run(&self, door: &Door, refuse: impl Fn(&Refusal)) {
+        loop {
+            let Err(refusal) = self.next().map_err(Refusal::Fault).and_then(|client| door.enter(client)) else {
+                continue;
+            };
+            refuse(&refusal);
+            if let Refusal::Fault(_) = refusal {
+                thread::sleep(PAUSE);
+            }
+        }
     }
 }
 
-/// The clients that are there, by the numbers of their sessions.
+/// Where clients come in to the workers.
 pub struct Door {
-    free: Mutex<Vec<usize>>,
-    clients: Mutex<HashMap<usize, Arc<dyn Socket>>>,
+    most: usize,
+    inside: Mutex<Inside>,
+    has_left: Condvar,
+}
+
+#[derive(Default)]
+struct Inside {
+    /// How many have come, since the begin.
+    came: usize,
+    workers: Vec<Arc<Mailbox>>,
+}
+
+impl Inside {
+    fn count(&self) -> usize {
+        self.workers.iter().map(|worker| worker.clients()).sum()
+    }
 }
 
 impl Door {
-    pub fn new(clients: u16) -> Door {
-        Door { free: Mutex::new((0..clients.into()).collect()), clients: Mutex::default() }
+    /// With room for so many.
+    pub fn new(clients: usize) -> Door {
+        Door { most: clients, inside: Mutex::default(), has_left: Condvar::new() }
     }
 
-    fn enter(&self, client: &Arc<dyn Socket>) -> Option<usize> {
-        let number = self.free.lock().unwrap_or_else(PoisonError::into_inner).pop()?;
-        self.clients.lock().unwrap_or_else(PoisonError::into_inner).insert(number, Arc::clone(client));
-        Some(number)
+    /// From now on clients come to this worker too.
+    pub fn leads_to(&self, worker: Arc<Mailbox>) {
+        self.inside().workers.push(worker);
     }
 
-    fn leave(&self, number: usize) {
-        self.clients.lock().unwrap_or_else(PoisonError::into_inner).remove(&number);
-        self.free.lock().unwrap_or_else(PoisonError::into_inner).push(number);
+    /// How many are here.
+    pub fn count(&self) -> usize {
+        self.inside().count()
+    }
+
+    fn inside(&self) -> MutexGuard<'_, Inside> {
+        self.inside.lock().unwrap_or_else(PoisonError::into_inner)
+    }
+
+    /// To the worker who has the fewest.
+    pub fn enter(&self, mut client: Box<dyn Socket>) -> Result<(), Refusal> {
+        let mut inside = self.inside();
+        let worker = inside.workers.iter().min_by_key(|worker| worker.clients()).cloned();
+        let Some(worker) = worker.filter(|_| inside.count() < self.most) else {
+            drop(inside);
+            // Nothing was sent before, so that there is room for it.
+            _ = client.write_all(NO_ROOM);
+            return Err(Refusal::NoRoom);
+        };
+        inside.came += 1;
+        worker.comes(inside.came, client);
+        Ok(())
+    }
+
+    pub fn leave(&self, worker: &Mailbox) {
+        let _inside = self.inside();
+        worker.has_left();
+        self.has_left.notify_all();
     }
 
     /// Who has a command under way has its reply; nobody is heard any more. Waits so long for them.
     pub fn shut(&self, grace: Duration) {
-        let begun = Instant::now();
-        loop {
-            let clients = self.clients.lock().unwrap_or_else(PoisonError::into_inner);
-            clients.values().for_each(|client| _ = client.shut(Shutdown::Read));
-            if clients.is_empty() || begun.elapsed() > grace {
-                return;
-            }
-            drop(clients);
-            thread::sleep(Duration::from_millis(5));
+        let end = Instant::now() + grace;
+        let mut inside = self.inside();
+        inside.workers.iter().for_each(|worker| worker.put(Mail::Ends(end)));
+        while inside.count() > 0 && Instant::now() < end {
+            let left = end.saturating_duration_since(Instant::now());
+            inside = self.has_left.wait_timeout(inside, left).unwrap_or_else(PoisonError::into_inner).0;
         }
     }
-}
-
-/// Gives each client a thread, which serves it by the session with a number.
-pub fn run<'a, F>(listener: &Listener, door: &'a Door, serve: F, refuse: impl Fn())
-where
-    F: Fn(usize, Arc<dyn Socket>) + Clone + Send + 'a,
-{
-    thread::scope(|scope| loop {
-        let Ok(client) = listener.next() else {
-            thread::sleep(PAUSE);
-            continue;
-        };
-        let Some(number) = door.enter(&client) else {
-            refuse();
-            _ = client.write_whole(NO_ROOM);
-            continue;
-        };
-        let (serve, for_client) = (serve.clone(), Arc::clone(&client));
-        let run = move || {
-            serve(number, for_client);
-            door.leave(number);
-        };
-        if thread::Builder::new().spawn_scoped(scope, run).is_err() {
-            _ = client.write_whole(b"-ERR there is no thread for a client\r\n");
-            door.leave(number);
-        }
-    })
 }
 
 #[cfg(test)]
 mod tests {
     use super::*;
+    use crate::event_loop::tests::{door, works_at};
     use std::io::{BufRead, BufReader, Write};
     use std::{env, process, sync::mpsc};
 
@@ -129,25 +165,21 @@ mod tests {
         line
     }
 
-    fn echo(client: &dyn Socket) {
-        let mut room = [0; 99];
-        while let Ok(size @ 1..) = client.read_some(&mut room) {
-            _ = client.write_whole(&room[..size]);
-        }
-    }
-
     /// Where a door with so much room stands, which tells whom it refuses.
-    fn opened(clients: u16) -> (String, &'static Door, mpsc::Receiver<()>) {
+    fn opened(clients: usize) -> (String, &'static Door, mpsc::Receiver<()>) {
         let listener = Listener::tcp(([127, 0, 0, 1], 0).into()).unwrap();
-        let (place, door) = (listener.place().unwrap(), &*Box::leak(Box::new(Door::new(clients))));
+        let (place, door) = (listener.place().unwrap(), door(clients));
         let (refuse, refused) = mpsc::channel();
-        let serve = |_: usize, client: Arc<dyn Socket>| echo(&*client);
-        thread::spawn(move || run(&listener, door, serve, || refuse.send(()).unwrap()));
+        works_at(door);
+        thread::spawn(move || listener.run(door, |_| refuse.send(()).unwrap()));
         (place, door, refused)
     }
 
     fn comes(place: &str) -> BufReader<std::net::TcpStream> {
-        BufReader::new(std::net::TcpStream::connect(place).unwrap())
+        let client = std::net::TcpStream::connect(place).unwrap();
+        // Only against hanging for ever.
+        client.set_read_timeout(Some(Duration::from_secs(30))).unwrap();
+        BufReader::new(client)
     }
 
     #[test]
@@ -155,13 +187,13 @@ mod tests {
         let (place, _, refused) = opened(1);
         let mut first = comes(&place);
         first.get_mut().write_all(b"a\n").unwrap();
-        assert_eq!(line(&mut first), "a\n");
+        assert_eq!(line(&mut first), "Ok([\"a\"])\n");
         assert_eq!(line(&mut comes(&place)).as_bytes(), NO_ROOM);
         refused.recv().unwrap();
         drop(first);
         // Its place is the next one's.
         let is_served = |client: &mut BufReader<std::net::TcpStream>| {
-            client.get_mut().write_all(b"b\n").is_ok() && client.fill_buf().is_ok_and(|bytes| bytes == b"b\n")
+            client.get_mut().write_all(b"b\n").is_ok() && client.fill_buf().is_ok_and(|bytes| bytes.starts_with(b"Ok"))
         };
         assert!((0..100_000).any(|_| is_served(&mut comes(&place))));
     }
@@ -171,10 +203,11 @@ mod tests {
         let (place, door, _refused) = opened(4);
         let mut client = comes(&place);
         client.get_mut().write_all(b"a\n").unwrap();
-        assert_eq!(line(&mut client), "a\n");
-        door.shut(Duration::from_secs(60));
+        assert_eq!(line(&mut client), "Ok([\"a\"])\n");
+        let shuts = thread::spawn(|| door.shut(Duration::from_secs(3600)));
         assert_eq!(line(&mut client), "");
-        assert!(door.clients.lock().unwrap().is_empty());
+        shuts.join().unwrap();
+        assert_eq!(door.count(), 0);
     }
 
     #[test]

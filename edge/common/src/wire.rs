@@ -1,250 +1,277 @@
-//! A client's connection: its commands are answered one after another, and replies go before a read that may wait.
+//! A client's connection: what has come by it, and the replies that haven't gone yet. Nothing here waits for the client.
 use crate::command::{command, Bounds, Command};
+use mio::{event::Source, net::TcpStream, net::UnixStream};
 use std::io::{self, ErrorKind, Read, Write};
-use std::net::{Shutdown, TcpStream};
-use std::os::unix::net::UnixStream;
-use std::{sync::Arc, time::Duration, time::Instant};
+use std::net::Shutdown;
 
-/// Replies of so many bytes go, also while more commands are there.
+/// Where replies of so many bytes wait to go, no more are put.
 pub const MOST_REPLIES: usize = 65_536;
 /// What is read at a time.
 const ROOM: usize = 16_384;
 
-/// A client's connection, which several threads may use at a time: one answers, and another may shut it.
-pub trait Socket: Send + Sync {
-    fn read_some(&self, room: &mut [u8]) -> io::Result<usize>;
-    fn write_whole(&self, bytes: &[u8]) -> io::Result<()>;
-    /// How long a read and a write may wait, which isn't zero.
-    fn wait_to_read(&self, wait: Duration) -> io::Result<()>;
-    fn wait_to_write(&self, wait: Duration) -> io::Result<()>;
+pub trait Socket: Source + Read + Write + Send {
     fn shut(&self, ways: Shutdown) -> io::Result<()>;
 }
 
-macro_rules! sockets {
-    ($($kind:ty),*) => {$(
-        impl Socket for $kind {
-            fn read_some(&self, room: &mut [u8]) -> io::Result<usize> {
-                let mut socket = self;
-                socket.read(room)
-            }
-
-            fn write_whole(&self, bytes: &[u8]) -> io::Result<()> {
-                let mut socket = self;
-                socket.write_all(bytes)
-            }
-
-            fn wait_to_read(&self, wait: Duration) -> io::Result<()> {
-                self.set_read_timeout(Some(wait))
-            }
-
-            fn wait_to_write(&self, wait: Duration) -> io::Result<()> {
-                self.set_write_timeout(Some(wait))
-            }
-
-            fn shut(&self, ways: Shutdown) -> io::Result<()> {
-                self.shutdown(ways)
-            }
-        }
-    )*};
+impl Socket for TcpStream {
+    fn shut(&self, ways: Shutdown) -> io::Result<()> {
+        self.shutdown(ways)
+    }
 }
 
-sockets!(TcpStream, UnixStream);
+impl Socket for UnixStream {
+    fn shut(&self, ways: Shutdown) -> io::Result<()> {
+        self.shutdown(ways)
+    }
+}
 
-/// How long a client may say nothing, and owe the rest of a command or the reading of replies.
-#[derive(Clone, Copy)]
-pub struct Limits {
-    pub idle: Duration,
-    pub half: Duration,
+/// What becomes of a step.
+pub enum Step<T> {
+    /// A command was answered.
+    Answered(T),
+    /// Nobody can tell where the command ends, which was answered by an error.
+    Refused,
+    /// More has come.
+    Came,
+    /// Nothing can be done before the socket has more, or has room.
+    Nothing,
 }
 
 pub struct Wire {
-    stream: Arc<dyn Socket>,
-    limits: Limits,
+    socket: Box<dyn Socket>,
     bounds: Bounds,
     came: Vec<u8>,
+    /// So many bytes of what came are answered.
+    answered: usize,
     replies: Vec<u8>,
-    /// When the rest of a command is to be there, once that is awaited.
-    due: Option<Instant>,
-    /// What the stream waits for at most.
-    wait: Duration,
+    /// So many bytes of the replies have gone.
+    gone: usize,
+    /// Whether the socket may have more, and room, for all that is known.
+    may_read: bool,
+    may_write: bool,
+    /// Whether the client's side may have ended, behind what it sent.
+    may_end: bool,
+    /// Whether the last reply was put. What still comes is passed over.
+    is_over: bool,
+    /// How many commands were answered, and how often replies went.
+    moves: u64,
+    /// The bytes that came, and those of replies.
+    bytes: u64,
 }
 
 impl Wire {
-    pub fn new(stream: Arc<dyn Socket>, limits: Limits, bounds: Bounds) -> io::Result<Wire> {
-        stream.wait_to_write(limits.half)?;
-        let (came, replies, wait) = (Vec::new(), Vec::new(), Duration::MAX);
-        Ok(Wire { stream, limits, bounds, came, replies, due: None, wait })
+    pub fn new(socket: Box<dyn Socket>, bounds: Bounds) -> Wire {
+        let [came, replies] = [const { Vec::new() }; 2];
+        Wire {
+            socket,
+            bounds,
+            came,
+            answered: 0,
+            replies,
+            gone: 0,
+            may_read: true,
+            may_write: true,
+            may_end: false,
+            is_over: false,
+            moves: 0,
+            bytes: 0,
+        }
     }
 
-    /// Has each command answered, until the client breaks off, or the answer says that it doesn't stay. The last reply is an
-    /// error where nobody can tell where a command ends.
-    pub fn serve(mut self, mut answer: impl FnMut(Command, &mut Vec<u8>) -> bool) -> io::Result<()> {
-        let mut done = 0;
-        loop {
-            match command(&self.came[done..], &self.bounds) {
-                Ok(Some((words, size))) => {
-                    let stays = answer(words, &mut self.replies);
-                    (self.due, done) = (None, done + size);
-                    if !stays {
-                        return self.flush();
-                    }
-                    self.flush_if_many()?;
+    /// After the system has told of the socket: whether there is something to do.
+    pub fn hear(&mut self, can_read: bool, can_write: bool, may_end: bool) -> bool {
+        self.may_end |= may_end;
+        self.may_read |= can_read || may_end;
+        self.may_write |= can_write;
+        self.may_read || can_write && !self.replies.is_empty()
+    }
+
+    /// What has come before is the last.
+    pub fn hear_no_more(&mut self) {
+        // Where this fails the client has gone.
+        _ = self.socket.shut(Shutdown::Read);
+        self.hear(true, false, true);
+    }
+
+    pub fn moves(&self) -> u64 {
+        self.moves
+    }
+
+    pub fn bytes(&self) -> u64 {
+        self.bytes
+    }
+
+    /// Whether the client has to bring the rest of a command, to read replies, or to go.
+    pub fn is_owed(&self) -> bool {
+        self.is_over || !self.replies.is_empty() || self.answered < self.came.len()
+    }
+
+    /// Has a reply put that `answer` gives.
+    pub fn put<T>(&mut self, answer: impl FnOnce(&[u8], &mut Vec<u8>) -> T) -> T {
+        let before = self.replies.len();
+        let put = answer(&self.came[self.answered..], &mut self.replies);
+        self.bytes += (self.replies.len() - before) as u64;
+        self.moves += 1;
+        put
+    }
+
+    /// Has the next command answered, which `answer` is given with what came after it, or else reads more, once the replies
+    /// before have gone. Refused where the client has gone.
+    pub fn step<T>(&mut self, answer: impl FnOnce(Command, &[u8], &mut Vec<u8>) -> T) -> io::Result<Step<T>> {
+        if self.is_over {
+            return self.pass_over();
+        }
+        if self.replies.len() - self.gone >= MOST_REPLIES && !self.send()? {
+            return Ok(Step::Nothing);
+        }
+        match command(&self.came[self.answered..], &self.bounds) {
+            Ok(Some((words, size))) => {
+                let (before, rest) = (self.replies.len(), self.answered + size);
+                let told = answer(words, &self.came[rest..], &mut self.replies);
+                self.answered = rest;
+                self.bytes += (self.replies.len() - before) as u64;
+                self.moves += 1;
+                Ok(Step::Answered(told))
+            }
+            Ok(None) => {
+                self.came.drain(..std::mem::take(&mut self.answered));
+                self.came.shrink_to(4 * ROOM);
+                if !self.send()? {
+                    return Ok(Step::Nothing);
                 }
-                Ok(None) => {
-                    self.came.drain(..std::mem::take(&mut done));
-                    self.read(!self.came.is_empty())?;
-                }
-                Err(why) => return self.end(why),
+                self.read()
+            }
+            Err(why) => {
+                self.put(|_, to| to.extend(format!("-ERR Protocol error: {why}\r\n").into_bytes()));
+                Ok(Step::Refused)
             }
         }
     }
 
-    /// Waits for more, which is due where the client owes that.
-    fn read(&mut self, owes: bool) -> io::Result<()> {
-        self.flush()?;
-        let (now, half) = (Instant::now(), self.limits.half);
-        let due = owes.then(|| *self.due.get_or_insert(now + half));
-        let wait = due.map_or(self.limits.idle, |due| due.saturating_duration_since(now));
-        if wait.is_zero() {
-            return Err(ErrorKind::TimedOut.into());
-        }
-        if wait != self.wait {
-            self.stream.wait_to_read(wait)?;
-            self.wait = wait;
+    /// Reads once.
+    fn read<T>(&mut self) -> io::Result<Step<T>> {
+        if !self.may_read {
+            return Ok(Step::Nothing);
         }
         let mut room = [0; ROOM];
-        let size = self.stream.read_some(&mut room)?;
-        self.came.shrink_to(4 * ROOM);
-        self.came.extend(&room[..size]);
-        (size > 0).then_some(()).ok_or(ErrorKind::UnexpectedEof.into())
-    }
-
-    fn flush_if_many(&mut self) -> io::Result<()> {
-        if self.replies.len() > MOST_REPLIES {
-            self.flush()
-        } else {
-            Ok(())
+        match self.socket.read(&mut room) {
+            Ok(0) => Err(ErrorKind::UnexpectedEof.into()),
+            Ok(size) => {
+                self.came.extend(&room[..size]);
+                self.bytes += size as u64;
+                // The system tells of what comes later, but not again of an end that it has told of.
+                self.may_read = size == ROOM || self.may_end;
+                Ok(Step::Came)
+            }
+            Err(why) if why.kind() == ErrorKind::WouldBlock => {
+                self.may_read = false;
+                Ok(Step::Nothing)
+            }
+            Err(why) if why.kind() == ErrorKind::Interrupted => Ok(Step::Came),
+            Err(why) => Err(why),
         }
     }
 
-    fn flush(&mut self) -> io::Result<()> {
-        self.stream.write_whole(&self.replies)?;
+    /// Sends as much as can be sent: whether that was all.
+    pub fn send(&mut self) -> io::Result<bool> {
+        while self.may_write && self.gone < self.replies.len() {
+            match self.socket.write(&self.replies[self.gone..]) {
+                Ok(0) => return Err(ErrorKind::WriteZero.into()),
+                Ok(size) => {
+                    self.gone += size;
+                    self.moves += 1;
+                }
+                Err(why) if why.kind() == ErrorKind::WouldBlock => self.may_write = false,
+                Err(why) if why.kind() == ErrorKind::Interrupted => {}
+                Err(why) => return Err(why),
+            }
+        }
+        if self.gone < self.replies.len() {
+            return Ok(false);
+        }
+        self.gone = 0;
         self.replies.clear();
-        Ok(())
+        self.replies.shrink_to(2 * MOST_REPLIES);
+        Ok(true)
     }
 
-    /// Replies to what is no command, and reads on for a while as long as the client sends, or else it might not see it.
-    fn end(mut self, why: &str) -> io::Result<()> {
-        self.replies.extend(format!("-ERR Protocol error: {why}\r\n").into_bytes());
-        self.flush()?;
-        self.stream.shut(Shutdown::Write)?;
-        while self.read(true).is_ok() {
-            self.came.clear();
+    /// The last reply was put. The client may send on until it has seen that, or else it might not see it.
+    pub fn end(&mut self) {
+        self.is_over = true;
+    }
+
+    fn pass_over<T>(&mut self) -> io::Result<Step<T>> {
+        (self.came, self.answered) = (Vec::new(), 0);
+        if !self.send()? {
+            return Ok(Step::Nothing);
         }
-        Ok(())
+        self.socket.shut(Shutdown::Write)?;
+        self.read()
     }
 }
 
 #[cfg(test)]
-mod tests {
+pub mod tests {
     use super::*;
-    use std::sync::atomic::{AtomicUsize, Ordering::Relaxed};
-    use std::thread::{self, JoinHandle};
+    use mio::{Interest, Registry, Token};
+    use std::sync::{Arc, Mutex};
 
-    const BOUNDS: Bounds = Bounds { words: 8, bytes: 100_000 };
-    /// Only against hanging for ever.
-    const LONG: Duration = Duration::from_secs(30);
-
-    /// A client's end, and what becomes of the other one, which tells each command's words until one is QUIT.
-    fn served(idle: Duration, half: Duration) -> (UnixStream, JoinHandle<io::Result<()>>) {
-        let (client, stream) = UnixStream::pair().unwrap();
-        client.set_read_timeout(Some(LONG)).unwrap();
-        let wire = Wire::new(Arc::new(stream), Limits { idle, half }, BOUNDS).unwrap();
-        let told = |words: Command, to: &mut Vec<u8>| {
-            to.extend(format!("{words:?}\n").into_bytes());
-            words != Ok(vec!["QUIT"])
-        };
-        (client, thread::spawn(move || wire.serve(told)))
-    }
-
-    fn rest(client: &mut UnixStream) -> String {
-        let mut text = String::new();
-        client.read_to_string(&mut text).unwrap();
-        text
-    }
-
-    #[test]
-    fn commands_are_answered_in_their_order() {
-        let (mut client, server) = served(LONG, LONG);
-        client.write_all(b"a b\r\n*1\r\n$1\r\nc\r\n").unwrap();
-        let mut replies = [0; 23];
-        client.read_exact(&mut replies).unwrap();
-        assert_eq!(&replies, b"Ok([\"a\", \"b\"])\nOk([\"c\"])\n".first_chunk().unwrap());
-        client.write_all(b"*1\r\n$1\r").unwrap();
-        client.write_all(b"\nd\r\n\xff\r\nQUIT\r\nnobody hears that\r\n").unwrap();
-        let rest = rest(&mut client);
-        assert!(rest.ends_with("Ok([\"d\"])\nErr(\"a word is not UTF-8\")\nOk([\"QUIT\"])\n"), "{rest}");
-        server.join().unwrap().unwrap();
-    }
-
-    #[test]
-    fn more_than_is_read_at_a_time_is_one_command() {
-        let (mut client, server) = served(LONG, LONG);
-        let word = "x".repeat(4000);
-        let command = format!("*8\r\n{}QUIT\r\n", format!("$4000\r\n{word}\r\n").repeat(8));
-        client.write_all(command.as_bytes()).unwrap();
-        assert_eq!(rest(&mut client), format!("{:?}\nOk([\"QUIT\"])\n", Command::Ok(vec![&word; 8])));
-        server.join().unwrap().unwrap();
-    }
-
-    #[test]
-    fn a_reply_to_what_is_no_command_is_the_last() {
-        let (mut client, server) = served(LONG, LONG);
-        client.write_all(b"a\r\n*x\r\nb\r\n").unwrap();
-        assert_eq!(rest(&mut client), "Ok([\"a\"])\n-ERR Protocol error: a length is out of its limits\r\n");
-        client.write_all(b"more").unwrap();
-        drop(client);
-        server.join().unwrap().unwrap();
-    }
-
-    #[test]
-    fn who_says_nothing_goes() {
-        let (mut client, server) = served(Duration::from_millis(1), LONG);
-        assert_eq!(rest(&mut client), "");
-        assert_eq!(server.join().unwrap().unwrap_err().kind(), ErrorKind::WouldBlock);
-    }
-
-    /// Brings one byte of a line after another, and then its end, which takes far longer than the line may.
+    /// A socket of which each test says what it has.
     #[derive(Default)]
-    struct BitByBit(AtomicUsize);
+    pub struct Fake {
+        pub reads: Vec<u8>,
+        /// Whether there is always more to read, or the end comes then.
+        pub goes_on: bool,
+        /// Has room for so many bytes.
+        pub room: Arc<Mutex<usize>>,
+        pub written: Arc<Mutex<Vec<u8>>>,
+    }
 
-    impl Socket for BitByBit {
-        fn read_some(&self, room: &mut [u8]) -> io::Result<usize> {
-            room[0] = b'x';
-            Ok(usize::from(self.0.fetch_add(1, Relaxed) < 10_000))
+    impl Read for Fake {
+        fn read(&mut self, room: &mut [u8]) -> io::Result<usize> {
+            let size = room.len().min(self.reads.len());
+            room[..size].copy_from_slice(&self.reads[..size]);
+            self.reads.drain(..size);
+            room[size..].fill(b'x');
+            Ok(if self.goes_on { room.len() } else { size })
+        }
+    }
+
+    impl Write for Fake {
+        fn write(&mut self, bytes: &[u8]) -> io::Result<usize> {
+            let mut room = self.room.lock().unwrap();
+            let size = if self.goes_on { bytes.len() } else { bytes.len().min(*room) };
+            *room = room.saturating_sub(size);
+            self.written.lock().unwrap().extend(&bytes[..size]);
+            if size > 0 {
+                Ok(size)
+            } else {
+                Err(ErrorKind::WouldBlock.into())
+            }
         }
 
-        fn write_whole(&self, _bytes: &[u8]) -> io::Result<()> {
-            Ok(())
-        }
-
-        fn wait_to_read(&self, _wait: Duration) -> io::Result<()> {
-            Ok(())
-        }
-
-        fn wait_to_write(&self, _wait: Duration) -> io::Result<()> {
-            Ok(())
-        }
-
-        fn shut(&self, _ways: Shutdown) -> io::Result<()> {
+        fn flush(&mut self) -> io::Result<()> {
             Ok(())
         }
     }
 
-    #[test]
-    fn who_brings_a_command_bit_by_bit_goes() {
-        let limits = Limits { idle: LONG, half: Duration::from_millis(1) };
-        let wire = Wire::new(Arc::new(BitByBit::default()), limits, BOUNDS).unwrap();
-        assert_eq!(wire.serve(|_, _| true).unwrap_err().kind(), ErrorKind::TimedOut);
+    impl Source for Fake {
+        fn register(&mut self, _: &Registry, _: Token, _: Interest) -> io::Result<()> {
+            Ok(())
+        }
+
+        fn reregister(&mut self, _: &Registry, _: Token, _: Interest) -> io::Result<()> {
+            Ok(())
+        }
+
+        fn deregister(&mut self, _: &Registry) -> io::Result<()> {
+            Ok(())
+        }
+    }
+
+    impl Socket for Fake {
+        fn shut(&self, _: Shutdown) -> io::Result<()> {
+            Ok(())
+        }
     }
 }

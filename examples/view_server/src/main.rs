@@ -1,51 +1,41 @@
 //! Serves the view `votes by article` of a SQLite database, which it holds in part, over the Redis protocol.
-mod client;
-mod desk;
-mod door;
-mod errands;
+mod helpers;
 mod log;
-mod poll;
 mod session;
 mod stats;
 
+use base::Base;
 use edge_common::command::Bounds;
 use edge_common::ending::Ending;
+use edge_common::event_loop::EventLoop;
 use edge_common::guest::Host;
-use edge_common::wire::Limits;
+use edge_common::listener::{Door, Listener, Refusal};
+use edge_common::session::Limits;
 use nr::View;
-use session::Need;
-use std::sync::{atomic::AtomicBool, atomic::Ordering::Relaxed, mpsc, Arc, LazyLock, Mutex};
-use std::thread::{self, Builder, Scope};
-use std::{env, error::Error, net::TcpListener, time::Duration, time::Instant};
+use session::Service;
+use std::sync::{mpsc::channel, Arc, Mutex};
+use std::thread::{self, Builder, JoinHandle};
+use std::{env, error::Error, net::TcpListener, time::Duration};
 
 /// What the threads share.
 pub struct Shared {
     view: View<String>,
     host: Host,
-    /// Writes each vote.
-    writes: Mutex<base::Base>,
-    clients: Mutex<desk::Clients>,
-    most_clients: usize,
+    door: Door,
     limits: Limits,
     /// How long a client may wait for another's load.
     busy: Duration,
-    /// The door's, and then those of each session.
+    /// The listener's, and then those of each worker.
     counts: Vec<stats::Counts>,
-}
-
-/// Milliseconds since the first call.
-fn now() -> u64 {
-    static START: LazyLock<Instant> = LazyLock::new(Instant::now);
-    START.elapsed().as_millis() as u64
 }
 
 /// Of a command.
 const BOUNDS: Bounds = Bounds { words: 255, bytes: 65_536 };
 
-static IS_OVER: AtomicBool = AtomicBool::new(false);
-
 /// How many threads vote: while one writes, the others have what comes before and after that.
 const VOTERS: usize = 4;
+/// How long clients are waited for at the end.
+const GRACE: Duration = Duration::from_secs(3);
 
 /// Each is followed by a number, or has that of DEFAULTS.
 const OPTIONS: &str = "--port --limit --errands --clients --idle --half --busy --delay";
@@ -64,63 +54,81 @@ fn options(mut words: impl Iterator<Item = String>) -> Option<(String, String, [
     Some((path, address, numbers))
 }
 
-type Made<R> = Result<R, String>;
+type Made<T> = Result<T, String>;
 
-/// Starts so many threads, or fewer where one can't be made: how many.
-fn start<'s, R: FnOnce() + Send + 's>(of: &'s Scope<'s, '_>, count: usize, make: impl Fn(usize) -> Made<R>) -> usize {
-    let spawn = |run: R| Builder::new().spawn_scoped(of, run).map_err(|why| why.to_string());
-    let fault = |number: usize| make(number).and_then(spawn).err().map(|why| (number, why));
-    let Some((number, why)) = (0..count).find_map(fault) else { return count };
-    log::say("thread", &format!("only {number} of {count} are made: {why}"));
-    number
+/// Threads that serve clients, that vote and that load: as many of each as the system has, or fewer.
+fn begin(
+    shared: &'static Shared,
+    listener: Listener,
+    workers: usize,
+    loaders: usize,
+    open: impl Fn() -> Made<Base>,
+) -> Made<Vec<JoinHandle<()>>> {
+    let ((loads, to_load), (votes, to_vote), (serves, served)) = (channel(), channel(), channel());
+    let (to_load, to_vote, writes) = (share(to_load), share(to_vote), share(open()?));
+    let serving = helpers::start("worker", workers, |number| {
+        let reader = shared.view.reader().expect("there is a reader for each worker");
+        let counts = &shared.counts[number + 1];
+        let service = Service { reader, counts, shared, loads: loads.clone(), votes: votes.clone() };
+        let (event_loop, serves) = (EventLoop::new().map_err(|why| why.to_string())?, serves.clone());
+        Ok(move || {
+            shared.door.leads_to(event_loop.mailbox());
+            _ = serves.send(());
+            event_loop.run(&shared.door, service, shared.limits, BOUNDS);
+        })
+    });
+    serving.iter().for_each(|_| _ = served.recv());
+    let listens = move || listener.run(&shared.door, |refusal| refuse(shared, refusal));
+    Builder::new().name("listener".into()).spawn(listens).map_err(|why| why.to_string())?;
+    let voting = helpers::start("voter", VOTERS, |_| {
+        let (votes, writes) = (Arc::clone(&to_vote), Arc::clone(&writes));
+        Ok(move || helpers::vote(&votes, &writes, shared))
+    });
+    let loading = helpers::start("loader", loaders, |_| {
+        let (loads, base) = (Arc::clone(&to_load), open()?);
+        Ok(move || helpers::load(&loads, base))
+    });
+    let all = [serving, voting, loading];
+    let are_there = all.iter().all(|threads| !threads.is_empty());
+    are_there.then(|| all.into_iter().flatten().collect()).ok_or("there are no threads for clients".into())
+}
+
+fn share<T>(it: T) -> Arc<Mutex<T>> {
+    Arc::new(Mutex::new(it))
+}
+
+fn refuse(shared: &Shared, refusal: &Refusal) {
+    match refusal {
+        Refusal::NoRoom => {
+            log::say("client", "there are clients enough");
+            shared.counts[0].up(stats::Count::Refused);
+        }
+        Refusal::Fault(why) => log::say("client", &why.to_string()),
+    }
 }
 
 fn main() -> Result<(), Box<dyn Error>> {
     let told = options(env::args().skip(1)).ok_or_else(|| format!("DATABASE --address TEXT {OPTIONS}"))?;
-    let (path, address, [port, limit, errands, most_clients, idle, half, busy, delay]) = told;
-    let open_base = || base::Base::open(&path, busy, delay);
-    let (at_desks, errands) = (thread::available_parallelism().map_or(4, usize::from), errands as usize);
-    let sessions = at_desks + errands + VOTERS;
-    let view = View::builder().capacity(limit as usize).threads(sessions as u32).open()?;
-    let (writes, clients, most_clients) = (Mutex::new(open_base()?), Mutex::default(), most_clients as usize);
-    let counts = (0..=sessions).map(|_| stats::Counts::default()).collect();
-    let host = Host { name: "view_server", version: env!("CARGO_PKG_VERSION"), password: None };
-    let [idle, half, longest_wait] = [idle, half, busy].map(Duration::from_millis);
-    let limits = Limits { idle, half };
-    let shared = &Shared { view, host, writes, most_clients, clients, limits, busy: longest_wait, counts };
-    let session = |number: usize, base, errand| {
-        let reader = shared.view.reader().expect("there is a reader for each session");
-        session::Session { reader, base, errand, may: false, counts: &shared.counts[number + 1], shared }
-    };
-    let (listener, ending) = (TcpListener::bind((&address[..], u16::try_from(port)?))?, Ending::new()?);
-    let desks: Vec<_> = (0..at_desks).map(|_| poll::Poll::new()).collect::<Result<_, _>>()?;
-    let ((to_load, loads), (to_vote, votes), (request, requests)) = (mpsc::channel(), mpsc::channel(), mpsc::channel());
-    let (bring, loads, votes) = (&errands::Bring { to_load, to_vote }, &Mutex::new(loads), &Mutex::new(votes));
-    let requests = Arc::new(Mutex::new(requests));
-    thread::scope(|scope| {
-        let at_desks = start(scope, at_desks, |number| {
-            let (desk, session, bring) = (&desks[number], session(number, None, None), bring.clone());
-            Ok(move || desk::serve(desk, session, &bring))
-        });
-        let voters = start(scope, VOTERS, |number| {
-            let (session, request) = (session(desks.len() + number, None, Some(Need::Vote)), request.clone());
-            Ok(move || errands::run(votes, session, bring, &request))
-        });
-        let on_errands = start(scope, errands, |number| {
-            let session = session(desks.len() + VOTERS + number, Some(open_base()?), Some(Need::Load));
-            let request = request.clone();
-            Ok(move || errands::run(loads, session, bring, &request))
-        });
-        start(scope, errands, |_| {
-            let (base, requests) = (open_base()?, Arc::clone(&requests));
-            Ok(move || errands::load(&requests, base))
-        });
-        // Where there are no loaders who requests learns that.
-        drop((requests, request));
-        let are_there = at_desks.min(on_errands).min(voters) > 0;
-        let served = are_there.then(|| door::serve(listener, &ending, &desks[..at_desks], shared));
-        IS_OVER.store(true, Relaxed);
-        bring.end(errands, VOTERS);
-        served.ok_or("there are no threads for clients".into())
-    })
+    let (path, address, [port, limit, loaders, most_clients, idle, half, busy, delay]) = told;
+    let open_base = || Base::open(&path, busy, delay);
+    let workers = thread::available_parallelism().map_or(4, usize::from);
+    let [idle, half, busy_time] = [idle, half, busy].map(Duration::from_millis);
+    let shared: &Shared = Box::leak(Box::new(Shared {
+        view: View::builder().capacity(limit as usize).threads(workers as u32).open()?,
+        host: Host { name: "view_server", version: env!("CARGO_PKG_VERSION"), password: None },
+        door: Door::new(most_clients as usize),
+        limits: Limits { idle, half },
+        busy: busy_time,
+        counts: (0..=workers).map(|_| stats::Counts::default()).collect(),
+    }));
+    let listener = Listener::Tcp(TcpListener::bind((&address[..], u16::try_from(port)?))?);
+    let ending = Ending::new()?;
+    let place = listener.place()?;
+    let threads = begin(shared, listener, workers, loaders as usize, open_base)?;
+    println!("listening on {place}");
+    ending.wait();
+    shared.door.shut(GRACE);
+    // Who loads and votes ends when no worker is left to ask for that.
+    threads.into_iter().for_each(|thread| _ = thread.join());
+    Ok(())
 }

@@ -58,8 +58,7 @@ pub fn text(shared: &Shared) -> String {
     let of_view = [("loads", view.loads), ("failures", view.failures), ("waits", view.waits), ("held", held)];
     let more_of_view = [("evictions", view.evictions), ("refused", view.refused), ("outdated", view.outdated)];
     let counted = (0..NAMES.len()).map(|place| (NAMES[place], sum(shared, |counts| &counts.counts[place])));
-    let lines =
-        counted.chain(of_view).chain(more_of_view).chain([("clients", shared.clients.lock().unwrap().len() as u64)]);
+    let lines = counted.chain(of_view).chain(more_of_view).chain([("clients", shared.door.count() as u64)]);
     let mut text: String = lines.map(|(name, count)| format!("{name}:{count}\n")).collect();
     for (kind, name) in TIMED.iter().enumerate() {
         let [half, most, all] = [500, 990, 999].map(|permille| within(shared, kind, permille));

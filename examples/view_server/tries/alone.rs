@@ -2,14 +2,12 @@
 //! which answers each of its GETs.
 //!   alone DATABASE
 use base::{Base, Query};
-use edge_common::command::{Bounds, Command};
-use edge_common::wire::{Limits, Wire};
+use edge_common::command::{command, Bounds};
 use edge_common::{ending::Ending, resp::bulk};
 use std::net::{TcpListener, TcpStream};
-use std::{env, error::Error, fmt::Write, io, process, sync::Arc, thread, time::Duration};
+use std::{env, error::Error, fmt::Write as _, io, io::Read, io::Write, process, thread};
 
 const BOUNDS: Bounds = Bounds { words: 255, bytes: 65_536 };
-const LONG: Duration = Duration::from_secs(300);
 
 fn reply(words: &[&str], base: &mut Base) -> Result<String, String> {
     let [get, article] = words else { return Ok("+PONG\r\n".into()) };
@@ -21,14 +19,23 @@ fn reply(words: &[&str], base: &mut Base) -> Result<String, String> {
     Ok(bulk(text.trim_end()))
 }
 
-fn serve(client: TcpStream, mut base: Base) -> io::Result<()> {
+fn serve(mut client: TcpStream, mut base: Base) -> io::Result<()> {
     client.set_nodelay(true)?;
-    let wire = Wire::new(Arc::new(client), Limits { idle: LONG, half: LONG }, BOUNDS)?;
-    wire.serve(|command: Command, to| {
-        let reply = command.map_err(String::from).and_then(|words| reply(&words, &mut base));
-        to.extend(reply.unwrap_or_else(|why| format!("-ERR {why}\r\n")).into_bytes());
-        true
-    })
+    let (mut came, mut room) = (Vec::new(), [0; 16_384]);
+    loop {
+        let (mut done, mut replies) = (0, Vec::new());
+        while let Ok(Some((words, size))) = command(&came[done..], &BOUNDS) {
+            let reply = words.map_err(String::from).and_then(|words| reply(&words, &mut base));
+            replies.extend(reply.unwrap_or_else(|why| format!("-ERR {why}\r\n")).into_bytes());
+            done += size;
+        }
+        client.write_all(&replies)?;
+        came.drain(..done);
+        match client.read(&mut room)? {
+            0 => return Ok(()),
+            size => came.extend(&room[..size]),
+        }
+    }
 }
 
 fn main() -> Result<(), Box<dyn Error>> {

@@ -142,7 +142,7 @@ fn order(port: &str) {
     }
 }
 
-/// Where there are no loaders, an errand loads what its client asks for in one breath.
+/// Few threads load what a client asks for in one breath.
 fn few(port: &str) {
     let mut client = Client::connect(port);
     client.send("GET few:1\r\nGET few:2\r\nGET few:3\r\n");

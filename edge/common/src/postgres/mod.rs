@@ -6,4 +6,5 @@ pub mod parts;
 pub mod pgoutput;
 pub mod pool;
 pub mod pq;
+pub mod query;
 pub mod snapshot;
