@@ -101,7 +101,7 @@ impl Given {
 /// Opens a cache of numbers, and its readers.
 pub fn open(shape: &IdShape) -> Result<(Ids, Vec<IdReader>), Fault> {
     library::is_own()?;
-    let mut ids = Ids { handle: Handle::empty() };
+    let mut ids = Ids { handle: Handle::empty(), held: 0 };
     // SAFETY: the handle isn't live, and the shape is laid out as the header's.
     done(unsafe { ffi::nr_open_cache(shape, &mut ids.handle) })?;
     let readers = (0..shape.readers).map(|_| ids.open_reader()).collect::<Result<_, _>>()?;
@@ -154,6 +154,8 @@ impl Drop for IdReader {
 #[derive(Debug)]
 pub struct Ids {
     handle: Handle,
+    /// How many ids have a number, counted after each call that may change it.
+    held: usize,
 }
 
 // SAFETY: as of a reader.
@@ -185,7 +187,7 @@ impl Ids {
         changes_store(Some(number));
         // SAFETY: the handle is live, and what comes out is laid out as the header's.
         let code = unsafe { ffi::nr_cache_land(&mut self.handle, flight, stamp, number, weight, bound, &mut given) };
-        put(code, &given)
+        self.came_to(code, &given)
     }
 
     /// Ends the load of that flight without one.
@@ -200,7 +202,7 @@ impl Ids {
         changes_store(Some(number));
         // SAFETY: the handle is live, and what comes out is laid out as the header's.
         let code = unsafe { ffi::nr_cache_put(&mut self.handle, id, stamp, number, weight, bound, &mut given) };
-        put(code, &given)
+        self.came_to(code, &given)
     }
 
     /// The same where the id has that old one still: else nothing happens.
@@ -209,7 +211,7 @@ impl Ids {
         changes_store(Some(number));
         // SAFETY: the handle is live, and what comes out is laid out as the header's.
         let code = unsafe { ffi::nr_cache_swap(&mut self.handle, id, old, stamp, number, weight, bound, &mut given) };
-        put(code, &given)
+        self.came_to(code, &given)
     }
 
     /// The number of an id, which can't come out but by a later call of these.
@@ -224,7 +226,8 @@ impl Ids {
     pub fn invalidate(&mut self, id: u64) -> bool {
         changes_store(None);
         // SAFETY: the handle is live.
-        unsafe { ffi::nr_cache_invalidate(&mut self.handle, id) == ffi::NR_EVICTED }
+        let code = unsafe { ffi::nr_cache_invalidate(&mut self.handle, id) };
+        self.is_evicted(code)
     }
 
     /// The same of all ids.
@@ -232,13 +235,15 @@ impl Ids {
         changes_store(None);
         // SAFETY: the handle is live.
         unsafe { ffi::nr_cache_invalidate_all(&mut self.handle) };
+        self.held = 0;
     }
 
     /// Takes an id's number, and what is loaded for it will be held: whether it had one.
     pub fn evict(&mut self, id: u64) -> bool {
         changes_store(None);
         // SAFETY: the handle is live.
-        unsafe { ffi::nr_cache_evict(&mut self.handle, id) == ffi::NR_EVICTED }
+        let code = unsafe { ffi::nr_cache_evict(&mut self.handle, id) };
+        self.is_evicted(code)
     }
 
     /// Begins a change of an id, until whose end nothing that is loaded for it will be held: whether there was room.
@@ -263,8 +268,8 @@ impl Ids {
     }
 
     /// How many ids have a number.
-    pub fn held(&mut self) -> usize {
-        self.count().numbers as usize
+    pub fn held(&self) -> usize {
+        self.held
     }
 
     /// What their numbers weigh, of a cache where that counts.
@@ -278,13 +283,22 @@ impl Ids {
         unsafe { ffi::nr_cache_count(&mut self.handle, &mut counted) };
         counted
     }
-}
 
-fn put(code: u32, given: &Given) -> Put {
-    match code {
-        ffi::NR_DONE => Put::Held(None),
-        ffi::NR_GIVEN => Put::Held(Some(given.came_out())),
-        _ => Put::Own,
+    /// What a number comes to by that answer.
+    fn came_to(&mut self, code: u32, given: &Given) -> Put {
+        self.held = self.count().numbers as usize;
+        match code {
+            ffi::NR_DONE => Put::Held(None),
+            ffi::NR_GIVEN => Put::Held(Some(given.came_out())),
+            _ => Put::Own,
+        }
+    }
+
+    /// Whether a number left its id by that answer.
+    fn is_evicted(&mut self, code: u32) -> bool {
+        let is_evicted = code == ffi::NR_EVICTED;
+        self.held -= usize::from(is_evicted);
+        is_evicted
     }
 }
 

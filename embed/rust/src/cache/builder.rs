@@ -141,7 +141,7 @@ impl<K: Hash + Eq, V, S: BuildHasher> CacheBuilder<K, V, S> {
             spare.iter_mut().zip(readers).for_each(|(desk, reader)| desk.push(reader));
             let reaping = Reaping::new(capacity, spare.len(), told.listener.is_some() || most.is_some());
             let store = Store::new(ids, capacity, expiry, most, reaping);
-            parts.push(Part::new(expiry, spare.len(), told.clone(), store));
+            parts.push(Part::new(expiry, told.clone(), store));
         }
         let spare = spare.into_iter().zip(0..).map(|(ids, number)| Desk::new(ids, number)).collect();
         Ok(Cache { shared: Arc::new(Shared::new(self.hasher, self.capacity, parts, spare)) })

@@ -2,7 +2,7 @@
 use super::stats::CacheStats;
 use std::sync::atomic::{AtomicU64, Ordering::Relaxed};
 
-/// What one reader counts in a part, on a cache line of its own.
+/// What one reader counts, on a cache line of its own.
 #[derive(Default)]
 #[repr(align(128))]
 pub(super) struct Counts {

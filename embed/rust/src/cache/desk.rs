@@ -16,7 +16,7 @@ pub(super) struct Desk {
     pub ids: Box<[IdReader]>,
     /// The part in which it found last, and the only one in which it may still hold what was borrowed and forgotten.
     last: usize,
-    /// By this number it counts in all parts.
+    /// That of what it counts.
     pub number: usize,
 }
 

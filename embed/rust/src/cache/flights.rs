@@ -29,6 +29,8 @@ struct Waiting {
 #[derive(Clone)]
 pub(super) enum End {
     Loaded,
+    /// What it gave is too heavy to be held, so who waited loads alone.
+    TooHeavy,
     Failed(Failure),
     /// What it gives will not be held, so nobody waits for it any more.
     Outdated,

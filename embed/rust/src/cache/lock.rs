@@ -1,5 +1,5 @@
 //! The lock of a part, under which keys are compared, and keys and values cloned for threads without a reader.
-use super::sync::{Mutex, MutexGuard};
+use super::sync::{look_often, Mutex, MutexGuard};
 use std::ops::{Deref, DerefMut};
 use std::sync::atomic::{AtomicUsize, Ordering::Relaxed};
 use std::sync::PoisonError;
@@ -32,6 +32,8 @@ impl<T> Lock<T> {
             self.holder.load(Relaxed) != thread,
             "an `Eq` of a cache's keys, or a `Clone` of its keys or values, calls the cache"
         );
+        // To sleep until its holder wakes a thread takes longer than a holder mostly has it.
+        look_often(|| self.holder.load(Relaxed) == NOBODY);
         let inner = self.inner.lock().unwrap_or_else(PoisonError::into_inner);
         self.holder.store(thread, Relaxed);
         Locked { holder: &self.holder, inner }

@@ -1,5 +1,5 @@
 //! Gets of many keys by one call.
-use super::flights::Flight;
+use super::flights::{End, Flight};
 use super::part::{Begun, Load, Part};
 use super::threads::{end_by, own_id};
 use super::Cache;
@@ -8,10 +8,10 @@ use std::convert::Infallible;
 use std::hash::{BuildHasher, Hash};
 use std::sync::Arc;
 
-/// What is still missing: what the caller loads, and what others do.
+/// What is still missing: what the caller loads, and what others do, with where their keys stand.
 struct Missing<'a, K, V> {
     own: Vec<Own<'a, K, V>>,
-    others: Vec<Arc<Flight>>,
+    others: Vec<(usize, Arc<Flight>)>,
 }
 
 /// A load of the caller's, and where its key stands. Dropped before its end it has failed.
@@ -46,11 +46,12 @@ impl<K: Hash + Eq + 'static, V: Clone + 'static, S: BuildHasher + 'static> Cache
         Q: Hash + Eq + ToOwned<Owned = K> + ?Sized,
     {
         let mut found = self.get_many(keys);
+        let mut too_heavy = vec![false; keys.len()];
         while found.iter().any(Option::is_none) {
-            let missing = self.missing(keys, &mut found);
+            let missing = self.missing(keys, &too_heavy, &mut found);
             load_all(keys, missing.own, &mut found, &mut load);
-            for flight in missing.others {
-                flight.wait(None);
+            for (place, flight) in missing.others {
+                too_heavy[place] = matches!(flight.wait(None), Some(End::TooHeavy));
             }
             for (value, key) in found.iter_mut().zip(keys).filter(|(value, _)| value.is_none()) {
                 *value = self.read(self.shared.at(*key), *key, V::clone);
@@ -59,8 +60,9 @@ impl<K: Hash + Eq + 'static, V: Clone + 'static, S: BuildHasher + 'static> Cache
         found.into_iter().flatten().collect()
     }
 
-    /// Begins the load of each key that has no value yet, unless it has one by now or another loads it.
-    fn missing<Q>(&self, keys: &[&Q], found: &mut [Option<V>]) -> Missing<'_, K, V>
+    /// Begins the load of each key that has no value yet, unless it has one by now or another loads it. Of those whose values
+    /// are too heavy nobody waits for another's.
+    fn missing<Q>(&self, keys: &[&Q], too_heavy: &[bool], found: &mut [Option<V>]) -> Missing<'_, K, V>
     where
         K: Borrow<Q>,
         Q: Hash + Eq + ToOwned<Owned = K> + ?Sized,
@@ -69,12 +71,16 @@ impl<K: Hash + Eq + 'static, V: Clone + 'static, S: BuildHasher + 'static> Cache
         for (place, (value, key)) in found.iter_mut().zip(keys).enumerate().filter(|(_, (value, _))| value.is_none()) {
             let at = self.shared.at(*key);
             let part = &self.shared.parts()[at.part];
+            if too_heavy[place] {
+                missing.own.push(Own { place, part, load: part.begin_alone(at.id) });
+                continue;
+            }
             match part.begin(at.id, *key, (*key).to_owned()) {
                 Begun::Held => *value = self.read(at, *key, V::clone),
                 Begun::Load(load) => missing.own.push(Own { place, part, load }),
                 Begun::Wait(flight, _) => {
                     part.count(|counted| counted.waits += 1);
-                    missing.others.push(flight);
+                    missing.others.push((place, flight));
                 }
             }
         }

@@ -1,8 +1,7 @@
 //! The desks that threads have for themselves: each is kept until its thread ends, or its cache does.
 use super::desk::Desk;
 use super::shared::Shared;
-use std::any::Any;
-use std::cell::RefCell;
+use std::cell::{RefCell, RefMut};
 use std::sync::{Arc, Weak};
 
 thread_local! {
@@ -15,13 +14,13 @@ struct Kept {
     own: Box<dyn AnyOwn>,
 }
 
-/// A thread's desk at a cache, but where a call of the thread has it. It goes back to its cache, if that is there still.
-struct Own<K: 'static, V: 'static, S: 'static> {
-    desk: Option<Desk>,
+/// A thread's desk at a cache, which a call borrows. It goes back to its cache, if that is there still.
+struct Own<K, V, S> {
+    desk: RefCell<Option<Desk>>,
     cache: Weak<Shared<K, V, S>>,
 }
 
-trait AnyOwn: Any {
+trait AnyOwn {
     /// Whether its cache is there.
     fn is_of_use(&self) -> bool;
 }
@@ -46,58 +45,38 @@ pub(super) fn with_desk<K: 'static, V: 'static, S: 'static, R>(
     cache: &Arc<Shared<K, V, S>>,
     call: impl FnOnce(Option<&mut Desk>) -> R,
 ) -> R {
-    let mut taken = Taken { desk: take(cache), cache };
-    call(taken.desk.as_mut())
+    match own(cache).and_then(|own| own.desk.try_borrow_mut().ok()) {
+        Some(desk) => call(Borrowed(desk).0.as_mut()),
+        None => call(None),
+    }
 }
 
-/// A desk that its thread gets back once this is dropped.
-struct Taken<'a, K: 'static, V: 'static, S: 'static> {
-    desk: Option<Desk>,
-    cache: &'a Arc<Shared<K, V, S>>,
-}
+/// A desk that holds nothing any more once this is dropped.
+struct Borrowed<'a>(RefMut<'a, Option<Desk>>);
 
-impl<K, V, S> Drop for Taken<'_, K, V, S> {
+impl Drop for Borrowed<'_> {
     fn drop(&mut self) {
-        let Some(mut desk) = self.desk.take() else { return };
-        desk.let_go();
-        let mut desk = Some(desk);
-        _ = with_own(self.cache, |own| own.desk = desk.take());
-        if let Some(desk) = desk {
-            self.cache.spare().push(desk);
-        }
+        self.0.iter_mut().for_each(Desk::let_go);
     }
 }
 
-fn take<K: 'static, V: 'static, S: 'static>(cache: &Arc<Shared<K, V, S>>) -> Option<Desk> {
-    match with_own(cache, |own| own.desk.take()) {
-        Some(desk) => desk,
-        None => {
-            let desk = cache.spare_at_once()?;
-            let own = Own { desk: None, cache: Arc::downgrade(cache) };
-            let kept = Kept { cache: Arc::as_ptr(cache).cast(), own: Box::new(own) };
-            let keep = |all: &RefCell<Vec<Kept>>| {
-                let mut all = all.borrow_mut();
-                all.retain(|kept| kept.own.is_of_use());
-                all.push(kept);
-            };
-            // Of a thread that ends it comes back at once.
-            _ = KEPT.try_with(keep);
-            Some(desk)
-        }
-    }
-}
-
-/// What a thread has of a cache, if it has anything.
-fn with_own<K: 'static, V: 'static, S: 'static, R>(
-    cache: &Arc<Shared<K, V, S>>,
-    call: impl FnOnce(&mut Own<K, V, S>) -> R,
-) -> Option<R> {
+/// What the calling thread has of a cache, from now on where it had nothing and there is a desk.
+fn own<K: 'static, V: 'static, S: 'static>(cache: &Arc<Shared<K, V, S>>) -> Option<&Own<K, V, S>> {
+    let place = Arc::as_ptr(cache).cast();
     let find = |all: &RefCell<Vec<Kept>>| {
         let mut all = all.borrow_mut();
-        // No other cache lies there while this one is known weakly.
-        let kept = all.iter_mut().find(|kept| kept.cache == Arc::as_ptr(cache).cast())?;
-        let own: &mut dyn Any = &mut *kept.own;
-        own.downcast_mut().map(call)
+        if let Some(kept) = all.iter().find(|kept| kept.cache == place) {
+            return Some(&raw const *kept.own);
+        }
+        let desk = RefCell::new(Some(cache.spare_at_once()?));
+        let own = Box::new(Own { desk, cache: Arc::downgrade(cache) });
+        let at = &raw const *own;
+        all.retain(|kept| kept.own.is_of_use());
+        all.push(Kept { cache: place, own });
+        Some(at as *const dyn AnyOwn)
     };
-    KEPT.try_with(find).ok().flatten()
+    let own = KEPT.try_with(find).ok().flatten()?;
+    // SAFETY: no cache of another type lies there while this one is known weakly. Its thread keeps it until the cache goes,
+    // which the caller has, or until the thread ends.
+    Some(unsafe { &*own.cast() })
 }

@@ -1,6 +1,5 @@
 //! One of a cache's parts, which has some of the ids, and a map and a lock of its own.
 use super::all::Seated;
-use super::counts::Counts;
 use super::entry::Entry;
 use super::expiry::{Expiry, Lifetime, Moment};
 use super::failure::Failure;
@@ -32,8 +31,6 @@ struct Apart<T>(T);
 #[repr(align(128))]
 pub(super) struct Part<K, V> {
     pub expiry: Expiry,
-    /// One for each reader.
-    pub counts: Box<[Counts]>,
     /// How many entries came out that had expired.
     expired: AtomicU64,
     told: Told<K, V>,
@@ -126,10 +123,8 @@ impl<K, V> Drop for Failing<'_, K, V> {
 }
 
 impl<K, V> Part<K, V> {
-    pub fn new(expiry: Expiry, readers: usize, told: Told<K, V>, store: Store<K, V>) -> Self {
-        let counts = (0..readers).map(|_| Counts::default()).collect();
-        let (expired, store) = (AtomicU64::new(0), Apart(Lock::new(store)));
-        Part { expiry, counts, expired, told, store }
+    pub fn new(expiry: Expiry, told: Told<K, V>, store: Store<K, V>) -> Self {
+        Part { expiry, expired: AtomicU64::new(0), told, store: Apart(Lock::new(store)) }
     }
 
     /// An entry whose value comes now, by the thread that calls.
@@ -235,6 +230,11 @@ impl<K, V> Part<K, V> {
         }
         drop(store);
         Begun::Load(Load::of(id, kind))
+    }
+
+    /// A load of a key whose values are too heavy to be held, as who waited for one is told: nobody waits for it.
+    pub fn begin_alone(&self, id: u64) -> Load {
+        Load::of(id, Kind::Alone { clashes: false })
     }
 
     /// The turn of an entry beside which its value is to be loaded anew, and isn't yet.
@@ -372,11 +372,9 @@ impl<K, V> Part<K, V> {
         self.store().weight()
     }
 
+    /// All but what readers count.
     pub fn stats(&self) -> CacheStats {
-        let mut stats = self.store().counted;
-        stats.expired = self.expired.load(Relaxed);
-        self.counts.iter().for_each(|counts| counts.add_to(&mut stats));
-        stats
+        CacheStats { expired: self.expired.load(Relaxed), ..self.store().counted }
     }
 
     /// All entries, of a cache that nobody uses any more.

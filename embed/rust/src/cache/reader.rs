@@ -142,11 +142,11 @@ impl<K: Hash + Eq, V, S: BuildHasher> CacheReader<K, V, S> {
             return Ok(self.borrowed(at, place));
         }
         if let Some(flight) = self.part(at).flight_of(at.id, key) {
-            self.counts(at).count_wait();
+            self.counts().count_wait();
             match flight.wait(now().checked_add(timeout)) {
                 None => return Err(WaitError::TimedOut),
                 Some(End::Failed(why)) => return self.left(at, key).ok_or(WaitError::Failed(why.said())),
-                Some(End::Loaded | End::Outdated) => {}
+                Some(End::Loaded | End::TooHeavy | End::Outdated) => {}
             }
         }
         let place = self.find(at, key).ok_or(WaitError::Missing)?;
@@ -202,9 +202,11 @@ impl<K: Hash + Eq, V, S: BuildHasher> CacheReader<K, V, S> {
             match self.begin(at, key) {
                 Begun::Load(own) => break own,
                 Begun::Wait(flight, _) => {
-                    self.counts(at).count_wait();
-                    if flight.wait(until).is_none() {
-                        return Err(LoadError::TimedOut);
+                    self.counts().count_wait();
+                    match flight.wait(until) {
+                        None => return Err(LoadError::TimedOut),
+                        Some(End::TooHeavy) => break self.part(at).begin_alone(at.id),
+                        Some(_) => {}
                     }
                 }
                 Begun::Held => {}
@@ -271,8 +273,8 @@ impl<K: Hash + Eq, V, S: BuildHasher> CacheReader<K, V, S> {
     {
         let found = self.find(at, key);
         match found {
-            Some(_) => self.counts(at).count_hit(),
-            None => self.counts(at).count_miss(),
+            Some(_) => self.counts().count_hit(),
+            None => self.counts().count_miss(),
         }
         found
     }
@@ -298,8 +300,8 @@ impl<K: Hash + Eq, V, S: BuildHasher> CacheReader<K, V, S> {
         &self.shared().parts()[at.part]
     }
 
-    fn counts(&self, at: At) -> &Counts {
-        &self.part(at).counts[self.desk.number]
+    fn counts(&self) -> &Counts {
+        self.shared().counts(&self.desk)
     }
 
     fn shared(&self) -> &Shared<K, V, S> {

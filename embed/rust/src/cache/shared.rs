@@ -1,4 +1,5 @@
 //! What the handles of a cache have in common.
+use super::counts::Counts;
 use super::desk::{At, Desk};
 use super::flights::spread;
 use super::part::Part;
@@ -17,12 +18,15 @@ pub(super) struct Shared<K, V, S> {
     pub capacity: usize,
     /// The ids are spread over them, so that two threads that miss rarely want one lock.
     parts: Box<[Part<K, V>]>,
+    /// One for each desk.
+    counts: Box<[Counts]>,
     spare: Mutex<Vec<Desk>>,
 }
 
 impl<K, V, S> Shared<K, V, S> {
     pub fn new(hasher: S, capacity: usize, parts: Vec<Part<K, V>>, spare: Vec<Desk>) -> Self {
-        Shared { hasher, capacity, parts: parts.into(), spare: Mutex::new(spare) }
+        let counts = spare.iter().map(|_| Counts::default()).collect();
+        Shared { hasher, capacity, parts: parts.into(), counts, spare: Mutex::new(spare) }
     }
 
     /// The id of a key, which is never 0.
@@ -76,7 +80,14 @@ impl<K, V, S> Shared<K, V, S> {
     pub fn stats(&self) -> CacheStats {
         let mut stats = CacheStats::default();
         self.parts.iter().for_each(|part| stats += part.stats());
+        self.counts.iter().for_each(|counts| counts.add_to(&mut stats));
         stats
+    }
+
+    /// What the reader counts that has a desk.
+    #[inline]
+    pub fn counts(&self, desk: &Desk) -> &Counts {
+        &self.counts[desk.number]
     }
 
     /// The desks that no reader has.

@@ -3,7 +3,6 @@ use super::builder::{CacheBuilder, MOST_AT_ONCE};
 use super::desk::At;
 use super::entry::Entry;
 use super::expiry::{Moment, Spans};
-use super::flights::End;
 use super::leaving::RemovalCause;
 use super::part::Part;
 use super::store::{PutEntry, Store};
@@ -122,7 +121,7 @@ impl<K, V> Store<K, V> {
     /// Ends it by an entry, in place of what is left where that is there still, or gives it back where it isn't held: as
     /// where the flight has ended since it was outdated.
     pub fn land_beside_left(&mut self, number: u64, entry: Box<Entry<K, V>>, now: Moment) -> PutEntry<K, V> {
-        if !self.under_way.end(number, &End::Loaded) {
+        if !self.under_way.end(number, &self.end_by(&entry)) {
             return Err(entry);
         }
         let (id, expiry) = (entry.id, self.expiry);

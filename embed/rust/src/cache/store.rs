@@ -75,7 +75,7 @@ impl<K, V> Store<K, V> {
         }
     }
 
-    pub fn held(&mut self) -> usize {
+    pub fn held(&self) -> usize {
         self.ids.held()
     }
 
@@ -126,7 +126,7 @@ impl<K, V> Store<K, V> {
     /// Ends a flight by an entry, or gives it back where it isn't held: as where the flight has ended since it was
     /// outdated.
     pub fn land(&mut self, number: u64, entry: Box<Entry<K, V>>) -> PutEntry<K, V> {
-        let is_known = self.under_way.end(number, &End::Loaded);
+        let is_known = self.under_way.end(number, &self.end_by(&entry));
         if !is_known || self.is_too_heavy(&entry) {
             self.ids.fail(number);
             return Err(entry);

@@ -1,4 +1,5 @@
 //! Gets by tasks, of any runtime.
+use super::flights::End;
 use super::part::{Begun, Failing};
 use super::threads::{end_by, failure};
 use super::Cache;
@@ -34,26 +35,30 @@ impl<K: Hash + Eq + 'static, V: Clone + 'static, S: BuildHasher + 'static> Cache
         let at = self.shared.at(key);
         let mut found = self.look(at, key);
         let part = &self.shared.parts()[at.part];
-        loop {
+        let own = loop {
             if let Some(value) = found {
                 return Ok(value);
             }
             match part.begin(at.id, key, key.to_owned()) {
-                Begun::Load(own) => {
-                    // Where the task is cancelled, or the load panics, this ends it.
-                    let _failing = Failing { part, load: &own };
-                    let gave = end_by(part, &own, key.to_owned(), None, load.await);
-                    return self.or_left(at, key, gave);
-                }
+                Begun::Load(own) => break own,
                 Begun::Wait(flight, _) => {
                     part.count(|counted| counted.waits += 1);
-                    if let Some(why) = failure(flight.ended().await) {
-                        return self.or_left(at, key, Err(why));
+                    match flight.ended().await {
+                        End::TooHeavy => break part.begin_alone(at.id),
+                        end => {
+                            if let Some(why) = failure(end) {
+                                return self.or_left(at, key, Err(why));
+                            }
+                        }
                     }
                 }
                 Begun::Held => {}
             }
             found = self.read(at, key, V::clone);
-        }
+        };
+        // Where the task is cancelled, or the load panics, this ends it.
+        let _failing = Failing { part, load: &own };
+        let gave = end_by(part, &own, key.to_owned(), None, load.await);
+        self.or_left(at, key, gave)
     }
 }

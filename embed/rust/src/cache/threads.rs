@@ -58,22 +58,28 @@ impl<K: Hash + Eq + 'static, V: Clone + 'static, S: BuildHasher + 'static> Cache
         let at = self.shared.at(key);
         let mut found = self.look(at, key);
         let part = &self.shared.parts()[at.part];
-        loop {
+        let own = loop {
             if let Some(value) = found {
                 return Ok(value);
             }
             match part.begin(at.id, key, key.to_owned()) {
-                Begun::Load(own) => return self.or_left(at, key, load_by(part, &own, key, load)),
+                Begun::Load(own) => break own,
                 Begun::Wait(flight, _) => {
                     part.count(|counted| counted.waits += 1);
-                    if let Some(why) = flight.wait(None).and_then(failure) {
-                        return self.or_left(at, key, Err(why));
+                    match flight.wait(None) {
+                        Some(End::TooHeavy) => break part.begin_alone(at.id),
+                        end => {
+                            if let Some(why) = end.and_then(failure) {
+                                return self.or_left(at, key, Err(why));
+                            }
+                        }
                     }
                 }
                 Begun::Held => {}
             }
             found = self.read(at, key, V::clone);
-        }
+        };
+        self.or_left(at, key, load_by(part, &own, key, load))
     }
 
     /// A clone of a key's value, or its request, which one caller gets until it is filled or has failed, or the load
@@ -125,7 +131,7 @@ impl<K: Hash + Eq + 'static, V: Clone + 'static, S: BuildHasher + 'static> Cache
                 });
                 return found;
             };
-            let counts = &part.counts[desk.number];
+            let counts = self.shared.counts(desk);
             let count_and_read = |entry: &Entry<K, V>| {
                 counts.count_hit();
                 read(entry)
@@ -204,7 +210,7 @@ pub(super) fn end_by<K, V: Clone, E: Send + Sync + 'static>(
 /// What an end tells of a failure, where that is of this type.
 pub(super) fn failure<E: Send + Sync + 'static>(end: End) -> Option<Arc<E>> {
     match end {
-        End::Loaded | End::Outdated => None,
+        End::Loaded | End::TooHeavy | End::Outdated => None,
         End::Failed(why) => why.shared(),
     }
 }

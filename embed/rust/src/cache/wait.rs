@@ -46,7 +46,7 @@ impl<K: Hash + Eq + 'static, V: Clone + 'static, S: BuildHasher + 'static> Futur
             self.is_counted = true;
         }
         Pin::new(&mut self.ended).poll(context).map(|end| match end {
-            End::Loaded | End::Outdated => {
+            End::Loaded | End::TooHeavy | End::Outdated => {
                 self.cache.read(self.cache.shared.at_id(self.id), &self.key, V::clone).ok_or(WaitError::Missing)
             }
             End::Failed(why) => {

@@ -1,5 +1,6 @@
 //! What entries weigh, of a cache that has a bound for that beside the one for their count.
 use super::entry::Entry;
+use super::flights::End;
 use super::store::Store;
 use super::{Cache, CacheBuilder};
 use std::hash::{BuildHasher, Hash};
@@ -32,6 +33,15 @@ impl<K, V> Store<K, V> {
         self.most.is_some_and(|most| u64::from(entry.weight) > most)
     }
 
+    /// How a load ends that gives this.
+    pub fn end_by(&self, entry: &Entry<K, V>) -> End {
+        if self.is_too_heavy(entry) {
+            End::TooHeavy
+        } else {
+            End::Loaded
+        }
+    }
+
     /// Counts an entry that isn't held, which was too heavy, or came too late.
     pub fn count_own(&mut self, entry: &Entry<K, V>) {
         match self.is_too_heavy(entry) {
@@ -53,8 +63,8 @@ impl<K, V, S> CacheBuilder<K, V, S> {
     /// go before it is held, as in a full cache, and the listener is told [`RemovalCause::Size`](crate::RemovalCause::Size).
     ///
     /// The parts have equal shares of it. What weighs more than its part's share is not held: it is its caller's alone, what
-    /// its key had goes, and [`CacheStats::refused`](crate::CacheStats::refused) counts it. Who waits for such a load looks
-    /// again, and one of them loads.
+    /// its key had goes, and [`CacheStats::refused`](crate::CacheStats::refused) counts it. Who waits for such a load is told
+    /// once it ends, and loads the value too, beside all others who waited.
     ///
     /// What left and is borrowed still doesn't count, nor what is on its way to be dropped.
     pub fn max_weight(mut self, most: u64) -> CacheBuilder<K, V, S> {

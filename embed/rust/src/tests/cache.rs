@@ -135,7 +135,7 @@ fn what_was_inserted_within_a_load_stays() {
 }
 
 /// Until so many gets have begun to wait.
-fn until_so_many_wait(cache: &Cache<u64, u64>, waits: u64) {
+pub(super) fn until_so_many_wait(cache: &Cache<u64, u64>, waits: u64) {
     while cache.stats().waits < waits {
         thread::yield_now();
     }

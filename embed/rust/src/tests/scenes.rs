@@ -67,9 +67,9 @@ fn a_value_that_is_left_answers_until_its_key_changes() {
     assert!(search_in(setting, 0, [fails, commits, nothing], nothing) > 10);
 }
 
-/// What is too heavy is its caller's alone, and those who wait for it load in turn.
+/// What is too heavy is its caller's alone, and those who wait for it load it too.
 #[test]
-fn who_waits_for_a_value_that_is_too_heavy_loads_in_turn() {
+fn who_waits_for_a_value_that_is_too_heavy_loads_it_too() {
     let setting = Setting { builder: |builder| builder.weigher(|_, _| 3).max_weight(2), first: nothing };
     let end: fn(&World) = |world| assert_eq!((world.cache.stats().loads, world.cache.len()), (2, 0));
     assert!(search_in(setting, 0, [gets, gets, nothing], end) > 10);

@@ -146,22 +146,27 @@ impl Condvar {
 pub(crate) struct OnceLock<T> {
     thing: Thing,
     inner: sync::OnceLock<T>,
+    /// Nobody gets the value before it is told to ThreadSanitizer that its setter gave it.
+    told: sync::Mutex<()>,
 }
 
 impl<T> OnceLock<T> {
     pub fn new() -> OnceLock<T> {
-        OnceLock { thing: steps::new_thing(), inner: sync::OnceLock::new() }
+        OnceLock { thing: steps::new_thing(), inner: sync::OnceLock::new(), told: sync::Mutex::new(()) }
     }
 
     pub fn get(&self) -> Option<&T> {
         steps::make(Op::Read(self.thing));
+        let _told = self.told.lock();
         self.inner.get().inspect(|_| tsan::takes(self))
     }
 
     pub fn set(&self, value: T) -> Result<(), T> {
         steps::make(Op::Write(self.thing));
+        let _told = self.told.lock();
+        let set = self.inner.set(value);
         tsan::gives(self);
-        self.inner.set(value)
+        set
     }
 }
 

@@ -1,8 +1,11 @@
 //! What entries weigh together stays within the bound, whatever is called, and what leaves gives its weight back.
-use super::cache::{caught, panicking, roll};
+use super::cache::{caught, panicking, roll, until_so_many_wait};
 use crate::*;
+use std::future::Future;
+use std::pin::pin;
 use std::sync::atomic::{AtomicU64, Ordering::SeqCst};
-use std::sync::{Arc, Barrier, Mutex};
+use std::sync::{Arc, Mutex};
+use std::task::{Context, Poll, Waker};
 use std::thread;
 use std::time::Duration;
 
@@ -79,20 +82,64 @@ fn what_is_too_heavy_is_not_put_where_nothing_is() {
     assert_eq!((cache.get(&1), held(&cache)), (Some(10), (1, 10)));
 }
 
-/// Each gets a value: one of them after another loads.
-#[test]
-fn who_waits_for_what_is_too_heavy_loads_in_turn() {
-    let cache = Cache::<u64, u64>::builder().threads(4).weigher(|_, _| 9).max_weight(8).open().unwrap();
-    let (loads, start) = (AtomicU64::new(0), Barrier::new(4));
-    thread::scope(|scope| {
-        for _ in 0..4 {
-            scope.spawn(|| {
-                start.wait();
-                assert!(cache.get_with(&1, || loads.fetch_add(1, SeqCst)) < 4);
-            });
+/// A get by a load.
+type Get = dyn Fn(&Numbers, &dyn Fn() -> u64) -> u64 + Sync;
+
+/// Four get a value that is too heavy, by these calls. One of them loads while the others wait, and then those load at once.
+fn all_load(gets: [&Get; 4]) {
+    let cache: Numbers = Cache::builder().threads(4).weigher(|_, _| 9).max_weight(8).open().unwrap();
+    let (loads, met) = (AtomicU64::new(0), Meeting::of(3));
+    let load = || {
+        match loads.fetch_add(1, SeqCst) {
+            0 => until_so_many_wait(&cache, 3),
+            _ => assert!(met.all_come(), "who waited loads in turn"),
         }
+        7
+    };
+    thread::scope(|scope| {
+        let threads = gets.map(|get| scope.spawn(|| get(&cache, &load)));
+        assert_eq!(threads.map(|thread| thread.join().unwrap()), [7; 4]);
     });
     assert_eq!((loads.load(SeqCst), cache.stats().refused, cache.len()), (4, 4, 0));
+}
+
+/// So many threads that are to be somewhere at once.
+struct Meeting {
+    wanted: u64,
+    there: AtomicU64,
+}
+
+impl Meeting {
+    fn of(wanted: u64) -> Meeting {
+        Meeting { wanted, there: AtomicU64::new(0) }
+    }
+
+    /// Whether all come. It gives up after a time that is long for any machine.
+    fn all_come(&self) -> bool {
+        self.there.fetch_add(1, SeqCst);
+        let waits = (0..10_000).take_while(|_| self.there.load(SeqCst) < self.wanted);
+        waits.for_each(|_| thread::sleep(Duration::from_millis(1)));
+        self.there.load(SeqCst) >= self.wanted
+    }
+}
+
+#[test]
+fn who_waits_for_what_is_too_heavy_loads_it_too() {
+    all_load([&|cache, load| cache.get_with(&1, load); 4]);
+    all_load([&|cache, load| *cache.reader().unwrap().get_with(&1, load); 4]);
+    all_load([&|cache, load| cache.get_many_with(&[&1], |_| vec![load()])[0]; 4]);
+    all_load([&|cache, load| polled(cache.get_with_async(&1, async { load() })); 4]);
+}
+
+/// What a future comes to, polled until then.
+fn polled<T>(future: impl Future<Output = T>) -> T {
+    let (mut future, mut context) = (pin!(future), Context::from_waker(Waker::noop()));
+    loop {
+        match future.as_mut().poll(&mut context) {
+            Poll::Ready(gave) => return gave,
+            Poll::Pending => thread::yield_now(),
+        }
+    }
 }
 
 #[test]
