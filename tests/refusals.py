@@ -5,9 +5,9 @@ but those that they call. A wrong body stands in a copy of its function, with th
 that the others call the right one. A function of a trait is edited in its place, by one body a check. A wrong body is
 refused where a goal of its own function is open: the prover tried it, and found no proof. Where it stands in no function, or
 another one's goal shows it, a line `refused in: NAME` of the edit, which rt passes over, names that one, and the wrong body
-has a check for itself. What isn't refused so is tried on the whole crate. A check begins with what the crate's own proof
-left in its library, and so proves no function again that a wrong body calls. Each keeps what it proved, for the next. Of a
-crate whose proof leaves no library the first check proves these functions, and the others begin with them.
+has a check for itself. What isn't refused so is tried on the whole crate. A check begins with what rt check left in the
+crate's library, and so proves no function again that a wrong body calls. A library of rt ci has statements alone: over it,
+and where there is none, the first check of a crate proves these functions, and keeps them for the next ones.
 
 Where the text of the proof alone doesn't fit the wrong body, by a type, by a name that is gone, or by a path that `rw` doesn't
 find, nothing is known of its goal: so that is no refusal here, as it is one of rt. Such an edit brings its proof's text with
@@ -28,7 +28,8 @@ from typing import NamedTuple
 import kit
 from functions import files_of
 
-PART = 54  # wrong bodies, at most
+WHOLE = 90  # wrong bodies, at most, of a crate that is tried as one part: what they call is proved once
+PART = 54  # wrong bodies, at most, of another's
 HEAD = re.compile(r"[^#/]*\bfn \w+")
 TOLD = re.compile(r"(?:note: )?(?:\./)?(\S+?):(\d+):\d+: (.*)")
 # What the prover says of a goal that it tried, or that a tactic of its proof did.
@@ -258,24 +259,22 @@ def try_alone(rt, crate, edit, kept):
     return (Refusal(False, text.partition(": ")[2]), None) if is_refused else (None, text)
 
 
-def parts(edits):
-    """The wrong bodies of a crate in parts, which are tried side by side: else the crate that has most would be waited for. One
-    part takes every so many, since those that stand beside each other often have one function."""
-    count = -(-len(edits) // PART)
-    return [edits[at::count] for at in range(count)]
-
-
 def unpack(rt, crate, kept):
-    """Puts what is proved in the crate's library where checks keep what they proved: in the folder of the prover's build."""
-    build = re.search(r"^rattle-build (.*)$", pathlib.Path(crate.rlib, "format").read_text(), re.M)
-    place = pathlib.Path(kept, build[1].replace("/", "_"))
-    place.mkdir()
-    unpacker = f"{rt.rtlib.KIT}/toolchain/bin/llvm-ar"
-    subprocess.run([unpacker, "x", f"{crate.rlib}/toolchain/checked.a"], cwd=place, check=True)
+    """Puts what is proved in the crate's library where checks keep what they proved: in the folder of the prover's build. It is
+    there where the library was built over what checks had kept. Whether it is."""
+    form = pathlib.Path(crate.rlib, "format")
+    told = form.read_text() if form.exists() else ""
+    has_proofs = re.search(r"^incremental$", told, re.M) is not None
+    if has_proofs:
+        place = pathlib.Path(kept, re.search(r"^rattle-build (.*)$", told, re.M)[1].replace("/", "_"))
+        place.mkdir()
+        unpacker = f"{rt.rtlib.KIT}/toolchain/bin/llvm-ar"
+        subprocess.run([unpacker, "x", f"{crate.rlib}/toolchain/checked.a"], cwd=place, check=True)
+    return has_proofs
 
 
 class Called:
-    """What wrong bodies of a crate without a library call. The first check proves it, and the others wait for that."""
+    """What the wrong bodies of a crate in parts call. The first check proves it, and the others wait for that."""
 
     def __init__(self):
         self.lock, self.place = threading.Lock(), None
@@ -295,16 +294,27 @@ class Called:
             yield
 
 
-called = {}
+class Part(NamedTuple):
+    """Some of a crate's wrong bodies, and what it shares with the other parts where there are any."""
+
+    crate: object
+    edits: list
+    called: Called | None
 
 
-def try_part(rt, crate, edits):
+def parts(crate, edits):
+    """The wrong bodies of a crate that has many, in parts, which are tried side by side: else that crate would be waited for.
+    One part takes every so many, since those that stand beside each other often have one function."""
+    count = 1 if len(edits) <= WHOLE else -(-len(edits) // PART)
+    called = Called() if count > 1 else None
+    return [Part(crate, edits[at::count], called) for at in range(count)]
+
+
+def try_part(rt, part):
     with tempfile.TemporaryDirectory(prefix="rt-edits-") as kept:
-        if os.path.isdir(crate.rlib):
-            unpack(rt, crate, kept)
-            return try_all(rt, crate, edits, kept, contextlib.nullcontext)
-        shared = called.setdefault(crate.name, Called())
-        return try_all(rt, crate, edits, kept, lambda: shared.in_check(kept))
+        is_alone = unpack(rt, part.crate, kept) or not part.called
+        in_check = contextlib.nullcontext if is_alone else lambda: part.called.in_check(kept)
+        return try_all(rt, part.crate, part.edits, kept, in_check)
 
 
 def try_all(rt, crate, edits, kept, in_check):

@@ -256,8 +256,8 @@ impl Load {
         let begun = model_newest(key) + CLEARINGS_BEGUN.load(SeqCst);
         // Since both gets began nothing has outdated a load.
         let overlap = ended == begun && others.contains(&begun);
-        // A key that meets another of its hash is loaded by each who misses it.
-        if overlap && !HASHES_ARE_SHARED.load(SeqCst) {
+        // A key that meets another of its hash is loaded by each who misses it, and a value that is too heavy by each who waited.
+        if overlap && !HASHES_ARE_SHARED.load(SeqCst) && !is_too_heavy(key) {
             fails(c"two loads");
         }
         others.push(ended);
@@ -356,6 +356,12 @@ fn weight(key: u32) -> u32 {
         7 => 1_000_000,
         _ => 1 + key % 8,
     }
+}
+
+/// Whether a key's entry isn't held for what it weighs.
+fn is_too_heavy(key: u32) -> bool {
+    let most = MOST_WEIGHT.load(SeqCst);
+    most > 0 && u64::from(weight(key)) > most
 }
 
 /// While nobody else uses it a cache of weighed entries knows what they weigh, but for those that have expired.
