@@ -3,6 +3,7 @@ doesn't bear one of them out, nothing is written: the sentence is to be changed 
 import sys
 
 LOCKS = ("a lock a key", "TBB", "libcuckoo", "dashmap")
+DRAWS = ("even", "zipf")
 ARRAYS = ("liburcu QSBR, array", "liburcu memb, array")
 TABLES = ("liburcu QSBR, rculfhash", "liburcu memb, rculfhash")
 EACH, EACH_ROWS = "this map, 16 at once", "this map, 16 at once, rows of the caller's"
@@ -39,12 +40,12 @@ class Run:
         keys = [("updates", 4, kind, 8192, drawn, 3, -1) for kind in kinds]
         return [self.told(key, name) / self.told(key, "this map") for key in keys for name in names if name in self.cells.get(key, {})]
 
-    def both(self, names, kind, sizes, threads, of="this map"):
+    def all_finds(self, names, kind, sizes, threads=(1, 3), of="this map"):
         """The shares with keys drawn evenly, and by Zipf's law."""
-        return " and ".join(between(self.finds(names, kind, sizes, threads, drawn, of)) for drawn in ("even", "zipf"))
+        return [it for drawn in DRAWS for it in self.finds(names, kind, sizes, threads, drawn, of)]
 
-    def both_updates(self, names, kinds=("numbers", "ids")):
-        return " and ".join(between(self.updates(names, drawn, kinds)) for drawn in ("even", "zipf"))
+    def all_updates(self, names, kinds=("numbers", "ids")):
+        return [it for drawn in DRAWS for it in self.updates(names, drawn, kinds)]
 
     def wants(self, is_so, what):
         if not is_so:
@@ -57,61 +58,64 @@ class Run:
 
 
 def never_missing(run):
-    arrays = [run.both(ARRAYS, "numbers", sizes, (1, 3)) for sizes in (SMALL, LARGE)]
-    hot = between(run.finds(ARRAYS, "numbers", (8192,), (1, 3), "hot"))
-    by_three = [run.both(TABLES, "ids", sizes, (3,)) for sizes in (SMALL, LARGE)]
-    by_one = [run.both(TABLES, "ids", sizes, (1,)) for sizes in (SMALL, LARGE)]
-    swaps, updates = run.both(("arc-swap",), "numbers", SMALL, (1, 3)), digits(max(run.updates(("arc-swap",), "even") + run.updates(("arc-swap",), "zipf")))
-    run.wants(all(it < 1 for drawn in ("even", "zipf") for it in run.finds(ARRAYS, "numbers", SMALL, (1, 3), drawn)), "liburcu's array is ahead")
+    arrays = run.all_finds(ARRAYS, "numbers", SMALL)
+    hot = run.finds(ARRAYS, "numbers", (8192,), (1, 3), "hot")
+    tables, larger = (run.all_finds(TABLES, "ids", sizes) for sizes in (SMALL, LARGE))
+    run.wants(max(arrays + hot) < 1, "liburcu's array is ahead")
+    run.wants(min(larger) > 1, "rculfhash takes longer for a million ids")
     return (
-        f"- Where no key is ever missing, **liburcu** finds numbers of an array faster, by one thread and by three: in {arrays[0]} "
-        f"of this map's time, a million of them in {arrays[1]}, and one hot key in {hot}. Its rculfhash finds 8,192 and 65,536 "
-        f"ids in {by_one[0]} of it by one thread and in {by_three[0]} by three, a million in {by_one[1]} and in {by_three[1]}. "
-        f"**arc-swap** finds numbers in {swaps}, by one thread and by three, and beside three readers updates at most {updates} "
-        f"as often, with either draw.\n"
+        f"- **Where no key is ever missing** and only single finds count, take **liburcu**. Its array finds up to 65,536 numbers in "
+        f"{between(arrays)} of this map's time, and one hot key in {between(hot)}. Its rculfhash finds up to 65,536 ids in "
+        f"{between(tables)} of it, and a million in {between(larger)}.\n"
+    )
+
+
+def swapped(run):
+    finds, updates = run.all_finds(("arc-swap",), "numbers", SMALL), run.all_updates(("arc-swap",))
+    run.wants(max(finds) < 1, "arc-swap finds numbers faster")
+    return (
+        f"- **arc-swap** finds up to 65,536 numbers in {between(finds)} of this map's time too, but beside three readers it updates "
+        f"them at most {digits(max(updates))} as often.\n"
     )
 
 
 def locks(run):
-    kinds = ("numbers", "ids")
-    hot = digits(max(run.updates(LOCKS, "hot", kinds)))
-    cuckoo, others = run.both_updates(("libcuckoo",), ("ids",)), run.both_updates(("a lock a key", "TBB", "dashmap"), ("ids",))
-    three = run.both(("libcuckoo", "a lock a key", "TBB"), "ids", (8192,), (3,))
-    dash, one = run.both(("dashmap",), "ids", (8192,), (3,)), run.both(("dashmap",), "ids", (8192, 65536, 1000000), (1,))
-    larger = run.both(LOCKS, "ids", (65536, 1000000), (3,))
-    rest = run.both(("libcuckoo", "a lock a key", "TBB"), "ids", (8192, 65536, 1000000), (1,))
+    sizes = SMALL + LARGE
+    one, others = (run.all_finds(names, "ids", sizes, (1,)) for names in (("dashmap",), LOCKS[:3]))
+    three, hot = run.all_finds(LOCKS, "ids", sizes, (3,)), run.updates(LOCKS, "hot")
+    run.wants(min(three) > 1, "by three threads locks take longer")
+    cuckoo, rest = (run.all_updates(names, ("ids",)) for names in (("libcuckoo",), ("a lock a key", "TBB", "dashmap")))
     return (
-        f"- **Locks** hardly update a hot key that three readers find, at most {hot} as often as this map. Beside three readers of "
-        f"8,192 ids **libcuckoo** updates {cuckoo} times as often, the others {others}. By three threads it, **a lock a key** and "
-        f"**TBB** find 8,192 ids in {three} of this map's time, **dashmap** in {dash}; 65,536 and a million ids all four in "
-        f"{larger}. By one thread dashmap finds ids in {one}, the others in {rest}.\n"
+        f"- **Locks** suit one thread: **dashmap** then finds ids in {between(one)} of this map's time, and libcuckoo, TBB and a lock a "
+        f"key in {between(others)}. By three threads all four take longer, {between(three)} of it. Beside three readers libcuckoo "
+        f"updates 8,192 ids {between(cuckoo)} times as often as this map, and the others {between(rest)} times. They hardly update a "
+        f"hot key that three readers find, at most {digits(max(hot))} as often.\n"
     )
 
 
 def this_map(run):
-    updates = [[1 / it for it in run.updates(ARRAYS + TABLES, drawn)] for drawn in ("even", "zipf")]
-    gets = [run.gets("this map", of) for of in ("liburcu memb, array, TBB's queue",)]
-    locked = [run.gets("this map", of) for of in ("64 locked parts", "dashmap, a lock a key") if of in run.cells[("gets", 4, "a thread loads, load 2000 ns", 16384, "zipf", 3, 4096)]]
+    updates = [1 / it for it in run.all_updates(ARRAYS + TABLES)]
+    queue = run.gets("this map", "liburcu memb, array, TBB's queue")
+    locked = run.gets("this map", "64 locked parts")
+    run.wants(min(updates) > 1, "this map updates more often than liburcu")
     return (
-        f"- **This map** asks for a missing key once. Beside three readers it updates {between(updates[0])} and "
-        f"{between(updates[1])} times as often as liburcu. With a thread that loads what three readers get by Zipf's law it makes "
-        f"{between(gets)} of the gets of liburcu's array with TBB's queue, {between(locked)} times those of locked tables.\n"
+        f"- **This map** asks for a missing key once. Beside three readers it updates {between(updates)} times as often as liburcu. "
+        f"With a thread that loads what three readers get by Zipf's law, it makes {digits(queue)} of the gets of liburcu's array with "
+        f"TBB's queue, and {digits(locked)} times those of locked tables.\n"
     )
 
 
 def many(run):
-    def single(name, kind, sizes):
-        return run.both((name,), kind, sizes, (1, 3))
+    def shares(sizes):
+        return [it for kind in ("numbers", "ids") for name in (EACH_ROWS, EACH) for it in run.all_finds((name,), kind, sizes)]
 
-    larger = (65536, 1000000)
+    small, larger = shares(SMALL[:1]), shares(SMALL[1:] + LARGE)
+    run.wants(max(larger) < 1 < min(small), "finds of many gain from 65,536 keys on, and not before")
     return (
-        "- **For many keys** take the calls whose rows go to an array of the caller's, `nr_find_each_rows` and "
-        "`nr_find_each_rows_id`: beside its rows a key takes 12 bytes there and an id 16, in place of 4 kB in all. By one thread "
-        "and by three, sixteen finds at once by them take, of single finds' time, "
-        f"{single(EACH_ROWS, 'numbers', (8192,))} for 8,192 numbers and {single(EACH_ROWS, 'numbers', larger)} for more; "
-        f"{single(EACH_ROWS, 'ids', (8192,))} for 8,192 ids and {single(EACH_ROWS, 'ids', larger)} for more. Into a buffer for each, "
-        f"by `nr_find_each` and `nr_find_each_id`, they take {single(EACH, 'numbers', (8192,))} and {single(EACH, 'numbers', larger)}, "
-        f"{single(EACH, 'ids', (8192,))} and {single(EACH, 'ids', larger)}. So at 8,192 keys they gain nothing.\n"
+        f"- **For many keys at once**, of 65,536 or more, sixteen finds by one call take {between(larger)} of single finds' time. Of "
+        f"8,192 keys they take {between(small)} of it, so single finds are faster there. Take `nr_find_each_rows` and "
+        f"`nr_find_each_rows_id`, whose rows go to an array of the caller's: beside its rows a number takes 12 bytes there and an id "
+        f"16, where `nr_find_each` and `nr_find_each_id` take 4 kB for each.\n"
     )
 
 
@@ -119,17 +123,17 @@ def caches(run):
     def times(other, drawn, threads):
         return digits(1 / run.gets("this cache", other, drawn, HITS, 8192, threads))
 
+    lrus, cells = "64 locked LRUs", "dashmap, a lock a key"
     return (
-        f"- **The Rust cache** hits, with keys drawn evenly, in {times('64 locked LRUs', 'there', 3)} of locked LRUs' time by three "
-        f"threads, and by one in {times('64 locked LRUs', 'there', 1)}. With loads of 2 µs and three readers that get by Zipf's law "
-        f"it makes {digits(run.gets('this cache', 'dashmap, a lock a key', kind=LOADS))} of **dashmap**'s gets with a lock a key, and "
-        f"{digits(run.gets('this cache', '64 locked LRUs', kind=LOADS))} of **locked LRUs**'. Misses of new keys that cost nothing take "
-        f"{times('dashmap, a lock a key', 'new', 3)} times as long as dashmap's by three threads and "
-        f"{times('dashmap, a lock a key', 'new', 1)} by one; {times('64 locked LRUs', 'new', 3)} times as long as the LRUs' by three, "
-        f"and {times('64 locked LRUs', 'new', 1)} by one.\n"
+        f"- **The Rust cache** suits queries that take much longer than a hit. By three threads a hit takes {times(lrus, 'there', 3)} "
+        f"of locked LRUs' time, and by one {times(lrus, 'there', 1)}. A miss whose load takes no time at all takes "
+        f"{times(lrus, 'new', 3)} times as long as theirs by three threads, and {times(lrus, 'new', 1)} times by one. Of dashmap with "
+        f"a lock a key these are {times(cells, 'new', 3)} and {times(cells, 'new', 1)}. With loads of 2 µs and three readers that get "
+        f"by Zipf's law, this cache makes {digits(run.gets('this cache', lrus, kind=LOADS))} of the LRUs' gets and "
+        f"{digits(run.gets('this cache', cells, kind=LOADS))} of dashmap's.\n"
     )
 
 
 def sentences(cells):
     run = Run(cells)
-    return "".join(of(run) for of in (never_missing, locks, this_map, many, caches))
+    return "".join(of(run) for of in (never_missing, swapped, locks, this_map, many, caches))
