@@ -36,7 +36,11 @@ pub extern "C" fn nr_find_each_rows_id(
     wanted: &mut [NrFoundId],
     rows: &mut [Row],
 ) -> u32
-    ensures { WhenLive ((wanted.new ≡ wanted.old) × (rows.new ≡ rows.old)) (WithIds (AreFoundIds wanted.old) ((wanted.new ≡ wanted.old) × (rows.new ≡ rows.old)) (WhenIdleById ((wanted.new ≡ wanted.old) × (rows.new ≡ rows.old)) (FindsIdsFirst wanted.old wanted.new rows.old rows.new))) reader.old.live reader.new.live result }
+    ensures { WhenLive ((wanted.new ≡ wanted.old) × (rows.new ≡ rows.old))
+        (WithIds (AreFoundIds wanted.old) ((wanted.new ≡ wanted.old) × (rows.new ≡ rows.old))
+        (WhenIdleById ((wanted.new ≡ wanted.old) × (rows.new ≡ rows.old))
+        (FindsIdsFirst wanted.old wanted.new rows.old rows.new)))
+        reader.old.live reader.new.live result }
 {
     if !reader.is_live() {
         return NR_CLOSED;

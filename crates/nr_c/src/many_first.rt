@@ -32,7 +32,11 @@ pub extern "C" fn nr_find_each_rows(
     wanted: &mut [NrFound],
     rows: &mut [Row],
 ) -> u32
-    ensures { WhenLive ((wanted.new ≡ wanted.old) × (rows.new ≡ rows.old)) (WithKeys (λ side. AreFoundKeys side wanted.old) ((wanted.new ≡ wanted.old) × (rows.new ≡ rows.old)) (WhenIdle ((wanted.new ≡ wanted.old) × (rows.new ≡ rows.old)) (FindsSomeFirst wanted.old wanted.new rows.old rows.new))) reader.old.live reader.new.live result }
+    ensures { WhenLive ((wanted.new ≡ wanted.old) × (rows.new ≡ rows.old))
+        (WithKeys (λ side. AreFoundKeys side wanted.old) ((wanted.new ≡ wanted.old) × (rows.new ≡ rows.old))
+        (WhenIdle ((wanted.new ≡ wanted.old) × (rows.new ≡ rows.old))
+        (FindsSomeFirst wanted.old wanted.new rows.old rows.new)))
+        reader.old.live reader.new.live result }
 {
     if !reader.is_live() {
         return NR_CLOSED;

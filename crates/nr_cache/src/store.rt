@@ -54,9 +54,19 @@ impl Model for Store {
 
     ghost Value = { StoreSeen };
 
-    ghost view = { λ store. record { keeper = store.writer; asker = store.asker; underway = store.flights; capacity = store.limit.capacity; hand = store.limit.hand; load = store.limit.weights } };
+    ghost view = { λ store. record {
+      keeper = store.writer;
+      asker = store.asker;
+      underway = store.flights;
+      capacity = store.limit.capacity;
+      hand = store.limit.hand;
+      load = store.limit.weights;
+    } };
 
-    ghost invariant = { λ store. (id_table_of store.asker ≡ store.writer.table) × OwesNone store.writer × HasSlots store.limit.capacity store.writer.table.map × (0 < id_rows store.writer.table) × BringsValues store.writer × (0 < store.limit.capacity) × IsWithin store.limit.capacity store.writer × OnlyValuesWeigh store.limit.weights store.writer × (store.limit.hand < store.writer.table.map.shape.keys) };
+    ghost invariant = { λ store. (id_table_of store.asker ≡ store.writer.table) × OwesNone store.writer
+        × HasSlots store.limit.capacity store.writer.table.map × (0 < id_rows store.writer.table)
+        × BringsValues store.writer × (0 < store.limit.capacity) × IsWithin store.limit.capacity store.writer
+        × OnlyValuesWeigh store.limit.weights store.writer × (store.limit.hand < store.writer.table.map.shape.keys) };
 }
 
 impl Store {

@@ -22,9 +22,10 @@ impl IdMap {
         self.directory.take_mark(&mut writer.clerk, way)
     }
 
-    /// The id of a way of another's group, which may be evicted in its favour: by second chance, the first
-    /// from the last choice on that wasn't found since. `None`: the way that was chosen has no id. An id whose
-    /// upquery is open can't be evicted; then the next call chooses the next. Takes 3 steps.
+    /// An id of the same group, which may be evicted to make room for this one. It is chosen by second
+    /// chance: the first behind the last choice that wasn't found since. `None` means that the way that was
+    /// chosen has no id. An id whose upquery is open can't be evicted, and the next call chooses the next
+    /// one. Takes 3 steps.
     pub fn choose(&self, writer: &mut IdWriter, id: u64) -> Option<u64>
         requires own { writer.old.table ≡ self.now }
         ensures own { writer.new.table ≡ self.now }

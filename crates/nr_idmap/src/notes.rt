@@ -75,8 +75,8 @@ impl IdMap {
         self.directory.hear(&mut reader.ids, ids);
     }
 
-    /// Two notes of one, for two hearers: each says what it said. Takes 3 steps of the map and 3 of the
-    /// directory, of the reader's, which learns nothing by that and else stays as it is.
+    /// Makes two notes of one, for two hearers: each says what the one said. The reader takes 3 steps on
+    /// the map and 3 on the directory, learns nothing, and otherwise stays as it is.
     pub fn split_note(&self, reader: &mut IdReader, note: IdNote) -> (IdNote, IdNote)
         requires own { (note_table_of note ≡ self.now) × (id_table_of reader.old ≡ self.now) }
         ensures reader { reader.new ≡ with_steps_of_split reader.old }

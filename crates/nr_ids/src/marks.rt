@@ -51,9 +51,9 @@ impl Directory {
         true
     }
 
-    /// A way of the id's group that another id may have, by second chance: from the way behind the last
-    /// one that was chosen on, the first that isn't marked. The marks before it are taken; where all
-    /// eight are, the first way is chosen. Takes 2 steps.
+    /// A way of the id's group that another id may have, by second chance: the first that isn't marked,
+    /// from the way behind the last choice on. The marks before it are taken. If all eight are marked,
+    /// all marks are taken, and the first of these ways is chosen. Takes 2 steps.
     pub fn choose(&self, clerk: &mut Clerk, id: u64) -> u32
         requires own { clerk.old.directory ≡ self.now }
         ensures own { clerk.new.directory ≡ self.now }

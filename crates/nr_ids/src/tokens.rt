@@ -138,8 +138,8 @@ impl Directory {
         self.learn(&mut clerk.seat);
     }
 
-    /// Two notes of one, for two hearers: each says what it said. Takes 3 steps of the reader's, which
-    /// learns nothing by that and else stays as it is.
+    /// Makes two notes of one, for two hearers: each says what the one said. Takes 3 steps of the
+    /// reader, which learns nothing and otherwise stays as it is.
     pub fn split_note(&self, reader: &mut Reader, note: Note) -> (Note, Note)
         requires own { (note.directory ≡ self.now) × (reader.old.directory ≡ self.now) }
         ensures reader { reader.new ≡ with_steps 3 reader.old }

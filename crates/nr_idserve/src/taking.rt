@@ -155,8 +155,8 @@ impl<'a> IdDataflow<'a> {
         }
     }
 
-    /// How often the bell was rung. Whoever is to sleep reads this first, looks then for whatever may have
-    /// come, and sleeps if nothing has.
+    /// How often the bell has been rung. A thread that is about to sleep reads this first, then looks
+    /// for what may have come, and sleeps only if nothing has.
     pub fn rings(&mut self) -> Rung
         ensures looks { OnlyLooks self.old.guest self.new.guest }
         ensures rest { self.new ≡ record self.old { guest = self.new.guest } }

@@ -21,14 +21,17 @@ impl Hand {
         self.caller.find(map, key, rows)
     }
 
-    /// Looks a key up and holds its set for the next call. Where it holds the key's set already and
-    /// finds it again, it takes 2n + 1 steps for n rows, which write no word. Else it finds and holds
-    /// anew. By the counts it lets go what it held first: 2n + 2 steps, 1 for a hole, and 1 more where
-    /// something was held, and yet 1 where that was another set of the key. A reader that has a word
-    /// takes 2n + 4, 2n + 6 or 2n + 8 steps, and 1, 4, 6 or 7 for a hole. Where it holds a set by the
-    /// word, the announcement of the slot that its look named lets that go; where the look named none
-    /// it takes 2 more, to clear its word and look once more. Where it holds a set by the counts it
-    /// takes 1 more, and 2 if that was another set of the key.
+    /// Looks a key up and holds its set for the next call.
+    ///
+    /// If it holds the key's set already and finds it again, it takes 2n + 1 steps for n rows, and
+    /// writes no word. Otherwise it finds and holds anew:
+    ///
+    /// - A reader without a word, which goes by the counts, takes 2n + 2 steps, or 1 for a hole. If it
+    ///   held a set, it lets that go first, in 1 step more, or in 2 if that was another set of this key.
+    /// - A reader with a word takes 2n + 4, 2n + 6 or 2n + 8 steps, or 1, 4, 6 or 7 for a hole. If it
+    ///   held a set by its word, announcing the slot that it looked up lets that go. If the look named
+    ///   no slot, it takes 2 steps more, to clear its word and to look again. If it held a set by the
+    ///   counts, it takes 1 step more, or 2 if that was another set of this key.
     #[inline(always)]
     pub fn find_kept<R: RowRoom>(&mut self, map: &ReaderMap, key: u32, rows: &mut R) -> Found
         requires own { self.old.reader.table ≡ map.now }

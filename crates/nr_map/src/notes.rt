@@ -81,7 +81,7 @@ impl ReaderMap {
         self.board.hear_note(&mut writer.seat, note.told);
     }
 
-    /// So does a reader that holds a set, which it keeps.
+    /// A reader that holds a set learns what a note says, and keeps the set. Takes 1 step.
     pub fn hear_pin(&self, pin: &mut Pin, note: Note)
         requires own { (pin.old.reader.table ≡ self.now) × (note.table ≡ self.now) }
         ensures reader { HearsNote 1 note pin.old.reader pin.new.reader }
@@ -90,8 +90,8 @@ impl ReaderMap {
         pin.caller.hear(self, note);
     }
 
-    /// Two notes of one, for two hearers: each says what it said. Takes 3 steps of the reader's, which
-    /// learns nothing by that and else stays as it is.
+    /// Makes two notes of one, for two hearers: each says what the one said. Takes 3 steps of the
+    /// reader, which learns nothing and otherwise stays as it is.
     pub fn split_note(&self, reader: &mut Reader, note: Note) -> (Note, Note)
         requires own { (note.table ≡ self.now) × (reader.old.table ≡ self.now) }
         ensures reader { reader.new ≡ with_steps 3 reader.old }

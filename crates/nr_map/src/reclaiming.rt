@@ -93,12 +93,14 @@ impl ReaderMap {
         )
     }
 
-    /// Writes a retired set into `had` before its slot is taken again: the oldest that waits and that
-    /// no reader holds; where readers have words, the oldest of those that none was heard to announce,
-    /// or after a scan of all. Where there is none `had` stays as it is. The slot stays retired, and a
-    /// call that takes it gives out nothing. Takes a step for each slot that it polls, which are those
-    /// whose sets wait, oldest first, one for each word that it scans, and 2m + 1 for a set of m rows;
-    /// none where no set waits.
+    /// Writes a retired set into `had` before its slot is taken again. It is the oldest set that waits
+    /// and that no reader holds. Where readers have words, it is the oldest of those that no word was
+    /// found to announce, and if there is none of these, all words are scanned once. If no set can be
+    /// given out, `had` stays as it is. The slot stays retired, and a call that takes it later gives
+    /// out nothing.
+    ///
+    /// Takes a step for each slot that it polls, which are those whose sets wait, oldest first, one
+    /// for each word that it scans, and 2m + 1 for a set of m rows. Takes none if no set waits.
     pub fn reap<R: RowRoom>(&self, writer: &mut Writer, had: &mut R) -> Reaped
         requires own { writer.old.table ≡ self.now }
         ensures { ReapsIn R.shows writer.old had.old writer.new had.new result }

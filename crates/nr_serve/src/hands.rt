@@ -55,7 +55,7 @@ impl Hands {
     }
 }
 
-/// Two notes of one, by a reader that holds no set, as the map's `split_note`.
+/// Makes two notes of one, as the map's `split_note`, by a reader that holds no set.
 pub(crate) fn split_by_hand(map: &ReaderMap, reader: &mut Hand, note: Note) -> (Note, Note)
     requires own { (note.table ≡ map.now) × (reader.old.reader.table ≡ map.now) }
     requires idle { reader.old.key ≡ None }

@@ -59,7 +59,7 @@ impl<'a> Watched<'a> {
     }
 
     /// Sleeps while the count of this key's group is at most `n` and the lobby isn't closed, within the
-    /// limit. Who sleeps for what another is to bring reads the count before it looks for that.
+    /// limit. A thread that waits for another's work reads the count before it looks for that work.
     pub fn wait_within<L: Limit<R>, R: Wait>(
         &mut self,
         rt: &R,
@@ -125,8 +125,8 @@ impl<'a> Watched<'a> {
         self.lobby.tellings(&mut self.guest)
     }
 
-    /// Sleeps while it told so at most that often and the lobby isn't closed. Who sleeps reads the number
-    /// before it looks for what was told.
+    /// Sleeps while the dataflow has told at most `tellings` times how much it has applied, and the lobby
+    /// isn't closed. A thread that is about to sleep reads that number before it looks for what was told.
     pub fn wait_for_telling<R: Wait>(&mut self, rt: &R, tellings: u64)
         ensures looks { OnlyLooks self.old self.new }
         ensures past { (tellings < slice_index self.new.seen told_at) ⊎ (0 < slice_index self.new.seen closed_at) }
