@@ -1,6 +1,7 @@
 """The sentences of docs/PERFORMANCE.md that say which library to take, with the figures that a run gives them. Where a run
 doesn't bear one of them out, nothing is written: the sentence is to be changed here."""
 import sys
+from statistics import median
 
 LOCKS = ("a lock a key", "TBB", "libcuckoo", "dashmap")
 DRAWS = ("even", "zipf")
@@ -110,10 +111,10 @@ def many(run):
         return [it for kind in ("numbers", "ids") for name in (EACH_ROWS, EACH) for it in run.all_finds((name,), kind, sizes)]
 
     small, larger = shares(SMALL[:1]), shares(SMALL[1:] + LARGE)
-    run.wants(max(larger) < 1 < min(small), "finds of many gain from 65,536 keys on, and not before")
+    run.wants(median(larger) < 1 < median(small), "finds of many mostly gain from 65,536 keys on, and not before")
     return (
         f"- **For many keys at once**, of 65,536 or more, sixteen finds by one call take {between(larger)} of single finds' time. Of "
-        f"8,192 keys they take {between(small)} of it, so single finds are faster there. Take `nr_find_each_rows` and "
+        f"8,192 keys they take {between(small)} of it, so single finds are mostly faster there. Take `nr_find_each_rows` and "
         f"`nr_find_each_rows_id`, whose rows go to an array of the caller's: beside its rows a number takes 12 bytes there and an id "
         f"16, where `nr_find_each` and `nr_find_each_id` take 4 kB for each.\n"
     )

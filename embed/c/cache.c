@@ -35,15 +35,18 @@ static void reap(void) {
   for (nr_given given; nr_cache_reap(&cache, &given) == NR_GIVEN;) free((entry *)(uintptr_t)given.value);
 }
 
-/* Queries a key and lands what it has. Of a key that changed meanwhile, or of no load, the cache keeps nothing. */
+/* Queries a key and lands what it has. Of a key that changed meanwhile, or of no load, the cache keeps nothing; and where
+   there is no memory for an entry, the load ends without one. */
 static entry load(const char *key, uint64_t number) {
-  entry *one = malloc(sizeof *one), had = query(key);
+  entry had = query(key), *one = malloc(sizeof *one);
+  nr_flight flight;
   nr_given given;
-  *one = had;
+  if (one) *one = had;
   pthread_mutex_lock(&lock);
-  uint32_t said = nr_cache_land(&cache, number, 1, (uintptr_t)one, 1, 0, &given);
+  uint32_t said = one ? nr_cache_land(&cache, number, 1, (uintptr_t)one, 1, 0, &given)
+                      : nr_cache_fail(&cache, number, &flight);
   if (said == NR_GIVEN) free((entry *)(uintptr_t)given.value);
-  else if (said != NR_DONE) free(one);
+  if (said == NR_OWN) free(one);
   reap();
   pthread_cond_broadcast(&ended);
   pthread_mutex_unlock(&lock);

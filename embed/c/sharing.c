@@ -11,7 +11,9 @@
 #include <string.h>
 
 static char order, returns;
-static atomic_uint made, freed;
+static atomic_uint asked, made, freed;
+
+enum { REFUSED = 97 };
 
 static void want(bool is_so, const char *what) {
   if (is_so) return;
@@ -48,7 +50,9 @@ static uint32_t land_in_order(nr_cache *of, uint64_t number, uint64_t stamp, uin
 
 static uint32_t reap_in_order(nr_cache *of, nr_given *given) { return in_order(nr_cache_reap(of, given), given); }
 
+/* One time in so many there is no memory. */
 static void *made_one(size_t size) {
+  if (++asked % REFUSED == 0) return NULL;
   made++;
   return malloc(size);
 }
