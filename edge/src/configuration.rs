@@ -90,7 +90,7 @@ pub struct Listen {
     pub port: u16,
     pub unix_socket: Option<PathBuf>,
     pub clients: u16,
-    /// The threads that serve them, an event loop each: one for each processor where nothing is said.
+    /// The threads that serve them, an event loop each.
     workers: Option<u8>,
     idle: u32,
     half_command: u32,
@@ -125,9 +125,10 @@ impl Listen {
         Limits { idle, half }
     }
 
+    /// Several for each processor where nothing is said: beside other work the system lets those run first who ran least.
     pub fn workers(&self) -> u8 {
-        let processors = || available_parallelism().map_or(1, usize::from);
-        self.workers.unwrap_or_else(|| processors().try_into().unwrap_or(u8::MAX))
+        let several = || 8 * available_parallelism().map_or(1, usize::from);
+        self.workers.unwrap_or_else(|| several().try_into().unwrap_or(u8::MAX))
     }
 
     pub fn token_wait(&self) -> Duration {

@@ -1,6 +1,7 @@
 //! A client's connection: what has come by it, and the replies that haven't gone yet. Nothing here waits for the client.
 use crate::command::{command, Bounds, Command};
 use mio::{event::Source, net::TcpStream, net::UnixStream};
+use std::cell::RefCell;
 use std::io::{self, ErrorKind, Read, Write};
 use std::net::Shutdown;
 
@@ -8,6 +9,11 @@ use std::net::Shutdown;
 pub const MOST_REPLIES: usize = 65_536;
 /// What is read at a time.
 const ROOM: usize = 16_384;
+
+thread_local! {
+    /// What a worker reads into, since to clear so much for each read takes longer than most reads.
+    static READ: RefCell<[u8; ROOM]> = const { RefCell::new([0; ROOM]) };
+}
 
 pub trait Socket: Source + Read + Write + Send {
     fn shut(&self, ways: Shutdown) -> io::Result<()>;
@@ -153,11 +159,9 @@ impl Wire {
         if !self.may_read {
             return Ok(Step::Nothing);
         }
-        let mut room = [0; ROOM];
-        match self.socket.read(&mut room) {
+        match READ.with_borrow_mut(|room| self.socket.read(room).inspect(|size| self.came.extend(&room[..*size]))) {
             Ok(0) => Err(ErrorKind::UnexpectedEof.into()),
             Ok(size) => {
-                self.came.extend(&room[..size]);
                 self.bytes += size as u64;
                 // The system tells of what comes later, but not again of an end that it has told of.
                 self.may_read = size == ROOM || self.may_end;
