@@ -23,6 +23,7 @@ import shutil
 import subprocess
 import tempfile
 import threading
+import time
 from typing import NamedTuple
 
 import kit
@@ -30,6 +31,7 @@ from functions import files_of
 
 WHOLE = 90  # wrong bodies, at most, of a crate that is tried as one part: what they call is proved once
 PART = 54  # wrong bodies, at most, of another's
+LONG = 15  # seconds that a wrong body takes which is told
 HEAD = re.compile(r"[^#/]*\bfn \w+")
 TOLD = re.compile(r"(?:note: )?(?:\./)?(\S+?):(\d+):\d+: (.*)")
 # What the prover says of a goal that it tried, or that a tactic of its proof did.
@@ -233,15 +235,35 @@ def try_group(rt, crate, group, kept):
                 shutil.copytree(f"{crate.folder}/{part}", f"{room}/{part}")
         tried, later = put(rt, room, group)
         only = [word for body in tried for name in body.functions for word in ("--only", name)]
-        words = [rt.rtlib.RATTLE, "check", *words_of(crate, only), "--incremental", kept]
-        how = {"cwd": room, "stdin": subprocess.DEVNULL, "stdout": subprocess.PIPE, "stderr": subprocess.STDOUT}
-        ran = subprocess.run([*rt.rtlib.guarded(), *words], text=True, errors="replace", **how)
-    said = ran.stdout.split("\n")
+        words = [rt.rtlib.RATTLE, "check", *words_of(crate, only), "--incremental", kept, "--progress"]
+        status, said, lasted = run(rt, words, room)
+    tell_longest(crate, tried, lasted)
     edited = {path: "" for body in tried for path in body.texts}
     found = try_group(rt, crate, later, kept) if later else {}
-    if ran.returncode == 1 and not any(rt.unread(line, edited) for line in said):
+    if status == 1 and not any(rt.unread(line, edited) for line in said):
         found.update((it.edit, told) for it in tried if is_unproved(it, said) and (told := refusal(it, said)))
     return found
+
+
+def run(rt, words, room):
+    """A check's status, its lines, and how many seconds passed before each function's end, since the one before ended."""
+    how = {"cwd": room, "stdin": subprocess.DEVNULL, "stdout": subprocess.PIPE, "stderr": subprocess.STDOUT}
+    said, lasted, last = [], {}, time.monotonic()
+    with subprocess.Popen([*rt.rtlib.guarded(), *words], text=True, errors="replace", **how) as running:
+        for line in running.stdout:
+            said.append(line.rstrip("\n"))
+            if ended := re.match(r"checked (\S+), \d+ of \d+$", line):
+                now = time.monotonic()
+                lasted[ended[1]], last = now - last, now
+    return running.returncode, said, lasted
+
+
+def tell_longest(crate, tried, lasted):
+    """Says which wrong bodies the gate waits for: a check is as long as its searches for proofs that there aren't."""
+    for name, seconds in lasted.items():
+        body = next((it for it in tried if name.endswith(tuple(f"::{one}" for one in it.functions))), None)
+        if body and seconds >= LONG:
+            kit.say(f"must-fail {crate.name}/{pathlib.Path(body.edit).name}: took {seconds:.0f} seconds")
 
 
 def try_alone(rt, crate, edit, kept):
