@@ -127,7 +127,7 @@ impl Listen {
 
     /// Several for each processor where nothing is said: beside other work the system lets those run first who ran least.
     pub fn workers(&self) -> u8 {
-        let several = || 8 * available_parallelism().map_or(1, usize::from);
+        let several = || 4 * available_parallelism().map_or(1, usize::from);
         self.workers.unwrap_or_else(|| several().try_into().unwrap_or(u8::MAX))
     }
 

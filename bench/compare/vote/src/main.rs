@@ -2,13 +2,15 @@
 //! vote. Articles are drawn by Zipf's law. Clients do one operation after another; each has a connection to PostgreSQL for
 //! what isn't cached and for votes.
 //!   vote MODE SECONDS CLIENTS ADDRESS base|memcached|edge [PORT]..
-//! MODE is counts, where a vote is an UPDATE of a number, or rows, where it is an INSERT. They begin for a fourth of the
-//! time before what is counted. Prints operations a second, the microseconds within which 50, 99 and 99.9 of 100 reads were
-//! done, of the articles that were voted for those that are stale a second later, and those that are cached.
+//! MODE is counts, where a vote is an UPDATE of a number, or rows, where it is an INSERT. First each article is read once at
+//! each server, and then the clients begin, for a fourth of the time before what is counted. Prints operations a second, the
+//! microseconds within which 50, 99 and 99.9 of 100 reads were done, of the articles that were voted for those that are stale
+//! a second later, and those that are cached.
 use edge_common::postgres::pq::Connection;
 use std::collections::{HashMap, HashSet};
 use std::io::{BufRead, BufReader, Read, Write};
 use std::net::TcpStream;
+use std::sync::Barrier;
 use std::time::{Duration, Instant};
 use std::{env, thread};
 
@@ -204,11 +206,23 @@ struct Run<'a> {
     kind: &'a str,
     ports: &'a [String],
     zipf: Zipf,
+    time: Duration,
+    clients: usize,
+    /// All have read what they read first.
+    are_ready: Barrier,
 }
 
 impl Run<'_> {
-    fn client(&self, number: usize, begin: Instant, end: Instant) -> Done {
+    fn client(&self, number: usize) -> Done {
         let (mut base, mut front) = (Base::open(self.address, self.mode), Front::open(self.kind, self.ports, number));
+        // The clients of one server share the articles.
+        let servers = self.ports.len().max(1);
+        for article in (number / servers..ARTICLES).step_by((self.clients / servers).max(1)) {
+            self.read(&mut base, &mut front, article);
+        }
+        self.are_ready.wait();
+        let begin = Instant::now() + self.time / 4;
+        let end = begin + self.time;
         let (mut dice, mut done) = (Dice(number as u64 * 7919 + 12345), Done::default());
         loop {
             let (article, begun) = (self.zipf.draw(&mut dice), Instant::now());
@@ -222,13 +236,17 @@ impl Run<'_> {
                 done.voted.insert(article);
                 continue;
             }
-            if front.cached(self.mode, article).is_none() {
-                let value = base.read(article);
-                front.fill(article, &value);
-            }
+            self.read(&mut base, &mut front, article);
             if begun > begin {
                 done.times.push(begun.elapsed().as_micros() as u64);
             }
+        }
+    }
+
+    fn read(&self, base: &mut Base, front: &mut Front, article: usize) {
+        if front.cached(self.mode, article).is_none() {
+            let value = base.read(article);
+            front.fill(article, &value);
         }
     }
 
@@ -256,12 +274,11 @@ fn main() {
     };
     let mode = if mode == "rows" { &ROWS } else { &COUNTS };
     let (seconds, clients): (u64, usize) = (seconds.parse().unwrap(), clients.parse().unwrap());
-    let run = Run { mode, address, kind, ports, zipf: Zipf::new() };
-    let begin = Instant::now() + Duration::from_secs(seconds) / 4;
-    let end = begin + Duration::from_secs(seconds);
+    let (time, are_ready) = (Duration::from_secs(seconds), Barrier::new(clients));
+    let run = Run { mode, address, kind, ports, zipf: Zipf::new(), time, clients, are_ready };
     let done: Vec<_> = thread::scope(|scope| {
         let run = &run;
-        let clients: Vec<_> = (0..clients).map(|number| scope.spawn(move || run.client(number, begin, end))).collect();
+        let clients: Vec<_> = (0..clients).map(|number| scope.spawn(move || run.client(number))).collect();
         clients.into_iter().map(|client| client.join().unwrap()).collect()
     });
     let votes: u64 = done.iter().map(|done| done.votes).sum();
