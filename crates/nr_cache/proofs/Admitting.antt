@@ -40,6 +40,10 @@ not_full id old new tied free refuses =
     (ap (λ (way : ℕ). name_of new.clerk.seen way) (same_places id old.clerk new.clerk place looks.1.directory)
     ∙ looked looks.0 old.clerk new.clerk (way_for old.clerk id place) tied.names.1 looks.1 ∙ none))
 
+-- what a refusal leaves
+pub full_still : (id : ℕ) (old new : Keeper) → RefusesId id old new refused.Full → IsFull id new.clerk
+full_still id old new refuses = refuses.refused.1
+
 pub refused_absent : (id : ℕ) (old new : Keeper) (why : Refused) → IsTied old → RefusesId id old new why
     → IsAbsent old.clerk.seen id → IsAbsent new.clerk.seen id
 refused_absent id old new why tied refuses absent way named =

@@ -54,6 +54,11 @@ evict_brings id old new evict.Nothing (inl absent) brings = brings_same old new 
 evict_brings id old new evict.Nothing (inr (way, finds, evicts)) brings =
     brings_one old.writer new.writer evicts.0 tt brings
 
+pub admit_brings : (id : ℕ) (old new : Keeper) (owed : Owed) → AdmitsId id old new owed → BringsValues old
+    → BringsValues new
+admit_brings id old new owed admits brings =
+    subst (λ (l : List Entry). All Brings l) (sym admits.asks.hears.learns.mine) brings
+
 pub replace_brings : {Room : Type 0} (shows : Room → List Row → Type 0) (id : ℕ) (row : Row) (old : Keeper)
     (before : Room) (new : Keeper) (after : Room) (given : Reclaimed)
     → Replaces shows id row old before new after (Ok given) → BringsValues old → BringsValues new
@@ -73,6 +78,15 @@ look_brings id way set old new looks brings = brings_one old.writer new.writer l
 pub learnt_brings : (steps : ℕ) (old new : Keeper) → Learns steps old.writer new.writer → BringsValues old
     → BringsValues new
 learnt_brings steps old new learns brings = subst (λ (l : List Entry). All Brings l) (sym learns.mine) brings
+
+pub reap_brings : {Room : Type 0} (shows : Room → List Row → Type 0) (old new : Keeper) (before after : Room)
+    (answer : Reaped) → ReapsIn shows old.writer before new.writer after answer → BringsValues old → BringsValues new
+reap_brings shows old new before after reaped.Set does brings =
+    subst (λ (w : Caller). All Brings w.mine) (sym does.new_is) brings
+reap_brings shows old new before after reaped.Held does brings =
+    subst (λ (w : Caller). All Brings w.mine) (sym does.8) brings
+reap_brings shows old new before after reaped.Nothing does brings =
+    subst (λ (w : Caller). All Brings w.mine) (sym does.1) brings
 
 -- ONE KEY'S STATE
 abbrev HasValueSet : KeyState → Type 0

@@ -68,6 +68,10 @@ pub value_before : (id : ℕ) (old new : Keeper) → StaysButClerk old new → H
 value_before id old new stays had =
     (had.0, subst (λ (w : Caller). IsResident (map_seen w) id had.0) stays.writer had.1)
 
+pub gone_before : (id : ℕ) (old new : Keeper) → StaysButClerk old new → IsGone id new → IsGone id old
+gone_before id old new stays gone rows had =
+    gone rows (subst (λ (w : Caller). IsResident (map_seen w) id rows) (sym stays.writer) had)
+
 -- AN EVICTION
 cond_is : (b : Bool) (x y : ℕ) → b ≡ true → cond b x y ≡ x
 cond_is b x y e = ap (λ (t : Bool). cond t x y) e
@@ -156,4 +160,13 @@ unnames_one id way old mid new tied later real found takes =
       before = λ k name some named.
           sym (looked_names id old mid.clerk (Some way) tied found k)
           ∙ (named_before id takes.1.0 mid new later evicts k name some named).1;
+    }
+
+pub unnames_none : (id : ℕ) (old new : Keeper) → IsTied old → FindsWay id old.clerk new.clerk None → Unnames id old new
+unnames_none id old new tied found =
+    let looked = way_looks id old.clerk new.clerk None found in
+    record {
+      directory = looked.1.directory;
+      gone = λ k named. absurd (found_none id old new.clerk tied found k named);
+      before = λ k name some named. sym (looked_names id old new.clerk None tied found k) ∙ named;
     }

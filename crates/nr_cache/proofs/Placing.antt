@@ -71,6 +71,18 @@ pub counts_quiet : (old new : Keeper) (count : ℕ) → CountsValues old new cou
 counts_quiet old new count counts =
     quiet.LearnsMore 1 old.writer old.writer new.writer (quiet.Stays old.writer) counts.learns
 
+pub keeps_quiet : {capacity bound taken weight : ℕ} (old new : Stock) → KeepsWithin capacity bound taken weight old new
+    → IsQuiet old.keeper.writer new.keeper.writer
+keeps_quiet {capacity} {bound} {taken} old new keeps =
+    quiet_then (counts_quiet old.keeper keeps.counted keeps.count keeps.counts)
+    (quiet_then
+    (elim keeps.goes [
+      | inl few ↦
+          quiet_same keeps.counted.writer keeps.fewer.keeper.writer (ap (λ (s : Stock). s.keeper.writer) few.1)
+      | inr many ↦ goes_quiet bound taken (record old { keeper = keeps.counted }) keeps.fewer many.1
+    ])
+    (lightens_quiet keeps.lightens))
+
 at_once_quiet : (id : ℕ) (old new : Keeper) (answer : Option Sent) → AdmitsAtOnce id old new answer
     → IsQuiet old.writer new.writer
 at_once_quiet id old new (Some sent) admits = admit_quiet id old new sent.owed admits.0
@@ -136,6 +148,27 @@ module _ {Room : Type 0} (shows : Room → List Row → Type 0) (capacity bound 
           has = does.has;
           out = moves.0;
           moves = moves_then shows (quiet_moves shows quiet) moves.1;
+          gives = moves.2;
+        }
+
+    pub holds_filled : GetsPlace shows capacity bound weight id row old asker before new asker' after given
+        → Holds shows capacity bound weight id row old asker before new asker' after given
+    holds_filled gets =
+        let does = gets.fills in
+        let owed = does.sent.owed in
+        let roomy = does.roomy.keeper in
+        let moves = fill_moves shows owed (row ∷ []) roomy before new.keeper after given does.fills in
+        let quiet =
+        quiet_then (quiet_same old.keeper.writer gets.mid.writer gets.absent.1.writer)
+        (quiet_then (admits_quiet id gets.mid does.late.keeper (Some does.sent) does.admits)
+        (keeps_quiet does.late does.roomy does.keeps)) in
+        record {
+          how = inr gets;
+          has = does.has;
+          out = moves.0;
+          moves = moves_then shows (quiet_moves shows quiet)
+              (subst (λ (i : ℕ). Moves shows roomy.writer ((tag_of i ∷ row ∷ []) ∷ []) moves.0 new.keeper.writer)
+              (admitted_id id gets.mid does.late.keeper does.sent does.admits) moves.1);
           gives = moves.2;
         }
 

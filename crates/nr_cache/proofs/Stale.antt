@@ -107,6 +107,14 @@ hole_stamp (Hole n) answered = refl
 hole_stamp (Asked n) answered = refl
 hole_stamp (Rows n rows) answered = absurd (cc (answered))
 
+unnamed_stamp : (name : ℕ) (state : KeyState) → Agrees name state → name ≡ 0 → stamp_of state ≡ 0
+unnamed_stamp name (Hole n) agrees none = refl
+unnamed_stamp name (Asked n) agrees none = refl
+unnamed_stamp name (Rows n rows) agrees none = absurd (omega (arith, agrees.0, none))
+
+pub no_stamp : (keeper : Keeper) (way : ℕ) → IsTied keeper → name_at keeper way ≡ 0 → stamp_at keeper way ≡ 0
+no_stamp keeper way tied none = unnamed_stamp (name_at keeper way) (state_at keeper way) (tied.agrees way) none
+
 module _ (id way : ℕ) (old new : Keeper) (tied : IsTied old) (named : name_at old way ≡ id) (real : 0 < id) where
   same_way : (found : ℕ) → FindsWay id old.clerk new.clerk (Some found) → found ≡ way
   same_way found finds =

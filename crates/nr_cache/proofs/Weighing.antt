@@ -113,6 +113,13 @@ only_comes way weight old new was only some others other none = elim (cases_eq o
       get_or-set_other was.each way other weight 0 differs ∙ only other (sym (others other differs) ∙ none)
 ]
 
+-- what a way weighs is a part of the whole
+pub part_of_all : (load : Load) (way : ℕ) → get_or load.each way 0 ≤ weight_in load
+part_of_all load way = elim (below_or_past way (length load.each)) [
+  | inl near ↦ get_or-le-sum_by (λ (x : ℕ). x) load.each way 0 near
+  | inr past ↦ let none = get_or_past load.each way 0 past in omega (arith, none)
+]
+
 -- where no other way has a value what isn't heavier than all may be fits
 pub fits_alone : (way weight : ℕ) (load : Load) (keeper : Keeper) → OnlyValuesWeigh load keeper → weight ≤ load.most
     → ((other : ℕ) → other ≢ way → value_at keeper other ≡ None) → Fits way weight load
@@ -160,6 +167,11 @@ lightens_stays old new load stays =
 pub lightens_writer : (old new : Keeper) (load : Load) → new.writer ≡ old.writer → Lightens old load new load
 lightens_writer old new load same =
     lightens_same old new load (λ way. ap (λ (w : Caller). set_at (map_seen w) way) same)
+
+pub lightens_learnt : (steps : ℕ) (old new : Keeper) (load : Load) → IsTied old → Learns steps old.writer new.writer
+    → Lightens old load new load
+lightens_learnt steps old new load tied learns =
+    lightens_same old new load (learnt_values steps old.writer new.writer (writes old tied) learns)
 
 pub lightens_admitted : (id : ℕ) (old new : Keeper) (owed : Owed) (load : Load) → IsTied old → AdmitsId id old new owed
     → Lightens old load new load
