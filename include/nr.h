@@ -802,9 +802,12 @@ uint32_t nr_choose_id(nr_id_writer *writer, uint64_t id, uint64_t *chosen);
 
    A cache holds values by ids above 0. A value is a number of the caller's, such as an address, and has a stamp above
    0, which comes back with it. The cache decides which loads are under way, whether a loaded value is held, and whose
-   value goes to make room. Readers, one a thread, find without a lock. All other calls are for one thread at a time, as
-   under a mutex of the caller's. No call blocks, and only those that open take memory. A call with the id 0 answers
-   NR_NO_KEY, and one with the stamp 0 NR_BAD_ROW, both without a step.
+   value goes to make room.
+
+   Threads. nr_cache_find, nr_cache_release and nr_close_cache_reader take a reader alone, which is one thread's, and need
+   no lock. Each call that takes a cache, nr_open_cache_reader among them, is for one thread at a time, as under a mutex
+   of the caller's. No call blocks, and only those that open take memory. A call with the id 0 answers NR_NO_KEY, and one
+   with the stamp 0 NR_BAD_ROW, both without a step.
 
    A miss. Begin a load. The caller that gets NR_SEND queries the base and lands the value, or ends the load without one.
    Then it wakes those that wait, by the mark. A caller that gets NR_WAITING waits for that load, and finds again. At

@@ -88,6 +88,15 @@ static void is_its_own(const nr_given *given) {
   want(given->id == id_of(((const entry *)(uintptr_t)given->value)->key), "an entry that comes out with its id");
 }
 
+/* Opens a reader, which takes it from the cache: so under the lock. */
+static nr_cache_reader opened(void) {
+  nr_cache_reader reader = {0};
+  pthread_mutex_lock(&lock);
+  want(nr_open_cache_reader(&cache, &reader) == NR_DONE, "a reader");
+  pthread_mutex_unlock(&lock);
+  return reader;
+}
+
 /* The version that a get of a key has. */
 static unsigned version_of(nr_cache_reader *reader, unsigned key) {
   char name[16];
@@ -108,8 +117,7 @@ static void change(unsigned key) {
 
 static void *get_all(void *given) {
   unsigned place = (unsigned)(uintptr_t)given;
-  nr_cache_reader reader = {0};
-  want(nr_open_cache_reader(&cache, &reader) == NR_DONE, "a reader");
+  nr_cache_reader reader = opened();
   for (unsigned round = 0; round < ROUNDS; round++) {
     unsigned key = round * (place + 3) % KEYS * (round % 7) / 7;
     unsigned oldest = told[key];
@@ -123,9 +131,8 @@ static void *get_all(void *given) {
 /* Once others have filled the cache, some keys stay after some rounds, though they are more than one group holds: a value
    goes first until its key was asked for again. */
 static void try_some(void) {
-  nr_cache_reader reader = {0};
+  nr_cache_reader reader = opened();
   nr_cache_counts counts;
-  want(nr_open_cache_reader(&cache, &reader) == NR_DONE, "one reader more");
   for (unsigned key = 0; key < KEYS; key++) version_of(&reader, key);
   nr_cache_count(&cache, &counts);
   want(counts.values == CAPACITY, "a cache that is full, and no fuller");
