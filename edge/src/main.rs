@@ -1,6 +1,5 @@
 //! An edge: it holds a part of some tables of a PostgreSQL database, follows their changes, and serves clients of
 //! Redis.
-mod base;
 mod changes;
 mod configuration;
 mod content;
@@ -23,10 +22,9 @@ mod upquery;
 mod value;
 mod writes;
 
-use base::Base;
 use clap::{Parser, Subcommand};
 use configuration::Configuration;
-use edge_common::postgres::{fresh, log, lsn, parts, pgoutput, pq, query, snapshot};
+use edge_common::postgres::{base, base::Base, fresh, log, lsn, parts, pgoutput, pq, query, snapshot};
 use edge_common::{ending, guest, listener, resp};
 use needs::Lack;
 use std::{collections::HashSet, fs, path::Path, path::PathBuf, process::ExitCode};

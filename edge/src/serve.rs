@@ -12,7 +12,7 @@ use crate::slot::{self, Lasting};
 use crate::stats::Count;
 use crate::upquery::{self, Queue};
 use crate::{metrics, stream::Stream, tables, writes};
-use edge_common::event_loop::EventLoop;
+use edge_common::{event_loop::EventLoop, http};
 use std::net::{SocketAddr, TcpListener};
 use std::sync::{atomic::Ordering::SeqCst, mpsc, mpsc::SyncSender, Mutex};
 use std::{fs, io, process, process::ExitCode, thread, thread::Builder, time::Duration};
@@ -89,7 +89,7 @@ fn begin(
         }
     })?;
     if let Some(listener) = metrics {
-        run("metrics", move || metrics::run(&listener, shared))?;
+        run("metrics", move || http::run(&listener, |path| metrics::page(path, shared)))?;
     }
     begin_workers(shared, door, &events)?;
     for listener in listeners {

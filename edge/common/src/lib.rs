@@ -5,6 +5,7 @@ pub mod ending;
 #[cfg(feature = "clients")]
 pub mod event_loop;
 pub mod guest;
+pub mod http;
 pub mod later;
 #[cfg(feature = "clients")]
 pub mod listener;

@@ -1,4 +1,5 @@
 //! PostgreSQL's connections, its stream of changes, and the order of changes and answers.
+pub mod base;
 pub mod fresh;
 pub mod log;
 pub mod lsn;

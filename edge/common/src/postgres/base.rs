@@ -1,5 +1,5 @@
 //! Connections to PostgreSQL in which a value has one text, whoever asks for it.
-use crate::pq::{Connection, Fault};
+use super::pq::{Connection, Fault};
 use std::time::Duration;
 
 pub struct Base {
