@@ -29,7 +29,9 @@ impl fmt::Display for End {
 impl From<Fault> for End {
     /// By PostgreSQL's code. A fault of a kind that isn't known here may mean that changes are missing.
     fn from(fault: Fault) -> End {
-        let why = if fault.state.is_empty() { fault.to_string() } else { format!("{fault} ({})", fault.state) };
+        let why = fault.to_string();
+        // A refused connection's has its code.
+        let why = if why.contains(&*fault.state) { why } else { format!("{why} ({})", fault.state) };
         match (fault.state.get(..2).unwrap_or_default(), &*fault.state) {
             // A role that may not, a password that is wrong, a database that is gone, a type without an order.
             (_, "42501" | "42883" | "57P04" | "3D000") | ("28", _) => End::Refused(why),
@@ -61,5 +63,8 @@ mod tests {
             assert_eq!(of(state), format!("begins anew: why ({state})"));
         }
         assert_eq!(of(""), "waits for PostgreSQL: why");
+        let mut fault = Fault::from(String::from("FATAL:  28P01: why"));
+        fault.state = "28P01".into();
+        assert_eq!(End::from(fault).to_string(), "can't go on: FATAL:  28P01: why");
     }
 }

@@ -11,7 +11,7 @@ use crate::shared::Shared;
 use crate::slot::{self, Lasting};
 use crate::stats::Count;
 use crate::upquery::{self, Queue};
-use crate::{metrics, stream::Stream, tables, writes};
+use crate::{metrics, needs, stream::Stream, tables, writes};
 use edge_common::{event_loop::EventLoop, http};
 use std::net::{SocketAddr, TcpListener};
 use std::sync::{atomic::Ordering::SeqCst, mpsc, mpsc::SyncSender, Mutex};
@@ -22,7 +22,7 @@ const EVENTS: usize = 1024;
 /// How long clients, and then PostgreSQL, are waited for at the end.
 const GRACE: Duration = Duration::from_secs(3);
 
-/// Until the edge is told to end. The status is 1 where something lacks, and no edge begins.
+/// Until the edge is told to end. The status is 1 where something lacks, and no edge begins, and 2 where nobody can tell.
 pub fn serve(configuration: Configuration) -> Result<ExitCode, String> {
     let base = Base::new(&configuration.address()?, configuration.source.deadline());
     let shared = match shared(configuration, base) {
@@ -61,8 +61,9 @@ fn listeners(listen: &Listen) -> Result<Vec<Listener>, String> {
 }
 
 fn shared(configuration: Configuration, base: Base) -> Result<Shared, End> {
-    let mut connection = base.as_it_is()?;
-    slot::checked(&configuration, &mut connection)?;
+    let unknown = |fault: Fault| End::Broken(fault.to_string());
+    let mut connection = base.as_it_is().map_err(unknown)?;
+    slot::refused(needs::lacking(&configuration, &mut connection).map_err(unknown)?)?;
     let tables = tables::of_views(&configuration.views, &mut connection)?;
     Shared::new(configuration, base, tables).map_err(End::Broken)
 }

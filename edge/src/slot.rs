@@ -4,10 +4,10 @@ use crate::configuration::Configuration;
 use crate::dataflow::First;
 use crate::fault::End;
 use crate::lsn::Lsn;
+use crate::needs::{self, Lack};
 use crate::pq::{quoted, Connection, Fault};
 use crate::shared::Shared;
-use crate::tables::Table;
-use crate::{needs, tables};
+use crate::tables::{self, Table};
 use edge_common::pause::random;
 use std::process;
 
@@ -26,7 +26,10 @@ const OWN: &str = "FROM pg_replication_slots WHERE slot_name = $1 AND slot_type 
 
 /// Refused where something lacks, with a line for each.
 pub fn checked(configuration: &Configuration, beside: &mut Connection) -> Result<(), End> {
-    let lacks = needs::lacking(configuration, beside)?;
+    refused(needs::lacking(configuration, beside)?)
+}
+
+pub fn refused(lacks: Vec<Lack>) -> Result<(), End> {
     let says: Vec<_> = lacks.into_iter().map(|lack| lack.says).collect();
     says.is_empty().then_some(()).ok_or_else(|| End::Refused(says.join("\nedge: ")))
 }
