@@ -31,6 +31,7 @@ use std::{collections::HashSet, fs, path::Path, path::PathBuf, process::ExitCode
 
 /// Serves parts of PostgreSQL's tables to clients of Redis, and looks whether a database has what that needs.
 #[derive(Parser)]
+#[command(version)]
 struct Command {
     #[command(subcommand)]
     what: What,
