@@ -206,8 +206,21 @@ impl FromStr for Configuration {
     type Err = String;
 
     fn from_str(text: &str) -> Result<Configuration, String> {
-        let configuration: Configuration = toml::from_str(text).map_err(|fault| fault.to_string())?;
-        configuration.checked()
+        let toml: toml::Value = text.parse().map_err(|fault: toml::de::Error| fault.to_string())?;
+        let read: Result<Configuration, _> = toml.try_into();
+        read.map_err(|fault| with_line(&fault.to_string(), text))?.checked()
+    }
+}
+
+/// With the line of a word that isn't known, which serde doesn't tell, where one alone begins with it.
+fn with_line(why: &str, text: &str) -> String {
+    let word = why.strip_prefix("unknown field `").and_then(|rest| rest.split('`').next()).unwrap_or_default();
+    let is_of =
+        |line: &str| line.trim_matches(|sign| " []".contains(sign)).split('=').next().map(str::trim) == Some(word);
+    let lines: Vec<_> = (1..).zip(text.lines()).filter(|(_, line)| is_of(line)).map(|(number, _)| number).collect();
+    match lines[..] {
+        [line] if !word.is_empty() => format!("line {line}: {why}"),
+        _ => why.into(),
     }
 }
 
@@ -283,13 +296,13 @@ impl View {
             (self.table, self.key, self.columns, self.items) = (table, key, columns, items);
             return self.check_encoding(self.items.len());
         }
-        let columns = self.key.iter().chain(&self.columns);
         if self.table.is_empty() || self.key.is_empty() || self.columns.is_empty() {
             return Err("it has a query, or a table, and a key and columns of one or more each".into());
         }
-        if columns.clone().collect::<HashSet<_>>().len() < columns.count() {
-            return Err("it names a column twice".into());
+        if let Some(both) = self.key.iter().find(|name| self.columns.contains(name)) {
+            return Err(format!("`{both}` is in both key and columns: leave it out of columns"));
         }
+        once("columns", self.key.iter().chain(&self.columns))?;
         self.check_encoding(self.columns.len())
     }
 
@@ -354,8 +367,15 @@ mod tests {
             format!("[source]\naddress = ''\n{VIEW}colour = 1\n"),
             format!("[source]\naddress = ''\n{VIEW}[colour]\n"),
         ] {
-            assert!(refused(&text).contains("unknown field `colour`"), "{}", refused(&text));
+            let line = text.lines().position(|line| line.contains("colour")).unwrap() + 1;
+            assert!(
+                refused(&text).starts_with(&format!("line {line}: unknown field `colour`, ")),
+                "{}",
+                refused(&text)
+            );
         }
+        let twice = refused(&format!("[source]\naddress = ''\nkeys = 1\n[cache]\nkeys = 2\n{VIEW}"));
+        assert!(twice.starts_with("unknown field `keys`") && twice.ends_with(" for key `source`"), "{twice}");
         assert!(refused(VIEW).contains("missing field `source`"));
     }
 
@@ -377,10 +397,13 @@ mod tests {
             (with(here, &VIEW.replace("['article']", "[]")), "one or more"),
             (with(here, &format!("{VIEW}query = 'SELECT a FROM t GROUP BY a'\n")), "a query gives the table"),
             (with(here, "[[view]]\nname = 'a'\nquery = 'SELECT a FROM t, u'\n"), "the view a: the query isn't"),
-            (with(here, &VIEW.replace("'weight'", "'article'")), "twice"),
+            (with(here, &VIEW.replace("'weight'", "'article'")), "`article` is in both key and columns: leave it out"),
+            (with(here, &VIEW.replace("'weight'", "'voter'")), "two columns voter"),
             (with(here, &format!("{VIEW}encoding = 'text'\n")), "of one column"),
             (with(here, &format!("{VIEW}encoding = 'xml'\n")), "unknown variant `xml`"),
             (with(&format!("{here}\nwrite_connections = 0"), VIEW), "1 or more each"),
+            (with("address = 1", VIEW), "for key `source.address`"),
+            (with("address", VIEW), "at line 2"),
             (with(here, &format!("{VIEW}{}", WRITE.replace("vote", "Vote"))), "the write Vote: its name is"),
             (with(here, &format!("{VIEW}{}", WRITE.replace("vote", "mget"))), "there is a command"),
             (with(here, &format!("{VIEW}{WRITE}{WRITE}")), "two writes vote"),
