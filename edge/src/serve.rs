@@ -47,6 +47,7 @@ pub fn serve(configuration: Configuration) -> Result<ExitCode, String> {
     }
     tell_systemd("READY=1");
     ending.wait();
+    eprintln!("edge: {}", End::Over);
     tell_systemd("STOPPING=1");
     process::exit(end(shared, door, 0))
 }

@@ -78,6 +78,7 @@ pub const COMMANDS: [&str; 12] =
 const NOT_REACHED: &str = "ERR the edge has not come as far as the token: try again, or ask another edge";
 const SLOW: &str = "ERR PostgreSQL doesn't answer in time";
 const ENDED: &str = "ERR the edge has ended";
+const ENDED_AMID: &str = "ERR nobody knows whether it was written: the edge has ended";
 
 impl session::Service for Service {
     type Client = Client;
@@ -105,6 +106,12 @@ impl session::Service for Service {
             Some(Waits::Write { order, told, until }) => self.tell_written(client, order, told, until, &mut turn),
         };
         next.unwrap_or_else(|fault| refused(client, begin, turn, &fault))
+    }
+
+    fn break_off(&mut self, client: &mut Client, to: &mut Vec<u8>) {
+        let is_writing = |waits| matches!(waits, Waits::Write { order, .. } if order.take().is_none());
+        let fault = if client.waits.take().is_some_and(is_writing) { ENDED_AMID } else { ENDED };
+        client.guest.reply(to).error(fault);
     }
 }
 

@@ -16,7 +16,7 @@ pub enum Mail {
     Comes(usize, Box<dyn Socket>),
     /// What a session waits for may have come.
     Woken(usize),
-    /// Nobody is heard any more. Who has no last reply by then has none.
+    /// Nobody is heard any more. Whose command still waits by then has an error.
     Ends(Instant),
 }
 
@@ -151,7 +151,10 @@ impl<S: Service> Worker<'_, S> {
                 }
             }
         }
-        self.sessions.drain().for_each(|_| self.door.leave(&self.at.mailbox));
+        for (_, mut seat) in self.sessions.drain() {
+            seat.session.break_off(&mut self.service);
+            self.door.leave(&self.at.mailbox);
+        }
     }
 
     fn is_over(&self) -> bool {
@@ -545,7 +548,7 @@ pub mod tests {
         client.write_all(b"WAIT\r\n").unwrap();
         let _waker = told.wakers.recv().unwrap();
         door.shut(Duration::from_millis(1));
-        assert_eq!(rest(&mut client), "");
+        assert_eq!(rest(&mut client), "-ERR the server has ended\r\n");
     }
 
     #[test]

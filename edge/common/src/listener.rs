@@ -21,6 +21,8 @@ pub enum Refusal {
 
 /// What is said to who comes where there is no room.
 const NO_ROOM: &[u8] = b"-ERR max number of clients reached\r\n";
+/// In which workers tell those whose commands still wait at the end.
+const MOMENT: Duration = Duration::from_millis(200);
 /// After a fault.
 const PAUSE: Duration = Duration::from_millis(50);
 
@@ -140,11 +142,12 @@ impl Door {
         self.has_left.notify_all();
     }
 
-    /// Who has a command under way has its reply; nobody is heard any more. Waits so long for them.
+    /// Who has a command under way has its reply, or an error after so long; nobody is heard any more. Waits for them.
     pub fn shut(&self, grace: Duration) {
         let end = Instant::now() + grace;
         let mut inside = self.inside();
         inside.workers.iter().for_each(|worker| worker.put(Mail::Ends(end)));
+        let end = end + MOMENT;
         while inside.count() > 0 && Instant::now() < end {
             let left = end.saturating_duration_since(Instant::now());
             inside = self.has_left.wait_timeout(inside, left).unwrap_or_else(PoisonError::into_inner).0;

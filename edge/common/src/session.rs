@@ -20,6 +20,11 @@ pub trait Service {
     /// Goes on with the command that waits: its session was woken, for whatever reason, or its time is up.
     fn go_on(&mut self, client: &mut Self::Client, turn: Turn) -> Next;
 
+    /// The end has come before what its command waits for: that is its reply.
+    fn break_off(&mut self, _: &mut Self::Client, to: &mut Vec<u8>) {
+        to.extend(b"-ERR the server has ended\r\n");
+    }
+
     /// A client was sent away, since it said nothing for too long, or owed something.
     fn sends_away(&mut self) {}
 }
@@ -129,6 +134,16 @@ impl<C> Session<C> {
             (self.owes, self.since) = (owes, Instant::now());
         }
         Ok(())
+    }
+
+    /// The last that it does, in which a client whose command still waits is told of the end.
+    pub fn break_off(&mut self, service: &mut impl Service<Client = C>) {
+        if self.is_away() {
+            let client = &mut self.client;
+            self.wire.put(|_, to| service.break_off(client, to));
+            // Who has no room for it, or has gone, isn't waited for.
+            _ = self.wire.send();
+        }
     }
 
     fn serve(&mut self, service: &mut impl Service<Client = C>) -> io::Result<State> {
