@@ -6,23 +6,39 @@ use std::fmt::Write;
 use std::sync::atomic::{AtomicU64, Ordering::Relaxed};
 
 macro_rules! counts {
-    ($($count:ident $name:literal),*) => {
+    ($($count:ident $name:literal $help:literal,)*) => {
         #[derive(Clone, Copy)]
         pub enum Count { $($count),* }
-        const NAMES: &[&str] = &[$($name),*];
+        const COUNTS: &[(&str, &str)] = &[$(($name, $help)),*];
     };
 }
 
 counts!(
-    Hits "hits", Misses "misses", Waits "waits", Upqueries "upqueries", Statements "statements", Fills "fills",
-    Evictions "evictions", TooLarge "too_large", Transactions "transactions", Updates "updates", Repeats "repeats",
-    Writes "writes", Skips "skips", Replays "replays", Again "again", Losses "losses", Untold "untold", Disagreements "disagreements", Clients "clients",
-    Refused "refused_clients"
+    Hits "hits" "Reads of keys that were held.",
+    Misses "misses" "Reads of keys that were not held.",
+    Waits "waits" "Misses whose key was being asked for already.",
+    Upqueries "upqueries" "Misses whose key PostgreSQL was asked for.",
+    Statements "statements" "Statements that asked PostgreSQL for keys, many keys each.",
+    Fills "fills" "Keys that were filled with the rows of an answer.",
+    Evictions "evictions" "Keys that were dropped to make room.",
+    TooLarge "too_large" "Answers that were not held, since one alone is over a bound.",
+    Transactions "transactions" "Transactions of the stream that were applied.",
+    Updates "updates" "Changes of a key that were applied.",
+    Repeats "repeats" "Transactions of the stream that had come before and were dropped.",
+    Writes "writes" "Writes of clients that were committed.",
+    Skips "skips" "Changes of a key that its rows had already.",
+    Replays "replays" "Answers that changes of the log were added to.",
+    Again "again" "Requests that were made again, since the answer's snapshot saw too little.",
+    Losses "losses" "Times that the edge has emptied itself and begun anew.",
+    Untold "untold" "Keys that were dropped because a change told too little to update them.",
+    Disagreements "disagreements" "Keys whose rows and changes don't go together; 0 unless the edge has a fault.",
+    Clients "clients" "Clients that were let in.",
+    Refused "refused_clients" "Clients that found no room.",
 );
 
 #[derive(Default)]
 #[repr(align(64))]
-pub struct Counts([AtomicU64; NAMES.len()]);
+pub struct Counts([AtomicU64; COUNTS.len()]);
 
 impl Counts {
     pub fn up(&self, what: Count) {
@@ -39,27 +55,37 @@ pub struct Now {
     pub waiting: AtomicU64,
 }
 
+struct Number {
+    name: &'static str,
+    help: &'static str,
+    is_count: bool,
+    number: u64,
+}
+
 /// Counts are the sums over all threads.
-fn numbers(shared: &Shared) -> Vec<(&'static str, bool, u64)> {
+fn numbers(shared: &Shared) -> Vec<Number> {
     let all = || shared.counts.iter().chain([&shared.work]);
-    let sum = |place: usize| all().map(|counts| counts.0[place].load(Relaxed)).sum::<u64>();
-    let counts = NAMES.iter().enumerate().map(|(place, name)| (*name, true, sum(place)));
+    let sum = |place: usize| all().map(|counts| counts.0[place].load(Relaxed)).sum();
+    let counts =
+        (0..).zip(COUNTS).map(|(place, &(name, help))| Number { name, help, is_count: true, number: sum(place) });
+    let Now { keys, bytes, log, waiting } = &shared.now;
     let now = [
-        ("keys", shared.now.keys.load(Relaxed)),
-        ("bytes", shared.now.bytes.load(Relaxed)),
-        ("log", shared.now.log.load(Relaxed)),
-        ("waiting", shared.now.waiting.load(Relaxed)),
-        ("following", shared.is_following().into()),
-        ("silence_milliseconds", shared.silence().as_millis() as u64),
-        ("applied", shared.progress.reached()),
+        ("keys", "Keys that are held.", keys.load(Relaxed)),
+        ("bytes", "Bytes of the rows, values and keys that are held, by estimate.", bytes.load(Relaxed)),
+        ("log", "Transactions that a snapshot may not see yet.", log.load(Relaxed)),
+        ("waiting", "Keys that clients wait for.", waiting.load(Relaxed)),
+        ("following", "1 while the edge follows PostgreSQL by a slot, and 0 otherwise.", shared.is_following().into()),
+        ("silence_milliseconds", "Time since the stream's last word.", shared.silence().as_millis() as u64),
+        ("applied", "Place in PostgreSQL's log up to which changes are applied, in bytes.", shared.progress.reached()),
     ];
-    counts.chain(now.map(|(name, number)| (name, false, number))).collect()
+    let now = now.map(|(name, help, number)| Number { name, help, is_count: false, number });
+    counts.chain(now).collect()
 }
 
 /// A line each, as Redis has them.
 pub fn info(shared: &Shared) -> String {
     let mut text = String::from("# Edge\r\n");
-    for (name, _, number) in numbers(shared) {
+    for Number { name, number, .. } in numbers(shared) {
         _ = match name {
             "applied" => write!(text, "{name}:{}\r\n", Lsn(number)),
             _ => write!(text, "{name}:{number}\r\n"),
@@ -71,12 +97,11 @@ pub fn info(shared: &Shared) -> String {
 /// As Prometheus reads them.
 pub fn metrics(shared: &Shared) -> prometheus::Result<String> {
     let registry = Registry::new();
-    for (name, is_count, number) in numbers(shared) {
-        let (end, help) = (if is_count { "_total" } else { "" }, format!("As {name} of INFO."));
-        let name = format!("edge_{name}{end}");
-        let count = IntCounter::new(&name, &help)?;
+    for Number { name, help, is_count, number } in numbers(shared) {
+        let name = format!("edge_{name}{}", if is_count { "_total" } else { "" });
+        let count = IntCounter::new(&name, help)?;
         count.inc_by(number);
-        let gauge = IntGauge::new(&name, &help)?;
+        let gauge = IntGauge::new(&name, help)?;
         gauge.set(number as i64);
         registry.register(if is_count { Box::new(count) } else { Box::new(gauge) })?;
     }
