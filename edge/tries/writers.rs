@@ -158,7 +158,8 @@ pub fn an_end_while_a_write_waits_for_a_lock(case: &mut Case) {
     until("the client waits", || case.sql(WAITS) == "1");
     edge.signal("TERM");
     assert_eq!(edge.ends(), Some(0));
-    assert!(client.join().unwrap().is_err());
+    let told = client.join().unwrap().unwrap();
+    assert_eq!(told, "-ERR nobody knows whether it was written: the edge has ended");
     last(&mut other, "ROLLBACK");
     until("the slot goes", || case.sql("SELECT count(*) FROM pg_replication_slots") == "0");
 }
