@@ -330,11 +330,13 @@ fn spawn<'s>(
 
 fn round(cache: &Values, writes: &[Mutex<()>], dice: &mut Dice) {
     let (sender, requests) = mpsc::channel();
+    // Before a thread runs, since each may keep one more for itself.
+    let readers: Option<Vec<_>> = (0..THREADS).map(|_| cache.reader()).collect();
+    let Some(readers) = readers else { fails(c"slot leaked") };
     std::thread::scope(|scope| {
         let its_dice = Dice(dice.roll(u64::MAX) | 1);
         let mut threads = vec![spawn(scope, POOL, move || pool(&requests, its_dice))];
-        for place in 0..THREADS {
-            let Some(reader) = cache.reader() else { fails(c"slot leaked") };
+        for (place, reader) in (0..THREADS).zip(readers) {
             let (dice, pool) = (Dice(dice.roll(u64::MAX) | 1), sender.clone());
             let client = Client { cache, reader, dice, place, writes, pool };
             threads.push(spawn(scope, place, move || client.run()));
