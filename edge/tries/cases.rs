@@ -354,14 +354,18 @@ fn a_server_that_is_restarted(case: &mut Case) {
 /// A snapshot sees a commit that isn't on the disk yet, and is lost where one of PostgreSQL's processes is killed.
 fn a_server_that_recovers_by_itself(case: &mut Case) {
     let edge = case.following();
-    let walwriter = case.sql("SELECT pid FROM pg_stat_activity WHERE backend_type = 'walwriter'");
-    signal("STOP", &walwriter);
+    // Each of them may bring the log to the disk.
+    let writers = "SELECT string_agg(pid::text, ' ') FROM pg_stat_activity
+        WHERE backend_type IN ('walwriter', 'background writer', 'checkpointer')";
+    let writers = case.sql(writers);
+    let signal_writers = |name| writers.split(' ').for_each(|writer| signal(name, writer));
+    signal_writers("STOP");
     let mut early = Connection::open(&format!("{} options='-c synchronous_commit=off'", case.address)).unwrap();
     last(&mut early, "INSERT INTO votes VALUES ('c', 1, 1)");
     assert_eq!(edge.get("c", ""), "1:1");
     signal("KILL", &last(&mut early, "SELECT pg_backend_pid()").concat().concat());
     until("PostgreSQL ends its other processes", || case.base.run("SELECT 1").is_err());
-    signal("CONT", &walwriter);
+    signal_writers("CONT");
     until("PostgreSQL is there", || Connection::open(&case.address).map(|base| case.base = base).is_ok());
     assert_eq!(case.rows("c"), "", "the commit is lost");
     let now = case.write("INSERT INTO votes VALUES ('d', 1, 1)");

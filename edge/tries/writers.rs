@@ -112,7 +112,7 @@ pub fn clients_that_wrote_once(case: &mut Case) {
 /// With one connection each.
 pub fn writes_and_misses_apart(case: &mut Case) {
     case.sql("INSERT INTO votes VALUES ('q', 1, 1)");
-    let edge = Edge::start(&case.program, &case.address, "connections = 1\nwrite_connections = 1\ndeadline = 2");
+    let edge = Edge::start(&case.program, &case.address, "connections = 1\nwrite_connections = 1\ndeadline = 4");
     edge.follows();
     let mut other = Connection::open(&case.address).unwrap();
     last(&mut other, "BEGIN; DELETE FROM votes WHERE article = 'q'");
@@ -134,7 +134,7 @@ pub fn writes_and_misses_apart(case: &mut Case) {
 
 /// Its processes stand still, so that it cancels nothing.
 pub fn a_base_that_hangs(case: &mut Case) {
-    let edge = Edge::start(&case.program, &case.address, "connections = 1\nwrite_connections = 1\ndeadline = 1");
+    let edge = Edge::start(&case.program, &case.address, "connections = 1\nwrite_connections = 1\ndeadline = 3");
     edge.follows();
     assert!(edge.ask("NOTE x").starts_with('+'));
     assert_eq!(edge.get("h", ""), "");

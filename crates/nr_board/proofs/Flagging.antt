@@ -9,7 +9,7 @@ use native.Mathlib.Decide.{ℕ_discrete}
 use Rattle.nr_core.proofs.Choices.{by_cases}
 use Rattle.nr_core.proofs.Sums.{only-other, total-append, total-remove}
 use Rattle.nr_core.specs.Roles.{retirements}
-use Rattle.nr_core.specs.Spares.{Spare}
+use Rattle.nr_core.specs.SlotLists.{SlotLists}
 use Rattle.nr_core.specs.Sums.{only}
 use Rattle.nr_core.specs.declared.places.Retired.{Retired}
 use Rattle.nr_board.proofs.Heard.{zero_at}
@@ -18,17 +18,17 @@ use Rattle.nr_core.specs.Marks.{LoggedLoad}
 use Rattle.nr_board.specs.Callers.{Table}
 use Rattle.nr_board.specs.Flags.{Flagged, IsFlagged}
 use Rattle.nr_board.specs.Passes.{unflagged}
-use Rattle.nr_board.specs.Spares.{TookBySearch, heard_all, not_passed}
-use Rattle.nr_board.specs.WholeScans.{is_unheard}
+use Rattle.nr_board.specs.SlotLists.{TookBySearch, heard_all, not_passed}
+use Rattle.nr_board.specs.WholeScans.{is_flagged}
 
 module _ (table : Table) (retired : List Retired) (heard : List ℕ) (flags : List Bool)
     (flagged : Flagged table retired heard flags) where
-  flag_is : (slot : ℕ) → is_unheard flags slot ≡ nat_lt (get_or heard slot 0) table.announcers
+  flag_is : (slot : ℕ) → is_flagged flags slot ≡ nat_lt (get_or heard slot 0) table.announcers
   flag_is slot =
       by_cases
-      (λ (b : Bool). is_unheard flags slot ≡ b
-      → is_unheard flags slot ≡ nat_lt (get_or heard slot 0) table.announcers)
-      (is_unheard flags slot)
+      (λ (b : Bool). is_flagged flags slot ≡ b
+      → is_flagged flags slot ≡ nat_lt (get_or heard slot 0) table.announcers)
+      (is_flagged flags slot)
       (λ _ is. is ∙ sym (lt-ltb (get_or heard slot 0) table.announcers (flagged.stuck slot is)))
       (λ _ is. is ∙ sym (le-ltb (get_or heard slot 0) table.announcers (flagged.whole slot is))) refl
 
@@ -38,7 +38,7 @@ module _ (table : Table) (retired : List Retired) (heard : List ℕ) (flags : Li
 
 -- SETS THAT ARE PUT
 
-pub flag_set : (flags : List Bool) (slot : ℕ) → is_unheard (set flags slot true) slot ≡ true
+pub flag_set : (flags : List Bool) (slot : ℕ) → is_flagged (set flags slot true) slot ≡ true
 flag_set [] slot = refl
 flag_set (flag ∷ flags) zero = refl
 flag_set (flag ∷ flags) (suc slot) = flag_set flags slot
@@ -55,7 +55,7 @@ flags_put table retired last scanned heard flags mine flagged is fewer some_word
     record {
       wide = length-set flags mine true ∙ before.wide;
       whole = λ slot unset. dite (ℕ_discrete slot mine)
-          (λ e. absurd (clash (sym (ap (is_unheard (set flags mine true)) e ∙ flag_set flags mine) ∙ unset)))
+          (λ e. absurd (clash (sym (ap (is_flagged (set flags mine true)) e ∙ flag_set flags mine) ∙ unset)))
           (λ ne.
           let was = before.whole slot (sym (flag_elsewhere flags mine slot ne) ∙ unset) in
           let same = get_or-set_other scanned mine slot 0 0 ne in
@@ -67,7 +67,7 @@ flags_put table retired last scanned heard flags mine flagged is fewer some_word
           let same = get_or-set_other scanned mine slot 0 0 ne in
           omega (arith, count slot));
       others = λ slot none. dite (ℕ_discrete slot mine)
-          (λ e. ap (is_unheard (set flags mine true)) e ∙ flag_set flags mine)
+          (λ e. ap (is_flagged (set flags mine true)) e ∙ flag_set flags mine)
           (λ ne. flag_elsewhere flags mine slot ne ∙ before.others slot (fewer slot ne none));
     }
   where
@@ -79,15 +79,15 @@ flags_put table retired last scanned heard flags mine flagged is fewer some_word
 
 -- what was retired when a slot was taken is retired still, but for that slot
 pub fewer_retired : (table : Table) (heard scanned : List ℕ) (loads : List LoggedLoad) (mine steps : ℕ)
-    (spare mid : Spare) (more : List Retired)
-    → TookBySearch table heard scanned loads mine steps spare mid
-    → (slot : ℕ) → slot ≢ mine → retirements slot (mid.retired ++ more) ≡ 0 → retirements slot spare.retired ≡ 0
-fewer_retired table heard scanned loads mine steps spare mid more took slot ne none =
+    (lists mid : SlotLists) (more : List Retired)
+    → TookBySearch table heard scanned loads mine steps lists mid
+    → (slot : ℕ) → slot ≢ mine → retirements slot (mid.retired ++ more) ≡ 0 → retirements slot lists.retired ≡ 0
+fewer_retired table heard scanned loads mine steps lists mid more took slot ne none =
     let both = total-append (λ (entry : Retired). only slot entry.slot) mid.retired more in
     ⊎_elim
     (λ (fresh : _). let same = ap (retirements slot) fresh.4 in omega arith)
     (λ (polled : _).
-    let gone = total-remove (λ (entry : Retired). only slot entry.slot) spare.retired polled.1 polled.2 polled.3 in
+    let gone = total-remove (λ (entry : Retired). only slot entry.slot) lists.retired polled.1 polled.2 polled.3 in
     let other = only-other slot polled.2.slot (λ e. ne (sym e ∙ polled.4)) in
     let left = ap (retirements slot) polled.7 in
     omega arith)
@@ -110,7 +110,7 @@ flags_retire table retired last heard now flags flagged is fewer some_words =
 -- what a flag tells, where readers have words or not
 pub unheard_is : (table : Table) (retired : List Retired) (heard : List ℕ) (flags : List Bool)
     → IsFlagged table retired heard flags → (slot : ℕ) (told : Bool) → (table.announcers ≡ 0 → told ≡ false)
-    → (0 < table.announcers → told ≡ is_unheard flags slot) → told ≡ nat_lt (get_or heard slot 0) table.announcers
+    → (0 < table.announcers → told ≡ is_flagged flags slot) → told ≡ nat_lt (get_or heard slot 0) table.announcers
 unheard_is table retired heard flags flagged slot told none some_words = dite (ℕ_discrete table.announcers 0)
     (λ e. none e ∙ sym (le-ltb (get_or heard slot 0) table.announcers (omega arith)))
     (λ ne. some_words (omega arith) ∙ flag_is table retired heard flags (flagged (omega arith)) slot)

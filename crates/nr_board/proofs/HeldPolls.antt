@@ -5,7 +5,7 @@ use lib.ListN.{length-map}
 use Rattle.nr_core.proofs.Choices.{by_cases}
 use Rattle.nr_core.specs.declared.places.Retired.{Retired}
 use Rattle.nr_core.specs.Marks.{OfSlot, LoggedLoad}
-use Rattle.nr_board.specs.Spares.{held_polls, not_passed}
+use Rattle.nr_board.specs.SlotLists.{held_polls, not_passed}
 
 abbrev held_poll : Retired → LoggedLoad
 held_poll entry = OfSlot entry.slot false

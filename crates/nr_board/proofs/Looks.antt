@@ -19,19 +19,19 @@ use Rattle.nr_core.specs.declared.roles.Desk.{Desk}
 use Rattle.nr_core.specs.declared.roles.Role.TheVariants.{Writer}
 use Rattle.nr_core.specs.declared.shape.Shape.{Shape}
 use Rattle.nr_board.specs.Callers.{Table, token}
-use Rattle.nr_core.specs.Spares.{Spare}
-use Rattle.nr_board.specs.Spares.{desk_with}
+use Rattle.nr_core.specs.SlotLists.{SlotLists}
+use Rattle.nr_board.specs.SlotLists.{desk_with}
 use Rattle.nr_core.specs.Marks.{with_polls}
 use Rattle.nr_board.specs.WriterSeats.{LeadsIn, MapSeat, RestsAt}
 
 -- the writer rests with its slots at its own map
-pub rests_own : (table : Table) (spare : Spare) (seat : MapSeat) → RestsAt table spare seat
-    → RestsAt (token seat).table spare seat
-rests_own table spare seat rests = subst (λ (t : Table). RestsAt t spare seat) (sym rests.writes.own) rests
+pub rests_own : (table : Table) (lists : SlotLists) (seat : MapSeat) → RestsAt table lists seat
+    → RestsAt (token seat).table lists seat
+rests_own table lists seat rests = subst (λ (t : Table). RestsAt t lists seat) (sym rests.writes.own) rests
 
-pub rests_here : (table : Table) (spare : Spare) (seat : MapSeat) → (token seat).table ≡ table
-    → RestsAt (token seat).table spare seat → RestsAt table spare seat
-rests_here table spare seat own rests = subst (λ (t : Table). RestsAt t spare seat) own rests
+pub rests_here : (table : Table) (lists : SlotLists) (seat : MapSeat) → (token seat).table ≡ table
+    → RestsAt (token seat).table lists seat → RestsAt table lists seat
+rests_here table lists seat own rests = subst (λ (t : Table). RestsAt t lists seat) own rests
 
 -- what the parts of the word that was found say
 module _ {parts : KeyParts} (word : ℕ) (is : parts ≡ parts_of word) where
@@ -54,30 +54,31 @@ module _ {parts : KeyParts} (word : ℕ) (is : parts ≡ parts_of word) where
   slot_so = ap (λ (p : KeyParts). p.slot) is
 
 -- the writer, which was between two calls, has looked at the key of this one
-pub record HasLooked (table : Table) (spare : Spare) (call : WriterCall) (found : ℕ) (before after : MapSeat) : Type
+pub record HasLooked (table : Table) (lists : SlotLists) (call : WriterCall) (found : ℕ) (before after : MapSeat) : Type
     0 where
   pub own : (token before).table ≡ table
-  pub rests : RestsAt table spare before
-  pub leads : LeadsIn 1 table (call_of call) (looked table.shape (desk_with spare Idle) call found) before after
+  pub rests : RestsAt table lists before
+  pub leads : LeadsIn 1 table (call_of call) (looked table.shape (desk_with lists Idle) call found) before after
   pub marks : after.me.0.marks ≡ with_polls before.me.0.marks []
   pub heard : after.me.0.heard ≡ before.me.0.heard
 
-pub has_looked : {board table : Table} {spare : Spare} {given call : WriterCall} {found : ℕ} {before after : MapSeat}
-    → board ≡ table → (token before).table ≡ table → RestsAt (token before).table spare before → given ≡ call
+pub has_looked : {board table : Table} {lists : SlotLists} {given call : WriterCall} {found : ℕ}
+    {before after : MapSeat}
+    → board ≡ table → (token before).table ≡ table → RestsAt (token before).table lists before → given ≡ call
     → ((desk : Desk) → before.me.0.role ≡ Writer desk
     → LeadsIn 1 board (call_of given) (looked board.shape desk given found) before after)
     → after.me.0.marks ≡ with_polls before.me.0.marks [] → after.me.0.heard ≡ before.me.0.heard
-    → HasLooked table spare call found before after
-has_looked {spare = spare} {found = found} {before = before} {after = after} board_is own rests call_is told marks
+    → HasLooked table lists call found before after
+has_looked {lists = lists} {found = found} {before = before} {after = after} board_is own rests call_is told marks
     heard =
     record {
       own = own;
-      rests = rests_here _ spare before own rests;
+      rests = rests_here _ lists before own rests;
       leads =
           subst
-          (λ (p : Table × WriterCall). LeadsIn 1 p.0 (call_of p.1) (looked p.0.shape (desk_with spare Idle) p.1 found)
+          (λ (p : Table × WriterCall). LeadsIn 1 p.0 (call_of p.1) (looked p.0.shape (desk_with lists Idle) p.1 found)
           before after)
-          (λ j. (board_is j, call_is j)) (told (desk_with spare Idle) rests.writes.role);
+          (λ j. (board_is j, call_is j)) (told (desk_with lists Idle) rests.writes.role);
       marks = marks;
       heard = heard;
     }

@@ -8,7 +8,7 @@ use mathlib.Core.Option.{some}
 use native.Mathlib.Decide.{ℕ_discrete}
 use lib.ListN.{get_elem?}
 use Rattle.nr_core.proofs.Sums.{at_snoc, only-is, only-le, only-other, some_term, total-append}
-use Rattle.nr_core.specs.Spares.{Spare}
+use Rattle.nr_core.specs.SlotLists.{SlotLists}
 use Rattle.nr_core.specs.Sums.{only, total}
 use Rattle.nr_core.specs.declared.places.Retired.{Retired}
 use Rattle.nr_core.specs.declared.shape.Shape.{Shape}
@@ -40,10 +40,10 @@ use Rattle.nr_core.specs.declared.roles.Desk.{Desk}
 use Rattle.nr_core.specs.declared.roles.Role.TheVariants.{Writer}
 use Rattle.nr_model.specs.declared.rows.Row.{Row}
 use Rattle.nr_words.specs.KeyWords.{same_count}
-use Rattle.nr_board.specs.WholeScans.{is_unheard}
+use Rattle.nr_board.specs.WholeScans.{is_flagged}
 use Rattle.nr_board.proofs.HeldPolls.{held_next, passed_both}
 use Rattle.nr_board.proofs.WordLoads.{no_loads}
-use Rattle.nr_board.specs.Spares.{held_polls, not_passed}
+use Rattle.nr_board.specs.SlotLists.{held_polls, not_passed}
 
 -- one place more of the list
 module _ (retired : List Retired) (flags : List Bool) (place : ℕ) (low : place < length retired) where
@@ -51,30 +51,30 @@ module _ (retired : List Retired) (flags : List Bool) (place : ℕ) (low : place
   next_one = get_or retired place no_retired
 
   unflagged_next : unflagged retired flags (place + 1)
-      ≡ unflagged retired flags place ++ not_passed (is_unheard flags) (next_one ∷ [])
+      ≡ unflagged retired flags place ++ not_passed (is_flagged flags) (next_one ∷ [])
   unflagged_next =
       let more : place + 1 ≡ suc place = omega arith in
-      ap (unflagged retired flags) more ∙ ap (not_passed (is_unheard flags)) (take-suc retired place no_retired low)
-      ∙ passed_both (is_unheard flags) (take place retired) (next_one ∷ [])
+      ap (unflagged retired flags) more ∙ ap (not_passed (is_flagged flags)) (take-suc retired place no_retired low)
+      ∙ passed_both (is_flagged flags) (take place retired) (next_one ∷ [])
 
-  unflagged_past : is_unheard flags next_one.slot ≡ true
+  unflagged_past : is_flagged flags next_one.slot ≡ true
       → unflagged retired flags (place + 1) ≡ unflagged retired flags place
   unflagged_past flagged =
       unflagged_next
       ∙ ap (λ (b : Bool). unflagged retired flags place ++ cond {A = List Retired} b [] (next_one ∷ [])) flagged
       ∙ append-nil (unflagged retired flags place)
 
-  unflagged_more : is_unheard flags next_one.slot ≡ false
+  unflagged_more : is_flagged flags next_one.slot ≡ false
       → unflagged retired flags (place + 1) ≡ unflagged retired flags place ++ next_one ∷ []
   unflagged_more free =
       unflagged_next
       ∙ ap (λ (b : Bool). unflagged retired flags place ++ cond {A = List Retired} b [] (next_one ∷ [])) free
 
-  polls_past : is_unheard flags next_one.slot ≡ true
+  polls_past : is_flagged flags next_one.slot ≡ true
       → polls_before retired flags (place + 1) ≡ polls_before retired flags place
   polls_past flagged = ap length (unflagged_past flagged)
 
-  polls_more : is_unheard flags next_one.slot ≡ false
+  polls_more : is_flagged flags next_one.slot ≡ false
       → polls_before retired flags (place + 1) ≡ polls_before retired flags place + 1
   polls_more free = ap length (unflagged_more free) ∙ length-append (unflagged retired flags place) (next_one ∷ [])
 
@@ -87,7 +87,7 @@ notes_on retired flags readers place note one = record {
   holds =
       ⊎_elim inl
       (λ (h : (slot : ℕ) × (note.slot ≡ Some slot)
-      × ((is_unheard flags slot ≡ true)
+      × ((is_flagged flags slot ≡ true)
       ⊎ ((at : ℕ) × (entry : Retired) × (at < place) × (get_elem? retired at ≡ some entry)
       × (slot ≡ entry.slot)))).
       inr (
@@ -104,7 +104,7 @@ notes_on retired flags readers place note one = record {
 
 -- a slot with a flag is passed by
 pub notes_past : (retired : List Retired) (flags : List Bool) (readers place first : ℕ) (notes : List Past)
-    → place < length retired → is_unheard flags (get_or retired place no_retired).slot ≡ true
+    → place < length retired → is_flagged flags (get_or retired place no_retired).slot ≡ true
     → NotesTo retired flags readers place first notes
     → NotesTo retired flags readers (place + 1) first notes
 notes_past retired flags readers place first notes low flagged so_far = record {
@@ -114,7 +114,7 @@ notes_past retired flags readers place first notes low flagged so_far = record {
 }
 
 module _ (retired : List Retired) (flags : List Bool) (readers place first : ℕ) (notes : List Past)
-    (low : place < length retired) (free : is_unheard flags (get_or retired place no_retired).slot ≡ false)
+    (low : place < length retired) (free : is_flagged flags (get_or retired place no_retired).slot ≡ false)
     (differ : (one other : ℕ) (a b : Retired) → get_elem? retired one ≡ some a → get_elem? retired other ≡ some b
     → a.slot ≡ b.slot → one ≡ other)
     (here : get_elem? retired place ≡ some (get_or retired place no_retired))
@@ -137,11 +137,11 @@ module _ (retired : List Retired) (flags : List Bool) (readers place first : ℕ
       let slot_is : old.slot ≡ Some (get_or retired place no_retired).slot = nowhere_else at old there same ∙ holds in
       ⊎_elim (λ (none : old.slot ≡ None). not_none (get_or retired place no_retired).slot old.slot slot_is none)
       (λ (h : (slot : ℕ) × (old.slot ≡ Some slot)
-      × ((is_unheard flags slot ≡ true)
+      × ((is_flagged flags slot ≡ true)
       ⊎ ((at : ℕ) × (entry : Retired) × (at < place) × (get_elem? retired at ≡ some entry)
       × (slot ≡ entry.slot)))).
       let is : h.0 ≡ (get_or retired place no_retired).slot = ap value (sym h.1 ∙ slot_is) in
-      ⊎_elim (λ (flagged : is_unheard flags h.0 ≡ true). clash (sym flagged ∙ ap (is_unheard flags) is ∙ free))
+      ⊎_elim (λ (flagged : is_flagged flags h.0 ≡ true). clash (sym flagged ∙ ap (is_flagged flags) is ∙ free))
       (λ (p : (at : ℕ) × (entry : Retired) × (at < place) × (get_elem? retired at ≡ some entry) × (h.0 ≡ entry.slot)).
       absurd
       (let one = differ p.0 place p.1 (get_or retired place no_retired) p.3 here (sym p.4 ∙ is) in
@@ -193,15 +193,15 @@ notes_few retired flags readers place first notes so_far =
 -- THE SEAT
 
 -- a desk over these lists has what they have
-there_too : (desk : Desk) (spare : Spare) (place : ℕ) (entry : Retired) → desk.retired ≡ spare.retired
-    → get_elem? spare.retired place ≡ some entry → get_elem? desk.retired place ≡ some entry
-there_too desk spare place entry listed here = ap (λ (l : List Retired). get_elem? l place) listed ∙ here
+there_too : (desk : Desk) (lists : SlotLists) (place : ℕ) (entry : Retired) → desk.retired ≡ lists.retired
+    → get_elem? lists.retired place ≡ some entry → get_elem? desk.retired place ≡ some entry
+there_too desk lists place entry listed here = ap (λ (l : List Retired). get_elem? l place) listed ∙ here
 
-pub passed_none : (table : Table) (spare : Spare) (flags : List Bool) (seat : MapSeat) → SearchesIn table spare seat
+pub passed_none : (table : Table) (lists : SlotLists) (flags : List Bool) (seat : MapSeat) → SearchesIn table lists seat
     → IsSound (token seat)
-    → NotesTo spare.retired flags table.shape.readers 0 (length seat.me.0.marks.polls) seat.me.0.marks.polls
-    → PassedTo table spare flags seat seat 0
-passed_none table spare flags seat search knows notes =
+    → NotesTo lists.retired flags table.shape.readers 0 (length seat.me.0.marks.polls) seat.me.0.marks.polls
+    → PassedTo table lists flags seat seat 0
+passed_none table lists flags seat search knows notes =
     record {
       own = refl;
       role = refl;
@@ -209,27 +209,27 @@ passed_none table spare flags seat search knows notes =
       grows = grows_none (token seat) knows;
       notes = notes;
       kept =
-          adds_none (PolledTo spare.retired flags 0) (HeldThen seat.me.0.seen seat.me.0.seen) seat.me.0.marks.polls
-          (λ slot polled. reached_none spare.retired slot polled.0);
+          adds_none (PolledTo lists.retired flags 0) (HeldThen seat.me.0.seen seat.me.0.seen) seat.me.0.marks.polls
+          (λ slot polled. reached_none lists.retired slot polled.0);
       heard = refl;
       marks = no_loads seat.me.0.marks seat.me.0.marks.polls;
     }
 
 -- the entry at a place of the list, which the pass leaves as it was
-pub entry_at : (entry : Retired) (spare before : Spare) (place : ℕ) → entry ≡ get_or spare.retired place no_retired
-    → spare ≡ before → entry ≡ get_or before.retired place no_retired
-entry_at entry spare before place is same = is ∙ ap (λ (s : Spare). get_or s.retired place no_retired) same
+pub entry_at : (entry : Retired) (lists before : SlotLists) (place : ℕ) → entry ≡ get_or lists.retired place no_retired
+    → lists ≡ before → entry ≡ get_or before.retired place no_retired
+entry_at entry lists before place is same = is ∙ ap (λ (s : SlotLists). get_or s.retired place no_retired) same
 
-module _ (table : Table) (spare : Spare) (flags : List Bool) (before now : MapSeat) (place : ℕ)
-    (so_far : PassedTo table spare flags before now place) (low : place < length spare.retired) where
+module _ (table : Table) (lists : SlotLists) (flags : List Bool) (before now : MapSeat) (place : ℕ)
+    (so_far : PassedTo table lists flags before now place) (low : place < length lists.retired) where
   abbrev entry : Retired
-  entry = get_or spare.retired place no_retired
+  entry = get_or lists.retired place no_retired
 
-  here : get_elem? spare.retired place ≡ some entry
-  here = at_get spare.retired place low
+  here : get_elem? lists.retired place ≡ some entry
+  here = at_get lists.retired place low
 
   here_now : get_elem? so_far.search.search.desk.retired place ≡ some entry
-  here_now = there_too so_far.search.search.desk spare place entry so_far.search.retired here
+  here_now = there_too so_far.search.search.desk lists place entry so_far.search.retired here
 
   differ : true ≡ false → ⊥
   differ e = absurd (cc)
@@ -237,35 +237,35 @@ module _ (table : Table) (spare : Spare) (flags : List Bool) (before now : MapSe
   pub entry_inside : entry.slot < table.shape.slots
   entry_inside = so_far.search.search.room.inside place entry here_now
 
-  pub passed_by : is_unheard flags entry.slot ≡ true → PassedTo table spare flags before now (place + 1)
-  passed_by flagged = let lists = sym (unflagged_past spare.retired flags place low flagged) in record {
+  pub passed_by : is_flagged flags entry.slot ≡ true → PassedTo table lists flags before now (place + 1)
+  passed_by flagged = let same = sym (unflagged_past lists.retired flags place low flagged) in record {
     own = so_far.own;
     role = so_far.role;
     search = so_far.search;
-    grows = subst (λ (l : List Retired). Grows (length l) [] (token before) (token now)) lists so_far.grows;
+    grows = subst (λ (l : List Retired). Grows (length l) [] (token before) (token now)) same so_far.grows;
     notes =
-        notes_past spare.retired flags table.shape.readers place (length before.me.0.marks.polls) now.me.0.marks.polls
+        notes_past lists.retired flags table.shape.readers place (length before.me.0.marks.polls) now.me.0.marks.polls
         low flagged so_far.notes;
     kept =
-        adds_on (PolledTo spare.retired flags place) (PolledTo spare.retired flags (place + 1))
+        adds_on (PolledTo lists.retired flags place) (PolledTo lists.retired flags (place + 1))
         (HeldThen before.me.0.seen now.me.0.seen) (HeldThen before.me.0.seen now.me.0.seen) before.me.0.marks.polls
         now.me.0.marks.polls
         (λ slot polled. ⊎_elim (λ r. (r, polled.1))
         (λ (e : slot ≡ entry.slot). absurd
-        (differ (sym flagged ∙ ap (is_unheard flags) (sym e) ∙ polled.1)))
-        (reached_more spare.retired place entry here slot polled.0))
-        (λ slot polled. (reached_on spare.retired place slot polled.0, polled.1)) (λ _ _ held. held) so_far.kept;
+        (differ (sym flagged ∙ ap (is_flagged flags) (sym e) ∙ polled.1)))
+        (reached_more lists.retired place entry here slot polled.0))
+        (λ slot polled. (reached_on lists.retired place slot polled.0, polled.1)) (λ _ _ held. held) so_far.kept;
     heard = so_far.heard;
     marks =
         so_far.marks
         ∙ ap
         (λ (l : List Retired). with_scan before.me.0.marks now.me.0.marks.polls
         (before.me.0.marks.loads ++ held_polls l))
-        lists;
+        same;
   }
 
   -- the slot may be polled
-  pub tries_at : AreHeard spare.retired flags table.announcers before.me.0.heard → is_unheard flags entry.slot ≡ false
+  pub tries_at : AreHeard lists.retired flags table.announcers before.me.0.heard → is_flagged flags entry.slot ≡ false
       → TriesAt table entry now
   tries_at heard free = record {
     search = so_far.search.search;
@@ -273,10 +273,10 @@ module _ (table : Table) (spare : Spare) (flags : List Bool) (before now : MapSe
     here = here_now;
     heard =
         subst (λ (l : List ℕ). table.announcers ≤ get_or l entry.slot 0) (sym so_far.heard)
-        (heard entry.slot (is_retired spare.retired place entry here) free);
+        (heard entry.slot (is_retired lists.retired place entry here) free);
   }
 
-  module _ (free : is_unheard flags entry.slot ≡ false) (found : ℕ) (next : MapSeat)
+  module _ (free : is_flagged flags entry.slot ≡ false) (found : ℕ) (next : MapSeat)
       (same : next.table_id ≡ now.table_id) (tells : TriesTo entry found now.me.0 next.me.0) where
     abbrev search_now : IsSearching table now
     search_now = so_far.search.search
@@ -290,9 +290,9 @@ module _ (table : Table) (spare : Spare) (flags : List Bool) (before now : MapSe
     entry_is : entry ≡ retired_at search_now.desk place
     entry_is = there_is search_now.desk.retired place entry here_now
 
-    grown : Grows (polls_before spare.retired flags place + 1) [] (token before) (token next)
+    grown : Grows (polls_before lists.retired flags place + 1) [] (token before) (token next)
     grown =
-        grows_both (polls_before spare.retired flags place) 1 (polls_before spare.retired flags place + 1)
+        grows_both (polls_before lists.retired flags place) 1 (polls_before lists.retired flags place + 1)
         (token before) (token now)
         [] (token next) refl so_far.grows (seat_grows now next [] same told.leads.advances)
 
@@ -302,13 +302,13 @@ module _ (table : Table) (spare : Spare) (flags : List Bool) (before now : MapSe
         → marks
         ≡ with_scan before.me.0.marks marks.polls
         (before.me.0.marks.loads
-        ++ (held_polls (unflagged spare.retired flags place) ++ OfSlot entry.slot held ∷ []))
+        ++ (held_polls (unflagged lists.retired flags place) ++ OfSlot entry.slot held ∷ []))
     marks_are marks held is = is ∙ ap (λ (m : Marks). with_polls (with_poll m entry.slot held) marks.polls) so_far.marks
         ∙ ap (with_scan before.me.0.marks marks.polls)
-        (append_assoc before.me.0.marks.loads (held_polls (unflagged spare.retired flags place))
+        (append_assoc before.me.0.marks.loads (held_polls (unflagged lists.retired flags place))
         (OfSlot entry.slot held ∷ []))
 
-    pub passed_more : same_count found entry.arrivals ≡ false → PassedTo table spare flags before next (place + 1)
+    pub passed_more : same_count found entry.arrivals ≡ false → PassedTo table lists flags before next (place + 1)
     passed_more apart =
         let differs : same_count found (retired_at search_now.desk place).arrivals ≡ false
         = ap (λ (e : Retired). same_count found e.arrivals) (sym entry_is) ∙ apart in
@@ -322,8 +322,8 @@ module _ (table : Table) (spare : Spare) (flags : List Bool) (before now : MapSe
         = subst (λ (p : Bool × Retired). TryTells p.0 now.me.0.shape p.1.slot now.me.0.marks next.me.0.marks)
         (λ j. (differs j, sym entry_is j)) told.marks in
         let polls = ap (λ (m : Marks). m.polls) noted.1 in
-        let count : polls_before spare.retired flags place + 1 ≡ polls_before spare.retired flags (place + 1)
-        = sym (polls_more spare.retired flags place low free) in
+        let count : polls_before lists.retired flags place + 1 ≡ polls_before lists.retired flags (place + 1)
+        = sym (polls_more lists.retired flags place low free) in
         let size = ap (λ (t : Table). t.shape.readers) search_now.own in record {
           own = same ∙ so_far.own;
           role = role ∙ sym search_now.role ∙ so_far.role;
@@ -342,28 +342,28 @@ module _ (table : Table) (spare : Spare) (flags : List Bool) (before now : MapSe
           };
           grows = subst (λ (n : ℕ). Grows n [] (token before) (token next)) count grown;
           notes =
-              subst (NotesTo spare.retired flags table.shape.readers (place + 1) (length before.me.0.marks.polls))
+              subst (NotesTo lists.retired flags table.shape.readers (place + 1) (length before.me.0.marks.polls))
               (sym polls)
-              (notes_more spare.retired flags table.shape.readers place (length before.me.0.marks.polls)
+              (notes_more lists.retired flags table.shape.readers place (length before.me.0.marks.polls)
               now.me.0.marks.polls low free
               (λ one other a b at_a at_b. search_now.room.apart one other a b
-              (there_too search_now.desk spare one a so_far.search.retired at_a)
-              (there_too search_now.desk spare other b so_far.search.retired at_b))
+              (there_too search_now.desk lists one a so_far.search.retired at_a)
+              (there_too search_now.desk lists other b so_far.search.retired at_b))
               here so_far.notes
               noted.0 noted.2 noted.3 (let few = noted.4 in omega arith) noted.5);
           kept =
-              subst (Adds (PolledTo spare.retired flags (place + 1)) held_now before.me.0.marks.polls) (sym polls)
-              (adds_more (PolledTo spare.retired flags place) (PolledTo spare.retired flags (place + 1)) held_now
+              subst (Adds (PolledTo lists.retired flags (place + 1)) held_now before.me.0.marks.polls) (sym polls)
+              (adds_more (PolledTo lists.retired flags place) (PolledTo lists.retired flags (place + 1)) held_now
               before.me.0.marks.polls now.me.0.marks.polls entry.slot noted.0
               (λ slot polled. ⊎_elim (λ r. inl (r, polled.1)) inr
-              (reached_more spare.retired place entry here slot polled.0))
-              (λ slot polled. (reached_on spare.retired place slot polled.0, polled.1))
-              (reached_here spare.retired place entry here, free)
+              (reached_more lists.retired place entry here slot polled.0))
+              (λ slot polled. (reached_on lists.retired place slot polled.0, polled.1))
+              (reached_here lists.retired place entry here, free)
               (held_noted before.me.0.seen next.me.0.seen now.me.0.marks.polls next.me.0.marks.polls entry.slot
               noted.0
-              (grows_from (polls_before spare.retired flags place + 1) (token before) [] (token next) grown)
+              (grows_from (polls_before lists.retired flags place + 1) (token before) [] (token next) grown)
               told.notes polls noted.2)
-              (adds_on (PolledTo spare.retired flags place) (PolledTo spare.retired flags place)
+              (adds_on (PolledTo lists.retired flags place) (PolledTo lists.retired flags place)
               (HeldThen before.me.0.seen now.me.0.seen) held_now before.me.0.marks.polls now.me.0.marks.polls
               (λ _ polled. polled) (λ _ polled. polled)
               (λ _ _ held. held_within starts_itself
@@ -377,13 +377,13 @@ module _ (table : Table) (spare : Spare) (flags : List Bool) (before now : MapSe
               (λ (l : List LoggedLoad). with_scan before.me.0.marks next.me.0.marks.polls
               (before.me.0.marks.loads ++ l))
               (sym
-              (ap held_polls (unflagged_more spare.retired flags place low free)
-              ∙ held_next (unflagged spare.retired flags place) entry));
+              (ap held_polls (unflagged_more lists.retired flags place low free)
+              ∙ held_next (unflagged lists.retired flags place) entry));
         }
 
     pub pass_takes : same_count found entry.arrivals ≡ true → (taken : Taken) → taken.slot ≡ entry.slot
-        → taken.departures ≡ found → (after : Spare) → after ≡ record spare { retired = remove spare.retired place }
-        → PassTakes table flags before spare next after taken
+        → taken.departures ≡ found → (after : SlotLists) → after ≡ record lists { retired = remove lists.retired place }
+        → PassTakes table flags before lists next after taken
     pass_takes agree taken slot_is departed after is =
         let agrees : same_count found (retired_at search_now.desk place).arrivals ≡ true
         = ap (λ (e : Retired). same_count found e.arrivals) (sym entry_is) ∙ agree in
@@ -401,7 +401,7 @@ module _ (table : Table) (spare : Spare) (flags : List Bool) (before now : MapSe
           writes = λ desk call rows is_desk is_at. writes_so desk call rows (so_far.role ∙ is_desk) is_at;
           grows = grown;
           few =
-              notes_few spare.retired flags table.shape.readers place (length before.me.0.marks.polls)
+              notes_few lists.retired flags table.shape.readers place (length before.me.0.marks.polls)
               now.me.0.marks.polls so_far.notes;
           heard = told.heard ∙ so_far.heard;
           marks =

@@ -18,8 +18,8 @@ use Rattle.nr_board.proofs.Tokens.{grows_both}
 use Rattle.nr_core.specs.declared.roles.Role.TheVariants.{Writer}
 use Rattle.nr_board.specs.Callers.{Caller, Grows, Table, map_at_opening, token, IsSound}
 use Rattle.nr_board.specs.Entries.{AreCallers}
-use Rattle.nr_core.specs.Spares.{Spare}
-use Rattle.nr_board.specs.Spares.{AreFewSteps, TookBySearch, desk_with}
+use Rattle.nr_core.specs.SlotLists.{SlotLists}
+use Rattle.nr_board.specs.SlotLists.{AreFewSteps, TookBySearch, desk_with}
 use Rattle.nr_core.specs.Marks.{Marks, LoggedLoad, with_name, with_scan}
 use Rattle.nr_core.specs.MarkSteps.{PutsMarks}
 use Rattle.nr_board.specs.Plays.{SwapsOrPuts}
@@ -81,24 +81,24 @@ module _ (table board : Table) (own : board ≡ table) (desk : Desk) (call : Wri
       }
 
 -- the swap that publishes the set
-pub published : (table : Table) (call : WriterCall) (rows : List Row) (spare mid_spare after_spare : Spare)
+pub published : (table : Table) (call : WriterCall) (rows : List Row) (lists mid_lists after_lists : SlotLists)
     (slot departed polls : ℕ)
     (before mid after : MapSeat) (scanned : List ℕ) (loads : List LoggedLoad) (found : ℕ)
-    → TookBySearch table before.me.0.heard scanned loads slot polls spare mid_spare → AreFewSteps table polls
-    → mid_spare.slots ≡ spare.slots → mid_spare.numbers ≡ spare.numbers → mid_spare.reaped ≡ spare.reaped
+    → TookBySearch table before.me.0.heard scanned loads slot polls lists mid_lists → AreFewSteps table polls
+    → mid_lists.slots ≡ lists.slots → mid_lists.numbers ≡ lists.numbers → mid_lists.reaped ≡ lists.reaped
     → mid.me.0.marks ≡ with_scan before.me.0.marks mid.me.0.marks.polls (before.me.0.marks.loads ++ loads)
     → set mid.me.0.heard slot 0 ≡ set scanned slot 0
-    → WritesAt table (desk_with mid_spare (Putting call rows slot departed (2 * length rows + 1))) mid
+    → WritesAt table (desk_with mid_lists (Putting call rows slot departed (2 * length rows + 1))) mid
     → Grows (polls + (2 * length rows + 1)) [] (token before) (token mid) → GoesOn table found mid after
-    → after_spare
-    ≡ record mid_spare {
-      retired = mid_spare.retired ++ unnamed found;
-      reaped = slice_set mid_spare.reaped slot false;
+    → after_lists
+    ≡ record mid_lists {
+      retired = mid_lists.retired ++ unnamed found;
+      reaped = slice_set mid_lists.reaped slot false;
     }
-    → (put : PublishesSet table call rows before spare after after_spare) × (put.slot ≡ slot)
-published table call rows spare mid_spare after_spare slot departed polls before mid after scanned loads found took few
+    → (put : PublishesSet table call rows before lists after after_lists) × (put.slot ≡ slot)
+published table call rows lists mid_lists after_lists slot departed polls before mid after scanned loads found took few
     slots numbers flags only_polls heard writes grows goes retires =
-    let last : ℕ = 2 * length rows + 1 in let desk = desk_with mid_spare (Putting call rows slot departed last) in
+    let last : ℕ = 2 * length rows + 1 in let desk = desk_with mid_lists (Putting call rows slot departed last) in
     let told = goes desk writes.role in
     let outcome : put_on desk call rows slot departed last found ≡ (swapped desk found, ended reply.Done)
     = ap (λ (b : Bool). cond {A = Desk × Step} b
@@ -127,7 +127,7 @@ published table call rows spare mid_spare after_spare slot departed polls before
         count = marks.1;
         put = marks.2;
         steps = polls;
-        mid = mid_spare;
+        mid = mid_lists;
         scanned = scanned;
         loads = loads;
         took = took;
@@ -138,14 +138,14 @@ published table call rows spare mid_spare after_spare slot departed polls before
             retires
             ∙ ap
             (λ (l : List Bool).
-            record mid_spare {
-              retired = mid_spare.retired ++ unnamed found;
+            record mid_lists {
+              retired = mid_lists.retired ++ unnamed found;
               reaped = slice_set l slot false;
             })
             flags;
-        slots = ap (λ (s : Spare). s.slots) retires ∙ slots;
-        numbers = ap (λ (s : Spare). s.numbers) retires ∙ numbers;
-        writes = subst (λ (s : Spare). WritesAt table (desk_with s Idle) after) (sym retires) leads.writes;
+        slots = ap (λ (s : SlotLists). s.slots) retires ∙ slots;
+        numbers = ap (λ (s : SlotLists). s.numbers) retires ∙ numbers;
+        writes = subst (λ (s : SlotLists). WritesAt table (desk_with s Idle) after) (sym retires) leads.writes;
         grows =
             grows_both (polls + (2 * length rows + 1)) 1 (2 * length rows + 2 + polls) (token before) (token mid) _
             (token after) (omega arith) grows leads.grows;

@@ -1,7 +1,7 @@
 -- A reap: its sweeps and the scan between them, put together.
 use Rattle.std.proofs.Common.{◌≡◌, ℕ, ◌+◌, ◌*◌, ◌<◌, ⊎_elim, inl, inr, true, List, [], ◌∷◌, ◌++◌, ap, append_assoc}
 use Rattle.std.proofs.Common.{arith, length, length-append, refl, set, subst, sym, ◌∙◌}
-use Rattle.nr_core.specs.Spares.{Spare}
+use Rattle.nr_core.specs.SlotLists.{SlotLists}
 use Rattle.nr_core.specs.declared.places.Place.TheVariants.{Idle}
 use Rattle.nr_core.specs.declared.places.Retired.{Retired}
 use Rattle.nr_core.specs.Marks.{Marks, OfSlot, Past, LoggedLoad, with_reaped, with_scan}
@@ -11,7 +11,7 @@ use Rattle.nr_board.specs.Callers.{Table, token}
 use Rattle.nr_board.specs.Reaping.{HeldEach, ScansFirst, SweepsFor, SweepsHeard, after_polls, probed, ready_in}
 use Rattle.nr_board.specs.Reaping.{ready_to, reaping, waiting, with_reap}
 use Rattle.nr_board.specs.Recalls.{RecallsAt, waited}
-use Rattle.nr_board.specs.Spares.{desk_with, held_polls}
+use Rattle.nr_board.specs.SlotLists.{desk_with, held_polls}
 use Rattle.nr_board.specs.Views.{View, desk_of}
 use Rattle.nr_board.specs.WholeScans.{scanned_to}
 use Rattle.nr_board.specs.WordLoads.{WordsTell}
@@ -63,22 +63,22 @@ swept_twice first second before scan polls heard view mid last next one scans tw
         ap (λ (l : List LoggedLoad). l ++ polls) (append_assoc view.marks.loads before scan)
         ∙ append_assoc view.marks.loads (before ++ scan) polls
 
-module _ (table : Table) (spare : Spare) (before : MapSeat) (rests : RestsAt table spare before) where
+module _ (table : Table) (lists : SlotLists) (before : MapSeat) (rests : RestsAt table lists before) where
   -- the writer's lists are those of its token
-  retired_is : (token before).retired ≡ spare.retired
+  retired_is : (token before).retired ≡ lists.retired
   retired_is = ap (λ r. (desk_of r).retired) rests.writes.role
 
-  ready_is : (heard : List ℕ) → ready_in spare (record before.me.0 { heard = heard }) ≡ ready_to (token before) heard
+  ready_is : (heard : List ℕ) → ready_in lists (record before.me.0 { heard = heard }) ≡ ready_to (token before) heard
   ready_is
-      heard = λ j. ready_in (record spare { reaped = rests.reaped j; retired = sym retired_is j })
+      heard = λ j. ready_in (record lists { reaped = rests.reaped j; retired = sym retired_is j })
       (record before.me.0 { heard = heard })
 
-  waiting_is : waiting spare.reaped spare.retired ≡ waiting (token before).marks.reaped (token before).retired
+  waiting_is : waiting lists.reaped lists.retired ≡ waiting (token before).marks.reaped (token before).retired
   waiting_is = λ j. waiting (rests.reaped j) (sym retired_is j)
 
   -- the polls of a first sweep that was in vain
   abbrev first_polls : List LoggedLoad
-  first_polls = held_polls (ready_in spare before.me.0)
+  first_polls = held_polls (ready_in lists before.me.0)
 
   first_are : first_polls ≡ held_polls (ready_to (token before) before.me.0.heard)
   first_are = ap held_polls (ready_is before.me.0.heard)
@@ -96,14 +96,14 @@ module _ (table : Table) (spare : Spare) (before : MapSeat) (rests : RestsAt tab
     pub split : ready_to (token before) scanned ≡ held ++ entry ∷ later
     pub each : HeldEach (token before).table.shape.readers held notes
     pub slot_is : slot ≡ entry.slot
-    pub inside : slot < spare.slots
+    pub inside : slot < lists.slots
     pub view : now.me.0
         ≡ reaping slot
         (swept (earlier ++ notes) (loads ++ (held_polls held ++ OfSlot slot true ∷ [])) 0 scanned before.me.0)
 
-  pub found_set : (now : MapSeat) (slot : ℕ) → SweepsHeard spare before now (sweep.Free slot) → FoundSet now slot
+  pub found_set : (now : MapSeat) (slot : ℕ) → SweepsHeard lists before now (sweep.Free slot) → FoundSet now slot
   found_set now slot found = ⊎_elim
-      (λ (once : SweepsFor spare before now (sweep.Free slot)
+      (λ (once : SweepsFor lists before now (sweep.Free slot)
       × (sweep.Free slot ≡ sweep.Held → before.me.0.announcers ≡ 0)).
       let found_once = once.0 in record {
         held = found_once.0;
@@ -123,10 +123,10 @@ module _ (table : Table) (spare : Spare) (before : MapSeat) (rests : RestsAt tab
             ∙ ap (reaping slot)
             (swept_once found_once.3 (held_polls found_once.0 ++ OfSlot slot true ∷ []) before.me.0);
       })
-      (λ (twice : (0 < before.me.0.announcers) × (mid last : MapSeat) × SweepsFor spare before mid sweep.Held
+      (λ (twice : (0 < before.me.0.announcers) × (mid last : MapSeat) × SweepsFor lists before mid sweep.Held
       × (loads : List LoggedLoad)
-      × WordsTell before.me.0.announcers spare.retired before.me.0.shape.slots loads last.me.0.heard
-      × (last.me.0 ≡ scanned_to loads last.me.0.heard mid.me.0) × SweepsFor spare last now (sweep.Free slot)).
+      × WordsTell before.me.0.announcers lists.retired before.me.0.shape.slots loads last.me.0.heard
+      × (last.me.0 ≡ scanned_to loads last.me.0.heard mid.me.0) × SweepsFor lists last now (sweep.Free slot)).
       let mid = twice.1 in
       let last = twice.2 in
       let first = twice.3 in
@@ -155,7 +155,7 @@ module _ (table : Table) (spare : Spare) (before : MapSeat) (rests : RestsAt tab
               words,
               ap (λ (l : List LoggedLoad). l ++ loads) first_are,
             );
-        split = sym (ready_is heard) ∙ sym (ap (ready_in spare) last_is) ∙ second.4;
+        split = sym (ready_is heard) ∙ sym (ap (ready_in lists) last_is) ∙ second.4;
         each = subst (λ (v : View). HeldEach v.shape.readers second.0 second.3) last_is second.5;
         slot_is = second.6;
         inside = second.7;
@@ -175,7 +175,7 @@ module _ (table : Table) (spare : Spare) (before : MapSeat) (rests : RestsAt tab
     own =
         (λ j. record { id = same j; shape = (found.view j).shape; announcers = (found.view j).announcers })
         ∙ rests.writes.own;
-    desk = desk_with spare Idle;
+    desk = desk_with lists Idle;
     role = ap (λ (v : View). v.role) found.view ∙ rests.writes.role;
     inside = let near = found.inside in omega (arith, near, rests.slots);
     untouched = tt;
@@ -209,13 +209,13 @@ module _ (table : Table) (spare : Spare) (before : MapSeat) (rests : RestsAt tab
     pub reaped_token : token last
         ≡ with_reap slot (after_polls all_notes all_loads found.scanned (2 * rows + 1) (token before))
     reaped_token =
-        token_after table spare before last steps_now marks_now found.scanned rests (last_same ∙ same) last_view
+        token_after table lists before last steps_now marks_now found.scanned rests (last_same ∙ same) last_view
 
-    pub reaped_rests : (after : Spare) → after ≡ record spare { reaped = set spare.reaped slot true }
+    pub reaped_rests : (after : SlotLists) → after ≡ record lists { reaped = set lists.reaped slot true }
         → RestsAt table after last
     reaped_rests after is =
-        rests_after table spare before last steps_now marks_now found.scanned rests (last_same ∙ same) last_view after
-        (is ∙ (λ j. record spare { reaped = set (rests.reaped j) slot true }))
+        rests_after table lists before last steps_now marks_now found.scanned rests (last_same ∙ same) last_view after
+        (is ∙ (λ j. record lists { reaped = set (rests.reaped j) slot true }))
 
   -- and where every set that waits is kept back
   pub record KeepsAll (now : MapSeat) : Type 0 where
@@ -230,9 +230,9 @@ module _ (table : Table) (spare : Spare) (before : MapSeat) (rests : RestsAt tab
     pub view : now.me.0
         ≡ swept (earlier ++ notes) (loads ++ held_polls (ready_to (token before) scanned)) 0 scanned before.me.0
 
-  pub keeps_all : (now : MapSeat) → SweepsHeard spare before now sweep.Held → KeepsAll now
+  pub keeps_all : (now : MapSeat) → SweepsHeard lists before now sweep.Held → KeepsAll now
   keeps_all now found = ⊎_elim
-      (λ (once : SweepsFor spare before now sweep.Held × (sweep.Held ≡ sweep.Held → before.me.0.announcers ≡ 0)).
+      (λ (once : SweepsFor lists before now sweep.Held × (sweep.Held ≡ sweep.Held → before.me.0.announcers ≡ 0)).
       let held = once.0 in let none = once.1 refl in record {
         notes = held.0;
         earlier = [];
@@ -248,10 +248,10 @@ module _ (table : Table) (spare : Spare) (before : MapSeat) (rests : RestsAt tab
             held.3 ∙ swept_once held.0 first_polls before.me.0
             ∙ ap (λ (l : List LoggedLoad). swept held.0 l 0 before.me.0.heard before.me.0) first_are;
       })
-      (λ (twice : (0 < before.me.0.announcers) × (mid last : MapSeat) × SweepsFor spare before mid sweep.Held
+      (λ (twice : (0 < before.me.0.announcers) × (mid last : MapSeat) × SweepsFor lists before mid sweep.Held
       × (loads : List LoggedLoad)
-      × WordsTell before.me.0.announcers spare.retired before.me.0.shape.slots loads last.me.0.heard
-      × (last.me.0 ≡ scanned_to loads last.me.0.heard mid.me.0) × SweepsFor spare last now sweep.Held).
+      × WordsTell before.me.0.announcers lists.retired before.me.0.shape.slots loads last.me.0.heard
+      × (last.me.0 ≡ scanned_to loads last.me.0.heard mid.me.0) × SweepsFor lists last now sweep.Held).
       let mid = twice.1 in
       let last = twice.2 in
       let first = twice.3 in
@@ -263,8 +263,8 @@ module _ (table : Table) (spare : Spare) (before : MapSeat) (rests : RestsAt tab
       let words
       = subst (λ (l : List Retired). WordsTell before.me.0.announcers l before.me.0.shape.slots loads heard)
       (sym retired_is) twice.5 in
-      let ready_now : ready_in spare last.me.0 ≡ ready_to (token before) heard
-      = ap (ready_in spare) last_is ∙ ready_is heard in
+      let ready_now : ready_in lists last.me.0 ≡ ready_to (token before) heard
+      = ap (ready_in lists) last_is ∙ ready_is heard in
       record {
         notes = second.0;
         earlier = first.0;
@@ -289,7 +289,7 @@ module _ (table : Table) (spare : Spare) (before : MapSeat) (rests : RestsAt tab
             subst (λ (p : ℕ × List Retired). HeldEach p.0 p.1 second.0) (λ j. ((last_is j).shape.readers, ready_now j))
             second.2;
         view =
-            swept_twice first.0 second.0 first_polls loads (held_polls (ready_in spare last.me.0)) heard before.me.0
+            swept_twice first.0 second.0 first_polls loads (held_polls (ready_in lists last.me.0)) heard before.me.0
             mid.me.0 last.me.0 now.me.0 first.3 twice.6 second.3
             ∙ ap
             (λ (l : List Retired). swept (first.0 ++ second.0) ((first_polls ++ loads) ++ held_polls l) 0 heard
@@ -301,9 +301,9 @@ module _ (table : Table) (spare : Spare) (before : MapSeat) (rests : RestsAt tab
     pub kept_token : token now
         ≡ after_polls (keeps.earlier ++ keeps.notes) (keeps.loads ++ held_polls (ready_to (token before) keeps.scanned))
         keeps.scanned 0 (token before)
-    kept_token = token_after table spare before now _ _ keeps.scanned rests same keeps.view
+    kept_token = token_after table lists before now _ _ keeps.scanned rests same keeps.view
 
-    pub kept_rests : RestsAt table spare now
+    pub kept_rests : RestsAt table lists now
     kept_rests =
-        rests_after table spare before now _ _ keeps.scanned rests same keeps.view spare
-        (λ j. record spare { reaped = rests.reaped j })
+        rests_after table lists before now _ _ keeps.scanned rests same keeps.view lists
+        (λ j. record lists { reaped = rests.reaped j })

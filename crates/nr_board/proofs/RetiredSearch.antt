@@ -5,7 +5,7 @@ use Rattle.std.proofs.Common.{subst, arith}
 use mathlib.Core.Option.{some}
 use lib.ListN.{get_elem?}
 use Rattle.nr_core.proofs.Choices.{by_cases}
-use Rattle.nr_core.specs.Spares.{Spare, none_spare}
+use Rattle.nr_core.specs.SlotLists.{SlotLists, all_taken}
 use Rattle.nr_core.specs.Sums.{only, total}
 use Rattle.nr_core.specs.declared.places.Retired.{Retired}
 use Rattle.nr_core.proofs.ListPlaces.{at_left}
@@ -21,7 +21,7 @@ use Rattle.nr_board.specs.Flags.{Flagged}
 use Rattle.nr_board.specs.Passes.{PassTakes, PassedTo, PolledTo, polls_before, unflagged}
 use Rattle.nr_board.specs.Noting.{Adds}
 use Rattle.nr_board.specs.Polls.{HeldThen, KeptThen, SaidThen}
-use Rattle.nr_board.specs.Spares.{heard_all, held_polls, not_passed}
+use Rattle.nr_board.specs.SlotLists.{heard_all, held_polls, not_passed}
 use Rattle.nr_board.proofs.Flagging.{polls_are}
 use Rattle.nr_board.proofs.HeldPolls.{held_many}
 use Rattle.nr_board.proofs.WriterSeats.{numbers_seat}
@@ -42,12 +42,12 @@ use Rattle.nr_board.specs.SearchSeats.{Ends}
 use Rattle.nr_board.proofs.WordLoads.{words_many, words_told}
 use Rattle.nr_board.specs.WordLoads.{WordsTell}
 use Rattle.nr_board.specs.Views.{View}
-use Rattle.nr_board.specs.WholeScans.{FlaggedIn, KeepBack, SaidBehind, ScannedTo, is_unheard, misses}
+use Rattle.nr_board.specs.WholeScans.{FlaggedIn, KeepBack, SaidBehind, ScannedTo, is_flagged, misses}
 use Rattle.nr_board.specs.WriterSeats.{MapSeat}
 
-module _ (table : Table) (spare : Spare) (flags : List Bool) (before now : MapSeat)
+module _ (table : Table) (lists : SlotLists) (flags : List Bool) (before now : MapSeat)
     (same : now.table_id ≡ before.table_id) (sized : (token before).table ≡ table) (some_words : 0 < table.announcers)
-    (scanned : ScannedTo spare.retired before.me.0 now.me.0 flags table.announcers) where
+    (scanned : ScannedTo lists.retired before.me.0 now.me.0 flags table.announcers) where
   -- the scan adds nothing
   pub scan_rests : Rests table.announcers (token before) (token now)
   scan_rests = record {
@@ -64,10 +64,10 @@ module _ (table : Table) (spare : Spare) (flags : List Bool) (before now : MapSe
   base_is =
       ap (λ (b : Bool). cond {A = List Past} b [] now.me.0.marks.polls) (ne_eqb table.announcers 0 (λ e. omega arith))
 
-  keep : KeepBack spare.retired flags table.announcers now.me.0.marks.polls
-  keep = subst (KeepBack spare.retired flags table.announcers) base_is scanned.keep
+  keep : KeepBack lists.retired flags table.announcers now.me.0.marks.polls
+  keep = subst (KeepBack lists.retired flags table.announcers) base_is scanned.keep
 
-  pub scan_many : length now.me.0.marks.polls ≡ total (misses flags) spare.retired
+  pub scan_many : length now.me.0.marks.polls ≡ total (misses flags) lists.retired
   scan_many = keep.many
 
 -- each retired slot has a flag or is polled
@@ -75,22 +75,22 @@ pub all_of : (retired : List Retired) (flags : List Bool)
     → total (misses flags) retired + polls_before retired flags (length retired) ≡ length retired
 all_of retired flags = sum retired
   where
-    sums : (l : List Retired) → total (misses flags) l + length (not_passed (is_unheard flags) l) ≡ length l
+    sums : (l : List Retired) → total (misses flags) l + length (not_passed (is_flagged flags) l) ≡ length l
     sums [] = refl
     sums (entry ∷ l) = let rest = sums l in
         by_cases
         (λ (b : Bool). cond {A = ℕ} b 1 0 + total (misses flags) l
         + length
-        (cond {A = List Retired} b (not_passed (is_unheard flags) l)
-        (entry ∷ not_passed (is_unheard flags) l))
+        (cond {A = List Retired} b (not_passed (is_flagged flags) l)
+        (entry ∷ not_passed (is_flagged flags) l))
         ≡ suc (length l))
-        (is_unheard flags entry.slot)
+        (is_flagged flags entry.slot)
         (λ _. omega arith) (λ _. omega arith)
 
     sum : (l : List Retired)
-        → total (misses flags) l + length (not_passed (is_unheard flags) (take (length l) l)) ≡ length l
+        → total (misses flags) l + length (not_passed (is_flagged flags) (take (length l) l)) ≡ length l
     sum l =
-        ap (λ (m : List Retired). total (misses flags) l + length (not_passed (is_unheard flags) m))
+        ap (λ (m : List Retired). total (misses flags) l + length (not_passed (is_flagged flags) m))
         (take_all (length l) l (omega arith))
         ∙ sums l
 
@@ -105,49 +105,49 @@ taking_many retired flags place slot =
     ∙ ap (λ (n : ℕ). n + 1) (held_many (unflagged retired flags place))
 
 -- a pass takes a slot that was heard before
-pub takes_first : (table : Table) (spare after : Spare) (flags : List Bool) (before now : MapSeat) (taken : Taken)
-    → Flagged table spare.retired before.me.0.heard flags → before.me.0.marks.polls ≡ []
-    → PassTakes table flags before spare now after taken → SearchTakes table before spare now after taken
-takes_first table spare after flags before now taken flagged begins takes = record {
+pub takes_first : (table : Table) (lists after : SlotLists) (flags : List Bool) (before now : MapSeat) (taken : Taken)
+    → Flagged table lists.retired before.me.0.heard flags → before.me.0.marks.polls ≡ []
+    → PassTakes table flags before lists now after taken → SearchTakes table before lists now after taken
+takes_first table lists after flags before now taken flagged begins takes = record {
   place = takes.place;
   entry = takes.entry;
   here = takes.here;
   slot = takes.slot;
   after_is = takes.after_is;
   writes = takes.writes;
-  loads = taking_polls spare.retired flags takes.place takes.entry.slot;
+  loads = taking_polls lists.retired flags takes.place takes.entry.slot;
   takes = (
     let heard = flagged.whole takes.entry.slot takes.no_flag in
         subst (λ (p : List ℕ × ℕ). table.announcers ≤ get_or p.0 p.1 0) (λ j. (sym takes.heard j, sym takes.slot j))
         heard,
     inl (
       takes.heard,
-      λ j. held_polls (polls_are table spare.retired before.me.0.heard flags flagged takes.place j)
+      λ j. held_polls (polls_are table lists.retired before.me.0.heard flags flagged takes.place j)
           ++ OfSlot (sym takes.slot j) true ∷ [],
     ),
   );
   grows =
       subst (λ (n : ℕ). Grows n [] (token before) (token now))
-      (sym (taking_many spare.retired flags takes.place takes.entry.slot)) takes.grows;
-  few = let few = takes.few in let count = taking_many spare.retired flags takes.place takes.entry.slot in omega arith;
+      (sym (taking_many lists.retired flags takes.place takes.entry.slot)) takes.grows;
+  few = let few = takes.few in let count = taking_many lists.retired flags takes.place takes.entry.slot in omega arith;
   marks = takes.marks;
 }
 
-module _ (table : Table) (spare : Spare) (flags scanned : List Bool) (before mid swept : MapSeat)
-    (flagged : Flagged table spare.retired before.me.0.heard flags)
-    (first : PassedTo table spare flags before mid (length spare.retired)) (begins : before.me.0.marks.polls ≡ [])
+module _ (table : Table) (lists : SlotLists) (flags scanned : List Bool) (before mid swept : MapSeat)
+    (flagged : Flagged table lists.retired before.me.0.heard flags)
+    (first : PassedTo table lists flags before mid (length lists.retired)) (begins : before.me.0.marks.polls ≡ [])
     (same : swept.table_id ≡ mid.table_id) (sized : (token mid).table ≡ table)
     (few : table.announcers ≤ table.shape.readers) (some_words : 0 < table.announcers)
-    (scan : ScannedTo spare.retired mid.me.0 swept.me.0 scanned table.announcers)
-    (flagged_now : Flagged table spare.retired swept.me.0.heard scanned) where
+    (scan : ScannedTo lists.retired mid.me.0 swept.me.0 scanned table.announcers)
+    (flagged_now : Flagged table lists.retired swept.me.0.heard scanned) where
   abbrev polls : ℕ
-  polls = polls_before spare.retired flags (length spare.retired)
+  polls = polls_before lists.retired flags (length lists.retired)
 
   up_to : Grows (polls + table.announcers) [] (token before) (token swept)
   up_to =
       grows_rests polls table.announcers (polls + table.announcers) (token before)
       [] (token mid) (token swept) refl first.grows
-      (scan_rests table spare scanned mid swept same sized some_words scan)
+      (scan_rests table lists scanned mid swept same sized some_words scan)
 
   role_is : swept.me.0.role ≡ before.me.0.role
   role_is = ap (λ (v : View). v.role) scan.rest ∙ first.role
@@ -155,34 +155,34 @@ module _ (table : Table) (spare : Spare) (flags scanned : List Bool) (before mid
   polls_few : polls ≤ table.shape.readers
   polls_few =
       let most
-      = notes_few spare.retired flags table.shape.readers (length spare.retired) (length before.me.0.marks.polls)
+      = notes_few lists.retired flags table.shape.readers (length lists.retired) (length before.me.0.marks.polls)
       mid.me.0.marks.polls first.notes in
       omega arith
 
   abbrev first_polls : List LoggedLoad
-  first_polls = held_polls (unflagged spare.retired flags (length spare.retired))
+  first_polls = held_polls (unflagged lists.retired flags (length lists.retired))
 
-  first_are : first_polls ≡ held_polls (heard_all table.announcers before.me.0.heard spare.retired)
+  first_are : first_polls ≡ held_polls (heard_all table.announcers before.me.0.heard lists.retired)
   first_are =
       ap held_polls
-      (polls_are table spare.retired before.me.0.heard flags flagged (length spare.retired)
+      (polls_are table lists.retired before.me.0.heard flags flagged (length lists.retired)
       ∙ ap (heard_all table.announcers before.me.0.heard)
-      (take_all (length spare.retired) spare.retired (omega arith)))
+      (take_all (length lists.retired) lists.retired (omega arith)))
 
   second_are : (now : MapSeat) (place : ℕ) → now.me.0.heard ≡ swept.me.0.heard
-      → held_polls (unflagged spare.retired scanned place)
-      ≡ held_polls (heard_all table.announcers now.me.0.heard (take place spare.retired))
+      → held_polls (unflagged lists.retired scanned place)
+      ≡ held_polls (heard_all table.announcers now.me.0.heard (take place lists.retired))
   second_are now place heard =
       ap held_polls
-      (polls_are table spare.retired swept.me.0.heard scanned flagged_now place
-      ∙ ap (λ (l : List ℕ). heard_all table.announcers l (take place spare.retired)) (sym heard))
+      (polls_are table lists.retired swept.me.0.heard scanned flagged_now place
+      ∙ ap (λ (l : List ℕ). heard_all table.announcers l (take place lists.retired)) (sym heard))
 
   -- what the scan heard is what the words tell
   words_are : (scan : List LoggedLoad)
-      × WordsTell table.announcers spare.retired mid.me.0.shape.slots scan swept.me.0.heard
+      × WordsTell table.announcers lists.retired mid.me.0.shape.slots scan swept.me.0.heard
       × (swept.me.0.marks.loads ≡ mid.me.0.marks.loads ++ scan)
   words_are =
-      words_told table.announcers spare.retired mid.me.0.shape.slots mid.me.0.marks.loads swept.me.0.marks.loads
+      words_told table.announcers lists.retired mid.me.0.shape.slots mid.me.0.marks.loads swept.me.0.marks.loads
       swept.me.0.heard some_words scan.words
 
   abbrev scan_loads : List LoggedLoad
@@ -195,16 +195,16 @@ module _ (table : Table) (spare : Spare) (flags scanned : List Bool) (before mid
   all_many : (more : List LoggedLoad) → length (all_loads more) ≡ polls + table.announcers + length more
   all_many more =
       length-append first_polls (scan_loads ++ more)
-      ∙ (λ j. held_many (unflagged spare.retired flags (length spare.retired)) j + length-append scan_loads more j)
+      ∙ (λ j. held_many (unflagged lists.retired flags (length lists.retired)) j + length-append scan_loads more j)
       ∙ ap (λ (n : ℕ). polls + (n + length more)) (words_many words_are.1)
       ∙ (let sum : polls + (table.announcers + length more) ≡ polls + table.announcers + length more
       = omega arith in
       sum)
 
   tells : (now : MapSeat) → now.me.0.heard ≡ swept.me.0.heard
-      → WordsTell table.announcers spare.retired table.shape.slots scan_loads now.me.0.heard
+      → WordsTell table.announcers lists.retired table.shape.slots scan_loads now.me.0.heard
   tells now heard =
-      subst (λ (p : ℕ × List ℕ). WordsTell table.announcers spare.retired p.0 scan_loads p.1)
+      subst (λ (p : ℕ × List ℕ). WordsTell table.announcers lists.retired p.0 scan_loads p.1)
       (λ j. ((sized j).shape.slots, sym heard j)) words_are.1
 
   marks_on : (marks : Marks) (more : List LoggedLoad)
@@ -217,11 +217,11 @@ module _ (table : Table) (spare : Spare) (flags scanned : List Bool) (before mid
       (append_assoc (before.me.0.marks.loads ++ first_polls) scan_loads more
       ∙ append_assoc before.me.0.marks.loads first_polls (scan_loads ++ more))
 
-  pub takes_second : (after : Spare) (now : MapSeat) (taken : Taken)
-      → PassTakes table scanned swept spare now after taken → SearchTakes table before spare now after taken
+  pub takes_second : (after : SlotLists) (now : MapSeat) (taken : Taken)
+      → PassTakes table scanned swept lists now after taken → SearchTakes table before lists now after taken
   takes_second after now taken takes =
-      let more = taking_polls spare.retired scanned takes.place takes.entry.slot in
-      let count = taking_many spare.retired scanned takes.place takes.entry.slot in
+      let more = taking_polls lists.retired scanned takes.place takes.entry.slot in
+      let count = taking_many lists.retired scanned takes.place takes.entry.slot in
       record {
         place = takes.place;
         entry = takes.entry;
@@ -242,35 +242,35 @@ module _ (table : Table) (spare : Spare) (flags scanned : List Bool) (before mid
           ),
         );
         grows =
-            grows_both (polls + table.announcers) (polls_before spare.retired scanned takes.place + 1)
+            grows_both (polls + table.announcers) (polls_before lists.retired scanned takes.place + 1)
             (length (all_loads more)) (token before) (token swept)
             [] (token now) (omega (arith, count, all_many more)) up_to takes.grows;
         few = let one = polls_few in let other = takes.few in omega (arith, count, all_many more);
         marks = marks_on now.me.0.marks more takes.marks;
       }
 
-  pub lacks_so : (after : Spare) (last now : MapSeat) (counts : NoSlot)
-      → PassedTo table spare scanned swept last (length spare.retired) → now.table_id ≡ last.table_id
-      → Ends last.me.0 now.me.0 → after ≡ spare → counts ≡ none_spare spare
-      → SearchLacks table before spare now after counts
+  pub lacks_so : (after : SlotLists) (last now : MapSeat) (counts : NoSlot)
+      → PassedTo table lists scanned swept last (length lists.retired) → now.table_id ≡ last.table_id
+      → Ends last.me.0 now.me.0 → after ≡ lists → counts ≡ all_taken lists
+      → SearchLacks table before lists now after counts
   lacks_so after last now counts second own ends is counted =
       let search = second.search.search in
       let gave = ends search.desk search.call search.rows search.role search.place in
       let shape_is = ap (λ (t : Table). t.shape) search.own in
       let one = seat_grows last now [] own gave.leads.advances in
       let length_is = second.notes.many in
-      let missed = scan_many table spare scanned mid swept same sized some_words scan in
-      let all = all_of spare.retired scanned in
+      let missed = scan_many table lists scanned mid swept same sized some_words scan in
+      let all = all_of lists.retired scanned in
       let polls_now : now.me.0.marks.polls ≡ last.me.0.marks.polls = ap (λ (m : Marks). m.polls) gave.marks in
-      let many : length now.me.0.marks.polls ≡ length spare.retired
+      let many : length now.me.0.marks.polls ≡ length lists.retired
       = ap length polls_now ∙ omega (arith, length_is, missed, all) in
-      let second_count : ℕ = polls_before spare.retired scanned (length spare.retired) in
+      let second_count : ℕ = polls_before lists.retired scanned (length lists.retired) in
       let last_grows
       = grows_both (polls + table.announcers) second_count (polls + table.announcers + second_count) (token before)
       (token swept)
       [] (token last) refl up_to second.grows in
       let heard_now = gave.heard ∙ second.heard in
-      let more : List LoggedLoad = held_polls (unflagged spare.retired scanned (length spare.retired)) in
+      let more : List LoggedLoad = held_polls (unflagged lists.retired scanned (length lists.retired)) in
       let kept_then = KeptThen before.me.0.seen now.me.0.seen (all_loads more) in
       -- what a word said is among the loads
       let said_among : (slot : ℕ) (note : Past)
@@ -284,7 +284,7 @@ module _ (table : Table) (spare : Spare) (flags scanned : List Bool) (before mid
             ∙ said.1),
       ) in
       let steps : polls + table.announcers + second_count + 1 ≡ length (all_loads more) + 1
-      = omega (arith, all_many more, held_many (unflagged spare.retired scanned (length spare.retired))) in
+      = omega (arith, all_many more, held_many (unflagged lists.retired scanned (length lists.retired))) in
       record {
         same = is;
         counts_are = counted;
@@ -300,7 +300,7 @@ module _ (table : Table) (spare : Spare) (flags scanned : List Bool) (before mid
               },
               subst (λ (s : Shape). reply_to (map_after s now.me.0.seen) (call_of call) ≡ reply.Done) shapes
                   gave_so.would_be_done,
-              ap (λ (s : Shape). filled_count (map_after s now.me.0.seen) + length spare.retired) (sym shapes)
+              ap (λ (s : Shape). filled_count (map_after s now.me.0.seen) + length lists.retired) (sym shapes)
                   ∙ ap (λ (l : List Retired). filled_count (map_after last.me.0.shape now.me.0.seen) + length l)
                   (sym second.search.retired ∙ ap (λ (d : Desk). d.retired) one_desk)
                   ∙ gave_so.slots ∙ ap (λ (s : Shape). s.slots) shape_is,
@@ -314,47 +314,47 @@ module _ (table : Table) (spare : Spare) (flags scanned : List Bool) (before mid
             (sym polls_now) (second.notes.apart reader);
         few =
             let most
-            = notes_few spare.retired scanned table.shape.readers (length spare.retired)
+            = notes_few lists.retired scanned table.shape.readers (length lists.retired)
             (length swept.me.0.marks.polls) last.me.0.marks.polls second.notes in
             omega (arith, missed, all);
         loads = all_loads more;
         kept =
-            kept_back table.shape.readers before.me.0.seen now.me.0.seen (all_loads more) spare.retired
-            now.me.0.marks.polls (λ slot. 0 < retirements slot spare.retired) kept_then (λ _ waits. waits)
+            kept_back table.shape.readers before.me.0.seen now.me.0.seen (all_loads more) lists.retired
+            now.me.0.marks.polls (λ slot. 0 < retirements slot lists.retired) kept_then (λ _ waits. waits)
             (λ _ waits. waits) (λ _ _ kept. kept)
             (subst
             (λ (l : List Past). (at : ℕ) (note : Past) → get_elem? l at ≡ some note
             → (0 < note.reader) × (note.reader ≤ table.shape.readers))
             (sym polls_now)
             (λ at note there. let noted = second.notes.each at note there in (noted.made, noted.few)))
-            (subst (Adds (λ slot. 0 < retirements slot spare.retired) kept_then []) (sym polls_now)
-            (adds_both (FlaggedIn spare.retired scanned) (PolledTo spare.retired scanned (length spare.retired))
-            (λ slot. 0 < retirements slot spare.retired)
+            (subst (Adds (λ slot. 0 < retirements slot lists.retired) kept_then []) (sym polls_now)
+            (adds_both (FlaggedIn lists.retired scanned) (PolledTo lists.retired scanned (length lists.retired))
+            (λ slot. 0 < retirements slot lists.retired)
             (SaidBehind mid.me.0.marks.loads swept.me.0.marks.loads) (HeldThen swept.me.0.seen last.me.0.seen)
             kept_then []
             swept.me.0.marks.polls last.me.0.marks.polls
             (λ slot waits. by_cases
-            (λ (b : Bool). is_unheard scanned slot ≡ b
-            → FlaggedIn spare.retired scanned slot ⊎ PolledTo spare.retired scanned (length spare.retired) slot)
-            (is_unheard scanned slot) (λ _ is. inl (waits, is))
-            (λ _ is. inr (reached_all spare.retired slot waits, is)) refl)
+            (λ (b : Bool). is_flagged scanned slot ≡ b
+            → FlaggedIn lists.retired scanned slot ⊎ PolledTo lists.retired scanned (length lists.retired) slot)
+            (is_flagged scanned slot) (λ _ is. inl (waits, is))
+            (λ _ is. inr (reached_all lists.retired slot waits, is)) refl)
             (λ slot flagged. flagged.0)
-            (λ slot polled. reached_waits spare.retired slot (length spare.retired) polled.0)
+            (λ slot polled. reached_waits lists.retired slot (length lists.retired) polled.0)
             (λ slot note said. inr (said_among slot note said))
             (λ slot note held. inl
             (held_within (grows_from (polls + table.announcers) (token before) [] (token swept) up_to)
             (grows_from 1 (token last) [] (token now) one) held))
             (subst
-            (Adds (FlaggedIn spare.retired scanned) (SaidBehind mid.me.0.marks.loads swept.me.0.marks.loads) [])
-            (base_is table spare scanned mid swept same sized some_words scan) scan.said)
+            (Adds (FlaggedIn lists.retired scanned) (SaidBehind mid.me.0.marks.loads swept.me.0.marks.loads) [])
+            (base_is table lists scanned mid swept same sized some_words scan) scan.said)
             second.kept));
         scan = scan_loads;
         words = tells now heard_now;
         loads_are = λ j. first_are j
             ++ (scan_loads
-            ++ (second_are now (length spare.retired) heard_now
+            ++ (second_are now (length lists.retired) heard_now
             ∙ ap (λ (l : List Retired). held_polls (heard_all table.announcers now.me.0.heard l))
-            (take_all (length spare.retired) spare.retired (omega arith)))
+            (take_all (length lists.retired) lists.retired (omega arith)))
             j);
         marks =
             marks_on now.me.0.marks more

@@ -28,7 +28,7 @@ use Rattle.nr_board.specs.Noting.{Adds}
 use Rattle.nr_board.specs.WordLoads.{loads_of, word_load}
 use Rattle.nr_board.specs.WholeScans.{FlaggedIn, HeardTo, KeepBack, KeepsOne, NoneFlagged, SaidBehind, ScannedTo}
 use Rattle.nr_board.specs.WholeScans.{announced}
-use Rattle.nr_board.specs.WholeScans.{is_unheard, misses}
+use Rattle.nr_board.specs.WholeScans.{is_flagged, misses}
 
 -- what a load of a reader's word makes of no slot of the map
 heard_outside : (desk : Desk) (own found : ℕ) (heard : List ℕ) (first more at : ℕ) → more ≤ at
@@ -53,19 +53,19 @@ heard_at_slot desk own found heard first (suc more) (suc at) low =
 
 -- FLAGS
 
-flag_there : (flags : List Bool) (slot : ℕ) → slot < length flags → is_unheard (set flags slot true) slot ≡ true
+flag_there : (flags : List Bool) (slot : ℕ) → slot < length flags → is_flagged (set flags slot true) slot ≡ true
 flag_there flags slot low = get_or-set_same flags slot true true low
 
 pub flag_elsewhere : (flags : List Bool) (mine slot : ℕ) → slot ≢ mine
-    → is_unheard (set flags mine true) slot ≡ is_unheard flags slot
+    → is_flagged (set flags mine true) slot ≡ is_flagged flags slot
 flag_elsewhere flags mine slot apart = get_or-set_other flags mine slot true true apart
 
 -- a flag that stands is set once more
-flag_stays : (flags : List Bool) (mine slot : ℕ) → is_unheard flags slot ≡ true
-    → is_unheard (set flags mine true) slot ≡ true
+flag_stays : (flags : List Bool) (mine slot : ℕ) → is_flagged flags slot ≡ true
+    → is_flagged (set flags mine true) slot ≡ true
 flag_stays flags mine slot is = dite (ℕ_discrete slot mine)
-    (λ e. subst (λ (n : ℕ). is_unheard (set flags mine true) n ≡ true) (sym e)
-    (again flags mine (subst (λ (n : ℕ). is_unheard flags n ≡ true) e is)))
+    (λ e. subst (λ (n : ℕ). is_flagged (set flags mine true) n ≡ true) (sym e)
+    (again flags mine (subst (λ (n : ℕ). is_flagged flags n ≡ true) e is)))
     (λ ne. flag_elsewhere flags mine slot ne ∙ is)
   where
     again : (l : List Bool) (at : ℕ) → get_or l at true ≡ true → get_or (set l at true) at true ≡ true
@@ -75,21 +75,21 @@ flag_stays flags mine slot is = dite (ℕ_discrete slot mine)
 
 -- as many retired slots are flagged as before, where the slot isn't retired or was flagged
 misses_same : (retired : List Retired) (flags : List Bool) (mine : ℕ)
-    → (retirements mine retired ≡ 0) ⊎ (is_unheard flags mine ≡ true)
+    → (retirements mine retired ≡ 0) ⊎ (is_flagged flags mine ≡ true)
     → total (misses (set flags mine true)) retired ≡ total (misses flags) retired
 misses_same [] flags mine none = refl
 misses_same (entry ∷ retired) flags mine none =
     let rest
     = misses_same retired flags mine
     (⊎_elim (λ (z : retirements mine (entry ∷ retired) ≡ 0). inl (omega arith))
-    (λ (t : is_unheard flags mine ≡ true). inr t) none) in
-    let one : is_unheard (set flags mine true) entry.slot ≡ is_unheard flags entry.slot
+    (λ (t : is_flagged flags mine ≡ true). inr t) none) in
+    let one : is_flagged (set flags mine true) entry.slot ≡ is_flagged flags entry.slot
     = dite (ℕ_discrete entry.slot mine)
     (λ e. ⊎_elim
     (λ (z : retirements mine (entry ∷ retired) ≡ 0). absurd
     (let one = only-same mine in let same = ap (only mine) e in omega arith))
-    (λ (t : is_unheard flags mine ≡ true).
-    let was : is_unheard flags entry.slot ≡ true = ap (is_unheard flags) e ∙ t in
+    (λ (t : is_flagged flags mine ≡ true).
+    let was : is_flagged flags entry.slot ≡ true = ap (is_flagged flags) e ∙ t in
     flag_stays flags mine entry.slot was ∙ sym was)
     none)
     (λ ne. flag_elsewhere flags mine entry.slot ne) in
@@ -97,7 +97,7 @@ misses_same (entry ∷ retired) flags mine none =
 
 -- one more is, where it was not and is retired once
 misses_more : (retired : List Retired) (flags : List Bool) (mine : ℕ) → retirements mine retired ≡ 1
-    → mine < length flags → is_unheard flags mine ≡ false
+    → mine < length flags → is_flagged flags mine ≡ false
     → total (misses (set flags mine true)) retired ≡ total (misses flags) retired + 1
 misses_more [] flags mine once low unset = absurd (omega arith)
 misses_more (entry ∷ retired) flags mine once low unset = dite (ℕ_discrete entry.slot mine)
@@ -105,8 +105,8 @@ misses_more (entry ∷ retired) flags mine once low unset = dite (ℕ_discrete e
     let here : only mine entry.slot ≡ 1 = ap (only mine) e ∙ only-same mine in
     let rest = misses_same retired flags mine (inl (omega arith)) in
     let now : misses (set flags mine true) entry ≡ 1
-    = ap (λ (b : Bool). cond {A = ℕ} b 1 0) (ap (is_unheard (set flags mine true)) e ∙ flag_there flags mine low) in
-    let was : misses flags entry ≡ 0 = ap (λ (b : Bool). cond {A = ℕ} b 1 0) (ap (is_unheard flags) e ∙ unset) in
+    = ap (λ (b : Bool). cond {A = ℕ} b 1 0) (ap (is_flagged (set flags mine true)) e ∙ flag_there flags mine low) in
+    let was : misses flags entry ≡ 0 = ap (λ (b : Bool). cond {A = ℕ} b 1 0) (ap (is_flagged flags) e ∙ unset) in
     omega arith)
     (λ ne.
     let here = only-other mine entry.slot ne in let rest = misses_more retired flags mine (omega arith) low unset in
@@ -116,7 +116,7 @@ misses_more (entry ∷ retired) flags mine once low unset = dite (ℕ_discrete e
 
 -- where none is flagged none is missed
 pub misses_none : (retired : List Retired) (flags : List Bool)
-    → ((at : ℕ) (entry : Retired) → get_elem? retired at ≡ some entry → is_unheard flags entry.slot ≡ false)
+    → ((at : ℕ) (entry : Retired) → get_elem? retired at ≡ some entry → is_flagged flags entry.slot ≡ false)
     → total (misses flags) retired ≡ 0
 misses_none [] flags none = refl
 misses_none (entry ∷ retired) flags none =
@@ -128,14 +128,14 @@ misses_none (entry ∷ retired) flags none =
 
 -- what is noted of a scan stays so where more slots are flagged and more readers looked at
 keeps_one : (flags more : List Bool) (readers : ℕ) (note : Past)
-    → ((slot : ℕ) → is_unheard flags slot ≡ true → is_unheard more slot ≡ true) → KeepsOne flags readers note
+    → ((slot : ℕ) → is_flagged flags slot ≡ true → is_flagged more slot ≡ true) → KeepsOne flags readers note
     → KeepsOne more (suc readers) note
 keeps_one flags more readers note on keeps = record {
   made = keeps.made;
   few = let few = keeps.few in omega arith;
   holds =
       ⊎_elim inl
-      (λ (h : (slot : ℕ) × (note.slot ≡ Some slot) × (is_unheard flags slot ≡ true)). inr (h.0, h.1, on h.0 h.2))
+      (λ (h : (slot : ℕ) × (note.slot ≡ Some slot) × (is_flagged flags slot ≡ true)). inr (h.0, h.1, on h.0 h.2))
       keeps.holds;
 }
 
@@ -152,7 +152,7 @@ none_later flags readers notes reader late each =
     omega arith))
 
 module _ (retired : List Retired) (flags : List Bool) (own found : ℕ) (notes now : List Past)
-    (more : (slot : ℕ) → is_unheard flags slot ≡ true → is_unheard (announced found flags) slot ≡ true)
+    (more : (slot : ℕ) → is_flagged flags slot ≡ true → is_flagged (announced found flags) slot ≡ true)
     (keep : KeepBack retired flags own notes) where
   -- the word keeps nothing back
   kept_on : total (misses (announced found flags)) retired ≡ total (misses flags) retired → now ≡ notes
@@ -165,7 +165,7 @@ module _ (retired : List Retired) (flags : List Bool) (own found : ℕ) (notes n
 
   -- it keeps one slot back
   kept_one : total (misses (announced found flags)) retired ≡ total (misses flags) retired + 1
-      → is_unheard (announced found flags) (found - 1) ≡ true
+      → is_flagged (announced found flags) (found - 1) ≡ true
       → (note : Past) → now ≡ notes ++ note ∷ [] → note.reader ≡ suc own
       → (note.slot ≡ None) ⊎ (note.slot ≡ Some (found - 1)) → KeepBack retired (announced found flags) (suc own) now
   kept_one one flagged note is reader slot =
@@ -196,10 +196,10 @@ module _ (retired : List Retired) (flags : List Bool) (own found : ℕ) (notes n
 suc_of : (found : ℕ) → 0 < found → found ≡ suc (found - 1)
 suc_of found loud = omega arith
 
-pub more_flags : (found : ℕ) (flags : List Bool) (slot : ℕ) → is_unheard flags slot ≡ true
-    → is_unheard (announced found flags) slot ≡ true
+pub more_flags : (found : ℕ) (flags : List Bool) (slot : ℕ) → is_flagged flags slot ≡ true
+    → is_flagged (announced found flags) slot ≡ true
 more_flags found flags slot is =
-    by_cases (λ (b : Bool). is_unheard (cond {A = List Bool} b flags (set flags (found - 1) true)) slot ≡ true)
+    by_cases (λ (b : Bool). is_flagged (cond {A = List Bool} b flags (set flags (found - 1) true)) slot ≡ true)
     (nat_eq found 0) (λ _. is) (λ _. flag_stays flags (found - 1) slot is)
 
 announced_loud : (found : ℕ) (flags : List Bool) → 0 < found → announced found flags ≡ set flags (found - 1) true
@@ -249,14 +249,14 @@ module _ (desk : Desk) (now next : View) (flags : List Bool) (own found : ℕ)
   clash e = absurd (cc)
 
   -- a retired slot without a flag was heard of the readers before, and one with a flag of fewer
-  whole_is : (slot : ℕ) → 0 < retirements slot desk.retired → is_unheard flags slot ≡ false
+  whole_is : (slot : ℕ) → 0 < retirements slot desk.retired → is_flagged flags slot ≡ false
       → heard_before own (get_or now.heard slot 0) ≡ own
   whole_is slot waits unset = dite (ℕ_discrete own 0)
       (λ e. ap (λ (b : Bool). cond {A = ℕ} b 0 (get_or now.heard slot 0)) (eq-eqb own 0 e) ∙ sym e)
       (λ ne. ap (λ (b : Bool). cond {A = ℕ} b 0 (get_or now.heard slot 0)) (ne_eqb own 0 ne)
       ∙ (heard (omega arith)).whole slot waits unset)
 
-  stuck_is : (slot : ℕ) → 0 < retirements slot desk.retired → is_unheard flags slot ≡ true
+  stuck_is : (slot : ℕ) → 0 < retirements slot desk.retired → is_flagged flags slot ≡ true
       → heard_before own (get_or now.heard slot 0) < own
   stuck_is slot waits set_before = dite (ℕ_discrete own 0)
       (λ e. absurd (clash (sym set_before ∙ first e slot waits)))
@@ -272,22 +272,22 @@ module _ (desk : Desk) (now next : View) (flags : List Bool) (own found : ℕ)
       ∙ ap (λ (s : ℕ). heard_now desk own found s (get_or now.heard s 0)) same
 
   -- a slot that the word says is flagged
-  says_flag : (slot : ℕ) → slot < length flags → found ≡ suc slot → is_unheard said slot ≡ true
+  says_flag : (slot : ℕ) → slot < length flags → found ≡ suc slot → is_flagged said slot ≡ true
   says_flag slot low e = let loud : 0 < found = omega arith in let mine : found - 1 ≡ slot = omega arith in
-      ap (λ (l : List Bool). is_unheard l slot) (announced_loud found flags loud)
-      ∙ subst (λ (n : ℕ). is_unheard (set flags n true) slot ≡ true) (sym mine) (flag_there flags slot low)
+      ap (λ (l : List Bool). is_flagged l slot) (announced_loud found flags loud)
+      ∙ subst (λ (n : ℕ). is_flagged (set flags n true) slot ≡ true) (sym mine) (flag_there flags slot low)
 
-  other_flag : (slot : ℕ) → found ≢ suc slot → is_unheard said slot ≡ is_unheard flags slot
+  other_flag : (slot : ℕ) → found ≢ suc slot → is_flagged said slot ≡ is_flagged flags slot
   other_flag slot other =
-      dite (ℕ_discrete found 0) (λ e. ap (λ (l : List Bool). is_unheard l slot) (announced_none found flags e))
-      (λ ne. ap (λ (l : List Bool). is_unheard l slot) (announced_loud found flags (omega arith))
+      dite (ℕ_discrete found 0) (λ e. ap (λ (l : List Bool). is_flagged l slot) (announced_none found flags e))
+      (λ ne. ap (λ (l : List Bool). is_flagged l slot) (announced_loud found flags (omega arith))
       ∙ flag_elsewhere flags (found - 1) slot (λ e. other (omega arith)))
 
   pub heard_so : HeardTo desk.retired said (suc own) next.heard
   heard_so = record {
     whole = λ slot waits unset. let low = inside slot waits in
-        let was : is_unheard flags slot ≡ false
-        = by_cases (λ (b : Bool). is_unheard flags slot ≡ b → is_unheard flags slot ≡ false) (is_unheard flags slot)
+        let was : is_flagged flags slot ≡ false
+        = by_cases (λ (b : Bool). is_flagged flags slot ≡ b → is_flagged flags slot ≡ false) (is_flagged flags slot)
         (λ _ is. absurd (clash (sym (more_flags found flags slot is) ∙ unset))) (λ _ is. is) refl in
         let apart : found ≢ suc slot = λ e. clash (sym (says_flag slot (omega arith) e) ∙ unset) in
         let hb = whole_is slot waits was in
@@ -308,7 +308,7 @@ module _ (desk : Desk) (now next : View) (flags : List Bool) (own found : ℕ)
         ⊎_elim
         (λ (same : heard_now desk own found slot (get_or now.heard slot 0)
         ≡ heard_before own (get_or now.heard slot 0)).
-        by_cases (λ (b : Bool). is_unheard flags slot ≡ b → get_or next.heard slot 0 < suc own) (is_unheard flags slot)
+        by_cases (λ (b : Bool). is_flagged flags slot ≡ b → get_or next.heard slot 0 < suc own) (is_flagged flags slot)
         (λ _ was. let few = stuck_is slot waits was in omega arith)
         (λ _ was. let full = whole_is slot waits was in omega arith) refl)
         (λ (on : (heard_before own (get_or now.heard slot 0) ≡ own) × (found ≢ suc slot)). absurd
@@ -358,11 +358,11 @@ module _ (desk : Desk) (before now next : View) (flags : List Bool) (own found :
   heard_told : next.heard ≡ heard_from desk own found now.heard 0 now.shape.slots
   heard_told = ap (λ (v : View). v.heard) told.same
 
-  whole_now : (slot : ℕ) → 0 < retirements slot desk.retired → is_unheard flags slot ≡ false
+  whole_now : (slot : ℕ) → 0 < retirements slot desk.retired → is_flagged flags slot ≡ false
       → heard_before own (get_or now.heard slot 0) ≡ own
   whole_now = whole_is desk now next flags own found once inside wide so_far.first so_far.heard heard_told
 
-  stuck_now : (slot : ℕ) → 0 < retirements slot desk.retired → is_unheard flags slot ≡ true
+  stuck_now : (slot : ℕ) → 0 < retirements slot desk.retired → is_flagged flags slot ≡ true
       → heard_before own (get_or now.heard slot 0) < own
   stuck_now = stuck_is desk now next flags own found once inside wide so_far.first so_far.heard heard_told
 
@@ -378,12 +378,12 @@ module _ (desk : Desk) (before now next : View) (flags : List Bool) (own found :
 
   -- a word that keeps no slot from being heard says none that is retired, or one that has a flag
   kept_by_none : found ≢ 0 → keeps_it ≡ false
-      → (retirements (found - 1) desk.retired ≡ 0) ⊎ (is_unheard flags (found - 1) ≡ true)
+      → (retirements (found - 1) desk.retired ≡ 0) ⊎ (is_flagged flags (found - 1) ≡ true)
   kept_by_none ne lets = dite (ℕ_discrete (retirements (found - 1) desk.retired) 0) inl
       (λ some_there. by_cases
-      (λ (b : Bool). is_unheard flags (found - 1) ≡ b
-      → (retirements (found - 1) desk.retired ≡ 0) ⊎ (is_unheard flags (found - 1) ≡ true))
-      (is_unheard flags (found - 1))
+      (λ (b : Bool). is_flagged flags (found - 1) ≡ b
+      → (retirements (found - 1) desk.retired ≡ 0) ⊎ (is_flagged flags (found - 1) ≡ true))
+      (is_flagged flags (found - 1))
       (λ _ is. inr is)
       (λ _ is. absurd
       (differs
@@ -409,9 +409,9 @@ module _ (desk : Desk) (before now next : View) (flags : List Bool) (own found :
       let waits = ltb-true 0 (retirements (found - 1) desk.retired) rest.0 in
       let next_is = eqb-true (heard_before own (get_or now.heard (found - 1) 0)) own rest.1 in
       let low = inside (found - 1) waits in
-      let unset : is_unheard flags (found - 1) ≡ false
-      = by_cases (λ (b : Bool). is_unheard flags (found - 1) ≡ b → is_unheard flags (found - 1) ≡ false)
-      (is_unheard flags (found - 1))
+      let unset : is_flagged flags (found - 1) ≡ false
+      = by_cases (λ (b : Bool). is_flagged flags (found - 1) ≡ b → is_flagged flags (found - 1) ≡ false)
+      (is_flagged flags (found - 1))
       (λ _ is. absurd (let few = stuck_now (found - 1) waits is in omega arith)) (λ _ is. is) refl in
       let told_so
       = subst (λ (b : Bool). NotesKeeper b own found (scan_base own now.marks.polls) next.marks.polls) keeps
@@ -421,7 +421,7 @@ module _ (desk : Desk) (before now next : View) (flags : List Bool) (own found :
       so_far.keep
       (ap (λ (l : List Bool). total (misses l) desk.retired) loudly
       ∙ misses_more desk.retired flags (found - 1) (let most = once (found - 1) in omega arith) (omega arith) unset)
-      (ap (λ (l : List Bool). is_unheard l (found - 1)) loudly ∙ flag_there flags (found - 1) (omega arith))
+      (ap (λ (l : List Bool). is_flagged l (found - 1)) loudly ∙ flag_there flags (found - 1) (omega arith))
       told_so.0 told_so.1 told_so.2 told_so.3)
       (λ _ lets. kept_on desk.retired flags own found (scan_base own now.marks.polls) next.marks.polls
       (more_flags found flags) so_far.keep
@@ -500,7 +500,7 @@ module _ (desk : Desk) (before now next : View) (flags : List Bool) (own found :
       (λ slot flagged. ⊎_elim inl (λ (e : found ≡ suc slot). inr (omega arith)) (flagged_before slot flagged))
       flagged_on (
         waits,
-        ap (λ (l : List Bool). is_unheard l (found - 1)) (announced_loud found flags loud)
+        ap (λ (l : List Bool). is_flagged l (found - 1)) (announced_loud found flags loud)
             ∙ flag_there flags (found - 1) (omega arith),
       )
       (says_it told_so.0 told_so.2 loud) (said_before (scan_base own now.marks.polls) so_far.said)))
@@ -526,13 +526,13 @@ module _ (desk : Desk) (before now next : View) (flags : List Bool) (own found :
           (λ _ flagged. flagged) (λ _ flagged. flagged) said_on
 
       was_flagged : (slot : ℕ) → found ≡ suc slot → 0 < retirements slot desk.retired → keeps_it ≡ false
-          → is_unheard flags slot ≡ true
+          → is_flagged flags slot ≡ true
       was_flagged slot e waits lets =
           let mine : found - 1 ≡ slot = omega arith in
           ⊎_elim
           (λ (none : retirements (found - 1) desk.retired ≡ 0). absurd
           (let same = ap (λ (s : ℕ). retirements s desk.retired) mine in omega arith))
-          (λ (is : is_unheard flags (found - 1) ≡ true). subst (λ (s : ℕ). is_unheard flags s ≡ true) mine is)
+          (λ (is : is_flagged flags (found - 1) ≡ true). subst (λ (s : ℕ). is_flagged flags s ≡ true) mine is)
           (kept_by_none (λ none. absurd (omega arith)) lets)
 
   pub scanned_more : ScannedTo desk.retired before next said_now (suc own)
@@ -585,7 +585,7 @@ announced_wide found flags =
 pub record ClearedTo (retired : List Retired) (before flags : List Bool) (place : ℕ) : Type 0 where
   pub wide : length flags ≡ length before
   pub clear : (at : ℕ) (entry : Retired) → at < place → get_elem? retired at ≡ some entry
-      → is_unheard flags entry.slot ≡ false
+      → is_flagged flags entry.slot ≡ false
   pub others : OthersFlagged retired before → OthersFlagged retired flags
 
 pub cleared_none : (retired : List Retired) (flags : List Bool) → ClearedTo retired flags flags 0
@@ -598,7 +598,7 @@ pub cleared_more : (retired : List Retired) (before flags : List Bool) (place : 
 cleared_more retired before flags place entry so_far here low = record {
   wide = length-set flags entry.slot false ∙ so_far.wide;
   clear = λ at other near there. dite (ℕ_discrete other.slot entry.slot)
-      (λ e. subst (λ (s : ℕ). is_unheard (set flags entry.slot false) s ≡ false) (sym e)
+      (λ e. subst (λ (s : ℕ). is_flagged (set flags entry.slot false) s ≡ false) (sym e)
       (get_or-set_same flags entry.slot false true (let wide = so_far.wide in omega arith)))
       (λ ne. get_or-set_other flags entry.slot other.slot false true ne
       ∙ so_far.clear at other (dite (ℕ_discrete at place)
@@ -620,5 +620,5 @@ pub none_flagged : (retired : List Retired) (before flags : List Bool) → Clear
     → NoneFlagged retired flags
 none_flagged retired before flags cleared slot waits =
     let t = some_term (λ (x : Retired). only slot x.slot) retired waits in
-    subst (λ (s : ℕ). is_unheard flags s ≡ false) (only-is slot t.1.slot t.3)
+    subst (λ (s : ℕ). is_flagged flags s ≡ false) (only-is slot t.1.slot t.3)
     (cleared.clear t.0 t.1 (inside_list retired t.0 t.1 t.2) t.2)

@@ -33,8 +33,8 @@ use Rattle.nr_board.specs.Plays.{NotesTell}
 use Rattle.nr_board.specs.Noting.{Adds, Reached}
 use Rattle.nr_board.specs.Polls.{HeldThen}
 use Rattle.nr_board.specs.Rule.{StartsWith}
-use Rattle.nr_core.specs.Spares.{Spare, none_spare}
-use Rattle.nr_board.specs.Spares.{desk_with, held_polls}
+use Rattle.nr_core.specs.SlotLists.{SlotLists, all_taken}
+use Rattle.nr_board.specs.SlotLists.{desk_with, held_polls}
 use Rattle.nr_core.proofs.ExactPlace.{noted_more, noted_none}
 use Rattle.nr_core.specs.MarkSteps.{PollTells}
 use Rattle.nr_core.specs.Marks.{Marks, OfSlot, Past, LoggedLoad, with_poll, with_polls, with_scan}
@@ -58,17 +58,17 @@ grows_none caller knows = record {
 }
 
 -- the search so far
-pub record Searched (table : Table) (call : WriterCall) (rows : List Row) (spare : Spare) (before after : MapSeat)
+pub record Searched (table : Table) (call : WriterCall) (rows : List Row) (lists : SlotLists) (before after : MapSeat)
     (polls : ℕ) : Type 0 where
-  pub slots : spare.slots ≡ table.shape.slots
-  pub leads : LeadsIn polls table (call_of call) (swept table.shape (desk_with spare Idle) call rows polls) before after
+  pub slots : lists.slots ≡ table.shape.slots
+  pub leads : LeadsIn polls table (call_of call) (swept table.shape (desk_with lists Idle) call rows polls) before after
   pub noted : Noted table.shape before.me.0.pasts after.me.0.marks.polls
   pub many : length after.me.0.marks.polls ≡ polls
   pub few : polls ≤ table.shape.readers
-  pub kept : Adds (Reached spare.retired polls) (HeldThen before.me.0.seen after.me.0.seen) [] after.me.0.marks.polls
+  pub kept : Adds (Reached lists.retired polls) (HeldThen before.me.0.seen after.me.0.seen) [] after.me.0.marks.polls
   pub marks : after.me.0.marks
       ≡ with_scan before.me.0.marks after.me.0.marks.polls
-      (before.me.0.marks.loads ++ held_polls (take polls spare.retired))
+      (before.me.0.marks.loads ++ held_polls (take polls lists.retired))
   pub heard : after.me.0.heard ≡ before.me.0.heard
 
 module _ (shape : Shape) (desk : Desk) (call : WriterCall) (rows : List Row) where
@@ -106,10 +106,10 @@ module _ (shape : Shape) (desk : Desk) (call : WriterCall) (rows : List Row) whe
       ∙ sym (swept_more 0 (omega arith)))
 
 -- the search begins
-pub searched_none : (table : Table) (call : WriterCall) (rows : List Row) (spare : Spare) (seat : MapSeat)
-    → Settles table call rows spare seat → spare.slots ≤ spare.fresh → Searched table call rows spare seat seat 0
-searched_none table call rows spare seat settles full =
-    let shape = table.shape in let desk = desk_with spare Idle in let size = settles.slots in
+pub searched_none : (table : Table) (call : WriterCall) (rows : List Row) (lists : SlotLists) (seat : MapSeat)
+    → Settles table call rows lists seat → lists.slots ≤ lists.fresh → Searched table call rows lists seat seat 0
+searched_none table call rows lists seat settles full =
+    let shape = table.shape in let desk = desk_with lists Idle in let size = settles.slots in
     let is = settled_swept shape desk call rows (omega arith) in record {
       slots = settles.slots;
       leads = record {
@@ -123,9 +123,9 @@ searched_none table call rows spare seat settles full =
       many = ap length settles.polls;
       few = omega arith;
       kept =
-          subst (Adds (Reached spare.retired 0) (HeldThen seat.me.0.seen seat.me.0.seen) []) (sym settles.polls)
-          (adds_none (Reached spare.retired 0) (HeldThen seat.me.0.seen seat.me.0.seen) []
-          (λ slot reached. reached_none spare.retired slot reached));
+          subst (Adds (Reached lists.retired 0) (HeldThen seat.me.0.seen seat.me.0.seen) []) (sym settles.polls)
+          (adds_none (Reached lists.retired 0) (HeldThen seat.me.0.seen seat.me.0.seen) []
+          (λ slot reached. reached_none lists.retired slot reached));
       marks = no_loads seat.me.0.marks seat.me.0.marks.polls;
       heard = refl;
     }
@@ -136,20 +136,20 @@ pub grows_from : (steps : ℕ) (old : Caller) (entries : List Entry) (new : Call
 grows_from steps old entries new grows =
     record { rest = grows.between ++ entries; is = grows.seen ∙ append_assoc old.seen grows.between entries }
 
-module _ (table : Table) (call : WriterCall) (rows : List Row) (spare : Spare) (before mid : MapSeat) (polls : ℕ)
-    (so_far : Searched table call rows spare before mid polls) (low : polls < length spare.retired) where
+module _ (table : Table) (call : WriterCall) (rows : List Row) (lists : SlotLists) (before mid : MapSeat) (polls : ℕ)
+    (so_far : Searched table call rows lists before mid polls) (low : polls < length lists.retired) where
   abbrev desk_now : Desk
-  desk_now = desk_with spare (Searching call rows polls)
+  desk_now = desk_with lists (Searching call rows polls)
 
   pub searching_at : WritesAt table desk_now mid
   searching_at =
       subst (λ (o : Desk × Step). WritesAt table o.0 mid)
-      (swept_more table.shape (desk_with spare Idle) call rows polls low) so_far.leads.writes
+      (swept_more table.shape (desk_with lists Idle) call rows polls low) so_far.leads.writes
 
   so_far_quiet : Grows polls [] (token before) (token mid)
   so_far_quiet =
       subst (λ (es : List Entry). Grows polls es (token before) (token mid))
-      (swept_quiet table.shape (desk_with spare Idle) call rows (call_of call) polls) so_far.leads.grows
+      (swept_quiet table.shape (desk_with lists Idle) call rows (call_of call) polls) so_far.leads.grows
 
   module _ (found : ℕ) (after : MapSeat) (goes : GoesOn table found mid after) where
     told : GoesTo table desk_now found mid after
@@ -161,20 +161,20 @@ module _ (table : Table) (call : WriterCall) (rows : List Row) (spare : Spare) (
         → marks
         ≡ with_scan before.me.0.marks marks.polls
         (before.me.0.marks.loads
-        ++ (held_polls (take polls spare.retired) ++ OfSlot (retired_at desk_now polls).slot free ∷ []))
+        ++ (held_polls (take polls lists.retired) ++ OfSlot (retired_at desk_now polls).slot free ∷ []))
     polled_marks free marks is =
         is ∙ ap (λ (m : Marks). with_polls (with_poll m (retired_at desk_now polls).slot free) marks.polls) so_far.marks
         ∙ ap (with_scan before.me.0.marks marks.polls)
-        (append_assoc before.me.0.marks.loads (held_polls (take polls spare.retired))
+        (append_assoc before.me.0.marks.loads (held_polls (take polls lists.retired))
         (OfSlot (retired_at desk_now polls).slot free ∷ []))
 
-    one_more : held_polls (take (polls + 1) spare.retired)
-        ≡ held_polls (take polls spare.retired) ++ OfSlot (retired_at desk_now polls).slot false ∷ []
+    one_more : held_polls (take (polls + 1) lists.retired)
+        ≡ held_polls (take polls lists.retired) ++ OfSlot (retired_at desk_now polls).slot false ∷ []
     one_more =
         let next : polls + 1 ≡ suc polls = omega arith in
-        ap (λ (n : ℕ). held_polls (take n spare.retired)) next
-        ∙ ap held_polls (take-suc spare.retired polls no_retired low)
-        ∙ held_next (take polls spare.retired) (retired_at desk_now polls)
+        ap (λ (n : ℕ). held_polls (take n lists.retired)) next
+        ∙ ap held_polls (take-suc lists.retired polls no_retired low)
+        ∙ held_next (take polls lists.retired) (retired_at desk_now polls)
 
     -- the slot is not held: it is taken
     pub takes_it : same_count found (retired_at desk_now polls).arrivals ≡ true
@@ -183,7 +183,7 @@ module _ (table : Table) (call : WriterCall) (rows : List Row) (spare : Spare) (
         × (after.me.0.marks
         ≡ with_scan before.me.0.marks after.me.0.marks.polls
         (before.me.0.marks.loads
-        ++ (held_polls (take polls spare.retired) ++ OfSlot (retired_at desk_now polls).slot true ∷
+        ++ (held_polls (take polls lists.retired) ++ OfSlot (retired_at desk_now polls).slot true ∷
         [])))
         × (after.me.0.heard ≡ before.me.0.heard)
     takes_it agree =
@@ -211,17 +211,17 @@ module _ (table : Table) (call : WriterCall) (rows : List Row) (spare : Spare) (
 
     -- the slot is held: the search goes on, or there is none
     pub searched_more : same_count found (retired_at desk_now polls).arrivals ≡ false
-        → Searched table call rows spare before after (polls + 1)
+        → Searched table call rows lists before after (polls + 1)
     searched_more apart =
         let outcome : polled table.shape desk_now call rows polls found
-        ≡ swept table.shape (desk_with spare Idle) call rows
+        ≡ swept table.shape (desk_with lists Idle) call rows
         (polls + 1) = ap (λ (b : Bool). cond {A = Desk × Step} b (taking_retired desk_now call rows polls found, Going)
         (polls_on table.shape desk_now call rows polls)) apart in
         let leads = subst (λ (o : Desk × Step). LeadsIn 1 table (call_of call) o mid after) outcome told.leads in
         let quiet : ending (call_of call) (polled table.shape desk_now call rows polls found).1 ≡ []
         = ap (λ (o : Desk × Step). ending
         (call_of call) o.1) outcome
-        ∙ swept_quiet table.shape (desk_with spare Idle) call rows (call_of call) (polls + 1) in
+        ∙ swept_quiet table.shape (desk_with lists Idle) call rows (call_of call) (polls + 1) in
         let seen_is : after.me.0.seen ≡ told.log
         = told.seen ∙ ap (λ (l : List Entry). told.log ++ l) quiet ∙ append-nil told.log in
         let now_grown
@@ -252,20 +252,20 @@ module _ (table : Table) (call : WriterCall) (rows : List Row) (spare : Spare) (
               let begun = grows_from (polls + 1) (token before) _ (token after) now_grown in
               let on = grows_from 1 (token mid) _ (token after) leads.grows in
               let entry = retired_at desk_now polls in
-              let here = at_get spare.retired polls low in
+              let here = at_get lists.retired polls low in
               let held = HeldThen before.me.0.seen after.me.0.seen in
-              subst (Adds (Reached spare.retired (polls + 1)) held []) (sym polled_so.1.more)
-              (adds_more (Reached spare.retired polls) (Reached spare.retired (polls + 1)) held []
+              subst (Adds (Reached lists.retired (polls + 1)) held []) (sym polled_so.1.more)
+              (adds_more (Reached lists.retired polls) (Reached lists.retired (polls + 1)) held []
               mid.me.0.marks.polls entry.slot polled_so.1.note
-              (λ slot reached. reached_more spare.retired polls entry here slot reached)
-              (λ slot reached. reached_on spare.retired polls slot reached)
-              (reached_here spare.retired polls entry here)
+              (λ slot reached. reached_more lists.retired polls entry here slot reached)
+              (λ slot reached. reached_on lists.retired polls slot reached)
+              (reached_here lists.retired polls entry here)
               (held_noted before.me.0.seen after.me.0.seen mid.me.0.marks.polls after.me.0.marks.polls entry.slot
               polled_so.1.note begun
               (subst (λ (l : List Entry). NotesTell l mid.me.0.marks.polls after.me.0.marks.polls) (sym seen_is)
               told.notes)
               polled_so.1.more polled_so.1.holds)
-              (adds_on (Reached spare.retired polls) (Reached spare.retired polls)
+              (adds_on (Reached lists.retired polls) (Reached lists.retired polls)
               (HeldThen before.me.0.seen mid.me.0.seen) held []
               mid.me.0.marks.polls
               (λ _ reached. reached) (λ _ reached. reached) (λ _ _ was. held_within starts_itself on was)
@@ -280,62 +280,62 @@ module _ (table : Table) (call : WriterCall) (rows : List Row) (spare : Spare) (
         }
 
 -- every retired slot was found held
-pub lacks_slot : (table : Table) (call : WriterCall) (rows : List Row) (spare : Spare) (before after : MapSeat)
+pub lacks_slot : (table : Table) (call : WriterCall) (rows : List Row) (lists : SlotLists) (before after : MapSeat)
     (polls : ℕ)
-    → Searched table call rows spare before after polls → (table.announcers ≡ 0) ⊎ (spare.retired ≡ [])
-    → polls ≡ length spare.retired → LacksSlot table call before spare after spare
-    (none_spare spare)
-lacks_slot table call rows spare before after polls so_far counted all =
-    let desk = desk_with spare Idle in
+    → Searched table call rows lists before after polls → (table.announcers ≡ 0) ⊎ (lists.retired ≡ [])
+    → polls ≡ length lists.retired → LacksSlot table call before lists after lists
+    (all_taken lists)
+lacks_slot table call rows lists before after polls so_far counted all =
+    let desk = desk_with lists Idle in
     let is = swept_all table.shape desk call rows polls (omega arith) in
     let leads = so_far.leads in
     record {
       same = refl;
       writes = subst (λ (o : Desk × Step). WritesAt table o.0 after) is leads.writes;
       steps = polls;
-      loads = held_polls spare.retired;
-      searched = inl (counted, so_far.heard, refl, all ∙ sym (held_many spare.retired));
+      loads = held_polls lists.retired;
+      searched = inl (counted, so_far.heard, refl, all ∙ sym (held_many lists.retired));
       grows =
           subst (λ (es : List Entry). Grows polls es (token before) (token after))
           (swept_quiet table.shape desk call rows (call_of call) polls) leads.grows;
       lacks =
-          leads.short (none_spare spare)
+          leads.short (all_taken lists)
           (ap (λ (o : Desk × Step). o.1) is
           ∙ ap
           (λ (n : ℕ). Ended
-          (writer.NoSlot (record { live = n - length spare.retired; held = length spare.retired })))
+          (writer.NoSlot (record { live = n - length lists.retired; held = length lists.retired })))
           (sym so_far.slots));
       noted = λ _. so_far.noted;
       kept =
-          kept_back table.shape.readers before.me.0.seen after.me.0.seen (held_polls spare.retired) spare.retired
-          after.me.0.marks.polls (Reached spare.retired polls) (HeldThen before.me.0.seen after.me.0.seen)
-          (λ slot waits. subst (λ (n : ℕ). Reached spare.retired n slot) (sym all)
-          (reached_all spare.retired slot waits))
-          (λ slot reached. reached_waits spare.retired slot polls reached) (λ _ _ held. inl held) so_far.noted.range
+          kept_back table.shape.readers before.me.0.seen after.me.0.seen (held_polls lists.retired) lists.retired
+          after.me.0.marks.polls (Reached lists.retired polls) (HeldThen before.me.0.seen after.me.0.seen)
+          (λ slot waits. subst (λ (n : ℕ). Reached lists.retired n slot) (sym all)
+          (reached_all lists.retired slot waits))
+          (λ slot reached. reached_waits lists.retired slot polls reached) (λ _ _ held. inl held) so_far.noted.range
           so_far.kept;
       marks =
           so_far.marks
           ∙ ap
           (λ (l : List Retired). with_scan before.me.0.marks after.me.0.marks.polls
           (before.me.0.marks.loads ++ held_polls l))
-          (take_all polls spare.retired (omega arith));
+          (take_all polls lists.retired (omega arith));
     }
 
 -- a slot is taken that was never taken, without a step
-pub takes_fresh : (table : Table) (call : WriterCall) (rows : List Row) (spare after : Spare) (seat : MapSeat)
+pub takes_fresh : (table : Table) (call : WriterCall) (rows : List Row) (lists after : SlotLists) (seat : MapSeat)
     (slot : ℕ)
-    → Settles table call rows spare seat
-    → spare.fresh < spare.slots → slot ≡ spare.fresh → after ≡ record spare { fresh = spare.fresh + 1 }
-    → TakesSlot table call rows seat spare seat after slot table.shape.first_count
-takes_fresh table call rows spare after seat slot settles low slot_is after_is =
+    → Settles table call rows lists seat
+    → lists.fresh < lists.slots → slot ≡ lists.fresh → after ≡ record lists { fresh = lists.fresh + 1 }
+    → TakesSlot table call rows seat lists seat after slot table.shape.first_count
+takes_fresh table call rows lists after seat slot settles low slot_is after_is =
     let shape = table.shape in
-    let desk = desk_with spare Idle in
+    let desk = desk_with lists Idle in
     let size = settles.slots in
     let outcome : settled shape desk call rows ≡ (taking_fresh shape desk call rows, Going)
     = ap (λ (b : Bool). cond {A = Desk × Step} b (taking_fresh shape desk call rows, Going)
     (cond {A = Desk × Step} (nat_eq (length desk.retired) 0) (moved_to desk Idle, no_slot shape desk)
     (moved_to desk (Searching call rows 0), Going)))
-    (lt-ltb spare.fresh shape.slots (omega arith)) in
+    (lt-ltb lists.fresh shape.slots (omega arith)) in
     record {
       steps = 0;
       loads = [];
@@ -344,17 +344,17 @@ takes_fresh table call rows spare after seat slot settles low slot_is after_is =
             low,
             slot_is,
             refl,
-            ap (λ (s : Spare). s.fresh) after_is,
-            ap (λ (s : Spare). s.retired) after_is,
+            ap (λ (s : SlotLists). s.fresh) after_is,
+            ap (λ (s : SlotLists). s.retired) after_is,
             refl,
             refl,
           );
       few = (omega arith, λ _. omega arith);
-      slots = ap (λ (s : Spare). s.slots) after_is;
-      numbers = ap (λ (s : Spare). s.numbers) after_is;
-      reaped = ap (λ (s : Spare). s.reaped) after_is;
+      slots = ap (λ (s : SlotLists). s.slots) after_is;
+      numbers = ap (λ (s : SlotLists). s.numbers) after_is;
+      reaped = ap (λ (s : SlotLists). s.reaped) after_is;
       writes =
-          subst (λ (p : ℕ × Spare). WritesAt table (desk_with p.1 (Putting call rows p.0 shape.first_count 0)) seat)
+          subst (λ (p : ℕ × SlotLists). WritesAt table (desk_with p.1 (Putting call rows p.0 shape.first_count 0)) seat)
           (λ j. (sym slot_is j, sym after_is j))
           (subst (λ (o : Desk × Step). WritesAt table o.0 seat) outcome settles.writes);
       grows = grows_none (token seat) settles.knows;

@@ -22,7 +22,7 @@ use Rattle.atomic_table.proofs.Lists.{at_map}
 use Rattle.nr_core.specs.Steps.{LoadsWord}
 use Rattle.nr_core.specs.Slots.{departures}
 use Rattle.nr_core.specs.Sums.{only, total}
-use Rattle.nr_core.specs.Spares.{AreReaped, Spare}
+use Rattle.nr_core.specs.SlotLists.{AreReaped, SlotLists}
 use Rattle.nr_core.specs.States.{no_retired}
 use Rattle.nr_core.specs.declared.operation.Operation.TheVariants.{Load}
 use Rattle.nr_core.specs.declared.places.Place.TheVariants.{Idle}
@@ -44,7 +44,7 @@ use Rattle.nr_board.specs.Entries.{AreCallers}
 use Rattle.nr_board.specs.Plays.{Room}
 use Rattle.nr_board.specs.Reaping.{HeldEach, ProbesAt, ProbesTo, SweepsFor, SweptTo, probed, ready_in, waiting}
 use Rattle.nr_board.specs.Rule.{Kept, marks_of, role_of}
-use Rattle.nr_board.specs.Spares.{desk_with, held_polls, not_passed}
+use Rattle.nr_board.specs.SlotLists.{desk_with, held_polls, not_passed}
 use Rattle.nr_board.specs.Views.{View, caller_number, desk_of}
 use Rattle.nr_board.specs.WriterSeats.{MapSeat, RestsAt}
 use Rattle.nr_board.specs.declared.reaping.Sweep.TheVariants as sweep
@@ -232,8 +232,8 @@ probed_none
     same : view.steps + 0 ≡ view.steps
     same = omega arith
 
-pub swept_none : (spare : Spare) (seat : MapSeat) → SweptTo spare seat seat 0 false
-swept_none spare seat = record {
+pub swept_none : (lists : SlotLists) (seat : MapSeat) → SweptTo lists seat seat 0 false
+swept_none lists seat = record {
   held = [];
   notes = [];
   split = refl;
@@ -245,28 +245,28 @@ swept_none spare seat = record {
   none_wait = λ _. (refl, refl, refl);
 }
 
-module _ (spare : Spare) (before mid : MapSeat) (place : ℕ) (waits : Bool)
-    (so_far : SweptTo spare before mid place waits) (low : place < length spare.retired) where
+module _ (lists : SlotLists) (before mid : MapSeat) (place : ℕ) (waits : Bool)
+    (so_far : SweptTo lists before mid place waits) (low : place < length lists.retired) where
   abbrev this : Retired
-  this = get_or spare.retired place no_retired
+  this = get_or lists.retired place no_retired
 
   -- a slot is passed by whose set was reaped, or which is not heard
   abbrev unheard : ℕ → Bool
   unheard slot = nat_lt (get_or before.me.0.heard slot 0) before.me.0.announcers
 
   abbrev passes : ℕ → Bool
-  passes slot = flag spare.reaped slot || unheard slot
+  passes slot = flag lists.reaped slot || unheard slot
 
   from_here : passes this.slot ≡ true
-      → ready_in spare before.me.0 ≡ so_far.held ++ not_passed passes (drop (place + 1) spare.retired)
+      → ready_in lists before.me.0 ≡ so_far.held ++ not_passed passes (drop (place + 1) lists.retired)
   from_here gone =
-      so_far.split ∙ ap (λ (l : List Retired). so_far.held ++ l) (waits_not passes spare.retired place low gone)
+      so_far.split ∙ ap (λ (l : List Retired). so_far.held ++ l) (waits_not passes lists.retired place low gone)
 
   earlier_on : (at : ℕ) (entry : Retired) → get_elem? so_far.held at ≡ some entry
-      → (other : ℕ) × (other < place + 1) × (get_elem? spare.retired other ≡ some entry)
+      → (other : ℕ) × (other < place + 1) × (get_elem? lists.retired other ≡ some entry)
   earlier_on at entry there = let e = so_far.earlier at entry there in (e.0, (let low = e.1 in omega arith), e.2)
 
-  pub swept_past : flag spare.reaped this.slot ≡ true → SweptTo spare before mid (place + 1) waits
+  pub swept_past : flag lists.reaped this.slot ≡ true → SweptTo lists before mid (place + 1) waits
   swept_past gone = record {
     held = so_far.held;
     notes = so_far.notes;
@@ -278,14 +278,14 @@ module _ (spare : Spare) (before mid : MapSeat) (place : ℕ) (waits : Bool)
     some_wait = so_far.some_wait;
     none_wait = λ none.
         let was = so_far.none_wait none in
-        (was.0, was.1, was.2 ∙ waits_not (flag spare.reaped) spare.retired place low gone);
+        (was.0, was.1, was.2 ∙ waits_not (flag lists.reaped) lists.retired place low gone);
   }
 
-  waits_now : flag spare.reaped this.slot ≡ false → 0 < length (waiting spare.reaped spare.retired)
-  waits_now stays = some_waits (flag spare.reaped) spare.retired place low stays
+  waits_now : flag lists.reaped this.slot ≡ false → 0 < length (waiting lists.reaped lists.retired)
+  waits_now stays = some_waits (flag lists.reaped) lists.retired place low stays
 
-  pub swept_unheard : flag spare.reaped this.slot ≡ false → unheard this.slot ≡ true
-      → SweptTo spare before mid (place + 1) true
+  pub swept_unheard : flag lists.reaped this.slot ≡ false → unheard this.slot ≡ true
+      → SweptTo lists before mid (place + 1) true
   swept_unheard stays far = record {
     held = so_far.held;
     notes = so_far.notes;
@@ -299,16 +299,16 @@ module _ (spare : Spare) (before mid : MapSeat) (place : ℕ) (waits : Bool)
   }
 
   module _ (shape : Shape) (found : ℕ) (after : MapSeat) (own : after.table_id ≡ mid.table_id)
-      (tells : ProbesTo shape this found mid.me.0 after.me.0) (stays : flag spare.reaped this.slot ≡ false)
+      (tells : ProbesTo shape this found mid.me.0 after.me.0) (stays : flag lists.reaped this.slot ≡ false)
       (near : unheard this.slot ≡ false) where
-    split_here : ready_in spare before.me.0 ≡ so_far.held ++ this ∷ not_passed passes (drop (place + 1) spare.retired)
+    split_here : ready_in lists before.me.0 ≡ so_far.held ++ this ∷ not_passed passes (drop (place + 1) lists.retired)
     split_here =
         so_far.split
         ∙ ap (λ (l : List Retired). so_far.held ++ l)
-        (waits_there passes spare.retired place low ((λ j. stays j || near j)))
+        (waits_there passes lists.retired place low ((λ j. stays j || near j)))
 
-    pub swept_more : (table : Table) → shape ≡ table.shape → RestsAt table spare before
-        → same_count found this.arrivals ≡ false → SweptTo spare before after (place + 1) true
+    pub swept_more : (table : Table) → shape ≡ table.shape → RestsAt table lists before
+        → same_count found this.arrivals ≡ false → SweptTo lists before after (place + 1) true
     swept_more table sized rests apart =
         let told = subst (λ (b : Bool). ProbeTells b shape this.slot mid.me.0.marks after.me.0.marks) apart tells.1 in
         let note : Past = told.0 in
@@ -317,7 +317,7 @@ module _ (spare : Spare) (before mid : MapSeat) (place : ℕ) (waits : Bool)
         = ap (λ (v : View). v.marks.polls) so_far.view in
         let readers : shape.readers ≡ before.me.0.shape.readers
         = ap (λ (s : Shape). s.readers) sized ∙ sym (ap (λ (t : Table). t.shape.readers) rests.writes.own) in
-        let here : get_elem? spare.retired place ≡ some this = at_get spare.retired place low in
+        let here : get_elem? lists.retired place ≡ some this = at_get lists.retired place low in
         let another : (at : ℕ) (old : Past) → get_elem? so_far.notes at ≡ some old → old.reader ≢ note.reader
         = λ at old there same.
         let entry
@@ -349,7 +349,7 @@ module _ (spare : Spare) (before mid : MapSeat) (place : ℕ) (waits : Bool)
           notes = notes;
           split =
               split_here
-              ∙ sym (append_assoc so_far.held (this ∷ []) (not_passed passes (drop (place + 1) spare.retired)));
+              ∙ sym (append_assoc so_far.held (this ∷ []) (not_passed passes (drop (place + 1) lists.retired)));
           each =
               held_more before.me.0.shape.readers so_far.held so_far.notes this note so_far.each told.2 told.3
               (let high = told.4 in omega arith) another;
@@ -377,8 +377,8 @@ module _ (spare : Spare) (before mid : MapSeat) (place : ℕ) (waits : Bool)
           none_wait = λ clash. absurd (cc);
         }
 
-    pub sweeps_free : same_count found this.arrivals ≡ true → this.slot < spare.slots
-        → SweepsFor spare before after (sweep.Free this.slot)
+    pub sweeps_free : same_count found this.arrivals ≡ true → this.slot < lists.slots
+        → SweepsFor lists before after (sweep.Free this.slot)
     sweeps_free agree near =
         let told = subst (λ (b : Bool). ProbeTells b shape this.slot mid.me.0.marks after.me.0.marks) agree tells.1 in
         let free : List LoggedLoad = OfSlot this.slot true ∷ [] in
@@ -386,7 +386,7 @@ module _ (spare : Spare) (before mid : MapSeat) (place : ℕ) (waits : Bool)
         ≡ before.me.0.steps + length (held_polls so_far.held ++ free)
         = let longer = length-append (held_polls so_far.held) free in omega (arith, longer) in (
           so_far.held,
-          not_passed passes (drop (place + 1) spare.retired),
+          not_passed passes (drop (place + 1) lists.retired),
           this,
           so_far.notes,
           split_here,
@@ -412,32 +412,32 @@ module _ (spare : Spare) (before mid : MapSeat) (place : ℕ) (waits : Bool)
         )
 
 -- the first, which were reaped, are passed by
-pub swept_first : (spare : Spare) (seat : MapSeat) (count : ℕ) → AreReaped count spare.retired spare.reaped
-    → SweptTo spare seat seat count false
-swept_first spare seat zero known = swept_none spare seat
-swept_first spare seat (suc count) known =
-    let earlier = swept_first spare seat count (omega (arith, known.0), λ place first. known.1 place (omega arith)) in
-    let next = swept_past spare seat seat count false earlier (omega (arith, known.0)) (known.1 count (omega arith)) in
-    subst (λ place. SweptTo spare seat seat place false) (omega arith) next
+pub swept_first : (lists : SlotLists) (seat : MapSeat) (count : ℕ) → AreReaped count lists.retired lists.reaped
+    → SweptTo lists seat seat count false
+swept_first lists seat zero known = swept_none lists seat
+swept_first lists seat (suc count) known =
+    let earlier = swept_first lists seat count (omega (arith, known.0), λ place first. known.1 place (omega arith)) in
+    let next = swept_past lists seat seat count false earlier (omega (arith, known.0)) (known.1 count (omega arith)) in
+    subst (λ place. SweptTo lists seat seat place false) (omega arith) next
 
 -- THE SEAT
 
 -- the seat rests with its slots after steps that leave all but its marks and what it heard
-module _ (table : Table) (spare : Spare) (before after : MapSeat) (steps : ℕ) (marks : Marks) (heard : List ℕ)
-    (rests : RestsAt table spare before)
+module _ (table : Table) (lists : SlotLists) (before after : MapSeat) (steps : ℕ) (marks : Marks) (heard : List ℕ)
+    (rests : RestsAt table lists before)
     (own : after.table_id ≡ before.table_id)
     (view : after.me.0 ≡ record before.me.0 { steps = steps; marks = marks; heard = heard }) where
   pub token_after : token after ≡ record (token before) { steps = steps; marks = marks; heard = heard }
   token_after = λ j. caller_of (own j) (view j)
 
-  pub rests_after : (spare' : Spare) → spare' ≡ record spare { reaped = marks.reaped } → RestsAt table spare' after
-  rests_after spare' is = subst (λ (s : Spare). RestsAt table s after) (sym is) (record {
+  pub rests_after : (lists' : SlotLists) → lists' ≡ record lists { reaped = marks.reaped } → RestsAt table lists' after
+  rests_after lists' is = subst (λ (s : SlotLists). RestsAt table s after) (sym is) (record {
     writes = record {
       own = ap (λ (c : Caller). c.table) token_after ∙ rests.writes.own;
       role = ap (λ (v : View). v.role) view ∙ rests.writes.role;
       room = rests.writes.room;
       numbers =
-          subst (λ (c : Caller). AreNumbers table.shape (map_seen c) spare.numbers) (sym token_after)
+          subst (λ (c : Caller). AreNumbers table.shape (map_seen c) lists.numbers) (sym token_after)
           rests.writes.numbers;
     };
     slots = rests.slots;
@@ -446,33 +446,33 @@ module _ (table : Table) (spare : Spare) (before after : MapSeat) (steps : ℕ) 
   })
 
 -- a retired slot can be polled
-pub probes_at : (table : Table) (spare : Spare) (before now : MapSeat) (place : ℕ) (waits : Bool)
-    → RestsAt table spare before
-    → SweptTo spare before now place waits → (low : place < length spare.retired)
-    → nat_lt (get_or before.me.0.heard (get_or spare.retired place no_retired).slot 0) before.me.0.announcers
+pub probes_at : (table : Table) (lists : SlotLists) (before now : MapSeat) (place : ℕ) (waits : Bool)
+    → RestsAt table lists before
+    → SweptTo lists before now place waits → (low : place < length lists.retired)
+    → nat_lt (get_or before.me.0.heard (get_or lists.retired place no_retired).slot 0) before.me.0.announcers
     ≡ false
-    → ProbesAt table (get_or spare.retired place no_retired) now
-probes_at table spare before now place waits rests so_far low near = record {
+    → ProbesAt table (get_or lists.retired place no_retired) now
+probes_at table lists before now place waits rests so_far low near = record {
   own =
       (λ j. record { id = so_far.own j; shape = (so_far.view j).shape; announcers = (so_far.view j).announcers })
       ∙ rests.writes.own;
-  desk = desk_with spare Idle;
+  desk = desk_with lists Idle;
   role = ap (λ (v : View). v.role) so_far.view ∙ rests.writes.role;
   idle = refl;
   room = rests.writes.room;
   poll = place;
-  here = at_get spare.retired place low;
+  here = at_get lists.retired place low;
   heard =
       let heard = ltb-false _ _ near in
-      let is = ap (λ (v : View). get_or v.heard (get_or spare.retired place no_retired).slot 0) so_far.view in
+      let is = ap (λ (v : View). get_or v.heard (get_or lists.retired place no_retired).slot 0) so_far.view in
       let same = ap (λ (t : Table). t.announcers) rests.writes.own in
       omega arith;
 }
 
 -- and is one of the map's
-pub retired_near : (table : Table) (spare : Spare) (seat : MapSeat) (place : ℕ) → RestsAt table spare seat
-    → place < length spare.retired → (get_or spare.retired place no_retired).slot < spare.slots
-retired_near table spare seat place rests low =
+pub retired_near : (table : Table) (lists : SlotLists) (seat : MapSeat) (place : ℕ) → RestsAt table lists seat
+    → place < length lists.retired → (get_or lists.retired place no_retired).slot < lists.slots
+retired_near table lists seat place rests low =
     let near
-    = rests.writes.room.inside place (get_or spare.retired place no_retired) (at_get spare.retired place low) in
+    = rests.writes.room.inside place (get_or lists.retired place no_retired) (at_get lists.retired place low) in
     omega (arith, near, rests.slots)

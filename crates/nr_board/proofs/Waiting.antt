@@ -5,7 +5,7 @@ use Rattle.nr_model.specs.Histories.{Entry}
 use Rattle.nr_model.specs.declared.calls.Call.{Call}
 use Rattle.nr_model.specs.declared.rows.Row.{Row}
 use Rattle.nr_core.specs.Core.{AreNumbers}
-use Rattle.nr_core.specs.Spares.{Spare}
+use Rattle.nr_core.specs.SlotLists.{SlotLists}
 use Rattle.nr_core.specs.declared.calls.NoSlot.{NoSlot}
 use Rattle.nr_core.specs.declared.calls.WriterCall.{WriterCall}
 use Rattle.nr_core.specs.declared.roles.Desk.{Desk}
@@ -19,12 +19,12 @@ use Rattle.nr_board.specs.Views.{View, desk_of}
 use Rattle.nr_board.specs.WriterSeats.{MapSeat, TakesSlot, WritesAt, RestsAt}
 use Rattle.nr_board.specs.declared.answers.Reclaimed.{Reclaimed}
 use Rattle.nr_board.specs.Reclaiming.{HandsOut}
-use Rattle.nr_board.specs.Spares.{TookBySearch, spare_of}
+use Rattle.nr_board.specs.SlotLists.{TookBySearch, lists_of}
 
 -- the slots that a resting token shows
-pub spare_shown : (table : Table) (spare : Spare) (seat : MapSeat) → RestsAt table spare seat
-    → spare_of (token seat) ≡ spare
-spare_shown table spare seat rests = λ j. record {
+pub lists_shown : (table : Table) (lists : SlotLists) (seat : MapSeat) → RestsAt table lists seat
+    → lists_of (token seat) ≡ lists
+lists_shown table lists seat rests = λ j. record {
   slots = (ap (λ (t : Table). t.shape.slots) rests.writes.own ∙ sym rests.slots) j;
   fresh = ap (λ r. (desk_of r).fresh) rests.writes.role j;
   retired = ap (λ r. (desk_of r).retired) rests.writes.role j;
@@ -82,16 +82,16 @@ writes_later table desk mid new steps same waits writes = record {
 }
 
 -- the slot is taken still
-pub takes_later : (table : Table) (call : WriterCall) (rows : List Row) (slot departed : ℕ) (spare after : Spare)
+pub takes_later : (table : Table) (call : WriterCall) (rows : List Row) (slot departed : ℕ) (lists after : SlotLists)
     (old mid new : MapSeat) (steps : ℕ)
-    → TakesSlot table call rows old spare mid after slot departed → new.table_id ≡ mid.table_id
+    → TakesSlot table call rows old lists mid after slot departed → new.table_id ≡ mid.table_id
     → new.me.0 ≡ waited steps mid.me.0
-    → TakesSlot table call rows (later steps old) spare new after slot departed
-takes_later table call rows slot departed spare after old mid new steps takes same waits = record {
+    → TakesSlot table call rows (later steps old) lists new after slot departed
+takes_later table call rows slot departed lists after old mid new steps takes same waits = record {
   steps = takes.steps;
   loads = takes.loads;
   took =
-      subst (λ (heard : List ℕ). TookBySearch table old.me.0.heard heard takes.loads slot takes.steps spare after)
+      subst (λ (heard : List ℕ). TookBySearch table old.me.0.heard heard takes.loads slot takes.steps lists after)
       (ap (λ (v : View). v.heard) (sym waits)) takes.took;
   few = takes.few;
   slots = takes.slots;
@@ -109,19 +109,19 @@ takes_later table call rows slot departed spare after old mid new steps takes sa
 
 -- what the call gives out, as contracts see it
 pub given_out : {Room : Type 0} (shows : Room → List Row
-    → Type 0) {table : Table} {spare : Spare} {made : ℕ} {call : WriterCall} {rows : List Row}
+    → Type 0) {table : Table} {lists : SlotLists} {made : ℕ} {call : WriterCall} {rows : List Row}
     {before mid : MapSeat} (slot taken : ℕ) (room then : Room) (steps : ℕ) (given : Reclaimed)
-    → HasSet table spare made call rows before mid
+    → HasSet table lists made call rows before mid
     → (token before).table ≡ table → slot ≡ taken
-    → HandsOut shows table.shape.rows spare taken (set_in mid.me.0.marks taken) room then steps given
-    → HandsOut shows (token before).table.shape.rows (spare_of (token before)) slot (set_in before.me.0.marks slot)
+    → HandsOut shows table.shape.rows lists taken (set_in mid.me.0.marks taken) room then steps given
+    → HandsOut shows (token before).table.shape.rows (lists_of (token before)) slot (set_in before.me.0.marks slot)
     room then steps given
-given_out shows {table = table} {spare = spare} {before = before} {mid = mid} slot taken room then steps given set own
+given_out shows {table = table} {lists = lists} {before = before} {mid = mid} slot taken room then steps given set own
     same out =
-    subst (λ (p : ℕ × Spare × ℕ × List Row). HandsOut shows p.0 p.1 p.2 p.3 room then steps given)
+    subst (λ (p : ℕ × SlotLists × ℕ × List Row). HandsOut shows p.0 p.1 p.2 p.3 room then steps given)
     (λ j. (
       (sym own j).shape.rows,
-      sym (spare_shown table spare before set.rests) j,
+      sym (lists_shown table lists before set.rests) j,
       sym same j,
       set_in (set.marks j) (sym same j),
     ))
@@ -144,10 +144,10 @@ lacks_later call counts caller steps lacks =
     }
 
 -- a call that has its set has it still
-pub set_later : {table : Table} {spare : Spare} {made : ℕ} {call : WriterCall} {rows : List Row} {before
+pub set_later : {table : Table} {lists : SlotLists} {made : ℕ} {call : WriterCall} {rows : List Row} {before
     mid : MapSeat} (steps : ℕ)
-    → HasSet table spare made call rows before mid
-    → HasSet table spare (made + steps) call rows before (later steps mid)
+    → HasSet table lists made call rows before mid
+    → HasSet table lists (made + steps) call rows before (later steps mid)
 set_later {table = table} {made = made} {before = before} {mid = mid} steps set =
     let settles = set.settles in
     let grows = set.grows in

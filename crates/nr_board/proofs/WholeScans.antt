@@ -18,11 +18,11 @@ use Rattle.nr_board.specs.Callers.{Table}
 use Rattle.nr_board.specs.Plays.{Room}
 use Rattle.nr_core.specs.declared.places.Place.TheVariants.{Idle}
 use Rattle.nr_board.specs.SearchSeats.{HearsWord, ScansAt, SearchesIn, SearchesOn}
-use Rattle.nr_board.specs.Spares.{desk_with}
+use Rattle.nr_board.specs.SlotLists.{desk_with}
 use Rattle.nr_board.specs.Views.{View}
 use Rattle.nr_board.specs.WordLoads.{WordsSoFar}
 use Rattle.nr_board.specs.WriterSeats.{MapSeat, RestsAt}
-use Rattle.nr_core.specs.Spares.{Spare}
+use Rattle.nr_core.specs.SlotLists.{SlotLists}
 use Rattle.nr_core.specs.declared.shape.Shape.{Shape}
 use Rattle.nr_board.specs.WholeScans.{FlaggedIn, HeardTo, NoneFlagged, RestsHearing, SaidBehind, ScannedTo, announced}
 use Rattle.nr_board.proofs.Keepers.{adds_none}
@@ -63,18 +63,19 @@ module _ (shape : Shape) (desk : Desk) (room : Room shape desk) where
           (λ ne. let none = only-other slot x.slot ne in omega arith)
 
 -- the scan so far, as the writer's seat makes it
-pub record ScanGoes (table : Table) (spare : Spare) (before now : MapSeat) (flags : List Bool) (own : ℕ) : Type 0 where
+pub record ScanGoes (table : Table) (lists : SlotLists) (before now : MapSeat) (flags : List Bool)
+    (own : ℕ) : Type 0 where
   pub own_table : now.table_id ≡ before.table_id
-  pub search : SearchesIn table spare now
-  pub scanned : ScannedTo spare.retired before.me.0 now.me.0 flags own
+  pub search : SearchesIn table lists now
+  pub scanned : ScannedTo lists.retired before.me.0 now.me.0 flags own
   pub wide : length flags ≡ table.shape.slots
-  pub others : OthersFlagged spare.retired flags
-  pub quiet : 0 < own → (slot : ℕ) → retirements slot spare.retired ≡ 0 → get_or now.me.0.heard slot 0 ≡ 0
+  pub others : OthersFlagged lists.retired flags
+  pub quiet : 0 < own → (slot : ℕ) → retirements slot lists.retired ≡ 0 → get_or now.me.0.heard slot 0 ≡ 0
 
-pub scan_begins : (table : Table) (spare : Spare) (seat : MapSeat) (flags : List Bool) → SearchesIn table spare seat
-    → NoneFlagged spare.retired flags → length flags ≡ table.shape.slots → OthersFlagged spare.retired flags
-    → ScanGoes table spare seat seat flags 0
-scan_begins table spare seat flags search none wide others =
+pub scan_begins : (table : Table) (lists : SlotLists) (seat : MapSeat) (flags : List Bool) → SearchesIn table lists seat
+    → NoneFlagged lists.retired flags → length flags ≡ table.shape.slots → OthersFlagged lists.retired flags
+    → ScanGoes table lists seat seat flags 0
+scan_begins table lists seat flags search none wide others =
     let clash : true ≡ false → ⊥ = λ e. absurd (cc) in
     let view = seat.me.0 in
     let more : view.steps ≡ view.steps + 0 = omega arith in
@@ -83,19 +84,19 @@ scan_begins table spare seat flags search none wide others =
       search = search;
       scanned = record {
         rest = λ j. record view { steps = more j };
-        words = words_begin spare.retired view.shape.slots view.marks.loads view.heard;
+        words = words_begin lists.retired view.shape.slots view.marks.loads view.heard;
         first = λ _. none;
         heard = λ later. absurd (omega arith);
         keep = record {
           many =
               sym
-              (misses_none spare.retired flags
-              (λ at entry there. none entry.slot (is_retired spare.retired at entry there)));
+              (misses_none lists.retired flags
+              (λ at entry there. none entry.slot (is_retired lists.retired at entry there)));
           each = λ at note there. absurd (some-ne-none note (sym there));
           apart = λ reader. omega arith;
         };
         said =
-            adds_none (FlaggedIn spare.retired flags) (SaidBehind view.marks.loads view.marks.loads) []
+            adds_none (FlaggedIn lists.retired flags) (SaidBehind view.marks.loads view.marks.loads) []
             (λ slot flagged. clash (sym flagged.1 ∙ none slot flagged.0));
       };
       wide = wide;
@@ -103,10 +104,10 @@ scan_begins table spare seat flags search none wide others =
       quiet = λ later. absurd (omega arith);
     }
 
-pub scan_goes : (table : Table) (spare : Spare) (before now next : MapSeat) (flags : List Bool) (own found : ℕ)
-    → ScanGoes table spare before now flags own → next.table_id ≡ now.table_id → SearchesOn own found now.me.0 next.me.0
-    → ScanGoes table spare before next (announced found flags) (own + 1)
-scan_goes table spare before now next flags own found so_far same tells =
+pub scan_goes : (table : Table) (lists : SlotLists) (before now next : MapSeat) (flags : List Bool) (own found : ℕ)
+    → ScanGoes table lists before now flags own → next.table_id ≡ now.table_id → SearchesOn own found now.me.0 next.me.0
+    → ScanGoes table lists before next (announced found flags) (own + 1)
+scan_goes table lists before now next flags own found so_far same tells =
     let search = so_far.search.search in
     let desk = search.desk in
     let told = tells desk search.call search.rows search.role search.place in
@@ -158,7 +159,7 @@ scan_goes table spare before now next flags own found so_far same tells =
 -- BETWEEN CALLS
 
 -- the scan so far of a writer that rests
-pub record RestingScan (table : Table) (spare : Spare) (before now : MapSeat) (flags : List Bool) (own : ℕ) : Type
+pub record RestingScan (table : Table) (lists : SlotLists) (before now : MapSeat) (flags : List Bool) (own : ℕ) : Type
     0 where
   pub own_table : now.table_id ≡ before.table_id
   pub rest : now.me.0
@@ -167,24 +168,24 @@ pub record RestingScan (table : Table) (spare : Spare) (before now : MapSeat) (f
         marks = with_loads before.me.0.marks now.me.0.marks.loads;
         heard = now.me.0.heard;
       }
-  pub words : WordsSoFar own spare.retired before.me.0.shape.slots before.me.0.marks.loads now.me.0.marks.loads
+  pub words : WordsSoFar own lists.retired before.me.0.shape.slots before.me.0.marks.loads now.me.0.marks.loads
       now.me.0.heard
-  pub first : own ≡ 0 → NoneFlagged spare.retired flags
-  pub heard : 0 < own → HeardTo spare.retired flags own now.me.0.heard
+  pub first : own ≡ 0 → NoneFlagged lists.retired flags
+  pub heard : 0 < own → HeardTo lists.retired flags own now.me.0.heard
   pub wide : length flags ≡ table.shape.slots
-  pub others : OthersFlagged spare.retired flags
-  pub quiet : 0 < own → (slot : ℕ) → retirements slot spare.retired ≡ 0 → get_or now.me.0.heard slot 0 ≡ 0
+  pub others : OthersFlagged lists.retired flags
+  pub quiet : 0 < own → (slot : ℕ) → retirements slot lists.retired ≡ 0 → get_or now.me.0.heard slot 0 ≡ 0
 
-pub resting_scan_begins : (table : Table) (spare : Spare) (seat : MapSeat) (flags : List Bool)
-    → NoneFlagged spare.retired flags → length flags ≡ table.shape.slots → OthersFlagged spare.retired flags
-    → RestingScan table spare seat seat flags 0
-resting_scan_begins table spare seat flags none wide others =
+pub resting_scan_begins : (table : Table) (lists : SlotLists) (seat : MapSeat) (flags : List Bool)
+    → NoneFlagged lists.retired flags → length flags ≡ table.shape.slots → OthersFlagged lists.retired flags
+    → RestingScan table lists seat seat flags 0
+resting_scan_begins table lists seat flags none wide others =
     let view = seat.me.0 in
     let more : view.steps ≡ view.steps + 0 = omega arith in
     record {
       own_table = refl;
       rest = λ j. record view { steps = more j };
-      words = words_begin spare.retired view.shape.slots view.marks.loads view.heard;
+      words = words_begin lists.retired view.shape.slots view.marks.loads view.heard;
       first = λ _. none;
       heard = λ later. absurd (omega arith);
       wide = wide;
@@ -192,8 +193,8 @@ resting_scan_begins table spare seat flags none wide others =
       quiet = λ later. absurd (omega arith);
     }
 
-module _ (table : Table) (spare : Spare) (before now : MapSeat) (flags : List Bool) (own : ℕ)
-    (rests : RestsAt table spare before) (so_far : RestingScan table spare before now flags own) where
+module _ (table : Table) (lists : SlotLists) (before now : MapSeat) (flags : List Bool) (own : ℕ)
+    (rests : RestsAt table lists before) (so_far : RestingScan table lists before now flags own) where
   -- each word may be loaded
   pub resting_scan_at : (word : ℕ) → word < table.announcers → ScansAt table word now
   resting_scan_at word low = record {
@@ -201,15 +202,15 @@ module _ (table : Table) (spare : Spare) (before now : MapSeat) (flags : List Bo
         (λ j.
         record { id = so_far.own_table j; shape = (so_far.rest j).shape; announcers = (so_far.rest j).announcers })
         ∙ rests.writes.own;
-    desk = desk_with spare Idle;
+    desk = desk_with lists Idle;
     role = ap (λ (v : View). v.role) so_far.rest ∙ rests.writes.role;
     within = low;
   }
 
   pub resting_scan_goes : (next : MapSeat) (found : ℕ) → next.table_id ≡ now.table_id
-      → HearsWord own found now.me.0 next.me.0 → RestingScan table spare before next (announced found flags) (own + 1)
+      → HearsWord own found now.me.0 next.me.0 → RestingScan table lists before next (announced found flags) (own + 1)
   resting_scan_goes next found same hears =
-      let desk = desk_with spare Idle in
+      let desk = desk_with lists Idle in
       let told = hears desk (ap (λ (v : View). v.role) so_far.rest ∙ rests.writes.role) in
       let size : now.me.0.shape ≡ table.shape
       = ap (λ (v : View). v.shape) so_far.rest ∙ ap (λ (t : Table). t.shape) rests.writes.own in
@@ -247,14 +248,14 @@ module _ (table : Table) (spare : Spare) (before now : MapSeat) (flags : List Bo
             });
         words =
             subst
-            (λ (n : ℕ). WordsSoFar n spare.retired before.me.0.shape.slots before.me.0.marks.loads
+            (λ (n : ℕ). WordsSoFar n lists.retired before.me.0.shape.slots before.me.0.marks.loads
             next.me.0.marks.loads next.me.0.heard)
             one_more
             (words_more desk own found before.me.0.shape.slots before.me.0.marks.loads now.me.0.marks.loads
             next.me.0.marks.loads now.me.0.heard next.me.0.heard so_far.words loads
             (heard ∙ ap (λ (v : View). heard_from desk own found now.me.0.heard 0 v.shape.slots) so_far.rest));
         first = λ none. absurd (omega arith);
-        heard = λ _. subst (λ (n : ℕ). HeardTo spare.retired (announced found flags) n next.me.0.heard) one_more
+        heard = λ _. subst (λ (n : ℕ). HeardTo lists.retired (announced found flags) n next.me.0.heard) one_more
             (heard_so desk now.me.0 next.me.0 flags own found once near wide so_far.first so_far.heard heard);
         wide = announced_wide found flags ∙ so_far.wide;
         others = λ slot none. more_flags found flags slot (so_far.others slot none);
@@ -263,12 +264,12 @@ module _ (table : Table) (spare : Spare) (before now : MapSeat) (flags : List Bo
       }
 
 -- and the words that were loaded are what it heard by
-pub resting_scan_hears : (table : Table) (spare : Spare) (before now : MapSeat) (flags : List Bool)
-    → 0 < table.announcers → RestingScan table spare before now flags table.announcers
-    → RestsHearing table.announcers spare.retired before.me.0 now.me.0
-resting_scan_hears table spare before now flags some_words goes =
+pub resting_scan_hears : (table : Table) (lists : SlotLists) (before now : MapSeat) (flags : List Bool)
+    → 0 < table.announcers → RestingScan table lists before now flags table.announcers
+    → RestsHearing table.announcers lists.retired before.me.0 now.me.0
+resting_scan_hears table lists before now flags some_words goes =
     let told
-    = words_told table.announcers spare.retired before.me.0.shape.slots before.me.0.marks.loads now.me.0.marks.loads
+    = words_told table.announcers lists.retired before.me.0.shape.slots before.me.0.marks.loads now.me.0.marks.loads
     now.me.0.heard some_words goes.words in
     let many : before.me.0.steps + table.announcers ≡ before.me.0.steps + length told.0
     = ap (λ (n : ℕ). before.me.0.steps + n) (sym (words_many told.1)) in (

@@ -1,7 +1,7 @@
 -- What a search gives where readers have words, as every search tells it.
 use Rattle.std.proofs.Common.{◌≡◌, ℕ, ◌<◌, ◌≤◌, inr, List, [], length, refl, sym, ap, ◌∙◌, subst, arith}
 use Rattle.nr_model.specs.declared.rows.Row.{Row}
-use Rattle.nr_core.specs.Spares.{Spare, none_spare}
+use Rattle.nr_core.specs.SlotLists.{SlotLists, all_taken}
 use Rattle.nr_core.specs.States.{retired_at}
 use Rattle.nr_core.specs.declared.calls.NoSlot.{NoSlot}
 use Rattle.nr_core.specs.declared.calls.WriterCall.{WriterCall}
@@ -17,29 +17,29 @@ use Rattle.nr_board.specs.declared.publish.Taken.{Taken}
 use Rattle.nr_board.specs.Callers.{Table, token}
 use Rattle.nr_board.specs.RetiredSearch.{SearchLacks, SearchTakes}
 use Rattle.nr_board.specs.SearchSeats.{SearchesIn}
-use Rattle.nr_board.specs.Spares.{desk_with}
+use Rattle.nr_board.specs.SlotLists.{desk_with}
 use Rattle.nr_board.specs.Views.{desk_of}
 use Rattle.nr_board.specs.WriterSeats.{LacksSlot, MapSeat, Settles, TakesSlot, WritesAt}
 
-module _ (table : Table) (call : WriterCall) (rows : List Row) (spare : Spare) (before : MapSeat)
-    (settles : Settles table call rows spare before) (full : spare.slots ≤ spare.fresh)
+module _ (table : Table) (call : WriterCall) (rows : List Row) (lists : SlotLists) (before : MapSeat)
+    (settles : Settles table call rows lists before) (full : lists.slots ≤ lists.fresh)
     (some_words : 0 < table.announcers) where
   -- where no slot is retired the look was the call's last step
-  pub lacks_none : spare.retired ≡ [] → LacksSlot table call before spare before spare (none_spare spare)
+  pub lacks_none : lists.retired ≡ [] → LacksSlot table call before lists before lists (all_taken lists)
   lacks_none none =
-      lacks_slot table call rows spare before before 0 (searched_none table call rows spare before settles full)
+      lacks_slot table call rows lists before before 0 (searched_none table call rows lists before settles full)
       (inr none) (sym (ap length none))
 
-  module _ (waits : 0 < length spare.retired) where
+  module _ (waits : 0 < length lists.retired) where
     abbrev desk : Desk
-    desk = desk_with spare (Searching call rows 0)
+    desk = desk_with lists (Searching call rows 0)
 
     begun : WritesAt table desk before
     begun =
-        searching_at table call rows spare before before 0 (searched_none table call rows spare before settles full)
+        searching_at table call rows lists before before 0 (searched_none table call rows lists before settles full)
         waits
 
-    pub searches_in : SearchesIn table spare before
+    pub searches_in : SearchesIn table lists before
     searches_in =
         record {
           search = record {
@@ -55,11 +55,12 @@ module _ (table : Table) (call : WriterCall) (rows : List Row) (spare : Spare) (
           slots = settles.slots;
         }
 
-    pub takes_words : (after : Spare) (now : MapSeat) (taken : Taken) → SearchTakes table before spare now after taken
-        → TakesSlot table call rows before spare now after taken.slot taken.departures
+    pub takes_words : (after : SlotLists) (now : MapSeat) (taken : Taken)
+        → SearchTakes table before lists now after taken
+        → TakesSlot table call rows before lists now after taken.slot taken.departures
     takes_words after now taken takes = let is = takes.after_is in
         let slot_is : (retired_at desk takes.place).slot ≡ taken.slot
-        = ap (λ (e : Retired). e.slot) (sym (there_is spare.retired takes.place takes.entry takes.here))
+        = ap (λ (e : Retired). e.slot) (sym (there_is lists.retired takes.place takes.entry takes.here))
         ∙ sym takes.slot in
         record {
           steps = length takes.loads;
@@ -72,27 +73,28 @@ module _ (table : Table) (call : WriterCall) (rows : List Row) (spare : Spare) (
                 takes.here,
                 sym takes.slot,
                 takes.takes,
-                ap (λ (s : Spare). s.fresh) is,
-                ap (λ (s : Spare). s.retired) is,
+                ap (λ (s : SlotLists). s.fresh) is,
+                ap (λ (s : SlotLists). s.retired) is,
                 refl,
               );
           few = (takes.few, λ none. absurd (omega arith));
-          slots = ap (λ (s : Spare). s.slots) is;
-          numbers = ap (λ (s : Spare). s.numbers) is;
-          reaped = ap (λ (s : Spare). s.reaped) is;
+          slots = ap (λ (s : SlotLists). s.slots) is;
+          numbers = ap (λ (s : SlotLists). s.numbers) is;
+          reaped = ap (λ (s : SlotLists). s.reaped) is;
           writes =
-              subst (λ (p : ℕ × Spare). WritesAt table (desk_with p.1 (Putting call rows p.0 taken.departures 0)) now)
+              subst (λ (p : ℕ × SlotLists). WritesAt table (desk_with p.1 (Putting call rows p.0 taken.departures 0))
+              now)
               (λ j. (slot_is j, sym is j)) (takes.writes desk call rows begun.role refl);
           grows = takes.grows;
           marks = takes.marks;
         }
 
-    pub lacks_words : (after : Spare) (now : MapSeat) (counts : NoSlot)
-        → SearchLacks table before spare now after counts → LacksSlot table call before spare now after counts
+    pub lacks_words : (after : SlotLists) (now : MapSeat) (counts : NoSlot)
+        → SearchLacks table before lists now after counts → LacksSlot table call before lists now after counts
     lacks_words after now counts lacks =
         let (writes, done, sum) = lacks.writes desk call rows begun.role refl in
         let size = settles.slots in
-        let held : (token now).retired ≡ spare.retired = ap (λ (r : Role). (desk_of r).retired) writes.role in
+        let held : (token now).retired ≡ lists.retired = ap (λ (r : Role). (desk_of r).retired) writes.role in
         let live_is = ap (λ (n : NoSlot). n.live) lacks.counts_are in
         let held_is = ap (λ (n : NoSlot). n.held) lacks.counts_are in
         let slots_now : (token now).table.shape.slots ≡ table.shape.slots
@@ -112,10 +114,10 @@ module _ (table : Table) (call : WriterCall) (rows : List Row) (spare : Spare) (
             held = held_is ∙ ap length (sym held);
             all = omega arith;
             full =
-                let fresh : (token now).fresh ≡ spare.fresh = ap (λ (r : Role). (desk_of r).fresh) writes.role in
+                let fresh : (token now).fresh ≡ lists.fresh = ap (λ (r : Role). (desk_of r).fresh) writes.role in
                 omega arith;
             apart = λ slot. subst (λ (l : List Retired). retirements slot l ≤ 1) (sym held)
-                (retired_once table.shape (desk_with spare Idle) writes.room slot);
+                (retired_once table.shape (desk_with lists Idle) writes.room slot);
             many = many ∙ ap length (sym held);
             others = lacks.apart;
             few = let few = lacks.few in omega arith;

@@ -28,9 +28,9 @@ use Rattle.nr_board.proofs.Publishing.{knows_after}
 use Rattle.nr_board.proofs.Tokens.{grows_both}
 use Rattle.nr_board.specs.WriterAnswers.{HasNoSlot, KeyHad, Publishes, RetiresOne, SlotsStay}
 use Rattle.nr_board.specs.Callers.{Gains, Grows, Table, map_at_opening, token}
-use Rattle.nr_core.specs.Spares.{Spare}
+use Rattle.nr_core.specs.SlotLists.{SlotLists}
 use Rattle.nr_core.specs.declared.places.Retired.{Retired}
-use Rattle.nr_board.specs.Spares.{AreFewSteps, SearchedAll, TookBySearch, desk_with, spare_of}
+use Rattle.nr_board.specs.SlotLists.{AreFewSteps, SearchedAll, TookBySearch, desk_with, lists_of}
 use Rattle.nr_core.specs.Marks.{Marks, Past, with_loads, with_name, with_polls, with_scan, without_name}
 use Rattle.nr_core.specs.PollNotes.{Noted}
 use Rattle.nr_board.proofs.Looks.{HasLooked, rests_own}
@@ -39,7 +39,7 @@ use Rattle.nr_board.specs.NamedRows.{ReadsAll}
 use Rattle.nr_board.proofs.KeySets.{before_last, had_before, none_between}
 use Rattle.nr_board.proofs.Retiring.{evicted_one, retires_so}
 use Rattle.nr_board.proofs.Searching.{grows_from}
-use Rattle.nr_board.proofs.Waiting.{grows_with, set_later, spare_shown}
+use Rattle.nr_board.proofs.Waiting.{grows_with, set_later, lists_shown}
 use Rattle.nr_board.specs.Recalls.{later}
 use Rattle.nr_board.specs.Kinds.{kind_of}
 use Rattle.nr_board.proofs.Keepers.{kept_since}
@@ -53,18 +53,18 @@ use Rattle.nr_board.specs.WriterSeats.{GoesOn, LacksSlot, LeadsIn, MapSeat, Publ
 use Rattle.nr_board.specs.WriterSeats.{KeyHas}
 use Rattle.nr_core.specs.Slots.{bound_of}
 
-module _ (table : Table) (spare : Spare) (before : MapSeat) (rests : RestsAt table spare before) where
+module _ (table : Table) (lists : SlotLists) (before : MapSeat) (rests : RestsAt table lists before) where
   writer_number : (token before).number ≡ 0
   writer_number = ap caller_number rests.writes.role
 
   -- a call that ends with a reply
-  pub ends : (steps : ℕ) (call : Call) (answer : Reply) (after_spare : Spare) (after : MapSeat)
-      → after_spare.slots ≡ spare.slots
-      → after_spare.reaped ≡ spare.reaped → after.me.0.marks.reaped ≡ before.me.0.marks.reaped
-      → LeadsIn steps table call (desk_with after_spare Idle, ended answer) before after
-      → RestsAt table after_spare after
+  pub ends : (steps : ℕ) (call : Call) (answer : Reply) (after_lists : SlotLists) (after : MapSeat)
+      → after_lists.slots ≡ lists.slots
+      → after_lists.reaped ≡ lists.reaped → after.me.0.marks.reaped ≡ before.me.0.marks.reaped
+      → LeadsIn steps table call (desk_with after_lists Idle, ended answer) before after
+      → RestsAt table after_lists after
       × Gains steps call (token before) (token after) answer
-  ends steps call answer after_spare after slots same_reaped same_marks leads = (
+  ends steps call answer after_lists after slots same_reaped same_marks leads = (
     record {
       writes = leads.writes;
       slots = slots ∙ rests.slots;
@@ -75,18 +75,18 @@ module _ (table : Table) (spare : Spare) (before : MapSeat) (rests : RestsAt tab
         leads.grows,
   )
 
-  pub same_slots : (after : MapSeat) → RestsAt table spare after → spare_of (token after) ≡ spare_of (token before)
-  same_slots after rests_after = spare_shown table spare after rests_after ∙ sym (spare_shown table spare before rests)
+  pub same_slots : (after : MapSeat) → RestsAt table lists after → lists_of (token after) ≡ lists_of (token before)
+  same_slots after rests_after = lists_shown table lists after rests_after ∙ sym (lists_shown table lists before rests)
 
   -- a call that has its set
   pub settles_so : (steps : ℕ) (call : WriterCall) (rows : List Row) (mid : MapSeat)
-      → LeadsIn steps table (call_of call) (settled table.shape (desk_with spare Idle) call rows) before mid
+      → LeadsIn steps table (call_of call) (settled table.shape (desk_with lists Idle) call rows) before mid
       → mid.me.0.marks.polls ≡ []
-      → Settles table call rows spare mid × Grows steps [] (token before) (token mid)
+      → Settles table call rows lists mid × Grows steps [] (token before) (token mid)
   settles_so steps call rows mid leads polls =
       let grows
       = subst (λ (es : List Entry). Grows steps es (token before) (token mid))
-      (settled_quiet table.shape (desk_with spare Idle) call rows (call_of call)) leads.grows in (
+      (settled_quiet table.shape (desk_with lists Idle) call rows (call_of call)) leads.grows in (
         record {
           slots = rests.slots;
           writes = leads.writes;
@@ -100,31 +100,32 @@ module _ (table : Table) (spare : Spare) (before : MapSeat) (rests : RestsAt tab
   module _ (steps : ℕ) (call : WriterCall) (rows : List Row) (mid after : MapSeat)
       (grows : Grows steps [] (token before) (token mid))
       (only_polls : mid.me.0.marks ≡ with_polls before.me.0.marks []) (same_heard : mid.me.0.heard ≡ before.me.0.heard)
-      (after_spare : Spare) where
+      (after_lists : SlotLists) where
     same_names : get_or before.me.0.marks.names (key_of call) 0 ≡ get_or mid.me.0.marks.names (key_of call) 0
     same_names = ap (λ (m : Marks). get_or m.names (key_of call) 0) (sym only_polls)
 
     -- the call put its set
-    pub publishes_so : (published : PublishesSet table call rows mid spare after after_spare)
-        → RestsAt table after_spare after × (put : Publishes steps (call_of call) rows (token before) (token after))
+    pub publishes_so : (published : PublishesSet table call rows mid lists after after_lists)
+        → RestsAt table after_lists after × (put : Publishes steps (call_of call) rows (token before) (token after))
         × (put.slot ≡ published.slot)
     publishes_so published =
         let all
         = grows_both steps (2 * length rows + 2 + published.steps) (steps + 2 * length rows + 2 + published.steps)
         (token before) (token mid)
         (entry 0 (call_of call) reply.Done ∷ []) (token after) (omega arith) grows published.grows in
-        let reaped_after : after_spare.reaped ≡ after.me.0.marks.reaped = ap (λ (s : Spare). s.reaped) published.retires
+        let reaped_after : after_lists.reaped ≡ after.me.0.marks.reaped =
+        ap (λ (s : SlotLists). s.reaped) published.retires
         ∙ ap (λ (l : List Bool). slice_set l published.slot false)
         (rests.reaped ∙ ap (λ (m : Marks). m.reaped) (sym only_polls))
         ∙ ap (λ (m : Marks). m.reaped) (sym published.marks) in
-        let rests_after : RestsAt table after_spare after
+        let rests_after : RestsAt table after_lists after
         = record {
           writes = published.writes;
           slots = published.slots ∙ rests.slots;
           reaped = reaped_after;
           own = all.own;
         } in
-        let spare_after = spare_shown table after_spare after rests_after ∙ published.retires in
+        let lists_after = lists_shown table after_lists after rests_after ∙ published.retires in
         let map_then = map_after before.me.0.shape published.log in
         let done_then
         = (legal_goes_on_lem (map_at_opening (token before).table) published.log
@@ -140,19 +141,19 @@ module _ (table : Table) (spare : Spare) (before : MapSeat) (rests : RestsAt tab
             loads = published.loads;
             took =
                 subst
-                (λ (p : Table × List ℕ × Spare). TookBySearch p.0 p.1 published.scanned published.loads
+                (λ (p : Table × List ℕ × SlotLists). TookBySearch p.0 p.1 published.scanned published.loads
                 published.slot published.steps p.2 published.mid)
-                (λ j. (sym rests.writes.own j, same_heard j, sym (spare_shown table spare before rests) j))
+                (λ j. (sym rests.writes.own j, same_heard j, sym (lists_shown table lists before rests) j))
                 published.took;
             heard = published.heard;
             few = subst (λ (t : Table). AreFewSteps t published.steps) (sym rests.writes.own) published.few;
-            fresh = ap (λ (s : Spare). s.fresh) spare_after;
+            fresh = ap (λ (s : SlotLists). s.fresh) lists_after;
             numbers =
-                ap (λ (s : Spare). s.numbers) (spare_shown table after_spare after rests_after) ∙ published.numbers
-                ∙ sym (ap (λ (s : Spare). s.numbers) (spare_shown table spare before rests));
+                ap (λ (s : SlotLists). s.numbers) (lists_shown table after_lists after rests_after) ∙ published.numbers
+                ∙ sym (ap (λ (s : SlotLists). s.numbers) (lists_shown table lists before rests));
             retires =
                 retires_so published.word (token before) published.mid.retired (token after).retired
-                (ap (λ (s : Spare). s.retired) spare_after) map_then call done_then.1
+                (ap (λ (s : SlotLists). s.retired) lists_after) map_then call done_then.1
                 (published.swaps.state
                 ∙ ap (λ (t : Table). kind_of (state_of (map_after t.shape published.log) (key_of call)))
                 (sym rests.writes.own))
@@ -174,24 +175,24 @@ module _ (table : Table) (spare : Spare) (before : MapSeat) (rests : RestsAt tab
         )
 
     -- the call found no slot
-    pub lacks_so : (counts : NoSlot) → LacksSlot table call mid spare after after_spare counts
-        → RestsAt table after_spare after × HasNoSlot steps (call_of call) (token before) (token after) counts
+    pub lacks_so : (counts : NoSlot) → LacksSlot table call mid lists after after_lists counts
+        → RestsAt table after_lists after × HasNoSlot steps (call_of call) (token before) (token after) counts
     lacks_so counts lacking =
-        let retired_is : (token before).retired ≡ spare.retired
-        = ap (λ (s : Spare). s.retired) (spare_shown table spare before rests) in
+        let retired_is : (token before).retired ≡ lists.retired
+        = ap (λ (s : SlotLists). s.retired) (lists_shown table lists before rests) in
         let counts_so : (token before).table.announcers ≡ 0 → table.announcers ≡ 0
         = λ counted. ap (λ (t : Table). t.announcers) (sym rests.writes.own) ∙ counted in
         let all
         = grows_both steps lacking.steps (steps + lacking.steps) (token before) (token mid)
         [] (token after) refl grows lacking.grows in
-        let rests_spare : RestsAt table spare after = record {
+        let rests_lists : RestsAt table lists after = record {
           writes = lacking.writes;
           slots = rests.slots;
           reaped = rests.reaped
               ∙ ap (λ (m : Marks). m.reaped) (sym only_polls) ∙ ap (λ (m : Marks). m.reaped) (sym lacking.marks);
           own = all.own;
         } in (
-          subst (λ (s : Spare). RestsAt table s after) (sym lacking.same) rests_spare,
+          subst (λ (s : SlotLists). RestsAt table s after) (sym lacking.same) rests_lists,
           record {
             searched = lacking.steps;
             loads = lacking.loads;
@@ -212,7 +213,7 @@ module _ (table : Table) (spare : Spare) (before : MapSeat) (rests : RestsAt tab
                 after.me.0.marks.polls)
                 (λ j. (sym rests.writes.own j, sym retired_is j))
                 (kept_since (grows_from steps (token before) [] (token mid) grows) lacking.kept);
-            slots = same_slots after rests_spare;
+            slots = same_slots after rests_lists;
             marks =
                 lacking.marks
                 ∙ ap (λ (m : Marks). with_scan m after.me.0.marks.polls (m.loads ++ lacking.loads)) only_polls;
@@ -220,115 +221,116 @@ module _ (table : Table) (spare : Spare) (before : MapSeat) (rests : RestsAt tab
         )
 
 -- the call ends with its look
-pub look_ends : {table : Table} {spare : Spare} {call : WriterCall} {found : ℕ} {before after : MapSeat}
-    → HasLooked table spare call found before after → (answer : Reply)
-    → looked table.shape (desk_with spare Idle) call found ≡ (desk_with spare Idle, ended answer)
-    → RestsAt (token after).table spare after
+pub look_ends : {table : Table} {lists : SlotLists} {call : WriterCall} {found : ℕ} {before after : MapSeat}
+    → HasLooked table lists call found before after → (answer : Reply)
+    → looked table.shape (desk_with lists Idle) call found ≡ (desk_with lists Idle, ended answer)
+    → RestsAt (token after).table lists after
     × (Gains 1 (call_of call) (token before) (token after) answer × SlotsStay (token before) (token after))
-look_ends {table = table} {spare = spare} {call = call} {before = before} {after = after} looks answer is =
+look_ends {table = table} {lists = lists} {call = call} {before = before} {after = after} looks answer is =
     let ended_so
-    = ends table spare before looks.rests 1 (call_of call) answer spare after refl refl
+    = ends table lists before looks.rests 1 (call_of call) answer lists after refl refl
     (ap (λ (m : Marks). m.reaped) looks.marks)
     (subst (λ (o : Desk × Step). LeadsIn 1 table (call_of call) o before after) is looks.leads) in (
-      rests_own table spare after ended_so.0,
-      (ended_so.1, (same_slots table spare before looks.rests after ended_so.0, looks.marks, looks.heard)),
+      rests_own table lists after ended_so.0,
+      (ended_so.1, (same_slots table lists before looks.rests after ended_so.0, looks.marks, looks.heard)),
     )
 
-pub has_set : {table : Table} {spare : Spare} {steps : ℕ} {call : WriterCall} {rows : List Row} {before mid : MapSeat}
-    → RestsAt table spare before
-    → LeadsIn steps table (call_of call) (settled table.shape (desk_with spare Idle) call rows) before mid
+pub has_set : {table : Table} {lists : SlotLists} {steps : ℕ} {call : WriterCall} {rows : List Row}
+    {before mid : MapSeat}
+    → RestsAt table lists before
+    → LeadsIn steps table (call_of call) (settled table.shape (desk_with lists Idle) call rows) before mid
     → mid.me.0.marks ≡ with_polls before.me.0.marks [] → mid.me.0.heard ≡ before.me.0.heard
-    → HasSet table spare steps call rows before mid
-has_set {table = table} {spare = spare} {steps = steps} {call = call} {rows = rows} {before = before} {mid = mid} rests
+    → HasSet table lists steps call rows before mid
+has_set {table = table} {lists = lists} {steps = steps} {call = call} {rows = rows} {before = before} {mid = mid} rests
     leads marks heard =
-    let so = settles_so table spare before rests steps call rows mid leads (ap (λ (m : Marks). m.polls) marks) in
+    let so = settles_so table lists before rests steps call rows mid leads (ap (λ (m : Marks). m.polls) marks) in
     record { rests = rests; settles = so.0; grows = so.1; marks = marks; heard = heard }
 
 -- a fill and a replacement have it at their look
-pub look_settles : {table : Table} {spare : Spare} {call : WriterCall} {rows : List Row} {found : ℕ} {before
+pub look_settles : {table : Table} {lists : SlotLists} {call : WriterCall} {rows : List Row} {found : ℕ} {before
     after : MapSeat}
-    → HasLooked table spare call found before after
-    → looked table.shape (desk_with spare Idle) call found ≡ settled table.shape
-    (desk_with spare Idle) call rows → HasSet table spare 1 call rows before after
+    → HasLooked table lists call found before after
+    → looked table.shape (desk_with lists Idle) call found ≡ settled table.shape
+    (desk_with lists Idle) call rows → HasSet table lists 1 call rows before after
 look_settles {table = table} {call = call} {before = before} {after = after} looks is =
     has_set looks.rests (subst (λ (o : Desk × Step). LeadsIn 1 table (call_of call) o before after) is looks.leads)
     looks.marks looks.heard
 
 -- and it had the slot, and put the set there, or found none
 module
-    _ {table : Table} {spare after_spare : Spare} {steps : ℕ} {call given : WriterCall} {rows : List Row} {before mid
-    after : MapSeat} (set : HasSet table spare steps call rows before mid)
+    _ {table : Table} {lists after_lists : SlotLists} {steps : ℕ} {call given : WriterCall} {rows : List Row}
+    {before mid after : MapSeat} (set : HasSet table lists steps call rows before mid)
     (is : given ≡ call) where
-  pub has_published : (published : PublishesSet table given rows mid spare after after_spare)
-      → RestsAt (token after).table after_spare after
+  pub has_published : (published : PublishesSet table given rows mid lists after after_lists)
+      → RestsAt (token after).table after_lists after
       × (put : Publishes steps (call_of call) rows (token before) (token after)) × (put.slot ≡ published.slot)
   has_published published =
       let put
       = subst
-      (λ (c : WriterCall). (here : PublishesSet table c rows mid spare after after_spare)
+      (λ (c : WriterCall). (here : PublishesSet table c rows mid lists after after_lists)
       × (here.slot ≡ published.slot))
       is (published, refl) in
       let so
-      = publishes_so table spare before set.rests steps call rows mid after set.grows set.marks set.heard
-      after_spare put.0 in
-      (rests_own table after_spare after so.0, so.1, so.2 ∙ put.1)
+      = publishes_so table lists before set.rests steps call rows mid after set.grows set.marks set.heard
+      after_lists put.0 in
+      (rests_own table after_lists after so.0, so.1, so.2 ∙ put.1)
 
-  pub has_lacked : {counts : NoSlot} → LacksSlot table given mid spare after after_spare counts
-      → RestsAt (token after).table after_spare after
+  pub has_lacked : {counts : NoSlot} → LacksSlot table given mid lists after after_lists counts
+      → RestsAt (token after).table after_lists after
       × HasNoSlot steps (call_of call) (token before) (token after) counts
   has_lacked {counts = counts} lacking =
-      let so = lacks_so table spare before set.rests steps call rows mid after set.grows set.marks set.heard after_spare
-      counts (subst (λ (c : WriterCall). LacksSlot table c mid spare after after_spare counts) is lacking) in
-      (rests_own table after_spare after so.0, so.1)
+      let so = lacks_so table lists before set.rests steps call rows mid after set.grows set.marks set.heard after_lists
+      counts (subst (λ (c : WriterCall). LacksSlot table c mid lists after after_lists counts) is lacking) in
+      (rests_own table after_lists after so.0, so.1)
 
 -- the swap that evicts the key
 module
-    _ {table : Table} {spare : Spare} {key word : ℕ} {before mid : MapSeat} (looks : HasLooked table spare (Evict key)
-    word before mid)
-    (leaves : looked table.shape (desk_with spare Idle) (Evict key) word ≡ (desk_with spare (Leaving key), Going)) where
-  pub about_to_leave : LeadsIn 1 table (model.Evict key) (desk_with spare (Leaving key), Going) before mid
+    _ {table : Table} {lists : SlotLists} {key word : ℕ} {before mid : MapSeat}
+    (looks : HasLooked table lists (Evict key) word before mid)
+    (leaves : looked table.shape (desk_with lists Idle) (Evict key) word ≡ (desk_with lists (Leaving key), Going)) where
+  pub about_to_leave : LeadsIn 1 table (model.Evict key) (desk_with lists (Leaving key), Going) before mid
   about_to_leave = subst (λ (o : Desk × Step). LeadsIn 1 table (model.Evict key) o before mid) leaves looks.leads
 
-  pub has_evicted : {board : Table} {found : ℕ} {after : MapSeat} {after_spare : Spare} → board ≡ table
-      → GoesOn board found mid after → after_spare ≡ record spare { retired = spare.retired ++ unnamed found }
-      → RestsAt (token after).table after_spare after
+  pub has_evicted : {board : Table} {found : ℕ} {after : MapSeat} {after_lists : SlotLists} → board ≡ table
+      → GoesOn board found mid after → after_lists ≡ record lists { retired = lists.retired ++ unnamed found }
+      → RestsAt (token after).table after_lists after
       × (Gains 2 (model.Evict key) (token before) (token after) reply.Evicted
       × ((token after).fresh ≡ (token before).fresh) × ((token after).numbers ≡ (token before).numbers)
       × RetiresOne key (token before) (token before).retired (token after).retired
       × (after.me.0.marks ≡ without_name (with_polls before.me.0.marks []) key)
       × (after.me.0.heard ≡ before.me.0.heard))
-  has_evicted {found = found} {after = after} {after_spare = after_spare} board_is goes retires =
+  has_evicted {found = found} {after = after} {after_lists = after_lists} board_is goes retires =
       let gone
-      = subst (λ (t : Table). GoesOn t found mid after) board_is goes (desk_with spare (Leaving key))
+      = subst (λ (t : Table). GoesOn t found mid after) board_is goes (desk_with lists (Leaving key))
       about_to_leave.writes.role in
       let told = gone.leads in
-      let all : LeadsIn 2 table (model.Evict key) (desk_with after_spare Idle, ended reply.Evicted) before after
+      let all : LeadsIn 2 table (model.Evict key) (desk_with after_lists Idle, ended reply.Evicted) before after
       = record {
-        writes = subst (λ (s : Spare). WritesAt table (desk_with s Idle) after) (sym retires) told.writes;
+        writes = subst (λ (s : SlotLists). WritesAt table (desk_with s Idle) after) (sym retires) told.writes;
         grows =
             grows_both 1 1 2 (token before) (token mid) _ (token after) (omega arith) about_to_leave.grows told.grows;
         short = λ counts without. absurd (not_reply counts reply.Evicted without);
       } in
       let ended_so
-      = ends table spare before looks.rests 2 (model.Evict key) reply.Evicted after_spare after
-      (ap (λ (s : Spare). s.slots) retires)
-      (ap (λ (s : Spare). s.reaped) retires)
+      = ends table lists before looks.rests 2 (model.Evict key) reply.Evicted after_lists after
+      (ap (λ (s : SlotLists). s.slots) retires)
+      (ap (λ (s : SlotLists). s.reaped) retires)
       (ap (λ (m : Marks). m.reaped) gone.marks.0 ∙ ap (λ (m : Marks). m.reaped) looks.marks) all in
       let slots
-      = spare_shown table after_spare after ended_so.0 ∙ retires
-      ∙ ap (λ (s : Spare). record s { retired = s.retired ++ unnamed found })
-      (sym (spare_shown table spare before looks.rests)) in
+      = lists_shown table after_lists after ended_so.0 ∙ retires
+      ∙ ap (λ (s : SlotLists). record s { retired = s.retired ++ unnamed found })
+      (sym (lists_shown table lists before looks.rests)) in
       let legal
       = (legal_goes_on_lem (map_at_opening (token before).table) gone.log
       (entry 0 (model.Evict key) reply.Evicted)).1.1
       (subst (IsLegal (map_at_opening (token before).table)) gone.seen all.grows.legal) in (
-        rests_own table after_spare after ended_so.0,
+        rests_own table after_lists after ended_so.0,
         (
           ended_so.1,
-          ap (λ (s : Spare). s.fresh) slots,
-          ap (λ (s : Spare). s.numbers) slots,
+          ap (λ (s : SlotLists). s.fresh) slots,
+          ap (λ (s : SlotLists). s.numbers) slots,
           evicted_one found (token before) (token before).retired (token after).retired
-              (ap (λ (s : Spare). s.retired) slots) (map_after before.me.0.shape gone.log) key legal.1
+              (ap (λ (s : SlotLists). s.retired) slots) (map_after before.me.0.shape gone.log) key legal.1
               (gone.finds.state
               ∙ ap (λ (t : Table). kind_of (state_of (map_after t.shape gone.log) key)) (sym looks.own))
               (ap (λ (m : Marks). get_or m.names key 0) (sym looks.marks) ∙ gone.finds.name),
@@ -339,43 +341,43 @@ module
 
 -- the swap that takes the key's request back
 module
-    _ {table : Table} {spare : Spare} {key word : ℕ} {before mid : MapSeat} (looks : HasLooked table spare (Cancel key)
-    word before mid)
-    (withdraws : looked table.shape (desk_with spare Idle) (Cancel key) word
-    ≡ (desk_with spare (Withdrawing key), Going)) where
-  pub about_to_withdraw : LeadsIn 1 table (model.Cancel key) (desk_with spare (Withdrawing key), Going) before mid
+    _ {table : Table} {lists : SlotLists} {key word : ℕ} {before mid : MapSeat}
+    (looks : HasLooked table lists (Cancel key) word before mid)
+    (withdraws : looked table.shape (desk_with lists Idle) (Cancel key) word
+    ≡ (desk_with lists (Withdrawing key), Going)) where
+  pub about_to_withdraw : LeadsIn 1 table (model.Cancel key) (desk_with lists (Withdrawing key), Going) before mid
   about_to_withdraw = subst (λ (o : Desk × Step). LeadsIn 1 table (model.Cancel key) o before mid) withdraws looks.leads
 
-  pub has_cancelled : {board : Table} {found : ℕ} {after : MapSeat} {after_spare : Spare} → board ≡ table
+  pub has_cancelled : {board : Table} {found : ℕ} {after : MapSeat} {after_lists : SlotLists} → board ≡ table
       → GoesOn board found mid after
-      → after_spare ≡ record spare { numbers = slice_set spare.numbers key (slice_index spare.numbers key + 1) }
-      → RestsAt (token after).table after_spare after
+      → after_lists ≡ record lists { numbers = slice_set lists.numbers key (slice_index lists.numbers key + 1) }
+      → RestsAt (token after).table after_lists after
       × (Gains 2 (model.Cancel key) (token before) (token after) reply.Cancelled
-      × (spare_of (token after) ≡ record (spare_of (token before))
+      × (lists_of (token after) ≡ record (lists_of (token before))
       { numbers = slice_set (token before).numbers key (slice_index (token before).numbers key + 1) })
       × (after.me.0.marks ≡ with_polls before.me.0.marks []) × (after.me.0.heard ≡ before.me.0.heard))
-  has_cancelled {found = found} {after = after} {after_spare = after_spare} board_is goes renumbers =
+  has_cancelled {found = found} {after = after} {after_lists = after_lists} board_is goes renumbers =
       let gone
-      = subst (λ (t : Table). GoesOn t found mid after) board_is goes (desk_with spare (Withdrawing key))
+      = subst (λ (t : Table). GoesOn t found mid after) board_is goes (desk_with lists (Withdrawing key))
       about_to_withdraw.writes.role in
       let told = gone.leads in
-      let all : LeadsIn 2 table (model.Cancel key) (desk_with after_spare Idle, ended reply.Cancelled) before after
+      let all : LeadsIn 2 table (model.Cancel key) (desk_with after_lists Idle, ended reply.Cancelled) before after
       = record {
-        writes = subst (λ (s : Spare). WritesAt table (desk_with s Idle) after) (sym renumbers) told.writes;
+        writes = subst (λ (s : SlotLists). WritesAt table (desk_with s Idle) after) (sym renumbers) told.writes;
         grows =
             grows_both 1 1 2 (token before) (token mid) _ (token after) (omega arith) about_to_withdraw.grows
             told.grows;
         short = λ counts without. absurd (not_reply counts reply.Cancelled without);
       } in
-      let ended_so = ends table spare before looks.rests 2 (model.Cancel key) reply.Cancelled after_spare after
-      (ap (λ (s : Spare). s.slots) renumbers) (ap (λ (s : Spare). s.reaped) renumbers)
+      let ended_so = ends table lists before looks.rests 2 (model.Cancel key) reply.Cancelled after_lists after
+      (ap (λ (s : SlotLists). s.slots) renumbers) (ap (λ (s : SlotLists). s.reaped) renumbers)
       (ap (λ (m : Marks). m.reaped) gone.marks.0 ∙ ap (λ (m : Marks). m.reaped) looks.marks) all in (
-        rests_own table after_spare after ended_so.0,
+        rests_own table after_lists after ended_so.0,
         (
           ended_so.1,
-          spare_shown table after_spare after ended_so.0 ∙ renumbers
-              ∙ ap (λ (s : Spare). record s { numbers = slice_set s.numbers key (slice_index s.numbers key + 1) })
-              (sym (spare_shown table spare before looks.rests)),
+          lists_shown table after_lists after ended_so.0 ∙ renumbers
+              ∙ ap (λ (s : SlotLists). record s { numbers = slice_set s.numbers key (slice_index s.numbers key + 1) })
+              (sym (lists_shown table lists before looks.rests)),
           gone.marks.0 ∙ looks.marks,
           gone.heard ∙ looks.heard,
         ),
@@ -383,10 +385,10 @@ module
 
 -- READS OF THE KEY'S SET
 
-module _ {table : Table} {spare : Spare} {call given : WriterCall} {found : ℕ} {before mid : MapSeat}
-    (looks : HasLooked table spare call found before mid) (reads : looked table.shape (desk_with spare Idle) call
-    found ≡ (desk_with spare (Reading call (slot_of found) []), Going)) (is : given ≡ call) where
-  leads_there : LeadsIn 1 table (call_of call) (desk_with spare (Reading call (slot_of found) []), Going) before mid
+module _ {table : Table} {lists : SlotLists} {call given : WriterCall} {found : ℕ} {before mid : MapSeat}
+    (looks : HasLooked table lists call found before mid) (reads : looked table.shape (desk_with lists Idle) call
+    found ≡ (desk_with lists (Reading call (slot_of found) []), Going)) (is : given ≡ call) where
+  leads_there : LeadsIn 1 table (call_of call) (desk_with lists (Reading call (slot_of found) []), Going) before mid
   leads_there = subst (λ (o : Desk × Step). LeadsIn 1 table (call_of call) o before mid) reads looks.leads
 
   -- the writer is about to read the slot that the word named
@@ -399,7 +401,7 @@ module _ {table : Table} {spare : Spare} {call given : WriterCall} {found : ℕ}
   )
 
   pub has_read : {rows : List Row} {after : MapSeat} → ReadsAll table given rows mid after
-      → HasRead table spare call (slot_of found) rows before after
+      → HasRead table lists call (slot_of found) rows before after
   has_read {rows = rows} {after = after} read =
       let outcome = λ (desk : Desk) (c : WriterCall). decided table.shape desk c rows in
       let same = ap desk_of leads_there.writes.role in
@@ -426,25 +428,25 @@ module _ {table : Table} {spare : Spare} {call given : WriterCall} {found : ℕ}
       }
 
 -- a find of the writer's own
-pub has_found : {table : Table} {spare : Spare} {key slot : ℕ} {rows : List Row} {before after : MapSeat}
-    → HasRead table spare (Find key) slot rows before after
-    → RestsAt (token after).table spare after
+pub has_found : {table : Table} {lists : SlotLists} {key slot : ℕ} {rows : List Row} {before after : MapSeat}
+    → HasRead table lists (Find key) slot rows before after
+    → RestsAt (token after).table lists after
     × (Gains (2 * length rows + 2) (model.Find key) (token before) (token after) (reply.Rows rows)
     × SlotsStay (token before) (token after))
-has_found {table = table} {spare = spare} {key = key} {rows = rows} {before = before} {after = after} read =
+has_found {table = table} {lists = lists} {key = key} {rows = rows} {before = before} {after = after} read =
     let ended_so
-    = ends table spare before read.rests (2 * length rows + 2) (model.Find key) (reply.Rows rows) spare after refl
+    = ends table lists before read.rests (2 * length rows + 2) (model.Find key) (reply.Rows rows) lists after refl
     refl (ap (λ (m : Marks). m.reaped) read.marks) read.leads in (
-      rests_own table spare after ended_so.0,
-      (ended_so.1, (same_slots table spare before read.rests after ended_so.0, read.marks, read.heard)),
+      rests_own table lists after ended_so.0,
+      (ended_so.1, (same_slots table lists before read.rests after ended_so.0, read.marks, read.heard)),
     )
 
 -- an update whose batch is refused, or gives a new set
 module
-    _ {table : Table} {spare : Spare} {key slot : ℕ} {batch : List Delta} {rows : List Row} {before
-    after : MapSeat} (read : HasRead table spare (Update key batch) slot rows before after) where
+    _ {table : Table} {lists : SlotLists} {key slot : ℕ} {batch : List Delta} {rows : List Row} {before
+    after : MapSeat} (read : HasRead table lists (Update key batch) slot rows before after) where
   abbrev at_read : Desk
-  at_read = desk_with spare (Reading (Update key batch) slot [])
+  at_read = desk_with lists (Reading (Update key batch) slot [])
 
   leads_by : (left : Result (List Row) ApplyFault) → applied (bound_of table.shape) rows batch ≡ left
       → LeadsIn (2 * length rows + 2) table (model.Update key batch)
@@ -471,30 +473,30 @@ module
   own_map log number had = ap (λ (t : Table). state_of (map_after t.shape log) key) read.own ∙ had
 
   pub has_refused : (why : ApplyFault) → applied (bound_of table.shape) rows batch ≡ Err why
-      → RestsAt (token after).table spare after
+      → RestsAt (token after).table lists after
       × ((gains : Gains (2 * length rows + 2) (model.Update key batch) (token before)
       (token after) (applied_reply (Err why))) × KeyHad key rows (token before) gains.between
       × SlotsStay (token before) (token after))
   has_refused why is =
       let ended_so
-      = ends table spare before read.rests (2 * length rows + 2) (model.Update key batch) (applied_reply (Err why))
-      spare after refl refl (ap (λ (m : Marks). m.reaped) read.marks) (leads_by (Err why) is) in
+      = ends table lists before read.rests (2 * length rows + 2) (model.Update key batch) (applied_reply (Err why))
+      lists after refl refl (ap (λ (m : Marks). m.reaped) read.marks) (leads_by (Err why) is) in
       let log_is
       = before_last ((token before).seen ++ ended_so.1.between) read.had.log _ _
       (sym ended_so.1.seen ∙ seen_by (Err why) is) in
       let had
       = ap (λ (l : List Entry). state_of (map_after before.me.0.shape l) key) log_is
       ∙ own_map read.had.log read.had.number read.had.state in (
-        rests_own table spare after ended_so.0,
+        rests_own table lists after ended_so.0,
         (
           ended_so.1,
           (read.had.number, had),
-          (same_slots table spare before read.rests after ended_so.0, read.marks, read.heard),
+          (same_slots table lists before read.rests after ended_so.0, read.marks, read.heard),
         ),
       )
 
   module _ {left : List Row} (is : applied (bound_of table.shape) rows batch ≡ Ok left) where
-    pub has_renewed : HasSet table spare (2 * length rows + 2) (Update key batch) left before after
+    pub has_renewed : HasSet table lists (2 * length rows + 2) (Update key batch) left before after
     has_renewed = has_set read.rests (leads_by (Ok left) is) read.marks read.heard
 
     still_has : state_of (map_after table.shape after.me.0.seen) key ≡ states.Rows read.had.number rows
@@ -518,14 +520,14 @@ module
         grows.table still_has
 
     module _ {given : WriterCall} (given_is : given ≡ Update key batch) (near : key < table.shape.keys) where
-      pub has_updated : {last : MapSeat} {after_spare : Spare}
-          → PublishesSet table given left after spare last after_spare
-          → RestsAt (token last).table after_spare last
+      pub has_updated : {last : MapSeat} {after_lists : SlotLists}
+          → PublishesSet table given left after lists last after_lists
+          → RestsAt (token last).table after_lists last
           × ((published : Publishes (2 * length rows + 2) (model.Update key batch) left (token before) (token last))
           × KeyHad key rows (token before) published.gains.between)
-      has_updated {last = last} {after_spare = after_spare} put =
+      has_updated {last = last} {after_lists = after_lists} put =
           let put_here
-          = subst (λ (c : WriterCall). PublishesSet table c left after spare last after_spare) given_is put in
+          = subst (λ (c : WriterCall). PublishesSet table c left after lists last after_lists) given_is put in
           let so = has_published has_renewed refl put_here in let then = put_here.grows in let all = so.1.gains in (
             so.0,
             (
@@ -537,16 +539,16 @@ module
           )
 
       -- where the writer made that many steps more before it published
-      pub has_updated_later : {last : MapSeat} {after_spare : Spare} (steps : ℕ)
-          → (put : PublishesSet table given left (later steps after) spare last after_spare)
-          → RestsAt (token last).table after_spare last
+      pub has_updated_later : {last : MapSeat} {after_lists : SlotLists} (steps : ℕ)
+          → (put : PublishesSet table given left (later steps after) lists last after_lists)
+          → RestsAt (token last).table after_lists last
           × ((published : Publishes (2 * length rows + 2 + steps) (model.Update key batch)
           left (token before) (token last)) × KeyHad key rows (token before) published.gains.between
           × (published.slot ≡ put.slot))
-      has_updated_later {last = last} {after_spare = after_spare} steps put =
+      has_updated_later {last = last} {after_lists = after_lists} steps put =
           let here
           = subst
-          (λ (c : WriterCall). (p : PublishesSet table c left (later steps after) spare last after_spare)
+          (λ (c : WriterCall). (p : PublishesSet table c left (later steps after) lists last after_lists)
           × (p.slot ≡ put.slot))
           given_is (put, refl) in
           let so = has_published (set_later steps has_renewed) refl here.0 in
@@ -562,9 +564,9 @@ module
             ),
           )
 
-      pub has_not_updated : {counts : NoSlot} {last : MapSeat} {after_spare : Spare}
-          → LacksSlot table given after spare last after_spare counts
-          → RestsAt (token last).table after_spare last
+      pub has_not_updated : {counts : NoSlot} {last : MapSeat} {after_lists : SlotLists}
+          → LacksSlot table given after lists last after_lists counts
+          → RestsAt (token last).table after_lists last
           × ((without : HasNoSlot (2 * length rows + 2) (model.Update key batch) (token before) (token last) counts)
           × KeyHad key rows (token before) without.grows.between)
       has_not_updated {last = last} lacking =

@@ -13,7 +13,7 @@ pub mod Kinds
 pub mod Meetings
 pub mod Learning
 pub mod WordLoads
-pub mod Spares
+pub mod SlotLists
 pub mod Polls
 pub mod Noting
 pub mod WriterSeats

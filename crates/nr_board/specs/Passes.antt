@@ -5,7 +5,7 @@ use mathlib.Core.Option.{some}
 use lib.ListN.{get_elem?}
 use Rattle.nr_model.specs.declared.rows.Row.{Row}
 use Rattle.nr_core.specs.Roles.{retirements}
-use Rattle.nr_core.specs.Spares.{Spare}
+use Rattle.nr_core.specs.SlotLists.{SlotLists}
 use Rattle.nr_core.specs.Sums.{only, total}
 use Rattle.nr_core.specs.Writer.{taking_retired}
 use Rattle.nr_core.specs.declared.calls.WriterCall.{WriterCall}
@@ -19,14 +19,14 @@ use Rattle.nr_board.specs.Callers.{Grows, Table, token}
 use Rattle.nr_board.specs.Noting.{Adds, Reached}
 use Rattle.nr_board.specs.Polls.{HeldThen}
 use Rattle.nr_board.specs.SearchSeats.{SearchesIn}
-use Rattle.nr_board.specs.Spares.{held_polls, not_passed}
+use Rattle.nr_board.specs.SlotLists.{held_polls, not_passed}
 use Rattle.nr_board.specs.Views.{view_of}
-use Rattle.nr_board.specs.WholeScans.{is_unheard}
+use Rattle.nr_board.specs.WholeScans.{is_flagged}
 use Rattle.nr_board.specs.WriterSeats.{MapSeat, WritesAt}
 
 -- the slots before that place of the list that have no flag, which are polled
 abbrev pub unflagged : List Retired → List Bool → ℕ → List Retired
-unflagged retired flags place = not_passed (is_unheard flags) (take place retired)
+unflagged retired flags place = not_passed (is_flagged flags) (take place retired)
 
 abbrev pub polls_before : List Retired → List Bool → ℕ → ℕ
 polls_before retired flags place = length (unflagged retired flags place)
@@ -34,7 +34,7 @@ polls_before retired flags place = length (unflagged retired flags place)
 -- all readers that have a word were heard not to say a retired slot without a flag
 abbrev pub AreHeard : List Retired → List Bool → ℕ → List ℕ → Type 0
 AreHeard retired flags announcers counts =
-    (slot : ℕ) → 0 < retirements slot retired → is_unheard flags slot ≡ false → announcers ≤ slice_index counts slot
+    (slot : ℕ) → 0 < retirements slot retired → is_flagged flags slot ≡ false → announcers ≤ slice_index counts slot
 
 -- one of so many readers was noted, which held a slot before that place of the list, or one with a flag, or none
 pub record NotesOne (retired : List Retired) (flags : List Bool) (readers place : ℕ) (note : Past) : Type 0 where
@@ -42,7 +42,7 @@ pub record NotesOne (retired : List Retired) (flags : List Bool) (readers place 
   pub few : note.reader ≤ readers
   pub holds : (note.slot ≡ None)
       ⊎ ((slot : ℕ) × (note.slot ≡ Some slot)
-      × ((is_unheard flags slot ≡ true)
+      × ((is_flagged flags slot ≡ true)
       ⊎ ((at : ℕ) × (entry : Retired) × (at < place) × (get_elem? retired at ≡ some entry)
       × (slot ≡ entry.slot))))
 
@@ -55,46 +55,46 @@ pub record NotesTo (retired : List Retired) (flags : List Bool) (readers place f
 
 -- the slot stands before that place and has no flag
 abbrev pub PolledTo : List Retired → List Bool → ℕ → ℕ → Type 0
-PolledTo retired flags place slot = Reached retired place slot × (is_unheard flags slot ≡ false)
+PolledTo retired flags place slot = Reached retired place slot × (is_flagged flags slot ≡ false)
 
 -- the pass before that place: each slot that it polled was held
-pub record PassedTo (table : Table) (spare : Spare) (flags : List Bool) (before now : MapSeat) (place : ℕ) : Type
+pub record PassedTo (table : Table) (lists : SlotLists) (flags : List Bool) (before now : MapSeat) (place : ℕ) : Type
     0 where
   pub own : now.table_id ≡ before.table_id
   pub role : (view_of now).role ≡ (view_of before).role
-  pub search : SearchesIn table spare now
-  pub grows : Grows (polls_before spare.retired flags place) [] (token before) (token now)
-  pub notes : NotesTo spare.retired flags table.shape.readers place (length (view_of before).marks.polls)
+  pub search : SearchesIn table lists now
+  pub grows : Grows (polls_before lists.retired flags place) [] (token before) (token now)
+  pub notes : NotesTo lists.retired flags table.shape.readers place (length (view_of before).marks.polls)
       (view_of now).marks.polls
-  pub kept : Adds (PolledTo spare.retired flags place) (HeldThen (view_of before).seen (view_of now).seen)
+  pub kept : Adds (PolledTo lists.retired flags place) (HeldThen (view_of before).seen (view_of now).seen)
       (view_of before).marks.polls
       (view_of now).marks.polls
   pub heard : (view_of now).heard ≡ (view_of before).heard
   pub marks : (view_of now).marks
       ≡ with_scan (view_of before).marks (view_of now).marks.polls
-      ((view_of before).marks.loads ++ held_polls (unflagged spare.retired flags place))
+      ((view_of before).marks.loads ++ held_polls (unflagged lists.retired flags place))
 
 -- the pass took the slot at a place, which nobody held
-pub record PassTakes (table : Table) (flags : List Bool) (before : MapSeat) (spare : Spare) (now : MapSeat)
-    (after : Spare) (taken : Taken) : Type 0 where
+pub record PassTakes (table : Table) (flags : List Bool) (before : MapSeat) (lists : SlotLists) (now : MapSeat)
+    (after : SlotLists) (taken : Taken) : Type 0 where
   pub place : ℕ
   pub entry : Retired
-  pub here : get_elem? spare.retired place ≡ some entry
+  pub here : get_elem? lists.retired place ≡ some entry
   pub slot : taken.slot ≡ entry.slot
-  pub no_flag : is_unheard flags entry.slot ≡ false
-  pub after_is : after ≡ record spare { retired = remove spare.retired place }
+  pub no_flag : is_flagged flags entry.slot ≡ false
+  pub after_is : after ≡ record lists { retired = remove lists.retired place }
   pub own : now.table_id ≡ before.table_id
   pub writes : (desk : Desk) (call : WriterCall) (rows : List Row) → (view_of before).role ≡ Writer desk
       → desk.place ≡ Searching call rows 0 → WritesAt table (taking_retired desk call rows place taken.departures) now
-  pub grows : Grows (polls_before spare.retired flags place + 1) [] (token before) (token now)
-  pub few : length (view_of before).marks.polls + polls_before spare.retired flags place ≤ table.shape.readers
+  pub grows : Grows (polls_before lists.retired flags place + 1) [] (token before) (token now)
+  pub few : length (view_of before).marks.polls + polls_before lists.retired flags place ≤ table.shape.readers
   pub heard : (view_of now).heard ≡ (view_of before).heard
   pub marks : (view_of now).marks
       ≡ with_scan (view_of before).marks (view_of now).marks.polls
       ((view_of before).marks.loads
-      ++ (held_polls (unflagged spare.retired flags place) ++ OfSlot entry.slot true ∷ []))
+      ++ (held_polls (unflagged lists.retired flags place) ++ OfSlot entry.slot true ∷ []))
 
-abbrev pub PassesFor : Table → List Bool → MapSeat → Spare → MapSeat → Spare → Option Taken → Type 0
-PassesFor table flags before spare now after (Some taken) = PassTakes table flags before spare now after taken
-PassesFor table flags before spare now after None =
-    (after ≡ spare) × PassedTo table spare flags before now (length spare.retired)
+abbrev pub PassesFor : Table → List Bool → MapSeat → SlotLists → MapSeat → SlotLists → Option Taken → Type 0
+PassesFor table flags before lists now after (Some taken) = PassTakes table flags before lists now after taken
+PassesFor table flags before lists now after None =
+    (after ≡ lists) × PassedTo table lists flags before now (length lists.retired)

@@ -8,7 +8,7 @@ use Rattle.nr_model.specs.Rows.{IsRowSet}
 use Rattle.nr_model.specs.declared.rows.Row.{Row}
 use Rattle.nr_words.specs.KeyWords.{same_count}
 use Rattle.nr_core.specs.Slots.{departures}
-use Rattle.nr_core.specs.Spares.{Spare}
+use Rattle.nr_core.specs.SlotLists.{SlotLists}
 use Rattle.nr_core.specs.declared.places.Place.TheVariants.{Idle}
 use Rattle.nr_core.specs.declared.places.Retired.{Retired}
 use Rattle.nr_core.specs.declared.roles.Desk.{Desk}
@@ -23,7 +23,7 @@ use Rattle.nr_board.specs.declared.reaping.Sweep.{Sweep}
 use Rattle.nr_board.specs.declared.reaping.Sweep.TheVariants as sweep
 use Rattle.nr_board.specs.Callers.{Caller, Table, token}
 use Rattle.nr_board.specs.Plays.{Room, Then}
-use Rattle.nr_board.specs.Spares.{held_polls, not_passed}
+use Rattle.nr_board.specs.SlotLists.{held_polls, not_passed}
 use Rattle.nr_board.specs.Views.{View, view_of}
 use Rattle.nr_board.specs.WholeScans.{scanned_to}
 use Rattle.nr_board.specs.WordLoads.{WordsTell}
@@ -83,47 +83,47 @@ probed notes polls view =
 abbrev pub reaping : ℕ → View → View
 reaping slot view = record view { marks = with_reaped view.marks slot }
 
-abbrev pub ready_in : Spare → View → List Retired
-ready_in spare view = ready view.announcers view.heard spare.reaped spare.retired
+abbrev pub ready_in : SlotLists → View → List Retired
+ready_in lists view = ready view.announcers view.heard lists.reaped lists.retired
 
-abbrev pub SweepsFor : Spare → MapSeat → MapSeat → Sweep → Type 0
-SweepsFor spare old new (sweep.Free slot) =
+abbrev pub SweepsFor : SlotLists → MapSeat → MapSeat → Sweep → Type 0
+SweepsFor lists old new (sweep.Free slot) =
     (held later : List Retired) × (entry : Retired) × (notes : List Past)
-    × (ready_in spare (view_of old) ≡ held ++ entry ∷ later) × HeldEach (view_of old).shape.readers held notes
-    × (slot ≡ entry.slot) × (slot < spare.slots)
+    × (ready_in lists (view_of old) ≡ held ++ entry ∷ later) × HeldEach (view_of old).shape.readers held notes
+    × (slot ≡ entry.slot) × (slot < lists.slots)
     × (view_of new ≡ reaping slot (probed notes (held_polls held ++ OfSlot slot true ∷ []) (view_of old)))
-SweepsFor spare old new sweep.Held =
-    (notes : List Past) × (0 < length (waiting spare.reaped spare.retired))
-    × HeldEach (view_of old).shape.readers (ready_in spare (view_of old)) notes
-    × (view_of new ≡ probed notes (held_polls (ready_in spare (view_of old))) (view_of old))
-SweepsFor spare old new sweep.Nothing = (waiting spare.reaped spare.retired ≡ []) × (view_of new ≡ view_of old)
+SweepsFor lists old new sweep.Held =
+    (notes : List Past) × (0 < length (waiting lists.reaped lists.retired))
+    × HeldEach (view_of old).shape.readers (ready_in lists (view_of old)) notes
+    × (view_of new ≡ probed notes (held_polls (ready_in lists (view_of old))) (view_of old))
+SweepsFor lists old new sweep.Nothing = (waiting lists.reaped lists.retired ≡ []) × (view_of new ≡ view_of old)
 
 -- the sweep so far
-pub record SweptTo (spare : Spare) (before now : MapSeat) (place : ℕ) (waits : Bool) : Type 0 where
+pub record SweptTo (lists : SlotLists) (before now : MapSeat) (place : ℕ) (waits : Bool) : Type 0 where
   pub held : List Retired
   pub notes : List Past
-  pub split : ready_in spare (view_of before)
-      ≡ held ++ ready (view_of before).announcers (view_of before).heard spare.reaped (drop place spare.retired)
+  pub split : ready_in lists (view_of before)
+      ≡ held ++ ready (view_of before).announcers (view_of before).heard lists.reaped (drop place lists.retired)
   pub each : HeldEach (view_of before).shape.readers held notes
   -- each of them stands before the place in the list
   pub earlier : (at : ℕ) (entry : Retired) → get_elem? held at ≡ some entry
-      → (other : ℕ) × (other < place) × (get_elem? spare.retired other ≡ some entry)
+      → (other : ℕ) × (other < place) × (get_elem? lists.retired other ≡ some entry)
   pub own : now.table_id ≡ before.table_id
   pub view : view_of now ≡ probed notes (held_polls held) (view_of before)
   -- whether a set waits
-  pub some_wait : waits ≡ true → 0 < length (waiting spare.reaped spare.retired)
+  pub some_wait : waits ≡ true → 0 < length (waiting lists.reaped lists.retired)
   pub none_wait : waits ≡ false
       → (notes ≡ []) × (held ≡ [])
-      × (waiting spare.reaped spare.retired ≡ waiting spare.reaped (drop place spare.retired))
+      × (waiting lists.reaped lists.retired ≡ waiting lists.reaped (drop place lists.retired))
 
 -- a sweep; or, where readers have words, one that was in vain, a scan, and another sweep
-abbrev pub SweepsHeard : Spare → MapSeat → MapSeat → Sweep → Type 0
-SweepsHeard spare old new found =
-    (SweepsFor spare old new found × (found ≡ sweep.Held → (view_of old).announcers ≡ 0))
-    ⊎ ((0 < (view_of old).announcers) × (mid last : MapSeat) × SweepsFor spare old mid sweep.Held
+abbrev pub SweepsHeard : SlotLists → MapSeat → MapSeat → Sweep → Type 0
+SweepsHeard lists old new found =
+    (SweepsFor lists old new found × (found ≡ sweep.Held → (view_of old).announcers ≡ 0))
+    ⊎ ((0 < (view_of old).announcers) × (mid last : MapSeat) × SweepsFor lists old mid sweep.Held
     × (loads : List LoggedLoad)
-    × WordsTell (view_of old).announcers spare.retired (view_of old).shape.slots loads (view_of last).heard
-    × (view_of last ≡ scanned_to loads (view_of last).heard (view_of mid)) × SweepsFor spare last new found)
+    × WordsTell (view_of old).announcers lists.retired (view_of old).shape.slots loads (view_of last).heard
+    × (view_of last ≡ scanned_to loads (view_of last).heard (view_of mid)) × SweepsFor lists last new found)
 
 -- THE CALL
 

@@ -8,7 +8,7 @@ use Rattle.nr_model.specs.declared.batches.Delta.{Delta}
 use Rattle.nr_model.specs.declared.calls.Call.{Call}
 use Rattle.nr_model.specs.declared.calls.Call.TheVariants as model
 use Rattle.nr_model.specs.declared.rows.Row.{Row}
-use Rattle.nr_core.specs.Spares.{Spare}
+use Rattle.nr_core.specs.SlotLists.{SlotLists}
 use Rattle.nr_core.specs.declared.calls.NoSlot.{NoSlot}
 use Rattle.nr_core.specs.declared.calls.WriterCall.{WriterCall}
 use Rattle.nr_core.specs.Marks.{Marks, set_in}
@@ -20,29 +20,29 @@ use Rattle.nr_board.specs.declared.answers.UpdateFault.{UpdateFault}
 use Rattle.nr_board.specs.declared.publish.Taken.{Taken}
 use Rattle.nr_board.specs.Callers.{Caller, Table}
 use Rattle.nr_board.specs.Recalls.{later}
-use Rattle.nr_board.specs.Spares.{spare_of}
+use Rattle.nr_board.specs.SlotLists.{lists_of}
 use Rattle.nr_board.specs.WriterAnswers.{FillsKey, KeyHad, Publishes, ReplacesKey, UpdatesKey}
 use Rattle.nr_board.specs.WriterSeats.{LacksSlot, MapSeat, PublishesSet, TakesSlot}
 
 module _ {Room : Type 0} (shows : Room → List Row → Type 0) where
   -- By that many steps the room has the set that was put into the slot last, since no slot was left that was never
   -- taken, and the slot was not reaped. Else it is such a one.
-  abbrev pub HandsOut : ℕ → Spare → ℕ → List Row → Room → Room → ℕ → Reclaimed → Type 0
-  HandsOut bound spare slot set before after steps reclaimed.Set =
-      (spare.slots ≤ spare.fresh) × (slice_index_or spare.reaped slot false ≡ false) × (steps ≡ 2 * length set + 1)
+  abbrev pub HandsOut : ℕ → SlotLists → ℕ → List Row → Room → Room → ℕ → Reclaimed → Type 0
+  HandsOut bound lists slot set before after steps reclaimed.Set =
+      (lists.slots ≤ lists.fresh) × (slice_index_or lists.reaped slot false ≡ false) × (steps ≡ 2 * length set + 1)
       × shows after set × IsRowSet bound set
-  HandsOut bound spare slot set before after steps reclaimed.Nothing =
-      ((spare.fresh < spare.slots) ⊎ (slice_index_or spare.reaped slot false ≡ true)) × (steps ≡ 0) × (after ≡ before)
+  HandsOut bound lists slot set before after steps reclaimed.Nothing =
+      ((lists.fresh < lists.slots) ⊎ (slice_index_or lists.reaped slot false ≡ true)) × (steps ≡ 0) × (after ≡ before)
 
   -- the same, by the set that the slot had as the writer knows it before the call
-  abbrev pub HandsOutAt : Table → Spare → Marks → ℕ → Room → Room → ℕ → Reclaimed → Type 0
-  HandsOutAt table spare marks slot before after steps given =
-      HandsOut table.shape.rows spare slot (set_in marks slot) before after steps given
+  abbrev pub HandsOutAt : Table → SlotLists → Marks → ℕ → Room → Room → ℕ → Reclaimed → Type 0
+  HandsOutAt table lists marks slot before after steps given =
+      HandsOut table.shape.rows lists slot (set_in marks slot) before after steps given
 
   -- what a search changes: the writer's seat, its slots, and the room
   pub record Searcher : Type 0 where
     pub seat : MapSeat
-    pub spare : Spare
+    pub lists : SlotLists
     pub room : Room
 
   -- the search for a slot, as it stands after those steps
@@ -50,26 +50,26 @@ module _ {Room : Type 0} (shows : Room → List Row → Type 0) where
       → Type 0
   TakesReclaiming table call rows old new (Ok taken) =
       (steps : ℕ)
-      × TakesSlot table call rows (later steps old.seat) old.spare new.seat new.spare taken.0.slot
+      × TakesSlot table call rows (later steps old.seat) old.lists new.seat new.lists taken.0.slot
       taken.0.departures
-      × HandsOutAt table old.spare old.seat.me.0.marks taken.0.slot old.room new.room steps taken.1
+      × HandsOutAt table old.lists old.seat.me.0.marks taken.0.slot old.room new.room steps taken.1
   TakesReclaiming table call rows old new (Err counts) =
-      LacksSlot table call old.seat old.spare new.seat new.spare counts × (new.room ≡ old.room)
+      LacksSlot table call old.seat old.lists new.seat new.lists counts × (new.room ≡ old.room)
 
   abbrev pub PublishesReclaiming : Table → WriterCall → List Row → Searcher → Searcher → Result Reclaimed NoSlot
       → Type 0
   PublishesReclaiming table call rows old new (Ok given) =
-      (steps : ℕ) × (published : PublishesSet table call rows (later steps old.seat) old.spare new.seat new.spare)
-      × HandsOutAt table old.spare old.seat.me.0.marks published.slot old.room new.room steps given
+      (steps : ℕ) × (published : PublishesSet table call rows (later steps old.seat) old.lists new.seat new.lists)
+      × HandsOutAt table old.lists old.seat.me.0.marks published.slot old.room new.room steps given
   PublishesReclaiming table call rows old new (Err counts) =
-      LacksSlot table call old.seat old.spare new.seat new.spare counts × (new.room ≡ old.room)
+      LacksSlot table call old.seat old.lists new.seat new.lists counts × (new.room ≡ old.room)
 
   -- a call that put its set, besides that many other steps, and gave out what the slot had
   pub record PutsAndGives (others : ℕ) (call : Call) (rows : List Row) (old : Caller) (room : Room) (new : Caller)
       (then : Room) (given : Reclaimed) : Type 0 where
     pub steps : ℕ
     pub published : Publishes (others + steps) call rows old new
-    pub gives : HandsOutAt old.table (spare_of old) old.marks published.slot room then steps given
+    pub gives : HandsOutAt old.table (lists_of old) old.marks published.slot room then steps given
 
   -- A call that did not put its set leaves the room as it was.
   abbrev pub FillsReclaiming : ℕ → ℕ → List Row → Caller → Room → Caller → Room → Result Reclaimed FillFault → Type 0
@@ -92,7 +92,7 @@ module _ {Room : Type 0} (shows : Room → List Row → Type 0) where
     pub steps : ℕ
     pub published : Publishes (2 * length set + 2 + steps) (model.Update key batch) left old new
     pub had : KeyHad key set old published.gains.between
-    pub gives : HandsOutAt old.table (spare_of old) old.marks published.slot room then steps given
+    pub gives : HandsOutAt old.table (lists_of old) old.marks published.slot room then steps given
 
   abbrev pub UpdatesReclaiming : ℕ → ℕ → List Delta → Caller → Room → Caller → Room → Result Reclaimed UpdateFault
       → Type 0

@@ -7,7 +7,7 @@ use Rattle.nr_model.specs.declared.rows.Row.{Row}
 use Rattle.nr_core.specs.declared.calls.WriterCall.{WriterCall}
 use Rattle.nr_core.specs.declared.places.Place.TheVariants.{Searching}
 use Rattle.nr_core.specs.declared.places.Retired.{Retired}
-use Rattle.nr_core.specs.Spares.{Spare}
+use Rattle.nr_core.specs.SlotLists.{SlotLists}
 use Rattle.nr_core.specs.declared.roles.Desk.{Desk}
 use Rattle.nr_core.specs.declared.roles.Role.TheVariants.{Writer}
 use Rattle.nr_board.specs.Callers.{Table, token}
@@ -38,10 +38,10 @@ pub record IsSearching (table : Table) (seat : MapSeat) : Type 0 where
   pub place : desk.place ≡ Searching call rows 0
 
 -- over the retired slots of these lists
-pub record SearchesIn (table : Table) (spare : Spare) (seat : MapSeat) : Type 0 where
+pub record SearchesIn (table : Table) (lists : SlotLists) (seat : MapSeat) : Type 0 where
   pub search : IsSearching table seat
-  pub retired : search.desk.retired ≡ spare.retired
-  pub slots : spare.slots ≡ table.shape.slots
+  pub retired : search.desk.retired ≡ lists.retired
+  pub slots : lists.slots ≡ table.shape.slots
 
 abbrev pub SearchesOn : ℕ → ℕ → View → View → Type 0
 SearchesOn own found old new =

@@ -5,15 +5,17 @@ use Rattle.nr_core.specs.declared.calls.NoSlot.{NoSlot}
 use Rattle.nr_core.specs.declared.calls.WriterCall.{WriterCall}
 use Rattle.nr_board.specs.declared.publish.Taken.{Taken}
 use Rattle.nr_board.specs.Callers.{Table}
-use Rattle.nr_core.specs.Spares.{Spare}
+use Rattle.nr_core.specs.SlotLists.{SlotLists}
 use Rattle.nr_board.specs.WriterSeats.{LacksSlot, MapSeat, PublishesSet, TakesSlot}
 
-abbrev pub TakesFor : Table → WriterCall → List Row → MapSeat → Spare → MapSeat → Spare → Result Taken NoSlot → Type 0
-TakesFor table call rows old spare new after (Ok taken) =
-    TakesSlot table call rows old spare new after taken.slot taken.departures
-TakesFor table call rows old spare new after (Err counts) = LacksSlot table call old spare new after counts
-
-abbrev pub PublishesFor : Table → WriterCall → List Row → MapSeat → Spare → MapSeat → Spare → Result (Unit {0}) NoSlot
+abbrev pub TakesFor : Table → WriterCall → List Row → MapSeat → SlotLists → MapSeat → SlotLists → Result Taken NoSlot
     → Type 0
-PublishesFor table call rows old spare new after (Ok done) = PublishesSet table call rows old spare new after
-PublishesFor table call rows old spare new after (Err counts) = LacksSlot table call old spare new after counts
+TakesFor table call rows old lists new after (Ok taken) =
+    TakesSlot table call rows old lists new after taken.slot taken.departures
+TakesFor table call rows old lists new after (Err counts) = LacksSlot table call old lists new after counts
+
+abbrev pub PublishesFor : Table → WriterCall → List Row → MapSeat → SlotLists → MapSeat → SlotLists
+    → Result (Unit {0}) NoSlot
+    → Type 0
+PublishesFor table call rows old lists new after (Ok done) = PublishesSet table call rows old lists new after
+PublishesFor table call rows old lists new after (Err counts) = LacksSlot table call old lists new after counts

@@ -14,11 +14,11 @@ use Rattle.nr_board.specs.Views.{View}
 use Rattle.nr_board.specs.WordLoads.{WordsSoFar, WordsTell}
 
 -- whether the slot's flag is set
-abbrev pub is_unheard : List Bool → ℕ → Bool
-is_unheard flags slot = slice_index_or flags slot true
+abbrev pub is_flagged : List Bool → ℕ → Bool
+is_flagged flags slot = slice_index_or flags slot true
 
 abbrev pub misses : List Bool → Retired → ℕ
-misses flags entry = (if is_unheard flags entry.slot then 1 else 0)
+misses flags entry = (if is_flagged flags entry.slot then 1 else 0)
 
 -- a reader's word flags the slot that it announces
 abbrev pub announced : ℕ → List Bool → List Bool
@@ -30,13 +30,13 @@ AreInside retired flags = (at : ℕ) (entry : Retired) → get_elem? retired at 
 
 -- no retired slot is flagged
 abbrev pub NoneFlagged : List Retired → List Bool → Type 0
-NoneFlagged retired flags = (slot : ℕ) → 0 < retirements slot retired → is_unheard flags slot ≡ false
+NoneFlagged retired flags = (slot : ℕ) → 0 < retirements slot retired → is_flagged flags slot ≡ false
 
 -- one of the first readers was noted, which holds a flagged slot or none
 pub record KeepsOne (flags : List Bool) (readers : ℕ) (note : Past) : Type 0 where
   pub made : 0 < note.reader
   pub few : note.reader ≤ readers
-  pub holds : (note.slot ≡ None) ⊎ ((slot : ℕ) × (note.slot ≡ Some slot) × (is_unheard flags slot ≡ true))
+  pub holds : (note.slot ≡ None) ⊎ ((slot : ℕ) × (note.slot ≡ Some slot) × (is_flagged flags slot ≡ true))
 
 -- as many readers were noted as retired slots are flagged, each another one
 pub record KeepBack (retired : List Retired) (flags : List Bool) (readers : ℕ) (notes : List Past) : Type 0 where
@@ -46,14 +46,14 @@ pub record KeepBack (retired : List Retired) (flags : List Bool) (readers : ℕ)
 
 -- of the retired slots those without a flag were heard of so many readers, and the others of fewer
 pub record HeardTo (retired : List Retired) (flags : List Bool) (readers : ℕ) (counts : List ℕ) : Type 0 where
-  pub whole : (slot : ℕ) → 0 < retirements slot retired → is_unheard flags slot ≡ false
+  pub whole : (slot : ℕ) → 0 < retirements slot retired → is_flagged flags slot ≡ false
       → slice_index counts slot ≡ readers
-  pub stuck : (slot : ℕ) → 0 < retirements slot retired → is_unheard flags slot ≡ true
+  pub stuck : (slot : ℕ) → 0 < retirements slot retired → is_flagged flags slot ≡ true
       → slice_index counts slot < readers
 
 -- the slot is retired, and flagged
 abbrev pub FlaggedIn : List Retired → List Bool → ℕ → Type 0
-FlaggedIn retired flags slot = (0 < retirements slot retired) × (is_unheard flags slot ≡ true)
+FlaggedIn retired flags slot = (0 < retirements slot retired) × (is_flagged flags slot ≡ true)
 
 -- the noted reader's word said the slot, by a load behind those that were made before
 abbrev pub SaidBehind : List LoggedLoad → List LoggedLoad → ℕ → Past → Type 0

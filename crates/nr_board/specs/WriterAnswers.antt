@@ -29,8 +29,8 @@ use Rattle.nr_board.specs.declared.answers.Found.{Found}
 use Rattle.nr_board.specs.declared.answers.Found.TheVariants as found
 use Rattle.nr_board.specs.Callers.{Caller, Gains, Grows, map_at_opening}
 use Rattle.nr_board.specs.Plays.{Lacks}
-use Rattle.nr_core.specs.Spares.{Spare}
-use Rattle.nr_board.specs.Spares.{AreFewSteps, SearchedAll, TookBySearch, spare_of}
+use Rattle.nr_core.specs.SlotLists.{SlotLists}
+use Rattle.nr_board.specs.SlotLists.{AreFewSteps, SearchedAll, TookBySearch, lists_of}
 use Rattle.nr_core.specs.Marks.{Marks, LoggedLoad, with_loads, with_name, with_polls, with_scan, without_name}
 use Rattle.nr_core.specs.Puts.{put_count}
 use Rattle.nr_core.specs.PollNotes.{Noted}
@@ -38,7 +38,7 @@ use Rattle.nr_board.specs.Polls.{KeptBack}
 
 -- the writer's slots and numbers are as they were, and what it heard, and the call polled none
 abbrev pub SlotsStay : Caller → Caller → Type 0
-SlotsStay old new = (spare_of new ≡ spare_of old) × (new.marks ≡ with_polls old.marks []) × (new.heard ≡ old.heard)
+SlotsStay old new = (lists_of new ≡ lists_of old) × (new.marks ≡ with_polls old.marks []) × (new.heard ≡ old.heard)
 
 -- the slot that the key named, as the map's words have it, is retired behind the others
 pub record RetiresOne (key : ℕ) (old : Caller) (before after : List Retired) : Type 0 where
@@ -83,11 +83,11 @@ pub record Publishes (steps : ℕ) (call : Call) (rows : List Row) (old new : Ca
   pub searched : ℕ
   pub slot : ℕ
   pub inside : slot < old.table.shape.slots
-  pub mid : Spare
+  pub mid : SlotLists
   -- what was heard when the search ended, of the slot's new set nothing is; and its polls and loads of readers' words
   pub scanned : List ℕ
   pub loads : List LoggedLoad
-  pub took : TookBySearch old.table old.heard scanned loads slot searched (spare_of old) mid
+  pub took : TookBySearch old.table old.heard scanned loads slot searched (lists_of old) mid
   pub heard : new.heard ≡ slice_set scanned slot 0
   pub few : AreFewSteps old.table searched
   pub fresh : new.fresh ≡ mid.fresh
@@ -114,7 +114,7 @@ pub record HasNoSlot (steps : ℕ) (call : Call) (old new : Caller) (counts : No
   pub kept : KeptBack old.table.shape.readers old.seen new.seen loads old.retired new.marks.polls
   -- where no reader has a word, the noted one had made no fewer acts than the writer knew of
   pub noted : old.table.announcers ≡ 0 → Noted old.table.shape old.pasts new.marks.polls
-  pub slots : spare_of new ≡ spare_of old
+  pub slots : lists_of new ≡ lists_of old
   pub marks : new.marks ≡ with_scan old.marks new.marks.polls (old.marks.loads ++ loads)
 
 -- a fill names the number of the request that it answers
@@ -175,14 +175,14 @@ EvictsKey key old new evict.Evicted =
 EvictsKey key old new evict.Nothing = Gains 1 (model.Evict key) old new reply.Nothing × SlotsStay old new
 
 -- the writer's slots and numbers, where the key has the next number
-abbrev pub with_next_number : Caller → ℕ → Spare
+abbrev pub with_next_number : Caller → ℕ → SlotLists
 with_next_number old key =
-    record (spare_of old) { numbers = slice_set old.numbers key (slice_index old.numbers key + 1) }
+    record (lists_of old) { numbers = slice_set old.numbers key (slice_index old.numbers key + 1) }
 
 -- a cancel gives the key the next number; it retires no slot, and no key names another
 abbrev pub CancelsKey : ℕ → Caller → Caller → Cancel → Type 0
 CancelsKey key old new cancel.Cancelled =
-    Gains 2 (model.Cancel key) old new reply.Cancelled × (spare_of new ≡ with_next_number old key)
+    Gains 2 (model.Cancel key) old new reply.Cancelled × (lists_of new ≡ with_next_number old key)
     × (new.marks ≡ with_polls old.marks []) × (new.heard ≡ old.heard)
 CancelsKey key old new cancel.Nothing = Gains 1 (model.Cancel key) old new reply.Nothing × SlotsStay old new
 CancelsKey key old new cancel.Worn = Gains 1 (model.Cancel key) old new reply.Worn × SlotsStay old new

@@ -24,9 +24,9 @@ use Rattle.nr_core.specs.declared.places.Place.TheVariants.{Idle, Leaving, Putti
 use Rattle.nr_core.specs.declared.roles.Desk.{Desk}
 use Rattle.nr_core.specs.declared.roles.Role.TheVariants.{Writer}
 use Rattle.nr_board.specs.Callers.{Grows, KnowsOwn, Table, map_seen, token, IsSound}
-use Rattle.nr_core.specs.Spares.{Spare}
+use Rattle.nr_core.specs.SlotLists.{SlotLists}
 use Rattle.nr_board.specs.Announcing.{heard_at}
-use Rattle.nr_board.specs.Spares.{AreFewSteps, SearchedAll, TookBySearch, desk_with}
+use Rattle.nr_board.specs.SlotLists.{AreFewSteps, SearchedAll, TookBySearch, desk_with}
 use Rattle.nr_board.specs.Plays.{Finds, Lacks, NotesTell, Room, SwapsAt, call_at, next_put}
 use Rattle.nr_board.specs.Polls.{KeptBack}
 use Rattle.nr_core.specs.MarkSteps.{GoesMarks}
@@ -144,11 +144,12 @@ pub record PutsTo (table : Table) (desk : Desk) (old new : MapSeat) : Type 0 whe
   pub heard : (view_of new).heard ≡ heard_at desk.place (view_of old).heard
 
 -- the call has its set, and looks for a slot
-pub record Settles (table : Table) (call : WriterCall) (rows : List Row) (spare : Spare) (seat : MapSeat) : Type 0 where
-  pub slots : spare.slots ≡ table.shape.slots
-  pub writes : WritesAt table (desk_in (settled table.shape (desk_with spare Idle) call rows)) seat
+pub record Settles (table : Table) (call : WriterCall) (rows : List Row) (lists : SlotLists)
+    (seat : MapSeat) : Type 0 where
+  pub slots : lists.slots ≡ table.shape.slots
+  pub writes : WritesAt table (desk_in (settled table.shape (desk_with lists Idle) call rows)) seat
   pub short : (counts : NoSlot)
-      → step_in (settled table.shape (desk_with spare Idle) call rows) ≡ Ended (writer.NoSlot counts)
+      → step_in (settled table.shape (desk_with lists Idle) call rows) ≡ Ended (writer.NoSlot counts)
       → Lacks (call_of call) counts (token seat)
   pub knows : IsSound (token seat)
   pub polls : (view_of seat).marks.polls ≡ []
@@ -167,46 +168,47 @@ swept shape desk call rows polls =
     (moved_to desk Idle, no_slot shape desk))
 
 -- the slot that a call took, with its departures, or there was none
-pub record TakesSlot (table : Table) (call : WriterCall) (rows : List Row) (old : MapSeat) (spare : Spare)
-    (new : MapSeat) (after : Spare) (slot departed : ℕ) : Type 0 where
+pub record TakesSlot (table : Table) (call : WriterCall) (rows : List Row) (old : MapSeat) (lists : SlotLists)
+    (new : MapSeat) (after : SlotLists) (slot departed : ℕ) : Type 0 where
   pub steps : ℕ
   pub loads : List LoggedLoad
-  pub took : TookBySearch table (view_of old).heard (view_of new).heard loads slot steps spare after
+  pub took : TookBySearch table (view_of old).heard (view_of new).heard loads slot steps lists after
   pub few : AreFewSteps table steps
-  pub slots : after.slots ≡ spare.slots
-  pub numbers : after.numbers ≡ spare.numbers
-  pub reaped : after.reaped ≡ spare.reaped
+  pub slots : after.slots ≡ lists.slots
+  pub numbers : after.numbers ≡ lists.numbers
+  pub reaped : after.reaped ≡ lists.reaped
   pub writes : WritesAt table (desk_with after (Putting call rows slot departed 0)) new
   pub grows : Grows steps [] (token old) (token new)
   pub marks : (view_of new).marks
       ≡ with_scan (view_of old).marks (view_of new).marks.polls ((view_of old).marks.loads ++ loads)
 
-pub record LacksSlot (table : Table) (call : WriterCall) (old : MapSeat) (spare : Spare) (new : MapSeat) (after : Spare)
+pub record LacksSlot (table : Table) (call : WriterCall) (old : MapSeat) (lists : SlotLists) (new : MapSeat)
+    (after : SlotLists)
     (counts : NoSlot) : Type 0 where
-  pub same : after ≡ spare
-  pub writes : WritesAt table (desk_with spare Idle) new
+  pub same : after ≡ lists
+  pub writes : WritesAt table (desk_with lists Idle) new
   pub steps : ℕ
   pub loads : List LoggedLoad
-  pub searched : SearchedAll table (view_of old).heard (view_of new).heard loads spare.retired steps
+  pub searched : SearchedAll table (view_of old).heard (view_of new).heard loads lists.retired steps
   pub grows : Grows steps [] (token old) (token new)
   pub lacks : Lacks (call_of call) counts (token new)
   pub noted : table.announcers ≡ 0 → Noted table.shape (view_of old).pasts (view_of new).marks.polls
-  pub kept : KeptBack table.shape.readers (view_of old).seen (view_of new).seen loads spare.retired
+  pub kept : KeptBack table.shape.readers (view_of old).seen (view_of new).seen loads lists.retired
       (view_of new).marks.polls
   pub marks : (view_of new).marks
       ≡ with_scan (view_of old).marks (view_of new).marks.polls ((view_of old).marks.loads ++ loads)
 
 -- the set was published: the call's last step is its entry, and the slot that the key named before is retired
-pub record PublishesSet (table : Table) (call : WriterCall) (rows : List Row) (old : MapSeat) (spare : Spare)
-    (new : MapSeat) (after : Spare) : Type 0 where
+pub record PublishesSet (table : Table) (call : WriterCall) (rows : List Row) (old : MapSeat) (lists : SlotLists)
+    (new : MapSeat) (after : SlotLists) : Type 0 where
   pub steps : ℕ
   pub slot : ℕ
   pub inside : slot < table.shape.slots
-  pub mid : Spare
+  pub mid : SlotLists
   -- what was heard when the search ended, and its polls and loads of readers' words
   pub scanned : List ℕ
   pub loads : List LoggedLoad
-  pub took : TookBySearch table (view_of old).heard scanned loads slot steps spare mid
+  pub took : TookBySearch table (view_of old).heard scanned loads slot steps lists mid
   pub heard : (view_of new).heard ≡ slice_set scanned slot 0
   -- the word that the key had
   pub word : ℕ
@@ -214,10 +216,10 @@ pub record PublishesSet (table : Table) (call : WriterCall) (rows : List Row) (o
   pub seen : (view_of new).seen ≡ log ++ entry 0 (call_of call) reply.Done ∷ []
   pub swaps : SwapsAt table.shape (key_of call) word log (view_of old).marks
   -- the slot's new set is not reaped
-  pub retires : after ≡ record mid { retired = mid.retired ++ unnamed word; reaped = slice_set spare.reaped slot false }
+  pub retires : after ≡ record mid { retired = mid.retired ++ unnamed word; reaped = slice_set lists.reaped slot false }
   pub few : AreFewSteps table steps
-  pub slots : after.slots ≡ spare.slots
-  pub numbers : after.numbers ≡ spare.numbers
+  pub slots : after.slots ≡ lists.slots
+  pub numbers : after.numbers ≡ lists.numbers
   -- the set has the next put number
   pub number : ℕ
   pub count : put_count (view_of new).seen ≡ suc number
@@ -228,8 +230,8 @@ pub record PublishesSet (table : Table) (call : WriterCall) (rows : List Row) (o
   pub grows : Grows (2 * length rows + 2 + steps) (entry 0 (call_of call) reply.Done ∷ []) (token old) (token new)
 
 -- the writer between two calls, with its slots
-pub record RestsAt (table : Table) (spare : Spare) (seat : MapSeat) : Type 0 where
-  pub writes : WritesAt table (desk_with spare Idle) seat
-  pub slots : spare.slots ≡ table.shape.slots
-  pub reaped : spare.reaped ≡ (view_of seat).marks.reaped
+pub record RestsAt (table : Table) (lists : SlotLists) (seat : MapSeat) : Type 0 where
+  pub writes : WritesAt table (desk_with lists Idle) seat
+  pub slots : lists.slots ≡ table.shape.slots
+  pub reaped : lists.reaped ≡ (view_of seat).marks.reaped
   pub own : KnowsOwn (token seat)

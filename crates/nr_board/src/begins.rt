@@ -11,8 +11,8 @@ use crate::answers::{FillFault, ReplaceFault, UpdateFault};
 use crate::board::{Board, Seat};
 use crate::only_proved::only_proved;
 use crate::rule::BegunCall;
-use nr_core::Spare;
-use nr_model::{ApplyFault, Delta, Pile, Row};
+use nr_core::SlotLists;
+use nr_model::{ApplyFault, Delta, Row, SortedRows};
 use nr_words::parts;
 
 impl Board {
@@ -20,7 +20,7 @@ impl Board {
     pub(crate) fn begin_fill<G: BegunCall>(
         &self,
         seat: &mut Seat,
-        spare: &Spare,
+        lists: &SlotLists,
         key: u32,
         number: u64,
         rows: &[Row],
@@ -28,11 +28,11 @@ impl Board {
         requires call { G.call ≡ writer.Fill key number rows.now }
         requires row_set { IsRowSet self.now.shape.rows rows.now }
         requires own { (token seat.old).table ≡ self.now }
-        requires rests { RestsAt (token seat.old).table spare.now seat.old }
+        requires rests { RestsAt (token seat.old).table lists.now seat.old }
         requires key { key < self.now.shape.keys }
-        ensures { BeginsFill self.now spare.now key number rows.now seat.old seat.new result }
+        ensures { BeginsFill self.now lists.now key number rows.now seat.old seat.new result }
     {
-        only_proved(spare);
+        only_proved(lists);
         only_proved(rows);
         let found = parts(self.look::<G>(seat, key));
         if found.filled {
@@ -51,25 +51,25 @@ impl Board {
     pub(crate) fn begin_update<G: BegunCall>(
         &self,
         seat: &mut Seat,
-        spare: &Spare,
-        pile: &mut Pile,
+        lists: &SlotLists,
+        sorted: &mut SortedRows,
         key: u32,
         deltas: &[Delta],
     ) -> Result<(), UpdateFault>
         requires call { G.call ≡ writer.Update key deltas.now }
         requires batch { IsBatch deltas.now }
         requires own { (token seat.old).table ≡ self.now }
-        requires rests { RestsAt (token seat.old).table spare.now seat.old }
+        requires rests { RestsAt (token seat.old).table lists.now seat.old }
         requires key { key < self.now.shape.keys }
-        ensures { BeginsUpdate self.now spare.now key deltas.now pile.new seat.old seat.new result }
+        ensures { BeginsUpdate self.now lists.now key deltas.now sorted.new seat.old seat.new result }
     {
-        only_proved(spare);
+        only_proved(lists);
         let found = parts(self.look::<G>(seat, key));
         if !found.filled {
             return Err(UpdateFault::Dropped);
         }
-        self.read_set::<G, Pile>(seat, found.slot, pile);
-        match pile.apply_deltas(deltas, self.rows()) {
+        self.read_set::<G, SortedRows>(seat, found.slot, sorted);
+        match sorted.apply_deltas(deltas, self.rows()) {
             Ok(()) => Ok(()),
             Err(ApplyFault::NoRow) => Err(UpdateFault::NoRow),
             Err(ApplyFault::TooMany) => Err(UpdateFault::TooMany),
@@ -80,18 +80,18 @@ impl Board {
     pub(crate) fn begin_replace<G: BegunCall>(
         &self,
         seat: &mut Seat,
-        spare: &Spare,
+        lists: &SlotLists,
         key: u32,
         rows: &[Row],
     ) -> Result<(), ReplaceFault>
         requires call { G.call ≡ writer.Replace key rows.now }
         requires row_set { IsRowSet self.now.shape.rows rows.now }
         requires own { (token seat.old).table ≡ self.now }
-        requires rests { RestsAt (token seat.old).table spare.now seat.old }
+        requires rests { RestsAt (token seat.old).table lists.now seat.old }
         requires key { key < self.now.shape.keys }
-        ensures { BeginsReplace self.now spare.now key rows.now seat.old seat.new result }
+        ensures { BeginsReplace self.now lists.now key rows.now seat.old seat.new result }
     {
-        only_proved(spare);
+        only_proved(lists);
         only_proved(rows);
         if !parts(self.look::<G>(seat, key)).filled {
             return Err(ReplaceFault::Dropped);

@@ -45,4 +45,4 @@ pub use answers::{
 pub use board::{Board, Note, Own, Plan, Seat};
 pub use holds::Held;
 pub use rule::BegunCall;
-pub use scans::Unheard;
+pub use scans::ScanFlags;

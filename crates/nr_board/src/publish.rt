@@ -11,8 +11,8 @@ use crate::answers::Reclaimed;
 use crate::board::{Board, Seat};
 use crate::only_proved::only_proved;
 use crate::rule::BegunCall;
-use crate::scans::Unheard;
-use nr_core::{NoSlot, Spare};
+use crate::scans::ScanFlags;
+use nr_core::{NoSlot, SlotLists};
 use nr_model::{Row, RowRoom};
 use nr_words::same_count;
 
@@ -35,24 +35,24 @@ impl Board {
     pub(crate) fn publish_set<G: BegunCall>(
         &self,
         seat: &mut Seat,
-        spare: &mut Spare,
-        unheard: &mut Unheard,
+        lists: &mut SlotLists,
+        flags: &mut ScanFlags,
         key: u32,
         rows: &[Row],
     ) -> Result<(), NoSlot>
-        requires settles { Settles self.now G.call rows.now spare.old seat.old }
-        requires flagged { IsFlagged self.now spare.old.retired (view_of seat.old).heard unheard.old }
+        requires settles { Settles self.now G.call rows.now lists.old seat.old }
+        requires flagged { IsFlagged self.now lists.old.retired (view_of seat.old).heard flags.old }
         requires call { key ≡ key_of G.call }
         requires key { key < self.now.shape.keys }
-        ensures publishes { PublishesFor self.now G.call rows.now seat.old spare.old seat.new spare.new result }
-        ensures flagged { IsFlagged self.now spare.new.retired (view_of seat.new).heard unheard.new }
+        ensures publishes { PublishesFor self.now G.call rows.now seat.old lists.old seat.new lists.new result }
+        ensures flagged { IsFlagged self.now lists.new.retired (view_of seat.new).heard flags.new }
     {
-        let taken = self.take_slot::<G>(seat, spare, unheard, rows)?;
+        let taken = self.take_slot::<G>(seat, lists, flags, rows)?;
         self.put_rows::<G>(seat, rows, taken);
         let old_word = self.publish(seat, key, taken.slot, taken.departures);
-        spare.retire(old_word);
-        spare.set_reaped(taken.slot, false);
-        unheard.flag(taken.slot);
+        lists.retire(old_word);
+        lists.set_reaped(taken.slot, false);
+        flags.flag(taken.slot);
         Ok(())
     }
 
@@ -62,20 +62,20 @@ impl Board {
     fn take_slot<G: BegunCall>(
         &self,
         seat: &mut Seat,
-        spare: &mut Spare,
-        unheard: &mut Unheard,
+        lists: &mut SlotLists,
+        flags: &mut ScanFlags,
         rows: &[Row],
     ) -> Result<Taken, NoSlot>
-        requires settles { Settles self.now G.call rows.now spare.old seat.old }
-        requires flagged { IsFlagged self.now spare.old.retired (view_of seat.old).heard unheard.old }
-        ensures takes { TakesFor self.now G.call rows.now seat.old spare.old seat.new spare.new result }
-        ensures flagged { IsFlagged self.now spare.old.retired (view_of seat.new).heard unheard.new }
+        requires settles { Settles self.now G.call rows.now lists.old seat.old }
+        requires flagged { IsFlagged self.now lists.old.retired (view_of seat.old).heard flags.old }
+        ensures takes { TakesFor self.now G.call rows.now seat.old lists.old seat.new lists.new result }
+        ensures flagged { IsFlagged self.now lists.old.retired (view_of seat.new).heard flags.new }
     {
-        if let Some(slot) = spare.take_fresh() {
+        if let Some(slot) = lists.take_fresh() {
             let departures = self.shape().first_count;
             return Ok(Taken { slot, departures });
         }
-        self.take_retired::<G>(seat, spare, unheard, rows)
+        self.take_retired::<G>(seat, lists, flags, rows)
     }
 
     // Where no reader has a word, a poll of each retired slot tells whether it is held.
@@ -83,40 +83,40 @@ impl Board {
     fn take_retired<G: BegunCall>(
         &self,
         seat: &mut Seat,
-        spare: &mut Spare,
-        unheard: &mut Unheard,
+        lists: &mut SlotLists,
+        flags: &mut ScanFlags,
         rows: &[Row],
     ) -> Result<Taken, NoSlot>
-        requires settles { Settles self.now G.call rows.now spare.old seat.old }
-        requires none_fresh { spare.old.slots ≤ spare.old.fresh }
-        requires flagged { IsFlagged self.now spare.old.retired (view_of seat.old).heard unheard.old }
-        ensures takes { TakesFor self.now G.call rows.now seat.old spare.old seat.new spare.new result }
-        ensures flagged { IsFlagged self.now spare.old.retired (view_of seat.new).heard unheard.new }
+        requires settles { Settles self.now G.call rows.now lists.old seat.old }
+        requires none_fresh { lists.old.slots ≤ lists.old.fresh }
+        requires flagged { IsFlagged self.now lists.old.retired (view_of seat.old).heard flags.old }
+        ensures takes { TakesFor self.now G.call rows.now seat.old lists.old seat.new lists.new result }
+        ensures flagged { IsFlagged self.now lists.old.retired (view_of seat.new).heard flags.new }
     {
         if self.announcers() == 0 {
-            return self.poll_retired::<G>(seat, spare, rows);
+            return self.poll_retired::<G>(seat, lists, rows);
         }
-        if spare.retired_len() == 0 {
-            return Err(spare.counts());
+        if lists.retired_len() == 0 {
+            return Err(lists.counts());
         }
-        self.search_retired(seat, spare, unheard)
+        self.search_retired(seat, lists, flags)
     }
 
     #[inline(always)]
     fn poll_retired<G: BegunCall>(
         &self,
         seat: &mut Seat,
-        spare: &mut Spare,
+        lists: &mut SlotLists,
         rows: &[Row],
     ) -> Result<Taken, NoSlot>
-        requires settles { Settles self.now G.call rows.now spare.old seat.old }
-        requires none_fresh { spare.old.slots ≤ spare.old.fresh }
+        requires settles { Settles self.now G.call rows.now lists.old seat.old }
+        requires none_fresh { lists.old.slots ≤ lists.old.fresh }
         requires counted { self.now.announcers ≡ 0 }
-        ensures { TakesFor self.now G.call rows.now seat.old spare.old seat.new spare.new result }
+        ensures { TakesFor self.now G.call rows.now seat.old lists.old seat.new lists.new result }
     {
         only_proved(rows);
-        let Some(oldest) = spare.take_oldest() else {
-            return Err(spare.counts());
+        let Some(oldest) = lists.take_oldest() else {
+            return Err(lists.counts());
         };
         let first = self.poll(seat, oldest.slot);
         if same_count(first, oldest.arrivals) {
@@ -125,19 +125,19 @@ impl Board {
                 departures: first,
             });
         }
-        spare.put_back(oldest);
-        for place in 1..spare.retired_len() {
-            let entry = spare.retired_at(place);
+        lists.put_back(oldest);
+        for place in 1..lists.retired_len() {
+            let entry = lists.retired_at(place);
             let departures = self.poll(seat, entry.slot);
             if same_count(departures, entry.arrivals) {
-                spare.take_retired(place);
+                lists.take_retired(place);
                 return Ok(Taken {
                     slot: entry.slot,
                     departures,
                 });
             }
         }
-        Err(spare.counts())
+        Err(lists.counts())
     }
 
     /// As `publish_set`, and writes the set that the slot had before over the rows of `had`, if the
@@ -146,26 +146,26 @@ impl Board {
     pub(crate) fn publish_reclaiming<G: BegunCall, R: RowRoom>(
         &self,
         seat: &mut Seat,
-        spare: &mut Spare,
-        unheard: &mut Unheard,
+        lists: &mut SlotLists,
+        flags: &mut ScanFlags,
         key: u32,
         rows: &[Row],
         had: &mut R,
     ) -> Result<Reclaimed, NoSlot>
-        requires settles { Settles self.now G.call rows.now spare.old seat.old }
-        requires flagged { IsFlagged self.now spare.old.retired (view_of seat.old).heard unheard.old }
+        requires settles { Settles self.now G.call rows.now lists.old seat.old }
+        requires flagged { IsFlagged self.now lists.old.retired (view_of seat.old).heard flags.old }
         requires call { key ≡ key_of G.call }
         requires key { key < self.now.shape.keys }
-        ensures publishes { PublishesReclaiming R.shows self.now G.call rows.now (record { seat = seat.old; spare = spare.old; room = had.old }) (record { seat = seat.new; spare = spare.new; room = had.new }) result }
-        ensures flagged { IsFlagged self.now spare.new.retired (view_of seat.new).heard unheard.new }
+        ensures publishes { PublishesReclaiming R.shows self.now G.call rows.now (record { seat = seat.old; lists = lists.old; room = had.old }) (record { seat = seat.new; lists = lists.new; room = had.new }) result }
+        ensures flagged { IsFlagged self.now lists.new.retired (view_of seat.new).heard flags.new }
     {
-        let (taken, given) = self.take_reclaiming::<G, R>(seat, spare, unheard, rows, had)?;
+        let (taken, given) = self.take_reclaiming::<G, R>(seat, lists, flags, rows, had)?;
         self.put_rows::<G>(seat, rows, taken);
         let named = self.publish(seat, key, taken.slot, taken.departures);
-        spare.retire(named);
+        lists.retire(named);
         let slot = taken.slot;
-        spare.set_reaped(slot, false);
-        unheard.flag(slot);
+        lists.set_reaped(slot, false);
+        flags.flag(slot);
         Ok(given)
     }
 
@@ -174,22 +174,22 @@ impl Board {
     fn take_reclaiming<G: BegunCall, R: RowRoom>(
         &self,
         seat: &mut Seat,
-        spare: &mut Spare,
-        unheard: &mut Unheard,
+        lists: &mut SlotLists,
+        flags: &mut ScanFlags,
         rows: &[Row],
         had: &mut R,
     ) -> Result<(Taken, Reclaimed), NoSlot>
-        requires settles { Settles self.now G.call rows.now spare.old seat.old }
-        requires flagged { IsFlagged self.now spare.old.retired (view_of seat.old).heard unheard.old }
-        ensures takes { TakesReclaiming R.shows self.now G.call rows.now (record { seat = seat.old; spare = spare.old; room = had.old }) (record { seat = seat.new; spare = spare.new; room = had.new }) result }
-        ensures flagged { IsFlagged self.now spare.old.retired (view_of seat.new).heard unheard.new }
+        requires settles { Settles self.now G.call rows.now lists.old seat.old }
+        requires flagged { IsFlagged self.now lists.old.retired (view_of seat.old).heard flags.old }
+        ensures takes { TakesReclaiming R.shows self.now G.call rows.now (record { seat = seat.old; lists = lists.old; room = had.old }) (record { seat = seat.new; lists = lists.new; room = had.new }) result }
+        ensures flagged { IsFlagged self.now lists.old.retired (view_of seat.new).heard flags.new }
     {
-        if let Some(slot) = spare.take_fresh() {
+        if let Some(slot) = lists.take_fresh() {
             let departures = self.shape().first_count;
             return Ok((Taken { slot, departures }, Reclaimed::Nothing));
         }
-        let taken = self.take_retired::<G>(seat, spare, unheard, rows)?;
-        if spare.is_reaped(taken.slot) {
+        let taken = self.take_retired::<G>(seat, lists, flags, rows)?;
+        if lists.is_reaped(taken.slot) {
             return Ok((taken, Reclaimed::Nothing));
         }
         self.recall_set::<R>(seat, taken.slot, had);

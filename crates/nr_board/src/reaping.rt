@@ -8,8 +8,8 @@ ghost use Rattle.nr_board.specs.WriterSeats.{RestsAt};
 
 use crate::answers::Reaped;
 use crate::board::{Board, Seat};
-use crate::scans::Unheard;
-use nr_core::Spare;
+use crate::scans::ScanFlags;
+use nr_core::SlotLists;
 use nr_model::RowRoom;
 use nr_words::same_count;
 
@@ -33,20 +33,20 @@ impl Board {
     pub fn reap<R: RowRoom>(
         &self,
         seat: &mut Seat,
-        spare: &mut Spare,
-        unheard: &mut Unheard,
+        lists: &mut SlotLists,
+        flags: &mut ScanFlags,
         had: &mut R,
     ) -> Reaped
         requires own { (token seat.old).table ≡ self.now }
-        requires rests { RestsAt (token seat.old).table spare.old seat.old }
-        requires flagged { IsFlagged self.now spare.old.retired (token seat.old).heard unheard.old }
-        ensures rests { RestsAt (token seat.new).table spare.new seat.new }
-        ensures flagged { IsFlagged self.now spare.new.retired (token seat.new).heard unheard.new }
+        requires rests { RestsAt (token seat.old).table lists.old seat.old }
+        requires flagged { IsFlagged self.now lists.old.retired (token seat.old).heard flags.old }
+        ensures rests { RestsAt (token seat.new).table lists.new seat.new }
+        ensures flagged { IsFlagged self.now lists.new.retired (token seat.new).heard flags.new }
         ensures reaps { ReapsIn R.shows (token seat.old) had.old (token seat.new) had.new result }
     {
-        match self.sweep_heard(seat, spare, unheard) {
+        match self.sweep_heard(seat, lists, flags) {
             Sweep::Free(slot) => {
-                spare.set_reaped(slot, true);
+                lists.set_reaped(slot, true);
                 self.recall_set::<R>(seat, slot, had);
                 Reaped::Set
             }
@@ -56,36 +56,36 @@ impl Board {
     }
 
     // A sweep, and where it is in vain and readers have words a scan and another one.
-    fn sweep_heard(&self, seat: &mut Seat, spare: &Spare, unheard: &mut Unheard) -> Sweep
-        requires rests { RestsAt self.now spare.now seat.old }
-        requires flagged { IsFlagged self.now spare.now.retired (view_of seat.old).heard unheard.old }
+    fn sweep_heard(&self, seat: &mut Seat, lists: &SlotLists, flags: &mut ScanFlags) -> Sweep
+        requires rests { RestsAt self.now lists.now seat.old }
+        requires flagged { IsFlagged self.now lists.now.retired (view_of seat.old).heard flags.old }
         ensures own { seat.new.table_id ≡ seat.old.table_id }
-        ensures sweeps { SweepsHeard spare.now seat.old seat.new result }
-        ensures flagged { IsFlagged self.now spare.now.retired (view_of seat.new).heard unheard.new }
+        ensures sweeps { SweepsHeard lists.now seat.old seat.new result }
+        ensures flagged { IsFlagged self.now lists.now.retired (view_of seat.new).heard flags.new }
     {
-        let first = self.sweep(seat, spare, unheard);
+        let first = self.sweep(seat, lists, flags);
         if self.announcers() == 0 || !matches!(first, Sweep::Held) {
             return first;
         }
-        self.scan_at_rest(seat, spare, unheard);
-        self.sweep(seat, spare, unheard)
+        self.scan_at_rest(seat, lists, flags);
+        self.sweep(seat, lists, flags)
     }
 
     // Polls the retired slots whose sets wait and that were heard, oldest first, up to the first that
     // nobody holds.
-    fn sweep(&self, seat: &mut Seat, spare: &Spare, unheard: &Unheard) -> Sweep
-        requires rests { RestsAt self.now spare.now seat.old }
-        requires flagged { IsFlagged self.now spare.now.retired (view_of seat.old).heard unheard.now }
+    fn sweep(&self, seat: &mut Seat, lists: &SlotLists, flags: &ScanFlags) -> Sweep
+        requires rests { RestsAt self.now lists.now seat.old }
+        requires flagged { IsFlagged self.now lists.now.retired (view_of seat.old).heard flags.now }
         ensures own { seat.new.table_id ≡ seat.old.table_id }
-        ensures sweeps { SweepsFor spare.now seat.old seat.new result }
+        ensures sweeps { SweepsFor lists.now seat.old seat.new result }
     {
-        let first = spare.passed();
+        let first = lists.passed();
         let mut waits = false;
-        for place in first..spare.retired_len() {
-            let entry = spare.retired_at(place);
-            if !spare.is_reaped(entry.slot) {
+        for place in first..lists.retired_len() {
+            let entry = lists.retired_at(place);
+            if !lists.is_reaped(entry.slot) {
                 waits = true;
-                if !self.is_unheard(unheard, entry.slot) {
+                if !self.is_flagged(flags, entry.slot) {
                     let departures = self.probe(seat, entry);
                     if same_count(departures, entry.arrivals) {
                         return Sweep::Free(entry.slot);

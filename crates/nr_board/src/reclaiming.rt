@@ -11,9 +11,9 @@ ghost use Rattle.nr_board.specs.WriterSeats.{RestsAt};
 use crate::answers::{FillFault, Reclaimed, ReplaceFault, UpdateFault};
 use crate::board::{Board, Seat};
 use crate::rule::BegunCall;
-use crate::scans::Unheard;
-use nr_core::Spare;
-use nr_model::{Delta, Pile, Row, RowRoom};
+use crate::scans::ScanFlags;
+use nr_core::SlotLists;
+use nr_model::{Delta, Row, RowRoom, SortedRows};
 
 impl Board {
     /// As `fill_key`, and between the search and the put reads the set of m rows that the slot had
@@ -22,8 +22,8 @@ impl Board {
     pub fn fill_reclaiming<G: BegunCall, R: RowRoom>(
         &self,
         seat: &mut Seat,
-        spare: &mut Spare,
-        unheard: &mut Unheard,
+        lists: &mut SlotLists,
+        flags: &mut ScanFlags,
         key: u32,
         number: u64,
         rows: &[Row],
@@ -32,15 +32,15 @@ impl Board {
         requires call { G.call ≡ writer.Fill key number rows.now }
         requires row_set { IsRowSet self.now.shape.rows rows.now }
         requires own { (token seat.old).table ≡ self.now }
-        requires rests { RestsAt (token seat.old).table spare.old seat.old }
-        requires flagged { IsFlagged self.now spare.old.retired (token seat.old).heard unheard.old }
+        requires rests { RestsAt (token seat.old).table lists.old seat.old }
+        requires flagged { IsFlagged self.now lists.old.retired (token seat.old).heard flags.old }
         requires key { key < self.now.shape.keys }
-        ensures rests { RestsAt (token seat.new).table spare.new seat.new }
-        ensures flagged { IsFlagged self.now spare.new.retired (token seat.new).heard unheard.new }
+        ensures rests { RestsAt (token seat.new).table lists.new seat.new }
+        ensures flagged { IsFlagged self.now lists.new.retired (token seat.new).heard flags.new }
         ensures fills { FillsReclaiming R.shows key number rows.now (token seat.old) had.old (token seat.new) had.new result }
     {
-        self.begin_fill::<G>(seat, spare, key, number, rows)?;
-        match self.publish_reclaiming::<G, R>(seat, spare, unheard, key, rows, had) {
+        self.begin_fill::<G>(seat, lists, key, number, rows)?;
+        match self.publish_reclaiming::<G, R>(seat, lists, flags, key, rows, had) {
             Ok(given) => Ok(given),
             Err(counts) => Err(FillFault::NoSlot(counts)),
         }
@@ -50,9 +50,9 @@ impl Board {
     pub fn update_reclaiming<G: BegunCall, R: RowRoom>(
         &self,
         seat: &mut Seat,
-        spare: &mut Spare,
-        unheard: &mut Unheard,
-        pile: &mut Pile,
+        lists: &mut SlotLists,
+        flags: &mut ScanFlags,
+        sorted: &mut SortedRows,
         key: u32,
         deltas: &[Delta],
         had: &mut R,
@@ -60,15 +60,15 @@ impl Board {
         requires call { G.call ≡ writer.Update key deltas.now }
         requires batch { IsBatch deltas.now }
         requires own { (token seat.old).table ≡ self.now }
-        requires rests { RestsAt (token seat.old).table spare.old seat.old }
-        requires flagged { IsFlagged self.now spare.old.retired (token seat.old).heard unheard.old }
+        requires rests { RestsAt (token seat.old).table lists.old seat.old }
+        requires flagged { IsFlagged self.now lists.old.retired (token seat.old).heard flags.old }
         requires key { key < self.now.shape.keys }
-        ensures rests { RestsAt (token seat.new).table spare.new seat.new }
-        ensures flagged { IsFlagged self.now spare.new.retired (token seat.new).heard unheard.new }
+        ensures rests { RestsAt (token seat.new).table lists.new seat.new }
+        ensures flagged { IsFlagged self.now lists.new.retired (token seat.new).heard flags.new }
         ensures updates { UpdatesReclaiming R.shows self.now.shape.rows key deltas.now (token seat.old) had.old (token seat.new) had.new result }
     {
-        self.begin_update::<G>(seat, spare, pile, key, deltas)?;
-        match self.publish_reclaiming::<G, R>(seat, spare, unheard, key, pile.as_slice(), had) {
+        self.begin_update::<G>(seat, lists, sorted, key, deltas)?;
+        match self.publish_reclaiming::<G, R>(seat, lists, flags, key, sorted.as_slice(), had) {
             Ok(given) => Ok(given),
             Err(counts) => Err(UpdateFault::NoSlot(counts)),
         }
@@ -78,8 +78,8 @@ impl Board {
     pub fn replace_reclaiming<G: BegunCall, R: RowRoom>(
         &self,
         seat: &mut Seat,
-        spare: &mut Spare,
-        unheard: &mut Unheard,
+        lists: &mut SlotLists,
+        flags: &mut ScanFlags,
         key: u32,
         rows: &[Row],
         had: &mut R,
@@ -87,15 +87,15 @@ impl Board {
         requires call { G.call ≡ writer.Replace key rows.now }
         requires row_set { IsRowSet self.now.shape.rows rows.now }
         requires own { (token seat.old).table ≡ self.now }
-        requires rests { RestsAt (token seat.old).table spare.old seat.old }
-        requires flagged { IsFlagged self.now spare.old.retired (token seat.old).heard unheard.old }
+        requires rests { RestsAt (token seat.old).table lists.old seat.old }
+        requires flagged { IsFlagged self.now lists.old.retired (token seat.old).heard flags.old }
         requires key { key < self.now.shape.keys }
-        ensures rests { RestsAt (token seat.new).table spare.new seat.new }
-        ensures flagged { IsFlagged self.now spare.new.retired (token seat.new).heard unheard.new }
+        ensures rests { RestsAt (token seat.new).table lists.new seat.new }
+        ensures flagged { IsFlagged self.now lists.new.retired (token seat.new).heard flags.new }
         ensures replaces { ReplacesReclaiming R.shows key rows.now (token seat.old) had.old (token seat.new) had.new result }
     {
-        self.begin_replace::<G>(seat, spare, key, rows)?;
-        match self.publish_reclaiming::<G, R>(seat, spare, unheard, key, rows, had) {
+        self.begin_replace::<G>(seat, lists, key, rows)?;
+        match self.publish_reclaiming::<G, R>(seat, lists, flags, key, rows, had) {
             Ok(given) => Ok(given),
             Err(counts) => Err(ReplaceFault::NoSlot(counts)),
         }

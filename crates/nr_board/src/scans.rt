@@ -3,36 +3,36 @@ ghost use Rattle.std.specs.Prelude.{◌≡◌, ◌<◌, ◌≤◌, IfOk, false, 
 ghost use Rattle.nr_board.specs.SearchSeats.{SearchesIn};
 ghost use Rattle.nr_board.specs.Flags.{Flagged, OthersFlagged};
 ghost use Rattle.nr_board.specs.Views.{view_of};
-ghost use Rattle.nr_board.specs.WholeScans.{AreInside, NoneFlagged, RestsHearing, ScannedTo, announced, is_unheard};
+ghost use Rattle.nr_board.specs.WholeScans.{AreInside, NoneFlagged, RestsHearing, ScannedTo, announced, is_flagged};
 ghost use Rattle.nr_board.specs.WriterSeats.{RestsAt};
 
 use crate::board::{Board, Seat};
-use nr_core::Spare;
+use nr_core::SlotLists;
 use std::alloc::{AllocError, Global};
 use std::marker::Model;
 
 /// A flag for each slot that isn't known to be heard: all but the retired ones that the last scan found
 /// announced by no reader. Where no reader has a word there are none.
 #[derive(Drop)]
-pub struct Unheard {
+pub struct ScanFlags {
     flags: Vec<bool>,
 }
 
-impl Model for Unheard {
+impl Model for ScanFlags {
     ghost use Rattle.std.specs.Prelude.{Bool, List};
 
     ghost Value = { List Bool };
 
-    ghost view = { λ unheard. unheard.flags.items };
+    ghost view = { λ scan. scan.flags.items };
 }
 
-impl Unheard {
+impl ScanFlags {
     /// Of so many slots none is heard.
-    pub fn open(alloc: Global, slots: u32) -> Result<Unheard, AllocError>
-        ensures { IfOk result (λ unheard. unheard ≡ replicate slots true) }
+    pub fn open(alloc: Global, slots: u32) -> Result<ScanFlags, AllocError>
+        ensures { IfOk result (λ flags. flags ≡ replicate slots true) }
     {
         let flags = vec![in alloc; true; slots as usize]?;
-        Ok(Unheard { flags })
+        Ok(ScanFlags { flags })
     }
 
     /// Whether a slot is flagged.
@@ -60,14 +60,14 @@ impl Unheard {
     }
 
     // The retired slots begin without a flag.
-    fn clear_retired(&mut self, spare: &Spare)
-        requires { AreInside spare.now.retired self.old }
-        ensures none { NoneFlagged spare.now.retired self.new }
-        ensures others { OthersFlagged spare.now.retired self.old → OthersFlagged spare.now.retired self.new }
+    fn clear_retired(&mut self, lists: &SlotLists)
+        requires { AreInside lists.now.retired self.old }
+        ensures none { NoneFlagged lists.now.retired self.new }
+        ensures others { OthersFlagged lists.now.retired self.old → OthersFlagged lists.now.retired self.new }
         ensures wide { length self.new ≡ length self.old }
     {
-        for place in 0..spare.retired_len() {
-            self.clear(spare.retired_at(place).slot);
+        for place in 0..lists.retired_len() {
+            self.clear(lists.retired_at(place).slot);
         }
     }
 
@@ -84,45 +84,45 @@ impl Unheard {
 
 impl Board {
     /// Loads each reader's own word once, in order: what the flags tell afterwards is of this scan.
-    pub fn scan_words(&self, seat: &mut Seat, spare: &Spare, unheard: &mut Unheard)
-        requires search { SearchesIn self.now spare.now seat.old }
-        requires flagged { Flagged self.now spare.now.retired (view_of seat.old).heard unheard.old }
+    pub fn scan_words(&self, seat: &mut Seat, lists: &SlotLists, flags: &mut ScanFlags)
+        requires search { SearchesIn self.now lists.now seat.old }
+        requires flagged { Flagged self.now lists.now.retired (view_of seat.old).heard flags.old }
         requires some_words { 0 < self.now.announcers }
         ensures own { seat.new.table_id ≡ seat.old.table_id }
-        ensures scans { ScannedTo spare.now.retired (view_of seat.old) (view_of seat.new) unheard.new self.now.announcers }
-        ensures search { SearchesIn self.now spare.now seat.new }
+        ensures scans { ScannedTo lists.now.retired (view_of seat.old) (view_of seat.new) flags.new self.now.announcers }
+        ensures search { SearchesIn self.now lists.now seat.new }
         ensures few { self.now.announcers ≤ self.now.shape.readers }
-        ensures flagged { Flagged self.now spare.now.retired (view_of seat.new).heard unheard.new }
+        ensures flagged { Flagged self.now lists.now.retired (view_of seat.new).heard flags.new }
     {
-        unheard.clear_retired(spare);
+        flags.clear_retired(lists);
         for own in 0..self.announcers() {
             let word = self.scan_on(seat, own);
-            unheard.announce(word);
+            flags.announce(word);
         }
     }
 
     /// As `scan_words`, by a writer between two calls.
-    pub fn scan_at_rest(&self, seat: &mut Seat, spare: &Spare, unheard: &mut Unheard)
-        requires rests { RestsAt self.now spare.now seat.old }
-        requires flagged { Flagged self.now spare.now.retired (view_of seat.old).heard unheard.old }
+    pub fn scan_at_rest(&self, seat: &mut Seat, lists: &SlotLists, flags: &mut ScanFlags)
+        requires rests { RestsAt self.now lists.now seat.old }
+        requires flagged { Flagged self.now lists.now.retired (view_of seat.old).heard flags.old }
         requires some_words { 0 < self.now.announcers }
         ensures own { seat.new.table_id ≡ seat.old.table_id }
-        ensures hears { RestsHearing self.now.announcers spare.now.retired (view_of seat.old) (view_of seat.new) }
-        ensures flagged { Flagged self.now spare.now.retired (view_of seat.new).heard unheard.new }
+        ensures hears { RestsHearing self.now.announcers lists.now.retired (view_of seat.old) (view_of seat.new) }
+        ensures flagged { Flagged self.now lists.now.retired (view_of seat.new).heard flags.new }
     {
-        unheard.clear_retired(spare);
+        flags.clear_retired(lists);
         for reader in 0..self.announcers() {
             let said = self.scan(seat, reader);
-            unheard.announce(said);
+            flags.announce(said);
         }
     }
 
     /// Whether a slot isn't known to be heard of all readers that have a word.
-    pub fn is_unheard(&self, unheard: &Unheard, slot: u32) -> bool
-        requires wide { 0 < self.now.announcers → slot < length unheard.now }
+    pub fn is_flagged(&self, flags: &ScanFlags, slot: u32) -> bool
+        requires wide { 0 < self.now.announcers → slot < length flags.now }
         ensures none { self.now.announcers ≡ 0 → result ≡ false }
-        ensures flag { 0 < self.now.announcers → result ≡ is_unheard unheard.now slot }
+        ensures flag { 0 < self.now.announcers → result ≡ is_flagged flags.now slot }
     {
-        self.announcers() > 0 && unheard.is_flagged(slot)
+        self.announcers() > 0 && flags.is_flagged(slot)
     }
 }

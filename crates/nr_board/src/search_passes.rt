@@ -9,8 +9,8 @@ ghost use Rattle.nr_board.specs.Views.{view_of};
 
 use crate::board::{Board, Seat};
 use crate::publish::Taken;
-use crate::scans::Unheard;
-use nr_core::{NoSlot, Spare};
+use crate::scans::ScanFlags;
+use nr_core::{NoSlot, SlotLists};
 use nr_words::same_count;
 
 impl Board {
@@ -20,43 +20,43 @@ impl Board {
     pub fn search_retired(
         &self,
         seat: &mut Seat,
-        spare: &mut Spare,
-        unheard: &mut Unheard,
+        lists: &mut SlotLists,
+        flags: &mut ScanFlags,
     ) -> Result<Taken, NoSlot>
-        requires search { SearchesIn self.now spare.old seat.old }
+        requires search { SearchesIn self.now lists.old seat.old }
         requires knows { IsSound (token seat.old) }
         requires some_words { 0 < self.now.announcers }
-        requires flagged { Flagged self.now spare.old.retired (view_of seat.old).heard unheard.old }
+        requires flagged { Flagged self.now lists.old.retired (view_of seat.old).heard flags.old }
         requires begins { (view_of seat.old).marks.polls ≡ [] }
-        ensures searches { SearchesFor self.now seat.old spare.old seat.new spare.new result }
-        ensures flagged { Flagged self.now spare.old.retired (view_of seat.new).heard unheard.new }
+        ensures searches { SearchesFor self.now seat.old lists.old seat.new lists.new result }
+        ensures flagged { Flagged self.now lists.old.retired (view_of seat.new).heard flags.new }
     {
-        if let Some(taken) = self.pass(seat, spare, unheard) {
+        if let Some(taken) = self.pass(seat, lists, flags) {
             return Ok(taken);
         }
-        self.scan_words(seat, spare, unheard);
-        if let Some(taken) = self.pass(seat, spare, unheard) {
+        self.scan_words(seat, lists, flags);
+        if let Some(taken) = self.pass(seat, lists, flags) {
             return Ok(taken);
         }
         self.give_up(seat);
-        Err(spare.counts())
+        Err(lists.counts())
     }
 
     // Polls the retired slots that have no flag, oldest first, up to the first that nobody holds.
-    fn pass(&self, seat: &mut Seat, spare: &mut Spare, unheard: &Unheard) -> Option<Taken>
-        requires search { SearchesIn self.now spare.old seat.old }
+    fn pass(&self, seat: &mut Seat, lists: &mut SlotLists, flags: &ScanFlags) -> Option<Taken>
+        requires search { SearchesIn self.now lists.old seat.old }
         requires knows { IsSound (token seat.old) }
-        requires wide { length unheard.now ≡ self.now.shape.slots }
-        requires heard { AreHeard spare.old.retired unheard.now self.now.announcers (view_of seat.old).heard }
-        requires notes { NotesTo spare.old.retired unheard.now self.now.shape.readers 0 (length (view_of seat.old).marks.polls) (view_of seat.old).marks.polls }
-        ensures { PassesFor self.now unheard.now seat.old spare.old seat.new spare.new result }
+        requires wide { length flags.now ≡ self.now.shape.slots }
+        requires heard { AreHeard lists.old.retired flags.now self.now.announcers (view_of seat.old).heard }
+        requires notes { NotesTo lists.old.retired flags.now self.now.shape.readers 0 (length (view_of seat.old).marks.polls) (view_of seat.old).marks.polls }
+        ensures { PassesFor self.now flags.now seat.old lists.old seat.new lists.new result }
     {
-        for place in 0..spare.retired_len() {
-            let entry = spare.retired_at(place);
-            if !unheard.is_flagged(entry.slot) {
+        for place in 0..lists.retired_len() {
+            let entry = lists.retired_at(place);
+            if !flags.is_flagged(entry.slot) {
                 let departures = self.try_slot(seat, entry);
                 if same_count(departures, entry.arrivals) {
-                    spare.take_retired(place);
+                    lists.take_retired(place);
                     return Some(Taken {
                         slot: entry.slot,
                         departures,

@@ -13,9 +13,9 @@ use crate::answers::{Cancel, Evict, FillFault, Found, ReplaceFault, UpdateFault}
 use crate::board::{Board, Seat};
 use crate::only_proved::only_proved;
 use crate::rule::BegunCall;
-use crate::scans::Unheard;
-use nr_core::Spare;
-use nr_model::{Delta, LAST_NUMBER, Pile, Row, RowRoom};
+use crate::scans::ScanFlags;
+use nr_core::SlotLists;
+use nr_model::{Delta, LAST_NUMBER, Row, RowRoom, SortedRows};
 use nr_words::parts;
 
 impl Board {
@@ -27,18 +27,18 @@ impl Board {
     pub fn look_up<G: BegunCall, R: RowRoom>(
         &self,
         seat: &mut Seat,
-        spare: &Spare,
+        lists: &SlotLists,
         key: u32,
         rows: &mut R,
     ) -> Found
         requires call { G.call ≡ writer.Find key }
         requires own { (token seat.old).table ≡ self.now }
-        requires rests { RestsAt (token seat.old).table spare.now seat.old }
+        requires rests { RestsAt (token seat.old).table lists.now seat.old }
         requires key { key < self.now.shape.keys }
-        ensures rests { RestsAt (token seat.new).table spare.now seat.new }
+        ensures rests { RestsAt (token seat.new).table lists.now seat.new }
         ensures looks { LooksIn R.shows key (token seat.old) rows.old (token seat.new) rows.new result }
     {
-        only_proved(spare);
+        only_proved(lists);
         let found = parts(self.look::<G>(seat, key));
         if !found.filled {
             return Found::Hole;
@@ -57,8 +57,8 @@ impl Board {
     pub fn fill_key<G: BegunCall>(
         &self,
         seat: &mut Seat,
-        spare: &mut Spare,
-        unheard: &mut Unheard,
+        lists: &mut SlotLists,
+        flags: &mut ScanFlags,
         key: u32,
         number: u64,
         rows: &[Row],
@@ -66,22 +66,22 @@ impl Board {
         requires call { G.call ≡ writer.Fill key number rows.now }
         requires row_set { IsRowSet self.now.shape.rows rows.now }
         requires own { (token seat.old).table ≡ self.now }
-        requires rests { RestsAt (token seat.old).table spare.old seat.old }
-        requires flagged { IsFlagged self.now spare.old.retired (token seat.old).heard unheard.old }
+        requires rests { RestsAt (token seat.old).table lists.old seat.old }
+        requires flagged { IsFlagged self.now lists.old.retired (token seat.old).heard flags.old }
         requires key { key < self.now.shape.keys }
-        ensures rests { RestsAt (token seat.new).table spare.new seat.new }
-        ensures flagged { IsFlagged self.now spare.new.retired (token seat.new).heard unheard.new }
+        ensures rests { RestsAt (token seat.new).table lists.new seat.new }
+        ensures flagged { IsFlagged self.now lists.new.retired (token seat.new).heard flags.new }
         ensures fills { FillsKey key number rows.now (token seat.old) (token seat.new) result }
     {
-        self.begin_fill::<G>(seat, spare, key, number, rows)?;
-        if let Err(counts) = self.publish_set::<G>(seat, spare, unheard, key, rows) {
+        self.begin_fill::<G>(seat, lists, key, number, rows)?;
+        if let Err(counts) = self.publish_set::<G>(seat, lists, flags, key, rows) {
             return Err(FillFault::NoSlot(counts));
         }
         Ok(())
     }
 
     /// Changes the set of a filled key by a batch. The look ends the call at any other key
-    /// (`Dropped`). It reads the o rows of the slot that the key's word names into `pile`, where
+    /// (`Dropped`). It reads the o rows of the slot that the key's word names into `sorted`, where
     /// readers see none of it, and applies the batch to this copy, which ends the call where a row
     /// isn't there (`NoRow`) or too many would be left (`TooMany`). It searches, puts the n rows
     /// that are left, and publishes, as a fill does. What the swap took out says how many readers
@@ -90,24 +90,24 @@ impl Board {
     pub fn update_key<G: BegunCall>(
         &self,
         seat: &mut Seat,
-        spare: &mut Spare,
-        unheard: &mut Unheard,
-        pile: &mut Pile,
+        lists: &mut SlotLists,
+        flags: &mut ScanFlags,
+        sorted: &mut SortedRows,
         key: u32,
         deltas: &[Delta],
     ) -> Result<(), UpdateFault>
         requires call { G.call ≡ writer.Update key deltas.now }
         requires batch { IsBatch deltas.now }
         requires own { (token seat.old).table ≡ self.now }
-        requires rests { RestsAt (token seat.old).table spare.old seat.old }
-        requires flagged { IsFlagged self.now spare.old.retired (token seat.old).heard unheard.old }
+        requires rests { RestsAt (token seat.old).table lists.old seat.old }
+        requires flagged { IsFlagged self.now lists.old.retired (token seat.old).heard flags.old }
         requires key { key < self.now.shape.keys }
-        ensures rests { RestsAt (token seat.new).table spare.new seat.new }
-        ensures flagged { IsFlagged self.now spare.new.retired (token seat.new).heard unheard.new }
+        ensures rests { RestsAt (token seat.new).table lists.new seat.new }
+        ensures flagged { IsFlagged self.now lists.new.retired (token seat.new).heard flags.new }
         ensures updates { UpdatesKey self.now.shape.rows key deltas.now (token seat.old) (token seat.new) result }
     {
-        self.begin_update::<G>(seat, spare, pile, key, deltas)?;
-        if let Err(counts) = self.publish_set::<G>(seat, spare, unheard, key, pile.as_slice()) {
+        self.begin_update::<G>(seat, lists, sorted, key, deltas)?;
+        if let Err(counts) = self.publish_set::<G>(seat, lists, flags, key, sorted.as_slice()) {
             return Err(UpdateFault::NoSlot(counts));
         }
         Ok(())
@@ -119,23 +119,23 @@ impl Board {
     pub fn replace_key<G: BegunCall>(
         &self,
         seat: &mut Seat,
-        spare: &mut Spare,
-        unheard: &mut Unheard,
+        lists: &mut SlotLists,
+        flags: &mut ScanFlags,
         key: u32,
         rows: &[Row],
     ) -> Result<(), ReplaceFault>
         requires call { G.call ≡ writer.Replace key rows.now }
         requires row_set { IsRowSet self.now.shape.rows rows.now }
         requires own { (token seat.old).table ≡ self.now }
-        requires rests { RestsAt (token seat.old).table spare.old seat.old }
-        requires flagged { IsFlagged self.now spare.old.retired (token seat.old).heard unheard.old }
+        requires rests { RestsAt (token seat.old).table lists.old seat.old }
+        requires flagged { IsFlagged self.now lists.old.retired (token seat.old).heard flags.old }
         requires key { key < self.now.shape.keys }
-        ensures rests { RestsAt (token seat.new).table spare.new seat.new }
-        ensures flagged { IsFlagged self.now spare.new.retired (token seat.new).heard unheard.new }
+        ensures rests { RestsAt (token seat.new).table lists.new seat.new }
+        ensures flagged { IsFlagged self.now lists.new.retired (token seat.new).heard flags.new }
         ensures replaces { ReplacesKey key rows.now (token seat.old) (token seat.new) result }
     {
-        self.begin_replace::<G>(seat, spare, key, rows)?;
-        if let Err(counts) = self.publish_set::<G>(seat, spare, unheard, key, rows) {
+        self.begin_replace::<G>(seat, lists, key, rows)?;
+        if let Err(counts) = self.publish_set::<G>(seat, lists, flags, key, rows) {
             return Err(ReplaceFault::NoSlot(counts));
         }
         Ok(())
@@ -145,20 +145,20 @@ impl Board {
     /// in the word of a hole with the key's ticket number, which a filled key's word has no room for
     /// and the writer's list keeps. What it took out says which slot is retired, and how many
     /// readers have arrived there. 2 steps.
-    pub fn evict_key<G: BegunCall>(&self, seat: &mut Seat, spare: &mut Spare, key: u32) -> Evict
+    pub fn evict_key<G: BegunCall>(&self, seat: &mut Seat, lists: &mut SlotLists, key: u32) -> Evict
         requires call { G.call ≡ writer.Evict key }
         requires own { (token seat.old).table ≡ self.now }
-        requires rests { RestsAt (token seat.old).table spare.old seat.old }
+        requires rests { RestsAt (token seat.old).table lists.old seat.old }
         requires key { key < self.now.shape.keys }
-        ensures rests { RestsAt (token seat.new).table spare.new seat.new }
+        ensures rests { RestsAt (token seat.new).table lists.new seat.new }
         ensures evicts { EvictsKey key (token seat.old) (token seat.new) result }
     {
         let found = parts(self.look::<G>(seat, key));
         if !found.filled {
             return Evict::Nothing;
         }
-        let old_word = self.unpublish(seat, key, spare.number(key));
-        spare.retire(old_word);
+        let old_word = self.unpublish(seat, key, lists.number(key));
+        lists.retire(old_word);
         Evict::Evicted
     }
 
@@ -167,12 +167,17 @@ impl Board {
     /// higher, so no reader sees the flag cleared without the next number, and a fill by the old one
     /// is stale. What the swap takes out is of no use: arrivals at a key that isn't filled count
     /// nothing. 2 steps.
-    pub fn cancel_key<G: BegunCall>(&self, seat: &mut Seat, spare: &mut Spare, key: u32) -> Cancel
+    pub fn cancel_key<G: BegunCall>(
+        &self,
+        seat: &mut Seat,
+        lists: &mut SlotLists,
+        key: u32,
+    ) -> Cancel
         requires call { G.call ≡ writer.Cancel key }
         requires own { (token seat.old).table ≡ self.now }
-        requires rests { RestsAt (token seat.old).table spare.old seat.old }
+        requires rests { RestsAt (token seat.old).table lists.old seat.old }
         requires key { key < self.now.shape.keys }
-        ensures rests { RestsAt (token seat.new).table spare.new seat.new }
+        ensures rests { RestsAt (token seat.new).table lists.new seat.new }
         ensures cancels { CancelsKey key (token seat.old) (token seat.new) result }
     {
         let found = parts(self.look::<G>(seat, key));
@@ -182,9 +187,9 @@ impl Board {
         if u64::from(found.slot) >= LAST_NUMBER {
             return Cancel::Worn;
         }
-        let next = spare.number(key) + 1;
+        let next = lists.number(key) + 1;
         self.withdraw(seat, key, next);
-        spare.renumber(key, next);
+        lists.renumber(key, next);
         Cancel::Cancelled
     }
 }

@@ -12,7 +12,7 @@ use crate::counts::count_values;
 use crate::stamps::stale_way;
 use crate::weights::Weights;
 use nr_idmap::{Evict, IdMap, IdWriter, Upquery, laws};
-use nr_model::Pile;
+use nr_model::SortedRows;
 
 /// By how many ways the hand goes on.
 const STRIDE: u32 = 8;
@@ -26,7 +26,7 @@ pub(crate) struct Limit {
     pub weights: Weights,
     pub choice: Choice,
     /// The rows that a look found last.
-    pub found: Pile,
+    pub found: SortedRows,
 }
 
 /// An id with the way that it has.

@@ -7,7 +7,7 @@ ghost use Rattle.nr_cache.specs.Weights.{value_at};
 use crate::finds::{FoundValue, value_of};
 use crate::store::Store;
 use nr_idmap::{IdMap, IdWriter, Looked, laws};
-use nr_model::Pile;
+use nr_model::SortedRows;
 
 impl Store {
     ghost use Rattle.nr_cache.specs.Stores.{Looks};
@@ -26,7 +26,7 @@ impl Store {
 pub(crate) fn look_at(
     map: &IdMap,
     writer: &mut IdWriter,
-    found: &mut Pile,
+    found: &mut SortedRows,
     id: u64,
 ) -> Option<FoundValue>
     requires own { writer.old.table ≡ map.now }

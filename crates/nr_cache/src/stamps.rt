@@ -3,7 +3,7 @@ ghost use Rattle.std.specs.Prelude.{◌≡◌, ◌≢◌, ◌<◌, ◌↔◌, �
 ghost use Rattle.nr_cache.specs.Stamps.{IsFirstStale, IsStale, LooksAround, NoneIsStale, first_stamp, stamp_at};
 
 use nr_idmap::{IdMap, IdWriter, Looked};
-use nr_model::{Pile, Row};
+use nr_model::{Row, SortedRows};
 
 /// How many ways are looked at for one that goes first.
 const GLANCE: u32 = 8;
@@ -14,7 +14,7 @@ const GLANCE: u32 = 8;
 pub(crate) fn stale_way(
     map: &IdMap,
     writer: &mut IdWriter,
-    found: &mut Pile,
+    found: &mut SortedRows,
     hand: u32,
     newcomer: u32,
     bound: u64,
@@ -43,7 +43,7 @@ pub(crate) fn stale_way(
 fn goes_first(
     map: &IdMap,
     writer: &mut IdWriter,
-    found: &mut Pile,
+    found: &mut SortedRows,
     way: u32,
     newcomer: u32,
     bound: u64,
@@ -63,7 +63,7 @@ fn goes_first(
 }
 
 // The stamp of a way's value, or 0.
-fn stamp_in(map: &IdMap, writer: &mut IdWriter, found: &mut Pile, way: u32) -> u64
+fn stamp_in(map: &IdMap, writer: &mut IdWriter, found: &mut SortedRows, way: u32) -> u64
     requires own { writer.old.table ≡ map.now }
     requires way { way < map.now.map.shape.keys }
     ensures own { writer.new.table ≡ map.now }

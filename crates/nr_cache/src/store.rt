@@ -8,7 +8,7 @@ use crate::limits::Limit;
 use crate::shape::StoreShape;
 use crate::weights::Weights;
 use nr_idmap::{IdMap, IdReader, IdWriter, OpenFault, ReadersOut, Reclaimed, Rest, laws};
-use nr_model::Pile;
+use nr_model::SortedRows;
 use std::alloc::Global;
 use std::marker::Model;
 
@@ -109,7 +109,7 @@ impl Store {
             hand: 0,
             weights,
             choice,
-            found: Pile::new(),
+            found: SortedRows::new(),
         };
         let store = Store {
             writer,

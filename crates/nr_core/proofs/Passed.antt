@@ -9,7 +9,7 @@ use Rattle.std.proofs.lemmas.List.Edits.{get_or-remove_above, get_or-remove_belo
 use Rattle.std.proofs.Math.ListN.{get_or-append}
 use Rattle.nr_core.specs.declared.places.Retired.{Retired}
 use Rattle.nr_core.specs.Roles.{retirements}
-use Rattle.nr_core.specs.Spares.{AreReaped, CountsRetirements}
+use Rattle.nr_core.specs.SlotLists.{AreReaped, CountsRetirements}
 use Rattle.nr_core.specs.States.{no_retired}
 use Rattle.nr_core.specs.Sums.{only}
 use Rattle.nr_core.proofs.Sums.{only-same, total-append}

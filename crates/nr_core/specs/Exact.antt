@@ -62,8 +62,8 @@ pub record Lists (desk : Desk) (marks : Marks) (shape : Shape) (log : List Entry
       → (is_filled_key (state_of (map_after shape log) at) ≡ true) × (slice_index marks.puts slot ≡ put_number log at)
 
 -- a call that put a set took a free slot, or one that was retired; its put number is new
-abbrev pub TookSpare : Shape → Desk → Marks → List Entry → Type 0
-TookSpare shape desk now log =
+abbrev pub TookFromLists : Shape → Desk → Marks → List Entry → Type 0
+TookFromLists shape desk now log =
     (desk.fresh < shape.slots)
     ⊎ ((at : ℕ) × (entry : Retired) × (get_elem? desk.retired at ≡ some entry)
     × (put_count log ≤ slice_index now.puts entry.slot))

@@ -2,7 +2,7 @@ pub mod Sums
 pub mod Slots
 pub mod Sizes
 pub mod States
-pub mod Spares
+pub mod SlotLists
 pub mod Refusals
 pub mod Operations
 pub mod Writer

@@ -12,7 +12,7 @@ use Rattle.nr_core.specs.Marks.{Marks, Past}
 use Rattle.nr_core.specs.PollNotes.{AllHeld, Noted}
 use Rattle.nr_core.specs.Pasts.{AllCurrent, AllKnown, AllReaders}
 use Rattle.nr_core.specs.Puts.{put_count, put_number, puts_at, puts_set}
-use Rattle.nr_core.specs.Exact.{Lists, TookSpare, filled_puts, pins}
+use Rattle.nr_core.specs.Exact.{Lists, TookFromLists, filled_puts, pins}
 
 -- the filled keys and the different pinned put numbers that no key has
 abbrev pub slots_in_use : Shape → List Entry → List Past → ℕ
@@ -40,7 +40,7 @@ DoneByMarks =
     ((slot : ℕ) → taken slot desk.place ≡ 0) →
     AllCurrent desk.retired marks readers →
     AllCurrent after now readers →
-    TookSpare shape desk now log →
+    TookFromLists shape desk now log →
     slots_in_use shape log readers < shape.slots
 
 -- with one entry more: how many sets were put, and the number of what was put last for a key

@@ -36,9 +36,9 @@ machine_state machine = record {
   desk =
       record {
         place = placed machine.stage machine.call machine.rows machine.got;
-        fresh = machine.spare.fresh;
-        retired = machine.spare.retired;
-        numbers = machine.spare.numbers;
+        fresh = machine.lists.fresh;
+        retired = machine.lists.retired;
+        numbers = machine.lists.numbers;
       };
   made = machine.words.made;
 }

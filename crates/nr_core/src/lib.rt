@@ -54,7 +54,7 @@ mod places;
 mod reached;
 mod roles;
 mod shape;
-mod spare;
+mod slot_lists;
 mod words;
 mod words_read;
 
@@ -65,4 +65,4 @@ pub use places::{Hold, Place, Retired};
 pub use reached::Core;
 pub use roles::{Desk, Grip, Role};
 pub use shape::{MAX_LARGE_READERS, MAX_LARGE_SLOTS, MAX_READERS, MAX_SLOTS, Shape};
-pub use spare::Spare;
+pub use slot_lists::SlotLists;

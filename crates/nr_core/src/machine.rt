@@ -11,7 +11,7 @@ mod writer_steps;
 use crate::calls::WriterCall;
 use crate::places::{Hold, Stage};
 use crate::shape::Shape;
-use crate::spare::Spare;
+use crate::slot_lists::SlotLists;
 use crate::words::Words;
 use crate::words_read::WordsRead;
 use nr_model::RowSet;
@@ -41,8 +41,8 @@ pub struct Machine {
     call: WriterCall,
     rows: RowSet,
     got: WordsRead,
-    spare: Spare,
-    ghost all_slots: { spare.slots ≡ layout.slots },
+    lists: SlotLists,
+    ghost all_slots: { lists.slots ≡ layout.slots },
 }
 
 impl Machine {
@@ -64,7 +64,7 @@ impl Machine {
         };
         let words = Words::open(alloc, layout, shape.first_count, shape.first_number)?;
         let holds = vec![in alloc; Hold::Nothing; shape.readers as usize]?;
-        let spare = Spare::open(alloc, shape)?;
+        let lists = SlotLists::open(alloc, shape)?;
         Ok(Machine {
             layout,
             readers: shape.readers,
@@ -76,7 +76,7 @@ impl Machine {
             call: WriterCall::Find(0),
             rows: RowSet::new(),
             got: WordsRead::new(),
-            spare,
+            lists,
         })
     }
 
@@ -89,11 +89,11 @@ impl Machine {
 
     /// The ticket number of the key.
     pub fn number(&self, key: u32) -> u64
-        requires listed { length self.now.spare.numbers ≡ self.now.layout.keys }
+        requires listed { length self.now.lists.numbers ≡ self.now.layout.keys }
         requires key { key < self.now.layout.keys }
         ensures { result ≡ number_at (machine_state self.now).desk key }
     {
-        self.spare.number(key)
+        self.lists.number(key)
     }
 
     /// What the reader holds.

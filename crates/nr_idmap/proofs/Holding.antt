@@ -22,12 +22,12 @@ hand_is hand reader key rows by at held =
     ∙ ap (λ (k : Option ℕ). record { reader = reader; key = k; rows = hand.rows }) at
     ∙ ap (λ (l : List Row). record { reader = reader; key = key; rows = l }) held
 
--- a find that keeps what it found, into a pile
+-- a find that keeps what it found, into sorted rows
 abbrev pub KeepsIn : ℕ → Handed → List Row → Handed → List Row → Found → Type 0
 KeepsIn way old before new set told =
-    FindsKept (λ (pile : List Row) (rows : List Row). pile ≡ rows) way old before new set told
+    FindsKept (λ (sorted : List Row) (rows : List Row). sorted ≡ rows) way old before new set told
 
--- the pile has what the hand holds
+-- the sorted rows are what the hand holds
 pub kept_set : (way : ℕ) (old new : Handed) (before set : List Row) → KeepsIn way old before new set answer.Rows
     → set ≡ new.rows
 kept_set way old new before set keeps = ⊎_elim (λ again. again.1 ∙ sym again.0.rows) (λ anew. anew.1.1) keeps

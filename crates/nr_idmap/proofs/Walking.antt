@@ -36,13 +36,13 @@ kept_first tag key old new before cells count tagged.Rows finds = (_, finds.2)
 kept_first tag key old new before cells count tagged.Other finds = (_, finds.0.1)
 kept_first tag key old new before cells count tagged.Hole finds = finds.0
 
-pub held_row_set : (hand : Handed) (pile : List Row) (held : Option Holding) → IsIdHand hand pile held → (key : ℕ)
+pub held_row_set : (hand : Handed) (sorted : List Row) (held : Option Holding) → IsIdHand hand sorted held → (key : ℕ)
     → hand.key ≡ Some key → IsRowSet 255 hand.rows
-held_row_set hand pile None holds key is = absurd (let none = holds in cc)
-held_row_set hand pile (Some held) holds key is = holds.row_set
+held_row_set hand sorted None holds key is = absurd (let none = holds in cc)
+held_row_set hand sorted (Some held) holds key is = holds.row_set
 
 -- What it holds then is a row set of the key, since what it held was a row set, and what the key has is one.
-module _ (key : ℕ) (old new : Handed) (pile : List Row) (near : key < new.reader.table.shape.keys)
+module _ (key : ℕ) (old new : Handed) (sorted : List Row) (near : key < new.reader.table.shape.keys)
     (few : old.reader.table.shape.rows ≤ 255)
     (had : (other : ℕ) → old.key ≡ Some other → IsRowSet 255 old.rows) where
   reads_key : (more : ℕ) → FindsAndReads more key old new → new.key ≡ Some key
@@ -54,7 +54,7 @@ module _ (key : ℕ) (old new : Handed) (pile : List Row) (near : key < new.read
       (λ anew. let so = anew.1.4.row_set in (so.0, omega (arith, few, so.1)))
       reads
 
-  pub walks_hold : (answer : Tagged) → Keeps key old new answer → IsIdHand new pile (held_kept key answer)
+  pub walks_hold : (answer : Tagged) → Keeps key old new answer → IsIdHand new sorted (held_kept key answer)
   walks_hold tagged.Rows (more, reads) = record {
     key_is = reads_key more reads;
     near = near;

@@ -43,22 +43,22 @@ rows_of_id (Some (suc id)) set = rows_behind set
 abbrev pub rows_in_hand : IdHanded → List Row
 rows_in_hand hand = rows_of_id hand.id hand.hand.rows
 
--- the set has the id's tag, and the pile has the set
-pub record HasTagged (id : ℕ) (set pile : List Row) : Type 0 where
+-- the set has the id's tag, and the sorted rows are the set
+pub record HasTagged (id : ℕ) (set sorted : List Row) : Type 0 where
   pub rows : List Row
   pub tagged : set ≡ tag_of id ∷ rows
-  pub pile_is : pile ≡ set
+  pub sorted_is : sorted ≡ set
 
 -- a set of that way is held, and where that is for an id it has the id's tag
-pub record HoldsWay (held : Holding) (hand : Handed) (pile : List Row) : Type 0 where
+pub record HoldsWay (held : Holding) (hand : Handed) (sorted : List Row) : Type 0 where
   pub key_is : hand.key ≡ Some held.way
   pub near : held.way < hand.reader.table.shape.keys
   pub row_set : IsRowSet 255 hand.rows
-  pub set : 0 < held.id → HasTagged held.id hand.rows pile
+  pub set : 0 < held.id → HasTagged held.id hand.rows sorted
 
 abbrev pub IsIdHand : Handed → List Row → Option Holding → Type 0
-IsIdHand hand pile None = hand.key ≡ None
-IsIdHand hand pile (Some held) = HoldsWay held hand pile
+IsIdHand hand sorted None = hand.key ≡ None
+IsIdHand hand sorted (Some held) = HoldsWay held hand sorted
 
 -- a set is held for that id
 abbrev pub IsHeldFor : ℕ → Option ℕ → Type 0
@@ -110,7 +110,8 @@ AgainById id old new false =
 -- the map's hand found the way and holds its set, or a hole, as a find that keeps what it found
 abbrev pub KeepsWay : ℕ → Handed → Handed → Found → Type 0
 KeepsWay way old new told =
-    (before set : List Row) × FindsKept (λ (pile : List Row) (rows : List Row). pile ≡ rows) way old before new set told
+    (before set : List Row) × FindsKept (λ (sorted : List Row) (rows : List Row). sorted ≡ rows) way old before new set
+    told
 
 -- by the id's name: the set is held that has the id's tag, and the way is marked as found unless it was; else nothing
 -- is, since the way was a hole or had another's set, or there was a moment at which the id had no way

@@ -12,7 +12,7 @@ use crate::rows::{behind, copy_all, has_tag};
 use crate::tokens::IdReader;
 use nr_ids::Requested;
 use nr_map::{Found, Hand};
-use nr_model::{Pile, Row, RowRoom};
+use nr_model::{Row, RowRoom, SortedRows};
 use std::marker::Model;
 
 /// A reader by id between two calls, whether it holds nothing or the set that it found of an id. What
@@ -22,12 +22,12 @@ pub struct IdHand {
     pub(crate) hand: Hand,
     pub(crate) ids: nr_ids::Reader,
     // The set that is held, with its tag.
-    pub(crate) pile: Pile,
+    pub(crate) sorted: SortedRows,
     pub(crate) held: Option<Holding>,
 }
 
 // The id whose set is held, and its way. The number 0 tells that the set is held for no id, by a hand that
-// goes on from it to another; the pile hasn't that.
+// goes on from it to another; the rows here haven't that.
 #[derive(Clone, Copy)]
 pub(crate) struct Holding {
     pub id: u64,
@@ -41,7 +41,7 @@ impl Model for IdHand {
 
     ghost view = { λ hand. record { hand = hand.hand; ids = hand.ids; id = id_held hand.held } };
 
-    ghost invariant = { λ hand. IsIdHand hand.hand hand.pile hand.held };
+    ghost invariant = { λ hand. IsIdHand hand.hand hand.sorted hand.held };
 }
 
 impl IdHand {
@@ -53,7 +53,7 @@ impl IdHand {
         IdHand {
             hand: Hand::of(reader),
             ids,
-            pile: Pile::new(),
+            sorted: SortedRows::new(),
             held: None,
         }
     }
@@ -68,7 +68,7 @@ impl IdHand {
         let IdHand {
             hand,
             ids,
-            pile: _,
+            sorted: _,
             held: _,
         } = self;
         IdReader {
@@ -93,7 +93,7 @@ impl IdHand {
         ensures row_set { IsRowSet MAX_ROWS result.now }
     {
         match self.held {
-            Some(held) if held.id > 0 => behind(self.pile.as_slice()),
+            Some(held) if held.id > 0 => behind(self.sorted.as_slice()),
             _ => &[],
         }
     }
@@ -201,10 +201,10 @@ impl IdHand {
             return FoundId::Absent;
         };
         self.held = None;
-        match self.hand.find_kept(&map.map, at.way, &mut self.pile) {
+        match self.hand.find_kept(&map.map, at.way, &mut self.sorted) {
             Found::Hole => FoundId::Pending,
             Found::Rows => {
-                if has_tag(self.pile.as_slice(), id) {
+                if has_tag(self.sorted.as_slice(), id) {
                     map.directory.mark(&mut self.ids, at.way, at.is_marked);
                     self.held = Some(Holding { id, way: at.way });
                     FoundId::Rows

@@ -38,11 +38,11 @@ impl IdMap {
         };
         match self
             .map
-            .look_into(&mut writer.writer, way, &mut writer.pile)
+            .look_into(&mut writer.writer, way, &mut writer.sorted)
         {
             Found::Hole => Looked::Pending,
             Found::Rows => {
-                copy_behind(writer.pile.as_slice(), id, rows);
+                copy_behind(writer.sorted.as_slice(), id, rows);
                 Looked::Rows
             }
         }

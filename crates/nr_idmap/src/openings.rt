@@ -6,7 +6,7 @@ use crate::id_map::{IdMap, IdShape};
 use crate::tokens::{IdReader, IdWriter};
 use nr_ids::{Clerk, Directory, Plan};
 use nr_map::{Reader, ReaderMap};
-use nr_model::{OpenFault, Pile};
+use nr_model::{OpenFault, SortedRows};
 use std::alloc::{AllocError, Global};
 
 impl IdMap {
@@ -43,7 +43,7 @@ impl IdMap {
             writer,
             asker,
             clerk,
-            pile: Pile::new(),
+            sorted: SortedRows::new(),
         };
         Ok((IdMap { map, directory }, writer, paired))
     }

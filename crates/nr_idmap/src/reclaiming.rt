@@ -38,12 +38,12 @@ impl IdMap {
         if self.directory.way_of(&mut writer.clerk, id) != Some(way) {
             return Err(Unfilled::Closed);
         }
-        put_tagged(&mut writer.pile, id, rows, self.map.rows() - 1);
+        put_tagged(&mut writer.sorted, id, rows, self.map.rows() - 1);
         match self.map.fill_reclaiming(
             &mut writer.writer,
             way,
             number,
-            writer.pile.as_slice(),
+            writer.sorted.as_slice(),
             had,
         ) {
             Ok(given) => Ok(given),
@@ -108,10 +108,10 @@ impl IdMap {
         let Some(way) = self.directory.way_of(&mut writer.clerk, id) else {
             return Err(IdFault::Absent);
         };
-        put_tagged(&mut writer.pile, id, rows, self.map.rows() - 1);
+        put_tagged(&mut writer.sorted, id, rows, self.map.rows() - 1);
         match self
             .map
-            .replace_reclaiming(&mut writer.writer, way, writer.pile.as_slice(), had)
+            .replace_reclaiming(&mut writer.writer, way, writer.sorted.as_slice(), had)
         {
             Ok(given) => Ok(given),
             Err(fault) => Err(IdFault::Refused(fault)),

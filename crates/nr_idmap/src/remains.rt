@@ -38,7 +38,7 @@ impl IdMap {
             writer,
             asker,
             clerk: _,
-            pile: _,
+            sorted: _,
         } = writer;
         self.map.take_back(&mut out, asker);
         self.map.leave_by(writer, out)

@@ -4,7 +4,7 @@ ghost use Rattle.nr_model.specs.Rows.{IsRowSet};
 ghost use Rattle.nr_model.specs.declared.rows.TheConstants.{MAX_ROWS};
 ghost use Rattle.nr_idmap.specs.Tags.{AreIdDeltas, AreIdRows, CopiesBehind, HasTag, IsIdSet, rows_behind, tag_of};
 
-use nr_model::{Delta, Pile, Row, RowRoom, RowSource};
+use nr_model::{Delta, Row, RowRoom, RowSource, SortedRows};
 
 /// Whether those rows can be an id's: each `a` is above 0.
 pub fn are_id_rows(rows: &[Row]) -> bool
@@ -83,14 +83,14 @@ pub(crate) fn tag_of(id: u64) -> Row
     Row { a: 0, b: id }
 }
 
-/// Puts the rows behind the id's tag into the pile.
-pub(crate) fn put_tagged(pile: &mut Pile, id: u64, rows: &[Row], bound: u32)
+/// Puts the rows, behind the id's tag, in place of the sorted ones.
+pub(crate) fn put_tagged(sorted: &mut SortedRows, id: u64, rows: &[Row], bound: u32)
     requires id_set { IsIdSet bound rows.now }
     requires few { bound < MAX_ROWS }
-    ensures pile { pile.new ≡ tag_of id ∷ rows.now }
-    ensures row_set { IsRowSet (bound + 1) pile.new }
+    ensures sorted { sorted.new ≡ tag_of id ∷ rows.now }
+    ensures row_set { IsRowSet (bound + 1) sorted.new }
 {
-    pile.refill(rows.len() + 1, &mut TaggedRows { id, rows });
+    sorted.refill(rows.len() + 1, &mut TaggedRows { id, rows });
 }
 
 /// Writes the rows behind the id's tag into the room: whether the set has that tag. If not, the room

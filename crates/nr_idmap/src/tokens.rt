@@ -1,7 +1,7 @@
 //! The tokens of a map over ids: each is one of the map and one of the directory.
 use nr_ids::Clerk;
 use nr_map::{Reader, Writer};
-use nr_model::Pile;
+use nr_model::SortedRows;
 use std::marker::Model;
 
 /// A token that finds and requests ids, for one thread.
@@ -27,7 +27,7 @@ pub struct IdWriter {
     pub(crate) asker: Reader,
     pub(crate) clerk: Clerk,
     /// The set that was put last, with its tag.
-    pub(crate) pile: Pile,
+    pub(crate) sorted: SortedRows,
 }
 
 impl Model for IdWriter {

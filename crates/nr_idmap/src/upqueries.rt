@@ -156,10 +156,10 @@ impl IdMap {
         if self.directory.way_of(&mut writer.clerk, id) != Some(way) {
             return Err(Unfilled::Closed);
         }
-        put_tagged(&mut writer.pile, id, rows, self.map.rows() - 1);
+        put_tagged(&mut writer.sorted, id, rows, self.map.rows() - 1);
         match self
             .map
-            .fill_rows(&mut writer.writer, way, number, writer.pile.as_slice())
+            .fill_rows(&mut writer.writer, way, number, writer.sorted.as_slice())
         {
             Ok(()) => Ok(()),
             Err(FillFault::NoSlot(counts)) => {

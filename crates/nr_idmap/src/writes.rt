@@ -70,10 +70,10 @@ impl IdMap {
         let Some(way) = self.directory.way_of(&mut writer.clerk, id) else {
             return Err(IdFault::Absent);
         };
-        put_tagged(&mut writer.pile, id, rows, self.map.rows() - 1);
+        put_tagged(&mut writer.sorted, id, rows, self.map.rows() - 1);
         match self
             .map
-            .replace_rows(&mut writer.writer, way, writer.pile.as_slice())
+            .replace_rows(&mut writer.writer, way, writer.sorted.as_slice())
         {
             Ok(()) => Ok(()),
             Err(fault) => Err(IdFault::Refused(fault)),

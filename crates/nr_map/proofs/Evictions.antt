@@ -2,7 +2,7 @@
 use Rattle.std.proofs.Common.{◌≡◌, ℕ, [], ◌∷◌, ap, arith}
 use Rattle.nr_core.proofs.Sums.{total-append}
 use Rattle.nr_core.specs.Roles.{retirements}
-use Rattle.nr_core.specs.Spares.{Spare}
+use Rattle.nr_core.specs.SlotLists.{SlotLists}
 use Rattle.nr_core.specs.Sums.{only}
 use Rattle.nr_core.specs.declared.places.Retired.{Retired}
 use Rattle.nr_board.specs.Callers.{Caller}
@@ -26,5 +26,5 @@ evicts_heard key old new evict.Evicted evicts = let one = evicts.3 in (
 evicts_heard key old new evict.Nothing evicts = (
   evicts.0.table,
   evicts.1.2,
-  λ slot none. let same = ap (λ (s : Spare). retirements slot s.retired) evicts.1.0 in omega arith,
+  λ slot none. let same = ap (λ (s : SlotLists). retirements slot s.retired) evicts.1.0 in omega arith,
 )

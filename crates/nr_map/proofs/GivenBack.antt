@@ -11,7 +11,7 @@ use mathlib.Core.Logic.{dite}
 use mathlib.Core.Option.{some, some-injective, some-ne-none}
 use native.Mathlib.Decide.{ℕ_discrete}
 use Rattle.nr_core.proofs.Choices.{by_cases}
-use Rattle.nr_core.specs.Spares.{Spare}
+use Rattle.nr_core.specs.SlotLists.{SlotLists}
 use Rattle.nr_core.specs.declared.calls.NoSlot.{NoSlot}
 use Rattle.nr_core.specs.declared.places.Retired.{Retired}
 use Rattle.nr_core.specs.declared.shape.Shape.{Shape}
@@ -43,7 +43,7 @@ use Rattle.nr_board.specs.Callers.{Caller, Gains, Table}
 use Rattle.nr_board.specs.Meetings.{Learns}
 use Rattle.nr_board.specs.Reaping.{ReapsIn}
 use Rattle.nr_board.specs.Reclaiming.{HandsOutAt}
-use Rattle.nr_board.specs.Spares.{spare_of}
+use Rattle.nr_board.specs.SlotLists.{lists_of}
 use Rattle.nr_board.specs.WriterAnswers.{CancelsKey, EvictsKey, FillsKey, HasNoSlot, Publishes, ReplacesKey, SlotsStay}
 use Rattle.nr_board.specs.WriterAnswers.{UpdatesKey}
 use Rattle.nr_map.specs.GivenBack.{Cancels, Deals, EachSetComesOutOnce, Evicts, FillRefused, Fills, Goes, Lacks}
@@ -193,7 +193,7 @@ module _ {Room : Type 0} (shows : Room → List Row → Type 0) (others : ℕ) (
     (old new : Caller) (before after : Room) (put : List (List Row)) (given : List Given)
     (books : Books old put given) where
   gives_what_it_had : (steps : ℕ) (published : Publishes (others + steps) call rows old new) (answer : Reclaimed)
-      → HandsOutAt shows old.table (spare_of old) old.marks published.slot before after steps answer
+      → HandsOutAt shows old.table (lists_of old) old.marks published.slot before after steps answer
       → (numbers (given_by old published.slot answer) ≡ had_number old published.slot)
       × ((at : ℕ) (one : Given) → get_elem? (given_by old published.slot answer) at ≡ some one → HasItsRows put one)
   gives_what_it_had steps published reclaimed.Set hands =
@@ -226,7 +226,7 @@ module _ {Room : Type 0} (shows : Room → List Row → Type 0) (others : ℕ) (
       )
 
   gave_back : (steps : ℕ) (published : Publishes (others + steps) call rows old new) (answer : Reclaimed)
-      → HandsOutAt shows old.table (spare_of old) old.marks published.slot before after steps answer
+      → HandsOutAt shows old.table (lists_of old) old.marks published.slot before after steps answer
       → Books new (put ++ rows ∷ []) (given ++ given_by old published.slot answer)
   gave_back steps published answer hands = let gives = gives_what_it_had steps published answer hands in
       put_goes_on (others + steps) call rows old new put given published books (given_by old published.slot answer)
@@ -303,7 +303,8 @@ module _ (old new : Caller) (put : List (List Row)) (given : List Given) (books 
   quiet_goes_on steps call answer quiet gains stays =
       books_stay (quiet_leaves_lem steps call answer old new (numbers given) quiet gains stays books.ledger)
       gains.number gains.table
-      (ap (λ (s : Spare). s.fresh) stays.0) (ap (λ (m : Marks). m.puts) stays.1) (ap (λ (m : Marks). m.sets) stays.1)
+      (ap (λ (s : SlotLists). s.fresh) stays.0) (ap (λ (m : Marks). m.puts) stays.1)
+      (ap (λ (m : Marks). m.sets) stays.1)
       (ap (λ (m : Marks). m.reaped) stays.1) (quiet_puts steps call answer old new quiet gains)
 
   without_goes_on : (steps : ℕ) (call : Call) (counts : NoSlot) → HasNoSlot steps call old new counts
@@ -311,7 +312,7 @@ module _ (old new : Caller) (put : List (List Row)) (given : List Given) (books 
   without_goes_on steps call counts without =
       books_stay (no_slot_leaves_lem steps call counts old new (numbers given) without books.ledger)
       without.grows.number without.grows.table
-      (ap (λ (s : Spare). s.fresh) without.slots) (ap (λ (m : Marks). m.puts) without.marks)
+      (ap (λ (s : SlotLists). s.fresh) without.slots) (ap (λ (m : Marks). m.puts) without.marks)
       (ap (λ (m : Marks). m.sets) without.marks) (ap (λ (m : Marks). m.reaped) without.marks)
       (ap put_count (without.grows.mine ∙ append-nil old.mine))
 
@@ -365,7 +366,7 @@ module _ (old new : Caller) (put : List (List Row)) (given : List Given) (books 
   cancel_goes_on key cancel.Cancelled says =
       books_stay (cancel_leaves_lem key old new cancel.Cancelled (numbers given) says books.ledger) says.0.number
       says.0.table
-      (ap (λ (s : Spare). s.fresh) says.1) (ap (λ (m : Marks). m.puts) says.2) (ap (λ (m : Marks). m.sets) says.2)
+      (ap (λ (s : SlotLists). s.fresh) says.1) (ap (λ (m : Marks). m.puts) says.2) (ap (λ (m : Marks). m.sets) says.2)
       (ap (λ (m : Marks). m.reaped) says.2) (quiet_puts 2 (model.Cancel key) reply.Cancelled old new refl says.0)
   cancel_goes_on key cancel.Nothing says = quiet_goes_on 1 (model.Cancel key) reply.Nothing refl says.0 says.1
   cancel_goes_on key cancel.Worn says = quiet_goes_on 1 (model.Cancel key) reply.Worn refl says.0 says.1

@@ -33,9 +33,9 @@ use Rattle.nr_board.specs.declared.answers.Cancel.TheVariants as cancel
 use Rattle.nr_board.specs.declared.answers.Evict.TheVariants as evict
 use Rattle.nr_board.specs.Callers.{Caller, Gains, Table, map_at_opening}
 use Rattle.nr_board.specs.Entries.{AreCallers, is_reading}
-use Rattle.nr_core.specs.Spares.{Spare}
+use Rattle.nr_core.specs.SlotLists.{SlotLists}
 use Rattle.nr_board.specs.Reaping.{ready_to}
-use Rattle.nr_board.specs.Spares.{not_passed}
+use Rattle.nr_board.specs.SlotLists.{not_passed}
 use Rattle.nr_board.specs.WriterAnswers.{Publishes, Retires, RetiresOne}
 use Rattle.nr_map.specs.Reclaims.{CancelLeaves, EvictionLeaves, GatheredStands, HandedOutOnce, Ledger, LedgerStays}
 use Rattle.nr_map.specs.Reclaims.{NobodyHoldsIt, NoSlotLeaves, OpeningBegins, QuietLeaves, ReapedOnce, StandsAfterReap}
@@ -549,19 +549,19 @@ same_slots old new gone polls loads table fresh retired marks many =
 
 pub quiet_leaves_lem : QuietLeaves
 quiet_leaves_lem steps call answer old new gone quiet gains stays =
-    same_slots old new gone [] old.marks.loads gains.table (ap (λ (s : Spare). s.fresh) stays.0)
-    (ap (λ (s : Spare). s.retired) stays.0) stays.1 (quiet_puts steps call answer old new quiet gains)
+    same_slots old new gone [] old.marks.loads gains.table (ap (λ (s : SlotLists). s.fresh) stays.0)
+    (ap (λ (s : SlotLists). s.retired) stays.0) stays.1 (quiet_puts steps call answer old new quiet gains)
 
 pub no_slot_leaves_lem : NoSlotLeaves
 no_slot_leaves_lem steps call counts old new gone without =
-    same_slots old new gone new.marks.polls _ without.grows.table (ap (λ (s : Spare). s.fresh) without.slots)
-    (ap (λ (s : Spare). s.retired) without.slots) without.marks
+    same_slots old new gone new.marks.polls _ without.grows.table (ap (λ (s : SlotLists). s.fresh) without.slots)
+    (ap (λ (s : SlotLists). s.retired) without.slots) without.marks
     (ap put_count without.grows.mine ∙ total-append puts_set old.mine [] ∙ omega arith)
 
 pub cancel_leaves_lem : CancelLeaves
 cancel_leaves_lem key old new cancel.Cancelled gone cancels =
-    same_slots old new gone [] old.marks.loads cancels.0.table (ap (λ (s : Spare). s.fresh) cancels.1)
-    (ap (λ (s : Spare). s.retired) cancels.1) cancels.2
+    same_slots old new gone [] old.marks.loads cancels.0.table (ap (λ (s : SlotLists). s.fresh) cancels.1)
+    (ap (λ (s : SlotLists). s.retired) cancels.1) cancels.2
     (quiet_puts 2 (model.Cancel key) reply.Cancelled old new refl cancels.0)
 cancel_leaves_lem key old new cancel.Nothing gone cancels =
     quiet_leaves_lem 1 (model.Cancel key) reply.Nothing old new gone refl cancels.0 cancels.1

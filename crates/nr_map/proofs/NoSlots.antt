@@ -5,7 +5,7 @@ use Rattle.nr_model.specs.Maps.{filled_count}
 use Rattle.nr_core.specs.declared.places.Retired.{Retired}
 use Rattle.nr_core.specs.declared.shape.Shape.{Shape}
 use Rattle.nr_core.specs.MarkLaws.{DoneByMarks, NoSlotByMarks}
-use Rattle.nr_core.specs.Exact.{TookSpare}
+use Rattle.nr_core.specs.Exact.{TookFromLists}
 use Rattle.nr_core.specs.Marks.{Marks, Past}
 use Rattle.nr_core.specs.Pasts.{AllReaders}
 use Rattle.nr_core.specs.PollNotes.{AllHeld, Noted}
@@ -43,7 +43,7 @@ no_slot_lem law steps call counts old new after readers all known counted withou
 
 -- the number of the set that a call put is none of those before the call
 takes_so : (steps : ℕ) (old : Caller) (call : Call) (rows : List Row) (new : Caller) → Publishes steps call rows old new
-    → TookSpare old.table.shape (desk_seen old) new.marks old.seen
+    → TookFromLists old.table.shape (desk_seen old) new.marks old.seen
 takes_so steps old call rows new published = ⊎_elim (λ fresh. inl fresh.0)
     (λ again. let grows = published.gains in
     let all : put_count new.seen ≡ put_count ((old.seen ++ grows.between) ++ entry old.number call reply.Done ∷ [])
@@ -67,5 +67,5 @@ pub done_lem : DoneByMarks → DoneMeansFewerInUse
 done_lem law steps call rows old new after readers gathered published learnt current =
     law old.table.shape (desk_seen old) after.retired old.marks after.marks old.seen readers gathered.lists
     (λ slot. refl) gathered.current current
-    (subst (λ (m : Marks). TookSpare old.table.shape (desk_seen old) m old.seen) (sym learnt.marks)
+    (subst (λ (m : Marks). TookFromLists old.table.shape (desk_seen old) m old.seen) (sym learnt.marks)
     (takes_so steps old call rows new published))

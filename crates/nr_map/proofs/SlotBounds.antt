@@ -8,7 +8,7 @@ use Rattle.nr_core.proofs.Histories.{length-now}
 use Rattle.nr_core.specs.declared.shape.Shape.{Shape}
 use Rattle.nr_core.specs.Story.{map_after}
 use Rattle.nr_board.specs.Callers.{Table}
-use Rattle.nr_core.specs.Spares.{Spare}
+use Rattle.nr_core.specs.SlotLists.{SlotLists}
 use Rattle.nr_map.specs.SlotBounds.{NoSlotIsRare, SearchesAreShort, RoomForFills, RoomForReplacements, RoomForUpdates}
 
 -- no more keys are filled than there are
@@ -31,7 +31,7 @@ no_slot_is_rare_lem steps call counts old new without =
     let all = lacks.all in
     let live = lacks.live in
     let filled = few_filled new.table.shape new.seen in
-    let retired = ap (λ (s : Spare). length s.retired) without.slots in
+    let retired = ap (λ (s : SlotLists). length s.retired) without.slots in
     let keys = ap (λ (t : Table). t.shape.keys) table in
     let slots = ap (λ (t : Table). t.shape.slots) table in
     let readers = ap (λ (t : Table). t.shape.readers) table in

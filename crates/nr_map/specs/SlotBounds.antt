@@ -9,7 +9,7 @@ use Rattle.nr_board.specs.declared.answers.ReplaceFault.TheVariants as replace
 use Rattle.nr_board.specs.declared.answers.UpdateFault.TheVariants as update
 use Rattle.nr_board.specs.WriterAnswers.{FillsKey, HasNoSlot, Publishes, ReplacesKey, UpdatesKey}
 use Rattle.nr_board.specs.Callers.{Caller, Table}
-use Rattle.nr_board.specs.Spares.{AreFewSteps}
+use Rattle.nr_board.specs.SlotLists.{AreFewSteps}
 
 -- the map has a slot for each key, each reader and one more
 abbrev pub HasRoomForAll : Table → Type 0

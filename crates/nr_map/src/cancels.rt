@@ -21,7 +21,7 @@ impl ReaderMap {
         ensures { CancelsKey key writer.old writer.new result }
     {
         self.board
-            .cancel_key::<Brand>(&mut writer.seat, &mut writer.spare, key)
+            .cancel_key::<Brand>(&mut writer.seat, &mut writer.lists, key)
     }
 
     /// The ticket number of a key, as the writer's list has it. A request of the key is sent with
@@ -32,6 +32,6 @@ impl ReaderMap {
         ensures listed { result ≡ slice_index writer.now.numbers key }
         ensures number { result ≡ number_of (state_of (map_seen writer.now) key) }
     {
-        writer.spare.number(key)
+        writer.lists.number(key)
     }
 }

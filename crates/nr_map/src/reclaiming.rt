@@ -35,8 +35,8 @@ impl ReaderMap {
     {
         self.board.fill_reclaiming::<Brand, R>(
             &mut writer.seat,
-            &mut writer.spare,
-            &mut writer.unheard,
+            &mut writer.lists,
+            &mut writer.flags,
             key,
             number,
             rows,
@@ -60,9 +60,9 @@ impl ReaderMap {
     {
         self.board.update_reclaiming::<Brand, R>(
             &mut writer.seat,
-            &mut writer.spare,
-            &mut writer.unheard,
-            &mut writer.pile,
+            &mut writer.lists,
+            &mut writer.flags,
+            &mut writer.sorted,
             key,
             deltas,
             had,
@@ -85,8 +85,8 @@ impl ReaderMap {
     {
         self.board.replace_reclaiming::<Brand, R>(
             &mut writer.seat,
-            &mut writer.spare,
-            &mut writer.unheard,
+            &mut writer.lists,
+            &mut writer.flags,
             key,
             rows,
             had,
@@ -105,11 +105,6 @@ impl ReaderMap {
         requires own { writer.old.table ≡ self.now }
         ensures { ReapsIn R.shows writer.old had.old writer.new had.new result }
     {
-        self.board.reap::<R>(
-            &mut writer.seat,
-            &mut writer.spare,
-            &mut writer.unheard,
-            had,
-        )
+        self.board.reap::<R>(&mut writer.seat, &mut writer.lists, &mut writer.flags, had)
     }
 }

@@ -6,7 +6,7 @@ use crate::reader::Reader;
 use crate::reader_map::ReaderMap;
 use crate::writer::Writer;
 use nr_board::Seat;
-use nr_core::Spare;
+use nr_core::SlotLists;
 use nr_model::RowRoom;
 use std::marker::Model;
 
@@ -15,7 +15,7 @@ use std::marker::Model;
 #[derive(Drop)]
 pub struct Rest {
     seat: Seat,
-    spare: Spare,
+    lists: SlotLists,
     next: u32,
 }
 
@@ -28,7 +28,7 @@ impl Model for Rest {
 
     ghost view = { λ rest. record { writer = token rest.seat; next = rest.next } };
 
-    ghost invariant = { λ rest. RestsAt (token rest.seat).table rest.spare rest.seat };
+    ghost invariant = { λ rest. RestsAt (token rest.seat).table rest.lists rest.seat };
 }
 
 /// What is left of a map: as `Rest`, with the map.
@@ -82,13 +82,13 @@ impl Rest {
     {
         let Writer {
             seat,
-            spare,
-            unheard: _,
-            pile: _,
+            lists,
+            flags: _,
+            sorted: _,
         } = writer;
         Rest {
             seat,
-            spare,
+            lists,
             next: 0,
         }
     }
@@ -111,8 +111,8 @@ impl Rest {
         ensures next { NextSlot self.now.writer self.now.next result }
         ensures inside { IfSome result (λ slot. slot < self.now.writer.table.shape.slots) }
     {
-        for slot in self.next..self.spare.taken() {
-            if !self.spare.is_reaped(slot) {
+        for slot in self.next..self.lists.taken() {
+            if !self.lists.is_reaped(slot) {
                 return Some(slot);
             }
         }

@@ -23,8 +23,8 @@ impl ReaderMap {
         ensures { CountsSlots writer.old writer.new result }
     {
         self.board.learn(&mut writer.seat);
-        let taken = writer.spare.taken();
-        let retired = writer.spare.retired_len() as u32;
+        let taken = writer.lists.taken();
+        let retired = writer.lists.retired_len() as u32;
         let free = self.slots() - taken;
         SlotCounts {
             filled: taken - retired,

@@ -6,9 +6,9 @@ ghost use Rattle.nr_core.specs.declared.roles.Role.TheVariants.{Writer as writer
 ghost use Rattle.nr_board.specs.Callers.{KnowsOwn, token};
 ghost use Rattle.nr_board.specs.Views.{view_of};
 
-use nr_board::{Seat, Unheard};
-use nr_core::{Shape, Spare};
-use nr_model::Pile;
+use nr_board::{ScanFlags, Seat};
+use nr_core::{Shape, SlotLists};
+use nr_model::SortedRows;
 use std::alloc::{AllocError, Global};
 use std::marker::Model;
 
@@ -16,10 +16,10 @@ use std::marker::Model;
 #[derive(Drop)]
 pub struct Writer {
     pub(crate) seat: Seat,
-    pub(crate) spare: Spare,
-    pub(crate) unheard: Unheard,
+    pub(crate) lists: SlotLists,
+    pub(crate) flags: ScanFlags,
     /// The rows on which an update works, written anew by each.
-    pub(crate) pile: Pile,
+    pub(crate) sorted: SortedRows,
 }
 
 impl Model for Writer {
@@ -32,7 +32,7 @@ impl Model for Writer {
 
     ghost view = { λ writer. token writer.seat };
 
-    ghost invariant = { λ writer. RestsAt (token writer.seat).table writer.spare writer.seat × IsFlagged (token writer.seat).table writer.spare.retired (token writer.seat).heard writer.unheard };
+    ghost invariant = { λ writer. RestsAt (token writer.seat).table writer.lists writer.seat × IsFlagged (token writer.seat).table writer.lists.retired (token writer.seat).heard writer.flags };
 }
 
 impl Writer {
@@ -53,15 +53,15 @@ impl Writer {
         requires none_reaped { (view_of seat).marks.reaped ≡ replicate shape.now.slots false }
         ensures { IfOk result (λ writer. writer ≡ token seat) }
     {
-        let spare = Spare::open(alloc, shape)?;
-        let flags = if announcers == 0 { 0 } else { shape.slots };
-        let unheard = Unheard::open(alloc, flags)?;
-        let pile = Pile::new();
+        let lists = SlotLists::open(alloc, shape)?;
+        let flagged = if announcers == 0 { 0 } else { shape.slots };
+        let flags = ScanFlags::open(alloc, flagged)?;
+        let sorted = SortedRows::new();
         Ok(Writer {
             seat,
-            spare,
-            unheard,
-            pile,
+            lists,
+            flags,
+            sorted,
         })
     }
 }

@@ -33,7 +33,7 @@ impl ReaderMap {
         ensures { LooksIn R.shows key writer.old rows.old writer.new rows.new result }
     {
         self.board
-            .look_up::<Brand, R>(&mut writer.seat, &writer.spare, key, rows)
+            .look_up::<Brand, R>(&mut writer.seat, &writer.lists, key, rows)
     }
 
     /// Fills a key that was asked for, by its request's ticket number, with at most `rows()` rows.
@@ -72,8 +72,8 @@ impl ReaderMap {
     {
         self.board.fill_key::<Brand>(
             &mut writer.seat,
-            &mut writer.spare,
-            &mut writer.unheard,
+            &mut writer.lists,
+            &mut writer.flags,
             key,
             number,
             rows,
@@ -109,9 +109,9 @@ impl ReaderMap {
     {
         self.board.update_key::<Brand>(
             &mut writer.seat,
-            &mut writer.spare,
-            &mut writer.unheard,
-            &mut writer.pile,
+            &mut writer.lists,
+            &mut writer.flags,
+            &mut writer.sorted,
             key,
             deltas,
         )
@@ -145,8 +145,8 @@ impl ReaderMap {
     {
         self.board.replace_key::<Brand>(
             &mut writer.seat,
-            &mut writer.spare,
-            &mut writer.unheard,
+            &mut writer.lists,
+            &mut writer.flags,
             key,
             rows,
         )
@@ -161,6 +161,6 @@ impl ReaderMap {
         ensures { EvictsKey key writer.old writer.new result }
     {
         self.board
-            .evict_key::<Brand>(&mut writer.seat, &mut writer.spare, key)
+            .evict_key::<Brand>(&mut writer.seat, &mut writer.lists, key)
     }
 }

@@ -8,8 +8,8 @@ ghost use Rattle.nr_model.specs.Runs.{state_in, IsKeptRun};
 
 use crate::batches::{ApplyFault, Batch};
 use crate::calls::{Call, Reply};
-use crate::pile::Pile;
 use crate::rows::{MAX_ROWS, Row, RowSet};
+use crate::sorted_rows::SortedRows;
 use crate::states::{KeyState, LAST_NUMBER};
 
 /// The state of a key, with the number of its rows in place of the rows. Those stand in the cells
@@ -182,10 +182,10 @@ fn apply_in(run: &mut [Row], len: usize, batch: &Batch) -> Result<usize, ApplyFa
     ensures fault { IfErr result (λ fault. applied (length run.old) (take len run.old) batch.now ≡ Err fault) }
     ensures unchanged { OnErr result (run.new ≡ run.old) }
 {
-    let mut pile = Pile::new();
-    pile.copy_from(&run[..len]);
-    pile.apply(batch, run.len() as u32)?;
-    let left = pile.as_slice();
+    let mut sorted = SortedRows::new();
+    sorted.copy_from(&run[..len]);
+    sorted.apply(batch, run.len() as u32)?;
+    let left = sorted.as_slice();
     run[..left.len()].copy_from_slice(left);
     Ok(left.len())
 }

@@ -29,7 +29,7 @@ use Rattle.nr_script.specs.Hands.{HandHoldsItsPin, how_of, mine_of, pin_of}
 use Rattle.nr_script.specs.Rounds.{Gathered}
 use Rattle.nr_script.specs.Alone.{IsAlone, IsHand, Laws, calls_of, log_of, shown_by, shown_after}
 use Rattle.nr_script.specs.Lines.{IsLine, SettlesLine}
-use Rattle.nr_script.specs.WriterMakes.{FindsNoSlot, PutsSet, Replies, WriterMakes}
+use Rattle.nr_script.specs.WriterMakes.{EndsWithoutSlot, PutsSet, Replies, WriterMakes}
 use Rattle.nr_script.proofs.Rounds.{starts_both, starts_then}
 use Rattle.nr_script.proofs.Exactly.{calls_at, entries_other, entries_own, log_begins, many_mines}
 use Rattle.nr_script.proofs.Settling.{settled}
@@ -284,7 +284,7 @@ module _ (laws : Laws) (table : Table) (w0 : Caller) (hands0 : List Handed) (cal
             (omega arith))),
       )
 
-  pub says_no_slot : FindsNoSlot call w0 w → Says answers.NoSlot
+  pub says_no_slot : EndsWithoutSlot call w0 w → Says answers.NoSlot
   says_no_slot made =
       let grows = made.lacks.grows in let s = settled_by _ [] (none_of 0) grows in
       let log0 : List Entry = log_of w0 hands0 in

@@ -37,11 +37,6 @@ use Rattle.nr_script.proofs.Settling.{settled}
 use Rattle.nr_script.proofs.Shown.{puts_quiet, quiet_count, quiet_number}
 use Rattle.nr_script.proofs.Lines.{AreOf, answers_quiet, none_of, one_of, reader_line, reply_is, seen_more, shown_with}
 
-pub without_some : (pin : Option Pin) (stood : MapState) (outcome : MapOutcome) → IsSome pin
-    → without_pin pin stood outcome ≡ (Err refusals.Holding, stood)
-without_some None stood outcome there = absurd (cc)
-without_some (Some pin) stood outcome there = refl
-
 pub with_some : (pin : Option Pin) (stood : MapState) (outcome : MapOutcome) → IsSome pin
     → with_pin pin stood (λ p. outcome) ≡ outcome
 with_some None stood outcome there = absurd (cc)

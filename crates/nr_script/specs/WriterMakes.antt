@@ -22,7 +22,7 @@ pub record PutsSet (call : Call) (old new : Caller) : Type 0 where
   pub rows : List Row
   pub publishes : Publishes steps call rows old new
 
-pub record FindsNoSlot (call : Call) (old new : Caller) : Type 0 where
+pub record EndsWithoutSlot (call : Call) (old new : Caller) : Type 0 where
   pub steps : ℕ
   pub counts : NoSlot
   pub lacks : HasNoSlot steps call old new counts
@@ -30,6 +30,6 @@ pub record FindsNoSlot (call : Call) (old new : Caller) : Type 0 where
 abbrev pub WriterMakes : Call → Caller → Caller → Answer → Type 0
 WriterMakes call old new answers.Ok = ⊥
 WriterMakes call old new answers.Other = ⊥
-WriterMakes call old new answers.NoSlot = FindsNoSlot call old new
+WriterMakes call old new answers.NoSlot = EndsWithoutSlot call old new
 WriterMakes call old new (answers.Reply reply.Done) = PutsSet call old new
 WriterMakes call old new (answers.Reply other) = Replies call old new other

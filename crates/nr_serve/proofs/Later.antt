@@ -52,9 +52,6 @@ raises_then_looks a b c places raises looks =
     subst (λ (l : List ℕ). Raises l a c) (append-nil places)
     (raises_both a b c places [] raises (looks_raise b c looks))
 
-pub looks_then_raises : (a b c : GuestSeen) (places : List ℕ) → OnlyLooks a b → Raises places b c → Raises places a c
-looks_then_raises a b c places looks raises = raises_both a b c [] places (looks_raise a b looks) raises
-
 -- the lobby was closed, where a count stood that near to the last number
 pub raises_then_closes : (a b c : GuestSeen) (place count : ℕ) → Raises [] a b → place ≢ closed_at
     → slice_index b.seen place ≡ count → last_count ≤ count + 1

@@ -56,9 +56,6 @@ module _ {S : Type 0} where
   abbrev kept_in : FlowSeen S → (Post → ℕ) → ℕ
   kept_in flow count = total count (kept_posts flow.kept)
 
-  abbrev writer_of : FlowSeen S → Caller
-  writer_of flow = flow.writer
-
   -- a call that takes and keeps nothing
   stays : (old new : FlowSeen S) (out back : List Post) (more : List Ending) → new.taker ≡ old.taker
       → new.kept ≡ old.kept

@@ -17,16 +17,6 @@ starts_both a b c one two =
       is = two.is ∙ ap (λ (l : List Entry). l ++ two.rest) one.is ∙ append_assoc a one.rest two.rest;
     }
 
-pub makes_by_rests : (steps : ℕ) (a b : Caller) → Rests steps a b → Makes steps [] a b
-makes_by_rests steps a b rests = record {
-  table = rests.table;
-  number = rests.number;
-  seen = record { rest = []; is = rests.seen ∙ sym (append-nil a.seen) };
-  mine = rests.mine ∙ sym (append-nil a.mine);
-  steps_made = rests.steps_made;
-  sound = inl (rests.seen, rests.mine);
-}
-
 pub makes_none : (a : Caller) → Makes 0 [] a a
 makes_none a = record {
   table = refl;

@@ -434,7 +434,10 @@ pub mod tests {
             assert!(begin.elapsed() < LONG, "it stays");
             thread::sleep(Duration::from_millis(1));
         }
-        assert_eq!(rest(&mut client), "");
+        // Where a byte had come that nobody read, its end is a reset.
+        let mut told = Vec::new();
+        let end = client.read_to_end(&mut told).map_err(|fault| fault.kind());
+        assert!(matches!(end, Ok(0) | Err(std::io::ErrorKind::ConnectionReset)) && told.is_empty());
     }
 
     #[test]

@@ -19,14 +19,14 @@ impl Machine {
     /// The call takes the first free slot for its set. Where none is free it goes on to poll the
     /// retired ones, and where none is retired either it ends.
     pub fn settle(&mut self) -> Outcome
-        requires { length self.old.spare.retired ≤ self.old.layout.slots }
+        requires { length self.old.lists.retired ≤ self.old.layout.slots }
         ensures answer { (found : List Row) → step_of found result ≡ step_in (settled (machine_state self.old).shape (machine_state self.old).desk self.old.call self.old.rows) }
         ensures new { machine_state self.new ≡ record (machine_state self.old) { desk = desk_in (settled (machine_state self.old).shape (machine_state self.old).desk self.old.call self.old.rows) } }
     {
-        if let Some(slot) = self.spare.take_fresh() {
+        if let Some(slot) = self.lists.take_fresh() {
             self.stage = Stage::Putting(slot, self.first_count, 0);
             Outcome::Going
-        } else if self.spare.retired_len() == 0 {
+        } else if self.lists.retired_len() == 0 {
             self.no_slot()
         } else {
             self.stage = Stage::Searching(0);
@@ -42,13 +42,13 @@ impl Machine {
         ensures answer { (found : List Row) → step_of found result ≡ step_in (went (machine_state self.old).shape (machine_state self.old).desk (machine_state self.old).desk.place (found_by (machine_state self.old) Go)) }
         ensures new { machine_state self.new ≡ moved (machine_state self.old) Go }
     {
-        let retired = self.spare.retired_at(poll as usize);
+        let retired = self.lists.retired_at(poll as usize);
         let departed = self.words.load(self.layout.departures(retired.slot));
         if same_count(departed, retired.arrivals) {
-            self.spare.take_retired(poll as usize);
+            self.lists.take_retired(poll as usize);
             self.stage = Stage::Putting(retired.slot, departed, 0);
             Outcome::Going
-        } else if poll as usize + 1 < self.spare.retired_len() {
+        } else if poll as usize + 1 < self.lists.retired_len() {
             self.stage = Stage::Searching(poll + 1);
             Outcome::Going
         } else {
@@ -58,20 +58,20 @@ impl Machine {
 
     /// The call ends with no slot: each is retired, or named by a key.
     fn no_slot(&mut self) -> Outcome
-        requires { length self.old.spare.retired ≤ self.old.layout.slots }
+        requires { length self.old.lists.retired ≤ self.old.layout.slots }
         ensures answer { (found : List Row) → step_of found result ≡ no_slot (machine_state self.old).shape (machine_state self.old).desk }
         ensures new { machine_state self.new ≡ record (machine_state self.old) { desk = moved_to (machine_state self.old).desk Idle } }
     {
         self.stage = Stage::Idle;
-        Outcome::NoSlot(self.spare.counts())
+        Outcome::NoSlot(self.lists.counts())
     }
 
     /// The call has swapped another word in for that one, whose slot is retired with its arrivals.
     pub fn retire(&mut self, word: u64)
-        requires { length self.old.spare.retired < self.old.layout.slots }
+        requires { length self.old.lists.retired < self.old.layout.slots }
         ensures { machine_state self.new ≡ record (machine_state self.old) { desk = swapped (machine_state self.old).desk word } }
     {
-        self.spare.retire(word);
+        self.lists.retire(word);
         self.stage = Stage::Idle;
     }
 }

@@ -62,7 +62,7 @@ impl Machine {
 
     /// Where the call goes from its look, which found that word.
     fn look(&mut self, call: &WriterCall, word: u64) -> Outcome
-        requires { length self.old.spare.retired ≤ self.old.layout.slots }
+        requires { length self.old.lists.retired ≤ self.old.layout.slots }
         ensures answer { (found : List Row) → step_of found result ≡ step_in (looked (machine_state self.old).shape (machine_state self.old).desk call.now word) }
         ensures new { machine_state self.new ≡ record (machine_state self.old) { desk = desk_in (looked (machine_state self.old).shape (machine_state self.old).desk call.now word) } }
     {
@@ -130,7 +130,7 @@ impl Machine {
     /// Where a fill goes whose key is asked with that number: it answers the request of its own
     /// number alone.
     fn fill_asked(&mut self, call: &WriterCall, number: u64, rows: &RowSet, asked: u64) -> Outcome
-        requires { length self.old.spare.retired ≤ self.old.layout.slots }
+        requires { length self.old.lists.retired ≤ self.old.layout.slots }
         ensures answer { (found : List Row) → step_of found result ≡ step_in (fill_asked (machine_state self.old).shape (machine_state self.old).desk call.now number rows.now asked) }
         ensures new { machine_state self.new ≡ record (machine_state self.old) { desk = desk_in (fill_asked (machine_state self.old).shape (machine_state self.old).desk call.now number rows.now asked) } }
     {
@@ -142,7 +142,7 @@ impl Machine {
 
     /// The call takes a slot for the set that it brings.
     fn settle_on(&mut self, call: &WriterCall, rows: &RowSet) -> Outcome
-        requires { length self.old.spare.retired ≤ self.old.layout.slots }
+        requires { length self.old.lists.retired ≤ self.old.layout.slots }
         ensures answer { (found : List Row) → step_of found result ≡ step_in (settled (machine_state self.old).shape (machine_state self.old).desk call.now rows.now) }
         ensures new { machine_state self.new ≡ record (machine_state self.old) { desk = desk_in (settled (machine_state self.old).shape (machine_state self.old).desk call.now rows.now) } }
     {
@@ -184,7 +184,7 @@ impl Machine {
     fn decide(&mut self, found: &mut RowSet) -> Outcome
         requires bound { bound_of (machine_state self.old).shape ≤ MAX_ROWS }
         requires fits { length self.old.got ≤ slot_room (machine_state self.old).shape }
-        requires few { length self.old.spare.retired ≤ self.old.layout.slots }
+        requires few { length self.old.lists.retired ≤ self.old.layout.slots }
         requires whole { length self.old.got ≡ 2 * slice_index self.old.got 0 + 1 }
         ensures answer { step_of found.new result ≡ step_in (decoded (machine_state self.old).shape (machine_state self.old).desk self.old.call (decode self.old.got)) }
         ensures new { machine_state self.new ≡ record (machine_state self.old) { desk = desk_in (decoded (machine_state self.old).shape (machine_state self.old).desk self.old.call (decode self.old.got)) } }
@@ -267,7 +267,7 @@ impl Machine {
         let number = self.number(key) + 1;
         let hole = hole_word(number, false);
         self.words.swap(self.layout.key(key), hole);
-        self.spare.renumber(key, number);
+        self.lists.renumber(key, number);
         self.end(Outcome::Cancelled)
     }
 

@@ -5,7 +5,7 @@ use crate::map::calls::ask;
 use crate::map::page::Page;
 use crate::map::texts::Texts;
 use nr_map::{FillFault, Pin, Reader, ReaderMap, Reaped, Reclaimed, Remains, Writer};
-use nr_model::{Delta, OpenFault, Pile, Row};
+use nr_model::{Delta, OpenFault, Row, SortedRows};
 use std::alloc::Global;
 
 const FIRST: [Row; 1] = [Row { a: 1, b: 0 }];
@@ -32,7 +32,7 @@ fn fill(map: &ReaderMap, writer: &mut Writer) -> Result<Reclaimed, FillFault>
     ensures { writer.new.table ≡ map.now }
 {
     let number = map.number(writer, 0);
-    map.fill_reclaiming(writer, 0, number, &FIRST, &mut Pile::new())
+    map.fill_reclaiming(writer, 0, number, &FIRST, &mut SortedRows::new())
 }
 
 // The text that a held set refers to is read where it stands.
@@ -63,7 +63,7 @@ fn change_beside(
         Ok(pin) => pin,
         Err(reader) => return reader,
     };
-    let mut had = Pile::new();
+    let mut had = SortedRows::new();
     let changed = map.update_reclaiming(writer, 0, &CHANGE, &mut had);
     page.line("an update beside a pin: ", &changed);
     page.line("a reap: ", &map.reap(writer, &mut had));
@@ -79,7 +79,7 @@ fn free_two(map: &ReaderMap, writer: &mut Writer, texts: &mut Texts, page: &mut 
     requires rows { 0 < map.now.shape.rows }
     ensures { writer.new.table ≡ map.now }
 {
-    let mut had = Pile::new();
+    let mut had = SortedRows::new();
     let replaced = map.replace_reclaiming(writer, 0, &LAST, &mut had);
     if let Ok(Reclaimed::Set) = replaced {
         texts.free(had.as_slice());
@@ -97,7 +97,7 @@ fn free_two(map: &ReaderMap, writer: &mut Writer, texts: &mut Texts, page: &mut 
 // At the end of a map each set comes out that no call gave out, the filled keys' too: at most one for
 // each slot.
 fn free_rest(mut remains: Remains, slots: u32, texts: &mut Texts) {
-    let mut had = Pile::new();
+    let mut had = SortedRows::new();
     for _ in 0..slots {
         if remains.next_into(&mut had) {
             texts.free(had.as_slice());
@@ -148,7 +148,7 @@ fn leave_in_place(alloc: Global, page: &mut Page) -> Result<(), OpenFault> {
     page.line("a fill: ", &fill(&map, &mut writer));
     readers.push(reader).map_err(|_| OpenFault::Memory)?;
     let mut rest = map.leave(writer, readers);
-    let mut had = Pile::new();
+    let mut had = SortedRows::new();
     let first = rest.next_of(&map, &mut had);
     let second = rest.next_of(&map, &mut had);
     page.line("where it lies: ", &[first, second]);

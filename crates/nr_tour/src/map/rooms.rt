@@ -7,7 +7,7 @@ use crate::map::opening::opened_filled;
 use crate::map::page::Page;
 use crate::map::upkeep::CHANGE;
 use nr_map::{FillFault, Reader, ReaderMap, ReplaceFault, Writer};
-use nr_model::{OpenFault, Pile, Row};
+use nr_model::{OpenFault, Row, SortedRows};
 use std::alloc::Global;
 
 // A fill from a slice whose rows are in order. None where they are more than a key may have.
@@ -46,20 +46,20 @@ fn replace_from(
     Some(map.replace_rows(writer, key, rows))
 }
 
-// A pile is a room for rows, as any type is that has `RowRoom`: a find writes them there. A change
+// `SortedRows` is a room for rows, as any type is that has `RowRoom`: a find writes them there. A change
 // needs no batch where its signed rows stand, one to sixty-four.
 fn copy_rows(map: &ReaderMap, writer: &mut Writer, reader: &mut Reader, page: &mut Page)
     requires own { (reader.old.table ≡ map.now) × (writer.old.table ≡ map.now) }
     requires keys { 1 < map.now.shape.keys }
 {
-    let mut pile = Pile::new();
-    page.line("reader 1 finds ", &map.find_into(reader, 0, &mut pile));
+    let mut sorted = SortedRows::new();
+    page.line("reader 1 finds ", &map.find_into(reader, 0, &mut sorted));
     page.line(
         "a fill with them: ",
-        &fill_from(map, writer, 1, pile.as_slice()),
+        &fill_from(map, writer, 1, sorted.as_slice()),
     );
     page.line("a change: ", &map.update_rows(writer, 1, &CHANGE));
-    let mut rows = Pile::new();
+    let mut rows = SortedRows::new();
     page.line("the writer finds ", &map.look_into(writer, 1, &mut rows));
     page.more(": ", &rows.as_slice());
     let replaced = replace_from(map, writer, 0, rows.as_slice());
@@ -73,7 +73,7 @@ fn find_behind(map: &ReaderMap, reader: &mut Reader, page: &mut Page)
     requires keys { 0 < map.now.shape.keys }
     ensures own { reader.new.table ≡ map.now }
 {
-    let mut rows = Pile::new();
+    let mut rows = SortedRows::new();
     let found = map.find_tagged(reader, 0, Row { a: 3, b: 9 }, &mut rows);
     page.line("by the tag 3:9 reader 1 finds ", &found);
     page.more(": ", &rows.as_slice());

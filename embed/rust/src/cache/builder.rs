@@ -21,7 +21,11 @@ const MAX_CAPACITY: usize = 2_600_000;
 /// How many readers a cache may have, one for each thread that reads at a time.
 const MAX_THREADS: u32 = 65_533;
 
-const MAX_PARTS: usize = 16;
+const MAX_PARTS: usize = 32;
+
+/// So that two threads that miss at the same time rarely do so in one part. Where entries have weights there is one part for
+/// each thread, since none may weigh more than a part's share.
+const PARTS_PER_THREAD: usize = 4;
 
 /// How many readers the maps of all parts may have where there is more than one: of 6 kB each.
 const MAX_READERS: usize = 512;
@@ -127,7 +131,7 @@ impl<K: Hash + Eq, V, S: BuildHasher> CacheBuilder<K, V, S> {
         if !is_right {
             return Err(Fault::BadSize);
         }
-        let count = parts(self.capacity, self.threads);
+        let count = self.parts();
         let expiry = Expiry::new(self.spans, self.lifetime.is_some());
         let bound = self.bound();
         let Self { arrange, lifetime, weigher, listener, .. } = self;
@@ -146,6 +150,14 @@ impl<K: Hash + Eq, V, S: BuildHasher> CacheBuilder<K, V, S> {
         let spare = spare.into_iter().zip(0..).map(|(ids, number)| Desk::new(ids, number)).collect();
         Ok(Cache { shared: Arc::new(Shared::new(self.hasher, self.capacity, parts, spare)) })
     }
+
+    /// How many parts the cache has: some for each thread, as far as that takes neither much memory nor so small parts that
+    /// by chance some would be full long before others.
+    fn parts(&self) -> usize {
+        let threads = self.threads as usize;
+        let wanted = if threads == 1 || self.max_weight.is_some() { threads } else { threads * PARTS_PER_THREAD };
+        wanted.min(MAX_PARTS).min(MAX_READERS / (threads + 1)).min(self.capacity / LEAST_PART).max(1)
+    }
 }
 
 impl<K, V, S> fmt::Debug for CacheBuilder<K, V, S> {
@@ -153,13 +165,6 @@ impl<K, V, S> fmt::Debug for CacheBuilder<K, V, S> {
         let (capacity, threads) = (self.capacity, self.threads);
         f.debug_struct("CacheBuilder").field("capacity", &capacity).field("threads", &threads).finish_non_exhaustive()
     }
-}
-
-/// How many parts a cache has: one for each thread, as far as that takes neither much memory nor so small parts that by
-/// chance some would be full long before others.
-fn parts(capacity: usize, threads: u32) -> usize {
-    let threads = threads as usize;
-    threads.min(MAX_PARTS).min(MAX_READERS / (threads + 1)).min(capacity / LEAST_PART).max(1)
 }
 
 /// How many groups a part may have.

@@ -148,11 +148,12 @@ impl<K, V> Store<K, V> {
         (!entry.refreshing.swap(true, Relaxed)).then_some(Beside { turn, clearings })
     }
 
-    /// Ends it by an entry in place of that one, or gives it back where that was outdated or has gone.
+    /// Ends it by an entry in place of that one, or gives it back where that was outdated or has gone. A load that began once
+    /// that had expired is younger, and goes on.
     pub fn refresh(&mut self, beside: Beside, entry: Box<Entry<K, V>>) -> PutEntry<K, V> {
         let is_of_now = self.end_refresh(entry.id, beside) && beside.clearings == self.clearings;
         match self.place(entry.id).filter(|_| is_of_now) {
-            Some(old) => self.swap(old, entry),
+            Some(old) => self.takes_place(old, entry),
             None => Err(entry),
         }
     }
@@ -210,6 +211,11 @@ impl<K, V> Store<K, V> {
         }
         // A load that began once that had expired.
         self.under_way.outdate(id);
+        self.takes_place(old, entry)
+    }
+
+    fn takes_place(&mut self, old: Place<K, V>, entry: Box<Entry<K, V>>) -> PutEntry<K, V> {
+        let id = entry.id;
         self.put_in_place(Some(old), entry, |ids, place, terms| ids.swap(id, old.as_ptr() as u64, place, terms))
     }
 

@@ -130,6 +130,29 @@ fn one_load_is_under_way_beside_it() {
 }
 
 #[test]
+fn what_is_loaded_since_it_was_old_leaves_that_load_under_way() {
+    let life = |_: &u64, value: &u64| Some(if *value == 10 { Duration::from_millis(20) } else { Duration::ZERO });
+    let builder = Cache::builder().refresh_after(Duration::ZERO).stale_if_error(Duration::MAX).expire_after(life);
+    let cache: Cache<u64, u64> = builder.open().unwrap();
+    let older = loop {
+        assert!(cache.insert(1, 10));
+        if let Sought::Aged(10, older) = cache.get_or_request(&1) {
+            break older;
+        }
+    };
+    while cache.contains_key(&1) {
+        thread::yield_now();
+    }
+    let own = request(&cache);
+    assert!(matches!(cache.get_or_request(&1), Sought::UnderWay(_)));
+    // Its value has expired as it comes, and the younger load isn't begun again.
+    assert!(older.fill(11));
+    assert!(matches!(cache.get_or_request(&1), Sought::UnderWay(_)));
+    assert!(own.fill(12));
+    assert_eq!((cache.try_get_with(&1, || AWAY), cache.stats().outdated), (Ok(12), 0));
+}
+
+#[test]
 fn a_load_beside_too_many_others_is_its_callers_own() {
     let cache = left_for(Duration::MAX).capacity(2000).threads(1).open().unwrap();
     let loads: Vec<_> = (0..1024)

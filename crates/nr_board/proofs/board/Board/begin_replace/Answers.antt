@@ -6,7 +6,7 @@ use Rattle.nr_core.specs.declared.calls.WriterCall.{WriterCall}
 use Rattle.nr_core.specs.declared.places.Place.TheVariants.{Idle}
 use Rattle.nr_board.proofs.Looks.{has_looked, is_empty, is_full, replace_dropped, replace_settles}
 use Rattle.nr_board.proofs.WriterCalls.{look_ends, look_settles}
-use Rattle.nr_board.specs.Spares.{desk_with}
+use Rattle.nr_board.specs.SlotLists.{desk_with}
 use Rattle.nr_board.proofs.board.Board.begin_replace.Goals as goal
 
 pub look-requires-clause-given : goal.look-requires-clause-given
@@ -21,7 +21,7 @@ returns-then-not-parts g c =
     c.look.ensures.leads c.look.ensures.marks c.look.ensures.heard in
     let told
     = look_ends looks reply.Dropped
-    (replace_dropped c.args.self.now.shape (desk_with c.args.spare.now Idle) c.args.key c.look.result
+    (replace_dropped c.args.self.now.shape (desk_with c.args.lists.now Idle) c.args.key c.look.result
     c.args.rows.now (is_empty c.look.result c.parts.ensures.parts c.if-not-parts.true)) in
     (told.0, told.1, told.1.1.2)
 
@@ -31,5 +31,5 @@ returns g c =
     = has_looked {before = c.args.seat.now} refl c.requires.own c.requires.rests c.requires.call
     c.look.ensures.leads c.look.ensures.marks c.look.ensures.heard in
     look_settles looks
-    (replace_settles c.args.self.now.shape (desk_with c.args.spare.now Idle) c.args.key c.look.result
+    (replace_settles c.args.self.now.shape (desk_with c.args.lists.now Idle) c.args.key c.look.result
     c.args.rows.now (is_full c.look.result c.parts.ensures.parts c.if-not-parts.false))

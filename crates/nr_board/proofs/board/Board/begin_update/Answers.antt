@@ -9,7 +9,7 @@ use Rattle.nr_core.specs.declared.places.Place.TheVariants.{Idle}
 use Rattle.nr_board.proofs.Looks.{has_looked, is_empty, is_full, slot_so, update_dropped, update_reads}
 use Rattle.nr_board.proofs.SetRooms.{reads_set}
 use Rattle.nr_board.proofs.WriterCalls.{about_to_read, has_read, has_refused, look_ends}
-use Rattle.nr_board.specs.Spares.{desk_with}
+use Rattle.nr_board.specs.SlotLists.{desk_with}
 use Rattle.nr_board.proofs.board.Board.begin_update.Goals as goal
 
 pub returns-then-not-found : goal.returns-then-not-found
@@ -19,7 +19,7 @@ returns-then-not-found g c =
     c.look.ensures.leads c.look.ensures.marks c.look.ensures.heard in
     let told
     = look_ends looks reply.Dropped
-    (update_dropped c.args.self.now.shape (desk_with c.args.spare.now Idle) c.args.key c.look.result
+    (update_dropped c.args.self.now.shape (desk_with c.args.lists.now Idle) c.args.key c.look.result
     c.args.deltas.now (is_empty c.look.result c.parts-found.ensures.parts c.if-not-found.true)) in
     (told.0, told.1, told.1.1.2)
 
@@ -29,7 +29,7 @@ read_set-requires g c =
     = has_looked {before = c.args.seat.now} refl c.requires.own c.requires.rests c.requires.call
     c.look.ensures.leads c.look.ensures.marks c.look.ensures.heard in
     let full = is_full c.look.result c.parts-found.ensures.parts c.if-not-found.false in
-    let desk = desk_with c.args.spare.now Idle in
+    let desk = desk_with c.args.lists.now Idle in
     let reads
     = about_to_read looks (update_reads c.args.self.now.shape desk c.args.key c.look.result c.args.deltas.now full)
     c.requires.call (slot_so c.look.result c.parts-found.ensures.parts) in
@@ -46,7 +46,7 @@ returns-in-Err-NoRow g c =
     = has_looked {before = c.args.seat.now} refl c.requires.own c.requires.rests c.requires.call
     c.look.ensures.leads c.look.ensures.marks c.look.ensures.heard in
     let full = is_full c.look.result c.parts-found.ensures.parts c.if-not-found.false in
-    let desk = desk_with c.args.spare.now Idle in
+    let desk = desk_with c.args.lists.now Idle in
     let read
     = has_read looks (update_reads c.args.self.now.shape desk c.args.key c.look.result c.args.deltas.now full)
     c.requires.call (reads_set c.read_set.ensures) in
@@ -62,7 +62,7 @@ returns-in-Err-TooMany g c =
     = has_looked {before = c.args.seat.now} refl c.requires.own c.requires.rests c.requires.call
     c.look.ensures.leads c.look.ensures.marks c.look.ensures.heard in
     let full = is_full c.look.result c.parts-found.ensures.parts c.if-not-found.false in
-    let desk = desk_with c.args.spare.now Idle in
+    let desk = desk_with c.args.lists.now Idle in
     let read
     = has_read looks (update_reads c.args.self.now.shape desk c.args.key c.look.result c.args.deltas.now full)
     c.requires.call (reads_set c.read_set.ensures) in
@@ -78,7 +78,7 @@ returns-in-Ok g c =
     = has_looked {before = c.args.seat.now} refl c.requires.own c.requires.rests c.requires.call
     c.look.ensures.leads c.look.ensures.marks c.look.ensures.heard in
     let full = is_full c.look.result c.parts-found.ensures.parts c.if-not-found.false in
-    let desk = desk_with c.args.spare.now Idle in
+    let desk = desk_with c.args.lists.now Idle in
     let read
     = has_read looks (update_reads c.args.self.now.shape desk c.args.key c.look.result c.args.deltas.now full)
     c.requires.call (reads_set c.read_set.ensures) in

@@ -10,7 +10,7 @@ use Rattle.nr_board.proofs.Looks.{asked_so, cancel_filled, cancel_unasked, cance
 use Rattle.nr_board.proofs.Looks.{has_looked, slot_so, unasked_so}
 use Rattle.nr_board.proofs.WriterCalls.{about_to_withdraw, has_cancelled, look_ends}
 use Rattle.nr_board.specs.Callers.{Table}
-use Rattle.nr_board.specs.Spares.{desk_with}
+use Rattle.nr_board.specs.SlotLists.{desk_with}
 use Rattle.nr_board.specs.WriterSeats.{IsWithdrawing}
 use Rattle.nr_board.proofs.board.Board.cancel_key.Goals.{then-found-via-then-found}
 use Rattle.nr_board.proofs.board.Board.cancel_key.Goals.{then-found-via-else-found+then-not-found}
@@ -22,15 +22,15 @@ returns-then-found g c =
     = has_looked {before = c.args.seat.now} refl c.requires.own c.requires.rests c.requires.call
     c.look.ensures.leads
     c.look.ensures.marks c.look.ensures.heard in let word = c.look.result in let parts = c.parts-found.ensures.parts in
-    let outcome : looked c.args.self.now.shape (desk_with c.args.spare.now Idle) (writer.Cancel c.args.key)
+    let outcome : looked c.args.self.now.shape (desk_with c.args.lists.now Idle) (writer.Cancel c.args.key)
     c.look.result
-    ≡ (desk_with c.args.spare.now Idle, ended reply.Nothing)
+    ≡ (desk_with c.args.lists.now Idle, ended reply.Nothing)
     = elim c.then-found.branch [
       | then-found-via-then-found w ↦
-          cancel_filled c.args.self.now.shape (desk_with c.args.spare.now Idle) c.args.key c.look.result
+          cancel_filled c.args.self.now.shape (desk_with c.args.lists.now Idle) c.args.key c.look.result
           (filled_so word parts true w.if-found.true)
       | then-found-via-else-found+then-not-found w ↦
-          cancel_unasked c.args.self.now.shape (desk_with c.args.spare.now Idle) c.args.key c.look.result
+          cancel_unasked c.args.self.now.shape (desk_with c.args.lists.now Idle) c.args.key c.look.result
           (filled_so word parts false w.if-found.false) (unasked_so word parts w.if-not-found.true)
     ] in
     let told = look_ends looks reply.Nothing outcome in
@@ -46,7 +46,7 @@ returns-then-from-ge-LAST_NUMBER g c =
     = omega (arith, slot_so word parts, c.from.ensures, c.if-from-ge-LAST_NUMBER.true) in
     let told
     = look_ends looks reply.Worn
-    (cancel_worn c.args.self.now.shape (desk_with c.args.spare.now Idle) c.args.key c.look.result
+    (cancel_worn c.args.self.now.shape (desk_with c.args.lists.now Idle) c.args.key c.look.result
     (filled_so word parts false c.if-found.false) (asked_so word parts c.if-not-found.false) last) in
     record { rests = told.0; cancels = told.1 }
 
@@ -60,7 +60,7 @@ overflow_add-next g c =
     = omega (arith, slot_so word parts, c.from.ensures, c.if-from-ge-LAST_NUMBER.false) in
     let leads
     = about_to_withdraw looks
-    (cancel_withdraws c.args.self.now.shape (desk_with c.args.spare.now Idle) c.args.key c.look.result
+    (cancel_withdraws c.args.self.now.shape (desk_with c.args.lists.now Idle) c.args.key c.look.result
     (filled_so word parts false c.if-found.false) (asked_so word parts c.if-not-found.false) early) in
     omega (arith, leads.writes.room.place.1, c.number-next.ensures)
 
@@ -74,11 +74,11 @@ withdraw-requires g c =
     = omega (arith, slot_so word parts, c.from.ensures, c.if-from-ge-LAST_NUMBER.false) in
     let leads
     = about_to_withdraw looks
-    (cancel_withdraws c.args.self.now.shape (desk_with c.args.spare.now Idle) c.args.key c.look.result
+    (cancel_withdraws c.args.self.now.shape (desk_with c.args.lists.now Idle) c.args.key c.look.result
     (filled_so word parts false c.if-found.false) (asked_so word parts c.if-not-found.false) early) in
     subst (λ (t : Table). IsWithdrawing t c.args.key (c.number-next.result + 1) c.look.new.seat) (sym refl)
     (record {
-      desk = desk_with c.args.spare.now (Withdrawing c.args.key);
+      desk = desk_with c.args.lists.now (Withdrawing c.args.key);
       writes = leads.writes;
       place = refl;
       number_is = ap (λ (n : ℕ). n + 1) c.number-next.ensures;
@@ -94,15 +94,15 @@ returns g c =
     let early : slot_of word < last_number
     = omega (arith, slot_so word parts, c.from.ensures, c.if-from-ge-LAST_NUMBER.false) in
     let withdraws
-    = cancel_withdraws c.args.self.now.shape (desk_with c.args.spare.now Idle) c.args.key c.look.result
+    = cancel_withdraws c.args.self.now.shape (desk_with c.args.lists.now Idle) c.args.key c.look.result
     (filled_so word parts false c.if-found.false) (asked_so word parts c.if-not-found.false) early in
     let renumbers : c.renumber.new.self
-    ≡ record c.args.spare.now {
-      numbers = slice_set c.args.spare.now.numbers c.args.key
-          (slice_index c.args.spare.now.numbers c.args.key + 1);
+    ≡ record c.args.lists.now {
+      numbers = slice_set c.args.lists.now.numbers c.args.key
+          (slice_index c.args.lists.now.numbers c.args.key + 1);
     }
     = c.renumber.ensures
-    ∙ ap (λ (n : ℕ). record c.args.spare.now { numbers = slice_set c.args.spare.now.numbers c.args.key (n + 1) })
+    ∙ ap (λ (n : ℕ). record c.args.lists.now { numbers = slice_set c.args.lists.now.numbers c.args.key (n + 1) })
     c.number-next.ensures in
     let told = has_cancelled looks withdraws refl c.withdraw.ensures.1 renumbers in
     record { rests = told.0; cancels = told.1 }

@@ -15,5 +15,5 @@ returns g c =
 
 pub returns-in_err-begin_fill-clause-flagged : goal.returns-in_err-begin_fill-clause-flagged
 returns-in_err-begin_fill-clause-flagged g c =
-    subst (λ (heard : List ℕ). IsFlagged c.args.self.now c.args.spare.now.retired heard c.args.unheard.now)
+    subst (λ (heard : List ℕ). IsFlagged c.args.self.now c.args.lists.now.retired heard c.args.flags.now)
     (sym c.in_err-begin_fill.ensures.2) c.requires.flagged

@@ -7,7 +7,7 @@ use Rattle.nr_board.proofs.Looks.{find_hole, find_reads, has_looked, is_empty, i
 use Rattle.nr_board.proofs.WriterCalls.{about_to_read, has_found, has_read, look_ends}
 use Rattle.nr_model.specs.Rows.{IsRowSet}
 use Rattle.nr_board.specs.Callers.{Table}
-use Rattle.nr_board.specs.Spares.{desk_with}
+use Rattle.nr_board.specs.SlotLists.{desk_with}
 use Rattle.nr_board.proofs.board.Board.look_up.Goals as goal
 
 pub returns-then-not-found : goal.returns-then-not-found
@@ -17,7 +17,7 @@ returns-then-not-found g c =
     c.look.ensures.leads c.look.ensures.marks c.look.ensures.heard in
     let told
     = look_ends looks reply.Hole
-    (find_hole c.args.self.now.shape (desk_with c.args.spare.now Idle) c.args.key c.look.result
+    (find_hole c.args.self.now.shape (desk_with c.args.lists.now Idle) c.args.key c.look.result
     (is_empty c.look.result c.parts-found.ensures.parts c.if-not-found.true)) in
     record { rests = told.0; looks = (told.1.0, told.1.1, refl) }
 
@@ -28,7 +28,7 @@ read_set-requires g c =
     c.look.ensures.leads c.look.ensures.marks c.look.ensures.heard in
     let reads
     = about_to_read looks
-    (find_reads c.args.self.now.shape (desk_with c.args.spare.now Idle) c.args.key c.look.result
+    (find_reads c.args.self.now.shape (desk_with c.args.lists.now Idle) c.args.key c.look.result
     (is_full c.look.result c.parts-found.ensures.parts c.if-not-found.false)) c.requires.call
     (slot_so c.look.result c.parts-found.ensures.parts) in
     record {
@@ -47,7 +47,7 @@ returns g c =
     let told
     = has_found
     (has_read looks
-    (find_reads c.args.self.now.shape (desk_with c.args.spare.now Idle) c.args.key c.look.result
+    (find_reads c.args.self.now.shape (desk_with c.args.lists.now Idle) c.args.key c.look.result
     (is_full c.look.result c.parts-found.ensures.parts c.if-not-found.false))
     c.requires.call reads) in
     record {

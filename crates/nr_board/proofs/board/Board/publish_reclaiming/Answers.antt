@@ -1,6 +1,6 @@
 use Rattle.std.proofs.Common.{Bool, List, [], ◌++◌, ◌≡◌, ap, arith, false, length, refl, subst, sym, ℕ, ◌*◌, ◌+◌, ◌∙◌}
 use Rattle.std.specs.Prelude.{slice_set}
-use Rattle.nr_core.specs.Spares.{Spare}
+use Rattle.nr_core.specs.SlotLists.{SlotLists}
 use Rattle.nr_core.specs.Writer.{moved_to, unnamed}
 use Rattle.nr_core.specs.declared.places.Retired.{Retired}
 use Rattle.nr_board.proofs.Flagging.{fewer_retired, flags_put}
@@ -37,7 +37,7 @@ returns-clause-publishes g c =
     = subst (λ (table : Table). GoesOn table c.publish-named.result mid c.publish-named.new.seat) refl
     c.publish-named.ensures in
     let put
-    = published map call rows c.args.spare.now c.take_reclaiming.new.spare c.set_reaped.new.self slot departed
+    = published map call rows c.args.lists.now c.take_reclaiming.new.lists c.set_reaped.new.self slot departed
     took.steps before mid
     c.publish-named.new.seat at.me.0.heard took.loads c.publish-named.result took.took took.few took.slots took.numbers
     took.reaped
@@ -49,11 +49,11 @@ returns-clause-publishes g c =
     [] (token mid) refl took.grows c.put_rows.ensures.grows)
     goes
     (c.set_reaped.ensures
-    ∙ ap (λ (s : Spare). record s { reaped = slice_set s.reaped slot false }) c.retire.ensures) in (
+    ∙ ap (λ (s : SlotLists). record s { reaped = slice_set s.reaped slot false }) c.retire.ensures) in (
       steps,
       put.0,
       subst
-          (λ (i : ℕ). HandsOut g.R.RowRoom.shows map.shape.rows c.args.spare.now i
+          (λ (i : ℕ). HandsOut g.R.RowRoom.shows map.shape.rows c.args.lists.now i
           (set_in c.args.seat.now.me.0.marks i) c.args.had.now c.take_reclaiming.new.had steps
           c.in_ok-taken.given)
           (sym put.1) c.in_ok-taken.ensures.takes.2,
@@ -67,7 +67,7 @@ set_reaped-requires g c =
       took.writes.room.place.0,
       took.slots,
       c.requires.settles.slots,
-      ap (λ (s : Spare). s.slots) c.retire.ensures,
+      ap (λ (s : SlotLists). s.slots) c.retire.ensures,
     )
 
 pub returns-clause-flagged : goal.returns-clause-flagged
@@ -90,14 +90,14 @@ returns-clause-flagged g c =
     c.put_rows.new.seat)
     (ap desk_of took.writes.role) c.put_rows.ensures.writer in
     let forgets = (goes _ writes.role).heard ∙ c.put_rows.ensures.heard in
-    let retired : c.set_reaped.new.self.retired ≡ c.take_reclaiming.new.spare.retired ++ unnamed c.publish-named.result
-    = ap (λ (s : Spare). s.retired)
+    let retired : c.set_reaped.new.self.retired ≡ c.take_reclaiming.new.lists.retired ++ unnamed c.publish-named.result
+    = ap (λ (s : SlotLists). s.retired)
     (c.set_reaped.ensures
-    ∙ ap (λ (s : Spare). record s { reaped = slice_set s.reaped slot false }) c.retire.ensures) in
+    ∙ ap (λ (s : SlotLists). record s { reaped = slice_set s.reaped slot false }) c.retire.ensures) in
     subst (λ (p : List Retired × List Bool). IsFlagged map p.0 c.publish-named.new.seat.me.0.heard p.1)
     (λ j. (sym retired j, sym c.flag.ensures j))
-    (flags_put map c.args.spare.now.retired (c.take_reclaiming.new.spare.retired ++ unnamed c.publish-named.result)
-    at.me.0.heard c.publish-named.new.seat.me.0.heard c.take_reclaiming.new.unheard slot
+    (flags_put map c.args.lists.now.retired (c.take_reclaiming.new.lists.retired ++ unnamed c.publish-named.result)
+    at.me.0.heard c.publish-named.new.seat.me.0.heard c.take_reclaiming.new.flags slot
     c.in_ok-taken.ensures.flagged forgets
-    (fewer_retired map before.me.0.heard at.me.0.heard took.loads slot took.steps c.args.spare.now
-    c.take_reclaiming.new.spare (unnamed c.publish-named.result) took.took))
+    (fewer_retired map before.me.0.heard at.me.0.heard took.loads slot took.steps c.args.lists.now
+    c.take_reclaiming.new.lists (unnamed c.publish-named.result) took.took))

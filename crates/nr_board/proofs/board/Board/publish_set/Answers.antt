@@ -1,6 +1,6 @@
 use Rattle.std.proofs.Common.{Bool, List, [], ◌++◌, ◌≡◌, ap, arith, false, length, refl, subst, sym, ℕ, ◌*◌, ◌+◌, ◌∙◌}
 use Rattle.std.specs.Prelude.{slice_set}
-use Rattle.nr_core.specs.Spares.{Spare}
+use Rattle.nr_core.specs.SlotLists.{SlotLists}
 use Rattle.nr_core.specs.Writer.{moved_to, unnamed}
 use Rattle.nr_core.specs.declared.places.Retired.{Retired}
 use Rattle.nr_board.proofs.Flagging.{fewer_retired, flags_put}
@@ -33,7 +33,7 @@ returns-clause-publishes g c =
     let goes
     = subst (λ (table : Table). GoesOn table c.publish-old_word.result mid c.publish-old_word.new.seat) refl
     c.publish-old_word.ensures in
-    (published map call rows c.args.spare.now c.take_slot.new.spare c.set_reaped.new.self slot departed took.steps
+    (published map call rows c.args.lists.now c.take_slot.new.lists c.set_reaped.new.self slot departed took.steps
     before mid
     c.publish-old_word.new.seat at.me.0.heard took.loads c.publish-old_word.result took.took took.few took.slots
     took.numbers took.reaped
@@ -44,7 +44,8 @@ returns-clause-publishes g c =
     (grows_both took.steps last (took.steps + last) (token before) (token at)
     [] (token mid) refl took.grows c.put_rows.ensures.grows)
     goes
-    (c.set_reaped.ensures ∙ ap (λ (s : Spare). record s { reaped = slice_set s.reaped slot false }) c.retire.ensures)).0
+    (c.set_reaped.ensures ∙ ap (λ (s : SlotLists). record s { reaped = slice_set s.reaped slot false })
+    c.retire.ensures)).0
 
 pub set_reaped-requires : goal.set_reaped-requires
 set_reaped-requires g c =
@@ -54,7 +55,7 @@ set_reaped-requires g c =
       took.writes.room.place.0,
       took.slots,
       c.requires.settles.slots,
-      ap (λ (s : Spare). s.slots) c.retire.ensures,
+      ap (λ (s : SlotLists). s.slots) c.retire.ensures,
     )
 
 pub returns-clause-flagged : goal.returns-clause-flagged
@@ -77,14 +78,14 @@ returns-clause-flagged g c =
     c.put_rows.new.seat)
     (ap desk_of took.writes.role) c.put_rows.ensures.writer in
     let forgets = (goes _ writes.role).heard ∙ c.put_rows.ensures.heard in
-    let retired : c.set_reaped.new.self.retired ≡ c.take_slot.new.spare.retired ++ unnamed c.publish-old_word.result
-    = ap (λ (s : Spare). s.retired)
+    let retired : c.set_reaped.new.self.retired ≡ c.take_slot.new.lists.retired ++ unnamed c.publish-old_word.result
+    = ap (λ (s : SlotLists). s.retired)
     (c.set_reaped.ensures
-    ∙ ap (λ (s : Spare). record s { reaped = slice_set s.reaped slot false }) c.retire.ensures) in
+    ∙ ap (λ (s : SlotLists). record s { reaped = slice_set s.reaped slot false }) c.retire.ensures) in
     subst (λ (p : List Retired × List Bool). IsFlagged map p.0 c.publish-old_word.new.seat.me.0.heard p.1)
     (λ j. (sym retired j, sym c.flag.ensures j))
-    (flags_put map c.args.spare.now.retired (c.take_slot.new.spare.retired ++ unnamed c.publish-old_word.result)
-    at.me.0.heard c.publish-old_word.new.seat.me.0.heard c.take_slot.new.unheard slot c.in_ok-taken.ensures.flagged
+    (flags_put map c.args.lists.now.retired (c.take_slot.new.lists.retired ++ unnamed c.publish-old_word.result)
+    at.me.0.heard c.publish-old_word.new.seat.me.0.heard c.take_slot.new.flags slot c.in_ok-taken.ensures.flagged
     forgets
-    (fewer_retired map before.me.0.heard at.me.0.heard took.loads slot took.steps c.args.spare.now c.take_slot.new.spare
+    (fewer_retired map before.me.0.heard at.me.0.heard took.loads slot took.steps c.args.lists.now c.take_slot.new.lists
     (unnamed c.publish-old_word.result) took.took))

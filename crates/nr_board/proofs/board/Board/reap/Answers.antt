@@ -3,7 +3,7 @@ use Rattle.nr_model.specs.Rows.{IsRowSet}
 use Rattle.nr_model.specs.declared.rows.Row.{Row}
 use Rattle.nr_core.specs.Marks.{OfSlot, set_in}
 use Rattle.nr_board.specs.Reaping.{after_polls, with_reap}
-use Rattle.nr_board.specs.Spares.{held_polls}
+use Rattle.nr_board.specs.SlotLists.{held_polls}
 use Rattle.nr_board.specs.Views.{View}
 use Rattle.nr_board.proofs.Looks.{rests_here}
 use Rattle.nr_board.proofs.Reaps.{found_set, keeps_all, kept_token, reaped_token, recalls_found}
@@ -12,28 +12,28 @@ use Rattle.nr_board.proofs.board.Board.reap.Goals as goal
 
 pub recall_set-requires : goal.recall_set-requires
 recall_set-requires g c =
-    let rests = rests_here c.args.self.now c.args.spare.now c.args.seat.now c.requires.own c.requires.rests in
+    let rests = rests_here c.args.self.now c.args.lists.now c.args.seat.now c.requires.own c.requires.rests in
     let found
-    = found_set c.args.self.now c.args.spare.now c.args.seat.now rests c.sweep_heard.new.seat c.in-Free.slot
+    = found_set c.args.self.now c.args.lists.now c.args.seat.now rests c.sweep_heard.new.seat c.in-Free.slot
     c.in-Free.ensures.sweeps in
     record {
-      recalls = recalls_found c.args.self.now c.args.spare.now c.args.seat.now rests c.sweep_heard.new.seat
+      recalls = recalls_found c.args.self.now c.args.lists.now c.args.seat.now rests c.sweep_heard.new.seat
           c.in-Free.slot c.in-Free.ensures.own found;
     }
 
 pub returns-in-Free-clause-reaps : goal.returns-in-Free-clause-reaps
 returns-in-Free-clause-reaps g c =
     let map = c.args.self.now in
-    let spare = c.args.spare.now in
+    let lists = c.args.lists.now in
     let before = c.args.seat.now in
     let mid = c.sweep_heard.new.seat in
     let slot : ℕ = c.in-Free.slot in
-    let rests = rests_here map spare before c.requires.own c.requires.rests in
-    let found = found_set map spare before rests mid slot c.in-Free.ensures.sweeps in
+    let rests = rests_here map lists before c.requires.own c.requires.rests in
+    let found = found_set map lists before rests mid slot c.in-Free.ensures.sweeps in
     let set_is : set_in mid.me.0.marks slot ≡ set_in before.me.0.marks slot
     = ap (λ (v : View). set_in v.marks slot) found.view in
     let token_is
-    = reaped_token map spare before rests mid c.recall_set.new.seat slot (length (set_in mid.me.0.marks slot))
+    = reaped_token map lists before rests mid c.recall_set.new.seat slot (length (set_in mid.me.0.marks slot))
     c.in-Free.ensures.own found c.recall_set.ensures.own c.recall_set.ensures.waits in
     let gives = subst (λ (s : ℕ).
     g.R.RowRoom.shows c.recall_set.new.rows (set_in before.me.0.marks s)
@@ -76,10 +76,10 @@ returns-in-Free-clause-reaps g c =
 pub returns-in-Held-clause-reaps : goal.returns-in-Held-clause-reaps
 returns-in-Held-clause-reaps g c =
     let map = c.args.self.now in
-    let spare = c.args.spare.now in
+    let lists = c.args.lists.now in
     let before = c.args.seat.now in
-    let rests = rests_here map spare before c.requires.own c.requires.rests in
-    let keeps = keeps_all map spare before rests c.sweep_heard.new.seat c.in-Held.ensures.sweeps in (
+    let rests = rests_here map lists before c.requires.own c.requires.rests in
+    let keeps = keeps_all map lists before rests c.sweep_heard.new.seat c.in-Held.ensures.sweeps in (
       keeps.notes,
       keeps.earlier,
       keeps.scanned,
@@ -88,6 +88,6 @@ returns-in-Held-clause-reaps g c =
       keeps.scans,
       keeps.some_wait,
       keeps.each,
-      kept_token map spare before rests c.sweep_heard.new.seat c.in-Held.ensures.own keeps,
+      kept_token map lists before rests c.sweep_heard.new.seat c.in-Held.ensures.own keeps,
       refl,
     )

@@ -27,5 +27,5 @@ returns-in-Err g c =
 
 pub returns-in_err-begin_replace-clause-flagged : goal.returns-in_err-begin_replace-clause-flagged
 returns-in_err-begin_replace-clause-flagged g c =
-    subst (λ (heard : List ℕ). IsFlagged c.args.self.now c.args.spare.now.retired heard c.args.unheard.now)
+    subst (λ (heard : List ℕ). IsFlagged c.args.self.now c.args.lists.now.retired heard c.args.flags.now)
     (sym c.in_err-begin_replace.ensures.2) c.requires.flagged

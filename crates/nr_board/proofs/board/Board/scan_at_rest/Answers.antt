@@ -6,22 +6,22 @@ use Rattle.nr_board.proofs.board.Board.scan_at_rest.Goals as goal
 pub loop-reader-init : goal.loop-reader-init
 loop-reader-init c =
     let none = c.clear_retired.ensures in
-    resting_scan_begins c.args.self.now c.args.spare.now c.args.seat.now c.clear_retired.new.self none.none
+    resting_scan_begins c.args.self.now c.args.lists.now c.args.seat.now c.clear_retired.new.self none.none
     (none.wide ∙ c.requires.flagged.wide) (none.others c.requires.flagged.others)
 
 pub scan-said-requires : goal.scan-said-requires
 scan-said-requires c =
-    resting_scan_at c.args.self.now c.args.spare.now c.args.seat.now c.loop-reader.seat c.loop-reader.unheard
+    resting_scan_at c.args.self.now c.args.lists.now c.args.seat.now c.loop-reader.seat c.loop-reader.flags
     c.loop-reader.reader c.requires.rests c.loop-reader.invariant _
     (omega (arith, c.loop-reader-test.true, c.loop-reader.auto.reader-end, c.announcers-reader-end.ensures.value))
 
 pub loop-reader-preserved : goal.loop-reader-preserved
 loop-reader-preserved c = let told = c.scan-said.ensures in let own : ℕ = c.loop-reader.reader in
     subst
-    (λ (flags : List Bool). RestingScan c.args.self.now c.args.spare.now c.args.seat.now c.scan-said.new.seat flags
+    (λ (flags : List Bool). RestingScan c.args.self.now c.args.lists.now c.args.seat.now c.scan-said.new.seat flags
     (own + 1))
     (sym c.announce.ensures.flags)
-    (resting_scan_goes c.args.self.now c.args.spare.now c.args.seat.now c.loop-reader.seat c.loop-reader.unheard own
+    (resting_scan_goes c.args.self.now c.args.lists.now c.args.seat.now c.loop-reader.seat c.loop-reader.flags own
     c.requires.rests c.loop-reader.invariant c.scan-said.new.seat c.scan-said.result told.own told.hears)
 
 pub returns-clause-hears : goal.returns-clause-hears
@@ -29,7 +29,7 @@ returns-clause-hears c = let own : ℕ = c.loop-reader.reader in let map = c.arg
     let all : own ≡ map.announcers
     = omega
     (arith, c.loop-reader-test.false, c.loop-reader.auto.reader-end, c.announcers-reader-end.ensures.value) in
-    resting_scan_hears map c.args.spare.now c.args.seat.now c.loop-reader.seat c.loop-reader.unheard
+    resting_scan_hears map c.args.lists.now c.args.seat.now c.loop-reader.seat c.loop-reader.flags
     c.requires.some_words
-    (subst (λ (n : ℕ). RestingScan map c.args.spare.now c.args.seat.now c.loop-reader.seat c.loop-reader.unheard n) all
+    (subst (λ (n : ℕ). RestingScan map c.args.lists.now c.args.seat.now c.loop-reader.seat c.loop-reader.flags n) all
     c.loop-reader.invariant)

@@ -2,4 +2,4 @@ use Rattle.nr_board.proofs.WholeScans.{ScanGoes}
 use Rattle.nr_board.proofs.board.Board.scan_words.Given as goal
 
 abbrev pub invariant-loop-own : goal.invariant-loop-own
-invariant-loop-own l = ScanGoes l.self l.fn.spare l.fn.seat l.seat l.unheard l.own
+invariant-loop-own l = ScanGoes l.self l.fn.lists l.fn.seat l.seat l.flags l.own

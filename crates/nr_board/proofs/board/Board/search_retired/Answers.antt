@@ -1,5 +1,5 @@
 use Rattle.std.proofs.Common.{List, ap, length, subst, sym, ℕ, ◌∙◌}
-use Rattle.nr_core.specs.Spares.{Spare, none_spare}
+use Rattle.nr_core.specs.SlotLists.{SlotLists, all_taken}
 use Rattle.nr_board.proofs.RetiredSearch.{lacks_so, takes_first, takes_second}
 use Rattle.nr_board.specs.Flags.{Flagged}
 use Rattle.nr_board.specs.Passes.{PassTakes, PassedTo}
@@ -8,52 +8,52 @@ use Rattle.nr_board.proofs.board.Board.search_retired.Goals as goal
 
 pub returns-in-Some-clause-searches : goal.returns-in-Some-clause-searches
 returns-in-Some-clause-searches c =
-    takes_first c.args.self.now c.args.spare.now c.pass.new.spare c.args.unheard.now c.args.seat.now c.pass.new.seat
+    takes_first c.args.self.now c.args.lists.now c.pass.new.lists c.args.flags.now c.args.seat.now c.pass.new.seat
     c.in-Some.taken c.requires.flagged c.requires.begins c.in-Some.ensures
 
 pub returns-in-Some-pass-clause-searches : goal.returns-in-Some-pass-clause-searches
 returns-in-Some-pass-clause-searches c =
     let map = c.args.self.now in
-    let spare = c.args.spare.now in
+    let lists = c.args.lists.now in
     let first = c.in_default.ensures in
     let scan = c.scan_words.ensures in
-    takes_second map spare c.args.unheard.now c.scan_words.new.unheard c.args.seat.now c.pass.new.seat
+    takes_second map lists c.args.flags.now c.scan_words.new.flags c.args.seat.now c.pass.new.seat
     c.scan_words.new.seat c.requires.flagged first.1 c.requires.begins scan.own first.1.search.search.own scan.few
     c.requires.some_words
     (subst
-    (λ (s : Spare). ScannedTo s.retired c.pass.new.seat.me.0 c.scan_words.new.seat.me.0 c.scan_words.new.unheard
+    (λ (s : SlotLists). ScannedTo s.retired c.pass.new.seat.me.0 c.scan_words.new.seat.me.0 c.scan_words.new.flags
     map.announcers)
     first.0 scan.scans)
-    (subst (λ (s : Spare). Flagged map s.retired c.scan_words.new.seat.me.0.heard c.scan_words.new.unheard) first.0
+    (subst (λ (s : SlotLists). Flagged map s.retired c.scan_words.new.seat.me.0.heard c.scan_words.new.flags) first.0
     scan.flagged)
-    c.pass-2.new.spare c.pass-2.new.seat c.in-Some-pass.taken
+    c.pass-2.new.lists c.pass-2.new.seat c.in-Some-pass.taken
     (subst
-    (λ (s : Spare). PassTakes map c.scan_words.new.unheard c.scan_words.new.seat s c.pass-2.new.seat
-    c.pass-2.new.spare c.in-Some-pass.taken)
+    (λ (s : SlotLists). PassTakes map c.scan_words.new.flags c.scan_words.new.seat s c.pass-2.new.seat
+    c.pass-2.new.lists c.in-Some-pass.taken)
     first.0 c.in-Some-pass.ensures)
 
 pub returns-clause-searches : goal.returns-clause-searches
 returns-clause-searches c =
     let map = c.args.self.now in
-    let spare = c.args.spare.now in
+    let lists = c.args.lists.now in
     let first = c.in_default.ensures in
     let scan = c.scan_words.ensures in
     let second = c.in_default-pass.ensures in
-    lacks_so map spare c.args.unheard.now c.scan_words.new.unheard c.args.seat.now c.pass.new.seat c.scan_words.new.seat
+    lacks_so map lists c.args.flags.now c.scan_words.new.flags c.args.seat.now c.pass.new.seat c.scan_words.new.seat
     c.requires.flagged first.1 c.requires.begins scan.own first.1.search.search.own scan.few c.requires.some_words
     (subst
-    (λ (s : Spare). ScannedTo s.retired c.pass.new.seat.me.0 c.scan_words.new.seat.me.0 c.scan_words.new.unheard
+    (λ (s : SlotLists). ScannedTo s.retired c.pass.new.seat.me.0 c.scan_words.new.seat.me.0 c.scan_words.new.flags
     map.announcers)
     first.0 scan.scans)
-    (subst (λ (s : Spare). Flagged map s.retired c.scan_words.new.seat.me.0.heard c.scan_words.new.unheard) first.0
+    (subst (λ (s : SlotLists). Flagged map s.retired c.scan_words.new.seat.me.0.heard c.scan_words.new.flags) first.0
     scan.flagged)
-    c.pass-2.new.spare c.pass-2.new.seat c.give_up.new.seat c.counts.result
+    c.pass-2.new.lists c.pass-2.new.seat c.give_up.new.seat c.counts.result
     (subst
-    (λ (s : Spare). PassedTo map s c.scan_words.new.unheard c.scan_words.new.seat c.pass-2.new.seat
+    (λ (s : SlotLists). PassedTo map s c.scan_words.new.flags c.scan_words.new.seat c.pass-2.new.seat
     (length s.retired))
     first.0 second.1)
     c.give_up.ensures.own c.give_up.ensures.ends (second.0 ∙ first.0)
-    (c.counts.ensures ∙ ap none_spare (second.0 ∙ first.0))
+    (c.counts.ensures ∙ ap all_taken (second.0 ∙ first.0))
 
 pub returns-clause-flagged : goal.returns-clause-flagged
 returns-clause-flagged c =
@@ -62,7 +62,7 @@ returns-clause-flagged c =
     let second = c.in_default-pass.ensures.1 in
     let search = second.search.search in
     let gave = c.give_up.ensures.ends search.desk search.call search.rows search.role search.place in
-    subst (λ (heard : List ℕ). Flagged map c.args.spare.now.retired heard c.scan_words.new.unheard)
+    subst (λ (heard : List ℕ). Flagged map c.args.lists.now.retired heard c.scan_words.new.flags)
     (sym (gave.heard ∙ second.heard))
-    (subst (λ (s : Spare). Flagged map s.retired c.scan_words.new.seat.me.0.heard c.scan_words.new.unheard) first.0
+    (subst (λ (s : SlotLists). Flagged map s.retired c.scan_words.new.seat.me.0.heard c.scan_words.new.flags) first.0
     c.scan_words.ensures.flagged)

@@ -8,7 +8,7 @@ use Rattle.nr_board.proofs.board.Board.sweep_heard.Goals.{in-Held, in_default}
 use Rattle.nr_board.proofs.board.Board.sweep_heard.Goals as goal
 
 pub returns-clause-sweeps : goal.returns-clause-sweeps
-returns-clause-sweeps c = let spare = c.args.spare.now in let before = c.args.seat.now in
+returns-clause-sweeps c = let lists = c.args.lists.now in let before = c.args.seat.now in
     let some_words : 0 < before.me.0.announcers
     = omega (
       arith,
@@ -19,7 +19,7 @@ returns-clause-sweeps c = let spare = c.args.spare.now in let before = c.args.se
     let loads : c.args.self.now.announcers ≡ before.me.0.announcers
     = ap (λ (t : Table). t.announcers) (sym c.requires.rests.writes.own) in
     let scan = c.scan_at_rest.ensures.hears in let heard = c.scan_at_rest.new.seat.me.0.heard in
-    let held : SweepsFor spare before c.sweep-first.new.seat sweep.Held = elim c.match-matches.branch [
+    let held : SweepsFor lists before c.sweep-first.new.seat sweep.Held = elim c.match-matches.branch [
       | in-Held w ↦ w.in-Held.ensures.sweeps
       | in_default w ↦ absurd (let clash : true ≡ false = sym c.if-not-matches.false ∙ w.matches-is in cc)
     ] in
@@ -31,7 +31,7 @@ returns-clause-sweeps c = let spare = c.args.spare.now in let before = c.args.se
       c.scan_at_rest.new.seat,
       held,
       scan.0,
-      subst (λ (p : ℕ × ℕ). WordsTell p.0 spare.retired p.1 scan.0 heard) (λ j. (loads j, slots j)) scan.1,
+      subst (λ (p : ℕ × ℕ). WordsTell p.0 lists.retired p.1 scan.0 heard) (λ j. (loads j, slots j)) scan.1,
       scan.2,
       c.sweep.ensures.sweeps,
     )

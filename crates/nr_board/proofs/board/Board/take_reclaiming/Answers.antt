@@ -3,7 +3,7 @@ use Rattle.std.proofs.Common.{◌+◌, ◌∙◌, ◌≡◌}
 use Rattle.nr_model.specs.Rows.{IsRowSet}
 use Rattle.nr_model.specs.declared.rows.Row.{Row}
 use Rattle.nr_core.specs.declared.shape.Shape.{Shape}
-use Rattle.nr_core.specs.Spares.{Spare}
+use Rattle.nr_core.specs.SlotLists.{SlotLists}
 use Rattle.nr_core.specs.Marks.{Marks, set_in}
 use Rattle.nr_board.proofs.Searching.{takes_fresh}
 use Rattle.nr_board.proofs.Waiting.{takes_later}
@@ -21,16 +21,16 @@ at_once seat = λ j. record seat { me = (record seat.me.0 { steps = same j }, se
 pub returns-in-Some-clause-takes : goal.returns-in-Some-clause-takes
 returns-in-Some-clause-takes g c =
     let map = c.args.self.now in
-    let spare = c.args.spare.now in
+    let lists = c.args.lists.now in
     let seat = c.args.seat.now in
     let fresh = c.in-Some.ensures in (
       0,
       subst
-          (λ (p : Shape × MapSeat). TakesSlot map g.G.BegunCall.call c.args.rows.now p.1 spare seat
+          (λ (p : Shape × MapSeat). TakesSlot map g.G.BegunCall.call c.args.rows.now p.1 lists seat
           c.take_fresh.new.self
           c.in-Some.slot p.0.first_count)
           (λ j. (sym c.shape.ensures j, at_once seat j))
-          (takes_fresh map g.G.BegunCall.call c.args.rows.now spare c.take_fresh.new.self seat c.in-Some.slot
+          (takes_fresh map g.G.BegunCall.call c.args.rows.now lists c.take_fresh.new.self seat c.in-Some.slot
           c.requires.settles fresh.0 fresh.1 fresh.2),
       (inl fresh.0, refl, refl),
     )
@@ -38,18 +38,18 @@ returns-in-Some-clause-takes g c =
 pub returns-then-is_reaped-clause-takes : goal.returns-then-is_reaped-clause-takes
 returns-then-is_reaped-clause-takes g c =
     let map = c.args.self.now in
-    let spare = c.args.spare.now in
+    let lists = c.args.lists.now in
     let seat = c.args.seat.now in
     let taken = c.in_ok-taken.taken in
     let took
     = subst
-    (λ (s : Spare). TakesSlot map g.G.BegunCall.call c.args.rows.now seat s c.take_retired.new.seat
-    c.take_retired.new.spare taken.slot taken.departures)
+    (λ (s : SlotLists). TakesSlot map g.G.BegunCall.call c.args.rows.now seat s c.take_retired.new.seat
+    c.take_retired.new.lists taken.slot taken.departures)
     c.in_default.ensures.1 c.in_ok-taken.ensures.takes in (
       0,
       subst
-          (λ (s : MapSeat). TakesSlot map g.G.BegunCall.call c.args.rows.now s spare c.take_retired.new.seat
-          c.take_retired.new.spare taken.slot taken.departures)
+          (λ (s : MapSeat). TakesSlot map g.G.BegunCall.call c.args.rows.now s lists c.take_retired.new.seat
+          c.take_retired.new.lists taken.slot taken.departures)
           (at_once seat) took,
       (
         inr
@@ -64,19 +64,19 @@ returns-then-is_reaped-clause-takes g c =
 pub returns-clause-takes : goal.returns-clause-takes
 returns-clause-takes g c =
     let map = c.args.self.now in
-    let spare = c.args.spare.now in
+    let lists = c.args.lists.now in
     let seat = c.args.seat.now in
     let taken = c.in_ok-taken.taken in
     let mid = c.take_retired.new.seat in
     let took
     = subst
-    (λ (s : Spare). TakesSlot map g.G.BegunCall.call c.args.rows.now seat s mid c.take_retired.new.spare
+    (λ (s : SlotLists). TakesSlot map g.G.BegunCall.call c.args.rows.now seat s mid c.take_retired.new.lists
     taken.slot taken.departures)
     c.in_default.ensures.1 c.in_ok-taken.ensures.takes in
     let had = ap (λ (marks : Marks). set_in marks taken.slot) took.marks in
     let steps : ℕ = 2 * length (set_in seat.me.0.marks taken.slot) + 1 in (
       steps,
-      takes_later map g.G.BegunCall.call c.args.rows.now taken.slot taken.departures spare c.take_retired.new.spare seat
+      takes_later map g.G.BegunCall.call c.args.rows.now taken.slot taken.departures lists c.take_retired.new.lists seat
           mid c.recall_set.new.seat steps took c.recall_set.ensures.own
           (c.recall_set.ensures.waits ∙ ap (λ (set : List Row). waited (2 * length set + 1) mid.me.0) had),
       (

@@ -13,11 +13,11 @@ publish_set-requires g c =
     record {
       settles =
           subst
-          (λ (call : WriterCall). Settles c.args.self.now call c.as_slice.result.now c.args.spare.now
+          (λ (call : WriterCall). Settles c.args.self.now call c.as_slice.result.now c.args.lists.now
           c.begin_update.new.seat)
           (sym c.requires.call) (has_renewed begun.2 is).settles;
       flagged =
-          subst (λ (heard : List ℕ). IsFlagged c.args.self.now c.args.spare.now.retired heard c.args.unheard.now)
+          subst (λ (heard : List ℕ). IsFlagged c.args.self.now c.args.lists.now.retired heard c.args.flags.now)
           (sym begun.2.heard) c.requires.flagged;
       call = ap key_of (sym c.requires.call);
       key = c.requires.key;
@@ -45,5 +45,5 @@ returns g c = let begun = c.in_ok-begin_update.ensures in let is = begun.3 ∙ a
 
 pub returns-in_err-begin_update-clause-flagged : goal.returns-in_err-begin_update-clause-flagged
 returns-in_err-begin_update-clause-flagged g c =
-    subst (λ (heard : List ℕ). IsFlagged c.args.self.now c.args.spare.now.retired heard c.args.unheard.now)
+    subst (λ (heard : List ℕ). IsFlagged c.args.self.now c.args.lists.now.retired heard c.args.flags.now)
     (sym c.in_err-begin_update.ensures.2) c.requires.flagged

@@ -9,10 +9,10 @@ use Rattle.nr_idmap.proofs.Finding.{finds_absent, finds_by_id, finds_inside, lin
 use Rattle.nr_idmap.proofs.hands.IdHand.find.Goals as goal
 
 -- a hand that holds no id's set holds none of the map
-holds_none : (hand : Handed) (pile : List Row) (held : Option Holding) → IsIdHand hand pile held
+holds_none : (hand : Handed) (sorted : List Row) (held : Option Holding) → IsIdHand hand sorted held
     → id_held held ≡ None → hand.key ≡ None
-holds_none hand pile None holds idle = holds
-holds_none hand pile (Some held) holds idle = absurd (cc (idle))
+holds_none hand sorted None holds idle = holds
+holds_none hand sorted (Some held) holds idle = absurd (cc (idle))
 
 pub returns-clause-finds : goal.returns-clause-finds
 returns-clause-finds g c =
@@ -23,7 +23,7 @@ returns-clause-finds g c =
     (c.plan.ensures.value ∙ ap (λ (t : IdTable). t.directory.plan) (c.map.view_is ∙ sym c.requires.own)
     ∙ sym (ap (λ (h : IdHanded). h.ids.directory.plan) c.self.view_is)) in
     let there = c.find_tagged-found.ensures.finds in
-    let none = holds_none own.hand c.self.inside.pile c.self.inside.held c.self.invariant
+    let none = holds_none own.hand c.self.inside.sorted c.self.inside.held c.self.invariant
     (ap (λ (h : IdHanded). h.id) c.self.view_is ∙ c.requires.idle) in
     finds_by_id g.R.RowRoom.shows c.args.id c.in-Some.at (reader_of own) (reader_of c.args.self.now)
     (record { caller = c.find_tagged-found.new.self.reader; ids = c.tell.new.ids }) c.first_way-first.result

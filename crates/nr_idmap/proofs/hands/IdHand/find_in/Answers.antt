@@ -15,18 +15,18 @@ invariant_of-self g c =
     let found = c.find_tagged_kept-found in
     let at = c.in-Some.at in
     let old = c.self.inside.hand in
-    let pile = c.self.inside.pile in
+    let sorted = c.self.inside.sorted in
     let near : at.way < c.args.map.now.map.shape.keys
     = subst (IsNear c.args.map.now.map.shape.keys) c.in-Some.is c.requires.near in
     let table : old.reader.table ≡ c.map.inside.map
     = ap (λ (h : IdHanded). h.hand.reader.table) c.self.view_is ∙ ap (λ (t : IdTable). t.map) c.requires.own
     ∙ ap (λ (t : IdTable). t.map) (sym c.map.view_is) in
-    subst (IsIdHand found.new.self pile) (sym c.held_then-self-inside.ensures)
-    (walks_hold at.way old found.new.self pile
+    subst (IsIdHand found.new.self sorted) (sym c.held_then-self-inside.ensures)
+    (walks_hold at.way old found.new.self sorted
     (subst (λ (t : Table). at.way < t.shape.keys)
     (ap (λ (t : IdTable). t.map) (sym c.map.view_is) ∙ sym found.ensures.own) near)
     (subst (λ (t : Table). t.shape.rows ≤ 255) (sym table) c.map.invariant.2)
-    (held_row_set old pile c.self.inside.held c.self.invariant) found.result
+    (held_row_set old sorted c.self.inside.held c.self.invariant) found.result
     (kept_so g.R.RowRoom.shows c.tag_of.result at.way old found.new.self c.args.rows.now found.new.rows found.result
     found.ensures.finds))
 

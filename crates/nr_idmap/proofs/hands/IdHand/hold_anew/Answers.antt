@@ -37,9 +37,9 @@ returns-in-Hole-clause-holds c =
     ∙ sym (ap (λ (h : IdHanded). h.ids.directory.plan) c.self.view_is)) in
     holds_pending c.args.id c.in-Some.at own c.args.self.now c.self.view_is c.look_up.new.ids
     c.in-Some.ensures.looks
-    c.load_key.ensures.loads.0 c.find_kept.new.self c.self.inside.pile c.find_kept.new.rows
+    c.load_key.ensures.loads.0 c.find_kept.new.self c.self.inside.sorted c.find_kept.new.rows
     (kept own c.args.id c.first_way-first.result c.load_key.new.self c.in-Some.at.way c.find_kept.new.self
-    c.self.inside.pile c.find_kept.new.rows
+    c.self.inside.sorted c.find_kept.new.rows
     answer.Hole line c.load_key.ensures.loads c.load_key.ensures.held c.in-Hole.ensures.finds)
 
 pub returns-then-has_tag-clause-holds : goal.returns-then-has_tag-clause-holds
@@ -52,9 +52,9 @@ returns-then-has_tag-clause-holds c =
     ∙ sym (ap (λ (h : IdHanded). h.ids.directory.plan) c.self.view_is)) in
     holds_rows c.args.id c.in-Some.at own c.args.self.now c.self.view_is c.look_up.new.ids
     c.in-Some.ensures.looks
-    c.load_key.ensures.loads.0 c.find_kept.new.self c.self.inside.pile c.find_kept.new.rows
+    c.load_key.ensures.loads.0 c.find_kept.new.self c.self.inside.sorted c.find_kept.new.rows
     (kept own c.args.id c.first_way-first.result c.load_key.new.self c.in-Some.at.way c.find_kept.new.self
-    c.self.inside.pile c.find_kept.new.rows
+    c.self.inside.sorted c.find_kept.new.rows
     answer.Rows line c.load_key.ensures.loads c.load_key.ensures.held c.in-Rows.ensures.finds)
     c.as_slice.result.now c.as_slice.ensures.value
     (c.has_tag.ensures.0 c.if-has_tag.true) c.mark.new.reader c.mark.ensures.marks
@@ -69,9 +69,9 @@ returns-else-has_tag-clause-holds c =
     ∙ sym (ap (λ (h : IdHanded). h.ids.directory.plan) c.self.view_is)) in
     holds_moved c.args.id c.in-Some.at own c.args.self.now c.self.view_is c.look_up.new.ids
     c.in-Some.ensures.looks
-    c.load_key.ensures.loads.0 c.find_kept.new.self c.self.inside.pile c.find_kept.new.rows
+    c.load_key.ensures.loads.0 c.find_kept.new.self c.self.inside.sorted c.find_kept.new.rows
     (kept own c.args.id c.first_way-first.result c.load_key.new.self c.in-Some.at.way c.find_kept.new.self
-    c.self.inside.pile c.find_kept.new.rows
+    c.self.inside.sorted c.find_kept.new.rows
     answer.Rows line c.load_key.ensures.loads c.load_key.ensures.held c.in-Rows.ensures.finds)
     c.as_slice.result.now c.as_slice.ensures.value
     (λ tag.
@@ -84,24 +84,24 @@ invariant_of-self-then-has_tag c =
     let keeps = c.in-Rows.ensures.finds in
     let old = c.load_key.new.self in
     let new = c.find_kept.new.self in
-    let pile = c.find_kept.new.rows in
+    let sorted = c.find_kept.new.rows in
     let tag = c.has_tag.ensures.0 c.if-has_tag.true in
-    let same = kept_set c.in-Some.at.way old new c.self.inside.pile pile keeps in
+    let same = kept_set c.in-Some.at.way old new c.self.inside.sorted sorted keeps in
     let held
-    = held_row_set c.self.inside.hand c.self.inside.pile c.self.inside.held c.self.invariant in record {
-      key_is = kept_key c.in-Some.at.way old new c.self.inside.pile pile keeps;
+    = held_row_set c.self.inside.hand c.self.inside.sorted c.self.inside.held c.self.invariant in record {
+      key_is = kept_key c.in-Some.at.way old new c.self.inside.sorted sorted keeps;
       near =
           subst (λ (t : Table). c.in-Some.at.way < t.shape.keys)
           (ap (λ (t : IdTable). t.map) (sym c.map.view_is) ∙ sym c.find_kept.ensures.own) c.in-Some.ensures.inside;
       row_set =
-          kept_row_set c.in-Some.at.way old new c.self.inside.pile pile keeps
+          kept_row_set c.in-Some.at.way old new c.self.inside.sorted sorted keeps
           (subst (λ (t : Table). t.shape.rows ≤ 255) (sym c.load_key.ensures.own) c.map.invariant.2)
           (λ other is. subst (IsRowSet 255) (sym c.load_key.ensures.held.1)
           (held other (sym c.load_key.ensures.held.0 ∙ is)));
       set = λ some. record {
         rows = tag.0;
         tagged = sym (c.as_slice.ensures.value ∙ same) ∙ tag.1;
-        pile_is = same;
+        sorted_is = same;
       };
     }
 

@@ -60,7 +60,7 @@ put : (c : goal.Joined-fill_rows) (r : Result (Unit {0}) FillFault) →
     c.fill_rows.new.writer r
 put c r h =
     subst (λ (l : List Row). FillsKey c.into_parts-way.result.0 c.into_parts-way.result.1 l c.writer.inside.writer
-    c.fill_rows.new.writer r) (c.as_slice.ensures.value ∙ c.put_tagged.ensures.pile) h
+    c.fill_rows.new.writer r) (c.as_slice.ensures.value ∙ c.put_tagged.ensures.sorted) h
 
 pub invariant_of-writer-2 : goal.invariant_of-writer-2
 invariant_of-writer-2 c =

@@ -75,7 +75,7 @@ put : (g : given.Over) (c : goal.Joined-fill_reclaiming g) (r : Result Reclaimed
 put g c r h =
     subst (λ (l : List Row). FillsReclaiming g.R.RowRoom.shows c.into_parts-way.result.0 c.into_parts-way.result.1 l
     c.writer.inside.writer c.args.had.now c.fill_reclaiming.new.writer c.fill_reclaiming.new.had r)
-    (c.as_slice.ensures.value ∙ c.put_tagged.ensures.pile) h
+    (c.as_slice.ensures.value ∙ c.put_tagged.ensures.sorted) h
 
 pub invariant_of-writer-2 : goal.invariant_of-writer-2
 invariant_of-writer-2 g c = fill_gives g.R.RowRoom.shows c.args.had.now c.fill_reclaiming.new.had c.writer.inside.writer

@@ -29,7 +29,7 @@ put : (c : goal.Joined-replace_rows) (r : Result (Unit {0}) ReplaceFault) →
     ReplacesKey c.in-Some.way c.as_slice.result.now c.writer.inside.writer c.replace_rows.new.writer r →
     ReplacesKey c.in-Some.way (tag_of c.args.id ∷ c.args.rows.now) c.writer.inside.writer c.replace_rows.new.writer r
 put c r h = subst (λ (l : List Row). ReplacesKey c.in-Some.way l c.writer.inside.writer c.replace_rows.new.writer r)
-    (c.as_slice.ensures.value ∙ c.put_tagged.ensures.pile) h
+    (c.as_slice.ensures.value ∙ c.put_tagged.ensures.sorted) h
 
 left : (c : goal.Joined-replace_rows) →
     IsTied (keeper_of c.replace_rows.new.writer c.writer.inside.asker c.way_of.new.clerk) ×

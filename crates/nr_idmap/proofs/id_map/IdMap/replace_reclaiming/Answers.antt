@@ -36,7 +36,7 @@ put : (g : given.Over) (c : goal.Joined-replace_reclaiming g) (r : Result Reclai
 put g c r h =
     subst (λ (l : List Row). ReplacesReclaiming g.R.RowRoom.shows c.in-Some.way l c.writer.inside.writer c.args.had.now
     c.replace_reclaiming.new.writer c.replace_reclaiming.new.had r)
-    (c.as_slice.ensures.value ∙ c.put_tagged.ensures.pile) h
+    (c.as_slice.ensures.value ∙ c.put_tagged.ensures.sorted) h
 
 left : (g : given.Over) (c : goal.Joined-replace_reclaiming g) →
     IsTied (keeper_of c.replace_reclaiming.new.writer c.writer.inside.asker c.way_of.new.clerk) ×

@@ -11,17 +11,17 @@ pub invariant_of-writer : goal.invariant_of-writer
 invariant_of-writer c =
     let before = c.writer.inside in
     let seat = c.evict_key.new.seat in
-    let spare = c.evict_key.new.spare in
+    let lists = c.evict_key.new.lists in
     let told = evicts_heard c.args.key (token before.seat) (token seat) c.evict_key.result c.evict_key.ensures.evicts in
-    let retired : (token seat).retired ≡ spare.retired
+    let retired : (token seat).retired ≡ lists.retired
     = ap (λ r. (desk_of r).retired) c.evict_key.ensures.rests.writes.role in
-    let retired_before : (token before.seat).retired ≡ before.spare.retired
+    let retired_before : (token before.seat).retired ≡ before.lists.retired
     = ap (λ r. (desk_of r).retired) c.writer.invariant.0.writes.role in
-    let fewer : (slot : ℕ) → retirements slot spare.retired ≡ 0 → retirements slot before.spare.retired ≡ 0
+    let fewer : (slot : ℕ) → retirements slot lists.retired ≡ 0 → retirements slot before.lists.retired ≡ 0
     = λ slot none. let now = ap (retirements slot) retired in let then = ap (retirements slot) retired_before in
     let all = told.2 slot (omega arith) in omega arith in (
       c.evict_key.ensures.rests,
-      subst (λ (t : Table). IsFlagged t spare.retired (token seat).heard before.unheard) (sym told.0)
-          (flags_retire (token before.seat).table before.spare.retired spare.retired (token before.seat).heard
-          (token seat).heard before.unheard c.writer.invariant.1 told.1 fewer),
+      subst (λ (t : Table). IsFlagged t lists.retired (token seat).heard before.flags) (sym told.0)
+          (flags_retire (token before.seat).table before.lists.retired lists.retired (token before.seat).heard
+          (token seat).heard before.flags c.writer.invariant.1 told.1 fewer),
     )

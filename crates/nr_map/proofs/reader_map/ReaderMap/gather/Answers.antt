@@ -10,13 +10,13 @@ pub returns : goal.returns
 returns c =
     let writer = c.writer.inside.seat in
     let reader = c.reader.inside.caller.seat in
-    let spare = c.writer.inside.spare in
+    let lists = c.writer.inside.lists in
     let hear = c.hear in
     let tell = c.hear-2 in
     subst (λ (p : Caller × Caller). Gathers p.0 p.1 (token tell.new.other) (token tell.new.seat))
     (λ j. (c.writer.view_is j, c.reader.view_is j))
-    (gathers_seats writer reader hear.new.seat hear.new.other tell.new.other tell.new.seat spare.fresh spare.retired
-    spare.numbers (caller_number reader.me.0.role) Nothing c.writer.invariant.0.writes.role
+    (gathers_seats writer reader hear.new.seat hear.new.other tell.new.other tell.new.seat lists.fresh lists.retired
+    lists.numbers (caller_number reader.me.0.role) Nothing c.writer.invariant.0.writes.role
     c.reader.invariant.1.idle hear.ensures.role.1
     hear.ensures.other tell.ensures.other hear.ensures.meets tell.ensures.meets hear.ensures.readers
     tell.ensures.readers)

@@ -10,13 +10,13 @@ pub returns-clause-gathers : goal.returns-clause-gathers
 returns-clause-gathers c =
     let writer = c.writer.inside.seat in
     let hand = c.hand.inside.caller.seat in
-    let spare = c.writer.inside.spare in
+    let lists = c.writer.inside.lists in
     let role = hand_role c.hand.inside.caller.own c.hand.inside.held hand c.hand.invariant in
     let hear = c.hear in
     let tell = c.hear-2 in
     subst (λ (p : Caller × Caller). Gathers p.0 p.1 (token tell.new.other) (token tell.new.seat))
     (λ j. (c.writer.view_is j, (c.hand.view_is j).reader))
-    (gathers_seats writer hand hear.new.seat hear.new.other tell.new.other tell.new.seat spare.fresh spare.retired
-    spare.numbers (caller_number hand.me.0.role) role.0 c.writer.invariant.0.writes.role role.1 hear.ensures.role.1
+    (gathers_seats writer hand hear.new.seat hear.new.other tell.new.other tell.new.seat lists.fresh lists.retired
+    lists.numbers (caller_number hand.me.0.role) role.0 c.writer.invariant.0.writes.role role.1 hear.ensures.role.1
     hear.ensures.other tell.ensures.other hear.ensures.meets tell.ensures.meets hear.ensures.readers
     tell.ensures.readers)

@@ -10,13 +10,13 @@ pub returns-clause-gathers : goal.returns-clause-gathers
 returns-clause-gathers c =
     let writer = c.writer.inside.seat in
     let pin = c.pin.inside.caller.seat in
-    let spare = c.writer.inside.spare in
+    let lists = c.writer.inside.lists in
     let hear = c.hear in
     let tell = c.hear-2 in
     subst (λ (p : Caller × Caller). Gathers p.0 p.1 (token tell.new.other) (token tell.new.seat))
     (λ j. (c.writer.view_is j, (c.pin.view_is j).reader))
-    (gathers_seats writer pin hear.new.seat hear.new.other tell.new.other tell.new.seat spare.fresh spare.retired
-    spare.numbers
+    (gathers_seats writer pin hear.new.seat hear.new.other tell.new.other tell.new.seat lists.fresh lists.retired
+    lists.numbers
     (caller_number pin.me.0.role) (grip_of (holding pin.me.0.role (is_sized (grip_of pin.me.0.role))))
     c.writer.invariant.0.writes.role
     c.pin.invariant.holds.holds.holds.is hear.ensures.role.1
