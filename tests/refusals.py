@@ -47,7 +47,7 @@ class Function(NamedTuple):
 
 class Body(NamedTuple):
     """A wrong body: the functions that must be refused, where it stands, if that is the only one of them, and what to add to
-    that file for a copy, if it may be one, with the files of its proof."""
+    that file for a copy, if it may be one, with the line that its first one has in the crate and the files of its proof."""
 
     edit: str
     texts: dict
@@ -55,7 +55,17 @@ class Body(NamedTuple):
     path: str = ""
     lines: tuple = (0, 0)
     copy: str = ""
+    first: int = 0
     proof: dict = {}
+
+    def in_crate(self, line, at):
+        """What is told of that line of a copy, with the line and the names that the crate has."""
+        if not self.copy:
+            return line
+        if self.lines[0] <= at <= self.lines[1]:
+            line = line.replace(f"{self.path}:{at}:", f"{self.path}:{at - self.lines[0] + self.first}:", 1)
+        name, _, number = self.functions[0].rpartition("::")[2].rpartition("_")
+        return line.replace(f"{name}_{number}", name)
 
 
 def function_at(file, lines, at):
@@ -149,7 +159,8 @@ def read(rt, crate, edit, number):
     if not is_within or one.owner is None:
         return Body(edit, texts, names, path, (one.first, one.last))
     copy, proof = copy_of(one, texts[path], number), proof_of(crate.folder, names[0], number, texts)
-    return Body(edit, texts, (f"{names[0]}_{number}",), path, copy=copy, proof=proof)
+    first = one.first - len(one.owner)
+    return Body(edit, texts, (f"{names[0]}_{number}",), path, copy=copy, first=first, proof=proof)
 
 
 def groups(bodies):
@@ -185,7 +196,7 @@ def refusal(body, said):
         # One that stands in no one function has its check for itself, and a lemma of its law may be what is open.
         of_proof = "error" in what and (not body.path or any(it in path for it in folders))
         if of_proof or is_there and "not proved" in what:
-            found.append(Refusal(bool(OPEN.search(what)), line))
+            found.append(Refusal(bool(OPEN.search(what)), body.in_crate(line, at)))
     return max(found, key=lambda it: it.is_open, default=None)
 
 
