@@ -7,3 +7,6 @@ pub mod IdleFinds
 pub mod LookedUp
 pub mod LedgerLemmas
 pub mod ClosingSteps
+pub mod LiveHandles
+pub mod RowsAllowed
+pub mod SidesTurned

@@ -1,8 +1,8 @@
-use Rattle.std.proofs.Common.{ℕ, ◌≡◌, ◌<◌, ◌≤◌, Err, IfErr, MatchResult, Ok, Result, arith, inl, inr, refl, ap, subst}
-use Rattle.std.proofs.Common.{sym, ◌∙◌}
+use Rattle.std.proofs.Common.{ℕ, ◌≡◌, ◌<◌, ◌≤◌, Err, IfErr, MatchResult, Ok, Result, ap, arith, refl, subst}
 use Rattle.nr_trigger.specs.declared.faults.PostFault.{PostFault}
 use Rattle.nr_trigger.specs.declared.faults.PostFault.TheVariants as post
 use Rattle.nr_trigger.specs.Tokens.{Queue, WasFull}
+use Rattle.nr_c.proofs.LiveHandles.{has_key, lacks_key, led}
 use Rattle.nr_c.proofs.posts.nr_post.Goals as goal
 
 -- what is said of each answer and what is said of a fault alone
@@ -13,46 +13,35 @@ both posted stays told (Ok done) one other = one
 both posted stays told (Err fault) one other = (one, other)
 
 pub returns-then-key-side : goal.returns-then-key-side
-returns-then-key-side c = inr (
+returns-then-key-side c =
     let side = c.side-side.result.now in
     let above : side.poster.keys ≤ c.args.key = omega (arith, c.if-key-side.true, side.below) in
-    inl (record {
-      code_is = refl;
-      stay = tt;
-      held = side;
-      was = ap (λ handle. handle.live) (sym c.is_live.ensures.same)
-          ∙ c.side-side.ensures.value;
-      is = refl;
-      above = above;
-    }))
+    lacks_key (λ handle. handle.live) c.is_live.ensures.same c.side-side.ensures.value tt above
 
 pub returns : goal.returns
-returns c = inr (
+returns c =
     let side = c.side-side.result.now in
     let below : c.args.key < side.poster.keys = omega (arith, c.if-key-side.false, side.below) in
     let full
     = subst (λ (n : ℕ). IfErr c.try_post.result (λ fault. fault ≡ post.Full → WasFull n side.poster))
     (ap (λ (q : Queue). q.capacity) c.deref.ensures) c.try_post.ensures.full in
-    let was = ap (λ handle. handle.live) (sym c.is_live.ensures.same) ∙ c.side-side.ensures.value in
-    inr (
-      record { held = side; was = was; below = below },
-      (
-        side,
-        was,
-        record {
-          old = side;
-          new = _;
-          was = was;
-          is = refl;
-          queue = refl;
-          made = (
-            c.try_post.ensures.own,
-            c.try_post.ensures.tries,
-            c.try_post.result,
-            c.of_post.ensures,
-            both _ _ _ c.try_post.result
-                c.try_post.ensures.posted full,
-          );
-        },
-      ),
-    ))
+    let was = led (λ handle. handle.live) c.is_live.ensures.same c.side-side.ensures.value in
+    has_key (λ handle. handle.live) c.is_live.ensures.same c.side-side.ensures.value below (
+      side,
+      was,
+      record {
+        old = side;
+        new = _;
+        was = was;
+        is = refl;
+        queue = refl;
+        made = (
+          c.try_post.ensures.own,
+          c.try_post.ensures.tries,
+          c.try_post.result,
+          c.of_post.ensures,
+          both _ _ _ c.try_post.result
+              c.try_post.ensures.posted full,
+        );
+      },
+    )

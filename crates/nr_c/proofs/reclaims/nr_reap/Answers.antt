@@ -1,15 +1,8 @@
-use Rattle.std.proofs.Common.{◌∙◌, inr, refl, sym, ap}
+use Rattle.std.proofs.Common.{inr, refl}
+use Rattle.nr_c.proofs.SidesTurned.{writer_calls}
 use Rattle.nr_c.proofs.reclaims.nr_reap.Goals as goal
 
 pub returns : goal.returns
-returns c = inr (record {
-  old = c.side-side.result.now;
-  new = _;
-  was = ap (λ handle. handle.live) (sym c.is_live.ensures.same)
-      ∙ c.side-side.ensures.value;
-  is = refl;
-  map = refl;
-  watch = refl;
-  spare = refl;
-  made = (c.reap.result, c.of_reaped.ensures, c.reap.ensures);
-})
+returns c =
+    inr (writer_calls c.is_live.ensures.same c.side-side.ensures.value (refl, refl, refl)
+    (c.reap.result, c.of_reaped.ensures, c.reap.ensures))

@@ -1,64 +1,29 @@
-use Rattle.std.proofs.Common.{◌∙◌, ℕ, inl, inr, refl, sym, ap, subst}
+use Rattle.std.proofs.Common.{ℕ, ◌∙◌, ap, inl, inr, refl, subst, sym}
 use Rattle.nr_board.specs.Reclaiming.{UpdatesReclaiming}
 use Rattle.nr_board.specs.Callers.{Table}
 use Rattle.nr_c.specs.RowCells.{ShowsSet}
+use Rattle.nr_c.proofs.LiveHandles.{lacks_key}
+use Rattle.nr_c.proofs.SidesTurned.{writer_calls_at}
 use Rattle.nr_c.proofs.reclaims.nr_update_reclaiming.Goals as goal
 
 pub returns-then-not-has_key : goal.returns-then-not-has_key
-returns-then-not-has_key c = inr (inl (record {
-  code_is = refl;
-  stay = refl;
-  held = c.side-side.result.now;
-  was = ap (λ handle. handle.live)
-      (sym c.is_live.ensures.same) ∙ c.side-side.ensures.value;
-  is = refl;
-  above = c.if-not-has_key.ensures.hasnt;
-}))
+returns-then-not-has_key c =
+    lacks_key (λ handle. handle.live) c.is_live.ensures.same c.side-side.ensures.value refl
+    c.if-not-has_key.ensures.hasnt
 
 pub returns-then-not-are_batch : goal.returns-then-not-are_batch
-returns-then-not-are_batch c = inr (let side = c.side-side.result.now in
-    inr (
-      record {
-        held = side;
-        was = ap (λ handle. handle.live) (sym c.is_live.ensures.same)
-            ∙ c.side-side.ensures.value;
-        below = c.if-not-has_key.ensures.has;
-      },
-      record {
-        old = side;
-        new = _;
-        was = ap (λ handle. handle.live) (sym c.is_live.ensures.same) ∙ c.side-side.ensures.value;
-        is = refl;
-        map = refl;
-        watch = refl;
-        spare = refl;
-        made = inl ((refl, c.if-not-are_batch.ensures.none, refl), refl);
-      },
-    ))
+returns-then-not-are_batch c =
+    writer_calls_at c.is_live.ensures.same c.side-side.ensures.value c.if-not-has_key.ensures.has (refl, refl, refl)
+    (inl ((refl, c.if-not-are_batch.ensures.none, refl), refl))
 
 pub returns : goal.returns
-returns c = inr (let side = c.side-side.result.now in let made = c.update_reclaiming-answer in
+returns c =
+    let side = c.side-side.result.now in let made = c.update_reclaiming-answer in
     let bound = ap (λ (t : Table). t.shape.rows) (c.deref.ensures ∙ sym side.own) in
     let updates
     = subst
     (λ (n : ℕ). UpdatesReclaiming ShowsSet n c.args.key c.args.deltas.now side.writer c.args.had.now
     made.new.writer made.new.had made.result)
     bound made.ensures in
-    inr (
-      record {
-        held = side;
-        was = ap (λ handle. handle.live) (sym c.is_live.ensures.same)
-            ∙ c.side-side.ensures.value;
-        below = c.if-not-has_key.ensures.has;
-      },
-      record {
-        old = side;
-        new = _;
-        was = ap (λ handle. handle.live) (sym c.is_live.ensures.same) ∙ c.side-side.ensures.value;
-        is = refl;
-        map = refl;
-        watch = refl;
-        spare = refl;
-        made = inr (c.if-not-are_batch.ensures.batch, made.result, c.of_update_reclaiming.ensures, updates);
-      },
-    ))
+    writer_calls_at c.is_live.ensures.same c.side-side.ensures.value c.if-not-has_key.ensures.has (refl, refl, refl)
+    (inr (c.if-not-are_batch.ensures.batch, made.result, c.of_update_reclaiming.ensures, updates))

@@ -1,15 +1,8 @@
-use Rattle.std.proofs.Common.{refl, inr, ap, sym, ◌∙◌}
+use Rattle.std.proofs.Common.{inr, refl}
+use Rattle.nr_c.proofs.SidesTurned.{writer_calls}
 use Rattle.nr_c.proofs.slots.nr_stats.Goals as goal
 
 pub returns : goal.returns
-returns c = inr (record {
-  old = c.side-side.result.now;
-  new = _;
-  was = ap (λ handle. handle.live) (sym c.is_live.ensures.same)
-      ∙ c.side-side.ensures.value;
-  is = refl;
-  map = refl;
-  watch = refl;
-  spare = refl;
-  made = (refl, c.slot_counts.result, c.of.ensures, c.slot_counts.ensures);
-})
+returns c =
+    inr (writer_calls c.is_live.ensures.same c.side-side.ensures.value (refl, refl, refl)
+    (refl, c.slot_counts.result, c.of.ensures, c.slot_counts.ensures))
