@@ -10,3 +10,4 @@ pub mod ClosingSteps
 pub mod LiveHandles
 pub mod RowsAllowed
 pub mod SidesTurned
+pub mod KeptUpqueries

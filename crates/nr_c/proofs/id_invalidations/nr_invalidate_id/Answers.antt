@@ -1,20 +1,28 @@
-use Rattle.std.proofs.Common.{ap, arith, inl, inr, refl, subst, sym, ⊎_elim, ◌≡◌, ◌∙◌}
+use Rattle.std.proofs.Common.{ap, inl, inr, refl, subst, sym, ⊎_elim, ◌≡◌, ◌∙◌}
 use Rattle.std.specs.Prelude.{ℕ, None, Option, Some}
 use Rattle.nr_c.specs.declared.kept_upquery.NrUpquery.{NrUpquery}
 use Rattle.nr_ids.specs.Groups.{group_of, second_of}
 use Rattle.nr_idmap.specs.IdWrites.{WithdrawsId}
 use Rattle.nr_idmap.specs.Keepers.{IdTable, Keeper}
 use Rattle.nr_c.specs.declared.id_writer_side.IdWriterSide.{IdWriterSide}
+use Rattle.nr_c.specs.IdInvalidations.{TellsOpen}
 use Rattle.nr_c.specs.IdUpqueries.{IsStale, WithdrawsByCode, WithdrawsKept}
 use Rattle.nr_c.specs.Ledgers.{Entries, GivesUp, IsInEither, KeepsNone, Tells}
+use Rattle.nr_c.proofs.LiveHandles.{has_number, is_zero}
+use Rattle.nr_c.proofs.SidesTurned.{id_writer_turns, owes_all}
 use Rattle.nr_c.proofs.id_invalidations.nr_invalidate_id.Goals as goal
 
--- in the groups that the calls told
-in_groups : (id a b first second : ℕ) (kept : Entries) (found : Option NrUpquery) → a ≡ first → b ≡ second
-    → Tells (IsInEither a b id) kept found → Tells (IsInEither first second id) kept found
-in_groups id a b first second kept found is too tells =
-    subst (λ (g : ℕ). Tells (IsInEither first g id) kept found) too
-    (subst (λ (g : ℕ). Tells (IsInEither g b id) kept found) is tells)
+-- in the groups of the writer's own map, as the calls told them of the map
+in_groups : (id : ℕ) (side : IdWriterSide) {a b : ℕ} {one other : IdTable} (found : Option NrUpquery)
+    → a ≡ group_of one.directory.plan id → one ≡ side.map.value → b ≡ second_of other.directory.plan id
+    → other ≡ side.map.value → Tells (IsInEither a b id) side.ledger found
+    → TellsOpen id side.writer side.ledger found
+in_groups id side {b = b} found first is second too tells =
+    let own = sym side.own in
+    subst (λ (g : ℕ). Tells (IsInEither (group_of side.writer.table.directory.plan id) g id) side.ledger found)
+    (second ∙ ap (λ (table : IdTable). second_of table.directory.plan id) (too ∙ own))
+    (subst (λ (g : ℕ). Tells (IsInEither g b id) side.ledger found)
+    (first ∙ ap (λ (table : IdTable). group_of table.directory.plan id) (is ∙ own)) tells)
 
 -- so it is of another side with the same tokens and upqueries
 withdraws_too : (wanted : NrUpquery) (one other new : IdWriterSide) (code : ℕ) → one.writer ≡ other.writer
@@ -42,70 +50,31 @@ withdraws_too wanted one other new code writer ledger withdraws = ⊎_elim
     withdraws
 
 pub returns-then-id-eq0 : goal.returns-then-id-eq0
-returns-then-id-eq0 c = let (side, is) = c.if-not-is_live.ensures.live in inr (inl (
-  refl,
-  c.if-id-eq0.true,
-  tt,
-  (side, ap (λ handle. handle.live) (sym c.is_live.ensures.same) ∙ is),
-  ap (λ handle. handle.live) c.is_live.ensures.same,
-))
+returns-then-id-eq0 c =
+    is_zero (λ handle. handle.live) c.is_live.ensures.same c.if-not-is_live.ensures.live c.if-id-eq0.true tt
 
 pub returns-in-Some : goal.returns-in-Some
 returns-in-Some c =
     let side = c.side-side.result.now in
-    let first
-    = c.group_of-first.ensures
-    ∙ ap (λ (table : IdTable). group_of table.directory.plan c.args.id) (c.deref.ensures ∙ sym side.own) in
-    let second
-    = c.second_of-second.ensures
-    ∙ ap (λ (table : IdTable). second_of table.directory.plan c.args.id) (c.deref-2.ensures ∙ sym side.own) in
-    inr (inr (
-      omega (arith, c.if-id-eq0.false),
-      record {
-        old = side;
-        new = _;
-        was = ap (λ handle. handle.live) (sym c.is_live.ensures.same) ∙ c.side-side.ensures.value;
-        is = refl;
-        map = c.take_back.ensures.map;
-        watch = c.take_back.ensures.watch;
-        spare = c.take_back.ensures.spare;
-        made =
-            inl (
-              c.in-Some.upquery,
-              in_groups c.args.id _ _ _ _ side.ledger (Some c.in-Some.upquery) first second c.in-Some.ensures,
-              withdraws_too _ _ side _ _ refl refl c.take_back.ensures.withdraws,
-            );
-      },
-    ))
+    let first = c.group_of-first.ensures in
+    let second = c.second_of-second.ensures in
+    has_number c.if-id-eq0.false (id_writer_turns c.is_live.ensures.same c.side-side.ensures.value
+    (c.take_back.ensures.map, c.take_back.ensures.watch, c.take_back.ensures.spare)
+    (inl (
+      c.in-Some.upquery,
+      in_groups c.args.id side (Some c.in-Some.upquery) first c.deref.ensures second c.deref-2.ensures
+          c.in-Some.ensures,
+      withdraws_too _ _ side _ _ refl refl c.take_back.ensures.withdraws,
+    )))
 
 pub returns-in-None : goal.returns-in-None
 returns-in-None c =
     let side = c.side-side.result.now in
-    let first
-    = c.group_of-first.ensures
-    ∙ ap (λ (table : IdTable). group_of table.directory.plan c.args.id) (c.deref.ensures ∙ sym side.own) in
-    let second
-    = c.second_of-second.ensures
-    ∙ ap (λ (table : IdTable). second_of table.directory.plan c.args.id) (c.deref-2.ensures ∙ sym side.own) in
-    inr (inr (
-      omega (arith, c.if-id-eq0.false),
-      record {
-        old = side;
-        new = _;
-        was = ap (λ handle. handle.live) (sym c.is_live.ensures.same) ∙ c.side-side.ensures.value;
-        is = refl;
-        map = refl;
-        watch = refl;
-        spare = refl;
-        made =
-            inr (
-              in_groups c.args.id _ _ _ _ side.ledger None first second c.in-None.ensures,
-              record {
-                became_so = (c.evict.result, c.of_evict.ensures, c.evict.ensures.evicts);
-                owes = c.evict.ensures.owes;
-                asker = c.evict.ensures.asker;
-                keeps = refl;
-              },
-            );
-      },
-    ))
+    let first = c.group_of-first.ensures in
+    let second = c.second_of-second.ensures in
+    has_number c.if-id-eq0.false (id_writer_turns c.is_live.ensures.same c.side-side.ensures.value (refl, refl, refl)
+    (inr (
+      in_groups c.args.id side None first c.deref.ensures second c.deref-2.ensures c.in-None.ensures,
+      owes_all c.evict.ensures.owes c.evict.ensures.asker refl
+          (c.evict.result, c.of_evict.ensures, c.evict.ensures.evicts),
+    )))

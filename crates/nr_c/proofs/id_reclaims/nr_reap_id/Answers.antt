@@ -1,20 +1,8 @@
-use Rattle.std.proofs.Common.{ap, inr, refl, sym, ◌∙◌}
+use Rattle.std.proofs.Common.{inr, refl}
+use Rattle.nr_c.proofs.SidesTurned.{id_writer_turns, owes_all}
 use Rattle.nr_c.proofs.id_reclaims.nr_reap_id.Goals as goal
 
 pub returns : goal.returns
-returns c = inr (record {
-  old = c.side-side.result.now;
-  new = _;
-  was = ap (λ handle. handle.live) (sym c.is_live.ensures.same) ∙ c.side-side.ensures.value;
-  is = refl;
-  map = refl;
-  watch = refl;
-  spare = refl;
-  made =
-      record {
-        became_so = (c.reap.result, c.of_reaped.ensures, c.reap.ensures.reaps, c.reap.ensures.clerk);
-        owes = c.reap.ensures.owes;
-        asker = c.reap.ensures.asker;
-        keeps = refl;
-      };
-})
+returns c = inr (id_writer_turns c.is_live.ensures.same c.side-side.ensures.value (refl, refl, refl)
+    (owes_all c.reap.ensures.owes c.reap.ensures.asker refl
+    (c.reap.result, c.of_reaped.ensures, c.reap.ensures.reaps, c.reap.ensures.clerk)))

@@ -1,5 +1,6 @@
 use Rattle.std.proofs.Common.{inl, inr, refl}
 use Rattle.nr_idmap.specs.declared.upqueries.Withdrawn.TheVariants as withdrawn
+use Rattle.nr_c.proofs.KeptUpqueries.{withdraws_kept}
 use Rattle.nr_c.proofs.id_upqueries.take_back.Goals as goal
 
 pub returns-in_default-clause-withdraws : goal.returns-in_default-clause-withdraws
@@ -7,39 +8,13 @@ returns-in_default-clause-withdraws c = inl (record { code_is = refl; stays = re
 
 pub returns-in-Done-clause-withdraws : goal.returns-in-Done-clause-withdraws
 returns-in-Done-clause-withdraws c =
-    inr
-    (record {
-      upquery = c.in-Some.opened;
-      rest = _;
-      gives_up = c.in-Some.ensures;
-      answer = withdrawn.Done;
-      code_is = refl;
-      withdraws = c.in-Done.ensures.withdraws;
-      keeps = refl;
-    })
+    inr (withdraws_kept c.in-Some.ensures withdrawn.Done refl c.in-Done.ensures.withdraws refl)
 
 pub returns-in-Closed-clause-withdraws : goal.returns-in-Closed-clause-withdraws
 returns-in-Closed-clause-withdraws c =
-    inr
-    (record {
-      upquery = c.in-Some.opened;
-      rest = _;
-      gives_up = c.in-Some.ensures;
-      answer = withdrawn.Closed;
-      code_is = refl;
-      withdraws = c.in-Closed.ensures.withdraws;
-      keeps = refl;
-    })
+    inr (withdraws_kept c.in-Some.ensures withdrawn.Closed refl c.in-Closed.ensures.withdraws refl)
 
 pub returns-in-Worn-clause-withdraws : goal.returns-in-Worn-clause-withdraws
 returns-in-Worn-clause-withdraws c =
-    inr
-    (record {
-      upquery = c.in-Some.opened;
-      rest = _;
-      gives_up = c.in-Some.ensures;
-      answer = withdrawn.Worn c.in-Worn.opened;
-      code_is = refl;
-      withdraws = c.in-Worn.ensures.withdraws;
-      keeps = c.keep.ensures;
-    })
+    inr (withdraws_kept c.in-Some.ensures (withdrawn.Worn c.in-Worn.opened)
+    refl c.in-Worn.ensures.withdraws c.keep.ensures)

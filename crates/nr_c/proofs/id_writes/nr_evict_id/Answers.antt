@@ -1,32 +1,14 @@
-use Rattle.std.proofs.Common.{ap, arith, inl, inr, refl, sym, ◌∙◌}
+use Rattle.std.proofs.Common.{refl}
+use Rattle.nr_c.proofs.LiveHandles.{has_number, is_zero}
+use Rattle.nr_c.proofs.SidesTurned.{id_writer_turns, owes_all}
 use Rattle.nr_c.proofs.id_writes.nr_evict_id.Goals as goal
 
 pub returns-then-id-eq0 : goal.returns-then-id-eq0
-returns-then-id-eq0 c = let (side, is) = c.if-not-is_live.ensures.live in inr (inl (
-  refl,
-  c.if-id-eq0.true,
-  tt,
-  (side, ap (λ handle. handle.live) (sym c.is_live.ensures.same) ∙ is),
-  ap (λ handle. handle.live) c.is_live.ensures.same,
-))
+returns-then-id-eq0 c =
+    is_zero (λ handle. handle.live) c.is_live.ensures.same c.if-not-is_live.ensures.live c.if-id-eq0.true tt
 
 pub returns : goal.returns
-returns c = inr (inr (
-  omega (arith, c.if-id-eq0.false),
-  record {
-    old = c.side-side.result.now;
-    new = _;
-    was = ap (λ handle. handle.live) (sym c.is_live.ensures.same) ∙ c.side-side.ensures.value;
-    is = refl;
-    map = refl;
-    watch = refl;
-    spare = refl;
-    made =
-        record {
-          became_so = (c.evict.result, c.of_evict.ensures, c.evict.ensures.evicts);
-          owes = c.evict.ensures.owes;
-          asker = c.evict.ensures.asker;
-          keeps = refl;
-        };
-  },
-))
+returns c =
+    has_number c.if-id-eq0.false (id_writer_turns c.is_live.ensures.same c.side-side.ensures.value (refl, refl, refl)
+    (owes_all c.evict.ensures.owes c.evict.ensures.asker refl
+    (c.evict.result, c.of_evict.ensures, c.evict.ensures.evicts)))

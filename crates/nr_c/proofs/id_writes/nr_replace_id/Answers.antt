@@ -1,69 +1,23 @@
-use Rattle.std.proofs.Common.{ap, arith, inl, inr, refl, subst, sym, ◌∙◌}
-use Rattle.std.specs.Prelude.{ℕ}
-use Rattle.nr_idmap.specs.Keepers.{id_rows}
-use Rattle.nr_idmap.specs.Tags.{IsIdSet}
-use Rattle.nr_c.specs.IdRows.{AreIdRowsRefused}
+use Rattle.std.proofs.Common.{inl, inr, refl}
+use Rattle.nr_c.proofs.LiveHandles.{has_number, is_zero}
+use Rattle.nr_c.proofs.RowsAllowed.{no_id_rows, own_id_set}
+use Rattle.nr_c.proofs.SidesTurned.{id_writer_turns, owes_all}
 use Rattle.nr_c.proofs.id_writes.nr_replace_id.Goals as goal
 
 pub returns-then-id-eq0 : goal.returns-then-id-eq0
-returns-then-id-eq0 c = let (side, is) = c.if-not-is_live.ensures.live in inr (inl (
-  refl,
-  c.if-id-eq0.true,
-  tt,
-  (side, ap (λ handle. handle.live) (sym c.is_live.ensures.same) ∙ is),
-  ap (λ handle. handle.live) c.is_live.ensures.same,
-))
+returns-then-id-eq0 c =
+    is_zero (λ handle. handle.live) c.is_live.ensures.same c.if-not-is_live.ensures.live c.if-id-eq0.true tt
 
 pub returns-in-Some : goal.returns-in-Some
 returns-in-Some c =
-    let side = c.side-side.result.now in
-    let bound = c.rows.ensures ∙ ap id_rows (c.deref.ensures ∙ sym side.own) in
-    inr (inr (
-      omega (arith, c.if-id-eq0.false),
-      record {
-        old = c.side-side.result.now;
-        new = _;
-        was = ap (λ handle. handle.live) (sym c.is_live.ensures.same) ∙ c.side-side.ensures.value;
-        is = refl;
-        map = refl;
-        watch = refl;
-        spare = refl;
-        made =
-            record {
-              became_so = inl
-                  (subst (λ (n : ℕ). AreIdRowsRefused n c.args.rows.now c.in-Some.code) bound c.in-Some.ensures, refl);
-              owes = λ way. refl;
-              asker = refl;
-              keeps = refl;
-            };
-      },
-    ))
+    let refused = no_id_rows c.side-side.result.now c.rows.ensures c.deref.ensures c.args.rows.now c.in-Some.code
+    c.in-Some.ensures in
+    has_number c.if-id-eq0.false (id_writer_turns c.is_live.ensures.same c.side-side.ensures.value (refl, refl, refl)
+    (owes_all (λ way. refl) refl refl (inl (refused, refl))))
 
 pub returns : goal.returns
 returns c =
-    let side = c.side-side.result.now in
-    let bound = c.rows.ensures ∙ ap id_rows (c.deref.ensures ∙ sym side.own) in
-    inr (inr (
-      omega (arith, c.if-id-eq0.false),
-      record {
-        old = c.side-side.result.now;
-        new = _;
-        was = ap (λ handle. handle.live) (sym c.is_live.ensures.same) ∙ c.side-side.ensures.value;
-        is = refl;
-        map = refl;
-        watch = refl;
-        spare = refl;
-        made =
-            record {
-              became_so = inr (
-                subst (λ (n : ℕ). IsIdSet n c.args.rows.now) bound c.in_default.ensures,
-                c.replace.result,
-                c.of_id_replace.ensures,
-                c.replace.ensures.replaces,
-              );
-              owes = c.replace.ensures.owes;
-              asker = c.replace.ensures.asker;
-              keeps = refl;
-            };
-      },
-    ))
+    let rows = own_id_set c.side-side.result.now c.rows.ensures c.deref.ensures c.args.rows.now c.in_default.ensures in
+    has_number c.if-id-eq0.false (id_writer_turns c.is_live.ensures.same c.side-side.ensures.value (refl, refl, refl)
+    (owes_all c.replace.ensures.owes c.replace.ensures.asker refl
+    (inr (rows, c.replace.result, c.of_id_replace.ensures, c.replace.ensures.replaces))))
