@@ -1,4 +1,5 @@
 use Rattle.std.proofs.Common.{ap, inl, inr, refl, sym, ◌∙◌}
+use Rattle.nr_c.proofs.LiveHandles.{refuses_hand}
 use Rattle.nr_c.proofs.id_many_first.nr_find_each_rows_id.Goals as goal
 
 pub returns-then-not-are_found_ids : goal.returns-then-not-are_found_ids
@@ -13,14 +14,8 @@ returns-then-not-are_found_ids c = let (side, is) = c.if-not-is_live.ensures.liv
 pub returns-then-holds : goal.returns-then-holds
 returns-then-holds c = inr (inr (
   c.are_found_ids.ensures.0 c.if-not-are_found_ids.false,
-  inl (record {
-    code_is = refl;
-    stay = (refl, refl);
-    held = c.side-side.result.now;
-    was = ap (λ handle. handle.live) (sym c.is_live.ensures.same) ∙ c.side-side.ensures.value;
-    is = refl;
-    hand = c.if-holds.ensures.some;
-  }),
+  inl (refuses_hand (λ handle. handle.live) c.is_live.ensures.same c.side-side.ensures.value refl (refl, refl)
+      c.if-holds.ensures.some),
 ))
 
 pub returns : goal.returns

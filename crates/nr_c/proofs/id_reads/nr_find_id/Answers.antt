@@ -1,46 +1,25 @@
-use Rattle.std.proofs.Common.{ap, arith, inl, inr, refl, sym, ◌∙◌}
+use Rattle.std.proofs.Common.{inl, inr, refl}
+use Rattle.nr_c.proofs.LiveHandles.{has_number, is_zero, refuses_hand}
+use Rattle.nr_c.proofs.SidesTurned.{id_reader_turns}
 use Rattle.nr_c.proofs.id_reads.nr_find_id.Goals as goal
 
 pub returns-then-id-eq0 : goal.returns-then-id-eq0
-returns-then-id-eq0 c = let (side, is) = c.if-not-is_live.ensures.live in inr (inl (
-  refl,
-  c.if-id-eq0.true,
-  refl,
-  (side, ap (λ handle. handle.live) (sym c.is_live.ensures.same) ∙ is),
-  ap (λ handle. handle.live) c.is_live.ensures.same,
-))
+returns-then-id-eq0 c =
+    is_zero (λ handle. handle.live) c.is_live.ensures.same c.if-not-is_live.ensures.live c.if-id-eq0.true refl
 
 pub returns-then-holds : goal.returns-then-holds
-returns-then-holds c = inr (inr (
-  omega (arith, c.if-id-eq0.false),
-  inl (record {
-    code_is = refl;
-    stay = refl;
-    held = c.side-side.result.now;
-    was = ap (λ handle. handle.live) (sym c.is_live.ensures.same) ∙ c.side-side.ensures.value;
-    is = refl;
-    hand = c.if-holds.ensures.some;
-  }),
-))
+returns-then-holds c = has_number c.if-id-eq0.false
+    (inl (refuses_hand (λ handle. handle.live) c.is_live.ensures.same c.side-side.ensures.value refl refl
+    c.if-holds.ensures.some))
 
 pub returns : goal.returns
-returns c = inr (inr (
-  omega (arith, c.if-id-eq0.false),
-  inr (
-    c.of_found_id-answer.result,
-    record {
-      old = c.side-side.result.now;
-      new = _;
-      was = ap (λ handle. handle.live) (sym c.is_live.ensures.same) ∙ c.side-side.ensures.value;
-      is = refl;
-      map = refl;
-      made =
-          record {
-            was_idle = c.if-holds.ensures.none;
-            is_idle = c.find.ensures.idle;
-            became_so = (c.find.result, c.of_found_id-answer.ensures, c.find.ensures.finds);
-          };
-      watch = c.heard.ensures;
-    },
-  ),
+returns c = has_number c.if-id-eq0.false (inr (
+  c.of_found_id-answer.result,
+  id_reader_turns (λ handle. handle.live) c.is_live.ensures.same c.side-side.ensures.value refl
+      c.heard.ensures
+      (record {
+        was_idle = c.if-holds.ensures.none;
+        is_idle = c.find.ensures.idle;
+        became_so = (c.find.result, c.of_found_id-answer.ensures, c.find.ensures.finds);
+      }),
 ))

@@ -1,51 +1,22 @@
-use Rattle.std.proofs.Common.{ap, arith, false, inl, inr, refl, sym, true, ◌∙◌}
+use Rattle.std.proofs.Common.{false, refl, true}
+use Rattle.nr_c.proofs.LiveHandles.{has_number, is_zero}
+use Rattle.nr_c.proofs.SidesTurned.{id_reader_turns}
 use Rattle.nr_c.proofs.id_reads.nr_request_id.Goals as goal
 
 pub returns-then-id-eq0 : goal.returns-then-id-eq0
-returns-then-id-eq0 c = let (side, is) = c.if-not-is_live.ensures.live in inr (inl (
-  refl,
-  c.if-id-eq0.true,
-  tt,
-  (side, ap (λ handle. handle.live) (sym c.is_live.ensures.same) ∙ is),
-  ap (λ handle. handle.live) c.is_live.ensures.same,
-))
+returns-then-id-eq0 c =
+    is_zero (λ handle. handle.live) c.is_live.ensures.same c.if-not-is_live.ensures.live c.if-id-eq0.true tt
 
 pub returns-then-is_closed : goal.returns-then-is_closed
-returns-then-is_closed c = inr (inr (
-  omega (arith, c.if-id-eq0.false),
-  (
-    true,
-    record {
-      old = c.side-side.result.now;
-      new = _;
-      was = ap (λ handle. handle.live) (sym c.is_live.ensures.same) ∙ c.side-side.ensures.value;
-      is = refl;
-      map = refl;
-      made = (refl, refl);
-      watch = c.if-is_closed.ensures;
-    },
-  ),
-))
+returns-then-is_closed c = has_number c.if-id-eq0.false (
+  true,
+  id_reader_turns (λ handle. handle.live) c.is_live.ensures.same c.side-side.ensures.value refl
+      c.if-is_closed.ensures (refl, refl),
+)
 
 pub returns : goal.returns
-returns c = inr (inr (
-  omega (arith, c.if-id-eq0.false),
-  (
-    false,
-    record {
-      old = c.side-side.result.now;
-      new = _;
-      was = ap (λ handle. handle.live) (sym c.is_live.ensures.same) ∙ c.side-side.ensures.value;
-      is = refl;
-      map = refl;
-      made = (
-        c.request.result,
-        c.of_request.ensures,
-        c.request.ensures.answer,
-        c.request.ensures.held.0,
-        c.request.ensures.held.1,
-      );
-      watch = c.if-is_closed.ensures;
-    },
-  ),
-))
+returns c = let asks = c.request.ensures in has_number c.if-id-eq0.false (
+  false,
+  id_reader_turns (λ handle. handle.live) c.is_live.ensures.same c.side-side.ensures.value refl
+      c.if-is_closed.ensures (c.request.result, c.of_request.ensures, asks.answer, asks.held.0, asks.held.1),
+)

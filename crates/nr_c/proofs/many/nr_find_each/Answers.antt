@@ -1,4 +1,5 @@
 use Rattle.std.proofs.Common.{◌∙◌, ap, inl, inr, refl, sym}
+use Rattle.nr_c.proofs.LiveHandles.{refuses_hand}
 use Rattle.nr_c.proofs.many.nr_find_each.Goals as goal
 
 pub returns-then-not-has_keys : goal.returns-then-not-has_keys
@@ -17,18 +18,10 @@ returns-then-not-has_keys c =
 pub returns-then-holds : goal.returns-then-holds
 returns-then-holds c =
     let was = ap (λ handle. handle.live) (sym c.is_live.ensures.same) ∙ c.side-side.ensures.value in
-    inr
-    (inr (
+    inr (inr (
       record { held = c.side-side.result.now; was = was; has = c.if-not-has_keys.ensures.all },
-      inl
-          (record {
-            code_is = refl;
-            stay = refl;
-            held = c.side-side.result.now;
-            was = was;
-            is = refl;
-            hand = c.if-holds.ensures.some;
-          }),
+      inl (refuses_hand (λ handle. handle.live) c.is_live.ensures.same c.side-side.ensures.value refl refl
+          c.if-holds.ensures.some),
     ))
 
 pub returns : goal.returns

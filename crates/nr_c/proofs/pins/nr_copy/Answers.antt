@@ -1,34 +1,19 @@
-use Rattle.std.proofs.Common.{inl, inr, refl, ◌∙◌, ap, sym}
+use Rattle.std.proofs.Common.{inl, inr, refl}
+use Rattle.nr_c.proofs.LiveHandles.{refuses_hand}
+use Rattle.nr_c.proofs.SidesTurned.{reader_turns}
 use Rattle.nr_c.proofs.pins.nr_copy.Goals as goal
 
 pub returns-then-not-holds : goal.returns-then-not-holds
-returns-then-not-holds c = inr (inl (record {
-  code_is = refl;
-  stay = refl;
-  held = c.side-side.result.now;
-  was = ap (λ handle. handle.live)
-      (sym c.is_live.ensures.same) ∙ c.side-side.ensures.value;
-  is = refl;
-  hand = c.if-not-holds.ensures.none;
-}))
+returns-then-not-holds c =
+    inr (inl (refuses_hand (λ handle. handle.live) c.is_live.ensures.same c.side-side.ensures.value refl refl
+    c.if-not-holds.ensures.none))
 
 pub returns : goal.returns
-returns c =
-    inr
-    (inr (
-      refl,
-      c.side-side.result.now.hand,
-      c.copy_to.new.self,
-      record {
-        old = c.side-side.result.now;
-        new = _;
-        led = ap (λ handle. handle.live) (sym c.is_live.ensures.same) ∙ c.side-side.ensures.value;
-        leads = refl;
-        map = refl;
-        watch = refl;
-        old_hand = refl;
-        new_hand = refl;
-      },
-      c.copy_to.ensures.copied,
-      c.copy_to.ensures.reads,
-    ))
+returns c = inr (inr (
+  refl,
+  c.side-side.result.now.hand,
+  c.copy_to.new.self,
+  reader_turns c.is_live.ensures.same c.side-side.ensures.value refl refl,
+  c.copy_to.ensures.copied,
+  c.copy_to.ensures.reads,
+))

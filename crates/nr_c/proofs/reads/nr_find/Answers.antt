@@ -1,61 +1,31 @@
-use Rattle.std.proofs.Common.{refl, inl, inr, ap, sym, ◌∙◌}
+use Rattle.std.proofs.Common.{inl, inr, refl}
 use Rattle.nr_c.proofs.IdleFinds.{finds_by_code, still_idle}
+use Rattle.nr_c.proofs.LiveHandles.{has_key, lacks_key, refuses_hand}
+use Rattle.nr_c.proofs.SidesTurned.{reader_turns}
 use Rattle.nr_c.proofs.reads.nr_find.Goals as goal
 
 pub returns-then-not-has_key : goal.returns-then-not-has_key
-returns-then-not-has_key c = inr (inl (record {
-  code_is = refl;
-  stay = refl;
-  held = c.side-side.result.now;
-  was = ap (λ handle. handle.live)
-      (sym c.is_live.ensures.same) ∙ c.side-side.ensures.value;
-  is = refl;
-  above = c.if-not-has_key.ensures.hasnt;
-}))
+returns-then-not-has_key c =
+    lacks_key (λ handle. handle.live) c.is_live.ensures.same c.side-side.ensures.value refl
+    c.if-not-has_key.ensures.hasnt
 
 pub returns-then-holds : goal.returns-then-holds
-returns-then-holds c = inr (inr (
-  record {
-    held = c.side-side.result.now;
-    was = ap (λ handle. handle.live) (sym c.is_live.ensures.same)
-        ∙ c.side-side.ensures.value;
-    below = c.if-not-has_key.ensures.has;
-  },
-  inl
-      (record {
-        code_is = refl;
-        stay = refl;
-        held = c.side-side.result.now;
-        was = ap (λ handle. handle.live) (sym c.is_live.ensures.same)
-            ∙ c.side-side.ensures.value;
-        is = refl;
-        hand = c.if-holds.ensures.some;
-      }),
-))
+returns-then-holds c =
+    has_key (λ handle. handle.live) c.is_live.ensures.same c.side-side.ensures.value c.if-not-has_key.ensures.has
+    (inl (refuses_hand (λ handle. handle.live) c.is_live.ensures.same c.side-side.ensures.value refl refl
+    c.if-holds.ensures.some))
 
 pub returns : goal.returns
 returns c =
     let hand = c.side-side.result.now.hand in let finds = c.find.ensures.finds in let none = c.if-holds.ensures.none in
-    let was = ap (λ handle. handle.live) (sym c.is_live.ensures.same) ∙ c.side-side.ensures.value in
-    inr (inr (
-      record { held = c.side-side.result.now; was = was; below = c.if-not-has_key.ensures.has },
-      inr (
-        c.of_found-answer.result,
-        hand,
-        c.find.new.self,
-        record {
-          old = c.side-side.result.now;
-          new = _;
-          led = was;
-          leads = refl;
-          map = refl;
-          old_hand = refl;
-          new_hand = refl;
-          watch = c.heard.ensures;
-        },
-        none,
-        still_idle c.args.key hand c.find.new.self c.args.rows.now c.find.new.rows c.find.result finds,
-        finds_by_code c.args.key hand c.find.new.self c.args.rows.now c.find.new.rows
-            c.find.result finds _ c.of_found-answer.ensures none,
-      ),
+    has_key (λ handle. handle.live) c.is_live.ensures.same c.side-side.ensures.value c.if-not-has_key.ensures.has
+    (inr (
+      c.of_found-answer.result,
+      hand,
+      c.find.new.self,
+      reader_turns c.is_live.ensures.same c.side-side.ensures.value refl c.heard.ensures,
+      none,
+      still_idle c.args.key hand c.find.new.self c.args.rows.now c.find.new.rows c.find.result finds,
+      finds_by_code c.args.key hand c.find.new.self c.args.rows.now c.find.new.rows
+          c.find.result finds _ c.of_found-answer.ensures none,
     ))
