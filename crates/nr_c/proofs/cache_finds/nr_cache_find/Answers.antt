@@ -1,33 +1,20 @@
-use Rattle.std.proofs.Common.{ap, arith, inl, inr, refl, sym, ◌∙◌}
+use Rattle.std.proofs.Common.{refl}
+use Rattle.nr_c.proofs.LiveHandles.{has_number, is_zero}
+use Rattle.nr_c.proofs.SidesTurned.{id_reader_turns}
 use Rattle.nr_c.proofs.cache_finds.nr_cache_find.Goals as goal
 
 pub returns-then-id-eq0 : goal.returns-then-id-eq0
-returns-then-id-eq0 c = let (side, is) = c.if-not-is_live.ensures.live in inr (inl (
-  refl,
-  c.if-id-eq0.true,
-  refl,
-  (side, ap (λ handle. handle.live) (sym c.is_live.ensures.same) ∙ is),
-  ap (λ handle. handle.live) c.is_live.ensures.same,
-))
+returns-then-id-eq0 c =
+    is_zero (λ handle. handle.live) c.is_live.ensures.same c.if-not-is_live.ensures.live c.if-id-eq0.true refl
 
 pub returns : goal.returns
-returns c = inr (inr (
-  omega (arith, c.if-id-eq0.false),
-  (
-    c.of_value-answer.result,
-    record {
-      old = c.side-side.result.now;
-      new = _;
-      was = ap (λ handle. handle.live) (sym c.is_live.ensures.same) ∙ c.side-side.ensures.value;
-      is = refl;
-      map = refl;
-      made = (
+returns c = let value = c.of_value-answer.ensures in has_number c.if-id-eq0.false (
+  c.of_value-answer.result,
+  id_reader_turns (λ handle. handle.live) c.is_live.ensures.same c.side-side.ensures.value refl
+      c.heard.ensures (
         c.find-value.result,
-        c.of_value-answer.ensures.code,
+        value.code,
         c.find-value.ensures.finds,
-        c.of_value-answer.ensures.told,
-      );
-      watch = c.heard.ensures;
-    },
-  ),
-))
+        value.told,
+      ),
+)

@@ -1,19 +1,11 @@
-use Rattle.std.proofs.Common.{ap, inr, refl, sym, ◌∙◌}
+use Rattle.std.proofs.Common.{inr, refl}
+use Rattle.nr_c.proofs.SidesTurned.{cache_calls}
 use Rattle.nr_c.proofs.cache_flights.nr_cache_fail_oldest.Goals as goal
 
 pub returns : goal.returns
-returns c = inr (record {
-  old = c.side-side.result.now;
-  new = _;
-  was = ap (λ handle. handle.live) (sym c.is_live.ensures.same) ∙ c.side-side.ensures.value;
-  is = refl;
-  map = refl;
-  watch = refl;
-  spare = refl;
-  made = (
-    c.fail_oldest-ended.result,
-    c.of_ended.ensures.code,
-    c.fail_oldest-ended.ensures,
-    c.of_ended.ensures.told,
-  );
-})
+returns c = inr (cache_calls c.is_live.ensures.same c.side-side.ensures.value (refl, refl, refl) (
+  c.fail_oldest-ended.result,
+  c.of_ended.ensures.code,
+  c.fail_oldest-ended.ensures,
+  c.of_ended.ensures.told,
+))

@@ -1,14 +1,7 @@
-use Rattle.std.proofs.Common.{ap, inr, refl, sym, ◌∙◌}
+use Rattle.std.proofs.Common.{inr, refl}
+use Rattle.nr_c.proofs.SidesTurned.{cache_calls}
 use Rattle.nr_c.proofs.cache_looks.nr_cache_count.Goals as goal
 
 pub returns : goal.returns
-returns c = inr (record {
-  old = c.side-side.result.now;
-  new = _;
-  was = ap (λ handle. handle.live) (sym c.is_live.ensures.same) ∙ c.side-side.ensures.value;
-  is = refl;
-  map = refl;
-  watch = refl;
-  spare = refl;
-  made = (c.count-counted.result, refl, c.count-counted.ensures.counts, c.of.ensures);
-})
+returns c = inr (cache_calls c.is_live.ensures.same c.side-side.ensures.value (refl, refl, refl)
+    (c.count-counted.result, refl, c.count-counted.ensures.counts, c.of.ensures))

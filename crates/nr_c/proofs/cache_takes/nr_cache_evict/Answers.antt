@@ -1,26 +1,13 @@
-use Rattle.std.proofs.Common.{ap, arith, inl, inr, refl, sym, ◌∙◌}
+use Rattle.std.proofs.Common.{refl}
+use Rattle.nr_c.proofs.LiveHandles.{has_number, is_zero}
+use Rattle.nr_c.proofs.SidesTurned.{cache_calls}
 use Rattle.nr_c.proofs.cache_takes.nr_cache_evict.Goals as goal
 
 pub returns-then-id-eq0 : goal.returns-then-id-eq0
-returns-then-id-eq0 c = let (side, is) = c.if-not-is_live.ensures.live in inr (inl (
-  refl,
-  c.if-id-eq0.true,
-  tt,
-  (side, ap (λ handle. handle.live) (sym c.is_live.ensures.same) ∙ is),
-  ap (λ handle. handle.live) c.is_live.ensures.same,
-))
+returns-then-id-eq0 c =
+    is_zero (λ handle. handle.live) c.is_live.ensures.same c.if-not-is_live.ensures.live c.if-id-eq0.true tt
 
 pub returns : goal.returns
-returns c = inr (inr (
-  omega (arith, c.if-id-eq0.false),
-  record {
-    old = c.side-side.result.now;
-    new = _;
-    was = ap (λ handle. handle.live) (sym c.is_live.ensures.same) ∙ c.side-side.ensures.value;
-    is = refl;
-    map = refl;
-    watch = refl;
-    spare = refl;
-    made = (c.evict-had.result, c.either.ensures, c.evict-had.ensures.evicts);
-  },
-))
+returns c =
+    has_number c.if-id-eq0.false (cache_calls c.is_live.ensures.same c.side-side.ensures.value (refl, refl, refl)
+    (c.evict-had.result, c.either.ensures, c.evict-had.ensures.evicts))

@@ -1,41 +1,20 @@
-use Rattle.std.proofs.Common.{ap, arith, inl, inr, refl, sym, ◌∙◌}
+use Rattle.std.proofs.Common.{inl, inr, refl}
+use Rattle.nr_c.proofs.LiveHandles.{above_zero, has_number, is_zero, zero}
+use Rattle.nr_c.proofs.SidesTurned.{cache_calls}
 use Rattle.nr_c.proofs.cache_values.nr_cache_put.Goals as goal
 
 pub returns-then-id-eq0 : goal.returns-then-id-eq0
-returns-then-id-eq0 c = let (side, is) = c.if-not-is_live.ensures.live in inr (inl (
-  refl,
-  c.if-id-eq0.true,
-  refl,
-  (side, ap (λ handle. handle.live) (sym c.is_live.ensures.same) ∙ is),
-  ap (λ handle. handle.live) c.is_live.ensures.same,
-))
+returns-then-id-eq0 c =
+    is_zero (λ handle. handle.live) c.is_live.ensures.same c.if-not-is_live.ensures.live c.if-id-eq0.true refl
 
 pub returns-then-stamp-eq0 : goal.returns-then-stamp-eq0
-returns-then-stamp-eq0 c = let (side, is) = c.if-not-is_live.ensures.live in inr (inr (
-  omega (arith, c.if-id-eq0.false),
-  inl (
-    refl,
-    c.if-stamp-eq0.true,
-    refl,
-    (side, ap (λ handle. handle.live) (sym c.is_live.ensures.same) ∙ is),
-    ap (λ handle. handle.live) c.is_live.ensures.same,
-  ),
-))
+returns-then-stamp-eq0 c = has_number c.if-id-eq0.false
+    (inl (zero (λ handle. handle.live) c.is_live.ensures.same c.if-not-is_live.ensures.live c.if-stamp-eq0.true refl))
 
 pub returns : goal.returns
-returns c = inr (inr (
-  omega (arith, c.if-id-eq0.false),
-  inr (
-    omega (arith, c.if-stamp-eq0.false),
-    record {
-      old = c.side-side.result.now;
-      new = _;
-      was = ap (λ handle. handle.live) (sym c.is_live.ensures.same) ∙ c.side-side.ensures.value;
-      is = refl;
-      map = refl;
-      watch = refl;
-      spare = refl;
-      made = (c.put-landed.result, c.of_landed.ensures, c.put-landed.ensures.puts);
-    },
-  ),
-))
+returns c = has_number c.if-id-eq0.false
+    (inr (
+      above_zero c.if-stamp-eq0.false,
+      cache_calls c.is_live.ensures.same c.side-side.ensures.value (refl, refl, refl)
+          (c.put-landed.result, c.of_landed.ensures, c.put-landed.ensures.puts),
+    ))
