@@ -11,3 +11,4 @@ pub mod LiveHandles
 pub mod RowsAllowed
 pub mod SidesTurned
 pub mod KeptUpqueries
+pub mod HandlesOpened
