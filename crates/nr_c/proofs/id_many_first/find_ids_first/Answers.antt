@@ -1,11 +1,10 @@
-use Rattle.std.proofs.Common.{◌≡◌, ◌-◌, ◌*◌, ◌<◌, ◌%◌, ◌==◌, ◌∙◌, ℕ, List, arith, drop, get_or, length, subst, take}
-use Rattle.std.specs.Prelude.{None, replicate}
-use Rattle.std.proofs.lemmas.List.{get_or_default, length-drop, take_all}
+use Rattle.std.proofs.Common.{◌≡◌, ◌*◌, ◌<◌, ◌%◌, ◌==◌, ◌∙◌, ℕ, List, arith, get_or, length, subst}
+use Rattle.std.specs.Prelude.{None}
 use Rattle.std.proofs.lemmas.Option.{slice_get-get_or}
 use Rattle.nr_model.specs.declared.rows.Row.{Row}
 use Rattle.nr_c.specs.declared.id_many_first.NrFoundId.{NrFoundId}
-use Rattle.nr_c.specs.IdManyFirst.{FindsIdAtFirst, FindsIdFirst, LooksUpFound}
-use Rattle.nr_c.proofs.FindsMade.{all_made, one_more}
+use Rattle.nr_c.specs.IdManyFirst.{FindsIdFirst, LooksUpFound}
+use Rattle.nr_c.proofs.FindsMade.{all_left, all_made, one_more}
 use Rattle.nr_c.proofs.PartsPut.{found_id_long, part_is, part_long, part_put}
 use Rattle.nr_c.proofs.id_many_first.find_ids_first.Goals as goal
 
@@ -13,32 +12,23 @@ abbrev blank : NrFoundId
 blank = record { id = 0; answer = 0; count = 0 }
 
 pub returns-clause-finds : goal.returns-clause-finds
-returns-clause-finds c = let had = c.loop-place.invariant.made in (
-  c.loop-place.ways,
-  all_made (FindsIdAtFirst c.args.room) (((c.args.hand.now, replicate 16 None), c.args.watch.now), c.args.rows.now)
-      c.args.wanted.now c.loop-place.place
-      (((c.loop-place.hand, c.loop-place.ways), c.loop-place.watch), c.loop-place.rows) c.loop-place.wanted had
-      (omega (arith, had.long, c.loop-place-test.false)),
-)
+returns-clause-finds c = let had = c.loop-place.invariant.made in
+    (c.loop-place.ways, all_made had (omega (arith, had.long, c.loop-place-test.false)))
 
 pub loop-place-preserved : goal.loop-place-preserved
 loop-place-preserved c =
     let room : ℕ = c.args.room in
     let place : ℕ = c.loop-place.place in
-    let ones = c.loop-place.wanted in
     let rows : List Row = c.loop-place.rows in
     let had = c.loop-place.invariant.made in
-    let one = get_or ones place blank in
-    let low : place < length ones = omega (arith, c.loop-place-test.true, had.long) in
-    let left = drop place ones in
-    let whole : take (length ones - place) left ≡ left
-    = take_all (length ones - place) left (omega (arith, length-drop place ones)) in
+    let one = get_or c.loop-place.wanted place blank in
+    let low : c.loop-place.place < length c.loop-place.wanted = omega (arith, c.loop-place-test.true, had.long) in
     let ways = c.look_up_found.new.ways in
     let looked = c.look_up_found.new.hand in
     let looks
     = subst
     (λ (l : List NrFoundId). LooksUpFound (place % 16 == 0) l (c.loop-place.hand, c.loop-place.ways) (looked, ways))
-    whole c.look_up_found.ensures.looks in
+    (all_left had) c.look_up_found.ensures.looks in
     let at = get_or ways (place % 16) None in
     let begin : ℕ = c.part_begin-begin.result in
     let begins : begin ≡ place * room = c.part_begin-begin.ensures.begin in
@@ -58,16 +48,13 @@ loop-place-preserved c =
           c.find_id_first.ensures.finds.3)
           (omega (arith, c.part_begin-begin.ensures.within))
           ∙ c.loop-place.invariant.long;
-      made = one_more (FindsIdAtFirst room) (((c.args.hand.now, replicate 16 None), c.args.watch.now), c.args.rows.now)
-          c.args.wanted.now place (((c.loop-place.hand, c.loop-place.ways), c.loop-place.watch), rows) ones had one low
-          (get_or_default ones place blank one low)
-          (((c.find_id_first.new.hand, ways), c.find_id_first.new.watch), _) done (
-            looked,
-            looks,
-            at,
-            slice_get-get_or ways (place % 16) None (omega (arith, c.type_inv.ways)),
-            cells,
-            finds,
-            part_put room place begin rows begins cells,
-          );
+      made = one_more had blank low (
+        looked,
+        looks,
+        at,
+        slice_get-get_or ways (place % 16) None (omega (arith, c.type_inv.ways)),
+        cells,
+        finds,
+        part_put room place begin rows begins cells,
+      );
     }
