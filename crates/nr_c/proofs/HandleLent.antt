@@ -11,10 +11,13 @@ use mir.Syntax.{seq, assign, block, return}
 use mir.Val.{Val, vptr}
 use base.Logic.{SProp, ent, sep, emp, via, fst∗}
 use base.Fml.{Lft, GName, Share, ftrue, flft}
-use prog.Wp.{Env, Calls, Loops, WpFn, Tables}
+use prog.Model.{Model}
+use prog.Routine.{Callee}
+use prog.Wp.{Env, Calls, Closed, Loops, WpFn, Tables}
 use types.Logic.{Logic, sem}
 use types.Mut.{open_ref}
 use contract.Monad.{fact}
+use contract.Running.{Running, tables, tables_of}
 use sound.WpLaws.{WpFn-mono}
 use types.Kit.{‵, ◌⊛◌, some, at_ret, ◌$◌, ◌∵◌, !, qed, by, move, keep, use1, drop, split, join, pick, fsplit}
 use types.Kit.{fsplit3, fjoin, suffices, frame, done, raw, later, await, group}
@@ -27,7 +30,9 @@ use denote.Signature.{plain, mut_ref_to}
 use denote.Steps.{nothing}
 use denote.Triple.Clauses.{Clauses, Ended, closing}
 use denote.Triple.Entry.{on_entry}
-use denote.Triple.Spec.{Meets}
+use denote.Triple.Spec.{Meets, triple_of}
+use denote.Triple.Statement.{Triple}
+use denote.Triple.Table.{entered}
 use denote.Triple.Walked.{says, Stays, stay_dropped, walk_of, ends_at, walked, walk_Meets, Goes-spent_ref}
 use denote.Exit.{no}
 use denote.Follow.{follows, Part, lends_Part}
@@ -165,7 +170,7 @@ module _ {S T : RattleType} (I : Alike S T) (t u w v : Ty) where
           returns ! (look_at ! 0 refl) $ free_all ! refl $
           keep ! (0 ∷ []) $ by ! (exits γ')))
 
-  pub meets : {M : Type 1} {𝓤 : Ura M} (𝓛 : Logic 𝓤) (𝓣 : Tables 𝓤 𝓛.H)
+  meets : {M : Type 1} {𝓤 : Ura M} (𝓛 : Logic 𝓤) (𝓣 : Tables 𝓤 𝓛.H)
       → Meets 𝓛 ended.signature (WpFn 𝓤 𝓛.H 𝓣.C 𝓣.Λ code) (closing 𝓛 ended (spec 𝓛))
   meets {𝓤 = 𝓤} 𝓛 𝓣 =
       walk_Meets 𝓛 ended stayed (Goes-spent_ref 𝓛 1 (0 ∷ []) tt (plain (λ _. S)), tt) (spec 𝓛)
@@ -174,3 +179,12 @@ module _ {S T : RattleType} (I : Alike S T) (t u w v : Ty) where
       (λ κs. (mut_Tells (named 0) κs.0 S, tt))
       (λ κs qs bounds a g are. via 𝓤 _ (fst∗ 𝓤 _ (emp 𝓤))
       (walk 𝓛 κs.0 qs.0 a.0.ref_ptr.0 a.0.ref_ptr.1 a.0.ghost_name a.0.now 𝓣.C 𝓣.Λ)))
+
+  -- and so does a call of it by its name
+  pub called : {M : Type 1} {𝓤 : Ura M} (𝓛 : Logic 𝓤) (𝓜 : Model 𝓤 𝓛.H) (𝓡 : Running 𝓤 𝓛.H 𝓜) (self : Callee)
+      → Closed 𝓤 𝓛.H (tables 𝓤 𝓛.H 𝓜 𝓡 𝓡.env).C (tables 𝓤 𝓛.H 𝓜 𝓡 𝓡.env).Λ self code
+      → Triple 𝓤 (𝓡.run (𝓡.env self)) (triple_of 𝓛 ended.signature (closing 𝓛 ended (spec 𝓛)))
+  unfolding tables_of
+  called {𝓤 = 𝓤} 𝓛 𝓜 𝓡 self unfolds =
+      let 𝓣 : Tables 𝓤 𝓛.H = tables_of 𝓤 𝓛.H 𝓜 (tables 𝓤 𝓛.H 𝓜 𝓡 𝓡.env) in
+      entered 𝓤 𝓛.H (triple_of 𝓛 ended.signature (closing 𝓛 ended (spec 𝓛))) 𝓣.C 𝓣.Λ self code unfolds (meets 𝓛 𝓣)

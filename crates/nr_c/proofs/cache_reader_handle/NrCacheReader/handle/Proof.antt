@@ -2,18 +2,13 @@
 use mathlib.Core.Path.{refl}
 use base.Logic.{id⊢, fst∗}
 use base.Fml.{ftrue}
-use prog.Wp.{Tables}
 use types.Logic.{sem}
-use contract.Running.{tables, tables_of}
 use denote.Memory.{mem, part_of}
-use denote.Triple.Spec.{triple_of}
-use denote.Triple.Table.{entered}
-use Rattle.nr_c.proofs.HandleLent.{There, Back, Alike, meets}
+use Rattle.nr_c.proofs.HandleLent.{There, Back, Alike, called}
 use Rattle.nr_c.specs.CacheReaderFollows.{of_handle}
 use Rattle.nr_c.specs.contracts.handle.Handle.{the_row as Row}
 use Rattle.nr_c.specs.contracts.cache_reader_handle.NrCacheReader.{the_row as S}
 use Rattle.nr_c.specs.contracts.id_reader_side.IdReaderSide.{the_row as Side}
-use Rattle.nr_c.specs.contracts.cache_reader_handle.NrCacheReader.handle as F
 use Rattle.nr_c.specs.contracts.cache_reader_handle.NrCacheReader.handle.Key.{name as #self}
 use Rattle.nr_c.proofs.cache_reader_handle.NrCacheReader.handle.Statement as stated
 use Rattle.nr_c.proofs.cache_reader_handle.NrCacheReader.handle.Code as code
@@ -33,8 +28,4 @@ abbrev alike : Alike S (Row Side)
 alike = record { of = of_handle; to = to_handle; is = λ s. refl; there = there; back = back }
 
 pub handle_spec : {M : Type 1} → stated.statement M
-unfolding tables_of
-handle_spec 𝓤 𝓛 𝓜 𝓡 wired =
-    let 𝓣 : Tables 𝓤 𝓛.H = tables_of 𝓤 𝓛.H 𝓜 (tables 𝓤 𝓛.H 𝓜 𝓡 𝓡.env) in
-    entered 𝓤 𝓛.H (triple_of 𝓛 F.signature (F.spec 𝓛 𝓜.mem 𝓡.returns)) 𝓣.C 𝓣.Λ #self code.function
-    (code.unfolded 𝓤 𝓛.H 𝓜 𝓡 wired) (meets alike _ _ _ _ 𝓛 𝓣)
+handle_spec 𝓤 𝓛 𝓜 𝓡 wired = called alike _ _ _ _ 𝓛 𝓜 𝓡 #self (code.unfolded 𝓤 𝓛.H 𝓜 𝓡 wired)
