@@ -1,7 +1,5 @@
-use Rattle.std.proofs.Common.{ap, sym, ◌∙◌}
+use Rattle.nr_c.proofs.LiveHandles.{still_live}
 use Rattle.nr_c.proofs.id_reader_handle.NrIdReader.close.Goals as goal
 
 pub take-requires : goal.take-requires
-take-requires c =
-    let (side, is) = c.requires in
-    (side, sym (ap (λ handle. handle.live) c.handle.ensures.value) ∙ is)
+take-requires c = still_live (λ handle. handle.live) c.handle.ensures.value c.requires

@@ -1,7 +1,5 @@
-use Rattle.std.proofs.Common.{ap, sym, ◌∙◌}
+use Rattle.nr_c.proofs.LiveHandles.{still_live}
 use Rattle.nr_c.proofs.remains_handle.NrRemains.side.Goals as goal
 
 pub token-requires : goal.token-requires
-token-requires c =
-    let (side, is) = c.requires in
-    (side, sym (ap (λ handle. handle.live) c.handle.ensures.value) ∙ is)
+token-requires c = still_live (λ handle. handle.live) c.handle.ensures.value c.requires
