@@ -1,5 +1,5 @@
 -- What a writer's step leaves of its lists: where they go along with its step, all marks do.
-use Rattle.std.proofs.Common.{List, [], ap, arith, get_or, length, map, set, subst, suc, sym, ℕ, ◌++◌, ◌<◌, ◌∙◌, ◌≡◌}
+use Rattle.std.proofs.Common.{[], List, ap, arith, get_or, length, map, set, subst, suc, sym, ℕ, ◌++◌, ◌<◌, ◌∙◌, ◌≡◌}
 use Rattle.std.proofs.Common.{◌≤◌, ◌*◌}
 use lib.ListN.{get_elem?}
 use mathlib.Core.Logic.{dite}
@@ -31,12 +31,16 @@ use Rattle.nr_core.specs.declared.roles.Role.TheVariants.{Writer}
 use Rattle.nr_core.specs.declared.shape.Shape.{Shape}
 use Rattle.nr_model.specs.declared.calls.Reply.TheVariants as reply
 use Rattle.nr_core.specs.Puts.{put_count, put_number}
-use Rattle.nr_core.specs.Marks.{Marks, Past, set_in, with_polls}
+use Rattle.nr_core.specs.Marks.{LoggedLoad, Marks, Past, set_in, with_polls, with_scan}
 use Rattle.nr_core.specs.PollNotes.{AllHeld, NoRoom}
 use Rattle.nr_core.specs.Marked.{AllSince, Desked, KnowsMarks, MarkTelling, Marked, NotesPresent, Remarked, Sweeping}
-use Rattle.nr_core.specs.Marked.{Untouched, lives}
-use Rattle.nr_core.proofs.MarksSince.{evolves_writer, marked_writer}
+use Rattle.nr_core.specs.Marked.{Untouched, lives, Since}
+use Rattle.nr_core.proofs.MarksSince.{evolves_writer, marked_writer, desk_loads}
 use Rattle.nr_core.proofs.PutNumbers.{nil_count, nil_number}
+use Rattle.nr_core.specs.declared.operation.Operation.TheVariants.{Load}
+use Rattle.nr_core.proofs.ReaderMarks.{contents_loaded}
+use Rattle.nr_core.proofs.ListPlaces.{no_places}
+use lib.Seq.{set-get_or}
 
 -- a slot that is untouched after a step was so before it, and its content words stay
 abbrev pub Leaves : Shape → List ℕ → List ℕ → Place → Place → Type 0
@@ -176,3 +180,39 @@ module _ {A : Type 0} (role : A → Role) (marks : A → Marks) where
       let f = fewer s in
       omega arith)
       noted sweep leaves
+
+  -- a load by the writer leaves the lists of its desk, whatever it notes and logs
+  module _ (shape : Shape) (words : List ℕ) (callers : List A) (log entries : List Entry) (me : A) (place : ℕ)
+      (desk desk' : Desk) where
+    pub load_stays : Desked role marks shape words callers log desk (marks me) → QuietEnd log entries
+        → ((s : ℕ) → retirements s desk'.retired ≤ retirements s desk.retired)
+        → ((s : ℕ) → Untouched s desk'.place → Untouched s desk.place)
+        → (polls : List Past) (loads : List LoggedLoad) → AllSince role marks callers polls
+        → Sweeping role marks callers desk' polls desk'.place
+        → Desked role marks shape (set words place (get_or words place 0)) callers (log ++ entries) desk'
+        (with_scan (marks me) polls loads)
+    load_stays own quiet fewer untouched polls loads since sweep =
+        let words' = set words place (get_or words place 0) in
+        desk_loads role marks shape words' callers (log ++ entries) desk' (with_polls (marks me) polls) loads
+        (desk_stay shape words words' callers log entries desk desk' (marks me) polls own
+        (λ j _. ap (λ l. get_or l j 0) (set-get_or words place 0)) quiet fewer since sweep
+        (λ s _ rest. (untouched s rest, contents_loaded shape words place s)))
+
+    pub load_step : (id : ℕ) (tells : MarkTelling) → Core shape words (map role callers) log
+        → Marked role marks shape words callers log → get_elem? callers id ≡ some me → role me ≡ Writer desk
+        → (after : Role) → after ≡ Writer desk' → QuietEnd log entries
+        → ((s : ℕ) → retirements s desk'.retired ≤ retirements s desk.retired)
+        → ((s : ℕ) → Untouched s desk'.place → Untouched s desk.place)
+        → (polls : List Past) (loads : List LoggedLoad) → AllSince role marks callers polls
+        → NotesPresent role marks callers (marks me).polls polls
+        → Sweeping role marks callers desk' polls desk'.place
+        → tells (get_or words place 0) after (log ++ entries) (with_scan (marks me) polls loads) []
+        → Remarked role marks shape words callers log id (Load place) me after entries tells
+    load_step id tells core m at was after is quiet fewer untouched polls loads since present sweep told =
+        writer_step shape id me (Load place) tells words callers log core m at desk desk' was after entries is
+        (with_scan (marks me) polls loads) [] (no_places (Since role marks callers)) present
+        (load_stays (desk_of shape words callers log id me desk m at was) quiet fewer untouched polls loads since sweep)
+        told
+
+pub none_end : (log entries : List Entry) → entries ≡ [] → QuietEnd log entries
+none_end log entries none = subst (QuietEnd log) (sym none) (nothing_ends log)

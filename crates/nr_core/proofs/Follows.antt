@@ -1,6 +1,6 @@
 -- What one event more does: one operation on one word, never a put into a held slot, and entries of its own caller.
-use Rattle.std.proofs.Common.{Bool, true, false, sym, List, [], ap, append-nil, arith, cond, get_or, length, nat_eq}
-use Rattle.std.proofs.Common.{refl, subst, ℕ, ◌*◌, ◌++◌, ◌<◌, ◌∙◌, ◌≡◌, ◌≢◌, ◌≤◌}
+use Rattle.std.proofs.Common.{[], Bool, true, false, sym, List, ap, append-nil, arith, cond, length, nat_eq, refl}
+use Rattle.std.proofs.Common.{subst, ℕ, ◌*◌, ◌++◌, ◌<◌, ◌∙◌, ◌≡◌, ◌≢◌, ◌≤◌}
 use Rattle.std.proofs.lemmas.Bool.{eqb-true, leb-true, ltb-true}
 use Rattle.std.specs.Prelude.{None, Option, Some, nat_le, ◌&&◌}
 use Rattle.nr_model.specs.Histories.{Entry, entries_of}
@@ -8,8 +8,7 @@ use Rattle.nr_model.specs.Maps.{ask_reply, find_reply}
 use Rattle.nr_model.specs.declared.calls.Call.{Call}
 use Rattle.nr_model.specs.declared.calls.Reply.{Reply}
 use Rattle.nr_model.specs.declared.states.KeyState.{KeyState}
-use Rattle.nr_words.specs.SetWords.{encode}
-use Rattle.nr_core.proofs.Choices.{by_cases}
+use Rattle.nr_core.proofs.Choices.{on_test}
 use Rattle.nr_core.proofs.Go.{own_ending_at}
 use Rattle.nr_core.proofs.Guards.{both, guard, no_some, reader_in}
 use Rattle.nr_core.proofs.Histories.{of-append}
@@ -24,12 +23,11 @@ use Rattle.nr_core.specs.Laws.{EndsWithout, Follows, IsJustified, caller_of_even
 use Rattle.nr_core.specs.Machine.{found_by, moved, names_held, unless}
 use Rattle.nr_core.specs.Operations.{going, operation, target_of}
 use Rattle.nr_core.specs.declared.operation.Operation.{Operation}
-use Rattle.nr_core.specs.declared.operation.Operation.TheVariants.{Load, Store, Swap}
+use Rattle.nr_core.specs.declared.operation.Operation.TheVariants.{Load}
 use Rattle.nr_core.specs.Room.{RoomForStep, RoomOf}
-use Rattle.nr_core.specs.Refusals.{has_key, has_reader, if_busy, if_holding, if_not_busy, if_not_holding}
-use Rattle.nr_core.specs.Refusals.{if_unreadable, refusal}
+use Rattle.nr_core.specs.Refusals.{has_key, has_reader, if_busy, if_holding, if_not_busy, if_not_holding, if_unreadable}
+use Rattle.nr_core.specs.Refusals.{refusal}
 use Rattle.nr_core.specs.Roles.{held}
-use Rattle.nr_words.specs.KeyWords.{naming}
 use Rattle.nr_core.specs.Slots.{content, slot_room}
 use Rattle.nr_core.specs.States.{retired_at, Arrive, Ask, Depart, Event, FindAgain, Go, Read, Start, State, hold_of}
 use Rattle.nr_core.specs.States.{key_of, slot_in}
@@ -139,9 +137,7 @@ held_untouched state log Go is_core ok s i held_so low here = go state.desk.plac
         let fits = is_core.core.fits.bound in
         let free = p.nobody in
         let some_there = held_so.0 in
-        by_cases (λ v. let o = cond {A = Operation} v (Store (content state.shape t j) (get_or (encode rows) j 0))
-        (Swap (key_of call) (naming t departed)) in
-        target_of o ≡ content state.shape s i → o ≡ Load (content state.shape s i))
+        on_test (λ (o : Operation). target_of o ≡ content state.shape s i → o ≡ Load (content state.shape s i))
         (nat_le j (2 * length rows))
         (λ yes e. let l : j ≤ 2 * length rows = leb-true j (2 * length rows) yes in
         let same_slot : s ≡ t = same_content state.shape s i t j low (omega arith) (sym e) in
@@ -203,12 +199,7 @@ inside_words state log Go is_core ok = go state.desk.place refl (place_room stat
         let wide = is_core.core.wide in
         omega (arith, departures_inside state.shape (retired_at state.desk poll).slot room.1)
     go (Putting call rows slot departed index) is room = let wide = is_core.core.wide in let near = room.0 in
-        by_cases
-        (λ v. target_of
-        (cond {A = Operation} v (Store (content state.shape slot index) (get_or (encode rows) index 0))
-        (Swap (key_of call) (naming slot departed)))
-        < length state.words)
-        (nat_le index (2 * length rows))
+        on_test (λ (o : Operation). target_of o < length state.words) (nat_le index (2 * length rows))
         (λ yes.
         let l : index ≤ 2 * length rows = leb-true index (2 * length rows) yes in
         let few = room.3 in

@@ -1,6 +1,6 @@
 -- Each entry is told between its call's first step and its last.
-use Rattle.std.proofs.Common.{Bool, List, [], ap, append-nil, append_assoc, arith, cond, fold, inl, inr, length}
-use Rattle.std.proofs.Common.{map, nat_eq, refl, subst, sym, ℕ, ⊎_elim, ◌++◌, ◌+◌, ◌*◌, ◌<◌, ◌∙◌, ◌∷◌, ◌≡◌, ◌⊎◌}
+use Rattle.std.proofs.Common.{[], List, ap, append-nil, append_assoc, arith, cond, fold, inl, inr, length, map, nat_eq}
+use Rattle.std.proofs.Common.{refl, subst, sym, ℕ, ⊎_elim, ◌++◌, ◌+◌, ◌*◌, ◌<◌, ◌∙◌, ◌∷◌, ◌≡◌, ◌⊎◌}
 use Rattle.std.proofs.lemmas.List.Sums.{fold-append}
 use Rattle.std.proofs.lemmas.Bool.{ne_eqb}
 use Rattle.std.specs.Prelude.{Err, None, Ok, Option, Result, Some, nat_le, nat_lt, slice_index, ◌&&◌}
@@ -16,7 +16,7 @@ use Rattle.nr_model.specs.declared.calls.Call.TheVariants as model
 use Rattle.nr_model.specs.declared.calls.Reply.TheVariants as reply
 use Rattle.nr_words.specs.KeyWords.{has_ask, is_filled, same_count, slot_of}
 use Rattle.nr_words.specs.SetWords.{decode}
-use Rattle.nr_core.proofs.Choices.{by_cases}
+use Rattle.nr_core.proofs.Choices.{on_test}
 use Rattle.nr_core.proofs.Follows.{told_by_caller}
 use Rattle.nr_core.proofs.Guards.{both, guard, reader_in}
 use Rattle.nr_core.proofs.Histories.{of-append}
@@ -25,12 +25,9 @@ use Rattle.nr_core.specs.Laws.{call_in, caller_of_event}
 use Rattle.nr_core.specs.Machine.{found_by, moved, names_held, unless}
 use Rattle.nr_core.specs.Refusals.{has_key, has_reader, if_holding, if_not_holding, refusal}
 use Rattle.nr_core.specs.Slots.{bound_of}
-use Rattle.nr_core.specs.States.{Arrive, Ask, Depart, Event, FindAgain, Go, Read, Start, State, hold_of}
-use Rattle.nr_core.specs.States.{retired_at}
-use Rattle.nr_core.specs.Story.{Story, answering, beginning, call_of, ending, ending_at, shown}
-use Rattle.nr_core.specs.Story.{story_of, tell, told}
-use Rattle.nr_core.specs.Writer.{cancel_asked, decoded, ended, fill_asked, looked, moved_to, no_slot}
-use Rattle.nr_core.specs.Writer.{polls_on, renewed, settled, swapped, taking_fresh, taking_retired, went}
+use Rattle.nr_core.specs.States.{Arrive, Ask, Depart, Event, FindAgain, Go, Read, Start, State, hold_of, retired_at}
+use Rattle.nr_core.specs.Story.{Story, answering, beginning, call_of, ending, ending_at, shown, story_of, tell, told}
+use Rattle.nr_core.specs.Writer.{decoded, looked, renewed, settled, went}
 use Rattle.nr_core.specs.declared.calls.Refusal.{Refusal}
 use Rattle.nr_core.specs.declared.calls.Step.{Step}
 use Rattle.nr_core.specs.declared.calls.Step.TheVariants.{Ended, Going}
@@ -47,52 +44,33 @@ use Rattle.nr_core.specs.declared.calls.WReply.TheVariants as writer
 abbrev GoesOn : List WriterCall → Desk × Step → Type 0
 GoesOn calls outcome = (call_in outcome.0.place ≡ []) ⊎ ((call_in outcome.0.place ≡ calls) × (outcome.1 ≡ Going))
 
-either : (calls : List WriterCall) (test : Bool) (this that : Desk × Step) → GoesOn calls this → GoesOn calls that
-    → GoesOn calls (cond {A = Desk × Step} test this that)
-either calls test this that x y =
-    by_cases (λ v. GoesOn calls (cond {A = Desk × Step} v this that)) test (λ _. x) (λ _. y)
-
 module _ (shape : Shape) (desk : Desk) where
   settled_on : (call : WriterCall) (rows : List Row) → GoesOn (call ∷ []) (settled shape desk call rows)
   settled_on call rows =
-      either (call ∷ []) (nat_lt desk.fresh shape.slots) (taking_fresh shape desk call rows, Going)
-      (cond {A = Desk × Step} (nat_eq (length desk.retired) 0) (moved_to desk Idle, no_slot shape desk)
-      (moved_to desk (Searching call rows 0), Going)) (inr (refl, refl))
-      (either (call ∷ []) (nat_eq (length desk.retired) 0) (moved_to desk Idle, no_slot shape desk)
-      (moved_to desk (Searching call rows 0), Going) (inl refl) (inr (refl, refl)))
+      on_test (GoesOn (call ∷ [])) (nat_lt desk.fresh shape.slots) (λ _. inr (refl, refl))
+      (λ _. on_test (GoesOn (call ∷ [])) (nat_eq (length desk.retired) 0) (λ _. inl refl) (λ _. inr (refl, refl)))
 
   looked_on : (call : WriterCall) (word : ℕ) → GoesOn (call ∷ []) (looked shape desk call word)
   looked_on (Find key) word =
-      either (Find key ∷ []) (is_filled word) (moved_to desk (Reading (Find key) (slot_of word) []), Going)
-      (moved_to desk Idle, ended reply.Hole) (inr (refl, refl)) (inl refl)
+      on_test (GoesOn (Find key ∷ [])) (is_filled word) (λ _. inr (refl, refl)) (λ _. inl refl)
   looked_on (Fill key number rows) word =
-      either (Fill key number rows ∷ []) (is_filled word) (moved_to desk Idle, ended reply.Already)
-      (cond {A = Desk × Step} (has_ask word) (fill_asked shape desk (Fill key number rows) number rows (slot_of word))
-      (moved_to desk Idle, ended reply.NotAsked)) (inl refl)
-      (either (Fill key number rows ∷ []) (has_ask word)
-      (fill_asked shape desk (Fill key number rows) number rows (slot_of word))
-      (moved_to desk Idle, ended reply.NotAsked)
-      (either (Fill key number rows ∷ []) (nat_eq (slot_of word) number)
-      (settled shape desk (Fill key number rows) rows) (moved_to desk Idle, ended reply.Stale)
-      (settled_on (Fill key number rows) rows) (inl refl)) (inl refl))
+      let On = GoesOn (Fill key number rows ∷ []) in
+      on_test On (is_filled word) (λ _. inl refl)
+      (λ _. on_test On (has_ask word)
+      (λ _. on_test On (nat_eq (slot_of word) number) (λ _. settled_on (Fill key number rows) rows) (λ _. inl refl))
+      (λ _. inl refl))
   looked_on (Update key batch) word =
-      either (Update key batch ∷ []) (is_filled word)
-      (moved_to desk (Reading (Update key batch) (slot_of word) []), Going)
-      (moved_to desk Idle, ended reply.Dropped) (inr (refl, refl)) (inl refl)
+      on_test (GoesOn (Update key batch ∷ [])) (is_filled word) (λ _. inr (refl, refl)) (λ _. inl refl)
   looked_on (Replace key rows) word =
-      either (Replace key rows ∷ []) (is_filled word) (settled shape desk (Replace key rows) rows)
-      (moved_to desk Idle, ended reply.Dropped) (settled_on (Replace key rows) rows) (inl refl)
+      on_test (GoesOn (Replace key rows ∷ [])) (is_filled word) (λ _. settled_on (Replace key rows) rows)
+      (λ _. inl refl)
   looked_on (Evict key) word =
-      either (Evict key ∷ []) (is_filled word) (moved_to desk (Leaving key), Going)
-      (moved_to desk Idle, ended reply.Nothing) (inr (refl, refl)) (inl refl)
+      on_test (GoesOn (Evict key ∷ [])) (is_filled word) (λ _. inr (refl, refl)) (λ _. inl refl)
   looked_on (Cancel key) word =
-      either (Cancel key ∷ []) (is_filled word) (moved_to desk Idle, ended reply.Nothing)
-      (cond {A = Desk × Step} (has_ask word) (cancel_asked desk key (slot_of word))
-      (moved_to desk Idle, ended reply.Nothing)) (inl refl)
-      (either (Cancel key ∷ []) (has_ask word) (cancel_asked desk key (slot_of word))
-      (moved_to desk Idle, ended reply.Nothing)
-      (either (Cancel key ∷ []) (nat_lt (slot_of word) last_number) (moved_to desk (Withdrawing key), Going)
-      (moved_to desk Idle, ended reply.Worn) (inr (refl, refl)) (inl refl)) (inl refl))
+      let On = GoesOn (Cancel key ∷ []) in
+      on_test On (is_filled word) (λ _. inl refl)
+      (λ _. on_test On (has_ask word)
+      (λ _. on_test On (nat_lt (slot_of word) last_number) (λ _. inr (refl, refl)) (λ _. inl refl)) (λ _. inl refl))
 
   renewed_on : (call : WriterCall) (new : Result (List Row) ApplyFault)
       → GoesOn (call ∷ []) (renewed shape desk call new)
@@ -112,20 +90,16 @@ module _ (shape : Shape) (desk : Desk) where
       ⊎ (place ≡ Idle)
   went_on Idle found = inr refl
   went_on (Reading call slot got) found = inl (let read = got ++ found ∷ [] in
-      either (call ∷ []) (nat_eq (length read) (2 * slice_index read 0 + 1)) (decoded shape desk call (decode read))
-      (moved_to desk (Reading call slot read), Going) (decoded_on call (decode read)) (inr (refl, refl)))
+      on_test (GoesOn (call ∷ [])) (nat_eq (length read) (2 * slice_index read 0 + 1))
+      (λ _. decoded_on call (decode read)) (λ _. inr (refl, refl)))
   went_on (Leaving key) found = inl (inl refl)
   went_on (Withdrawing key) found = inl (inl refl)
   went_on (Searching call rows poll) found = inl
-      (either (call ∷ []) (same_count found (retired_at desk poll).arrivals)
-      (taking_retired desk call rows poll found, Going) (polls_on shape desk call rows poll) (inr (refl, refl))
-      (either (call ∷ []) (nat_lt (poll + 1) (length desk.retired))
-      (moved_to desk (Searching call rows (poll + 1)), Going)
-      (moved_to desk Idle, no_slot shape desk) (inr (refl, refl)) (inl refl)))
+      (on_test (GoesOn (call ∷ [])) (same_count found (retired_at desk poll).arrivals) (λ _. inr (refl, refl))
+      (λ _. on_test (GoesOn (call ∷ [])) (nat_lt (poll + 1) (length desk.retired)) (λ _. inr (refl, refl))
+      (λ _. inl refl)))
   went_on (Putting call rows slot departed index) found = inl
-      (either (call ∷ []) (nat_le index (2 * length rows))
-      (moved_to desk (Putting call rows slot departed (index + 1)), Going) (swapped desk found, ended reply.Done)
-      (inr (refl, refl)) (inl refl))
+      (on_test (GoesOn (call ∷ [])) (nat_le index (2 * length rows)) (λ _. inr (refl, refl)) (λ _. inl refl))
 
 -- an event tells nothing, or an entry of its own caller and call
 abbrev Tells : ℕ → List Call → List Entry → Type 0
@@ -155,9 +129,7 @@ tells_own state (Read reader index) = inl refl
 tells_own state (Depart reader) = inl refl
 tells_own state (Ask reader at) = tells_answer reader (model.Ask at) ask_reply (shown state at)
 tells_own state (FindAgain reader at) =
-    by_cases
-    (λ v. Tells reader (model.Find at ∷ [])
-    (cond {A = List Entry} v (answering reader (model.Find at) find_reply (shown state at)) []))
+    on_test (Tells reader (model.Find at ∷ []))
     (names_held (hold_of state reader) (found_by state (FindAgain reader at)))
     (λ _. tells_answer reader (model.Find at) find_reply (shown state at)) (λ _. inl refl)
 tells_own state (Start call) =

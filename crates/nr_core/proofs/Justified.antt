@@ -1,14 +1,13 @@
 -- A no-slot is justified.
-use Rattle.std.proofs.Common.{List, [], ap, arith, cond, false, get_or, length, map, nat_eq, refl, subst, sym, true, ℕ}
-use Rattle.std.proofs.Common.{◌*◌, ◌++◌, ◌+◌, ◌-◌, ◌<◌, ◌∙◌, ◌∷◌, ◌≡◌, ◌≤◌}
+use Rattle.std.proofs.Common.{[], List, ap, arith, cond, false, get_or, length, map, nat_eq, refl, subst, sym, ℕ, ◌*◌}
+use Rattle.std.proofs.Common.{◌++◌, ◌+◌, ◌-◌, ◌<◌, ◌∙◌, ◌∷◌, ◌≡◌, ◌≤◌}
 use Rattle.std.proofs.lemmas.Bool.{eqb-true, ltb-true}
 use Rattle.std.proofs.lemmas.List.{take_all}
 use Rattle.std.specs.Prelude.{Err, None, Ok, Option, Result, Some, nat_le}
 use Rattle.nr_model.specs.Histories.{Entry}
 use Rattle.nr_model.specs.Maps.{reply_at, state_of}
 use Rattle.nr_words.specs.KeyWords.{same_count}
-use Rattle.nr_words.specs.SetWords.{decode}
-use Rattle.nr_core.proofs.Choices.{by_cases}
+use Rattle.nr_core.proofs.Choices.{on_test}
 use Rattle.nr_core.proofs.Counting.{slots_are}
 use Rattle.nr_core.proofs.Guards.{guard, is_idle}
 use Rattle.nr_core.proofs.Histories.{replies_so}
@@ -27,7 +26,7 @@ use Rattle.nr_core.specs.Roles.{held, taken}
 use Rattle.nr_core.specs.Slots.{bound_of, content, departures}
 use Rattle.nr_core.specs.States.{Arrive, Ask, Depart, Event, FindAgain, Go, Read, Start, State, key_of, retired_at}
 use Rattle.nr_core.specs.Story.{Poll, Story, call_of, ending, map_after, poll_at, polls_after, polls_at, tell, told}
-use Rattle.nr_core.specs.Writer.{decoded, ended, looked, moved_to, put_on, swapped, went}
+use Rattle.nr_core.specs.Writer.{decoded, looked, put_on, went}
 use Rattle.nr_core.specs.declared.calls.NoSlot.{NoSlot}
 use Rattle.nr_core.specs.declared.calls.Refusal.{Refusal}
 use Rattle.nr_core.specs.declared.calls.Step.{Step}
@@ -146,12 +145,7 @@ go_ending state log polls is_core swept (Putting call rows slot departed index) 
     = (q : WriterCall) × (call ∷ [] ≡ q ∷ [])
     × Ending state log (Putting call rows slot departed index) polls q
     (put_on state.desk call rows slot departed index found) counts in
-    by_cases
-    (λ v. IsWithout counts
-    (cond {A = Desk × Step} v (moved_to state.desk (Putting call rows slot departed (index + 1)), Going)
-    (swapped state.desk found, ended reply.Done))
-    → Goal)
-    (nat_le index (2 * length rows))
+    on_test (λ (o : Desk × Step). IsWithout counts o → Goal) (nat_le index (2 * length rows))
     (λ _ e'. absurd (not_going counts e')) (λ _ e'. absurd (not_reply counts reply.Done e')) e
 go_ending state log polls is_core swept (Reading call s got) is counts e =
     let shape = state.shape in let words = state.words in let desk = state.desk in let map_now = map_after shape log in
@@ -160,16 +154,13 @@ go_ending state log polls is_core swept (Reading call s got) is counts e =
     = subst (AtPlace shape words map_now (held is_core.roles) desk.fresh desk.retired) is known.place in
     let got' : List ℕ = got ++ get_or words (content shape s (length got)) 0 ∷ [] in
     let none_polled : polls ≡ [] = subst (AtSweep state polls) is swept.sweep in
-    by_cases
-    (λ v.
-    let outcome
-    = cond {A = Desk × Step} v (decoded shape desk call (decode got'))
-    (moved_to desk (Reading call s got'), Going) in
-    (v ≡ true → length got' ≡ 2 * get_or got' 0 0 + 1) → IsWithout counts outcome
-    → (q : WriterCall) × (call ∷ [] ≡ q ∷ []) × Ending state log (Reading call s got) polls q outcome counts)
+    on_test
+    (λ (o : Desk × Step). IsWithout counts o
+    → (q : WriterCall) × (call ∷ [] ≡ q ∷ []) × Ending state log (Reading call s got) polls q o counts)
     (nat_eq (length got') (2 * get_or got' 0 0 + 1))
-    (λ _ whole e'.
-    let set_is = read_whole shape words is_core.roles log is_core.core (key_of call) s got p (whole refl) in
+    (λ last e'.
+    let whole = eqb-true (length got') (2 * get_or got' 0 0 + 1) last in
+    let set_is = read_whole shape words is_core.roles log is_core.core (key_of call) s got p whole in
     let n
     = decided_none shape desk counts call p.rows
     (subst (λ o. IsWithout counts (decoded shape desk call o)) set_is e') in (
@@ -183,8 +174,7 @@ go_ending state log polls is_core swept (Reading call s got) is counts e =
         polled = ap (map (λ (poll : Poll). poll.slot)) none_polled ∙ no_polls desk.retired n.2;
       },
     ))
-    (λ _ _ e'. absurd (not_going counts e'))
-    (eqb-true (length got') (2 * get_or got' 0 0 + 1)) e
+    (λ _ e'. absurd (not_going counts e')) e
 go_ending state log polls is_core swept (Searching call rows q) is counts e =
     let shape = state.shape in let words = state.words in let desk = state.desk in let map_now = map_after shape log in
     let known = is_core.core.knows 0 (Writer desk) is_core.fit.writer in

@@ -1,7 +1,7 @@
 -- Steps that learn how readers are: the writer compares them with its lists, a reader itself with what it was told of
 -- itself.
-use Rattle.std.proofs.Common.{List, [], ap, append-nil, arith, cond, get_or, inl, inr, map, refl, set, subst, suc, sym}
-use Rattle.std.proofs.Common.{zero, ℕ, ◌++◌, ◌<◌, ◌∙◌, ◌∷◌, ◌≡◌, ◌≤◌}
+use Rattle.std.proofs.Common.{[], List, ap, append-nil, arith, cond, get_or, inl, inr, map, refl, subst, suc, sym, zero}
+use Rattle.std.proofs.Common.{ℕ, ◌++◌, ◌<◌, ◌∙◌, ◌∷◌, ◌≡◌, ◌≤◌}
 use Rattle.std.proofs.lemmas.Bool.{lt-leb}
 use Rattle.std.specs.Prelude.{Some}
 use lib.ListN.{get_elem?}
@@ -36,12 +36,12 @@ use Rattle.nr_core.specs.Marked.{AllSince, CanMark, Desked, Once, Since}
 use Rattle.nr_core.specs.Exact.{Lists}
 use Rattle.nr_core.specs.MarkSteps.{ReaderLearns, WriterLearns}
 use Rattle.nr_core.proofs.ListPlaces.{at_maps, no_places, some_is}
-use Rattle.nr_core.proofs.PollMarks.{grip_in, same_caller}
+use Rattle.nr_core.proofs.Holders.{grip_in, same_caller}
 use Rattle.nr_core.proofs.PutNumbers.{nil_count, nil_number}
 use Rattle.nr_core.proofs.ReaderMarks.{reader_step, contents_loaded}
 use Rattle.nr_core.proofs.SwapMarks.{grips_it}
 use Rattle.nr_core.proofs.Tidy.{listed}
-use Rattle.nr_core.proofs.DeskMarks.{QuietEnd, desk_of, desk_stay, nothing_ends, writer_step}
+use Rattle.nr_core.proofs.DeskMarks.{desk_of, load_stays, none_end, writer_step}
 
 below_some : (f : ℕ → ℕ) (n : ℕ) → 0 < below f n → (k : ℕ) × (k < n) × (0 < f k)
 below_some f zero l = absurd (omega arith)
@@ -182,14 +182,11 @@ module _ {A : Type 0} (role : A → Role) (marks : A → Marks) where
         (WriterLearns shape (marks me) desk told)
     learns_writer desk was words callers log core m once at since after entries ans =
         let own = desk_of role marks shape words callers log id me desk m at was in
-        let words' = set words place (get_or words place 0) in
         let t = refreshed shape words callers log core once id me desk at was own told since in
         writer_step role marks shape id me (Load place) (WriterLearns shape (marks me) desk told) words callers log core
         m at desk desk was after entries (ans.0 ∙ was) (marks me) t.0 t.1 (λ place note here. inl here)
-        (desk_stay role marks shape words words' callers log entries desk desk (marks me) (marks me).polls own
-        (λ j _. ap (λ l. get_or l j 0) (set-get_or words place 0)) (subst (QuietEnd log) (sym ans.1) (nothing_ends log))
-        (λ s. omega arith)
-        own.noted own.sweep (λ s _ untouched. (untouched, contents_loaded shape words place s))) (
+        (load_stays role marks shape words callers log entries me place desk desk own (none_end log entries ans.1)
+        (λ s. omega arith) (λ s rest. rest) (marks me).polls (marks me).loads own.noted own.sweep) (
           refl,
           t.2,
           subst (λ (l : List Entry). Lists desk (marks me) shape (log ++ l)) (sym ans.1)

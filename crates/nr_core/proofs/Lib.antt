@@ -73,6 +73,7 @@ mod MarksSince
 mod TakenSlots
 mod DeskMarks
 mod SwapMarks
+mod Holders
 mod PollMarks
 mod HowOften
 mod Tidy

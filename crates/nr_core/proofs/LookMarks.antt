@@ -1,11 +1,10 @@
 -- The writer's steps that leave the words: its looks and its reads. A call that ends with no slot there has none
 -- retired either.
-use Rattle.std.proofs.Common.{inl, Bool, List, [], ap, append-nil, arith, cond, false, get_or, length, map, nat_eq}
-use Rattle.std.proofs.Common.{refl, set, subst, sym, ℕ, ◌*◌, ◌++◌, ◌+◌, ◌<◌, ◌∙◌, ◌∷◌, ◌≡◌, ◌≤◌}
+use Rattle.std.proofs.Common.{[], inl, Bool, List, ap, append-nil, arith, false, get_or, length, map, nat_eq, refl}
+use Rattle.std.proofs.Common.{subst, sym, ℕ, ◌*◌, ◌++◌, ◌+◌, ◌<◌, ◌∙◌, ◌∷◌, ◌≡◌, ◌≤◌}
 use Rattle.std.proofs.lemmas.Bool.{eqb-true}
 use Rattle.std.specs.Prelude.{Err, None, Ok, Option, Result, Some, nat_lt}
 use lib.ListN.{get_elem?}
-use lib.Seq.{set-get_or}
 use mathlib.Core.Option.{some, some-ne-none}
 use Rattle.nr_model.specs.Batches.{applied}
 use Rattle.nr_model.specs.Histories.{Entry, is_done}
@@ -16,7 +15,7 @@ use Rattle.nr_model.specs.declared.calls.Call.{Call}
 use Rattle.nr_model.specs.declared.rows.Row.{Row}
 use Rattle.nr_words.specs.KeyWords.{has_ask, is_filled, slot_of}
 use Rattle.nr_words.specs.SetWords.{decode}
-use Rattle.nr_core.proofs.Choices.{by_cases}
+use Rattle.nr_core.proofs.Choices.{on_test}
 use Rattle.nr_core.proofs.ReadThrough.{read_whole}
 use Rattle.nr_core.proofs.Without.{decided_none, look_none}
 use Rattle.nr_core.specs.Core.{AtPlace, Reads}
@@ -26,14 +25,13 @@ use Rattle.nr_core.specs.Slots.{content, bound_of}
 use Rattle.nr_core.specs.States.{key_of}
 use Rattle.nr_core.specs.Steps.{Looks}
 use Rattle.nr_core.specs.Story.{call_of, ending, entry, map_after}
-use Rattle.nr_core.specs.Writer.{decided, decoded, ended, looked, moved_to, no_slot, read_on, renewed, settled}
-use Rattle.nr_core.specs.Writer.{taking_fresh, cancel_asked, fill_asked}
+use Rattle.nr_core.specs.Writer.{decided, decoded, looked, moved_to, read_on, renewed, settled}
 use Rattle.nr_core.specs.declared.calls.NoSlot.{NoSlot}
 use Rattle.nr_core.specs.declared.calls.Step.{Step}
 use Rattle.nr_core.specs.declared.calls.Step.TheVariants.{Ended, Going}
 use Rattle.nr_core.specs.declared.calls.WriterCall.{WriterCall}
 use Rattle.nr_core.specs.declared.calls.WriterCall.TheVariants.{Cancel, Evict, Fill, Find, Replace, Update}
-use Rattle.nr_core.specs.declared.places.Place.TheVariants.{Idle, Leaving, Reading, Searching, Withdrawing}
+use Rattle.nr_core.specs.declared.places.Place.TheVariants.{Idle, Reading, Searching}
 use Rattle.nr_core.specs.declared.places.Retired.{Retired}
 use Rattle.nr_core.specs.declared.roles.Desk.{Desk}
 use Rattle.nr_core.specs.declared.roles.Role.{Role}
@@ -41,14 +39,13 @@ use Rattle.nr_core.specs.declared.roles.Role.TheVariants.{Writer}
 use Rattle.nr_core.specs.declared.shape.Shape.{Shape}
 use Rattle.nr_core.specs.declared.calls.WReply.TheVariants as writer
 use Rattle.nr_model.specs.declared.calls.Reply.TheVariants as reply
-use Rattle.nr_core.specs.Marks.{Marks, Past, with_polls}
+use Rattle.nr_core.specs.Marks.{Marks, Past}
 use Rattle.nr_core.specs.PollNotes.{AllHeld, NoRoom}
 use Rattle.nr_core.specs.Marked.{CanMark, HoldNoOthers, Since, Sweeping, Sweeps, Untouched}
 use Rattle.nr_core.specs.MarkSteps.{LooksMarks, ReadsOnMarks}
 use Rattle.nr_core.proofs.ListPlaces.{at_maps, inside, no_places}
 use Rattle.nr_core.proofs.PutNumbers.{quiet_count, quiet_number}
-use Rattle.nr_core.proofs.DeskMarks.{QuietEnd, Went, desk_of, desk_stay, no_room_left, nothing_ends, writer_step}
-use Rattle.nr_core.proofs.ReaderMarks.{contents_loaded}
+use Rattle.nr_core.proofs.DeskMarks.{QuietEnd, Went, desk_of, load_step, no_room_left, nothing_ends}
 
 -- whether a step puts a set
 abbrev step_puts : Step → Bool
@@ -92,72 +89,34 @@ module _ {A : Type 0} (role : A → Role) (marks : A → Marks) where
     none_now = none_hold callers (moved_to desk Idle)
 
     settled_calm : (call : WriterCall) (rows : List Row) → Calm callers desk (settled shape desk call rows)
-    settled_calm call rows = by_cases (λ b. Calm callers desk
-        (cond {A = Desk × Step} b (taking_fresh shape desk call rows, Going)
-        (cond {A = Desk × Step} (nat_eq (length desk.retired) 0) (moved_to desk Idle, no_slot shape desk)
-        (moved_to desk (Searching call rows 0), Going)))) (nat_lt desk.fresh shape.slots)
-        (λ _. (refl, tt, refl))
-        (λ _. by_cases (λ b. Calm callers desk (cond {A = Desk × Step} b (moved_to desk Idle, no_slot shape desk)
-        (moved_to desk (Searching call rows 0), Going))) (nat_eq (length desk.retired) 0) (λ _. (refl, none_now, refl))
-        (λ _. (
-          refl,
-          (
-            none_hold callers (moved_to desk (Searching call rows 0)),
-            λ _. no_notes callers (moved_to desk (Searching call rows 0)),
-          ),
-          refl,
-        )))
+    settled_calm call rows =
+        on_test (Calm callers desk) (nat_lt desk.fresh shape.slots) (λ _. (refl, tt, refl))
+        (λ _. on_test (Calm callers desk) (nat_eq (length desk.retired) 0) (λ _. (refl, none_now, refl))
+        (λ _.
+        let searches = moved_to desk (Searching call rows 0) in
+        (refl, (none_hold callers searches, λ _. no_notes callers searches), refl)))
 
     looked_calm : (call : WriterCall) (word : ℕ) → Calm callers desk (looked shape desk call word)
     looked_calm (Find k) word =
-        by_cases
-        (λ b. Calm callers desk
-        (cond {A = Desk × Step} b (moved_to desk (Reading (Find k) (slot_of word) []), Going)
-        (moved_to desk Idle, ended reply.Hole))) (is_filled word) (λ _. (refl, refl, refl))
+        on_test (Calm callers desk) (is_filled word) (λ _. (refl, refl, refl)) (λ _. (refl, none_now, refl))
+    looked_calm (Fill k number rows) word =
+        on_test (Calm callers desk) (is_filled word) (λ _. (refl, none_now, refl))
+        (λ _. on_test (Calm callers desk) (has_ask word)
+        (λ _. on_test (Calm callers desk) (nat_eq (slot_of word) number)
+        (λ _. settled_calm (Fill k number rows) rows) (λ _. (refl, none_now, refl)))
+        (λ _. (refl, none_now, refl)))
+    looked_calm (Update k batch) word =
+        on_test (Calm callers desk) (is_filled word) (λ _. (refl, refl, refl)) (λ _. (refl, none_now, refl))
+    looked_calm (Replace k rows) word =
+        on_test (Calm callers desk) (is_filled word) (λ _. settled_calm (Replace k rows) rows)
         (λ _. (refl, none_now, refl))
-    looked_calm (Fill k number rows) word = by_cases (λ b. Calm callers desk
-        (cond {A = Desk × Step} b (moved_to desk Idle, ended reply.Already)
-        (cond {A = Desk × Step} (has_ask word) (fill_asked shape desk (Fill k number rows) number rows (slot_of word))
-        (moved_to desk Idle, ended reply.NotAsked)))) (is_filled word) (λ _. (refl, none_now, refl))
-        (λ _. by_cases
-        (λ b. Calm callers desk
-        (cond {A = Desk × Step} b (fill_asked shape desk (Fill k number rows) number rows (slot_of word))
-        (moved_to desk Idle, ended reply.NotAsked)))
-        (has_ask word)
-        (λ _. by_cases (λ b. Calm callers desk (cond {A = Desk × Step} b (settled shape desk (Fill k number rows) rows)
-        (moved_to desk Idle, ended reply.Stale))) (nat_eq (slot_of word) number)
-        (λ _. settled_calm (Fill k number rows) rows)
-        (λ _. (refl, none_now, refl)))
-        (λ _. (refl, none_now, refl)))
-    looked_calm (Update k batch) word = by_cases (λ b. Calm callers desk
-        (cond {A = Desk × Step} b (moved_to desk (Reading (Update k batch) (slot_of word) []), Going)
-        (moved_to desk Idle, ended reply.Dropped)))
-        (is_filled word) (λ _. (refl, refl, refl)) (λ _. (refl, none_now, refl))
-    looked_calm (Replace k rows) word = by_cases (λ b. Calm callers desk
-        (cond {A = Desk × Step} b (settled shape desk (Replace k rows) rows) (moved_to desk Idle, ended reply.Dropped)))
-        (is_filled word)
-        (λ _. settled_calm (Replace k rows) rows) (λ _. (refl, none_now, refl))
     looked_calm (Evict k) word =
-        by_cases
-        (λ b. Calm callers desk
-        (cond {A = Desk × Step} b (moved_to desk (Leaving k), Going) (moved_to desk Idle, ended reply.Nothing)))
-        (is_filled word) (λ _. (refl, refl, refl)) (λ _. (refl, none_now, refl))
-    looked_calm (Cancel k) word = by_cases (λ b. Calm callers desk
-        (cond {A = Desk × Step} b (moved_to desk Idle, ended reply.Nothing)
-        (cond {A = Desk × Step} (has_ask word) (cancel_asked desk k (slot_of word))
-        (moved_to desk Idle, ended reply.Nothing))))
-        (is_filled word)
-        (λ _. (refl, none_now, refl))
-        (λ _. by_cases
-        (λ b. Calm callers desk
-        (cond {A = Desk × Step} b (cancel_asked desk k (slot_of word))
-        (moved_to desk Idle, ended reply.Nothing)))
-        (has_ask word)
-        (λ _. by_cases
-        (λ b. Calm callers desk
-        (cond {A = Desk × Step} b (moved_to desk (Withdrawing k), Going)
-        (moved_to desk Idle, ended reply.Worn)))
-        (nat_lt (slot_of word) last_number) (λ _. (refl, refl, refl)) (λ _. (refl, none_now, refl)))
+        on_test (Calm callers desk) (is_filled word) (λ _. (refl, refl, refl)) (λ _. (refl, none_now, refl))
+    looked_calm (Cancel k) word =
+        on_test (Calm callers desk) (is_filled word) (λ _. (refl, none_now, refl))
+        (λ _. on_test (Calm callers desk) (has_ask word)
+        (λ _. on_test (Calm callers desk) (nat_lt (slot_of word) last_number) (λ _. (refl, refl, refl))
+        (λ _. (refl, none_now, refl)))
         (λ _. (refl, none_now, refl)))
 
     renewed_calm : (call : WriterCall) (new : Result (List Row) ApplyFault)
@@ -178,10 +137,9 @@ module _ {A : Type 0} (role : A → Role) (marks : A → Marks) where
     decoded_calm call (Some rows) = decided_calm call rows
 
     read_calm : (call : WriterCall) (slot : ℕ) (got : List ℕ) → Calm callers desk (read_on shape desk call slot got)
-    read_calm call slot got = by_cases (λ b. Calm callers desk
-        (cond {A = Desk × Step} b (decoded shape desk call (decode got))
-        (moved_to desk (Reading call slot got), Going)))
-        (nat_eq (length got) (2 * get_or got 0 0 + 1)) (λ _. decoded_calm call (decode got)) (λ _. (refl, refl, refl))
+    read_calm call slot got =
+        on_test (Calm callers desk) (nat_eq (length got) (2 * get_or got 0 0 + 1)) (λ _. decoded_calm call (decode got))
+        (λ _. (refl, refl, refl))
 
 none_held : (retired : List Retired) → length retired ≡ 0 → AllHeld retired []
 none_held retired none =
@@ -203,18 +161,13 @@ module _ {A : Type 0} (role : A → Role) (marks : A → Marks) (shape : Shape) 
       (LooksMarks shape (marks me) desk call)
   looks_marked desk call idle near was words callers log core m once at since after entries ans =
       let k : ℕ = key_of call in let word : ℕ = get_or words k 0 in let o = looked shape desk call word in
-      let own = desk_of role marks shape words callers log id me desk m at was in
       let calm = looked_calm role marks shape callers desk call word in
       let there : get_elem? (map role callers) id ≡ some (Writer desk) = at_maps role callers id me at ∙ ap some was in
       let quiet : QuietEnd log entries = subst (QuietEnd log) (sym ans.1) (quiet_end log (call_of call) o.1 calm.2) in
-      writer_step role marks shape id me (Load k) (LooksMarks shape (marks me) desk call) words callers log core m at
-      desk o.0 was after entries ans.0
-      (with_polls (marks me) [])
-      [] (no_places (Since role marks callers)) (λ place note here. absurd (some-ne-none note (sym here)))
-      (desk_stay role marks shape words (set words k word) callers log entries desk o.0 (marks me) [] own
-      (λ i _. ap (λ l. get_or l i 0) (set-get_or words k 0)) quiet (λ s. let e = ap (retirements s) calm.0 in
-      omega arith) (no_places (Since role marks callers)) calm.1
-      (λ s _ _. (subst (Untouched s) (sym idle) tt, contents_loaded shape words k s))) (
+      load_step role marks shape words callers log entries me k desk o.0 id (LooksMarks shape (marks me) desk call) core
+      m at was after ans.0 quiet (λ s. let e = ap (retirements s) calm.0 in omega arith)
+      (λ s _. subst (Untouched s) (sym idle) tt) [] (marks me).loads (no_places (Since role marks callers))
+      (λ place note here. absurd (some-ne-none note (sym here))) calm.1 (
         refl,
         refl,
         λ t. let n = look_none shape desk t.0 call word t.1 in
@@ -247,9 +200,8 @@ module _ {A : Type 0} (role : A → Role) (marks : A → Marks) (shape : Shape) 
       = (shape.slots ≤ desk.fresh) × (length desk.retired ≡ 0)
       × (reply_at (bound_of shape) (call_of call) (state_of (map_after shape log) (key_of call))
       ≡ reply.Done) in
-      let left : (counts : NoSlot) → o.1 ≡ Ended (writer.NoSlot counts)
-      → NoneThere = λ counts. by_cases (λ b. (cond {A = Desk × Step} b (decoded shape desk call (decode got'))
-      (moved_to desk (Reading call slot got'), Going)).1 ≡ Ended (writer.NoSlot counts) → NoneThere)
+      let left : (counts : NoSlot) → o.1 ≡ Ended (writer.NoSlot counts) → NoneThere = λ counts.
+      on_test (λ (o : Desk × Step). o.1 ≡ Ended (writer.NoSlot counts) → NoneThere)
       (nat_eq (length got') (2 * get_or got' 0 0 + 1))
       (λ yes e.
       let whole
@@ -260,14 +212,11 @@ module _ {A : Type 0} (role : A → Role) (marks : A → Marks) (shape : Shape) 
       (subst (λ o. (decoded shape desk call o).1 ≡ Ended (writer.NoSlot counts)) whole e) in
       (n.1, n.2, ap (reply_at (bound_of shape) (call_of call)) p.full ∙ n.3 p.number))
       (λ _ e. absurd (let z : 0 ≡ 1 = ap without e in omega arith)) in
-      writer_step role marks shape id me (Load i) (ReadsOnMarks shape (marks me) desk call slot got) words callers log
-      core m at desk o.0 was after
-      entries ans.0 (marks me) [] (no_places (Since role marks callers)) (λ place note here. inl here)
-      (desk_stay role marks shape words (set words i word) callers log entries desk o.0 (marks me) (marks me).polls own
-      (λ j _. ap (λ l. get_or l j 0) (set-get_or words i 0)) quiet
-      (λ s. let e = ap (retirements s) calm.0 in omega arith) own.noted
-      (subst (λ l. Sweeping role marks callers o.0 l o.0.place) (sym none) calm.1)
-      (λ s _ _. (subst (Untouched s) (sym is_at) tt, contents_loaded shape words i s))) (
+      load_step role marks shape words callers log entries me i desk o.0 id
+      (ReadsOnMarks shape (marks me) desk call slot got) core m at was after ans.0 quiet
+      (λ s. let e = ap (retirements s) calm.0 in omega arith) (λ s _. subst (Untouched s) (sym is_at) tt)
+      (marks me).polls (marks me).loads own.noted (λ place note here. inl here)
+      (subst (λ l. Sweeping role marks callers o.0 l o.0.place) (sym none) calm.1) (
         refl,
         refl,
         λ t. let n = left t.0 t.1 in

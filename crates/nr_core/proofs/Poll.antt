@@ -1,6 +1,6 @@
 -- A poll of a retired slot: the slot is taken where nobody holds it, else the call polls the next, or ends with no
 -- slot. A search may poll any of them, and be given up.
-use Rattle.std.proofs.Common.{List, [], true, ◌<◌, ap, arith, cond, get_or, length, nat_eq, refl, set, subst, sym, ℕ}
+use Rattle.std.proofs.Common.{[], List, true, ◌<◌, ap, arith, cond, get_or, length, nat_eq, refl, set, subst, sym, ℕ}
 use Rattle.std.proofs.Common.{◌%◌, ◌++◌, ◌+◌, ◌^◌, ◌≡◌, ◌≤◌}
 use Rattle.std.proofs.lemmas.Bool.{eqb-true, ltb-true}
 use Rattle.std.specs.Prelude.{nat_lt}
@@ -9,7 +9,7 @@ use mathlib.Core.Option.{some}
 use Rattle.nr_model.specs.Histories.{Entry}
 use Rattle.nr_model.specs.declared.rows.Row.{Row}
 use Rattle.nr_words.specs.KeyWords.{same_count}
-use Rattle.nr_core.proofs.Choices.{by_cases}
+use Rattle.nr_core.proofs.Choices.{on_test}
 use Rattle.nr_core.proofs.Learn.{nothing}
 use Rattle.nr_core.proofs.OffKeys.{none_of}
 use Rattle.nr_core.specs.StepLaws.{GiveUpLaw, TryLaw}
@@ -21,9 +21,8 @@ use Rattle.nr_core.specs.Slots.{departures, unused}
 use Rattle.nr_core.specs.States.{no_retired, retired_at}
 use Rattle.nr_core.specs.Story.{call_of, ending, map_after}
 use Rattle.nr_core.specs.Sums.{only, total}
-use Rattle.nr_core.specs.Writer.{moved_to, no_slot, polled, taking_retired}
+use Rattle.nr_core.specs.Writer.{moved_to, polled, taking_retired}
 use Rattle.nr_core.specs.declared.calls.Step.{Step}
-use Rattle.nr_core.specs.declared.calls.Step.TheVariants.{Going}
 use Rattle.nr_core.specs.declared.calls.WriterCall.{WriterCall}
 use Rattle.nr_core.specs.declared.places.Place.{Place}
 use Rattle.nr_core.specs.declared.places.Place.TheVariants.{Idle, Searching}
@@ -113,22 +112,11 @@ polls shape words roles log core id desk there call rows poll is_at =
     → keeps u (Writer desk) ≡ unused u desk.fresh + total (λ (x : Retired). only u x.slot) desk.retired + 0
     = λ u.
     ap (λ (y : Place). unused u desk.fresh + total (λ (x : Retired). only u x.slot) desk.retired + taken u y) is_at in
-    let Taken : Desk = taking_retired desk call rows poll found in
-    let Rest : Desk × Step
-    = cond {A = Desk × Step} (nat_lt (poll + 1) (length desk.retired))
-    (moved_to desk (Searching call rows (poll + 1)), Going) (moved_to desk Idle, no_slot shape desk) in
-    by_cases
-    (λ v. Core shape (set words place found)
-    (set roles id (Writer (cond {A = Desk × Step} v (Taken, Going) Rest).0))
-    (log ++ ending (call_of call) (cond {A = Desk × Step} v (Taken, Going) Rest).1))
-    (nat_eq (found % 2 ^ 40) (z.arrivals % 2 ^ 40))
+    let Good : Desk × Step → Type 0
+    = λ o. Core shape (set words place found) (set roles id (Writer o.0)) (log ++ ending (call_of call) o.1) in
+    on_test Good (nat_eq (found % 2 ^ 40) (z.arrivals % 2 ^ 40))
     (λ yes. takes shape words roles log core id desk there call rows poll poll is_at at_p.1 yes)
-    (λ no. by_cases (λ v. Core shape (set words place found)
-    (set roles id (Writer (cond {A = Desk × Step} v (moved_to desk (Searching call rows (poll + 1)), Going)
-    (moved_to desk Idle, no_slot shape desk)).0)) (log ++ ending (call_of call)
-    (cond {A = Desk × Step} v (moved_to desk (Searching call rows (poll + 1)), Going)
-    (moved_to desk Idle, no_slot shape desk)).1))
-    (nat_lt (poll + 1) (length desk.retired))
+    (λ _. on_test Good (nat_lt (poll + 1) (length desk.retired))
     (λ more. goes_on shape words roles log core id desk there place (moved_to desk (Searching call rows (poll + 1)))
     (λ u. sym (keeps_so u))
     (record {
@@ -152,9 +140,7 @@ tries shape id desk call rows at poll is_at low words roles log core there =
       after = Writer (cond {A = Desk} (same_count found entry.arrivals) taken_it desk);
       entries = [];
       core =
-          by_cases
-          (λ b. Core shape (set words place found) (set roles id (Writer (cond {A = Desk} b taken_it desk)))
-          (log ++ []))
+          on_test (λ (d : Desk). Core shape (set words place found) (set roles id (Writer d)) (log ++ []))
           (same_count found entry.arrivals)
           (λ agrees. takes shape words roles log core id desk there call rows at poll is_at low agrees)
           (λ _. nothing shape words roles log id place (Writer desk) core there);

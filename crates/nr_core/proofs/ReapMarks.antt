@@ -1,18 +1,16 @@
 -- A poll by a reap: where it finds its slot held it notes a reader that holds it, and else the slot's set is reaped,
 -- which no key names and nobody holds.
-use Rattle.std.proofs.Common.{inl, inr, List, [], ap, arith, false, get_or, get_or-set_other, length, map, refl, set}
-use Rattle.std.proofs.Common.{subst, suc, sym, true, ℕ, ⊎_elim, ◌%◌, ◌++◌, ◌<◌, ◌^◌, ◌∙◌, ◌∷◌, ◌≡◌, ◌≢◌, ◌≤◌}
-use Rattle.std.proofs.lemmas.Bool.{eqb-false, eqb-true}
+use Rattle.std.proofs.Common.{[], inl, List, ap, arith, false, get_or, get_or-set_other, map, refl, set, subst, suc}
+use Rattle.std.proofs.Common.{sym, true, ℕ, ◌%◌, ◌++◌, ◌<◌, ◌^◌, ◌∙◌, ◌∷◌, ◌≡◌, ◌≢◌, ◌≤◌}
+use Rattle.std.proofs.lemmas.Bool.{eqb-true}
 use Rattle.std.specs.Prelude.{Some}
 use lib.ListN.{get_elem?}
 use lib.Seq.{set-get_or}
-use mathlib.Core.Logic.{dite}
 use mathlib.Core.Option.{some}
-use native.Mathlib.Decide.{ℕ_discrete}
 use Rattle.nr_model.specs.Histories.{Entry}
 use Rattle.nr_words.specs.KeyWords.{same_count}
 use Rattle.nr_core.proofs.Choices.{by_cases}
-use Rattle.nr_core.proofs.Sums.{below-term, only-le, only-same, some_term, term_le, total-le}
+use Rattle.nr_core.proofs.Sums.{below-term, only-le, only-same, term_le, total-le}
 use Rattle.nr_core.specs.Roles.{held, holds, is_reader}
 use Rattle.nr_core.specs.Steps.{LoadsWord}
 use Rattle.nr_core.specs.declared.operation.Operation.TheVariants.{Load}
@@ -26,15 +24,13 @@ use Rattle.nr_core.specs.declared.roles.Grip.TheVariants.{Nothing, On}
 use Rattle.nr_core.specs.declared.roles.Role.{Role}
 use Rattle.nr_core.specs.declared.roles.Role.TheVariants.{Note, Reader, Writer}
 use Rattle.nr_core.specs.declared.shape.Shape.{Shape}
-use Rattle.nr_core.specs.Marks.{Marks, Past, LoggedLoad, gripped, past, with_poll, with_polls, with_reaped, with_scan}
-use Rattle.nr_core.specs.Marked.{AllSince, CanMark, Desked, HoldNoOthers, IsPresent, KnowsMarks, NotesPresent}
-use Rattle.nr_core.specs.Marked.{Remarked, Since, Sweeping}
-use Rattle.nr_core.specs.MarkSteps.{NotedNowhereElse, ProbeTells, ProbesMarks}
-use Rattle.nr_core.proofs.ListPlaces.{at_last, at_maps, at_unmap, no_places}
-use Rattle.nr_core.proofs.MarksSince.{desk_loads, rests}
-use Rattle.nr_core.proofs.DeskMarks.{QuietEnd, desk_of, desk_stay, nothing_ends, writer_step}
-use Rattle.nr_core.proofs.PollMarks.{grip_in, reader_of, same_caller}
-use Rattle.nr_core.proofs.ReaderMarks.{contents_loaded}
+use Rattle.nr_core.specs.Marks.{Marks, Past, LoggedLoad, gripped, with_poll, with_polls, with_reaped, with_scan}
+use Rattle.nr_core.specs.Marked.{AllSince, CanMark, Desked, HoldNoOthers, NotesPresent, Remarked, Since, Sweeping}
+use Rattle.nr_core.specs.MarkSteps.{ProbeTells, ProbesMarks}
+use Rattle.nr_core.proofs.ListPlaces.{at_maps, no_places}
+use Rattle.nr_core.proofs.MarksSince.{rests}
+use Rattle.nr_core.proofs.DeskMarks.{desk_of, load_stays, none_end, writer_step}
+use Rattle.nr_core.proofs.Holders.{alone_more, holder_of, noted, present_more, since_more, tells_missed}
 use Rattle.nr_core.proofs.SwapMarks.{grips_it}
 
 holds_few : (s : ℕ) (r : Role) → holds s r ≤ is_reader r
@@ -83,7 +79,7 @@ module _ {A : Type 0} (role : A → Role) (marks : A → Marks) where
         let roles = map role callers in
         let own = desk_of role marks shape words callers log id me desk m at was in
         let there : get_elem? roles id ≡ some (Writer desk) = at_maps role callers id me at ∙ ap some was in
-        let mine = core.knows id (Writer desk) there in let count = (mine.retired poll entry here).1 in
+        let count = ((core.knows id (Writer desk) there).retired poll entry here).1 in
         let listed = term_le (λ (y : Retired). only slot y.slot) desk.retired poll entry here in
         let one = only-same slot in
         let alone = rests role marks shape words callers log id me desk slot core at was (omega arith) in
@@ -94,13 +90,9 @@ module _ {A : Type 0} (role : A → Role) (marks : A → Marks) where
         let stays : (polls : List Past) (loads : List LoggedLoad) → AllSince role marks callers polls
         → HoldNoOthers role marks callers desk polls
         → Desked role marks shape words' callers (log ++ entries) desk (with_scan (marks me) polls loads)
-        = λ polls loads since others. desk_loads role marks shape words' callers (log ++ entries) desk
-        (with_polls (marks me) polls) loads
-        (desk_stay role marks shape words words' callers log entries desk desk (marks me) polls own
-        (λ j _. ap (λ l. get_or l j 0) (set-get_or words i 0)) (subst (QuietEnd log) (sym ans.1) (nothing_ends log))
-        (λ s. omega arith) since
-        (subst (Sweeping role marks callers desk polls) (sym idle) others)
-        (λ s _ untouched. (untouched, contents_loaded shape words i s))) in
+        = λ polls loads since others. load_stays role marks shape words callers log entries me i desk desk own
+        (none_end log entries ans.1) (λ s. omega arith) (λ s rest. rest) polls loads since
+        (subst (Sweeping role marks callers desk polls) (sym idle) others) in
         let finish : (now : Marks) → NotesPresent role marks callers (marks me).polls now.polls
         → Desked role marks shape words' callers (log ++ entries) desk now
         → tells word after (log ++ entries) now [] → Goal
@@ -135,48 +127,17 @@ module _ {A : Type 0} (role : A → Role) (marks : A → Marks) where
               (sym hit) refl,
         ))
         (λ _ miss.
-        let differs : word % 2 ^ 40 ≢ entry.arrivals % 2 ^ 40
-        = eqb-false (word % 2 ^ 40) (entry.arrivals % 2 ^ 40) miss in
-        let someone : 0 < held roles slot
-        = dite (ℕ_discrete (held roles slot) 0) (λ z. absurd (differs (omega arith))) (λ nz. omega arith) in
-        let f = some_term (holds slot) roles someone in
-        let g = at_unmap role callers f.0 f.1 f.2 in
-        let o = reader_of slot f.1 f.3 in
-        let c : ℕ = o.0 in let y : Grip = o.1 in let u : A = g.0 in let reads : role u ≡ Reader c y = g.2 ∙ o.2 in
-        let note : Past = past c y (marks u) in let polls = (marks me).polls ++ note ∷ [] in
-        let since : AllSince role marks callers polls
-        = λ n e there'. ⊎_elim (own.noted n e)
-        (λ (z : (n ≡ length (marks me).polls) × (note ≡ e)). subst (Since role marks callers) z.1
-        (record {
-          place = f.0;
-          who = u;
-          there = g.1;
-          grip = y;
-          is = reads;
-          least = omega arith;
-          same = λ _. (refl, refl);
-        }))
-        (at_last (marks me).polls note e n there') in
-        let present : NotesPresent role marks callers (marks me).polls polls = λ n e there'. ⊎_elim inl
-        (λ (z : (n ≡ length (marks me).polls) × (note ≡ e)). inr
-        (subst (IsPresent role marks callers) z.1 (f.0, u, y, g.1, reads, refl)))
-        (at_last (marks me).polls note e n there') in
-        let range = subst (λ b. KnowsMarks role marks shape words callers log b (marks u)) reads (m.each f.0 u g.1) in
-        let elsewhere : NotedNowhereElse (marks me).polls note = λ n e there' same_reader.
-        others n e there' f.0 slot u y g.1 (reads ∙ ap (λ (b : ℕ). Reader b y) (sym same_reader)) o.3 (omega arith)
-        ∙ sym o.3 in
-        let no_others : HoldNoOthers role marks callers desk polls
-        = λ n e there' place s who grip is_there is on retired. ⊎_elim
-        (λ (z : get_elem? (marks me).polls n ≡ some e). others n e z place s who grip is_there is on retired)
-        (λ (z : (n ≡ length (marks me).polls) × (note ≡ e)).
-        let is' : role who ≡ Reader c grip = is ∙ ap (λ (b : Past). Reader b.reader grip) (sym z.1) in
-        let uw = same_caller role marks callers once f.0 place c u who y grip g.1 is_there reads is' in
-        ap (λ (b : Past). b.slot) (sym z.1) ∙ ap gripped (ap grip_in (sym reads ∙ ap role uw ∙ is')) ∙ on)
-        (at_last (marks me).polls note e n there') in
-        finish (with_polls (with_poll (marks me) slot false) polls) present
-        (stays polls (with_poll (marks me) slot false).loads since no_others) (
+        let held = holder_of role marks callers slot word entry.arrivals count miss in
+        let reader = held.0 in
+        let polls = (marks me).polls ++ noted role marks callers reader ∷ [] in
+        finish (with_polls (with_poll (marks me) slot false) polls)
+        (present_more role marks callers reader (marks me).polls (marks me).polls (λ n e there'. inl there'))
+        (stays polls (with_poll (marks me) slot false).loads
+        (since_more role marks callers reader (marks me).polls own.noted)
+        (alone_more role marks callers reader (marks me).polls once desk others)) (
           refl,
           subst (λ b. ProbeTells b shape slot (marks me) (with_polls (with_poll (marks me) slot false) polls))
-              (sym miss) (note, refl, o.3, range.0, range.1, elsewhere),
+              (sym miss) (tells_missed role marks callers shape words log (marks me) desk m reader slot held.1 others
+              (omega arith)),
         ))
         refl

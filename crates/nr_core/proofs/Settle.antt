@@ -1,6 +1,6 @@
 -- The writer's steps that leave all words: the call goes on, takes a slot or has none (settles), or ends with a reply
 -- (ends).
-use Rattle.std.proofs.Common.{List, [], ap, append-nil, arith, cond, get_or, length, map, nat_eq, refl, set, subst, sym}
+use Rattle.std.proofs.Common.{[], List, ap, append-nil, arith, cond, get_or, length, map, nat_eq, refl, set, subst, sym}
 use Rattle.std.proofs.Common.{ℕ, ◌++◌, ◌+◌, ◌<◌, ◌∙◌, ◌∷◌, ◌≡◌, ◌≢◌, ◌≤◌}
 use Rattle.std.proofs.lemmas.Bool.{eqb-false, lt-leb, ltb-false, ltb-true}
 use Rattle.std.specs.Prelude.{nat_lt}
@@ -13,7 +13,7 @@ use Rattle.nr_model.specs.Maps.{PartialMap, call_key, reply_at, state_after, sta
 use Rattle.nr_model.specs.declared.calls.Call.{Call}
 use Rattle.nr_model.specs.declared.calls.Reply.{Reply}
 use Rattle.nr_model.specs.declared.rows.Row.{Row}
-use Rattle.nr_core.proofs.Choices.{by_cases}
+use Rattle.nr_core.proofs.Choices.{on_test}
 use Rattle.nr_core.proofs.DeskFrames.{desk_step}
 use Rattle.nr_core.proofs.Frames.{unused-free}
 use Rattle.nr_core.proofs.Histories.{legal-more, replies_so, state_other, state_same}
@@ -25,12 +25,12 @@ use Rattle.nr_core.specs.Slots.{bound_of, unused}
 use Rattle.nr_core.specs.States.{key_of}
 use Rattle.nr_core.specs.Story.{call_of, ending, entry, map_after, opening_map}
 use Rattle.nr_core.specs.Sums.{only}
-use Rattle.nr_core.specs.Writer.{moved_to, no_slot, settled, taking_fresh}
+use Rattle.nr_core.specs.Writer.{moved_to, settled}
 use Rattle.nr_core.specs.declared.calls.Step.{Step}
 use Rattle.nr_core.specs.declared.calls.Step.TheVariants.{Ended, Going}
 use Rattle.nr_core.specs.declared.calls.WriterCall.{WriterCall}
 use Rattle.nr_core.specs.declared.calls.WriterCall.TheVariants.{Cancel, Evict, Fill, Find, Replace, Update}
-use Rattle.nr_core.specs.declared.places.Place.TheVariants.{Idle, Searching}
+use Rattle.nr_core.specs.declared.places.Place.TheVariants.{Idle}
 use Rattle.nr_core.specs.declared.roles.Desk.{Desk}
 use Rattle.nr_core.specs.declared.roles.Role.{Role}
 use Rattle.nr_core.specs.declared.roles.Role.TheVariants.{Writer}
@@ -76,11 +76,8 @@ module _ (shape : Shape) (words : List ℕ) (map : PartialMap) (hold : ℕ → �
     (rows : List Row) where
   settle_desk : AtDesk shape words map hold (moved_to desk Idle) → Wants shape words map hold call rows
       → AtDesk shape words map hold (settled shape desk call rows).0
-  settle_desk t wants = by_cases (λ v. AtDesk shape words map hold (cond {A = Desk × Step} v
-      (taking_fresh shape desk call rows, Going)
-      (cond {A = Desk × Step} (nat_eq (length desk.retired) 0) (moved_to desk Idle, no_slot shape desk)
-      (moved_to desk (Searching call rows 0), Going))).0)
-      (nat_lt desk.fresh shape.slots)
+  settle_desk t wants =
+      on_test (λ (o : Desk × Step). AtDesk shape words map hold o.0) (nat_lt desk.fresh shape.slots)
       (λ yes.
       let l : desk.fresh < shape.slots = ltb-true desk.fresh shape.slots yes in
       let f = t.free desk.fresh (omega arith) l in
@@ -100,9 +97,7 @@ module _ (shape : Shape) (words : List ℕ) (map : PartialMap) (hold : ℕ → �
         numbers = t.numbers;
       })
       (λ no. let full : shape.slots ≤ desk.fresh = ltb-false desk.fresh shape.slots no in
-      by_cases (λ v. AtDesk shape words map hold (cond {A = Desk × Step} v (moved_to desk Idle, no_slot shape desk)
-      (moved_to desk (Searching call rows 0), Going)).0) (nat_eq (length desk.retired) 0)
-      (λ _. t)
+      on_test (λ (o : Desk × Step). AtDesk shape words map hold o.0) (nat_eq (length desk.retired) 0) (λ _. t)
       (λ some_there.
       let n : length desk.retired ≢ 0 = eqb-false (length desk.retired) 0 some_there in
       record {
@@ -114,32 +109,16 @@ module _ (shape : Shape) (words : List ℕ) (map : PartialMap) (hold : ℕ → �
       }))
 
   settle_keeps : (s : ℕ) → keeps s (Writer (settled shape desk call rows).0) ≡ keeps s (Writer (moved_to desk Idle))
-  settle_keeps s = by_cases (λ v. keeps s (Writer (cond {A = Desk × Step} v
-      (taking_fresh shape desk call rows, Going)
-      (cond {A = Desk × Step} (nat_eq (length desk.retired) 0) (moved_to desk Idle, no_slot shape desk)
-      (moved_to desk (Searching call rows 0), Going))).0)
-      ≡ keeps s (Writer (moved_to desk Idle)))
-      (nat_lt desk.fresh shape.slots)
-      (λ yes. let u = unused-next s desk.fresh in omega arith)
-      (λ no. by_cases (λ v. keeps s (Writer (cond {A = Desk × Step} v (moved_to desk Idle, no_slot shape desk)
-      (moved_to desk (Searching call rows 0), Going)).0) ≡ keeps s (Writer (moved_to desk Idle)))
-      (nat_eq (length desk.retired) 0) (λ _. refl)
-      (λ _. refl))
+  settle_keeps s =
+      let Keeps : Desk × Step → Type 0 = λ o. keeps s (Writer o.0) ≡ keeps s (Writer (moved_to desk Idle)) in
+      on_test Keeps (nat_lt desk.fresh shape.slots) (λ _. let u = unused-next s desk.fresh in omega arith)
+      (λ _. on_test Keeps (nat_eq (length desk.retired) 0) (λ _. refl) (λ _. refl))
 
   settle_quiet : (c : Call) → ending c (settled shape desk call rows).1 ≡ []
-  settle_quiet c = by_cases (λ v. ending c (cond {A = Desk × Step} v
-      (taking_fresh shape desk call rows, Going)
-      (cond {A = Desk × Step} (nat_eq (length desk.retired) 0) (moved_to desk Idle, no_slot shape desk)
-      (moved_to desk (Searching call rows 0), Going))).1
-      ≡ [])
-      (nat_lt desk.fresh shape.slots)
-      (λ yes. refl)
-      (λ no. by_cases
-      (λ v. ending c
-      (cond {A = Desk × Step} v (moved_to desk Idle, no_slot shape desk)
-      (moved_to desk (Searching call rows 0), Going)).1
-      ≡ [])
-      (nat_eq (length desk.retired) 0) (λ _. refl) (λ _. refl))
+  settle_quiet c =
+      let Quiet : Desk × Step → Type 0 = λ o. ending c o.1 ≡ [] in
+      on_test Quiet (nat_lt desk.fresh shape.slots) (λ _. refl)
+      (λ _. on_test Quiet (nat_eq (length desk.retired) 0) (λ _. refl) (λ _. refl))
 
 module _ (shape : Shape) (words : List ℕ) (roles : List Role) (log : List Entry) (core : Core shape words roles log)
     (id : ℕ) (desk : Desk) (there : get_elem? roles id ≡ some (Writer desk)) (place : ℕ) where

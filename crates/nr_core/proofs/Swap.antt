@@ -1,5 +1,5 @@
 -- Another word is swapped in for a key's word, and the slot that it named is retired.
-use Rattle.std.proofs.Common.{List, [], ap, append-nil, arith, cond, get_or, get_or-set_other, inl, inr, set, subst}
+use Rattle.std.proofs.Common.{[], List, ap, append-nil, arith, cond, get_or, get_or-set_other, inl, inr, set, subst}
 use Rattle.std.proofs.Common.{suc, sym, ℕ, ⊎_elim, ◌%◌, ◌++◌, ◌+◌, ◌<◌, ◌^◌, ◌∙◌, ◌∷◌, ◌≡◌, ◌⊎◌}
 use lib.ListN.{get_elem?}
 use mathlib.Core.Option.{some}
@@ -26,7 +26,7 @@ use Rattle.nr_core.specs.declared.roles.Role.{Role}
 use Rattle.nr_core.specs.declared.roles.Role.TheVariants.{Writer}
 use Rattle.nr_core.specs.declared.shape.Shape.{Shape}
 
-unnamed_sum : (s w : ℕ) → total (λ (x : Retired). only s x.slot) (unnamed w) ≡ only (suc s) (name_number w)
+pub unnamed_sum : (s w : ℕ) → total (λ (x : Retired). only s x.slot) (unnamed w) ≡ only (suc s) (name_number w)
 unnamed_sum s w =
     by_cases
     (λ v. total (λ (x : Retired). only s x.slot)

@@ -1,5 +1,5 @@
 -- The writer puts a word, publishes, unpublishes and withdraws: a published slot has the next put number.
-use Rattle.std.proofs.Common.{Bool, zero, List, [], ap, arith, cond, eq-eqb, false, get_or, get_or-set_other}
+use Rattle.std.proofs.Common.{[], Bool, zero, List, ap, arith, cond, eq-eqb, false, get_or, get_or-set_other}
 use Rattle.std.proofs.Common.{get_or-set_same, inl, inr, length-set, map, ne_eqb, refl, set, subst, suc, sym, true, ℕ}
 use Rattle.std.proofs.Common.{⊎_elim, ◌++◌, ◌+◌, ◌<◌, ◌∙◌, ◌∷◌, ◌≡◌, ◌≢◌, ◌⊎◌, ◌≤◌, ◌*◌, length}
 use Rattle.std.specs.Prelude.{Some}
@@ -10,22 +10,20 @@ use native.Mathlib.Decide.{ℕ_discrete}
 use Rattle.nr_model.specs.Histories.{Entry}
 use Rattle.nr_model.specs.Maps.{call_key}
 use Rattle.nr_model.specs.declared.rows.Row.{Row}
-use Rattle.nr_words.specs.KeyWords.{arrivals_of, hole_word, is_filled, slot_of}
+use Rattle.nr_words.specs.KeyWords.{hole_word, naming}
 use Rattle.nr_words.specs.SetWords.{encode}
-use Rattle.nr_core.proofs.Choices.{by_cases}
 use Rattle.nr_core.proofs.Counting.{retired_once}
 use Rattle.nr_core.proofs.KeyWords.{name_low, naming_is}
 use Rattle.nr_core.proofs.Settle.{key_same}
 use Rattle.nr_core.proofs.Sums.{below-change, below-same, below-term, only-other, only-same, only-suc, only-zero}
 use Rattle.nr_core.proofs.Sums.{term_le, total-append}
 use Rattle.nr_core.specs.Core.{AtPlace, Puts, ShowsState, Withdraws}
-use Rattle.nr_core.specs.Roles.{grips, held, holds, retirements, taken}
+use Rattle.nr_core.specs.Roles.{grips, held, holds, taken}
 use Rattle.nr_core.specs.declared.operation.Operation.TheVariants.{Store, Swap}
-use Rattle.nr_words.specs.KeyWords.{naming}
 use Rattle.nr_core.specs.Slots.{content, name_number, SlotSpells}
 use Rattle.nr_core.specs.States.{key_of, number_at}
 use Rattle.nr_core.specs.Story.{call_of, entry, map_after}
-use Rattle.nr_core.specs.Sums.{only, total}
+use Rattle.nr_core.specs.Sums.{only}
 use Rattle.nr_core.specs.Writer.{moved_to, swapped, unnamed, withdrawn}
 use Rattle.nr_core.specs.declared.calls.WriterCall.{WriterCall}
 use Rattle.nr_core.specs.declared.places.Place.TheVariants.{Leaving, Putting, Withdrawing}
@@ -50,21 +48,9 @@ use Rattle.nr_core.proofs.LookMarks.{none_hold}
 use Rattle.nr_core.proofs.DeskMarks.{QuietEnd, desk_keep, desk_of, desk_stay, nothing_ends, writer_step}
 use Rattle.nr_core.proofs.MarksSince.{SameContents}
 use Rattle.nr_core.proofs.Frames.{spells_more}
+use Rattle.nr_core.proofs.Swap.{unnamed_sum}
 use Rattle.nr_core.proofs.WordPlaces.{same_content}
 use Rattle.nr_words.proofs.SetWordLemmas.{length-row_words}
-
-unnamed_sum : (s w : ℕ) → retirements s (unnamed w) ≡ only (suc s) (name_number w)
-unnamed_sum s w =
-    by_cases
-    (λ b. total (λ (x : Retired). only s x.slot)
-    (cond b (record { slot = slot_of w; arrivals = arrivals_of w } ∷ []) [])
-    ≡ only (suc s) (cond b (slot_of w + 1) 0))
-    (is_filled w)
-    (λ _. omega (arith, only-suc s (slot_of w), ap (only (suc s)) (plus_one (slot_of w))))
-    (λ _. omega (arith, only-zero s))
-  where
-    plus_one : (n : ℕ) → n + 1 ≡ suc n
-    plus_one n = omega arith
 
 -- who holds a slot is counted there
 pub grips_it : (grip : Grip) (slot : ℕ) → gripped grip ≡ Some slot → grips slot grip ≡ 1

@@ -3,7 +3,7 @@
 -- reader holds the noted slot, or none or a named one (keeps_notes);
 -- the next slot that is found held is another, and so is its reader (poll_noted, sweep_more). Every event keeps this
 -- (swept_event).
-use Rattle.std.proofs.Common.{List, [], ap, arith, cond, get_or, get_or-set_other, get_or-set_same, inl, inr, length}
+use Rattle.std.proofs.Common.{[], List, ap, arith, cond, get_or, get_or-set_other, get_or-set_same, inl, inr, length}
 use Rattle.std.proofs.Common.{map, nat_eq, refl, set, subst, suc, sym, take, zero, ℕ, ⊎_elim, ◌%◌, ◌*◌, ◌++◌, ◌+◌, ◌-◌}
 use Rattle.std.proofs.Common.{◌/◌, ◌<◌, ◌^◌, ◌∙◌, ◌∷◌, ◌≡◌, ◌≢◌, ◌≤◌, ◌⊎◌}
 use Rattle.std.proofs.lemmas.Bool.{eqb-false, eqb-true, ltb-true}
@@ -21,9 +21,10 @@ use Rattle.nr_model.specs.declared.batches.ApplyFault.{ApplyFault}
 use Rattle.nr_model.specs.declared.rows.Row.{Row}
 use Rattle.nr_words.specs.KeyWords.{has_ask, is_filled, slot_of}
 use Rattle.nr_core.proofs.Bound.{Distinct, Noted, few_notes, noted_poll, noted_step}
-use Rattle.nr_core.proofs.Choices.{by_cases}
+use Rattle.nr_core.proofs.Choices.{by_cases, on_test}
 use Rattle.nr_core.proofs.Guards.{both, guard, reader_in}
 use Rattle.nr_core.proofs.KeyWords.{name_high}
+use Rattle.nr_core.proofs.ListPlaces.{at_last}
 use Rattle.nr_core.proofs.OnKey.{in_range}
 use Rattle.nr_core.proofs.Poll.{polls}
 use Rattle.nr_core.proofs.StateRoles.{IsCoreState, state_sums}
@@ -39,8 +40,8 @@ use Rattle.nr_core.specs.States.{Arrive, Ask, Depart, Event, FindAgain, Go, Read
 use Rattle.nr_core.specs.States.{no_retired, retired_at, slot_in}
 use Rattle.nr_core.specs.Story.{Poll, holders_from, is_on, map_after, poll_at, polls_after}
 use Rattle.nr_core.specs.Sums.{only, total}
-use Rattle.nr_core.specs.Writer.{cancel_asked, decided, decoded, ended, fill_asked, looked, moved_to, no_slot}
-use Rattle.nr_core.specs.Writer.{read_on, renewed, settled, swapped, taking_fresh, taking_retired, went}
+use Rattle.nr_core.specs.Writer.{decided, decoded, looked, moved_to, no_slot, read_on, renewed, settled, taking_retired}
+use Rattle.nr_core.specs.Writer.{went}
 use Rattle.nr_words.specs.SetWords.{decode}
 use Rattle.nr_core.specs.declared.operation.Operation.{Operation}
 use Rattle.nr_core.specs.declared.calls.Step.{Step}
@@ -186,15 +187,6 @@ poll_noted state log polls p c is_core within near n here =
     absurd (omega (arith, is_core.core.places s inside, (state_sums state is_core.roles is_core.fit s).1)))
     (λ u more. one_hold (get_or state.holds c hold.Nothing) u s more here)
 
-at_end : {A : Type 0} (l : List A) (a b : A) (j : ℕ) → get_elem? (l ++ a ∷ []) j ≡ some b
-    → (get_elem? l j ≡ some b) ⊎ ((j ≡ length l) × (a ≡ b))
-at_end [] a b zero e = inr (refl, some-injective a b e)
-at_end [] a b (suc j) e = absurd (some-ne-none b (sym e))
-at_end (x ∷ xs) a b zero e = inl e
-at_end (x ∷ xs) a b (suc j) e =
-    ⊎_elim {A = get_elem? xs j ≡ some b} {B = (j ≡ length xs) × (a ≡ b)} (λ t. inl t) (λ t. inr (ap suc t.0, t.1))
-    (at_end xs a b j e)
-
 -- the slots that were polled are the first of the retired ones
 pub polled_slots : (state : State) (polls : List Poll) (p : ℕ) → p < length state.desk.retired
     → map (λ (x : Poll). x.slot) polls ≡ map (λ (x : Retired). x.slot) (take p state.desk.retired)
@@ -233,7 +225,7 @@ sweep_more state log polls p c is_core within near n here desk same =
       ap (λ (j : ℕ). (get_or state.desk.retired j no_retired).slot) (new.0 ∙ size)
           ∙ ap (λ (x : ℕ × ℕ). x.0) new.1,
     ))
-    (at_end n.notes (s, c) (u, b) i e) in
+    (at_last n.notes (s, c) (u, b) i e) in
     let plus_one : p + 1 ≡ suc p = omega arith in (
       record {
         notes = notes';
@@ -301,65 +293,26 @@ module _ (shape : Shape) (words : List ℕ) (hs : List Hold) (made : List Operat
   settle_good : (desk : Desk) (call : WriterCall) (rows : List Row) (polls : List Poll) → polls ≡ []
       → Good polls (settled shape desk call rows)
   settle_good desk call rows polls none =
-      by_cases (λ v. Good polls (cond {A = Desk × Step} v (taking_fresh shape desk call rows, Going)
-      (cond {A = Desk × Step} (nat_eq (length desk.retired) 0) (moved_to desk Idle, no_slot shape desk)
-      (moved_to desk (Searching call rows 0), Going))))
-      (nat_lt desk.fresh shape.slots) (λ _. tt)
-      (λ _. by_cases (λ v. Good polls (cond {A = Desk × Step} v (moved_to desk Idle, no_slot shape desk)
-      (moved_to desk (Searching call rows 0), Going))) (nat_eq (length desk.retired) 0) (λ _. tt)
+      on_test (Good polls) (nat_lt desk.fresh shape.slots) (λ _. tt)
+      (λ _. on_test (Good polls) (nat_eq (length desk.retired) 0) (λ _. tt)
       (λ _. no_notes (moved_to desk (Searching call rows 0)) polls none))
 
   look_good : (desk : Desk) (call : WriterCall) (w : ℕ) → Good [] (looked shape desk call w)
-  look_good desk (Find k) w =
-      by_cases
-      (λ v. Good
-      [] (cond {A = Desk × Step} v (moved_to desk (Reading (Find k) (slot_of w) []), Going)
-      (moved_to desk Idle, ended reply.Hole)))
-      (is_filled w) (λ _. refl) (λ _. tt)
-  look_good desk (Update k b) w =
-      by_cases
-      (λ v. Good
-      [] (cond {A = Desk × Step} v (moved_to desk (Reading (Update k b) (slot_of w) []), Going)
-      (moved_to desk Idle, ended reply.Dropped)))
-      (is_filled w) (λ _. refl) (λ _. tt)
-  look_good desk (Replace k rows) w = by_cases (λ v. Good []
-      (cond {A = Desk × Step} v (settled shape desk (Replace k rows) rows) (moved_to desk Idle, ended reply.Dropped)))
-      (is_filled w)
-      (λ _. settle_good desk (Replace k rows) rows [] refl) (λ _. tt)
-  look_good desk (Evict k) w =
-      by_cases
-      (λ v. Good
-      [] (cond {A = Desk × Step} v (moved_to desk (Leaving k), Going)
-      (moved_to desk Idle, ended reply.Nothing)))
-      (is_filled w) (λ _. tt) (λ _. tt)
+  look_good desk (Find k) w = on_test (Good []) (is_filled w) (λ _. refl) (λ _. tt)
+  look_good desk (Update k b) w = on_test (Good []) (is_filled w) (λ _. refl) (λ _. tt)
+  look_good desk (Replace k rows) w =
+      on_test (Good []) (is_filled w) (λ _. settle_good desk (Replace k rows) rows [] refl) (λ _. tt)
+  look_good desk (Evict k) w = on_test (Good []) (is_filled w) (λ _. tt) (λ _. tt)
   look_good desk (Fill k number rows) w =
-      let call = Fill k number rows in
-      let F : Desk × Step = fill_asked shape desk call number rows (slot_of w) in
-      by_cases
-      (λ v. Good
-      [] (cond {A = Desk × Step} v (moved_to desk Idle, ended reply.Already)
-      (cond {A = Desk × Step} (has_ask w) F (moved_to desk Idle, ended reply.NotAsked))))
-      (is_filled w) (λ _. tt)
-      (λ _. by_cases (λ v. Good [] (cond {A = Desk × Step} v F (moved_to desk Idle, ended reply.NotAsked))) (has_ask w)
-      (λ _. by_cases
-      (λ v. Good
-      [] (cond {A = Desk × Step} v (settled shape desk call rows) (moved_to desk Idle, ended reply.Stale)))
-      (nat_eq (slot_of w) number) (λ _. settle_good desk call rows [] refl) (λ _. tt))
+      on_test (Good []) (is_filled w) (λ _. tt)
+      (λ _. on_test (Good []) (has_ask w)
+      (λ _. on_test (Good []) (nat_eq (slot_of w) number)
+      (λ _. settle_good desk (Fill k number rows) rows [] refl) (λ _. tt))
       (λ _. tt))
   look_good desk (Cancel k) w =
-      by_cases (λ v. Good [] (cond {A = Desk × Step} v (moved_to desk Idle, ended reply.Nothing)
-      (cond {A = Desk × Step} (has_ask w) (cancel_asked desk k (slot_of w)) (moved_to desk Idle, ended reply.Nothing))))
-      (is_filled w) (λ _. tt)
-      (λ _. by_cases
-      (λ v. Good
-      [] (cond {A = Desk × Step} v (cancel_asked desk k (slot_of w)) (moved_to desk Idle, ended reply.Nothing)))
-      (has_ask w)
-      (λ _. by_cases
-      (λ v. Good
-      [] (cond {A = Desk × Step} v (moved_to desk (Withdrawing k), Going)
-      (moved_to desk Idle, ended reply.Worn)))
-      (nat_lt (slot_of w) last_number) (λ _. tt) (λ _. tt))
-      (λ _. tt))
+      on_test (Good []) (is_filled w) (λ _. tt)
+      (λ _. on_test (Good []) (has_ask w)
+      (λ _. on_test (Good []) (nat_lt (slot_of w) last_number) (λ _. tt) (λ _. tt)) (λ _. tt))
 
   decided_good : (desk : Desk) (call : WriterCall) (rows : List Row) (polls : List Poll) → polls ≡ []
       → Good polls (decided shape desk call rows)
@@ -381,9 +334,9 @@ module _ (shape : Shape) (words : List ℕ) (hs : List Hold) (made : List Operat
 
   read_good : (desk : Desk) (call : WriterCall) (s : ℕ) (got : List ℕ) (polls : List Poll) → polls ≡ []
       → Good polls (read_on shape desk call s got)
-  read_good desk call s got polls none = by_cases (λ v. Good polls
-      (cond {A = Desk × Step} v (decoded shape desk call (decode got)) (moved_to desk (Reading call s got), Going)))
-      (nat_eq (length got) (2 * get_or got 0 0 + 1)) (λ _. decoded_good desk call (decode got) polls none) (λ _. none)
+  read_good desk call s got polls none =
+      on_test (Good polls) (nat_eq (length got) (2 * get_or got 0 0 + 1))
+      (λ _. decoded_good desk call (decode got) polls none) (λ _. none)
 
 got_or : (l : List Hold) (j : ℕ) (x : Hold) → get_elem? l j ≡ some x → (get_or l j hold.Nothing ≡ x) × (j < length l)
 got_or [] j x e = absurd (some-ne-none x (sym e))
@@ -446,10 +399,7 @@ go_swept state log polls is_core s (Withdrawing k) is w w_is words made =
     record { few = s.few; sweep = tt; held = s.held }
 go_swept state log polls is_core s (Putting call rows t e i) is w w_is words made = record {
   few = s.few;
-  sweep = by_cases (λ v. Good state.shape words state.holds made polls
-      (cond {A = Desk × Step} v (moved_to state.desk (Putting call rows t e (i + 1)), Going)
-      (swapped state.desk w, ended reply.Done)))
-      (nat_le i (2 * length rows)) (λ _. tt) (λ _. tt);
+  sweep = on_test (Good state.shape words state.holds made polls) (nat_le i (2 * length rows)) (λ _. tt) (λ _. tt);
   held = s.held;
 }
 go_swept state log polls is_core sw (Searching call rows p) is w w_is words made =
@@ -486,9 +436,7 @@ go_swept state log polls is_core sw (Searching call rows p) is w w_is words made
     let polled = n.polled in
     record {
       few = omega (arith, length-append polls (poll_at state p ∷ []));
-      sweep = by_cases (λ v. Good shape words state.holds made (polls ++ poll_at state p ∷ [])
-          (cond {A = Desk × Step} v (moved_to desk (Searching call rows (p + 1)), Going)
-          (moved_to desk Idle, no_slot shape desk)))
+      sweep = on_test (Good shape words state.holds made (polls ++ poll_at state p ∷ []))
           (nat_lt (p + 1) (length desk.retired))
           (λ _.
           let m = more.0 in

@@ -1,6 +1,6 @@
 -- The writer reads a word of the slot that its key names; the last read decides its find or update.
-use Rattle.std.proofs.Common.{List, [], ap, arith, cond, get_or, length, nat_eq, refl, set, subst, suc, sym, take, ℕ}
-use Rattle.std.proofs.Common.{◌*◌, ◌++◌, ◌+◌, ◌<◌, ◌∙◌, ◌∷◌, ◌≡◌, ◌≢◌}
+use Rattle.std.proofs.Common.{[], List, ap, arith, get_or, length, nat_eq, refl, set, subst, suc, sym, take, ℕ, ◌*◌}
+use Rattle.std.proofs.Common.{◌++◌, ◌+◌, ◌<◌, ◌∙◌, ◌∷◌, ◌≡◌, ◌≢◌}
 use Rattle.std.proofs.lemmas.Bool.{eqb-false, eqb-true}
 use Rattle.std.specs.Prelude.{Err, Ok, Option, Result}
 use lib.ListN.{get_elem?}
@@ -13,8 +13,8 @@ use Rattle.nr_model.specs.Rows.{IsRowSet}
 use Rattle.nr_model.specs.declared.batches.ApplyFault.{ApplyFault}
 use Rattle.nr_model.specs.declared.rows.Row.{Row}
 use Rattle.nr_words.proofs.SetWordLemmas.{length-row_words}
-use Rattle.nr_words.specs.SetWords.{decode, encode}
-use Rattle.nr_core.proofs.Choices.{by_cases}
+use Rattle.nr_words.specs.SetWords.{encode}
+use Rattle.nr_core.proofs.Choices.{on_test}
 use Rattle.nr_core.proofs.Frames.{not_hole}
 use Rattle.nr_core.proofs.ReadThrough.{length-got_next, read_first, read_next, read_set, read_whole}
 use Rattle.nr_core.proofs.Settle.{ends, goes_on, idle_desk, settles}
@@ -26,7 +26,6 @@ use Rattle.nr_core.specs.Story.{call_of, ending, map_after}
 use Rattle.nr_core.specs.Sums.{only, total}
 use Rattle.nr_core.specs.Writer.{decided, decoded, moved_to, read_on, renewed}
 use Rattle.nr_core.specs.declared.calls.Step.{Step}
-use Rattle.nr_core.specs.declared.calls.Step.TheVariants.{Going}
 use Rattle.nr_core.specs.declared.calls.WriterCall.{WriterCall}
 use Rattle.nr_core.specs.declared.calls.WriterCall.TheVariants.{Cancel, Evict, Fill, Find, Replace, Update}
 use Rattle.nr_core.specs.declared.places.Place.{Place}
@@ -114,11 +113,7 @@ reads_on shape words roles log core id desk there call slot got is_at =
     let idle = idle_desk shape words map (held roles) desk known in let size = length-row_words reading.rows in
     let Good : Desk × Step → Type 0
     = λ o. Core shape (set words place found) (set roles id (Writer o.0)) (log ++ ending (call_of call) o.1) in
-    by_cases
-    (λ v. Good
-    (cond {A = Desk × Step} v (decoded shape desk call (decode got'))
-    (moved_to desk (Reading call slot got'), Going)))
-    (nat_eq (length got') (2 * get_or got' 0 0 + 1))
+    on_test Good (nat_eq (length got') (2 * get_or got' 0 0 + 1))
     (λ yes. let whole : length got' ≡ 2 * get_or got' 0 0 + 1 = eqb-true (length got') (2 * get_or got' 0 0 + 1) yes in
     subst (λ (o : Option (List Row)). Good (decoded shape desk call o))
     (sym (read_whole shape words roles log core (key_of call) slot got reading whole))

@@ -1,4 +1,4 @@
-use Rattle.std.proofs.Common.{rules, subst, sym, ◌++◌, ◌∷◌, []}
+use Rattle.std.proofs.Common.{rules, subst, sym, ◌∷◌, []}
 use Rattle.nr_core.specs.declared.places.Retired.{Retired}
 use Rattle.nr_core.specs.SlotLists.{AreReaped}
 use Rattle.nr_core.proofs.Passed.{counts_put, reaped_still}
