@@ -1,6 +1,6 @@
 -- A reader departs from the slot that it holds.
-use Rattle.std.proofs.Common.{Bool, List, [], ap, arith, get_or, get_or-set_other, get_or-set_same, refl, set, subst}
-use Rattle.std.proofs.Common.{sym, ℕ, ◌%◌, ◌*◌, ◌+◌, ◌<◌, ◌^◌, ◌∙◌, ◌≡◌, ◌≢◌, ◌≤◌}
+use Rattle.std.proofs.Common.{Bool, List, [], ap, arith, get_or, get_or-set_other, get_or-set_same, refl, set, sym, ℕ}
+use Rattle.std.proofs.Common.{◌%◌, ◌*◌, ◌+◌, ◌<◌, ◌^◌, ◌∙◌, ◌≡◌, ◌≢◌, ◌≤◌}
 use lib.ListN.{get_elem?}
 use mathlib.Core.Logic.{dite}
 use mathlib.Core.Option.{some}
@@ -48,10 +48,7 @@ departs shape id reader slot rows sized words roles log core there =
     → (get_or words' (departures shape t) 0 + held roles' t) % 2 ^ 40
     ≡ (get_or words (departures shape t) 0 + held roles t) % 2 ^ 40
     = λ t. dite (ℕ_discrete t slot)
-    (λ e. subst
-    (λ (y : ℕ). (get_or words' (departures shape y) 0 + held roles' y) % 2 ^ 40
-    ≡ (get_or words (departures shape y) 0 + held roles y) % 2 ^ 40)
-    (sym e) (let a = holding slot in let one = only-same slot in omega arith))
+    (λ e. rw e (let a = holding slot in let one = only-same slot in omega arith))
     (λ ne. omega (arith, dep t ne, holding t, only-other t slot (λ e. ne (sym e)))) in
     let left : (t : ℕ) → Left shape words words' map map (held roles) (held roles') t = λ t. record {
       contents = λ j low. cont t j low;

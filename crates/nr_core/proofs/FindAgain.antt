@@ -18,8 +18,8 @@ use Rattle.nr_core.proofs.Histories.{legal-more, now-more, replies_so}
 use Rattle.nr_core.proofs.Learn.{nothing}
 use Rattle.nr_core.proofs.OffKeys.{none_of}
 use Rattle.nr_core.proofs.Shown.{spelt_set}
-use Rattle.nr_core.specs.Core.{Core, Knows, ShowsState}
-use Rattle.nr_core.specs.Roles.{held, is_by}
+use Rattle.nr_core.specs.Core.{Core, ShowsState}
+use Rattle.nr_core.specs.Roles.{is_by}
 use Rattle.nr_core.specs.Steps.{CanStep, FindsAgain, Stepped}
 use Rattle.nr_core.specs.Slots.{SlotSpells, name_number, names_slot}
 use Rattle.nr_core.specs.Story.{entry, map_after}
@@ -60,12 +60,10 @@ find_more shape words roles log core caller k answer is =
       fits = core.fits;
       wide = core.wide;
       legal = legal-more shape log e core.legal (sym (replies_so shape log (model.Find k) ∙ is));
-      shows = λ at near. subst (λ (m : PartialMap). ShowsState shape words (get_or words at 0) (state_of m at))
-          (sym same) (core.shows at near);
+      shows = λ at near. rw same (core.shows at near);
       places = core.places;
       counts = core.counts;
-      knows = λ id role there. subst (λ (m : PartialMap). Knows shape words m (held roles) role) (sym same)
-          (core.knows id role there);
+      knows = λ id role there. rw same (core.knows id role there);
       one = core.one;
       few = core.few;
     }
@@ -105,8 +103,7 @@ finds_again shape id reader slot rows sized k near words roles log core there =
     let e = entry reader (model.Find k) (reply.Rows rows) in
     let mine = core.knows id role there in
     let again : Core shape (set words k w) (set roles id role) log
-    = subst (λ (l : List Entry). Core shape (set words k w) (set roles id role) l) (append-nil log)
-    (nothing shape words roles log id k role core there) in
+    = rw (sym (append-nil log)) (nothing shape words roles log id k role core there) in
     let inside : (other : ℕ) → name_number w ≡ suc other → other < shape.slots
     = λ other names. (named_state shape words roles log core k near other names).0 in
     by_cases

@@ -1,8 +1,8 @@
 -- A reader that holds nothing looks a key up. Where the key names a slot, the reader may hold it as if it had arrived
 -- there: a departure is taken back.
 use Rattle.std.proofs.Common.{Bool, List, [], ap, append-nil, arith, cond, false, get_or, get_or-set_other}
-use Rattle.std.proofs.Common.{get_or-set_same, refl, set, subst, suc, sym, ℕ, ◌%◌, ◌*◌, ◌++◌, ◌+◌, ◌-◌, ◌<◌, ◌^◌}
-use Rattle.std.proofs.Common.{◌∷◌, ◌≡◌, ◌≢◌, ◌≤◌}
+use Rattle.std.proofs.Common.{get_or-set_same, refl, set, subst, suc, sym, ℕ, ◌%◌, ◌*◌, ◌++◌, ◌+◌, ◌-◌, ◌<◌, ◌^◌, ◌∷◌}
+use Rattle.std.proofs.Common.{◌≡◌, ◌≢◌, ◌≤◌}
 use lib.ListN.{get_elem?}
 use mathlib.Core.Logic.{dite}
 use mathlib.Core.Option.{some}
@@ -134,10 +134,7 @@ holds_more shape words roles log core id reader k slot rows near_key names near 
     → (get_or words' (departures shape t) 0 + held roles' t) % 2 ^ 40
     ≡ (get_or words (departures shape t) 0 + held roles t) % 2 ^ 40
     = λ t. dite (ℕ_discrete t slot)
-    (λ e. subst
-    (λ (y : ℕ). (get_or words' (departures shape y) 0 + held roles' y) % 2 ^ 40
-    ≡ (get_or words (departures shape y) 0 + held roles y) % 2 ^ 40)
-    (sym e) (let a = holding slot in let one = only-same slot in omega arith))
+    (λ e. rw e (let a = holding slot in let one = only-same slot in omega arith))
     (λ ne. omega (arith, dep t ne, holding t, only-other t slot (λ e. ne (sym e)))) in
     let left : (t : ℕ) → t ≢ slot → Left shape words words' map map (held roles) (held roles') t = λ t ne. record {
       contents = λ j low. cont t j low;

@@ -169,10 +169,7 @@ module _ {A : Type 0} (role : A → Role) (marks : A → Marks) where
             → (n : ℕ) (o' : Past) → get_elem? (o ∷ told) n ≡ some o'
             → (p : Past) × (get_elem? (q ∷ l) n ≡ some p) × (p.reader ≡ o'.reader) × (o'.count ≤ p.count)
         newer o told q l a b c zero o' e =
-            subst
-            (λ (y : Past). (p : Past) × (get_elem? (q ∷ l) 0 ≡ some p) × (p.reader ≡ y.reader)
-            × (y.count ≤ p.count))
-            (some-injective o o' e) (q, refl, a, b)
+            rw (sym (some-injective o o' e)) (q, refl, a, b)
         newer o told q l a b c (suc n) o' e = c n o' e
 
   module _ (shape : Shape) (id : ℕ) (me : A) (told : List Past) (place : ℕ) where
@@ -189,8 +186,7 @@ module _ {A : Type 0} (role : A → Role) (marks : A → Marks) where
         (λ s. omega arith) (λ s rest. rest) (marks me).polls (marks me).loads own.noted own.sweep) (
           refl,
           t.2,
-          subst (λ (l : List Entry). Lists desk (marks me) shape (log ++ l)) (sym ans.1)
-              (subst (Lists desk (marks me) shape) (sym (append-nil log))
+          rw ans.1 (subst (Lists desk (marks me) shape) (sym (append-nil log))
               (listed role marks shape words callers log id me desk core at was own)),
         )
 

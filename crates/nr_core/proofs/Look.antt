@@ -54,10 +54,7 @@ module _ (shape : Shape) (words : List ℕ) (roles : List Role) (log : List Entr
       (log ++ ending (call_of call) o.1)
       → Looked call
   outcome call o e c =
-      subst
-      (λ (x : Desk × Step). Core shape (set words place (get_or words place 0)) (set roles id (Writer x.0))
-      (log ++ ending (call_of call) x.1))
-      (sym e) c
+      rw e c
 
   module _ (idle : desk.place ≡ Idle) where
     idle_keeps : (s : ℕ) → keeps s (Writer (moved_to desk Idle)) ≡ keeps s (Writer desk)

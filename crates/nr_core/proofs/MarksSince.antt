@@ -218,8 +218,7 @@ module _ {A : Type 0} (role : A → Role) (marks : A → Marks) where
       → Marked role marks shape words' (set callers id next) log'
   set_marked shape words words' callers log log' id next m has own others = record {
     each = λ j u there. ⊎_elim
-        (λ (z : (j ≡ id) × (next ≡ u)). subst
-        (λ (y : A). KnowsMarks role marks shape words' (set callers id next) log' (role y) (marks y)) z.1 own)
+        (λ (z : (j ≡ id) × (next ≡ u)). rw (sym z.1) own)
         (λ (z : (j ≢ id) × (get_elem? callers j ≡ some u)). knows_frame shape words words' callers (set callers id next)
         log log' (role u) (marks u) (λ desk is. others j u desk z.0 z.1 is) (m.each j u z.1))
         (at_set callers id j next u there);
@@ -236,8 +235,7 @@ module _ {A : Type 0} (role : A → Role) (marks : A → Marks) where
   marked_writer shape words words' callers log log' id me next desk desk' core at was is m own =
       set_marked shape words words' callers log log' id next m
       (record { place = id; who = next; desk = desk'; there = here_after callers id me next at; is = is })
-      (subst (λ r. KnowsMarks role marks shape words' (set callers id next) log' r (marks next)) (sym is)
-      (desk_frame shape words' words' callers (set callers id next) log' log' desk' (marks next) (λ _ _. refl)
+      (rw is (desk_frame shape words' words' callers (set callers id next) log' log' desk' (marks next) (λ _ _. refl)
       (λ _. refl) refl (λ old. since_set callers id me next old at (evolves_writer me next desk was))
       (λ place reader slot who grip there reads holds. ⊎_elim
       (λ (z : (place ≡ id) × (next ≡ who)). absurd
@@ -277,8 +275,7 @@ module _ {A : Type 0} (role : A → Role) (marks : A → Marks) where
         there = set_other callers id w.place next w.who apart w.there;
         is = w.is;
       })
-      (subst (λ r. KnowsMarks role marks shape words' (set callers id next) log' r (marks next)) (sym is)
-      (subst (λ r. KnowsMarks role marks shape words callers log r (marks me)) was (m.each id me at)))
+      (rw is (subst (λ r. KnowsMarks role marks shape words callers log r (marks me)) was (m.each id me at)))
       (λ j u desk ne there writes t. desk_frame shape words words' callers (set callers id next) log log' desk (marks u)
       names puts many (λ old. since_set callers id me next old at step)
       (λ place reader slot who grip here reads on. ⊎_elim

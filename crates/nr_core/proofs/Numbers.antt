@@ -1,6 +1,6 @@
 -- The writer's list has each key's ticket number after one entry more, and no number is past the last one.
-use Rattle.std.proofs.Common.{List, [], ap, arith, get_or, get_or-set_other, get_or-set_same, length-set, set, subst}
-use Rattle.std.proofs.Common.{sym, ℕ, ◌++◌, ◌+◌, ◌<◌, ◌∙◌, ◌∷◌, ◌≡◌, ◌≤◌}
+use Rattle.std.proofs.Common.{List, [], ap, arith, get_or, get_or-set_other, get_or-set_same, length-set, set, sym, ℕ}
+use Rattle.std.proofs.Common.{◌++◌, ◌+◌, ◌<◌, ◌∙◌, ◌∷◌, ◌≡◌, ◌≤◌}
 use mathlib.Core.Logic.{dite}
 use native.Mathlib.Decide.{ℕ_discrete}
 use Rattle.nr_model.proofs.HistoryLemmas.{numbers_count_cancels_lem}
@@ -23,8 +23,7 @@ numbers_kept shape log e numbers near same =
     let map = map_after shape log in
     let map' = map_after shape (log ++ e ∷ []) in
     numbers_more shape map map' numbers (λ j _. dite (ℕ_discrete j (call_key e.call))
-    (λ is. subst (λ (k : ℕ). number_of (state_of map' k) ≡ number_of (state_of map k)) (sym is)
-    (ap number_of (state_same shape log e near) ∙ same))
+    (λ is. rw is (ap number_of (state_same shape log e near) ∙ same))
     (λ ne. ap number_of (state_other shape log e j ne)))
 
 -- an entry that gives its key the next number
@@ -42,7 +41,7 @@ numbers_next shape log e numbers near next t =
     record {
       each = length-set numbers k x ∙ t.each;
       agree = λ j low. dite (ℕ_discrete j k)
-          (λ is. subst (λ (i : ℕ). get_or (set numbers k x) i 0 ≡ number_of (state_of map' i)) (sym is)
+          (λ is. rw is
           (get_or-set_same numbers k x 0 (omega arith) ∙ sym next ∙ sym (ap number_of (state_same shape log e near))))
           (λ ne. get_or-set_other numbers k j x 0 ne ∙ t.agree j low
           ∙ ap number_of (sym (state_other shape log e j ne)));

@@ -10,7 +10,7 @@ use Rattle.nr_words.specs.KeyWords.{arrivals_of}
 use Rattle.nr_core.proofs.Frames.{holding_more, shows_more}
 use Rattle.nr_core.proofs.OnKey.{in_range}
 use Rattle.nr_core.proofs.Sums.{at_set, below-same, below-term, only-same, term_le, terms_le, total-set}
-use Rattle.nr_core.specs.Core.{Core, Knows, ShowsState}
+use Rattle.nr_core.specs.Core.{Core, Knows}
 use Rattle.nr_core.specs.Roles.{held, holds, is_reader, is_writer, keeps}
 use Rattle.nr_core.specs.Slots.{bound_of, content, departures, name_number, named}
 use Rattle.nr_core.specs.Story.{map_after}
@@ -53,8 +53,7 @@ off_keys shape words roles log core id r r' i x behind at w-same r-same keeping 
       fits = core.fits;
       wide = length-set words i x ∙ wide;
       legal = core.legal;
-      shows = λ k l. subst (λ (w : ℕ). ShowsState shape words' w (state_of map k)) (sym (key k l))
-          (shows_more shape words words' (get_or words k 0) (state_of map k)
+      shows = λ k l. rw (key k l) (shows_more shape words words' (get_or words k 0) (state_of map k)
           (λ s j e near low. conts s j near low (one-named k s l e))
           (core.shows k l));
       places = λ s l. omega (

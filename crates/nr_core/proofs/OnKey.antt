@@ -118,11 +118,8 @@ on_key shape words roles log es core id c before after k x near at same-name leg
       wide = length-set words k x ∙ wide;
       legal = legal;
       shows = λ j l. dite (ℕ_discrete j k)
-          (λ e. subst (λ (y : ℕ). ShowsState shape words' (get_or words' y 0) (state_of map' y)) (sym e)
-          (subst (λ (w : ℕ). ShowsState shape words' w (state_of map' k)) (sym here)
-          (shows_more shape words words' x (state_of map' k) (λ s i _ _ _. cont s i) shown)))
-          (λ ne. subst (λ (w : ℕ). ShowsState shape words' w (state_of map' j)) (sym (other j ne))
-          (subst (ShowsState shape words' (get_or words j 0)) (sym (states j ne))
+          (λ e. rw e (rw here (shows_more shape words words' x (state_of map' k) (λ s i _ _ _. cont s i) shown)))
+          (λ ne. rw (other j ne) (subst (ShowsState shape words' (get_or words j 0)) (sym (states j ne))
           (shows_more shape words words' (get_or words j 0) (state_of map j) (λ s i _ _ _. cont s i)
           (core.shows j l))));
       places = λ s l. omega (

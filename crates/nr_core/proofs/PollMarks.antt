@@ -30,11 +30,11 @@ use Rattle.nr_core.specs.declared.roles.Desk.{Desk}
 use Rattle.nr_core.specs.declared.roles.Role.{Role}
 use Rattle.nr_core.specs.declared.roles.Role.TheVariants.{Reader, Writer}
 use Rattle.nr_core.specs.declared.shape.Shape.{Shape}
-use Rattle.nr_core.specs.Marks.{Marks, Past, LoggedLoad, gripped, with_poll, with_polls, with_scan}
+use Rattle.nr_core.specs.Marks.{Marks, Past, LoggedLoad, gripped, with_poll, with_scan}
 use Rattle.nr_core.specs.PollNotes.{Missed, NoRoom}
 use Rattle.nr_core.specs.Marked.{AllSince, CanMark, KnowsMarks, NotesPresent, Once, Remarked, Sweeping, Sweeps}
 use Rattle.nr_core.specs.Marked.{Untouched}
-use Rattle.nr_core.specs.MarkSteps.{PollTells, PollsMarks}
+use Rattle.nr_core.specs.MarkSteps.{PollsMarks}
 use Rattle.nr_core.proofs.Different.{few_of}
 use Rattle.nr_core.proofs.ListPlaces.{at_last, at_maps, before, inside, some_is}
 use Rattle.nr_core.proofs.MarksSince.{rests}
@@ -165,10 +165,7 @@ module _ {A : Type 0} (role : A → Role) (marks : A → Marks) where
         (present_more role marks callers who (marks me).polls (marks me).polls (λ n e there'. inl there'))
         (sweeping polls sweep) (
           refl,
-          subst
-              (λ b. PollTells b shape known desk call poll (log ++ entries) (marks me)
-              (with_polls (with_poll (marks me) slot false) polls))
-              (sym miss) (
+          rw miss (
                 refl,
                 missed,
                 λ last.
@@ -197,10 +194,7 @@ module _ {A : Type 0} (role : A → Role) (marks : A → Marks) where
         (λ s. let gone = total-remove (λ (y : Retired). only s y.slot) desk.retired poll entry here in
         omega arith) own.noted (λ n e there'. inl there') tt (
           refl,
-          subst
-              (λ b. PollTells b shape known desk call poll (log ++ entries) (marks me)
-              (with_poll (marks me) slot true))
-              (sym hit) refl,
+          rw hit refl,
         ))
         (λ _ miss. by_cases
         (λ b. after ≡ Writer (cond {A = Desk × Step} b (moved_to desk (Searching call rows (poll + 1)), Going)

@@ -1,13 +1,13 @@
 -- A fill or an update swaps the word that names its slot in for its key's word.
-use Rattle.std.proofs.Common.{List, [], ap, arith, get_or, length, set, subst, suc, sym, ℕ, ◌%◌, ◌*◌, ◌++◌, ◌+◌, ◌<◌}
-use Rattle.std.proofs.Common.{◌^◌, ◌∙◌, ◌∷◌, ◌≡◌}
+use Rattle.std.proofs.Common.{List, [], ap, arith, get_or, length, set, subst, suc, sym, ℕ, ◌*◌, ◌++◌, ◌+◌, ◌<◌, ◌∙◌}
+use Rattle.std.proofs.Common.{◌∷◌, ◌≡◌}
 use lib.ListN.{get_elem?}
 use mathlib.Core.Option.{some}
 use Rattle.nr_model.specs.Histories.{Entry}
-use Rattle.nr_model.specs.Maps.{number_of, state_after, state_of}
+use Rattle.nr_model.specs.Maps.{number_of}
 use Rattle.nr_model.specs.declared.rows.Row.{Row}
 use Rattle.nr_words.proofs.SetWordLemmas.{length-row_words}
-use Rattle.nr_words.specs.KeyWords.{arrivals_of}
+use Rattle.nr_words.specs.KeyWords.{naming}
 use Rattle.nr_core.proofs.KeyWords.{naming_is}
 use Rattle.nr_core.proofs.Numbers.{numbers_kept}
 use Rattle.nr_core.proofs.Settle.{key_same}
@@ -15,8 +15,6 @@ use Rattle.nr_core.proofs.Sums.{only-suc}
 use Rattle.nr_core.proofs.Swap.{swap_step}
 use Rattle.nr_core.specs.Core.{AtPlace, Core, Puts, ShowsState}
 use Rattle.nr_core.specs.Roles.{held, taken}
-use Rattle.nr_core.specs.Slots.{bound_of, departures}
-use Rattle.nr_words.specs.KeyWords.{naming}
 use Rattle.nr_core.specs.States.{key_of}
 use Rattle.nr_core.specs.Story.{call_of, entry, map_after}
 use Rattle.nr_core.specs.Sums.{only}
@@ -51,15 +49,9 @@ publishes shape words roles log core id desk there call rows slot departed index
     (subst (ShowsState shape words (naming slot departed)) (sym wants.leaves)
     (slot, n.0, inside, (wants.row_set, λ j low. putting.put j (omega arith))))
     (λ u. ap (taken u) is_at ∙ sym (ap (only (suc u)) n.0 ∙ only-suc u slot))
-    (λ u z. let same : slot ≡ u = omega (arith, n.0) in subst
-    (λ (v : ℕ). arrivals_of (naming slot departed) % 2 ^ 40
-    ≡ (get_or words (departures shape v) 0 + held roles v) % 2 ^ 40)
-    same
+    (λ u z. let same : slot ≡ u = omega (arith, n.0) in rw (sym same)
     (omega (arith, n.1, putting.counted, putting.nobody)))
     (numbers_kept shape log (entry 0 (call_of call) reply.Done) desk.numbers
     (subst (λ (k : ℕ). k < shape.keys) (sym (key_same call)) wants.near)
-    (subst
-    (λ (k : ℕ). number_of (state_after (bound_of shape) (call_of call) (state_of map k))
-    ≡ number_of (state_of map k))
-    (sym (key_same call)) (ap number_of wants.leaves))
+    (rw (key_same call) (ap number_of wants.leaves))
     known.numbers)

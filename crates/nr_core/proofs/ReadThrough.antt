@@ -34,8 +34,7 @@ module _ (shape : Shape) (words : List ℕ) (roles : List Role) (log : List Entr
       let size = length-row_words reads.rows in
       let more = reads.more in
       let same_slot : spelt_there.0 ≡ s = let a = spelt_there.1 in let b = reads.names in omega arith in
-      subst (λ (u : ℕ). get_or words (content shape u (length got)) 0 ≡ get_or (encode reads.rows) (length got) 0)
-      same_slot (spelt_there.3.1 (length got) (omega arith))
+      rw (sym same_slot) (spelt_there.3.1 (length got) (omega arith))
 
   pub length-got_next : length got_next ≡ suc (length got)
   length-got_next = omega (arith, length-append got (get_or words (content shape s (length got)) 0 ∷ []))

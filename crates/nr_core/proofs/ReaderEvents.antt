@@ -26,14 +26,13 @@ use Rattle.nr_core.proofs.Histories.{of-append, replies_so}
 use Rattle.nr_core.proofs.KeyWords.{names_none, names_one}
 use Rattle.nr_core.proofs.Read.{reads}
 use Rattle.nr_core.proofs.Shown.{shown_is}
-use Rattle.nr_core.proofs.StateRoles.{AllFound, Found, IsCoreState, erased, fit_reader, found_quiet, found_set, no_grip}
+use Rattle.nr_core.proofs.StateRoles.{AllFound, IsCoreState, erased, fit_reader, found_quiet, found_set, no_grip}
 use Rattle.nr_core.proofs.StateRoles.{one_other, one_same, same_rows}
 use Rattle.nr_core.proofs.Sums.{set_again}
 use Rattle.nr_core.specs.Core.{Core}
 use Rattle.nr_core.specs.Machine.{moved, names_held, read_hold}
 use Rattle.nr_core.specs.declared.operation.Operation.TheVariants.{Load, Add}
-use Rattle.nr_core.specs.Refusals.{has_key, has_reader, if_beyond, if_holding, if_not_holding, if_unreadable}
-use Rattle.nr_core.specs.Refusals.{refusal}
+use Rattle.nr_core.specs.Refusals.{has_key, has_reader, if_beyond, if_holding, if_not_holding, if_unreadable, refusal}
 use Rattle.nr_core.specs.Slots.{bound_of, content, departures, name_number, names_slot}
 use Rattle.nr_core.specs.States.{Arrive, Ask, Depart, FindAgain, Read, State, slot_in}
 use Rattle.nr_core.specs.Steps.{ask_word}
@@ -162,12 +161,10 @@ after_ask state log r k is_core ok =
     (λ (p : Role × List Entry). Core shape words' (set roles (suc i) p.0) (log ++ p.1)) (λ j. (t.told.0 j, t.told.1 j))
     t.core in
     let c1 : Core shape words' roles (log ++ entry (suc i) (model.Ask k) y ∷ [])
-    = subst (λ (l : List Role). Core shape words' l (log ++ entry (suc i) (model.Ask k) y ∷ []))
-    (set_again roles (suc i) (Reader (suc i) Nothing) there_is) c0 in
+    = rw (sym (set_again roles (suc i) (Reader (suc i) Nothing) there_is)) c0 in
     let state_now : KeyState = state_of (map_after shape log) k in
     let reply_is : y ≡ ask_reply state_now = reply_of shape log (suc i) (model.Ask k) y c1.legal in
-    subst (λ shows. IsCoreState (moved state (Ask r k)) (log ++ answering r (model.Ask k) ask_reply shows))
-    (sym (shown_is state roles log core f.writer k near)) (record {
+    rw (shown_is state roles log core f.writer k near) (record {
       roles = roles;
       core =
           subst (λ (p : ℕ × Reply). Core shape words' roles (log ++ entry p.0 (model.Ask k) p.1 ∷ []))
@@ -176,8 +173,7 @@ after_ask state log r k is_core ok =
       found =
           subst (λ (p : ℕ × Reply). AllFound roles (log ++ entry p.0 (model.Ask k) p.1 ∷ []))
           (λ j. (number j, reply_is j))
-          (subst (λ (l : List Role). AllFound l (log ++ entry (suc i) (model.Ask k) y ∷ []))
-          (set_again roles (suc i) (Reader (suc i) Nothing) there_is)
+          (rw (sym (set_again roles (suc i) (Reader (suc i) Nothing) there_is))
           (found_set roles log (entry (suc i) (model.Ask k) y ∷ []) i Nothing is_core.found
           (λ j ne. one_other (suc i) (suc j) (model.Ask k) y (λ z. ne (omega arith)))
           (λ s rows b is. absurd (no_grip s rows b is))));
@@ -378,6 +374,6 @@ after_read state log r p is_core ok =
           fit_reader shape.readers roles state.holds state.desk f i low (On s m b')
           (hold.On s (cond (nat_eq p 0) (Some w) (cond b (Some (length m)) None))) known;
       found = found_set roles log [] i (On s m b') is_core.found (λ _ _. refl)
-          (λ t rows a is. subst (λ (l : List Row). Found (log ++ []) (suc i) l) (same_rows s t m rows b' a is)
+          (λ t rows a is. rw (sym (same_rows s t m rows b' a is))
           (found_quiet log [] (suc i) m refl (is_core.found i s m b there_is)));
     })

@@ -26,7 +26,7 @@ use Rattle.nr_core.specs.declared.roles.Role.TheVariants.{Note, Reader, Writer}
 use Rattle.nr_core.specs.declared.shape.Shape.{Shape}
 use Rattle.nr_core.specs.Marks.{Marks, Past, LoggedLoad, gripped, with_poll, with_polls, with_reaped, with_scan}
 use Rattle.nr_core.specs.Marked.{AllSince, CanMark, Desked, HoldNoOthers, NotesPresent, Remarked, Since, Sweeping}
-use Rattle.nr_core.specs.MarkSteps.{ProbeTells, ProbesMarks}
+use Rattle.nr_core.specs.MarkSteps.{ProbesMarks}
 use Rattle.nr_core.proofs.ListPlaces.{at_maps, no_places}
 use Rattle.nr_core.proofs.MarksSince.{rests}
 use Rattle.nr_core.proofs.DeskMarks.{desk_of, load_stays, none_end, writer_step}
@@ -123,8 +123,7 @@ module _ {A : Type 0} (role : A → Role) (marks : A → Marks) where
         let g = grips_it grip slot on in
         omega arith)) (
           refl,
-          subst (λ b. ProbeTells b shape slot (marks me) (with_reaped (with_poll (marks me) slot true) slot))
-              (sym hit) refl,
+          rw hit refl,
         ))
         (λ _ miss.
         let held = holder_of role marks callers slot word entry.arrivals count miss in
@@ -136,8 +135,7 @@ module _ {A : Type 0} (role : A → Role) (marks : A → Marks) where
         (since_more role marks callers reader (marks me).polls own.noted)
         (alone_more role marks callers reader (marks me).polls once desk others)) (
           refl,
-          subst (λ b. ProbeTells b shape slot (marks me) (with_polls (with_poll (marks me) slot false) polls))
-              (sym miss) (tells_missed role marks callers shape words log (marks me) desk m reader slot held.1 others
+          rw miss (tells_missed role marks callers shape words log (marks me) desk m reader slot held.1 others
               (omega arith)),
         ))
         refl

@@ -97,8 +97,7 @@ slot_bound_lem shape events fits given =
     let story = story_of shape events in (
       subst (λ (s : Shape). length story.polls ≤ s.readers) t.1 swept.few,
       λ event counts one ends.
-          subst (λ (s : Shape). (counts.held ≤ s.readers) × (s.slots < s.keys + s.readers + 1)) t.1
-          (few_held story event t.0 swept (swept_tell story event t.0 swept)
+          rw (sym t.1) (few_held story event t.0 swept (swept_tell story event t.0 swept)
           (after_tell story event (subst (λ (s : Shape). IsGiven (bound_of s) event) (sym t.1) one) t.0).1 counts
           (subst (λ (s : State). EndsWithout s event counts) (sym (story_state shape events)) ends)),
     )

@@ -25,7 +25,7 @@ use Rattle.nr_core.specs.declared.roles.Grip.{Grip}
 use Rattle.nr_core.specs.declared.roles.Role.{Role}
 use Rattle.nr_core.specs.declared.roles.Role.TheVariants.{Reader, Writer}
 use Rattle.nr_core.specs.declared.shape.Shape.{Shape}
-use Rattle.nr_core.specs.Marks.{Marks, Past, LoggedLoad, past, with_poll, with_polls, with_scan}
+use Rattle.nr_core.specs.Marks.{Marks, Past, LoggedLoad, past, with_poll, with_scan}
 use Rattle.nr_core.specs.Marked.{AllSince, CanMark, HoldNoOthers, MarkTelling, Marked, NotesPresent, Once, Remarked}
 use Rattle.nr_core.specs.Marked.{Since, Sweeping, Sweeps, Untouched}
 use Rattle.nr_core.specs.MarkSteps.{KeepsMarks, TriesMarks, TryTells}
@@ -101,8 +101,7 @@ module _ {A : Type 0} (role : A → Role) (marks : A → Marks) where
         (present_more role marks callers reader (marks me).polls (marks me).polls (λ n e there'. inl there'))
         (alone_more role marks callers reader (marks me).polls once desk others) (
           refl,
-          subst (λ b. TryTells b shape slot (marks me) (with_polls (with_poll (marks me) slot false) polls))
-              (sym miss) (tells_missed role marks callers shape words log (marks me) desk m reader slot held.1 others
+          rw miss (tells_missed role marks callers shape words log (marks me) desk m reader slot held.1 others
               (omega arith)),
         ))
         refl ans.0

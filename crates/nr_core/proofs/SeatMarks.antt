@@ -88,8 +88,7 @@ module _ {A : Type 0} (role : A → Role) (marks : A → Marks) where
       each : (place : ℕ) (who : A) → get_elem? (me ∷ []) place ≡ some who
           → KnowsMarks role marks shape words (me ∷ []) [] (role who) (marks who)
       each place who there =
-          subst (λ (u : A). KnowsMarks role marks shape words (me ∷ []) [] (role u) (marks u)) (alone place who there)
-          (subst (λ r. KnowsMarks role marks shape words (me ∷ []) [] r (marks me)) (sym is)
+          rw (sym (alone place who there)) (rw is
           (subst (Desked role marks shape words (me ∷ []) [] (opening_desk shape)) (sym are) desked))
 
   -- one more caller, who holds nothing
@@ -102,8 +101,7 @@ module _ {A : Type 0} (role : A → Role) (marks : A → Marks) where
     each = λ j u there. ⊎_elim
         (λ (z : get_elem? callers j ≡ some u). knows_frame role marks shape words words callers (callers ++ next ∷ [])
         log log (role u) (marks u) (λ desk is t. more desk (marks u) t) (m.each j u z))
-        (λ (z : next ≡ u). subst
-        (λ (b : A). KnowsMarks role marks shape words (callers ++ next ∷ []) log (role b) (marks b)) z own)
+        (λ (z : next ≡ u). rw (sym z) own)
         (at_snoc callers next u j there);
     writer =
         let w = m.writer in
@@ -146,8 +144,7 @@ module _ {A : Type 0} (role : A → Role) (marks : A → Marks) where
         → Marked role marks shape words (set callers id next) log
     alike_marked m = record {
       each = λ j u there. ⊎_elim
-          (λ (z : (j ≡ id) × (next ≡ u)). subst
-          (λ (b : A). KnowsMarks role marks shape words (set callers id next) log (role b) (marks b)) z.1 own)
+          (λ (z : (j ≡ id) × (next ≡ u)). rw (sym z.1) own)
           (λ (z : (j ≢ id) × (get_elem? callers j ≡ some u)). knows (role u) (marks u) (m.each j u z.1))
           (at_set callers id j next u there);
       writer = let w = m.writer in dite (ℕ_discrete w.place id)
@@ -198,12 +195,10 @@ module _ {A : Type 0} (role : A → Role) (marks : A → Marks) where
             (λ desk is. desk_alike desk mine)
 
         own : KnowsMarks role marks shape words (set callers id next) log (role next) (marks next)
-        own = subst (λ r. KnowsMarks role marks shape words (set callers id next) log r (marks next)) (sym same)
-            (⊎_elim
+        own = rw same (⊎_elim
             (λ (e : marks next ≡ with_loads (marks me) (marks next).loads). subst
             (KnowsMarks role marks shape words (set callers id next) log (role me)) (sym e)
             (knows_loads role marks shape words (set callers id next) log (role me) (marks me) (marks next).loads
             (knows (role me) (marks me) (m.each id me at))))
-            (λ (e : role me ≡ Note). subst
-            (λ r. KnowsMarks role marks shape words (set callers id next) log r (marks next)) (sym e) tt)
+            (λ (e : role me ≡ Note). rw e tt)
             alike)

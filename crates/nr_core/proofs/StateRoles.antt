@@ -67,8 +67,7 @@ fit_reader n roles holds desk f i near x y e = let size = f.size in let callers 
   readers = λ j low. dite (ℕ_discrete j i)
       (λ same. (
         x,
-        subst (λ (m : ℕ). get_elem? (set roles (suc i) (Reader (suc i) x)) (suc m) ≡ some (Reader (suc m) x)) (sym same)
-            (at_same roles (suc i) (Reader (suc i) x) (omega arith)),
+        rw same (at_same roles (suc i) (Reader (suc i) x) (omega arith)),
         ap (λ (m : ℕ). get_or (set holds i y) m hold.Nothing) same
             ∙ get_or-set_same holds i y hold.Nothing (omega arith) ∙ e,
       ))

@@ -149,8 +149,8 @@ pins_it : (readers : List Past) (n : ℕ) (p : Past) (slot : ℕ) → get_elem? 
     → 0 < how_often p.put (pins readers)
 pins_it [] n p slot e is = absurd (some-ne-none p (sym e))
 pins_it (x ∷ xs) zero p slot e is = let same = some-injective x p e in let one = only-same p.put in
-    subst (λ (l : List ℕ). 0 < how_often p.put l) (sym (ap (λ b. cons_option (option_map (λ slot. x.put) b) (pins xs))
-    (ap (λ (y : Past). y.slot) same ∙ is)))
+    rw (ap (λ b. cons_option (option_map (λ slot. x.put) b) (pins xs))
+    (ap (λ (y : Past). y.slot) same ∙ is))
     (let o : only p.put x.put ≡ 1 = ap (λ (y : Past). only p.put y.put) same ∙ one in omega arith)
 pins_it (x ∷ xs) (suc n) p slot e is = let t = pins_it xs n p slot e is in more (pinned_put x) t
   where
@@ -237,8 +237,7 @@ module _ (retired : List Retired) (marks : Marks) (next : ℕ) (readers : List P
           let le = c.0 in
           let le' = w.4 in
           let same : p.slot ≡ y.0.slot = c.1 (omega arith) in let on : p.slot ≡ Some slot = same ∙ y.2 in
-          subst (λ (b : ℕ). 0 < how_often b (pins readers)) (sym (cur.placed slot on).0 ∙ t.2)
-          (pins_it readers w.0 p slot w.2 on)
+          rw (sym (sym (cur.placed slot on).0 ∙ t.2)) (pins_it readers w.0 p slot w.2 on)
 
   -- a slot that was retired has a new put number now: nobody had pinned it
   pub one_not_stray : (retired' : List Retired) (marks' : Marks) (at : ℕ) (entry : Retired)

@@ -75,8 +75,7 @@ swap_step shape words roles log core id desk is_there k x c y numbers near at_k 
     let t = core.knows id (Writer desk) is_there in
     let near' : call_key c < shape.keys = subst (λ (j : ℕ). j < shape.keys) (sym at_k) near in
     let same : state_of map' k ≡ state_after (bound_of shape) c (state_of map k)
-    = subst (λ (j : ℕ). state_of map' j ≡ state_after (bound_of shape) c (state_of map j)) at_k
-    (state_same shape log e near') in
+    = rw (sym at_k) (state_same shape log e near') in
     let still : (s : ℕ) → held roles' s ≡ held roles s
     = λ s. let y = total-set (holds s) roles id (Writer desk) (Writer desk') is_there in omega arith in
     let dep : (s : ℕ) → get_or words' (departures shape s) 0 ≡ get_or words (departures shape s) 0

@@ -148,7 +148,7 @@ module _ {A : Type 0} (role : A → Role) (marks : A → Marks) where
             (λ na. own.apart s a l b (old s l ne on) (old a b na one) (sym g ∙ e ∙ put_other a na)));
         sets = λ s l _. dite (ℕ_discrete s t)
             (λ z. subst (SlotSpells shape words' s) (ap (λ (i : ℕ). get_or (set mine.sets t rows) i []) (sym z))
-            (subst (λ (i : ℕ). SlotSpells shape words' i (get_or (set mine.sets t rows) t [])) (sym z)
+            (rw z
             (subst (SlotSpells shape words' t) (sym (get_or-set_same mine.sets t rows [] (omega (arith, own.many))))
             spelled)))
             (λ ne. subst (SlotSpells shape words' s) (sym (get_or-set_other mine.sets t s rows [] ne))
@@ -237,8 +237,7 @@ module _ {A : Type 0} (role : A → Role) (marks : A → Marks) where
         there desk desk' was after
         entries ans.0 (with_name (marks me) k slot n rows)
         [] (no_places (Since role marks callers)) (λ place note here. absurd (some-ne-none note (sym here)))
-        (subst (λ l. Desked role marks shape words' callers (log ++ l) desk' (with_name (marks me) k slot n rows))
-        (sym ans.1)
+        (rw ans.1
         (desk_put shape words words' callers log (log ++ e ∷ []) desk desk' (marks me) k slot own near in_range
         (ap name_number here ∙ name) (λ i ne. ap name_number (other i ne)) (omega arith)
         (λ place reader who grip is_there is on.
@@ -295,8 +294,7 @@ module _ {A : Type 0} (role : A → Role) (marks : A → Marks) where
         writer_step role marks shape id me (Swap k x) (UnpublishesMarks (marks me) k) words callers log core m there
         desk desk' was after entries
         ans.0 (without_name (marks me) k) [] (no_places (Since role marks callers)) (λ place note here. inl here)
-        (subst (λ l. Desked role marks shape words' callers (log ++ l) desk' (without_name (marks me) k)) (sym ans.1)
-        (desk_keep role marks shape words words' callers log (log ++ e ∷ []) desk desk' (marks me)
+        (rw ans.1 (desk_keep role marks shape words words' callers log (log ++ e ∷ []) desk desk' (marks me)
         (set (marks me).names k 0) (marks me).polls own (length-set (marks me).names k 0 ∙ wide')
         (λ i l. dite (ℕ_discrete i k)
         (λ z. ap (index (set (marks me).names k 0)) z ∙ get_or-set_same (marks me).names k 0 0 (omega arith)
@@ -346,7 +344,7 @@ module _ {A : Type 0} (role : A → Role) (marks : A → Marks) where
         writer_step role marks shape id me (Swap k x) (KeepsMarks (marks me)) words callers log core m there desk desk'
         was after entries ans.0 (marks me)
         [] (no_places (Since role marks callers)) (λ place note here. inl here)
-        (subst (λ l. Desked role marks shape words' callers (log ++ l) desk' (marks me)) (sym ans.1)
+        (rw ans.1
         (desk_keep role marks shape words words' callers log (log ++ e ∷ []) desk desk' (marks me) (marks me).names
         (marks me).polls own own.wide.0
         (λ i l. own.names i l ∙ sym (same i)) (λ i s l z. sym (same i) ∙ z) (λ i. quiet_number log e i refl)

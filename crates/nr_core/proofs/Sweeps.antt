@@ -262,8 +262,8 @@ other_reader : (state : State) (i : ℕ) (x : Hold) → i < length state.holds
     → 0 < on u (get_or (set state.holds i x) c hold.Nothing) → (0 < holds_at state c u) ⊎ (retirements_of state u ≡ 0)
 other_reader state i x within own c u = dite (ℕ_discrete c i)
     (λ same. λ more. inl (subst (λ (j : ℕ). 0 < holds_at state j u) (sym same)
-    (own u (subst (λ (y : Hold). 0 < on u y) (ap (λ (j : ℕ). get_or (set state.holds i x) j hold.Nothing) same
-    ∙ get_or-set_same state.holds i x hold.Nothing within) more))))
+    (own u (rw (sym (ap (λ (j : ℕ). get_or (set state.holds i x) j hold.Nothing) same
+    ∙ get_or-set_same state.holds i x hold.Nothing within)) more))))
     (λ ne. λ more. inl (subst (λ (y : Hold). 0 < on u y) (get_or-set_other state.holds i c x hold.Nothing ne) more))
 
 read_same : (i w u : ℕ) (x : Hold) → on u (read_hold i w x) ≡ on u x
@@ -384,8 +384,7 @@ go_swept : (state : State) (log : List Entry) (polls : List Poll) → IsCoreStat
 go_swept state log polls is_core s Idle is w w_is words made =
     record {
       few = s.few;
-      sweep = subst (λ (p : Place). AtSweep (with_desk state.shape words state.holds made state.desk) polls p)
-          (sym is) tt;
+      sweep = rw is tt;
       held = s.held;
     }
 go_swept state log polls is_core s (Reading call t got) is w w_is words made = record {

@@ -21,7 +21,7 @@ use Rattle.nr_core.specs.States.{number_at}
 use Rattle.nr_core.specs.Story.{entry, map_after}
 use Rattle.nr_core.specs.Sums.{only}
 use Rattle.nr_core.specs.Writer.{unnamed, withdrawn}
-use Rattle.nr_core.specs.declared.places.Place.TheVariants.{Idle, Withdrawing}
+use Rattle.nr_core.specs.declared.places.Place.TheVariants.{Withdrawing}
 use Rattle.nr_core.specs.declared.places.Retired.{Retired}
 use Rattle.nr_core.specs.declared.roles.Desk.{Desk}
 use Rattle.nr_core.specs.declared.roles.Role.{Role}
@@ -70,9 +70,7 @@ withdraws shape words roles log core id desk there at is_at =
     let shown : ShowsState shape words w (key.Asked n)
     = subst (ShowsState shape words w) p.asked (core.shows at p.near) in
     let numbers : List ℕ = set desk.numbers at (number_at desk at + 1) in
-    subst (λ (l : List Retired). Core shape (set words at x)
-    (set roles id (Writer (record { place = Idle; fresh = desk.fresh; retired = l; numbers = numbers })))
-    (log ++ entry 0 (model.Cancel at) reply.Cancelled ∷ [])) (asked_retires_none shape words w n desk.retired shown)
+    rw (sym (asked_retires_none shape words w n desk.retired shown))
     (swap_step shape words roles log core id desk there at x (model.Cancel at) reply.Cancelled numbers p.near refl
     (ap (reply_at (bound_of shape) (model.Cancel at)) p.asked ∙ c.0)
     (subst (ShowsState shape words x) (sym leaves) (hole.0, hole.1, hole.2 ∙ ap (λ (m : ℕ). m + 1) listed))

@@ -2,7 +2,7 @@
 use Rattle.std.proofs.Common.{[], List, ap, arith, get_or, length, nat_eq, refl, set, subst, suc, sym, take, ℕ, ◌*◌}
 use Rattle.std.proofs.Common.{◌++◌, ◌+◌, ◌<◌, ◌∙◌, ◌∷◌, ◌≡◌, ◌≢◌}
 use Rattle.std.proofs.lemmas.Bool.{eqb-false, eqb-true}
-use Rattle.std.specs.Prelude.{Err, Ok, Option, Result}
+use Rattle.std.specs.Prelude.{Err, Ok, Result}
 use lib.ListN.{get_elem?}
 use mathlib.Core.Option.{some}
 use Rattle.nr_model.proofs.LawLemmas.{batch_moves_rows_lem}
@@ -24,7 +24,7 @@ use Rattle.nr_core.specs.Slots.{bound_of, content, unused}
 use Rattle.nr_core.specs.States.{key_of}
 use Rattle.nr_core.specs.Story.{call_of, ending, map_after}
 use Rattle.nr_core.specs.Sums.{only, total}
-use Rattle.nr_core.specs.Writer.{decided, decoded, moved_to, read_on, renewed}
+use Rattle.nr_core.specs.Writer.{decided, moved_to, read_on, renewed}
 use Rattle.nr_core.specs.declared.calls.Step.{Step}
 use Rattle.nr_core.specs.declared.calls.WriterCall.{WriterCall}
 use Rattle.nr_core.specs.declared.calls.WriterCall.TheVariants.{Cancel, Evict, Fill, Find, Replace, Update}
@@ -115,8 +115,7 @@ reads_on shape words roles log core id desk there call slot got is_at =
     = λ o. Core shape (set words place found) (set roles id (Writer o.0)) (log ++ ending (call_of call) o.1) in
     on_test Good (nat_eq (length got') (2 * get_or got' 0 0 + 1))
     (λ yes. let whole : length got' ≡ 2 * get_or got' 0 0 + 1 = eqb-true (length got') (2 * get_or got' 0 0 + 1) yes in
-    subst (λ (o : Option (List Row)). Good (decoded shape desk call o))
-    (sym (read_whole shape words roles log core (key_of call) slot got reading whole))
+    rw (read_whole shape words roles log core (key_of call) slot got reading whole)
     (decide_all shape words roles log core id desk there place call reading.rows reading.near reading.number
     reading.full (read_set shape words roles log core (key_of call) slot got reading) keeps_so idle))
     (λ no.

@@ -1,10 +1,6 @@
-use Rattle.std.proofs.Common.{subst, sym, ◌<◌, ◌≡◌}
-use Rattle.std.specs.Prelude.{Some, option_map}
-use Rattle.nr_model.specs.Maps.{number_of}
-use Rattle.nr_model.specs.declared.states.KeyState.{KeyState}
+use Rattle.std.proofs.Common.{subst, sym, ◌<◌}
 use Rattle.nr_core.proofs.Reach.{has_room, number_shown}
 use Rattle.nr_core.specs.States.{State}
-use Rattle.nr_core.specs.Story.{shown}
 use Rattle.nr_core.specs.Parts.{machine_state}
 use Rattle.nr_core.proofs.reached.Core.number.Goals as goal
 
@@ -15,6 +11,5 @@ pub returns-clause-shown : goal.returns-clause-shown
 returns-clause-shown c =
     let near : c.args.key < (machine_state c.self.inside.machine).shape.keys
     = subst (λ (s : State). c.args.key < s.shape.keys) (sym c.self.view_is) c.requires in
-    subst (λ (s : State). option_map (λ (z : KeyState). number_of z) (shown s c.args.key) ≡ Some c.number.result)
-    c.self.view_is
+    rw (sym c.self.view_is)
     (rw c.number.ensures (number_shown (machine_state c.self.inside.machine) c.self.invariant c.args.key near))

@@ -1,5 +1,4 @@
-use Rattle.std.proofs.Common.{rules, ◌≡◌, ◌<◌, false, length, slice_index, slice_set, subst, sym, List, Bool, ℕ}
-use Rattle.nr_core.specs.SlotLists.{AreReaped}
+use Rattle.std.proofs.Common.{rules, ◌≡◌, ◌<◌, false, length, slice_index, slice_set, List, Bool, ℕ}
 use Rattle.nr_core.proofs.Passed.{reaped_none, reaped_noted}
 use Rattle.nr_core.proofs.slot_lists.SlotLists.set_reaped.Goals as goal
 use Rattle.nr_core.proofs.slot_lists.SlotLists.set_reaped.Goals.{then-index-eq0, else-index-eq0}
@@ -16,10 +15,9 @@ pass_one-next-requires c =
     let noted : List Bool = slice_set own.reaped.items slot flag in
     elim c.if-index-eq0.branch [
       | then-index-eq0 w ↦ let none : flag ≡ false → slice_index own.retirements.items slot ≡ 0 = search rules in
-          subst (λ count. AreReaped count own.retired.items noted) (sym w.known-is)
+          rw w.known-is
           (reaped_noted own.passed own.slots own.retired.items own.reaped.items own.retirements.items reaped counts slot
           inside within flag none)
       | else-index-eq0 w ↦
-          subst (λ count. AreReaped count own.retired.items noted) (sym w.known-is)
-          (reaped_none own.retired.items noted)
+          rw w.known-is (reaped_none own.retired.items noted)
     ]
