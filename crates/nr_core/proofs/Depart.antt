@@ -6,7 +6,7 @@ use mathlib.Core.Logic.{dite}
 use mathlib.Core.Option.{some}
 use native.Mathlib.Decide.{ℕ_discrete}
 use Rattle.nr_model.specs.declared.rows.Row.{Row}
-use Rattle.nr_core.proofs.Frames.{Left, desk_more, holding_more}
+use Rattle.nr_core.proofs.Frames.{Left, knows_more}
 use Rattle.nr_core.proofs.OffKeys.{none_of, off_keys}
 use Rattle.nr_core.proofs.Sums.{only-other, only-same, total-set}
 use Rattle.nr_core.proofs.WordPlaces.{content_apart, departures_inside, same_departures}
@@ -19,7 +19,7 @@ use Rattle.nr_core.specs.Story.{map_after}
 use Rattle.nr_core.specs.Sums.{only}
 use Rattle.nr_core.specs.declared.roles.Grip.TheVariants.{Nothing, On}
 use Rattle.nr_core.specs.declared.roles.Role.{Role}
-use Rattle.nr_core.specs.declared.roles.Role.TheVariants.{Note, Reader, Writer}
+use Rattle.nr_core.specs.declared.roles.Role.TheVariants.{Reader}
 use Rattle.nr_core.specs.declared.shape.Shape.{Shape}
 
 pub departs : (shape : Shape) (id reader slot : ℕ) (rows : List Row) (sized : Bool)
@@ -62,16 +62,10 @@ departs shape id reader slot rows sized words roles log core there =
       sum = sums t;
     } in
     let others : (j : ℕ) (u : Role) → j ≢ id → get_elem? roles j ≡ some u → Knows shape words map (held roles) u
-    → Knows shape words' map (held roles') u = λ j u _ _. elim u as
-    (λ v. Knows shape words map (held roles) v → Knows shape words' map (held roles') v) [
-      | Writer
-          desk ↦ λ t. desk_more shape words words' map map (held roles) (held roles')
-          (λ k l. ap name_number (get_or-set_other words place k x 0 (λ e. omega arith))) (λ _ _. refl) desk
-          (λ _. refl) (λ y _ _. left y) t
-      | Reader other
-          y ↦ λ t. holding_more shape words words' map map (held roles) (held roles') y (λ a j _ _ low. cont a j low) t
-      | Note ↦ λ t. tt
-    ] in
+    → Knows shape words' map (held roles') u
+    = λ j u _ _. knows_more shape words words' map map (held roles) (held roles')
+    (λ k l. ap name_number (get_or-set_other words place k x 0 (λ e. omega arith))) (λ _ _. refl) u (λ _. refl)
+    (λ y _ _. left y) cont in
     record {
       after = role;
       entries = [];

@@ -1,6 +1,6 @@
 -- What a step leaves of what the callers know.
-use Rattle.std.proofs.Common.{List, [], ap, arith, cond, get_or, le-leb, set, suc, sym, ℕ, ◌%◌, ◌*◌, ◌+◌, ◌<◌, ◌^◌, ◌∙◌}
-use Rattle.std.proofs.Common.{◌≡◌, ◌≤◌}
+use Rattle.std.proofs.Common.{subst, List, [], ap, arith, cond, get_or, le-leb, set, suc, sym, ℕ, ◌%◌, ◌*◌, ◌+◌, ◌<◌}
+use Rattle.std.proofs.Common.{◌^◌, ◌∙◌, ◌≡◌, ◌≤◌}
 use lib.ListN.{get_elem?}
 use mathlib.Core.Option.{some}
 use Rattle.nr_model.specs.Maps.{PartialMap, number_of, reply_at, state_after, state_of}
@@ -8,11 +8,11 @@ use Rattle.nr_model.specs.declared.rows.Row.{Row}
 use Rattle.nr_model.specs.declared.states.KeyState.{KeyState}
 use Rattle.nr_words.proofs.SetWordLemmas.{length-row_words}
 use Rattle.nr_core.proofs.Sums.{only-same, term_le}
-use Rattle.nr_core.specs.Core.{AreNumbers, AtDesk, AtPlace, Grips, Reads, ShowsState, Wants}
-use Rattle.nr_core.specs.Roles.{grips, keeps, taken}
+use Rattle.nr_core.specs.Core.{AreNumbers, AtDesk, AtPlace, Core, Knows, Grips, Reads, ShowsState, Wants}
+use Rattle.nr_core.specs.Roles.{grips, keeps, taken, held}
 use Rattle.nr_core.specs.Slots.{SlotSpells, bound_of, content, departures, name_number, unused}
 use Rattle.nr_core.specs.States.{key_of}
-use Rattle.nr_core.specs.Story.{call_of}
+use Rattle.nr_core.specs.Story.{call_of, map_after}
 use Rattle.nr_core.specs.Sums.{only, total}
 use Rattle.nr_core.specs.declared.calls.WriterCall.{WriterCall}
 use Rattle.nr_core.specs.declared.places.Place.{Place}
@@ -21,8 +21,10 @@ use Rattle.nr_core.specs.declared.places.Retired.{Retired}
 use Rattle.nr_core.specs.declared.roles.Desk.{Desk}
 use Rattle.nr_core.specs.declared.roles.Grip.{Grip}
 use Rattle.nr_core.specs.declared.roles.Grip.TheVariants.{Nothing, On}
-use Rattle.nr_core.specs.declared.roles.Role.TheVariants.{Writer}
+use Rattle.nr_core.specs.declared.roles.Role.TheVariants.{Writer, Note, Reader}
 use Rattle.nr_core.specs.declared.shape.Shape.{Shape}
+use Rattle.nr_model.specs.Histories.{Entry}
+use Rattle.nr_core.specs.declared.roles.Role.{Role}
 use Rattle.nr_model.specs.declared.states.KeyState.TheVariants as key
 
 pub unused-free : (s f : ℕ) → f ≤ s → unused s f ≡ 1
@@ -174,3 +176,21 @@ module _ (shape : Shape) where
         retired = retired_more desk.retired (λ s near mine. left s near (omega arith)) t.retired;
         numbers = numbers_more shape m m' desk.numbers (λ k _. same_number k) t.numbers;
       }
+
+      -- what any caller knows
+      pub knows_more : (u : Role) → ((k : ℕ) → number_of (state_of m' k) ≡ number_of (state_of m k))
+          → ((s : ℕ) → s < shape.slots → 0 < keeps s u → Left s)
+          → ((s i : ℕ) → i ≤ 2 * (bound_of shape)
+          → get_or words' (content shape s i) 0 ≡ get_or words (content shape s i) 0)
+          → Knows shape words m hold u → Knows shape words' m' hold' u
+      knows_more (Writer desk) same_number left same t = desk_more desk same_number left t
+      knows_more (Reader reader grip) same_number left same t = holding_more grip (λ s i _ _ low. same s i low) t
+      knows_more Note same_number left same t = tt
+
+-- what the writer knows at a place
+pub stands_at : (shape : Shape) (words : List ℕ) (roles : List Role) (log : List Entry) → Core shape words roles log
+    → (id : ℕ) (desk : Desk) → get_elem? roles id ≡ some (Writer desk) → (place : Place) → desk.place ≡ place
+    → AtPlace shape words (map_after shape log) (held roles) desk.fresh desk.retired place
+stands_at shape words roles log core id desk there place is =
+    subst (AtPlace shape words (map_after shape log) (held roles) desk.fresh desk.retired) is
+    (core.knows id (Writer desk) there).place

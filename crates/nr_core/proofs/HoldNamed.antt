@@ -19,7 +19,7 @@ use Rattle.nr_words.specs.KeyWords.{is_filled, slot_of}
 use Rattle.nr_core.proofs.Choices.{by_cases}
 use Rattle.nr_core.proofs.Counting.{names_it}
 use Rattle.nr_core.proofs.FindAgain.{find_more}
-use Rattle.nr_core.proofs.Frames.{Left, desk_more, holding_more}
+use Rattle.nr_core.proofs.Frames.{Left, holding_more, knows_more}
 use Rattle.nr_core.proofs.Learn.{nothing}
 use Rattle.nr_core.proofs.OffKeys.{none_of, off_keys}
 use Rattle.nr_core.proofs.OnKey.{kept_by}
@@ -35,7 +35,7 @@ use Rattle.nr_core.specs.Sums.{only}
 use Rattle.nr_core.specs.declared.operation.Operation.TheVariants.{Load}
 use Rattle.nr_core.specs.declared.roles.Grip.TheVariants.{Nothing, On}
 use Rattle.nr_core.specs.declared.roles.Role.{Role}
-use Rattle.nr_core.specs.declared.roles.Role.TheVariants.{Note, Reader, Writer}
+use Rattle.nr_core.specs.declared.roles.Role.TheVariants.{Reader}
 use Rattle.nr_core.specs.declared.shape.Shape.{Shape}
 
 -- a find that the map answers so, by a load at which the caller's role stays
@@ -144,24 +144,13 @@ holds_more shape words roles log core id reader k slot rows near_key names near 
     } in
     let others : (j : ℕ) (u : Role) → j ≢ id → get_elem? roles j ≡ some u → Knows shape words map (held roles) u
     → Knows shape words' map (held roles') u
-    = λ j u _.
-    elim u as (λ v. get_elem? roles j ≡ some v → Knows shape words map (held roles) v
-    → Knows shape words' map (held roles') v) [
-      | Writer
-          desk ↦ λ at t. desk_more shape words words' map map (held roles) (held roles')
-          (λ k l. ap name_number (get_or-set_other words place k x 0 (λ e. omega arith))) (λ _ _. refl) desk
-          (λ _. refl)
-          (λ y low mine. left y
-          (λ e.
-          let kept
-          = kept_by slot roles j (Writer desk) at (subst (λ (s : ℕ). 0 < keeps s (Writer desk)) e mine) in
-          absurd (omega (arith, is_named, core.places slot near))))
-          t
-      | Reader other
-          y ↦ λ _ t. holding_more shape words words' map map (held roles) (held roles') y (λ a j _ _ low. cont a j low)
-          t
-      | Note ↦ λ _ t. tt
-    ] in
+    = λ j u _ at. knows_more shape words words' map map (held roles) (held roles')
+    (λ k l. ap name_number (get_or-set_other words place k x 0 (λ e. omega arith))) (λ _ _. refl) u (λ _. refl)
+    (λ y low mine. left y
+    (λ e.
+    let kept = kept_by slot roles j u at (subst (λ (s : ℕ). 0 < keeps s u) e mine) in
+    absurd (omega (arith, is_named, core.places slot near))))
+    cont in
     off_keys shape words roles log core id before role place x (omega arith) there refl refl (λ _ _. refl)
     (λ t j _ low _. cont t j low) (λ t _ _. sums t) others
     (holding_more shape words words' map map (held roles) (held roles') (On slot rows false)

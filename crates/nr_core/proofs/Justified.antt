@@ -17,7 +17,6 @@ use Rattle.nr_core.proofs.Settle.{key_same}
 use Rattle.nr_core.proofs.StateRoles.{IsCoreState}
 use Rattle.nr_core.proofs.Sweeps.{AtSweep, Notes, Swept, polled_slots}
 use Rattle.nr_core.proofs.Without.{IsWithout, NoneLeft, decided_none, look_none, not_going, not_reply, polled_none}
-use Rattle.nr_core.specs.Core.{AtPlace, Reads}
 use Rattle.nr_core.specs.Laws.{EndsWithout, IsJustified, call_of_event, call_in}
 use Rattle.nr_core.specs.Machine.{or_refusal, found_by, moved, unless}
 use Rattle.nr_core.specs.Operations.{going, target_of}
@@ -36,7 +35,7 @@ use Rattle.nr_core.specs.declared.places.Place.{Place}
 use Rattle.nr_core.specs.declared.places.Place.TheVariants.{Idle, Leaving, Putting, Reading, Searching, Withdrawing}
 use Rattle.nr_core.specs.declared.places.Retired.{Retired}
 use Rattle.nr_core.specs.declared.roles.Desk.{Desk}
-use Rattle.nr_core.specs.declared.roles.Role.TheVariants.{Writer}
+use Rattle.nr_core.proofs.Frames.{stands_at}
 use Rattle.nr_core.specs.declared.calls.Refusal.TheVariants as refuse
 use Rattle.nr_model.specs.declared.calls.Reply.TheVariants as reply
 use Rattle.nr_core.specs.declared.calls.WReply.TheVariants as writer
@@ -149,9 +148,7 @@ go_ending state log polls is_core swept (Putting call rows slot departed index) 
     (λ _ e'. absurd (not_going counts e')) (λ _ e'. absurd (not_reply counts reply.Done e')) e
 go_ending state log polls is_core swept (Reading call s got) is counts e =
     let shape = state.shape in let words = state.words in let desk = state.desk in let map_now = map_after shape log in
-    let known = is_core.core.knows 0 (Writer desk) is_core.fit.writer in
-    let p : Reads shape words map_now (held is_core.roles) (key_of call) s got
-    = subst (AtPlace shape words map_now (held is_core.roles) desk.fresh desk.retired) is known.place in
+    let p = stands_at shape words is_core.roles log is_core.core 0 desk is_core.fit.writer _ is in
     let got' : List ℕ = got ++ get_or words (content shape s (length got)) 0 ∷ [] in
     let none_polled : polls ≡ [] = subst (AtSweep state polls) is swept.sweep in
     on_test
@@ -177,9 +174,7 @@ go_ending state log polls is_core swept (Reading call s got) is counts e =
     (λ _ e'. absurd (not_going counts e')) e
 go_ending state log polls is_core swept (Searching call rows q) is counts e =
     let shape = state.shape in let words = state.words in let desk = state.desk in let map_now = map_after shape log in
-    let known = is_core.core.knows 0 (Writer desk) is_core.fit.writer in
-    let at_p : AtPlace shape words map_now (held is_core.roles) desk.fresh desk.retired (Searching call rows q)
-    = subst (AtPlace shape words map_now (held is_core.roles) desk.fresh desk.retired) is known.place in
+    let at_p = stands_at shape words is_core.roles log is_core.core 0 desk is_core.fit.writer _ is in
     let notes : Notes state polls q = subst (AtSweep state polls) is swept.sweep in
     let found = get_or words (departures shape (retired_at desk q).slot) 0 in let within = at_p.1 in
     let n = polled_none shape desk counts call rows q found e in

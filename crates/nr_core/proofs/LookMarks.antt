@@ -18,8 +18,7 @@ use Rattle.nr_words.specs.SetWords.{decode}
 use Rattle.nr_core.proofs.Choices.{on_test}
 use Rattle.nr_core.proofs.ReadThrough.{read_whole}
 use Rattle.nr_core.proofs.Without.{decided_none, look_none}
-use Rattle.nr_core.specs.Core.{AtPlace, Reads}
-use Rattle.nr_core.specs.Roles.{held, retirements, taken}
+use Rattle.nr_core.specs.Roles.{retirements, taken}
 use Rattle.nr_core.specs.declared.operation.Operation.TheVariants.{Load}
 use Rattle.nr_core.specs.Slots.{content, bound_of}
 use Rattle.nr_core.specs.States.{key_of}
@@ -46,6 +45,7 @@ use Rattle.nr_core.specs.MarkSteps.{LooksMarks, ReadsOnMarks}
 use Rattle.nr_core.proofs.ListPlaces.{at_maps, inside, no_places}
 use Rattle.nr_core.proofs.PutNumbers.{quiet_count, quiet_number}
 use Rattle.nr_core.proofs.DeskMarks.{QuietEnd, Went, desk_of, load_step, no_room_left, nothing_ends}
+use Rattle.nr_core.proofs.Frames.{stands_at}
 
 -- whether a step puts a set
 abbrev step_puts : Step → Bool
@@ -192,9 +192,7 @@ module _ {A : Type 0} (role : A → Role) (marks : A → Marks) (shape : Shape) 
       let none : (marks me).polls ≡ [] = subst (Sweeping role marks callers desk (marks me).polls) is_at own.sweep in
       let roles = map role callers in
       let there : get_elem? roles id ≡ some (Writer desk) = at_maps role callers id me at ∙ ap some was in
-      let p : Reads shape words (map_after shape log) (held roles) (key_of call) slot got
-      = subst (AtPlace shape words (map_after shape log) (held roles) desk.fresh desk.retired) is_at
-      (core.knows id (Writer desk) there).place in
+      let p = stands_at shape words roles log core id desk there _ is_at in
       let quiet : QuietEnd log entries = subst (QuietEnd log) (sym ans.1) (quiet_end log (call_of call) o.1 calm.2) in
       let NoneThere : Type 0
       = (shape.slots ≤ desk.fresh) × (length desk.retired ≡ 0)

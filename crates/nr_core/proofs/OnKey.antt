@@ -9,7 +9,7 @@ use Rattle.nr_model.specs.Histories.{Entry, IsLegal, after}
 use Rattle.nr_model.specs.Maps.{number_of, state_of}
 use Rattle.nr_model.specs.declared.states.KeyState.{KeyState}
 use Rattle.nr_words.specs.KeyWords.{arrivals_of}
-use Rattle.nr_core.proofs.Frames.{Left, desk_more, holding_more, shows_more}
+use Rattle.nr_core.proofs.Frames.{Left, holding_more, shows_more, knows_more}
 use Rattle.nr_core.proofs.Sums.{at_set, below-same, below-term, below-terms, only-same, term_le, total-set}
 use Rattle.nr_core.specs.Core.{Core, Grips, Knows, ShowsState}
 use Rattle.nr_core.specs.Roles.{grips, held, holds, is_reader, is_writer, keeps}
@@ -18,7 +18,7 @@ use Rattle.nr_core.specs.Story.{map_after, opening_map, shown}
 use Rattle.nr_core.specs.Sums.{only, total}
 use Rattle.nr_core.specs.declared.roles.Grip.{Grip}
 use Rattle.nr_core.specs.declared.roles.Role.{Role}
-use Rattle.nr_core.specs.declared.roles.Role.TheVariants.{Note, Reader, Writer}
+use Rattle.nr_core.specs.declared.roles.Role.TheVariants.{Reader}
 use Rattle.nr_core.specs.declared.shape.Shape.{Shape}
 use Rattle.nr_model.specs.declared.states.KeyState.TheVariants as key
 
@@ -103,16 +103,9 @@ on_key shape words roles log es core id c before after k x near at same-name leg
       sum = ap (λ (p : ℕ × ℕ). (p.0 + p.1) % 2 ^ 40) (λ i. (dep s i, state i));
     } in
     let others : (j : ℕ) (u : Role) → get_elem? roles j ≡ some u → Knows shape words map (held roles) u
-    → Knows shape words' map' (held roles')
-    u = λ j u. elim u as (λ v. get_elem? roles j ≡ some v → Knows shape words map (held roles) v
-    → Knows shape words' map' (held roles') v) [
-      | Writer
-          desk ↦ λ there t. desk_more shape words words' map map' (held roles) (held roles') (λ y _. names y) stays desk
-          same-number (λ s l kept. left s l (kept_by s roles j (Writer desk) there kept)) t
-      | Reader other
-          y ↦ λ there t. holding_more shape words words' map map' (held roles) (held roles') y (λ s i _ _ _. cont s i) t
-      | Note ↦ λ there t. tt
-    ] in
+    → Knows shape words' map' (held roles') u
+    = λ j u there. knows_more shape words words' map map' (held roles) (held roles') (λ y _. names y) stays u
+    same-number (λ s l kept. left s l (kept_by s roles j u there kept)) (λ s i _. cont s i) in
     record {
       fits = core.fits;
       wide = length-set words k x ∙ wide;

@@ -1,7 +1,7 @@
 -- A poll of a retired slot: the slot is taken where nobody holds it, else the call polls the next, or ends with no
 -- slot. A search may poll any of them, and be given up.
-use Rattle.std.proofs.Common.{[], List, true, ◌<◌, ap, arith, cond, get_or, length, nat_eq, refl, set, subst, sym, ℕ}
-use Rattle.std.proofs.Common.{◌%◌, ◌++◌, ◌+◌, ◌^◌, ◌≡◌, ◌≤◌}
+use Rattle.std.proofs.Common.{[], List, true, ◌<◌, ap, arith, cond, get_or, length, nat_eq, refl, set, sym, ℕ, ◌%◌}
+use Rattle.std.proofs.Common.{◌++◌, ◌+◌, ◌^◌, ◌≡◌, ◌≤◌}
 use Rattle.std.proofs.lemmas.Bool.{eqb-true, ltb-true}
 use Rattle.std.specs.Prelude.{nat_lt}
 use lib.ListN.{get_elem?}
@@ -15,7 +15,7 @@ use Rattle.nr_core.proofs.OffKeys.{none_of}
 use Rattle.nr_core.specs.StepLaws.{GiveUpLaw, TryLaw}
 use Rattle.nr_core.proofs.Settle.{goes_on, idle_desk}
 use Rattle.nr_core.proofs.Sums.{at_remove, got_at, only-le, total-le, total-remove}
-use Rattle.nr_core.specs.Core.{AtPlace, Core}
+use Rattle.nr_core.specs.Core.{Core}
 use Rattle.nr_core.specs.Roles.{held, holds, is_by, is_reader, keeps, taken}
 use Rattle.nr_core.specs.Slots.{departures, unused}
 use Rattle.nr_core.specs.States.{no_retired, retired_at}
@@ -32,6 +32,7 @@ use Rattle.nr_core.specs.declared.roles.Grip.TheVariants.{Nothing, On}
 use Rattle.nr_core.specs.declared.roles.Role.{Role}
 use Rattle.nr_core.specs.declared.roles.Role.TheVariants.{Note, Reader, Writer}
 use Rattle.nr_core.specs.declared.shape.Shape.{Shape}
+use Rattle.nr_core.proofs.Frames.{stands_at}
 
 holds-le : (s : ℕ) (r : Role) → holds s r ≤ is_reader r
 holds-le s (Writer desk) = omega arith
@@ -56,8 +57,7 @@ takes shape words roles log core id desk there call rows at poll is_at low agree
     let slot : ℕ = z.slot in
     let place : ℕ = departures shape slot in
     let found : ℕ = get_or words place 0 in
-    let at_p : AtPlace shape words map (held roles) desk.fresh desk.retired (Searching call rows at)
-    = subst (AtPlace shape words map (held roles) desk.fresh desk.retired) is_at known.place in
+    let at_p = stands_at shape words roles log core id desk there _ is_at in
     let here : get_elem? desk.retired poll ≡ some z = got_at desk.retired poll no_retired low in
     let counted = known.retired poll z here in
     let count = counted.1 in
@@ -106,8 +106,7 @@ polls shape words roles log core id desk there call rows poll is_at =
     let slot : ℕ = z.slot in
     let place : ℕ = departures shape slot in
     let found : ℕ = get_or words place 0 in
-    let at_p : AtPlace shape words map (held roles) desk.fresh desk.retired (Searching call rows poll)
-    = subst (AtPlace shape words map (held roles) desk.fresh desk.retired) is_at known.place in
+    let at_p = stands_at shape words roles log core id desk there _ is_at in
     let keeps_so : (u : ℕ)
     → keeps u (Writer desk) ≡ unused u desk.fresh + total (λ (x : Retired). only u x.slot) desk.retired + 0
     = λ u.

@@ -13,12 +13,12 @@ use Rattle.nr_words.specs.KeyWords.{same_count}
 use Rattle.nr_core.proofs.Choices.{by_cases}
 use Rattle.nr_core.proofs.Sums.{got_at, only-is, only-le, only-other, only-same, some_term, term_le, terms_le}
 use Rattle.nr_core.proofs.Sums.{total-append, total-remove}
-use Rattle.nr_core.specs.Core.{AtPlace, Core}
-use Rattle.nr_core.specs.Roles.{held, holds, retirements, taken}
+use Rattle.nr_core.specs.Core.{Core}
+use Rattle.nr_core.specs.Roles.{holds, retirements, taken}
 use Rattle.nr_core.specs.declared.operation.Operation.TheVariants.{Load}
 use Rattle.nr_core.specs.Slots.{departures}
 use Rattle.nr_core.specs.States.{no_retired, retired_at}
-use Rattle.nr_core.specs.Story.{call_of, ending, map_after}
+use Rattle.nr_core.specs.Story.{call_of, ending}
 use Rattle.nr_core.specs.Sums.{only, total}
 use Rattle.nr_core.specs.Writer.{moved_to, no_slot, polls_on, taking_retired}
 use Rattle.nr_core.specs.declared.calls.Step.{Step}
@@ -41,6 +41,7 @@ use Rattle.nr_core.proofs.MarksSince.{rests}
 use Rattle.nr_core.proofs.DeskMarks.{Went, desk_of, load_step, no_room_left, none_end}
 use Rattle.nr_core.proofs.Holders.{ReaderThere, alone_more, holder_of, in_range, noted, present_more, same_caller}
 use Rattle.nr_core.proofs.Holders.{since_more}
+use Rattle.nr_core.proofs.Frames.{stands_at}
 
 module _ {A : Type 0} (role : A → Role) (marks : A → Marks) where
   module _ (shape : Shape) (words : List ℕ) (callers : List A) (log : List Entry)
@@ -110,9 +111,7 @@ module _ {A : Type 0} (role : A → Role) (marks : A → Marks) where
         let own = desk_of role marks shape words callers log id me desk m at was in
         let there : get_elem? roles id ≡ some (Writer desk) = at_maps role callers id me at ∙ ap some was in
         let mine = core.knows id (Writer desk) there in
-        let p : AtPlace shape words (map_after shape log) (held roles) desk.fresh desk.retired
-        (Searching call rows poll)
-        = subst (AtPlace shape words (map_after shape log) (held roles) desk.fresh desk.retired) is_at mine.place in
+        let p = stands_at shape words roles log core id desk there _ is_at in
         let sweeps : Sweeps role marks callers desk (marks me).polls poll
         = (subst (Sweeping role marks callers desk (marks me).polls) is_at own.sweep).1 each in
         let here : get_elem? desk.retired poll ≡ some entry = got_at desk.retired poll no_retired p.1 in

@@ -13,8 +13,8 @@ use Rattle.nr_core.proofs.Numbers.{numbers_kept}
 use Rattle.nr_core.proofs.Settle.{key_same}
 use Rattle.nr_core.proofs.Sums.{only-suc}
 use Rattle.nr_core.proofs.Swap.{swap_step}
-use Rattle.nr_core.specs.Core.{AtPlace, Core, Puts, ShowsState}
-use Rattle.nr_core.specs.Roles.{held, taken}
+use Rattle.nr_core.specs.Core.{Core, ShowsState}
+use Rattle.nr_core.specs.Roles.{taken}
 use Rattle.nr_core.specs.States.{key_of}
 use Rattle.nr_core.specs.Story.{call_of, entry, map_after}
 use Rattle.nr_core.specs.Sums.{only}
@@ -25,6 +25,7 @@ use Rattle.nr_core.specs.declared.roles.Desk.{Desk}
 use Rattle.nr_core.specs.declared.roles.Role.{Role}
 use Rattle.nr_core.specs.declared.roles.Role.TheVariants.{Writer}
 use Rattle.nr_core.specs.declared.shape.Shape.{Shape}
+use Rattle.nr_core.proofs.Frames.{stands_at}
 use Rattle.nr_model.specs.declared.calls.Reply.TheVariants as reply
 
 pub publishes : (shape : Shape) (words : List ℕ) (roles : List Role) (log : List Entry)
@@ -38,8 +39,7 @@ pub publishes : (shape : Shape) (words : List ℕ) (roles : List Role) (log : Li
 publishes shape words roles log core id desk there call rows slot departed index is_at past =
     let known = core.knows id (Writer desk) there in
     let map = map_after shape log in
-    let putting : Puts shape words map (held roles) call rows slot departed index = subst
-    (AtPlace shape words map (held roles) desk.fresh desk.retired) is_at known.place in
+    let putting = stands_at shape words roles log core id desk there _ is_at in
     let wants = putting.wants in
     let fits = core.fits.slots in
     let inside = putting.inside in let n = naming_is slot departed (omega arith) in

@@ -9,11 +9,11 @@ use Rattle.nr_model.specs.Histories.{Entry}
 use Rattle.nr_model.specs.declared.rows.Row.{Row}
 use Rattle.nr_words.proofs.SetWordLemmas.{length-row_words}
 use Rattle.nr_words.specs.SetWords.{encode}
-use Rattle.nr_core.proofs.Frames.{Left, free_more, retired_more, unused-free}
+use Rattle.nr_core.proofs.Frames.{Left, free_more, retired_more, unused-free, stands_at}
 use Rattle.nr_core.proofs.OffKeys.{no_writer, off_keys}
 use Rattle.nr_core.proofs.Sums.{only-same, term_le, total-set}
 use Rattle.nr_core.proofs.WordPlaces.{content_apart, content_inside, same_content}
-use Rattle.nr_core.specs.Core.{AtDesk, AtPlace, Core, Puts}
+use Rattle.nr_core.specs.Core.{AtDesk, Core}
 use Rattle.nr_core.specs.Roles.{held, holds, keeps, taken}
 use Rattle.nr_core.specs.Slots.{bound_of, content, departures, named, unused}
 use Rattle.nr_core.specs.Story.{map_after}
@@ -37,8 +37,7 @@ pub puts : (shape : Shape) (words : List ℕ) (roles : List Role) (log : List En
 puts shape words roles log core id desk there call rows slot departed index is_at low_enough =
     let desk' = moved_to desk (Putting call rows slot departed (index + 1)) in let map = map_after shape log in
     let mine = core.knows id (Writer desk) there in
-    let putting : Puts shape words map (held roles) call rows slot departed index
-    = subst (AtPlace shape words map (held roles) desk.fresh desk.retired) is_at mine.place in
+    let putting = stands_at shape words roles log core id desk there _ is_at in
     let near : slot < shape.slots = putting.inside in let nobody_there : held roles slot ≡ 0 = putting.nobody in
     let short = putting.wants.row_set.1 in
     let wide = core.wide in

@@ -6,7 +6,7 @@ use lib.Seq.{set-get_or}
 use mathlib.Core.Option.{some}
 use Rattle.nr_model.specs.declared.rows.Row.{Row}
 use Rattle.nr_words.specs.SetWords.{encode}
-use Rattle.nr_core.proofs.Frames.{Left, desk_more, holding_more}
+use Rattle.nr_core.proofs.Frames.{Left, holding_more, knows_more}
 use Rattle.nr_core.proofs.OffKeys.{none_of, off_keys}
 use Rattle.nr_core.proofs.Sums.{total-set}
 use Rattle.nr_core.specs.Core.{Knows}
@@ -17,7 +17,7 @@ use Rattle.nr_core.specs.Steps.{CanStep, ReadsHeld}
 use Rattle.nr_core.specs.Story.{map_after}
 use Rattle.nr_core.specs.declared.roles.Grip.TheVariants.{On}
 use Rattle.nr_core.specs.declared.roles.Role.{Role}
-use Rattle.nr_core.specs.declared.roles.Role.TheVariants.{Note, Reader, Writer}
+use Rattle.nr_core.specs.declared.roles.Role.TheVariants.{Reader}
 use Rattle.nr_core.specs.declared.shape.Shape.{Shape}
 
 pub reads : (shape : Shape) (id reader slot : ℕ) (rows : List Row) (sized : Bool) (index : ℕ)
@@ -40,17 +40,10 @@ reads shape id reader slot rows sized index low words roles log core there =
           ap (λ (pair : ℕ × ℕ). (pair.0 + pair.1) % 2 ^ 40) (λ j. (get_or (same j) (departures shape t) 0, still t j));
     } in
     let others : (j : ℕ) (u : Role) → j ≢ id → get_elem? roles j ≡ some u → Knows shape words map (held roles) u
-    → Knows shape words' map (held roles') u = λ j u _ _. elim u as
-    (λ v. Knows shape words map (held roles) v → Knows shape words' map (held roles') v) [
-      | Writer
-          desk ↦ λ t. desk_more shape words words' map map (held roles) (held roles')
-          (λ k l. ap (λ (l : List ℕ). name_number (get_or l k 0)) same) (λ _ _. refl) desk (λ _. refl)
-          (λ y _ _. left y) t
-      | Reader other
-          y ↦ λ t. holding_more shape words words' map map (held roles) (held roles') y
-          (λ a j _ _ low. (left a).contents j low) t
-      | Note ↦ λ t. tt
-    ] in
+    → Knows shape words' map (held roles') u
+    = λ j u _ _. knows_more shape words words' map map (held roles) (held roles')
+    (λ k l. ap (λ (l : List ℕ). name_number (get_or l k 0)) same) (λ _ _. refl) u (λ _. refl) (λ y _ _. left y)
+    (λ a j low. (left a).contents j low) in
     record {
       after = role;
       entries = [];

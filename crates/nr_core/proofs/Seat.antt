@@ -4,7 +4,7 @@ use Rattle.std.proofs.Common.{◌∷◌, ◌≡◌, ◌≤◌}
 use lib.ListN.{get_elem?}
 use mathlib.Core.Option.{some}
 use Rattle.nr_model.specs.Histories.{Entry}
-use Rattle.nr_core.proofs.Frames.{Left, desk_more, holding_more}
+use Rattle.nr_core.proofs.Frames.{Left, knows_more}
 use Rattle.nr_core.proofs.OffKeys.{no_writer}
 use Rattle.nr_core.proofs.Sums.{at_snoc, total-append}
 use Rattle.nr_core.specs.Core.{Core, Knows}
@@ -14,7 +14,7 @@ use Rattle.nr_core.specs.Story.{map_after}
 use Rattle.nr_core.specs.Sums.{total}
 use Rattle.nr_core.specs.declared.roles.Grip.TheVariants.{Nothing}
 use Rattle.nr_core.specs.declared.roles.Role.{Role}
-use Rattle.nr_core.specs.declared.roles.Role.TheVariants.{Note, Reader, Writer}
+use Rattle.nr_core.specs.declared.roles.Role.TheVariants.{Note, Reader}
 use Rattle.nr_core.specs.declared.shape.Shape.{Shape}
 
 seated : (shape : Shape) (words : List ℕ) (roles : List Role) (log : List Entry) (role : Role)
@@ -36,14 +36,8 @@ seated shape words roles log role core no_writer few no_hold no_keep own =
       sum = ap (λ (y : ℕ). (get_or words (departures shape s) 0 + y) % 2 ^ 40) (still s);
     } in
     let others : (u : Role) → Knows shape words map (held roles) u → Knows shape words map (held roles') u
-    = λ u. elim u as (λ v. Knows shape words map (held roles) v → Knows shape words map (held roles') v) [
-      | Writer
-          desk ↦ λ t. desk_more shape words words map map (held roles) (held roles') (λ _ _. refl) (λ _ _. refl) desk
-          (λ _. refl) (λ s _ _. left s) t
-      | Reader reader
-          grip ↦ λ t. holding_more shape words words map map (held roles) (held roles') grip (λ _ _ _ _ _. refl) t
-      | Note ↦ λ t. tt
-    ] in
+    = λ u. knows_more shape words words map map (held roles) (held roles') (λ _ _. refl) (λ _ _. refl) u (λ _. refl)
+    (λ s _ _. left s) (λ _ _ _. refl) in
     record {
       fits = core.fits;
       wide = core.wide;

@@ -17,12 +17,12 @@ use Rattle.nr_core.proofs.KeyWords.{name_low, naming_is}
 use Rattle.nr_core.proofs.Settle.{key_same}
 use Rattle.nr_core.proofs.Sums.{below-change, below-same, below-term, only-other, only-same, only-suc, only-zero}
 use Rattle.nr_core.proofs.Sums.{term_le, total-append}
-use Rattle.nr_core.specs.Core.{AtPlace, Puts, ShowsState, Withdraws}
+use Rattle.nr_core.specs.Core.{ShowsState}
 use Rattle.nr_core.specs.Roles.{grips, held, holds, taken}
 use Rattle.nr_core.specs.declared.operation.Operation.TheVariants.{Store, Swap}
 use Rattle.nr_core.specs.Slots.{content, name_number, SlotSpells}
 use Rattle.nr_core.specs.States.{key_of, number_at}
-use Rattle.nr_core.specs.Story.{call_of, entry, map_after}
+use Rattle.nr_core.specs.Story.{call_of, entry}
 use Rattle.nr_core.specs.Sums.{only}
 use Rattle.nr_core.specs.Writer.{moved_to, swapped, unnamed, withdrawn}
 use Rattle.nr_core.specs.declared.calls.WriterCall.{WriterCall}
@@ -47,7 +47,7 @@ use Rattle.nr_core.proofs.ReaderMarks.{names_behind, names_kept, contents_behind
 use Rattle.nr_core.proofs.LookMarks.{none_hold}
 use Rattle.nr_core.proofs.DeskMarks.{QuietEnd, desk_keep, desk_of, desk_stay, nothing_ends, writer_step}
 use Rattle.nr_core.proofs.MarksSince.{SameContents}
-use Rattle.nr_core.proofs.Frames.{spells_more}
+use Rattle.nr_core.proofs.Frames.{spells_more, stands_at}
 use Rattle.nr_core.proofs.Swap.{unnamed_sum}
 use Rattle.nr_core.proofs.WordPlaces.{same_content}
 use Rattle.nr_words.proofs.SetWordLemmas.{length-row_words}
@@ -172,9 +172,7 @@ module _ {A : Type 0} (role : A → Role) (marks : A → Marks) where
         let own = desk_of role marks shape words callers log id me desk m there was in
         let roles = map role callers in
         let there' : get_elem? roles id ≡ some (Writer desk) = at_maps role callers id me there ∙ ap some was in
-        let p : Puts shape words (map_after shape log) (held roles) call rows slot departed at = subst
-        (AtPlace shape words (map_after shape log) (held roles) desk.fresh desk.retired) is_at
-        (core.knows id (Writer desk) there').place in
+        let p = stands_at shape words roles log core id desk there' _ is_at in
         let short = p.wants.row_set.1 in
         writer_step role marks shape id me (Store i x) (KeepsMarks (marks me)) words callers log core m there desk desk'
         was after entries ans.0 (marks me)
@@ -206,9 +204,7 @@ module _ {A : Type 0} (role : A → Role) (marks : A → Marks) where
         let e = entry 0 (call_of call) reply.Done in
         let own = desk_of role marks shape words callers log id me desk m there was in let roles = map role callers in
         let at' : get_elem? roles id ≡ some (Writer desk) = at_maps role callers id me there ∙ ap some was in
-        let p : Puts shape words (map_after shape log) (held roles) call rows slot departed at
-        = subst (AtPlace shape words (map_after shape log) (held roles) desk.fresh desk.retired) is_at
-        (core.knows id (Writer desk) at').place in
+        let p = stands_at shape words roles log core id desk at' _ is_at in
         let near : k < shape.keys = p.wants.near in
         let in_range : slot < shape.slots = p.inside in
         let nobody : held roles slot ≡ 0 = p.nobody in
@@ -282,9 +278,7 @@ module _ {A : Type 0} (role : A → Role) (marks : A → Marks) where
         let e = entry 0 (model.Evict k) reply.Evicted in
         let own = desk_of role marks shape words callers log id me desk m there was in let roles = map role callers in
         let at' : get_elem? roles id ≡ some (Writer desk) = at_maps role callers id me there ∙ ap some was in
-        let p : AtPlace shape words (map_after shape log) (held roles) desk.fresh desk.retired (Leaving k) = subst
-        (AtPlace shape words (map_after shape log) (held roles) desk.fresh desk.retired) is_at
-        (core.knows id (Writer desk) at').place in
+        let p = stands_at shape words roles log core id desk at' _ is_at in
         let reads = p.1 in let near : k < shape.keys = reads.near in let wide = core.wide in let wide' = own.wide.0 in
         let quiet : (marks me).polls ≡ [] = subst (Sweeping role marks callers desk (marks me).polls) is_at own.sweep in
         let here : name_number (get_or words' k 0) ≡ 0
@@ -333,9 +327,8 @@ module _ {A : Type 0} (role : A → Role) (marks : A → Marks) where
         let e = entry 0 (model.Cancel k) reply.Cancelled in
         let own = desk_of role marks shape words callers log id me desk m there was in let roles = map role callers in
         let at' : get_elem? roles id ≡ some (Writer desk) = at_maps role callers id me there ∙ ap some was in
-        let p : Withdraws shape (map_after shape log) k
-        = subst (AtPlace shape words (map_after shape log) (held roles) desk.fresh desk.retired) is_at
-        (core.knows id (Writer desk) at').place in let near : k < shape.keys = p.near in let wide = core.wide in
+        let p = stands_at shape words roles log core id desk at' _ is_at in
+        let near : k < shape.keys = p.near in let wide = core.wide in
         let quiet : (marks me).polls ≡ [] = subst (Sweeping role marks callers desk (marks me).polls) is_at own.sweep in
         let shown : ShowsState shape words (get_or words k 0) (key.Asked p.number)
         = subst (ShowsState shape words (get_or words k 0)) p.asked (core.shows k near) in

@@ -30,7 +30,6 @@ use Rattle.nr_core.proofs.Poll.{polls}
 use Rattle.nr_core.proofs.StateRoles.{IsCoreState, state_sums}
 use Rattle.nr_core.proofs.Sums.{below-term, got_at, only-is, only-same, some_term, term_le, terms_le}
 use Rattle.nr_core.specs.Accounts.{on}
-use Rattle.nr_core.specs.Core.{AtPlace}
 use Rattle.nr_core.specs.Machine.{moved, read_hold}
 use Rattle.nr_core.specs.Operations.{going, target_of}
 use Rattle.nr_core.specs.Refusals.{has_key, has_reader, if_holding, if_not_holding, if_unreadable, refusal}
@@ -55,6 +54,7 @@ use Rattle.nr_core.specs.declared.places.Retired.{Retired}
 use Rattle.nr_core.specs.declared.roles.Desk.{Desk}
 use Rattle.nr_core.specs.declared.roles.Role.TheVariants.{Writer}
 use Rattle.nr_core.specs.declared.shape.Shape.{Shape}
+use Rattle.nr_core.proofs.Frames.{stands_at}
 use Rattle.nr_core.specs.declared.places.Hold.TheVariants as hold
 use Rattle.nr_core.specs.declared.calls.Refusal.TheVariants as refuse
 use Rattle.nr_model.specs.declared.calls.Reply.TheVariants as reply
@@ -408,10 +408,7 @@ go_swept state log polls is_core sw (Searching call rows p) is w w_is words made
     let s = z.slot in
     let n : Notes state polls p = subst (AtSweep state polls) is sw.sweep in
     let known = is_core.core.knows 0 (Writer desk) is_core.fit.writer in
-    let at_p : AtPlace shape state.words (map_after shape log) (held is_core.roles) desk.fresh desk.retired
-    (Searching call rows p)
-    = subst
-    (AtPlace shape state.words (map_after shape log) (held is_core.roles) desk.fresh desk.retired) is known.place in
+    let at_p = stands_at shape state.words is_core.roles log is_core.core 0 desk is_core.fit.writer _ is in
     let within = at_p.1 in
     let count = (known.retired p z (got_at desk.retired p no_retired within)).1 in
     let Taken : Desk = taking_retired desk call rows p w in

@@ -10,8 +10,8 @@ use Rattle.nr_core.proofs.KeyWords.{hole_is}
 use Rattle.nr_core.proofs.Numbers.{number_within, numbers_kept}
 use Rattle.nr_core.proofs.Sums.{only-zero}
 use Rattle.nr_core.proofs.Swap.{swap_step}
-use Rattle.nr_core.specs.Core.{AtPlace, Core, ShowsState}
-use Rattle.nr_core.specs.Roles.{held, taken}
+use Rattle.nr_core.specs.Core.{Core, ShowsState}
+use Rattle.nr_core.specs.Roles.{taken}
 use Rattle.nr_core.specs.Slots.{bound_of}
 use Rattle.nr_core.specs.States.{number_at}
 use Rattle.nr_core.specs.Story.{entry, map_after}
@@ -22,6 +22,7 @@ use Rattle.nr_core.specs.declared.roles.Desk.{Desk}
 use Rattle.nr_core.specs.declared.roles.Role.{Role}
 use Rattle.nr_core.specs.declared.roles.Role.TheVariants.{Writer}
 use Rattle.nr_core.specs.declared.shape.Shape.{Shape}
+use Rattle.nr_core.proofs.Frames.{stands_at}
 use Rattle.nr_model.specs.declared.calls.Call.TheVariants as model
 use Rattle.nr_model.specs.declared.calls.Reply.TheVariants as reply
 
@@ -33,8 +34,7 @@ pub unpublishes : (shape : Shape) (words : List ℕ) (roles : List Role) (log : 
 unpublishes shape words roles log core id desk there at is_at =
     let known = core.knows id (Writer desk) there in
     let map = map_after shape log in
-    let p : AtPlace shape words map (held roles) desk.fresh desk.retired (Leaving at)
-    = subst (AtPlace shape words map (held roles) desk.fresh desk.retired) is_at known.place in
+    let p = stands_at shape words roles log core id desk there _ is_at in
     let r = p.1 in
     let within = number_within shape log desk.numbers core.fits core.legal known.numbers at r.near in
     let hole = hole_is (number_at desk at) (omega arith) in

@@ -14,8 +14,8 @@ use Rattle.nr_core.proofs.KeyWords.{hole_is, names_none}
 use Rattle.nr_core.proofs.Numbers.{numbers_next}
 use Rattle.nr_core.proofs.Sums.{only-zero}
 use Rattle.nr_core.proofs.Swap.{swap_step}
-use Rattle.nr_core.specs.Core.{AtPlace, Core, ShowsState, Withdraws}
-use Rattle.nr_core.specs.Roles.{held, taken}
+use Rattle.nr_core.specs.Core.{Core, ShowsState}
+use Rattle.nr_core.specs.Roles.{taken}
 use Rattle.nr_core.specs.Slots.{bound_of}
 use Rattle.nr_core.specs.States.{number_at}
 use Rattle.nr_core.specs.Story.{entry, map_after}
@@ -27,6 +27,7 @@ use Rattle.nr_core.specs.declared.roles.Desk.{Desk}
 use Rattle.nr_core.specs.declared.roles.Role.{Role}
 use Rattle.nr_core.specs.declared.roles.Role.TheVariants.{Writer}
 use Rattle.nr_core.specs.declared.shape.Shape.{Shape}
+use Rattle.nr_core.proofs.Frames.{stands_at}
 use Rattle.nr_model.specs.declared.states.KeyState.TheVariants as key
 use Rattle.nr_model.specs.declared.calls.Call.TheVariants as model
 use Rattle.nr_model.specs.declared.calls.Reply.TheVariants as reply
@@ -57,8 +58,7 @@ withdraws shape words roles log core id desk there at is_at =
     let known = core.knows id (Writer desk) there in
     let map = map_after shape log in
     let w = get_or words at 0 in
-    let p : Withdraws shape map at
-    = subst (AtPlace shape words map (held roles) desk.fresh desk.retired) is_at known.place in
+    let p = stands_at shape words roles log core id desk there _ is_at in
     let n = p.number in
     let early = p.early in
     let listed : number_at desk at ≡ n = known.numbers.agree at p.near ∙ ap number_of p.asked in

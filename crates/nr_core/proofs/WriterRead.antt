@@ -1,6 +1,6 @@
 -- The writer reads a word of the slot that its key names; the last read decides its find or update.
-use Rattle.std.proofs.Common.{[], List, ap, arith, get_or, length, nat_eq, refl, set, subst, suc, sym, take, ℕ, ◌*◌}
-use Rattle.std.proofs.Common.{◌++◌, ◌+◌, ◌<◌, ◌∙◌, ◌∷◌, ◌≡◌, ◌≢◌}
+use Rattle.std.proofs.Common.{[], List, ap, arith, get_or, length, nat_eq, refl, set, suc, sym, take, ℕ, ◌*◌, ◌++◌, ◌+◌}
+use Rattle.std.proofs.Common.{◌<◌, ◌∙◌, ◌∷◌, ◌≡◌, ◌≢◌}
 use Rattle.std.proofs.lemmas.Bool.{eqb-false, eqb-true}
 use Rattle.std.specs.Prelude.{Err, Ok, Result}
 use lib.ListN.{get_elem?}
@@ -15,10 +15,10 @@ use Rattle.nr_model.specs.declared.rows.Row.{Row}
 use Rattle.nr_words.proofs.SetWordLemmas.{length-row_words}
 use Rattle.nr_words.specs.SetWords.{encode}
 use Rattle.nr_core.proofs.Choices.{on_test}
-use Rattle.nr_core.proofs.Frames.{not_hole}
+use Rattle.nr_core.proofs.Frames.{not_hole, stands_at}
 use Rattle.nr_core.proofs.ReadThrough.{length-got_next, read_first, read_next, read_set, read_whole}
 use Rattle.nr_core.proofs.Settle.{ends, goes_on, idle_desk, settles}
-use Rattle.nr_core.specs.Core.{AtDesk, AtPlace, Core, Reads}
+use Rattle.nr_core.specs.Core.{AtDesk, Core}
 use Rattle.nr_core.specs.Roles.{held, keeps, taken}
 use Rattle.nr_core.specs.Slots.{bound_of, content, unused}
 use Rattle.nr_core.specs.States.{key_of}
@@ -100,8 +100,7 @@ reads_on shape words roles log core id desk there call slot got is_at =
     let known = core.knows id (Writer desk) there in
     let map = map_after shape log in
     let place : ℕ = content shape slot (length got) in let found : ℕ = get_or words place 0 in
-    let reading : Reads shape words map (held roles) (key_of call) slot got
-    = subst (AtPlace shape words map (held roles) desk.fresh desk.retired) is_at known.place in
+    let reading = stands_at shape words roles log core id desk there _ is_at in
     let got' : List ℕ = got ++ found ∷ [] in
     let longer : length got' ≡ suc (length got)
     = length-got_next shape words roles log core (key_of call) slot got reading in
