@@ -23,7 +23,7 @@ use Rattle.nr_core.proofs.Histories.{of-append}
 use Rattle.nr_core.specs.InTime.{BeganAmong, EntriesInTime, TellsOne, TellsOwn, told_by, told_since, under_way}
 use Rattle.nr_core.specs.Laws.{call_in, caller_of_event}
 use Rattle.nr_core.specs.Machine.{found_by, moved, names_held, unless}
-use Rattle.nr_core.specs.Refusals.{has_key, has_reader, if_holding, if_not_holding, refusal}
+use Rattle.nr_core.specs.Refusals.{has_key, has_reader, refusal}
 use Rattle.nr_core.specs.Slots.{bound_of}
 use Rattle.nr_core.specs.States.{Arrive, Ask, Depart, Event, FindAgain, Go, Read, Start, State, hold_of, retired_at}
 use Rattle.nr_core.specs.Story.{Story, answering, beginning, call_of, ending, ending_at, shown, story_of, tell, told}
@@ -186,27 +186,25 @@ of_reader story event reader =
     ∙ ap (λ v. cond {A = List Entry} v (told story.state event) [])
     (ne_eqb (caller_of_event event) 0 (λ zero. let e : caller_of_event event ≡ 0 = zero in omega arith))
 
+-- a reader that is taken at a key
+at_key : (shape : Shape) (reader at : ℕ) (rest : Option Refusal)
+    → cond (has_reader shape reader && has_key shape at) rest (Some refuse.OutOfRange) ≡ None → 0 < reader
+at_key shape reader at rest ok =
+    let g = guard (has_reader shape reader && has_key shape at) rest refuse.OutOfRange ok in
+    (reader_in shape reader (both (has_reader shape reader) (has_key shape at) g.0).0).0
+
 leaves : (story : Story) (event : Event) → Leaves story event
-leaves story (Arrive reader at) = leaves_if story (Arrive reader at) (λ ok.
-    let state = story.state in
-    let g = guard (has_reader state.shape reader && has_key state.shape at) (if_holding (hold_of state reader))
-    refuse.OutOfRange ok in
-    let low = (reader_in state.shape reader (both (has_reader state.shape reader) (has_key state.shape at) g.0).0).0 in
-    inl (refl, of_reader story (Arrive reader at) low))
+leaves story (Arrive reader at) =
+    leaves_if story (Arrive reader at)
+    (λ ok. inl (refl, of_reader story (Arrive reader at) (at_key story.state.shape reader at _ ok)))
 leaves story (Read reader index) = leaves_if story (Read reader index) (λ _. inl (refl, refl))
 leaves story (Depart reader) = leaves_if story (Depart reader) (λ _. inl (refl, refl))
-leaves story (Ask reader at) = leaves_if story (Ask reader at) (λ ok.
-    let state = story.state in
-    let g = guard (has_reader state.shape reader && has_key state.shape at) (if_holding (hold_of state reader))
-    refuse.OutOfRange ok in
-    let low = (reader_in state.shape reader (both (has_reader state.shape reader) (has_key state.shape at) g.0).0).0 in
-    inl (refl, of_reader story (Ask reader at) low))
-leaves story (FindAgain reader at) = leaves_if story (FindAgain reader at) (λ ok.
-    let state = story.state in
-    let g = guard (has_reader state.shape reader && has_key state.shape at) (if_not_holding (hold_of state reader))
-    refuse.OutOfRange ok in
-    let low = (reader_in state.shape reader (both (has_reader state.shape reader) (has_key state.shape at) g.0).0).0 in
-    inl (refl, of_reader story (FindAgain reader at) low))
+leaves story (Ask reader at) =
+    leaves_if story (Ask reader at)
+    (λ ok. inl (refl, of_reader story (Ask reader at) (at_key story.state.shape reader at _ ok)))
+leaves story (FindAgain reader at) =
+    leaves_if story (FindAgain reader at)
+    (λ ok. inl (refl, of_reader story (FindAgain reader at) (at_key story.state.shape reader at _ ok)))
 leaves story (Start call) = leaves_if story (Start call) (λ _.
     let state = story.state in
     let outcome = looked state.shape state.desk call (found_by state (Start call)) in

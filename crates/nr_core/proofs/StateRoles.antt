@@ -1,8 +1,8 @@
 -- The roles of a state's callers: the writer first, then the readers, who know the set that they found beside what they
 -- hold.
 use Rattle.std.proofs.Common.{Bool, List, [], ap, append-nil, arith, cond, eq-eqb, get_or, get_or-set_other}
-use Rattle.std.proofs.Common.{get_or-set_same, length, length-set, ne_eqb, refl, set, subst, suc, sym, zero, ℕ, ⊎_elim}
-use Rattle.std.proofs.Common.{◌++◌, ◌+◌, ◌<◌, ◌∙◌, ◌∷◌, ◌≡◌, ◌≢◌}
+use Rattle.std.proofs.Common.{get_or-set_same, length, length-set, ne_eqb, refl, set, subst, suc, ℕ, ⊎_elim, ◌++◌, ◌+◌}
+use Rattle.std.proofs.Common.{◌<◌, ◌∙◌, ◌∷◌, ◌≡◌, ◌≢◌}
 use Rattle.std.specs.Prelude.{None, Some}
 use lib.ListN.{get_elem?}
 use mathlib.Core.Logic.{dite}
@@ -13,7 +13,7 @@ use Rattle.nr_model.specs.declared.calls.Call.{Call}
 use Rattle.nr_model.specs.declared.calls.Reply.{Reply}
 use Rattle.nr_model.specs.declared.rows.Row.{Row}
 use Rattle.nr_core.proofs.Histories.{of-append}
-use Rattle.nr_core.proofs.Sums.{at_set}
+use Rattle.nr_core.proofs.Sums.{at_set, here_after}
 use Rattle.nr_core.specs.Accounts.{on}
 use Rattle.nr_core.specs.Core.{Core}
 use Rattle.nr_core.specs.Roles.{grips, held, holds, keeps}
@@ -30,6 +30,7 @@ use Rattle.nr_core.specs.declared.roles.Grip.{Grip}
 use Rattle.nr_core.specs.declared.roles.Grip.TheVariants.{Nothing, On}
 use Rattle.nr_core.specs.declared.roles.Role.{Role}
 use Rattle.nr_core.specs.declared.roles.Role.TheVariants.{Note, Reader, Writer}
+use Rattle.nr_core.proofs.ListPlaces.{set_other}
 use Rattle.nr_core.specs.declared.places.Hold.TheVariants as hold
 use Rattle.nr_model.specs.declared.calls.Call.TheVariants as model
 use Rattle.nr_model.specs.declared.calls.Reply.TheVariants as reply
@@ -46,35 +47,23 @@ pub record Fit (n : ℕ) (roles : List Role) (holds : List Hold) (desk : Desk) :
   pub readers : (i : ℕ) → i < n
       → (x : Grip) × (get_elem? roles (suc i) ≡ some (Reader (suc i) x)) × (get_or holds i hold.Nothing ≡ erased x)
 
-at_other : {A : Type 0} (l : List A) (i j : ℕ) (a : A) → j ≢ i → get_elem? (set l i a) j ≡ get_elem? l j
-at_other [] i j a ne = refl
-at_other (x ∷ xs) zero zero a ne = absurd (ne refl)
-at_other (x ∷ xs) zero (suc j) a ne = refl
-at_other (x ∷ xs) (suc i) zero a ne = refl
-at_other (x ∷ xs) (suc i) (suc j) a ne = at_other xs i j a (λ e. ne (ap suc e))
-
-at_same : {A : Type 0} (l : List A) (i : ℕ) (a : A) → i < length l → get_elem? (set l i a) i ≡ some a
-at_same [] i a low = absurd (omega arith)
-at_same (x ∷ xs) zero a low = refl
-at_same (x ∷ xs) (suc i) a low = at_same xs i a (omega arith)
-
 pub fit_reader : (n : ℕ) (roles : List Role) (holds : List Hold) (desk : Desk) → Fit n roles holds desk → (i : ℕ)
     → i < n → (x : Grip) (y : Hold) → y ≡ erased x → Fit n (set roles (suc i) (Reader (suc i) x)) (set holds i y) desk
 fit_reader n roles holds desk f i near x y e = let size = f.size in let callers = f.callers in record {
   size = length-set holds i y ∙ f.size;
   callers = length-set roles (suc i) (Reader (suc i) x) ∙ f.callers;
-  writer = at_other roles (suc i) 0 (Reader (suc i) x) (λ z. omega arith) ∙ f.writer;
+  writer = set_other roles (suc i) 0 (Reader (suc i) x) (Writer desk) (λ z. omega arith) f.writer;
   readers = λ j low. dite (ℕ_discrete j i)
       (λ same. (
         x,
-        rw same (at_same roles (suc i) (Reader (suc i) x) (omega arith)),
+        rw same (let o = f.readers i near in here_after roles (suc i) (Reader (suc i) o.0) (Reader (suc i) x) o.1),
         ap (λ (m : ℕ). get_or (set holds i y) m hold.Nothing) same
             ∙ get_or-set_same holds i y hold.Nothing (omega arith) ∙ e,
       ))
       (λ ne.
       let o = f.readers j low in (
         o.0,
-        at_other roles (suc i) (suc j) (Reader (suc i) x) (λ z. ne (omega arith)) ∙ o.1,
+        set_other roles (suc i) (suc j) (Reader (suc i) x) (Reader (suc j) o.0) (λ z. ne (omega arith)) o.1,
         get_or-set_other holds i j y hold.Nothing ne ∙ o.2,
       ));
 }
@@ -84,9 +73,10 @@ pub fit_writer : (n : ℕ) (roles : List Role) (holds : List Hold) (desk desk' :
 fit_writer n roles holds desk desk' f = let callers = f.callers in record {
   size = f.size;
   callers = length-set roles 0 (Writer desk') ∙ f.callers;
-  writer = at_same roles 0 (Writer desk') (omega arith);
+  writer = here_after roles 0 (Writer desk) (Writer desk') f.writer;
   readers = λ j low.
-      let o = f.readers j low in (o.0, at_other roles 0 (suc j) (Writer desk') (λ z. omega arith) ∙ o.1, o.2);
+      let o = f.readers j low in
+      (o.0, set_other roles 0 (suc j) (Writer desk') (Reader (suc j) o.0) (λ z. omega arith) o.1, o.2);
 }
 
 -- the caller's last call is a find of this set
@@ -154,7 +144,8 @@ pub found_writer : (roles : List Role) (log es : List Entry) (desk : Desk) → A
     → ((j : ℕ) → entries_of es (suc j) ≡ []) → AllFound (set roles 0 (Writer desk)) (log ++ es)
 found_writer roles log es desk all quiet j s rows b e =
     found_quiet log es (suc j) rows (quiet j)
-    (all j s rows b (sym (at_other roles 0 (suc j) (Writer desk) (λ z. omega arith)) ∙ e))
+    (⊎_elim (λ (t : (suc j ≡ 0) × (Writer desk ≡ Reader (suc j) (On s rows b))). absurd (omega (arith, t.0)))
+    (λ t. all j s rows b t.1) (at_set roles 0 (suc j) (Writer desk) (Reader (suc j) (On s rows b)) e))
 
 pub one_other : (c n : ℕ) (call : Call) (y : Reply) → c ≢ n → entries_of (entry c call y ∷ []) n ≡ []
 one_other c n call y ne = ap (λ b. cond {A = List Entry} b (entry c call y ∷ []) []) (ne_eqb c n ne)
