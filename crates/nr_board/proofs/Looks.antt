@@ -1,6 +1,6 @@
 -- What the look of a call tells the writer, by the word that it found.
-use Rattle.std.proofs.Common.{Bool, List, [], ap, cond, eq-eqb, false, ne_eqb, not, subst, sym, true, ℕ, ◌<◌, ◌∙◌}
-use Rattle.std.proofs.Common.{◌≡◌, ◌≢◌, ◌≤◌}
+use Rattle.std.proofs.Common.{Bool, List, [], ap, eq-eqb, false, ne_eqb, not, subst, sym, true, ℕ, ◌<◌, ◌∙◌, ◌≡◌, ◌≢◌}
+use Rattle.std.proofs.Common.{◌≤◌, refl}
 use Rattle.std.proofs.lemmas.Bool.{le-ltb, lt-ltb, not-false, not-true}
 use Rattle.nr_model.specs.declared.calls.Reply.TheVariants as reply
 use Rattle.nr_model.specs.declared.batches.Delta.{Delta}
@@ -9,8 +9,7 @@ use Rattle.nr_model.specs.Maps.{last_number}
 use Rattle.nr_words.specs.declared.key_words.KeyParts.{KeyParts}
 use Rattle.nr_words.specs.KeyWords.{has_ask, is_filled, parts_of, slot_of}
 use Rattle.nr_core.specs.Story.{call_of}
-use Rattle.nr_core.specs.Writer.{cancel_asked, ended, fill_asked, looked, moved_to, settled}
-use Rattle.nr_core.specs.declared.calls.Step.{Step}
+use Rattle.nr_core.specs.Writer.{ended, looked, moved_to, settled}
 use Rattle.nr_core.specs.declared.calls.Step.TheVariants.{Going}
 use Rattle.nr_core.specs.declared.calls.WriterCall.{WriterCall}
 use Rattle.nr_core.specs.declared.calls.WriterCall.TheVariants.{Cancel, Evict, Fill, Find, Replace, Update}
@@ -87,149 +86,69 @@ has_looked {lists = lists} {found = found} {before = before} {after = after} boa
 
 module _ (shape : Shape) (desk : Desk) (key word : ℕ) where
   pub find_hole : is_filled word ≡ false → looked shape desk (Find key) word ≡ (moved_to desk Idle, ended reply.Hole)
-  find_hole empty =
-      ap
-      (λ (b : Bool). cond {A = Desk × Step} b (moved_to desk (Reading (Find key) (slot_of word) []), Going)
-      (moved_to desk Idle, ended reply.Hole))
-      empty
+  find_hole empty = rw empty refl
 
   pub find_reads : is_filled word ≡ true
       → looked shape desk (Find key) word ≡ (moved_to desk (Reading (Find key) (slot_of word) []), Going)
-  find_reads full =
-      ap
-      (λ (b : Bool). cond {A = Desk × Step} b (moved_to desk (Reading (Find key) (slot_of word) []), Going)
-      (moved_to desk Idle, ended reply.Hole))
-      full
+  find_reads full = rw full refl
 
   pub evict_nothing : is_filled word ≡ false
       → looked shape desk (Evict key) word ≡ (moved_to desk Idle, ended reply.Nothing)
-  evict_nothing empty =
-      ap
-      (λ (b : Bool). cond {A = Desk × Step} b (moved_to desk (Leaving key), Going)
-      (moved_to desk Idle, ended reply.Nothing))
-      empty
+  evict_nothing empty = rw empty refl
 
   pub evict_leaves : is_filled word ≡ true → looked shape desk (Evict key) word ≡ (moved_to desk (Leaving key), Going)
-  evict_leaves full =
-      ap
-      (λ (b : Bool). cond {A = Desk × Step} b (moved_to desk (Leaving key), Going)
-      (moved_to desk Idle, ended reply.Nothing))
-      full
+  evict_leaves full = rw full refl
 
   pub cancel_filled : is_filled word ≡ true
       → looked shape desk (Cancel key) word ≡ (moved_to desk Idle, ended reply.Nothing)
-  cancel_filled full =
-      ap
-      (λ (b : Bool). cond {A = Desk × Step} b (moved_to desk Idle, ended reply.Nothing)
-      (cond {A = Desk × Step} (has_ask word) (cancel_asked desk key (slot_of word))
-      (moved_to desk Idle, ended reply.Nothing)))
-      full
+  cancel_filled full = rw full refl
 
   pub cancel_unasked : is_filled word ≡ false → has_ask word ≡ false
       → looked shape desk (Cancel key) word ≡ (moved_to desk Idle, ended reply.Nothing)
-  cancel_unasked empty unasked =
-      (λ j. cond {A = Desk × Step} (empty j) (moved_to desk Idle, ended reply.Nothing)
-      (cond {A = Desk × Step} (unasked j) (cancel_asked desk key (slot_of word))
-      (moved_to desk Idle, ended reply.Nothing)))
+  cancel_unasked empty unasked = rw (empty, unasked) refl
 
   -- of an asked key, by whether its number is the last one
-  cancel_of_asked : is_filled word ≡ false → has_ask word ≡ true
-      → looked shape desk (Cancel key) word ≡ cancel_asked desk key (slot_of word)
-  cancel_of_asked empty asked =
-      (λ j. cond {A = Desk × Step} (empty j) (moved_to desk Idle, ended reply.Nothing)
-      (cond {A = Desk × Step} (asked j) (cancel_asked desk key (slot_of word))
-      (moved_to desk Idle, ended reply.Nothing)))
-
   pub cancel_worn : is_filled word ≡ false → has_ask word ≡ true → last_number ≤ slot_of word
       → looked shape desk (Cancel key) word ≡ (moved_to desk Idle, ended reply.Worn)
-  cancel_worn empty asked last =
-      cancel_of_asked empty asked
-      ∙ ap
-      (λ (b : Bool). cond {A = Desk × Step} b (moved_to desk (Withdrawing key), Going)
-      (moved_to desk Idle, ended reply.Worn))
-      (le-ltb (slot_of word) last_number last)
+  cancel_worn empty asked last = rw (empty, asked, le-ltb (slot_of word) last_number last) refl
 
   pub cancel_withdraws : is_filled word ≡ false → has_ask word ≡ true → slot_of word < last_number
       → looked shape desk (Cancel key) word ≡ (moved_to desk (Withdrawing key), Going)
-  cancel_withdraws empty asked early =
-      cancel_of_asked empty asked
-      ∙ ap
-      (λ (b : Bool). cond {A = Desk × Step} b (moved_to desk (Withdrawing key), Going)
-      (moved_to desk Idle, ended reply.Worn))
-      (lt-ltb (slot_of word) last_number early)
+  cancel_withdraws empty asked early = rw (empty, asked, lt-ltb (slot_of word) last_number early) refl
 
   module _ (number : ℕ) (rows : List Row) where
     pub fill_already : is_filled word ≡ true
         → looked shape desk (Fill key number rows) word ≡ (moved_to desk Idle, ended reply.Already)
-    fill_already full = ap (λ (b : Bool). cond {A = Desk × Step} b (moved_to desk Idle, ended reply.Already)
-        (cond {A = Desk × Step} (has_ask word) (fill_asked shape desk (Fill key number rows) number rows (slot_of word))
-        (moved_to desk Idle, ended reply.NotAsked))) full
+    fill_already full = rw full refl
 
     pub fill_not_asked : is_filled word ≡ false → has_ask word ≡ false
         → looked shape desk (Fill key number rows) word ≡ (moved_to desk Idle, ended reply.NotAsked)
-    fill_not_asked empty unasked = (λ j. cond {A = Desk × Step} (empty j) (moved_to desk Idle, ended reply.Already)
-        (cond {A = Desk × Step} (unasked j) (fill_asked shape desk (Fill key number rows) number rows (slot_of word))
-        (moved_to desk Idle, ended reply.NotAsked)))
+    fill_not_asked empty unasked = rw (empty, unasked) refl
 
     -- of an asked key, by the number of its request
-    fill_of_asked : is_filled word ≡ false → has_ask word ≡ true
-        → looked shape desk (Fill key number rows) word
-        ≡ fill_asked shape desk (Fill key number rows) number rows (slot_of word)
-    fill_of_asked empty asked = (λ j. cond {A = Desk × Step} (empty j) (moved_to desk Idle, ended reply.Already)
-        (cond {A = Desk × Step} (asked j) (fill_asked shape desk (Fill key number rows) number rows (slot_of word))
-        (moved_to desk Idle, ended reply.NotAsked)))
-
     pub fill_stale : is_filled word ≡ false → has_ask word ≡ true → slot_of word ≢ number
         → looked shape desk (Fill key number rows) word ≡ (moved_to desk Idle, ended reply.Stale)
-    fill_stale empty asked other =
-        fill_of_asked empty asked
-        ∙ ap
-        (λ (b : Bool). cond {A = Desk × Step} b (settled shape desk (Fill key number rows) rows)
-        (moved_to desk Idle, ended reply.Stale))
-        (ne_eqb (slot_of word) number other)
+    fill_stale empty asked other = rw (empty, asked, ne_eqb (slot_of word) number other) refl
 
     pub fill_settles : is_filled word ≡ false → has_ask word ≡ true → slot_of word ≡ number
         → looked shape desk (Fill key number rows) word ≡ settled shape desk (Fill key number rows) rows
-    fill_settles empty asked own =
-        fill_of_asked empty asked
-        ∙ ap
-        (λ (b : Bool). cond {A = Desk × Step} b (settled shape desk (Fill key number rows) rows)
-        (moved_to desk Idle, ended reply.Stale))
-        (eq-eqb (slot_of word) number own)
+    fill_settles empty asked own = rw (empty, asked, eq-eqb (slot_of word) number own) refl
 
   module _ (rows : List Row) where
     pub replace_dropped : is_filled word ≡ false
         → looked shape desk (Replace key rows) word ≡ (moved_to desk Idle, ended reply.Dropped)
-    replace_dropped empty =
-        ap
-        (λ (b : Bool). cond {A = Desk × Step} b (settled shape desk (Replace key rows) rows)
-        (moved_to desk Idle, ended reply.Dropped))
-        empty
+    replace_dropped empty = rw empty refl
 
     pub replace_settles : is_filled word ≡ true
         → looked shape desk (Replace key rows) word ≡ settled shape desk (Replace key rows) rows
-    replace_settles full =
-        ap
-        (λ (b : Bool). cond {A = Desk × Step} b (settled shape desk (Replace key rows) rows)
-        (moved_to desk Idle, ended reply.Dropped))
-        full
+    replace_settles full = rw full refl
 
   module _ (batch : List Delta) where
     pub update_dropped : is_filled word ≡ false
         → looked shape desk (Update key batch) word ≡ (moved_to desk Idle, ended reply.Dropped)
-    update_dropped empty =
-        ap
-        (λ (b : Bool). cond {A = Desk × Step} b
-        (moved_to desk (Reading (Update key batch) (slot_of word) []), Going)
-        (moved_to desk Idle, ended reply.Dropped))
-        empty
+    update_dropped empty = rw empty refl
 
     pub update_reads : is_filled word ≡ true
         → looked shape desk (Update key batch) word
         ≡ (moved_to desk (Reading (Update key batch) (slot_of word) []), Going)
-    update_reads full =
-        ap
-        (λ (b : Bool). cond {A = Desk × Step} b
-        (moved_to desk (Reading (Update key batch) (slot_of word) []), Going)
-        (moved_to desk Idle, ended reply.Dropped))
-        full
+    update_reads full = rw full refl

@@ -1,14 +1,10 @@
-use Rattle.std.proofs.Common.{ap, arith, subst, sym, ℕ, ◌%◌, ◌+◌, ◌-◌, ◌^◌, ◌∙◌, ◌≡◌}
-use mathlib.Core.Option.{none}
-use Rattle.atomic_table.specs.Table.{Allows, step}
+use Rattle.std.proofs.Common.{ap, arith, sym, ℕ, ◌-◌, ◌∙◌, ◌≡◌}
 use Rattle.nr_core.specs.Slots.{departures}
 use Rattle.nr_core.specs.declared.shape.Shape.{Shape}
 use Rattle.nr_board.proofs.BoardPlaces.{departures_at, departures_in, stands}
 use Rattle.nr_board.proofs.ReaderSeats.{departed_seat}
 use Rattle.nr_board.proofs.ReaderSteps.{departs_so}
 use Rattle.nr_board.specs.Callers.{Table}
-use Rattle.nr_board.specs.Plays.{has_departed}
-use Rattle.nr_board.specs.Rule.{Kept}
 use Rattle.nr_board.specs.Views.{slot_held}
 use Rattle.nr_board.proofs.board.Board.depart.Goals as goal
 
@@ -22,10 +18,7 @@ fetch_add-requires c =
     let before : c.args.begin - 1 ≡ departures c.args.self.now.shape slot = omega (arith, reader.begin_is) in (
       ap (λ (t : Table). t.id) (reader.own ∙ sym c.self.view_is),
       departures_in board slot reader.holds.inside before,
-      subst
-          (λ (at : ℕ). Allows (Kept shared.key.shape) shared.table_id.slots seat.id seat.me at (λ n. (n + 1) % 2 ^ 64)
-          (has_departed (step shared.table_id.slots at 1 0 none) seat.me))
-          (sym (departures_at board slot reader.holds.inside before))
+      rw (departures_at board slot reader.holds.inside before)
           (departs_so shared.key.shape shared.table_id.slots seat.id seat.me reader.holds.is
           (omega (arith, reader.holds.inside, ap (λ (s : Shape). s.slots) board.key_is))
           (ap (λ (t : Table). t.shape) reader.own ∙ sym board.key_is) c.requires.counted),

@@ -61,7 +61,7 @@ returns-clause-tells c = let seat = c.args.seat.now in let probes = c.requires i
     let is : c.departures-place.result ≡ departures c.args.self.now.shape entry.slot
     = c.departures-place.ensures.place
     ∙ ap (λ (l : Layout). place_of l (Departures entry.slot)) c.layout.ensures.value in
-    subst (λ (s : Shape). ProbesTo s entry c.load.result seat.me.0 c.load.new.seat.me.0) size
+    rw (sym size)
     (c.load.ensures.2 probes.desk probes.poll entry probes.role probes.idle
     (subst (λ (s : Shape). Room s probes.desk) (sym size) probes.room) probes.here
     (is ∙ ap (λ (s : Shape). departures s entry.slot) (sym size)))

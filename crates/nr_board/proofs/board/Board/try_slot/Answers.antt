@@ -1,6 +1,4 @@
 use Rattle.std.proofs.Common.{ap, arith, get_or, subst, sym, ℕ, ◌<◌, ◌≤◌, ◌∙◌, ◌≡◌}
-use mathlib.Core.Option.{none}
-use Rattle.atomic_table.specs.Table.{Allows, step}
 use Rattle.nr_core.specs.Slots.{departures}
 use Rattle.nr_words.specs.declared.layout.Layout.{Layout}
 use Rattle.nr_words.specs.Places.{Departures, place_of}
@@ -10,8 +8,6 @@ use Rattle.nr_board.proofs.BoardPlaces.{departures_at, departures_in, stands}
 use Rattle.nr_board.proofs.SearchSeats.{has_tried_so, inside_list, there_is}
 use Rattle.nr_board.specs.Callers.{Table}
 use Rattle.nr_board.specs.Plays.{Room}
-use Rattle.nr_board.specs.Rule.{Kept}
-use Rattle.nr_board.specs.SearchPlays.{has_tried}
 use Rattle.nr_board.specs.SearchSeats.{TriesAt}
 use Rattle.nr_board.specs.Views.{desk_of}
 use Rattle.nr_board.specs.WriterSeats.{MapSeat}
@@ -38,10 +34,7 @@ load-requires c =
     ∙ ap (λ (l : Layout). place_of l (Departures entry.slot)) c.layout.ensures.value in (
       ap (λ (t : Table). t.id) (search.own ∙ sym c.self.view_is),
       departures_in board entry.slot low is,
-      subst
-          (λ (at : ℕ). Allows (Kept shared.key.shape) n seat.id seat.me at (λ w. w)
-          (has_tried (step n at 0 0 none) seat.me))
-          (sym (departures_at board entry.slot low is))
+      rw (departures_at board entry.slot low is)
           (has_tried_so shared.key.shape n seat.id seat.me search.desk search.call search.rows search.role search.place
           (ap (λ (t : Table). t.shape) search.own ∙ sym board.key_is) tries.poll entry tries.here
           (inside_list search.desk.retired tries.poll entry tries.here)
