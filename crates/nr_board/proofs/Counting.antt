@@ -1,7 +1,7 @@
 -- How the words that the core sees go along with the table's, and what the readers' words say.
-use Rattle.std.proofs.Common.{◌≡◌, ◌≢◌, ℕ, suc, ◌+◌, ◌-◌, ◌%◌, ◌^◌, ◌<◌, ◌≤◌, ⊎_elim, List, ◌++◌, ◌∷◌, [], Bool}
-use Rattle.std.proofs.Common.{true, cond, length, get_or, set, length-set, get_or-set_other, get_or-set_same, sym, ap}
-use Rattle.std.proofs.Common.{◌∙◌, subst, arith}
+use Rattle.std.proofs.Common.{◌≡◌, ◌≢◌, ℕ, suc, ◌+◌, ◌-◌, ◌%◌, ◌^◌, ◌<◌, ◌≤◌, ⊎_elim, List, ◌++◌, ◌∷◌, [], Bool, true}
+use Rattle.std.proofs.Common.{cond, length, get_or, set, length-set, get_or-set_other, get_or-set_same, sym, ap, ◌∙◌}
+use Rattle.std.proofs.Common.{subst, arith}
 use Rattle.std.proofs.lemmas.Bool.{lt-ltb}
 use Rattle.std.specs.Prelude.{nat_lt}
 use mathlib.Core.Logic.{dite}
@@ -52,8 +52,7 @@ counted_plain shape by_word words counted place x low plain wide t = let room = 
       get_or-set_other counted place (departures shape slot) x 0 apart ∙ t.less slot near
       ∙ ap (λ (w : ℕ). (w + (2 ^ 64 - by_word slot)) % 2 ^ 64)
       (sym (get_or-set_other words place (departures shape slot) x 0 apart));
-  small = λ slot near. subst (λ (w : ℕ). w < 2 ^ 64)
-      (sym (get_or-set_other words place (departures shape slot) x 0 (λ e. plain slot near (sym e))))
+  small = λ slot near. rw (get_or-set_other words place (departures shape slot) x 0 (λ e. plain slot near (sym e)))
       (t.small slot near);
 }
 
@@ -85,20 +84,15 @@ counted_departure shape by_word words counted mine near few wide t =
       same = λ at low no_count. get_or-set_other counted place at y 0 (no_count mine near) ∙ t.same at low no_count
           ∙ sym (get_or-set_other words place at x 0 (no_count mine near));
       less = λ slot low. dite (ℕ_discrete slot mine)
-          (λ e. subst
-          (λ (s : ℕ). get_or (set counted place y) (departures shape s) 0
-          ≡ (get_or (set words place x) (departures shape s) 0 + (2 ^ 64 - by_word s)) % 2 ^ 64)
-          (sym e) (let l = t.less mine near in omega arith))
+          (λ e. rw e (let l = t.less mine near in omega arith))
           (λ ne. let apart : departures shape slot ≢ place = λ e. ne (same_departures shape slot mine e) in
           get_or-set_other counted place (departures shape slot) y 0 apart ∙ t.less slot low
           ∙ ap (λ (w : ℕ). (w + (2 ^ 64 - by_word slot)) % 2 ^ 64)
           (sym (get_or-set_other words place (departures shape slot) x 0 apart)));
       small = λ slot low. dite (ℕ_discrete slot mine)
           (λ e. subst (λ (s : ℕ). get_or (set words place x) (departures shape s) 0 < 2 ^ 64) (sym e) (omega arith))
-          (λ ne. subst (λ (w : ℕ). w < 2 ^ 64)
-          (sym
-          (get_or-set_other words place (departures shape slot) x 0
-          (λ e. ne (same_departures shape slot mine e))))
+          (λ ne. rw (get_or-set_other words place (departures shape slot) x 0
+          (λ e. ne (same_departures shape slot mine e)))
           (t.small slot low));
     }
 

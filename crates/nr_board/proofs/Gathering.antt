@@ -41,8 +41,7 @@ begins_with_calls log caller own begins = record {
 pub hears_seat : (seat note new : MapSeat) → new.table_id ≡ seat.table_id → has_heard seat.me.0 note.me.0 new.me.0
     → HearsNote 1 (known_to (token note)) (token seat) (token new) × HearsOf note.me.0 seat.me.0 new.me.0
 hears_seat seat note new same heard = let told = heard.1 in (
-  subst (λ (id : TableId). HearsNote 1 (known_to (token note)) (token seat) (caller_of id new.me.0)) (sym same)
-      (record { learns = told.learns seat.table_id; seen = told.told }),
+  rw same (record { learns = told.learns seat.table_id; seen = told.told }),
   (told.news, told.pasts, told.of_readers),
 )
 
@@ -258,5 +257,4 @@ module _ (writer reader heard lent last told : MapSeat) (fresh : ℕ) (retired :
 
   pub gathers_seats : Gathers (token writer) (token reader) (token last) (token told)
   gathers_seats =
-      subst (λ (w : Caller). Gathers (token writer) (token reader) w (token told))
-      (sym (noting_token heard last second.0 second.1)) gathers_heard
+      rw (noting_token heard last second.0 second.1) gathers_heard

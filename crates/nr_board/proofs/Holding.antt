@@ -165,9 +165,8 @@ module _ (table : Table) (key word newer : ℕ) (before mid : MapSeat)
             (let same : 3 + n ≡ 1 + (2 + n) = omega arith in same) told.takes;
         answered =
             answered_later table key 2 n (2 + n) (looked marks key named) before mid after refl answer first.grows
-            (subst (λ (m : Marks). IsAnswered table key n m mid after answer)
-            (ap (λ (m : Marks). looked m key told.named) marks_mid
-            ∙ looked_on marks key (suc (slot_of newer)) told.named)
+            (rw (sym (ap (λ (m : Marks). looked m key told.named) marks_mid
+            ∙ looked_on marks key (suc (slot_of newer)) told.named))
             told.answered);
       }
 
@@ -218,10 +217,7 @@ moves_anew table key word own empty before mid after answer holds has rests clea
           (λ (p : Bool × Bool). TakesSteps p.0 answer (cond {A = List ℕ} p.1 (name_number word ∷ []) [] ++ named) n)
           (λ j. (finds_so own mid has j, sym empty j)) told.takes;
       answered =
-          subst
-          (λ (b : Bool). IsAnswered table key (n + cond {A = ℕ} b 0 2 - 1) (looked marks key named) before after
-          answer)
-          (sym empty)
+          rw empty
           (answered_rested table key 1 (n + 0) (n + 2 - 1) (looked marks key named) before mid after (omega arith)
           answer rests
           (subst (λ (m : Marks). IsAnswered table key (n + 0) (looked m key named) mid after answer) here
@@ -243,11 +239,7 @@ moves_on table key word full before after answer holds told = let n : ℕ = told
           subst (λ (p : Bool × ℕ). TakesSteps true answer (cond {A = List ℕ} p.0 (p.1 ∷ []) [] ++ named) (1 + n))
           (λ j. (sym full j, sym named_is j)) told.takes;
       answered =
-          subst
-          (λ (b : Bool). IsAnswered table key (1 + n + cond {A = ℕ} b 0 2 - 1)
-          (looked (acted before.me.0.marks before.me.0.marks.put) key named) before after answer)
-          (sym full)
-          (subst (λ (p : ℕ × Marks). IsAnswered table key p.0 (looked p.1 key named) before after answer)
+          rw full (subst (λ (p : ℕ × Marks). IsAnswered table key p.0 (looked p.1 key named) before after answer)
           (λ j. (
             (let same : n ≡ 1 + n + 0 - 1 = omega arith in same) j,
             held_marks table.shape before.me.0.role before.me.0.marks holds j,
@@ -276,9 +268,8 @@ holds_first table key word full before mid after answer idle grows marks told =
       answered =
           answered_later table key 1 n (1 + n + 0) (looked before.me.0.marks key named) before mid after (omega arith)
           answer grows
-          (subst (λ (m : Marks). IsAnswered table key n m mid after answer)
-          (ap (λ (m : Marks). looked m key told.named) marks_mid
-          ∙ looked_on before.me.0.marks key (suc (slot_of word)) told.named)
+          (rw (sym (ap (λ (m : Marks). looked m key told.named) marks_mid
+          ∙ looked_on before.me.0.marks key (suc (slot_of word)) told.named))
           told.answered);
     }
 

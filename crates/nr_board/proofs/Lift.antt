@@ -351,10 +351,7 @@ module _ (shape : Shape) (id : ℕ) (view : View) (operation : Operation) (tells
       let wide = kept.core.wide in (
         record {
           counts =
-              subst
-              (λ (x : ℕ). Counted shape (lent state.views) (set state.words place x)
-              (words_after operation kept.counted))
-              (ap (becomes operation) same)
+              rw (sym (ap (becomes operation) same))
               (counted_plain shape (lent state.views) state.words kept.counted place
               (becomes operation (get_or kept.counted place 0)) low plain (omega (arith, wide)) kept.counts_words);
           behind = λ own _. get_or-set_other state.words place (says_at shape own)

@@ -235,7 +235,7 @@ module _ (shape : Shape) (id : ℕ) (view : View) (operation : Operation) (tells
 
   pub learned_gains : is_by (caller_number view.role) view.role ≡ true → marked.news ≡ [] → (told : List Entry)
       → step.entries ≡ told → Advances told view learned_next
-  learned_gains caller no_news told is = subst (λ (entries : List Entry). Advances entries view learned_next) is
+  learned_gains caller no_news told is = rw (sym is)
       (learned_advances shape kept.log view (kept.fits id view at) step.after step.same step.writer step.reader
       same_number sized step.entries
       marked.now marked.news no_news caller step.own step.core.legal
@@ -260,7 +260,7 @@ module _ (shape : Shape) (id : ℕ) (view : View) (operation : Operation) (tells
     marks = refl;
     pasts = refl;
     told_pasts = refl;
-    fits = subst (λ (entries : List Entry). Fits shape (kept.log ++ entries) waited_next) (sym none)
+    fits = rw none
         (waited_fits shape kept.log view fits step.after step.same step.writer step.reader marked.now marked.news
         (subst (λ (entries : List Entry). ActsGo view step.after entries marked.now) none acts));
     callers = callers;

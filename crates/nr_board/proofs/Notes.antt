@@ -147,8 +147,7 @@ adds_note shape source state kept begins since =
           (at_snoc views note u j there);
       hears = hears_more views note refl refl kept.hears;
       core =
-          subst (λ (rs : List Role). Core shape kept.counted rs kept.log) (sym more)
-          (notes shape kept.counted roles kept.log kept.core);
+          rw more (notes shape kept.counted roles kept.log kept.core);
       fits = λ j u there. ⊎_elim (λ (t : get_elem? views j ≡ some u). kept.fits j u t)
           (λ (t : note ≡ u). subst (Fits shape kept.log) t (note_fits shape kept.log source note refl begins refl))
           (at_snoc views note u j there);
@@ -236,10 +235,7 @@ loads_so shape slots id me place state kept homes at bounded =
       next,
       keeps,
       tt,
-      subst
-          (λ (words : List ℕ). Kept shape
-          (record { words = words; homes = state.homes; views = set state.views id next }))
-          (sym (set-get_or state.words place 0)) rests,
+      rw (set-get_or state.words place 0) rests,
       refl,
     )
 
@@ -266,10 +262,7 @@ looks_ahead_so shape slots id me key state kept homes at bounded =
       next,
       keeps,
       tt,
-      subst
-          (λ (words : List ℕ). Kept shape
-          (record { words = words; homes = state.homes; views = set state.views id next }))
-          (sym (set-get_or state.words key 0)) rests,
+      rw (set-get_or state.words key 0) rests,
       refl,
     )
 

@@ -17,7 +17,7 @@ use Rattle.nr_core.proofs.WordPlaces.{departures_inside}
 use Rattle.nr_core.specs.declared.shape.Shape.{Shape}
 use Rattle.nr_core.proofs.ListPlaces.{no_places}
 use Rattle.nr_core.proofs.SeatMarks.{opens_marked}
-use Rattle.nr_core.specs.Marked.{AllSince, Since}
+use Rattle.nr_core.specs.Marked.{Since}
 use Rattle.nr_board.specs.Announcing.{Hears, says_at}
 use Rattle.nr_board.specs.declared.board.Plan.{Plan}
 use Rattle.nr_board.specs.Rule.{Fits, Kept, marks_of, role_of}
@@ -121,9 +121,7 @@ opens_so plan fits small = let shape = plan.shape in let view = opener plan in
       marked =
           opens_marked role_of marks_of shape (words_at_opening shape) view refl refl (none_named shape fits)
           (blank_at_opening shape);
-      pasts = λ place who there. subst (λ (v : View). AllSince role_of marks_of (view ∷ []) v.pasts)
-          (only_one view place who there) (no_places (Since role_of marks_of (view ∷ [])));
-      told_pasts = λ place who there. subst (λ (v : View). AllSince role_of marks_of (view ∷ []) v.told_pasts)
-          (only_one view place who there) (no_places (Since role_of marks_of (view ∷ [])));
+      pasts = λ place who there. rw (sym (only_one view place who there)) (no_places (Since role_of marks_of (view ∷ [])));
+      told_pasts = λ place who there. rw (sym (only_one view place who there)) (no_places (Since role_of marks_of (view ∷ [])));
       maker = λ j u at w. ap (λ (y : View). y.made) (sym (only_one view j u at));
     }

@@ -272,8 +272,7 @@ module _ (table : Table) (lists : SlotLists) (flags : List Bool) (before now : M
     poll = place;
     here = here_now;
     heard =
-        subst (λ (l : List ℕ). table.announcers ≤ get_or l entry.slot 0) (sym so_far.heard)
-        (heard entry.slot (is_retired lists.retired place entry here) free);
+        rw so_far.heard (heard entry.slot (is_retired lists.retired place entry here) free);
   }
 
   module _ (free : is_flagged flags entry.slot ≡ false) (found : ℕ) (next : MapSeat)

@@ -166,13 +166,9 @@ module _ (table : Table) (call : WriterCall) (begin : ℕ) (before : MapSeat) wh
           positive = some;
           few = omega (arith, few, ap length named);
           leads =
-              subst
-              (λ (l : List Row). LeadsIn words table (call_of call) (reads_on table desk call slot l words) before
-              after)
-              (sym named) leads;
+              rw named leads;
           had =
-              subst (λ (l : List Row). KeyHas table call l (reads_on table desk call slot l words).1 after) (sym named)
-              had;
+              rw named had;
           marks = marks;
           heard = heard;
         },
@@ -212,8 +208,7 @@ module _ (table : Table) (call : WriterCall) (begin : ℕ) (before : MapSeat) wh
 
     leads_here : LeadsIn words table (call_of call) (moved_to desk (Reading call so_far.slot got), Going) before mid
     leads_here =
-        subst (λ (o : Desk × Step). LeadsIn words table (call_of call) o before mid)
-        (reads_more so_far.slot rows words so_far.positive (omega (arith, left))) so_far.leads
+        rw (sym (reads_more so_far.slot rows words so_far.positive (omega (arith, left)))) so_far.leads
 
     -- the writer can read the next word
     pub reading_next : IsReading table begin words mid

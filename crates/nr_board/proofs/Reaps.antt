@@ -149,8 +149,7 @@ module _ (table : Table) (lists : SlotLists) (before : MapSeat) (rests : RestsAt
         first =
             inr (
               twice.0,
-              subst (λ (l : List Retired). HeldEach before.me.0.shape.readers l first.0)
-                  (ready_is before.me.0.heard) first.2,
+              rw (sym (ready_is before.me.0.heard)) first.2,
               loads,
               words,
               ap (λ (l : List LoggedLoad). l ++ loads) first_are,
@@ -242,8 +241,7 @@ module _ (table : Table) (lists : SlotLists) (before : MapSeat) (rests : RestsAt
         scans = λ some_words. absurd (omega arith);
         some_wait = subst (λ (l : List Retired). 0 < length l) waiting_is held.1;
         each =
-            subst (λ (l : List Retired). HeldEach before.me.0.shape.readers l held.0) (ready_is before.me.0.heard)
-            held.2;
+            rw (sym (ready_is before.me.0.heard)) held.2;
         view =
             held.3 ∙ swept_once held.0 first_polls before.me.0
             ∙ ap (λ (l : List LoggedLoad). swept held.0 l 0 before.me.0.heard before.me.0) first_are;
@@ -273,8 +271,7 @@ module _ (table : Table) (lists : SlotLists) (before : MapSeat) (rests : RestsAt
         first =
             inr (
               twice.0,
-              subst (λ (l : List Retired). HeldEach before.me.0.shape.readers l first.0)
-                  (ready_is before.me.0.heard) first.2,
+              rw (sym (ready_is before.me.0.heard)) first.2,
               loads,
               words,
               ap (λ (l : List LoggedLoad). l ++ loads) first_are,

@@ -1,5 +1,5 @@
 -- The writer reads the set that was put into a slot last: the words spell it, until the writer's next set is put there.
-use Rattle.std.proofs.Common.{◌≡◌, ℕ, ◌<◌, ◌∙◌, List, inl, refl, sym, ap, subst, arith, get_or, set}
+use Rattle.std.proofs.Common.{◌≡◌, ℕ, ◌<◌, ◌∙◌, inl, refl, sym, ap, subst, arith, get_or}
 use lib.Seq.{set-get_or}
 use mathlib.Core.Option.{none}
 use Rattle.atomic_table.specs.Table.{Allows, Me, keeps, step}
@@ -39,10 +39,7 @@ recalls_so shape slots id me place state kept homes at bounded =
       next,
       keeps,
       tt,
-      subst
-          (λ (words : List ℕ). Kept shape
-          (record { words = words; homes = state.homes; views = set state.views id next }))
-          (sym (set-get_or state.words place 0)) rests,
+      rw (set-get_or state.words place 0) rests,
       record {
         step = refl;
         finds = λ desk slot index is near untouched there.

@@ -1,12 +1,11 @@
 -- The two passes of a search and the scan between them, put together.
-use Rattle.std.proofs.Common.{◌≡◌, ℕ, suc, ◌+◌, ◌<◌, ◌≤◌, ◌⊎◌, inl, inr, List, [], ◌∷◌, ◌++◌, Bool, true, cond}
-use Rattle.std.proofs.Common.{ne_eqb, get_or, append_assoc, length, length-append, take, take_all, refl, sym, ap, ◌∙◌}
-use Rattle.std.proofs.Common.{subst, arith}
-use mathlib.Core.Option.{some}
+use Rattle.std.proofs.Common.{◌≡◌, ℕ, suc, ◌+◌, ◌<◌, ◌≤◌, ◌⊎◌, inl, inr, List, [], ◌∷◌, ◌++◌, Bool, true, cond, ne_eqb}
+use Rattle.std.proofs.Common.{get_or, append_assoc, length, length-append, take, take_all, refl, sym, ap, ◌∙◌, subst}
+use Rattle.std.proofs.Common.{arith}
 use lib.ListN.{get_elem?}
 use Rattle.nr_core.proofs.Choices.{by_cases}
 use Rattle.nr_core.specs.SlotLists.{SlotLists, all_taken}
-use Rattle.nr_core.specs.Sums.{only, total}
+use Rattle.nr_core.specs.Sums.{total}
 use Rattle.nr_core.specs.declared.places.Retired.{Retired}
 use Rattle.nr_core.proofs.ListPlaces.{at_left}
 use Rattle.nr_core.specs.Marks.{Marks, OfSlot, OfWord, Past, LoggedLoad, with_scan}
@@ -28,14 +27,14 @@ use Rattle.nr_board.proofs.WriterSeats.{numbers_seat}
 use Rattle.nr_board.specs.RetiredSearch.{SearchLacks, SearchTakes}
 use Rattle.nr_board.specs.declared.publish.Taken.{Taken}
 use Rattle.nr_board.proofs.WriterSteps.{same_desk}
-use Rattle.nr_core.specs.Story.{call_of, map_after}
+use Rattle.nr_core.specs.Story.{map_after}
 use Rattle.nr_core.specs.Writer.{moved_to}
 use Rattle.nr_core.specs.declared.places.Place.TheVariants.{Idle}
 use Rattle.nr_board.specs.Plays.{Room}
 use Rattle.nr_core.specs.declared.calls.NoSlot.{NoSlot}
 use Rattle.nr_core.specs.declared.roles.Desk.{Desk}
 use Rattle.nr_core.specs.declared.shape.Shape.{Shape}
-use Rattle.nr_model.specs.Maps.{filled_count, reply_to}
+use Rattle.nr_model.specs.Maps.{filled_count}
 use Rattle.nr_model.specs.declared.calls.Reply.TheVariants as reply
 use Rattle.nr_board.specs.SearchPlays.{scan_base}
 use Rattle.nr_board.specs.SearchSeats.{Ends}
@@ -127,8 +126,7 @@ takes_first table lists after flags before now taken flagged begins takes = reco
     ),
   );
   grows =
-      subst (λ (n : ℕ). Grows n [] (token before) (token now))
-      (sym (taking_many lists.retired flags takes.place takes.entry.slot)) takes.grows;
+      rw (taking_many lists.retired flags takes.place takes.entry.slot) takes.grows;
   few = let few = takes.few in let count = taking_many lists.retired flags takes.place takes.entry.slot in omega arith;
   marks = takes.marks;
 }
@@ -298,8 +296,7 @@ module _ (table : Table) (lists : SlotLists) (flags scanned : List Bool) (before
                 room = subst (λ (s : Shape). Room s (moved_to desk Idle)) shape_is gave_so.leads.room;
                 numbers = numbers_seat table last now own search.own desk.numbers one.table gave_so.leads.numbers;
               },
-              subst (λ (s : Shape). reply_to (map_after s now.me.0.seen) (call_of call) ≡ reply.Done) shapes
-                  gave_so.would_be_done,
+              rw (sym shapes) gave_so.would_be_done,
               ap (λ (s : Shape). filled_count (map_after s now.me.0.seen) + length lists.retired) (sym shapes)
                   ∙ ap (λ (l : List Retired). filled_count (map_after last.me.0.shape now.me.0.seen) + length l)
                   (sym second.search.retired ∙ ap (λ (d : Desk). d.retired) one_desk)
@@ -310,8 +307,7 @@ module _ (table : Table) (lists : SlotLists) (flags scanned : List Bool) (before
             (token before) (token last)
             [] (token now) refl last_grows one);
         many = many;
-        apart = λ reader. subst (λ (l : List Past). total (λ (note : Past). only reader note.reader) l ≤ 1)
-            (sym polls_now) (second.notes.apart reader);
+        apart = λ reader. rw polls_now (second.notes.apart reader);
         few =
             let most
             = notes_few lists.retired scanned table.shape.readers (length lists.retired)
@@ -322,11 +318,7 @@ module _ (table : Table) (lists : SlotLists) (flags scanned : List Bool) (before
             kept_back table.shape.readers before.me.0.seen now.me.0.seen (all_loads more) lists.retired
             now.me.0.marks.polls (λ slot. 0 < retirements slot lists.retired) kept_then (λ _ waits. waits)
             (λ _ waits. waits) (λ _ _ kept. kept)
-            (subst
-            (λ (l : List Past). (at : ℕ) (note : Past) → get_elem? l at ≡ some note
-            → (0 < note.reader) × (note.reader ≤ table.shape.readers))
-            (sym polls_now)
-            (λ at note there. let noted = second.notes.each at note there in (noted.made, noted.few)))
+            (rw polls_now (λ at note there. let noted = second.notes.each at note there in (noted.made, noted.few)))
             (subst (Adds (λ slot. 0 < retirements slot lists.retired) kept_then []) (sym polls_now)
             (adds_both (FlaggedIn lists.retired scanned) (PolledTo lists.retired scanned (length lists.retired))
             (λ slot. 0 < retirements slot lists.retired)

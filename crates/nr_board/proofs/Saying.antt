@@ -55,10 +55,7 @@ counted_lent shape before after words counted mine value near wide others is see
       same = λ at low no_count. get_or-set_other counted place at value 0 (λ e. no_count mine near e)
           ∙ seen.same at low no_count;
       less = λ slot low. dite (ℕ_discrete slot mine)
-          (λ e. subst
-          (λ (s : ℕ). get_or (set counted place value) (departures shape s) 0
-          ≡ (get_or words (departures shape s) 0 + (2 ^ 64 - after s)) % 2 ^ 64)
-          (sym e)
+          (λ e. rw e
           (get_or-set_same counted place value 0 (let inside = departures_inside shape mine near in omega arith) ∙ is))
           (λ ne. get_or-set_other counted place (departures shape slot) value 0
           (λ e. ne (same_departures shape slot mine e))

@@ -27,8 +27,7 @@ use Rattle.nr_board.specs.Views.{View}
 use Rattle.nr_board.specs.Noting.{Adds}
 use Rattle.nr_board.specs.WordLoads.{loads_of, word_load}
 use Rattle.nr_board.specs.WholeScans.{FlaggedIn, HeardTo, KeepBack, KeepsOne, NoneFlagged, SaidBehind, ScannedTo}
-use Rattle.nr_board.specs.WholeScans.{announced}
-use Rattle.nr_board.specs.WholeScans.{is_flagged, misses}
+use Rattle.nr_board.specs.WholeScans.{announced, is_flagged, misses}
 
 -- what a load of a reader's word makes of no slot of the map
 heard_outside : (desk : Desk) (own found : ℕ) (heard : List ℕ) (first more at : ℕ) → more ≤ at
@@ -598,8 +597,7 @@ pub cleared_more : (retired : List Retired) (before flags : List Bool) (place : 
 cleared_more retired before flags place entry so_far here low = record {
   wide = length-set flags entry.slot false ∙ so_far.wide;
   clear = λ at other near there. dite (ℕ_discrete other.slot entry.slot)
-      (λ e. subst (λ (s : ℕ). is_flagged (set flags entry.slot false) s ≡ false) (sym e)
-      (get_or-set_same flags entry.slot false true (let wide = so_far.wide in omega arith)))
+      (λ e. rw e (get_or-set_same flags entry.slot false true (let wide = so_far.wide in omega arith)))
       (λ ne. get_or-set_other flags entry.slot other.slot false true ne
       ∙ so_far.clear at other (dite (ℕ_discrete at place)
       (λ e. absurd
@@ -620,5 +618,4 @@ pub none_flagged : (retired : List Retired) (before flags : List Bool) → Clear
     → NoneFlagged retired flags
 none_flagged retired before flags cleared slot waits =
     let t = some_term (λ (x : Retired). only slot x.slot) retired waits in
-    subst (λ (s : ℕ). is_flagged flags s ≡ false) (only-is slot t.1.slot t.3)
-    (cleared.clear t.0 t.1 (inside_list retired t.0 t.1 t.2) t.2)
+    rw (sym (only-is slot t.1.slot t.3)) (cleared.clear t.0 t.1 (inside_list retired t.0 t.1 t.2) t.2)

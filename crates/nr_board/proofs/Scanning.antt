@@ -72,15 +72,9 @@ module _ (desk : Desk) (own found : ℕ) where
       (get_or (heard_from desk own found heard first more) at 0)
   heard_each heard first zero at = inl (omega arith)
   heard_each heard first (suc more) zero = let same : first ≡ first + 0 = omega arith in
-      subst
-      (λ (slot : ℕ). HeardMore desk own found slot (get_or heard slot 0)
-      (heard_now desk own found first (get_or heard first 0)))
-      same (heard_one first (get_or heard first 0))
+      rw (sym same) (heard_one first (get_or heard first 0))
   heard_each heard first (suc more) (suc at) = let same : suc first + at ≡ first + suc at = omega arith in
-      subst
-      (λ (slot : ℕ). HeardMore desk own found slot (get_or heard slot 0)
-      (get_or (heard_from desk own found heard (suc first) more) at 0))
-      same (heard_each heard (suc first) more at)
+      rw (sym same) (heard_each heard (suc first) more at)
 
   heard_more : (heard : List ℕ) (slots slot : ℕ)
       → HeardMore desk own found slot (get_or heard slot 0) (get_or (heard_from desk own found heard 0 slots) slot 0)
@@ -140,8 +134,7 @@ scan_heard shape state kept id own view next desk at is within same names heard_
     let writes : is_writer next.role ≡ 1 = ap is_writer same ∙ ap is_writer is in
     let before = kept.hears id view at (ap is_writer is) in
     let more : (slot : ℕ) → HeardMore desk own found slot (get_or view.heard slot 0) (get_or next.heard slot 0)
-    = λ slot. subst (λ (l : List ℕ). HeardMore desk own found slot (get_or view.heard slot 0) (get_or l slot 0))
-    (sym heard_is) (heard_more desk own found view.heard view.shape.slots slot) in
+    = λ slot. rw heard_is (heard_more desk own found view.heard view.shape.slots slot) in
     let hears : Hears (set state.views id next) next = record {
       quiet = λ k slot other v here his low. ⊎_elim
           (λ (p : (k ≡ id) × (next ≡ v)). absurd
@@ -213,8 +206,7 @@ scans_so shape slots id own me desk is within state kept homes at bounded =
       next,
       keeps,
       tt,
-      subst (λ (l : List ℕ). Kept shape (record { words = l; homes = state.homes; views = set state.views id next }))
-          (sym (set-get_or words place 0)) rests,
+      rw (set-get_or words place 0) rests,
       λ other mine also low place_is.
           let same : own ≡ mine
           = says_apart shape view.shape own mine (writer_shape shape kept.log view desk is fits) place_is in

@@ -1,7 +1,6 @@
 -- The steps of a scan and of a search in any order as the writer's seat makes them, whatever its desk, its call and its
 -- rows.
-use Rattle.std.proofs.Common.{◌≡◌, ℕ, ◌<◌, ◌≤◌, List, [], ◌∷◌, zero, suc, length, get_or, sym, ap, ◌∙◌, subst}
-use Rattle.std.proofs.Common.{arith}
+use Rattle.std.proofs.Common.{◌≡◌, ℕ, ◌<◌, ◌≤◌, List, [], ◌∷◌, zero, suc, length, get_or, sym, ap, ◌∙◌, subst, arith}
 use mathlib.Core.Option.{none, some, some-injective, some-ne-none}
 use lib.ListN.{get_elem?}
 use Rattle.atomic_table.specs.Table.{Allows, Me, State, step}
@@ -117,11 +116,7 @@ module _ (shape : Shape) (slots id : ℕ) (me : Me (Unit {0}) View) (desk : Desk
         one_place j,
       ))
       told)
-      (subst
-      (λ (e : Retired). Allows (Kept shape) slots id me (departures shape e.slot) (λ word. word)
-      (λ found after. Tried desk call rows poll found me.0 after.0))
-      (sym entry_is)
-      (tries_so shape slots id me desk call rows poll is is_at low
+      (rw entry_is (tries_so shape slots id me desk call rows poll is is_at low
       (subst (λ (e : Retired). me.0.announcers ≤ get_or me.0.heard e.slot 0) entry_is heard)))
 
   pub has_given_up_so : (key : ℕ) → key < shape.keys

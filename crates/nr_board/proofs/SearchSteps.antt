@@ -53,7 +53,6 @@ use Rattle.nr_board.proofs.WriterSteps.{leads_so, notes_so, writer_shape, writes
 use Rattle.nr_board.specs.Announcing.{Counted, HasNoReader, heard_after, heard_at, lends, lent, says_at}
 use Rattle.nr_board.specs.Scans.{heard_from}
 use Rattle.nr_board.specs.Entries.{AreCallers}
-use Rattle.nr_board.specs.Plays.{NotesTell}
 use Rattle.nr_board.specs.Rule.{Fits, Kept, marks_of, role_of}
 use Rattle.nr_board.specs.SearchPlays.{GaveUp, NotesKeeper, Scanned, Tried, keeps_unheard, scan_base, tried}
 use Rattle.nr_board.specs.Views.{View}
@@ -105,12 +104,9 @@ tries_so shape slots id me desk call rows poll is is_at low heard =
           leads_so shape id view desk is operation tells notes state kept at step marked marked.told.0 c outcome
           step.told.0 step.told.1 tt names (λ counts without. absurd (cc)) advances;
       notes =
-          subst (λ (l : List Entry). NotesTell l view.marks.polls marked.now.polls) seen
-          (notes_so shape state kept view.marks.polls marked.now.polls marked.noted);
+          rw (sym seen) (notes_so shape state kept view.marks.polls marked.now.polls marked.noted);
       marks =
-          subst
-          (λ (s : Shape). TryTells (same_count found (retired_at desk poll).arrivals) s slot view.marks marked.now)
-          (sym size) marked.told.1;
+          rw size marked.told.1;
       heard = ap (λ r. heard_after r view.heard) is ∙ ap (λ (p : Place). heard_at p view.heard) is_at;
     }))
 
@@ -328,8 +324,6 @@ searches_so shape slots id own me desk call rows is is_at within state kept home
       told.0,
       keeps,
       tt,
-      subst
-          (λ (l : List ℕ). Kept shape (record { words = l; homes = state.homes; views = set state.views id told.0 }))
-          (sym (set-get_or state.words place 0)) told.1,
+      rw (set-get_or state.words place 0) told.1,
       told.2,
     )

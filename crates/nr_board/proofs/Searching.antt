@@ -1,7 +1,7 @@
 -- The search for a slot: each retired one is polled in order, until one is not held.
 use Rattle.std.proofs.Common.{◌≡◌, ℕ, ◌+◌, ◌-◌, ◌<◌, ◌≤◌, List, [], ◌∷◌, ◌++◌, length-append, Bool, true, false, cond}
-use Rattle.std.proofs.Common.{length, nat_eq, refl, sym, ap, ◌∙◌, subst, arith, append-nil, append_assoc, ◌⊎◌}
-use Rattle.std.proofs.Common.{inl, suc, take, take_all, take-suc}
+use Rattle.std.proofs.Common.{length, nat_eq, refl, sym, ap, ◌∙◌, subst, arith, append-nil, append_assoc, ◌⊎◌, inl, suc}
+use Rattle.std.proofs.Common.{take, take_all, take-suc}
 use Rattle.std.proofs.lemmas.Bool.{eq-eqb, lt-ltb, le-ltb, ne_eqb}
 use Rattle.std.specs.Prelude.{nat_lt}
 use mathlib.Core.Logic.{dite}
@@ -29,7 +29,6 @@ use Rattle.nr_board.proofs.PollNotes.{reached_waits}
 use Rattle.nr_board.proofs.WordLoads.{no_loads}
 use Rattle.nr_board.proofs.Tokens.{grows_both}
 use Rattle.nr_board.specs.Callers.{Caller, Grows, Table, token, IsSound}
-use Rattle.nr_board.specs.Plays.{NotesTell}
 use Rattle.nr_board.specs.Noting.{Adds, Reached}
 use Rattle.nr_board.specs.Polls.{HeldThen}
 use Rattle.nr_board.specs.Rule.{StartsWith}
@@ -37,8 +36,8 @@ use Rattle.nr_core.specs.SlotLists.{SlotLists, all_taken}
 use Rattle.nr_board.specs.SlotLists.{desk_with, held_polls}
 use Rattle.nr_core.proofs.ExactPlace.{noted_more, noted_none}
 use Rattle.nr_core.specs.MarkSteps.{PollTells}
-use Rattle.nr_core.specs.Marks.{Marks, OfSlot, Past, LoggedLoad, with_poll, with_polls, with_scan}
-use Rattle.nr_core.specs.PollNotes.{Missed, Noted}
+use Rattle.nr_core.specs.Marks.{Marks, OfSlot, LoggedLoad, with_poll, with_polls, with_scan}
+use Rattle.nr_core.specs.PollNotes.{Noted}
 use Rattle.nr_board.specs.WriterSeats.{GoesOn, GoesTo, LacksSlot, LeadsIn, MapSeat, Settles, swept, TakesSlot, WritesAt}
 
 -- no step, where what is known is legal
@@ -115,8 +114,7 @@ searched_none table call rows lists seat settles full =
       leads = record {
         writes = subst (λ (o : Desk × Step). WritesAt table o.0 seat) is settles.writes;
         grows =
-            subst (λ (es : List Entry). Grows 0 es (token seat) (token seat))
-            (sym (swept_quiet shape desk call rows (call_of call) 0)) (grows_none (token seat) settles.knows);
+            rw (swept_quiet shape desk call rows (call_of call) 0) (grows_none (token seat) settles.knows);
         short = λ counts without. settles.short counts (ap (λ (o : Desk × Step). o.1) is ∙ without);
       };
       noted = subst (Noted table.shape seat.me.0.pasts) (sym settles.polls) (noted_none table.shape seat.me.0.pasts);
@@ -148,8 +146,7 @@ module _ (table : Table) (call : WriterCall) (rows : List Row) (lists : SlotList
 
   so_far_quiet : Grows polls [] (token before) (token mid)
   so_far_quiet =
-      subst (λ (es : List Entry). Grows polls es (token before) (token mid))
-      (swept_quiet table.shape (desk_with lists Idle) call rows (call_of call) polls) so_far.leads.grows
+      rw (sym (swept_quiet table.shape (desk_with lists Idle) call rows (call_of call) polls)) so_far.leads.grows
 
   module _ (found : ℕ) (after : MapSeat) (goes : GoesOn table found mid after) where
     told : GoesTo table desk_now found mid after
@@ -237,10 +234,7 @@ module _ (table : Table) (call : WriterCall) (rows : List Row) (lists : SlotList
           noted =
               noted_more table.shape before.me.0.pasts mid.me.0.marks.polls (retired_at desk_now polls).slot
               after.me.0.marks.polls so_far.noted
-              (subst
-              (λ (l : List Past). Missed table.shape l mid.me.0.marks.polls (retired_at desk_now polls).slot
-              after.me.0.marks.polls)
-              so_far.leads.grows.pasts polled_so.1);
+              (rw (sym so_far.leads.grows.pasts) polled_so.1);
           many =
               ap length polled_so.1.more ∙ length-append mid.me.0.marks.polls (polled_so.1.note ∷ [])
               ∙ ap (λ (n : ℕ). n + 1) so_far.many;
@@ -262,8 +256,7 @@ module _ (table : Table) (call : WriterCall) (rows : List Row) (lists : SlotList
               (reached_here lists.retired polls entry here)
               (held_noted before.me.0.seen after.me.0.seen mid.me.0.marks.polls after.me.0.marks.polls entry.slot
               polled_so.1.note begun
-              (subst (λ (l : List Entry). NotesTell l mid.me.0.marks.polls after.me.0.marks.polls) (sym seen_is)
-              told.notes)
+              (rw seen_is told.notes)
               polled_so.1.more polled_so.1.holds)
               (adds_on (Reached lists.retired polls) (Reached lists.retired polls)
               (HeldThen before.me.0.seen mid.me.0.seen) held []
@@ -296,8 +289,7 @@ lacks_slot table call rows lists before after polls so_far counted all =
       loads = held_polls lists.retired;
       searched = inl (counted, so_far.heard, refl, all ∙ sym (held_many lists.retired));
       grows =
-          subst (λ (es : List Entry). Grows polls es (token before) (token after))
-          (swept_quiet table.shape desk call rows (call_of call) polls) leads.grows;
+          rw (sym (swept_quiet table.shape desk call rows (call_of call) polls)) leads.grows;
       lacks =
           leads.short (all_taken lists)
           (ap (λ (o : Desk × Step). o.1) is

@@ -14,7 +14,6 @@ use Rattle.nr_model.specs.Histories.{entries_of}
 use Rattle.nr_core.proofs.Seat.{seats}
 use Rattle.nr_core.proofs.Choices.{by_cases}
 use Rattle.nr_core.proofs.Sums.{at_set, at_snoc, set_again, term_le, terms_le, total-append}
-use Rattle.nr_core.specs.Core.{Core}
 use Rattle.nr_core.specs.Roles.{is_by, is_reader, is_writer}
 use Rattle.nr_core.specs.Sums.{total}
 use Rattle.nr_core.specs.declared.roles.Role.{Role}
@@ -94,8 +93,7 @@ seats_so shape id view writes few state kept at =
           (hears_on views id view left at (λ _. refl) refl (λ _. refl) (λ _. hears_as view left refl refl)
           kept.hears);
       core =
-          subst (λ (rs : List Role). Core shape kept.counted rs kept.log) (sym more)
-          (seats shape kept.counted roles kept.log (view.made + 1) kept.core (omega (arith, kept.readers)));
+          rw more (seats shape kept.counted roles kept.log (view.made + 1) kept.core (omega (arith, kept.readers)));
       fits = λ j u there. ⊎_elim
           (λ (t : get_elem? (set views id left) j ≡ some u). ⊎_elim
           (λ (q : (j ≡ id) × (left ≡ u)). subst (Fits shape kept.log) q.1

@@ -15,8 +15,7 @@ MapSeat = Seat (Unit {0}) View
 pub seat_grows : (before after : MapSeat) (entries : List Entry) → after.table_id ≡ before.table_id
     → Advances entries before.me.0 after.me.0 → Grows 1 entries (token before) (token after)
 seat_grows before after entries same advances =
-    subst (λ (id : TableId). Grows 1 entries (token before) (caller_of id after.me.0)) (sym same)
-    (advances before.table_id)
+    rw same (advances before.table_id)
 
 pub seat_rests : (before after : MapSeat) → after.table_id ≡ before.table_id → Waits before.me.0 after.me.0
     → Rests 1 (token before) (token after)

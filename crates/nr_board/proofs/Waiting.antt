@@ -19,7 +19,7 @@ use Rattle.nr_board.specs.Views.{View, desk_of}
 use Rattle.nr_board.specs.WriterSeats.{MapSeat, TakesSlot, WritesAt, RestsAt}
 use Rattle.nr_board.specs.declared.answers.Reclaimed.{Reclaimed}
 use Rattle.nr_board.specs.Reclaiming.{HandsOut}
-use Rattle.nr_board.specs.SlotLists.{TookBySearch, lists_of}
+use Rattle.nr_board.specs.SlotLists.{lists_of}
 
 -- the slots that a resting token shows
 pub lists_shown : (table : Table) (lists : SlotLists) (seat : MapSeat) → RestsAt table lists seat
@@ -91,17 +91,14 @@ takes_later table call rows slot departed lists after old mid new steps takes sa
   steps = takes.steps;
   loads = takes.loads;
   took =
-      subst (λ (heard : List ℕ). TookBySearch table old.me.0.heard heard takes.loads slot takes.steps lists after)
-      (ap (λ (v : View). v.heard) (sym waits)) takes.took;
+      rw (sym (ap (λ (v : View). v.heard) (sym waits))) takes.took;
   few = takes.few;
   slots = takes.slots;
   numbers = takes.numbers;
   reaped = takes.reaped;
   writes = writes_later table _ mid new steps same waits takes.writes;
   grows =
-      subst (λ (caller : Caller). Grows takes.steps [] (token (later steps old)) caller)
-      (sym (waited_token mid new steps same waits))
-      (grows_later steps takes.steps (token old) (token mid) [] takes.grows);
+      rw (waited_token mid new steps same waits) (grows_later steps takes.steps (token old) (token mid) [] takes.grows);
   marks =
       ap (λ (v : View). v.marks) waits ∙ takes.marks
       ∙ ap (λ (v : View). with_scan old.me.0.marks v.marks.polls (old.me.0.marks.loads ++ takes.loads)) (sym waits);

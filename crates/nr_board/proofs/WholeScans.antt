@@ -27,8 +27,7 @@ use Rattle.nr_core.specs.declared.shape.Shape.{Shape}
 use Rattle.nr_board.specs.WholeScans.{FlaggedIn, HeardTo, NoneFlagged, RestsHearing, SaidBehind, ScannedTo, announced}
 use Rattle.nr_board.proofs.Keepers.{adds_none}
 use Rattle.nr_board.proofs.PollNotes.{is_retired}
-use Rattle.nr_board.proofs.ScannedWords.{announced_wide, heard_so, misses_none, more_flags, quiet_so}
-use Rattle.nr_board.proofs.ScannedWords.{scanned_more}
+use Rattle.nr_board.proofs.ScannedWords.{announced_wide, heard_so, misses_none, more_flags, quiet_so, scanned_more}
 
 -- BY A SEARCH
 
@@ -127,9 +126,7 @@ scan_goes table lists before now next flags own found so_far same tells =
     let quiet
     = quiet_so desk now.me.0 next.me.0 flags own found once near wide before_it.first before_it.heard
     (ap (λ (v : View). v.heard) told.same)
-    (subst
-    (λ (l : List Retired). 0 < own → (slot : ℕ) → retirements slot l ≡ 0 → get_or now.me.0.heard slot 0 ≡ 0)
-    (sym listed) so_far.quiet) in
+    (rw listed so_far.quiet) in
     record {
       own_table = same ∙ so_far.own_table;
       search = record {
@@ -152,8 +149,7 @@ scan_goes table lists before now next flags own found so_far same tells =
           (λ j. (listed j, one_more j)) scanned;
       wide = announced_wide found flags ∙ so_far.wide;
       others = λ slot none. more_flags found flags slot (so_far.others slot none);
-      quiet = λ _. subst (λ (l : List Retired). (slot : ℕ) → retirements slot l ≡ 0 → get_or next.me.0.heard slot 0 ≡ 0)
-          listed quiet;
+      quiet = λ _. rw (sym listed) quiet;
     }
 
 -- BETWEEN CALLS
@@ -247,15 +243,12 @@ module _ (table : Table) (lists : SlotLists) (before now : MapSeat) (flags : Lis
               heard = next.me.0.heard;
             });
         words =
-            subst
-            (λ (n : ℕ). WordsSoFar n lists.retired before.me.0.shape.slots before.me.0.marks.loads
-            next.me.0.marks.loads next.me.0.heard)
-            one_more
+            rw (sym one_more)
             (words_more desk own found before.me.0.shape.slots before.me.0.marks.loads now.me.0.marks.loads
             next.me.0.marks.loads now.me.0.heard next.me.0.heard so_far.words loads
             (heard ∙ ap (λ (v : View). heard_from desk own found now.me.0.heard 0 v.shape.slots) so_far.rest));
         first = λ none. absurd (omega arith);
-        heard = λ _. subst (λ (n : ℕ). HeardTo lists.retired (announced found flags) n next.me.0.heard) one_more
+        heard = λ _. rw (sym one_more)
             (heard_so desk now.me.0 next.me.0 flags own found once near wide so_far.first so_far.heard heard);
         wide = announced_wide found flags ∙ so_far.wide;
         others = λ slot none. more_flags found flags slot (so_far.others slot none);

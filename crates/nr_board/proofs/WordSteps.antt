@@ -559,10 +559,7 @@ confirms_so shape slots id own me key near has sized idle loud state kept homes 
       held.0,
       keeps,
       tt,
-      subst
-          (λ (words : List ℕ). Kept shape
-          (record { words = words; homes = state.homes; views = set state.views id held.0 }))
-          (sym (set-get_or state.words key 0)) held.1,
+      rw (set-get_or state.words key 0) held.1,
       record { same = λ _. held.2; other = λ no. differ (names_slot slot found) _ yes no },
     ))
     (λ no.

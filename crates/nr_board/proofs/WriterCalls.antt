@@ -1,6 +1,6 @@
 -- The writer's calls, put together of their steps.
-use Rattle.std.proofs.Common.{Bool, false, List, [], ap, append-nil, arith, get_or, length, refl}
-use Rattle.std.proofs.Common.{slice_index, subst, sym, ℕ, ◌*◌, ◌++◌, ◌+◌, ◌<◌, ◌∙◌, ◌∷◌, ◌≡◌}
+use Rattle.std.proofs.Common.{Bool, false, List, [], ap, append-nil, arith, get_or, length, refl, slice_index, subst}
+use Rattle.std.proofs.Common.{sym, ℕ, ◌*◌, ◌++◌, ◌+◌, ◌<◌, ◌∙◌, ◌∷◌, ◌≡◌}
 use Rattle.std.specs.Prelude.{Result, Ok, Err, slice_set}
 use Rattle.nr_model.specs.declared.calls.Call.{Call}
 use Rattle.nr_model.specs.declared.calls.Call.TheVariants as model
@@ -452,10 +452,7 @@ module
       → LeadsIn (2 * length rows + 2) table (model.Update key batch)
       (renewed table.shape at_read (Update key batch) left) before after
   leads_by left is =
-      subst
-      (λ (r : Result (List Row) ApplyFault). LeadsIn (2 * length rows + 2) table (model.Update key batch)
-      (renewed table.shape at_read (Update key batch) r) before after)
-      is read.leads
+      rw (sym is) read.leads
 
   seen_by : (left : Result (List Row) ApplyFault) → applied (bound_of table.shape) rows batch ≡ left
       → after.me.0.seen

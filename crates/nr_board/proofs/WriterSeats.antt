@@ -11,7 +11,6 @@ use Rattle.nr_core.specs.declared.roles.Desk.{Desk}
 use Rattle.nr_core.specs.declared.roles.Role.{Role}
 use Rattle.nr_core.specs.declared.roles.Role.TheVariants.{Writer}
 use Rattle.nr_core.specs.declared.shape.Shape.{Shape}
-use Rattle.nr_core.specs.MarkSteps.{GoesMarks}
 use Rattle.nr_board.proofs.Tokens.{seat_grows}
 use Rattle.nr_board.specs.Callers.{Table, map_seen, token}
 use Rattle.nr_board.specs.Plays.{Finds, Leads, Looked, Put, Room, Went, call_at, next_put}
@@ -67,11 +66,7 @@ module _ (table : Table) (before after : MapSeat) (same : after.table_id ≡ bef
     finds = subst (λ (s : Shape). Finds s desk.place found told.log before.me.0.marks) shape_is told.finds;
     notes = told.notes;
     marks =
-        subst
-        (λ (s : Shape). GoesMarks s before.me.0.marks before.me.0.pasts desk found after.me.0.role after.me.0.seen
-        after.me.0.marks
-        [])
-        shape_is told.marks;
+        rw (sym shape_is) told.marks;
     heard = told.heard;
   }
 

@@ -118,8 +118,7 @@ module _ (shape : Shape) (id : ℕ) (view : View) (desk : Desk) (is : view.role 
 
   numbers_after : AreNumbers view.shape (map_after view.shape (kept.log ++ step.entries)) outcome.0.numbers
   numbers_after =
-      subst (λ (s : Shape). AreNumbers s (map_after s (kept.log ++ step.entries)) outcome.0.numbers) (sym sized)
-      (step.core.knows id (Writer outcome.0) there_after).numbers
+      rw sized (step.core.knows id (Writer outcome.0) there_after).numbers
 
   abbrev pub next_view : View
   next_view = learned view step.after (kept.log ++ step.entries) step.entries marked.now marked.news
@@ -510,9 +509,7 @@ goes_so shape slots id me desk is busy heard in_order =
     = went_quiet shape view.marks view.pasts desk desk.place found step.after (kept.log ++ step.entries) marked.now
     marked.news marked.told in
     let names : NamesGo view marked.now
-    = λ _ key slot after. subst
-    (λ (r : Role). (get_or view.marks.names key 0 ≡ suc slot) ⊎ (get_or (heard_after r view.heard) slot 0 ≡ 0))
-    (sym is)
+    = λ _ key slot after. rw is
     (went_names shape view.marks view.pasts desk desk.place found step.after (kept.log ++ step.entries) marked.now
     marked.news view.heard marked.told key slot after) in
     writes shape id view desk is operation tells notes state kept at step marked no_news c outcome step.told.0 entries
@@ -529,8 +526,7 @@ goes_so shape slots id me desk is busy heard in_order =
           ap (λ (l : List Entry). kept.log ++ l)
           (entries ∙ ap (λ (s : Shape). ending c (went s desk desk.place found).1) (sym size));
       finds =
-          subst (λ (s : Shape). Finds s desk.place found kept.log view.marks) (sym size)
-          (finds_so shape kept.counted (map role_of state.views) kept.log kept.core id desk there view.marks
+          rw size (finds_so shape kept.counted (map role_of state.views) kept.log kept.core id desk there view.marks
           own.names desk.place refl);
       notes = notes_so shape state kept view.marks.polls marked.now.polls marked.noted;
       marks =

@@ -1,9 +1,6 @@
-use Rattle.std.proofs.Common.{arith, false, subst, sym, true, ◌≡◌, refl}
+use Rattle.std.proofs.Common.{arith, false, true, ◌≡◌, refl}
 use Rattle.nr_model.specs.declared.calls.Reply.TheVariants as reply
 use Rattle.nr_words.specs.KeyWords.{slot_of}
-use Rattle.nr_core.specs.Given.{IsGivenCall}
-use Rattle.nr_core.specs.Slots.{bound_of}
-use Rattle.nr_core.specs.declared.calls.WriterCall.{WriterCall}
 use Rattle.nr_core.specs.declared.places.Place.TheVariants.{Idle}
 use Rattle.nr_board.proofs.Looks.{asked_so, fill_already, fill_not_asked, fill_settles, fill_stale, filled_so}
 use Rattle.nr_board.proofs.Looks.{has_looked, slot_so, unasked_so}
@@ -13,8 +10,7 @@ use Rattle.nr_board.proofs.board.Board.begin_fill.Goals as goal
 
 pub look-requires-clause-given : goal.look-requires-clause-given
 look-requires-clause-given g c =
-    subst (λ (call : WriterCall). IsGivenCall (bound_of c.args.self.now.shape) call) (sym c.requires.call)
-    c.requires.row_set
+    rw c.requires.call c.requires.row_set
 
 pub returns-then-found : goal.returns-then-found
 returns-then-found g c =

@@ -1,8 +1,5 @@
-use Rattle.std.proofs.Common.{subst, sym, refl}
+use Rattle.std.proofs.Common.{refl}
 use Rattle.nr_model.specs.declared.calls.Reply.TheVariants as reply
-use Rattle.nr_core.specs.Given.{IsGivenCall}
-use Rattle.nr_core.specs.Slots.{bound_of}
-use Rattle.nr_core.specs.declared.calls.WriterCall.{WriterCall}
 use Rattle.nr_core.specs.declared.places.Place.TheVariants.{Idle}
 use Rattle.nr_board.proofs.Looks.{has_looked, is_empty, is_full, replace_dropped, replace_settles}
 use Rattle.nr_board.proofs.WriterCalls.{look_ends, look_settles}
@@ -11,8 +8,7 @@ use Rattle.nr_board.proofs.board.Board.begin_replace.Goals as goal
 
 pub look-requires-clause-given : goal.look-requires-clause-given
 look-requires-clause-given g c =
-    subst (λ (call : WriterCall). IsGivenCall (bound_of c.args.self.now.shape) call) (sym c.requires.call)
-    c.requires.row_set
+    rw c.requires.call c.requires.row_set
 
 pub returns-then-not-parts : goal.returns-then-not-parts
 returns-then-not-parts g c =

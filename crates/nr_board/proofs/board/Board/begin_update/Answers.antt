@@ -1,10 +1,8 @@
-use Rattle.std.proofs.Common.{ℕ, ap, subst, sym, ◌<◌, ◌∙◌, ◌≡◌, Err, refl}
+use Rattle.std.proofs.Common.{ℕ, ap, sym, ◌∙◌, ◌≡◌, Err, refl}
 use Rattle.nr_model.specs.Batches.{applied}
 use Rattle.nr_model.specs.declared.batches.ApplyFault.TheVariants as fault
 use Rattle.nr_model.specs.declared.calls.Reply.TheVariants as reply
 use Rattle.nr_core.specs.Slots.{bound_of}
-use Rattle.nr_core.specs.States.{key_of}
-use Rattle.nr_core.specs.declared.calls.WriterCall.{WriterCall}
 use Rattle.nr_core.specs.declared.places.Place.TheVariants.{Idle}
 use Rattle.nr_board.proofs.Looks.{has_looked, is_empty, is_full, slot_so, update_dropped, update_reads}
 use Rattle.nr_board.proofs.SetRooms.{reads_set}
@@ -36,8 +34,7 @@ read_set-requires g c =
     record {
       writer = reads.0;
       slot = reads.1;
-      key = subst (λ (call : WriterCall). key_of call < c.args.self.now.shape.keys) (sym c.requires.call)
-          c.requires.key;
+      key = rw c.requires.call c.requires.key;
     }
 
 pub returns-in-Err-NoRow : goal.returns-in-Err-NoRow

@@ -1,12 +1,8 @@
-use Rattle.std.proofs.Common.{ap, arith, subst, sym, ℕ, ◌∙◌, ◌<◌}
-use mathlib.Core.Option.{none}
-use Rattle.atomic_table.specs.Table.{Allows, step}
+use Rattle.std.proofs.Common.{ap, arith, sym, ℕ, ◌∙◌, ◌<◌}
 use Rattle.nr_board.proofs.BoardPlaces.{said_at, said_in, stands}
 use Rattle.nr_board.proofs.WordSeats.{said_nothing, said_rests, said_word}
 use Rattle.nr_board.proofs.WordSteps.{holds_by_word, says_so}
 use Rattle.nr_board.specs.Callers.{Table}
-use Rattle.nr_board.specs.Rule.{Kept}
-use Rattle.nr_board.specs.WordPlays.{has_said}
 use Rattle.nr_board.proofs.board.Board.clear.Goals as goal
 
 pub store-requires : goal.store-requires
@@ -22,10 +18,7 @@ store-requires c =
     let shape_is = ap (λ (t : Table). t.shape) c.requires.own in (
       ap (λ (t : Table). t.id) (c.requires.own ∙ sym c.self.view_is),
       said_in board c.args.own.index within is,
-      subst
-          (λ (at : ℕ). Allows (Kept shared.key.shape) n seat.id seat.me at (λ _. 0)
-          (has_said (step n at 0 0 none) seat.me))
-          (sym (said_at board c.args.own.index is))
+      rw (said_at board c.args.own.index is)
           (says_so shared.key.shape n seat.id c.args.own.index 0 seat.me c.requires.word (shape_is ∙ sym board.key_is)
           (holds_by_word c.args.self.now.shape shared.key.shape seat.me.0 (sym board.key_is) c.requires.free)),
     )

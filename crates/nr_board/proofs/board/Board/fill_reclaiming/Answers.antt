@@ -1,7 +1,5 @@
-use Rattle.std.proofs.Common.{List, subst, sym, ℕ}
 use Rattle.nr_board.proofs.Waiting.{given_out, set_later}
 use Rattle.nr_board.proofs.WriterCalls.{has_lacked, has_published}
-use Rattle.nr_board.specs.Flags.{IsFlagged}
 use Rattle.nr_board.proofs.board.Board.fill_reclaiming.Goals as goal
 
 pub returns-in-Ok : goal.returns-in-Ok
@@ -27,5 +25,4 @@ returns-in-Err g c =
 
 pub returns-in_err-begin_fill-clause-flagged : goal.returns-in_err-begin_fill-clause-flagged
 returns-in_err-begin_fill-clause-flagged g c =
-    subst (λ (heard : List ℕ). IsFlagged c.args.self.now c.args.lists.now.retired heard c.args.flags.now)
-    (sym c.in_err-begin_fill.ensures.2) c.requires.flagged
+    rw c.in_err-begin_fill.ensures.2 c.requires.flagged

@@ -1,11 +1,10 @@
-use Rattle.std.proofs.Common.{Bool, None, ap, arith, cond, subst, sym, ◌∙◌}
+use Rattle.std.proofs.Common.{Bool, ap, arith, cond, ◌∙◌}
 use Rattle.nr_core.specs.Slots.{name_number}
 use Rattle.nr_core.specs.Marks.{Marks, acted, with_look}
 use Rattle.nr_core.specs.Puts.{put_number}
 use Rattle.nr_board.proofs.Holding.{finds_none, finds_so, holds_first}
 use Rattle.nr_board.proofs.Looks.{is_empty, is_full}
 use Rattle.nr_board.specs.Callers.{Table}
-use Rattle.nr_board.specs.Holds.{HoldsAfter}
 use Rattle.nr_board.specs.WordPlays.{HasWord}
 use Rattle.nr_board.proofs.board.Board.hold_key.Goals as goal
 
@@ -29,9 +28,7 @@ returns-then-not-parts c =
     } in
     let empty = is_empty word c.parts.ensures.parts c.if-not-parts.true in
     let looked = with_look before.me.0.marks key (name_number word) in
-    subst (λ (b : Bool). HoldsAfter 0 b map key before.me.0.marks before after None)
-    (sym (finds_so c.args.own.index before has))
-    (finds_none map key word empty before after told.reader (told.hole empty)
+    rw (finds_so c.args.own.index before has) (finds_none map key word empty before after told.reader (told.hole empty)
     (told.marks
     ∙ ap (λ (b : Bool). cond {A = Marks} b looked (acted looked (put_number after.me.0.seen key))) empty))
 
@@ -55,8 +52,7 @@ returns c =
     } in
     let full = is_full word c.parts.ensures.parts c.if-not-parts.false in
     let looked = with_look before.me.0.marks key (name_number word) in
-    subst (λ (b : Bool). HoldsAfter 0 b map key before.me.0.marks before c.hold_named.new.seat c.hold_named.result)
-    (sym (finds_so c.args.own.index before has))
+    rw (finds_so c.args.own.index before has)
     (holds_first map key word full before mid c.hold_named.new.seat c.hold_named.result told.reader.idle
     (told.named full)
     (told.marks ∙ ap (λ (b : Bool). cond {A = Marks} b looked (acted looked (put_number mid.me.0.seen key))) full)

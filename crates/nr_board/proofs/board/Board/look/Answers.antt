@@ -1,17 +1,12 @@
 use Rattle.std.proofs.Common.{ap, arith, subst, sym, ℕ, ◌<◌, ◌∙◌, ◌≡◌}
-use Rattle.atomic_table.specs.Table.{Allows}
 use Rattle.nr_core.specs.Given.{IsGivenCall}
 use Rattle.nr_core.specs.States.{key_of}
-use Rattle.nr_core.specs.declared.roles.Desk.{Desk}
-use Rattle.nr_core.specs.declared.roles.Role.TheVariants.{Writer}
 use Rattle.nr_core.specs.declared.shape.Shape.{Shape}
 use Rattle.nr_board.proofs.WriterSeats.{looked_seat}
 use Rattle.nr_board.proofs.WriterSteps.{looks_so}
 use Rattle.nr_core.specs.declared.places.Place.{Place}
 use Rattle.nr_board.specs.Announcing.{heard_at}
 use Rattle.nr_board.specs.Callers.{Table}
-use Rattle.nr_board.specs.Plays.{Looked}
-use Rattle.nr_board.specs.Rule.{Kept}
 use Rattle.nr_board.proofs.board.Board.look.Goals as goal
 use Rattle.nr_core.specs.Slots.{bound_of}
 
@@ -30,11 +25,7 @@ load-requires g c =
     let n : ℕ = shared.table_id.slots in (
       ap (λ (t : Table). t.id) (writer.writes.own ∙ sym c.self.view_is),
       omega (arith, c.requires.key, ap (λ (t : Table). t.shape.keys) c.self.view_is),
-      subst
-          (λ (at : ℕ). Allows (Kept shared.key.shape) n seat.id seat.me at (λ w. w)
-          (λ found after. (other : Desk) → seat.me.0.role ≡ Writer other
-          → Looked other call found seat.me.0 after.0))
-          (sym c.requires.call)
+      rw c.requires.call
           (looks_so shared.key.shape n seat.id seat.me writer.desk call writer.writes.role writer.place given near),
     )
 

@@ -1,6 +1,4 @@
-use Rattle.std.proofs.Common.{refl, subst, sym, ◌<◌}
-use Rattle.nr_core.specs.States.{key_of}
-use Rattle.nr_core.specs.declared.calls.WriterCall.{WriterCall}
+use Rattle.std.proofs.Common.{refl, subst, sym}
 use Rattle.nr_core.specs.declared.places.Place.TheVariants.{Idle}
 use Rattle.nr_model.specs.declared.calls.Reply.TheVariants as reply
 use Rattle.nr_board.proofs.Looks.{find_hole, find_reads, has_looked, is_empty, is_full, slot_so}
@@ -34,8 +32,7 @@ read_set-requires g c =
     record {
       writer = reads.0;
       slot = reads.1;
-      key = subst (λ (call : WriterCall). key_of call < c.args.self.now.shape.keys) (sym c.requires.call)
-          c.requires.key;
+      key = rw c.requires.call c.requires.key;
     }
 
 pub returns : goal.returns

@@ -1,15 +1,11 @@
-use Rattle.std.proofs.Common.{List, [], ap, arith, length, subst, sym, ℕ, ◌∙◌}
-use Rattle.atomic_table.specs.Table.{opening}
+use Rattle.std.proofs.Common.{ap, arith, length, ◌∙◌}
 use Rattle.nr_board.proofs.Opens.{opens_so, words_stand}
-use Rattle.nr_board.specs.Rule.{Kept}
 use Rattle.nr_board.specs.declared.board.Plan.{Plan}
-use Rattle.nr_board.specs.Views.{opener}
 use Rattle.nr_board.proofs.board.Board.open.Goals as goal
 
 pub of_words-requires : goal.of_words-requires
 of_words-requires c =
-    subst (λ (words : List ℕ). Kept c.args.plan.shape (opening words [] (opener c.args.plan)))
-    (sym (c.deref.ensures.value ∙ c.in_ok-words.ensures.words))
+    rw (c.deref.ensures.value ∙ c.in_ok-words.ensures.words)
     (opens_so c.args.plan c.requires.sizes c.in_ok-words.ensures.count)
 
 pub invariant_of-result : goal.invariant_of-result

@@ -5,9 +5,8 @@ use Rattle.nr_core.specs.SlotLists.{SlotLists}
 use Rattle.nr_core.specs.declared.places.Retired.{Retired}
 use Rattle.nr_board.proofs.Passes.{entry_at, entry_inside, pass_takes, passed_by, passed_more, passed_none, tries_at}
 use Rattle.nr_board.specs.Passes.{PassedTo}
-use Rattle.nr_board.specs.SearchSeats.{TriesAt, TriesTo}
+use Rattle.nr_board.specs.SearchSeats.{TriesTo}
 use Rattle.nr_board.specs.WholeScans.{is_flagged}
-use Rattle.nr_board.specs.WriterSeats.{MapSeat}
 use Rattle.nr_board.proofs.board.Board.pass.Goals.{then-not-is_flagged+else-same_count, else-not-is_flagged}
 use Rattle.nr_board.proofs.board.Board.pass.Goals as goal
 
@@ -40,8 +39,7 @@ try_slot-departures-requires c =
     let unflagged
     = ap (λ (e : Retired). is_flagged flags e.slot) (sym is) ∙ sym c.is_flagged.ensures
     ∙ c.if-not-is_flagged.true in
-    subst (λ (e : Retired). TriesAt c.args.self.now e c.loop-place.seat) (sym is)
-    (tries_at c.args.self.now lists flags c.args.seat.now c.loop-place.seat place so_far.1 low c.requires.heard
+    rw is (tries_at c.args.self.now lists flags c.args.seat.now c.loop-place.seat place so_far.1 low c.requires.heard
     unflagged)
 
 pub returns-then-same_count : goal.returns-then-same_count
@@ -90,14 +88,12 @@ loop-place-preserved c =
             let apart
             = ap (λ (e : Retired). same_count found e.arrivals) (sym is) ∙ sym w.same_count.ensures
             ∙ w.if-same_count.false in
-            subst (λ (s : MapSeat). PassedTo map lists flags before s (place + 1)) (sym w.seat-is)
-            (passed_more map lists flags before c.loop-place.seat place so_far.1 low unflagged found
+            rw w.seat-is (passed_more map lists flags before c.loop-place.seat place so_far.1 low unflagged found
             w.try_slot-departures.new.seat w.try_slot-departures.ensures.own tells apart)
         | else-not-is_flagged w ↦ let flagged
             = ap (λ (e : Retired). is_flagged flags e.slot) (sym is) ∙ sym c.is_flagged.ensures
             ∙ w.if-not-is_flagged.false in
-            subst (λ (s : MapSeat). PassedTo map lists flags before s (place + 1)) (sym w.seat-is)
-            (passed_by map lists flags before c.loop-place.seat place so_far.1 low flagged)
+            rw w.seat-is (passed_by map lists flags before c.loop-place.seat place so_far.1 low flagged)
       ],
     )
 

@@ -1,19 +1,15 @@
 use Rattle.std.proofs.Common.{ap, arith, get_or, refl, subst, sym, ℕ, ◌<◌, ◌≤◌, ◌∙◌, ◌≡◌}
-use Rattle.atomic_table.specs.Table.{Allows}
 use Rattle.nr_core.specs.Slots.{departures}
 use Rattle.nr_words.specs.declared.layout.Layout.{Layout}
 use Rattle.nr_words.specs.Places.{Departures, place_of}
 use Rattle.nr_core.specs.States.{retired_at}
 use Rattle.nr_core.specs.declared.places.Place.TheVariants.{Searching}
-use Rattle.nr_core.specs.declared.roles.Desk.{Desk}
-use Rattle.nr_core.specs.declared.roles.Role.TheVariants.{Writer}
 use Rattle.nr_board.proofs.PollNotes.{at_get}
 use Rattle.nr_board.proofs.BoardPlaces.{departures_at, departures_in, stands}
 use Rattle.nr_board.proofs.WriterSeats.{desk_at, gone_seat}
 use Rattle.nr_board.proofs.WriterSteps.{goes_so}
 use Rattle.nr_board.specs.Callers.{Table}
-use Rattle.nr_board.specs.Plays.{RoomAt, Went}
-use Rattle.nr_board.specs.Rule.{Kept}
+use Rattle.nr_board.specs.Plays.{RoomAt}
 use Rattle.nr_board.specs.WriterSeats.{IsPolling, MapSeat}
 use Rattle.nr_board.proofs.board.Board.poll.Goals as goal
 
@@ -46,11 +42,7 @@ load-requires c =
     let place = departures_at board c.args.slot low is ∙ ap (departures shared.key.shape) polling.slot_is in (
       ap (λ (t : Table). t.id) (polling.writes.own ∙ sym c.self.view_is),
       departures_in board c.args.slot low is,
-      subst
-          (λ (p : ℕ). Allows (Kept shared.key.shape) n seat.id seat.me p (λ w. w)
-          (λ found after. (other : Desk) → seat.me.0.role ≡ Writer other → Went other found seat.me.0 after.0))
-          (sym place)
-          (goes_so shared.key.shape n seat.id seat.me at
+      rw place (goes_so shared.key.shape n seat.id seat.me at
           (desk_at seat.me.0.role polling.desk (Searching polling.call polling.rows polling.poll)
           polling.writes.role polling.place)
           refl

@@ -1,21 +1,14 @@
-use Rattle.std.proofs.Common.{ap, arith, get_or, subst, sym, ℕ, ◌<◌, ◌≤◌, ◌∙◌, ◌≡◌}
-use mathlib.Core.Option.{some}
-use lib.ListN.{get_elem?}
-use Rattle.atomic_table.specs.Table.{Allows}
+use Rattle.std.proofs.Common.{ap, arith, subst, sym, ℕ, ◌<◌, ◌∙◌, ◌≡◌}
 use Rattle.nr_core.specs.Slots.{departures}
 use Rattle.nr_words.specs.declared.layout.Layout.{Layout}
 use Rattle.nr_words.specs.Places.{Departures, place_of}
-use Rattle.nr_core.specs.declared.places.Place.TheVariants.{Idle}
 use Rattle.nr_core.specs.declared.places.Retired.{Retired}
-use Rattle.nr_core.specs.declared.roles.Desk.{Desk}
-use Rattle.nr_core.specs.declared.roles.Role.TheVariants.{Writer}
 use Rattle.nr_core.specs.declared.shape.Shape.{Shape}
 use Rattle.nr_board.proofs.BoardPlaces.{departures_at, departures_in, stands}
 use Rattle.nr_board.proofs.Sweeps.{probes_so}
 use Rattle.nr_board.specs.Callers.{Table}
 use Rattle.nr_board.specs.Plays.{Room}
-use Rattle.nr_board.specs.Reaping.{ProbesAt, ProbesTo}
-use Rattle.nr_board.specs.Rule.{Kept}
+use Rattle.nr_board.specs.Reaping.{ProbesAt}
 use Rattle.nr_board.specs.WriterSeats.{MapSeat}
 use Rattle.nr_board.proofs.board.Board.probe.Goals as goal
 
@@ -41,15 +34,9 @@ load-requires c =
     let n : ℕ = shared.table_id.slots in let place = departures_at board entry.slot low is in (
       ap (λ (t : Table). t.id) (probes.own ∙ sym c.self.view_is),
       departures_in board entry.slot low is,
-      subst (λ (p : ℕ). Allows (Kept shared.key.shape) n seat.id seat.me p (λ w. w)
-          (λ found after. (other : Desk) (at : ℕ) (named : Retired) → seat.me.0.role ≡ Writer other → other.place ≡ Idle
-          → Room seat.me.0.shape other
-          → get_elem? other.retired at ≡ some named → p ≡ departures seat.me.0.shape named.slot
-          → ProbesTo seat.me.0.shape named found seat.me.0 after.0)) (sym place)
-          (probes_so shared.key.shape n seat.id seat.me probes.desk probes.poll entry probes.role probes.idle
+      rw place (probes_so shared.key.shape n seat.id seat.me probes.desk probes.poll entry probes.role probes.idle
           probes.here
-          (subst (λ (n : ℕ). n ≤ get_or seat.me.0.heard entry.slot 0)
-          (sym (ap (λ (t : Table). t.announcers) probes.own)) probes.heard)),
+          (rw (ap (λ (t : Table). t.announcers) probes.own) probes.heard)),
     )
 
 pub returns-clause-own : goal.returns-clause-own
@@ -61,7 +48,6 @@ returns-clause-tells c = let seat = c.args.seat.now in let probes = c.requires i
     let is : c.departures-place.result ≡ departures c.args.self.now.shape entry.slot
     = c.departures-place.ensures.place
     ∙ ap (λ (l : Layout). place_of l (Departures entry.slot)) c.layout.ensures.value in
-    rw (sym size)
-    (c.load.ensures.2 probes.desk probes.poll entry probes.role probes.idle
+    rw (sym size) (c.load.ensures.2 probes.desk probes.poll entry probes.role probes.idle
     (subst (λ (s : Shape). Room s probes.desk) (sym size) probes.room) probes.here
     (is ∙ ap (λ (s : Shape). departures s entry.slot) (sym size)))

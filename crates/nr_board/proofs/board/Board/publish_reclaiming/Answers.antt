@@ -10,8 +10,7 @@ use Rattle.nr_core.specs.declared.roles.Desk.{Desk}
 use Rattle.nr_board.proofs.Publishing.{published}
 use Rattle.nr_board.proofs.Tokens.{grows_both}
 use Rattle.nr_board.specs.Callers.{Table, token}
-use Rattle.nr_core.specs.Marks.{Marks, set_in, with_scan}
-use Rattle.nr_board.specs.Reclaiming.{HandsOut}
+use Rattle.nr_core.specs.Marks.{Marks, with_scan}
 use Rattle.nr_board.specs.Recalls.{later}
 use Rattle.nr_board.specs.Views.{desk_of}
 use Rattle.nr_board.specs.WriterSeats.{GoesOn, WritesAt}
@@ -52,11 +51,7 @@ returns-clause-publishes g c =
     ∙ ap (λ (s : SlotLists). record s { reaped = slice_set s.reaped slot false }) c.retire.ensures) in (
       steps,
       put.0,
-      subst
-          (λ (i : ℕ). HandsOut g.R.RowRoom.shows map.shape.rows c.args.lists.now i
-          (set_in c.args.seat.now.me.0.marks i) c.args.had.now c.take_reclaiming.new.had steps
-          c.in_ok-taken.given)
-          (sym put.1) c.in_ok-taken.ensures.takes.2,
+      rw put.1 c.in_ok-taken.ensures.takes.2,
     )
 
 pub set_reaped-requires : goal.set_reaped-requires

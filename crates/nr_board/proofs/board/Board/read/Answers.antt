@@ -1,6 +1,4 @@
-use Rattle.std.proofs.Common.{ap, arith, get_or, subst, sym, ℕ, ◌+◌, ◌-◌, ◌∙◌, ◌≡◌}
-use mathlib.Core.Option.{none}
-use Rattle.atomic_table.specs.Table.{Allows, step}
+use Rattle.std.proofs.Common.{ap, arith, get_or, sym, ℕ, ◌+◌, ◌-◌, ◌∙◌, ◌≡◌}
 use Rattle.nr_core.specs.Slots.{content}
 use Rattle.nr_core.specs.declared.shape.Shape.{Shape}
 use Rattle.nr_words.specs.SetWords.{encode}
@@ -9,8 +7,6 @@ use Rattle.nr_board.proofs.ReaderSeats.{read_seat}
 use Rattle.nr_board.proofs.ReaderSteps.{reads_so}
 use Rattle.nr_board.proofs.Rows.{length-encode}
 use Rattle.nr_board.specs.Callers.{Table}
-use Rattle.nr_board.specs.Plays.{has_read_word}
-use Rattle.nr_board.specs.Rule.{Kept}
 use Rattle.nr_core.specs.Marks.{gripped}
 use Rattle.nr_board.specs.Views.{grip_of, rows_held, slot_held}
 use Rattle.nr_board.proofs.board.Board.read.Goals as goal
@@ -38,11 +34,7 @@ load-requires c =
       ap (λ (t : Table). t.id) (reader.own ∙ sym c.self.view_is),
       content_in board slot reader.holds.inside c.args.begin index reader.begin_is
           (omega (arith, c.requires.index, reader.holds.row_set.1)),
-      subst
-          (λ (at : ℕ). Allows (Kept shared.key.shape) shared.table_id.slots seat.id seat.me at (λ n. n)
-          (has_read_word (step shared.table_id.slots at 0 0 none) seat.me))
-          (sym place)
-          (reads_so shared.key.shape shared.table_id.slots seat.id seat.me index reader.holds.is
+      rw place (reads_so shared.key.shape shared.table_id.slots seat.id seat.me index reader.holds.is
           (omega (arith, reader.holds.inside, ap (λ (s : Shape). s.slots) board.key_is))
           (omega (arith, words, c.requires.index, reader.holds.row_set.1, ap (λ (s : Shape). s.rows) board.key_is))
           c.requires.index (ap (λ (t : Table). t.shape) reader.own ∙ sym board.key_is)),

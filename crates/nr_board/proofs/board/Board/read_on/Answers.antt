@@ -1,15 +1,11 @@
-use Rattle.std.proofs.Common.{ap, arith, refl, subst, sym, ℕ, ◌∙◌, ◌≡◌}
-use Rattle.atomic_table.specs.Table.{Allows}
+use Rattle.std.proofs.Common.{ap, arith, refl, subst, sym, ℕ, ◌∙◌}
 use Rattle.nr_core.specs.Slots.{content}
 use Rattle.nr_core.specs.declared.places.Place.TheVariants.{Reading}
-use Rattle.nr_core.specs.declared.roles.Desk.{Desk}
-use Rattle.nr_core.specs.declared.roles.Role.TheVariants.{Writer}
 use Rattle.nr_board.proofs.BoardPlaces.{content_at, content_fits, content_in, stands}
 use Rattle.nr_board.proofs.WriterSeats.{desk_at, gone_seat}
 use Rattle.nr_board.proofs.WriterSteps.{goes_so}
 use Rattle.nr_board.specs.Callers.{Table}
-use Rattle.nr_board.specs.Plays.{RoomAt, Went}
-use Rattle.nr_board.specs.Rule.{Kept}
+use Rattle.nr_board.specs.Plays.{RoomAt}
 use Rattle.nr_board.proofs.board.Board.read_on.Goals as goal
 
 pub overflow_add-place : goal.overflow_add-place
@@ -37,11 +33,7 @@ load-requires c =
       ap (λ (t : Table). t.id) (reading.writes.own ∙ sym c.self.view_is),
       content_in board reading.slot room.0 c.args.begin c.args.index reading.begin_is
           (omega (arith, reading.index_is, room.1)),
-      subst
-          (λ (p : ℕ). Allows (Kept shared.key.shape) n seat.id seat.me p (λ w. w)
-          (λ found after. (other : Desk) → seat.me.0.role ≡ Writer other → Went other found seat.me.0 after.0))
-          (sym place)
-          (goes_so shared.key.shape n seat.id seat.me at
+      rw place (goes_so shared.key.shape n seat.id seat.me at
           (desk_at seat.me.0.role reading.desk (Reading reading.call reading.slot reading.got) reading.writes.role
           reading.place)
           refl tt tt),

@@ -1,4 +1,4 @@
-use Rattle.std.proofs.Common.{List, ap, arith, get_or, length, subst, sym, ◌∙◌, ◌<◌, ◌*◌, ◌+◌}
+use Rattle.std.proofs.Common.{List, ap, arith, get_or, sym, ◌∙◌, ◌*◌, ◌+◌}
 use Rattle.std.specs.Prelude.{Some}
 use Rattle.nr_model.specs.declared.rows.Row.{Row}
 use Rattle.nr_words.specs.SetWords.{encode}
@@ -13,8 +13,7 @@ read-a-requires-clause-index c =
 
 pub read-b-requires-clause-index : goal.read-b-requires-clause-index
 read-b-requires-clause-index c = let rows = rows_held c.args.seat.now.me.0.role in
-    subst (λ (held : List Row). 2 * c.args.i + 2 < length (encode held)) (sym c.read-a.ensures.rows)
-    (let words = length-encode rows in
+    rw c.read-a.ensures.rows (let words = length-encode rows in
     omega (arith, c.requires.i))
 
 pub returns-clause-row : goal.returns-clause-row

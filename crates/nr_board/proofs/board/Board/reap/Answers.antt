@@ -1,6 +1,5 @@
-use Rattle.std.proofs.Common.{List, ap, length, refl, subst, sym, true, [], ◌∷◌, ℕ, ◌*◌, ◌+◌, ◌++◌, ◌≡◌}
+use Rattle.std.proofs.Common.{ap, length, refl, subst, sym, true, [], ◌∷◌, ℕ, ◌*◌, ◌+◌, ◌++◌, ◌≡◌}
 use Rattle.nr_model.specs.Rows.{IsRowSet}
-use Rattle.nr_model.specs.declared.rows.Row.{Row}
 use Rattle.nr_core.specs.Marks.{OfSlot, set_in}
 use Rattle.nr_board.specs.Reaping.{after_polls, with_reap}
 use Rattle.nr_board.specs.SlotLists.{held_polls}
@@ -43,15 +42,7 @@ returns-in-Free-clause-reaps g c =
     (after_polls (found.earlier ++ found.notes) (found.loads ++ (held_polls found.held ++ OfSlot s true ∷ []))
     found.scanned (2 * length (set_in before.me.0.marks s) + 1) (token before))))
     found.slot_is
-    (subst
-    (λ (rows : List Row). g.R.RowRoom.shows c.recall_set.new.rows rows
-    × IsRowSet (token before).table.shape.rows rows
-    × (token c.recall_set.new.seat
-    ≡ with_reap slot
-    (after_polls (found.earlier ++ found.notes)
-    (found.loads ++ (held_polls found.held ++ OfSlot slot true ∷ [])) found.scanned (2 * length rows + 1)
-    (token before))))
-    set_is (
+    (rw (sym set_is) (
       c.recall_set.ensures.rows,
       subst (λ (t : Table). IsRowSet t.shape.rows (set_in mid.me.0.marks slot)) (sym c.requires.own)
           c.recall_set.ensures.row_set,

@@ -1,11 +1,9 @@
 use Rattle.std.proofs.Common.{ap, arith, subst, sym, ℕ, ◌+◌, ◌<◌, ◌∙◌, ◌≡◌}
-use Rattle.nr_core.specs.Slots.{bound_of, content}
+use Rattle.nr_core.specs.Slots.{content}
 use Rattle.nr_core.specs.declared.shape.Shape.{Shape}
-use Rattle.nr_core.specs.Marks.{set_in}
 use Rattle.nr_board.proofs.BoardPlaces.{content_in, stands}
 use Rattle.nr_board.proofs.Recalling.{recalls_so}
 use Rattle.nr_board.specs.Callers.{Table}
-use Rattle.nr_board.specs.Recalls.{IsWordOf}
 use Rattle.nr_board.proofs.board.Board.recall.Goals as goal
 
 pub load-requires : goal.load-requires
@@ -29,6 +27,6 @@ returns-clause-word c =
     let size = ap (λ (t : Table). t.shape) recalls.own in
     let place : c.content.result + index ≡ content c.args.self.now.shape slot index
     = omega (arith, c.content.ensures) in
-    subst (λ (s : Shape). IsWordOf (bound_of s) (set_in seat.me.0.marks slot) index c.load.result) size
+    rw (sym size)
     (told.finds recalls.desk slot index recalls.role (subst (λ (s : Shape). slot < s.slots) (sym size) recalls.inside)
     recalls.untouched (place ∙ ap (λ (s : Shape). content s slot index) (sym size)))

@@ -1,12 +1,8 @@
-use Rattle.std.proofs.Common.{ap, arith, subst, sym, ℕ, ◌<◌, ◌∙◌}
-use mathlib.Core.Option.{none}
-use Rattle.atomic_table.specs.Table.{Allows, step}
+use Rattle.std.proofs.Common.{ap, arith, sym, ℕ, ◌<◌, ◌∙◌}
 use Rattle.nr_board.proofs.BoardPlaces.{said_at, said_in, stands}
 use Rattle.nr_board.proofs.Scanning.{scans_so}
 use Rattle.nr_board.specs.Announcing.{says_at}
 use Rattle.nr_board.specs.Callers.{Table}
-use Rattle.nr_board.specs.Rule.{Kept}
-use Rattle.nr_board.specs.Scans.{has_scanned}
 use Rattle.nr_board.proofs.board.Board.scan.Goals as goal
 
 pub own_word-place-requires : goal.own_word-place-requires
@@ -24,10 +20,7 @@ load-requires c =
     = omega (arith, scans.within, ap (λ (t : Table). t.announcers) scans.own_table) in (
       ap (λ (t : Table). t.id) (scans.own_table ∙ sym c.self.view_is),
       said_in board c.args.own scans.within is,
-      subst
-          (λ (at : ℕ). Allows (Kept shared.key.shape) n seat.id seat.me at (λ w. w)
-          (has_scanned (step n at 0 0 none) seat.me))
-          (sym (said_at board c.args.own is))
+      rw (said_at board c.args.own is)
           (scans_so shared.key.shape n seat.id c.args.own seat.me scans.desk scans.role within),
     )
 

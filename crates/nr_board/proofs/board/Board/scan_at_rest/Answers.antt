@@ -1,4 +1,4 @@
-use Rattle.std.proofs.Common.{Bool, List, arith, sym, subst, ℕ, ◌+◌, ◌∙◌, ◌≡◌}
+use Rattle.std.proofs.Common.{arith, subst, ℕ, ◌∙◌, ◌≡◌}
 use Rattle.nr_board.proofs.WholeScans.{RestingScan, resting_scan_at, resting_scan_begins, resting_scan_goes}
 use Rattle.nr_board.proofs.WholeScans.{resting_scan_hears}
 use Rattle.nr_board.proofs.board.Board.scan_at_rest.Goals as goal
@@ -17,10 +17,7 @@ scan-said-requires c =
 
 pub loop-reader-preserved : goal.loop-reader-preserved
 loop-reader-preserved c = let told = c.scan-said.ensures in let own : ℕ = c.loop-reader.reader in
-    subst
-    (λ (flags : List Bool). RestingScan c.args.self.now c.args.lists.now c.args.seat.now c.scan-said.new.seat flags
-    (own + 1))
-    (sym c.announce.ensures.flags)
+    rw c.announce.ensures.flags
     (resting_scan_goes c.args.self.now c.args.lists.now c.args.seat.now c.loop-reader.seat c.loop-reader.flags own
     c.requires.rests c.loop-reader.invariant c.scan-said.new.seat c.scan-said.result told.own told.hears)
 

@@ -1,12 +1,8 @@
-use Rattle.std.proofs.Common.{ap, arith, subst, sym, ℕ, ◌<◌, ◌∙◌}
-use mathlib.Core.Option.{none}
-use Rattle.atomic_table.specs.Table.{Allows, step}
+use Rattle.std.proofs.Common.{ap, arith, sym, ℕ, ◌<◌, ◌∙◌}
 use Rattle.nr_board.proofs.BoardPlaces.{said_at, said_in, stands}
 use Rattle.nr_board.proofs.SearchSeats.{has_searched_so}
 use Rattle.nr_board.specs.Announcing.{says_at}
 use Rattle.nr_board.specs.Callers.{Table}
-use Rattle.nr_board.specs.Rule.{Kept}
-use Rattle.nr_board.specs.SearchPlays.{has_searched}
 use Rattle.nr_board.proofs.board.Board.scan_on.Goals as goal
 
 pub own_word-place-requires : goal.own_word-place-requires
@@ -24,10 +20,7 @@ load-requires c =
     = omega (arith, c.requires.within, ap (λ (t : Table). t.announcers) search.own) in (
       ap (λ (t : Table). t.id) (search.own ∙ sym c.self.view_is),
       said_in board c.args.own c.requires.within is,
-      subst
-          (λ (at : ℕ). Allows (Kept shared.key.shape) n seat.id seat.me at (λ w. w)
-          (has_searched (step n at 0 0 none) seat.me))
-          (sym (said_at board c.args.own is))
+      rw (said_at board c.args.own is)
           (has_searched_so shared.key.shape n seat.id seat.me search.desk search.call search.rows search.role
           search.place (ap (λ (t : Table). t.shape) search.own ∙ sym board.key_is) c.args.own within),
     )

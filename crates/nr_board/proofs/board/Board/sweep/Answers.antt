@@ -12,7 +12,7 @@ use Rattle.nr_core.specs.States.{no_retired}
 use Rattle.nr_core.specs.declared.places.Retired.{Retired}
 use Rattle.nr_board.proofs.Sweeps.{probes_at, retired_near, swept_first, swept_more, swept_past, swept_unheard}
 use Rattle.nr_board.proofs.Sweeps.{sweeps_free}
-use Rattle.nr_board.specs.Reaping.{ProbesAt, ProbesTo, SweepsFor, SweptTo}
+use Rattle.nr_board.specs.Reaping.{ProbesTo}
 use Rattle.nr_board.specs.declared.reaping.Sweep.TheVariants as sweep
 use Rattle.nr_board.proofs.board.Board.sweep.Goals.{then-not-is_reaped+then-not-is_flagged+else-same_count}
 use Rattle.nr_board.proofs.board.Board.sweep.Goals.{then-not-is_reaped+else-not-is_flagged, else-not-is_reaped}
@@ -61,7 +61,7 @@ probe-departures-requires c =
     = told_of c.args.self.now lists c.args.flags.now c.args.seat.now c.requires.rests c.requires.flagged
     c.retired_at-entry.result _ c.retired_at-entry.ensures c.is_flagged.result c.is_flagged.ensures.none
     c.is_flagged.ensures.flag in
-    subst (λ (e : Retired). ProbesAt c.args.self.now e c.loop-place.seat) (sym c.retired_at-entry.ensures)
+    rw c.retired_at-entry.ensures
     (probes_at c.args.self.now lists c.args.seat.now c.loop-place.seat c.loop-place.place c.loop-place.waits
     c.requires.rests
     c.loop-place.invariant low (sym far ∙ c.if-not-is_flagged.true))
@@ -86,8 +86,7 @@ returns-then-same_count-clause-sweeps c =
     let agree
     = ap (λ (e : Retired). same_count found e.arrivals) (sym is) ∙ sym c.same_count.ensures
     ∙ c.if-same_count.true in
-    subst (λ (e : Retired). SweepsFor lists c.args.seat.now after (sweep.Free e.slot)) (sym is)
-    (sweeps_free lists c.args.seat.now c.loop-place.seat place c.loop-place.waits c.loop-place.invariant low
+    rw is (sweeps_free lists c.args.seat.now c.loop-place.seat place c.loop-place.waits c.loop-place.invariant low
     c.args.self.now.shape found after c.probe-departures.ensures.own tells waits
     (sym far ∙ c.if-not-is_flagged.true) agree
     (retired_near c.args.self.now lists c.args.seat.now place c.requires.rests low))
@@ -116,8 +115,7 @@ loop-place-preserved c =
           let apart
           = ap (λ (e : Retired). same_count found e.arrivals) (sym is) ∙ sym w.same_count.ensures
           ∙ w.if-same_count.false in
-          subst (λ (b : Bool). SweptTo lists before c.if-not-is_reaped.seat (place + 1) b) (sym w.waits-is)
-          (subst (λ seat. SweptTo lists before seat (place + 1) true) (sym w.seat-is)
+          rw w.waits-is (rw w.seat-is
           (swept_more lists before c.loop-place.seat place c.loop-place.waits c.loop-place.invariant low
           c.args.self.now.shape found w.probe-departures.new.seat
           w.probe-departures.ensures.own tells waits (sym far ∙ w.if-not-is_flagged.true) c.args.self.now refl
@@ -129,15 +127,13 @@ loop-place-preserved c =
           let far
           = told_of c.args.self.now lists flags before c.requires.rests c.requires.flagged c.retired_at-entry.result
           _ is w.is_flagged.result w.is_flagged.ensures.none w.is_flagged.ensures.flag in
-          subst (λ (b : Bool). SweptTo lists before c.if-not-is_reaped.seat (place + 1) b) (sym w.waits-is)
-          (subst (λ seat. SweptTo lists before seat (place + 1) true) (sym w.seat-is)
+          rw w.waits-is (rw w.seat-is
           (swept_unheard lists before c.loop-place.seat place c.loop-place.waits c.loop-place.invariant low waits
           (sym far ∙ w.if-not-is_flagged.false)))
       | else-not-is_reaped w ↦
           let gone
           = ap (λ (e : Retired). get_or lists.reaped e.slot false) (sym is) ∙ sym c.is_reaped.ensures
           ∙ w.if-not-is_reaped.false in
-          subst (λ (b : Bool). SweptTo lists before c.if-not-is_reaped.seat (place + 1) b) (sym w.waits-is)
-          (subst (λ seat. SweptTo lists before seat (place + 1) c.loop-place.waits) (sym w.seat-is)
+          rw w.waits-is (rw w.seat-is
           (swept_past lists before c.loop-place.seat place c.loop-place.waits c.loop-place.invariant low gone))
     ]

@@ -47,10 +47,7 @@ returns-then-is_reaped-clause-takes g c =
     c.take_retired.new.lists taken.slot taken.departures)
     c.in_default.ensures.1 c.in_ok-taken.ensures.takes in (
       0,
-      subst
-          (λ (s : MapSeat). TakesSlot map g.G.BegunCall.call c.args.rows.now s lists c.take_retired.new.seat
-          c.take_retired.new.lists taken.slot taken.departures)
-          (at_once seat) took,
+      rw (sym (at_once seat)) took,
       (
         inr
             (ap (λ (flags : List Bool). slice_index_or flags taken.slot false) (sym took.reaped)

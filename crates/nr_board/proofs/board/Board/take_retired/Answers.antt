@@ -1,11 +1,10 @@
-use Rattle.std.proofs.Common.{List, [], arith, length, refl, subst, sym, ◌<◌, ◌∷◌, ◌≡◌}
+use Rattle.std.proofs.Common.{List, [], arith, length, refl, ◌<◌, ◌∷◌, ◌≡◌}
 use Rattle.std.specs.Prelude.{Result, Ok, Err}
 use Rattle.nr_core.specs.declared.calls.NoSlot.{NoSlot}
 use Rattle.nr_core.specs.declared.places.Retired.{Retired}
 use Rattle.nr_board.proofs.WordSearches.{lacks_none, lacks_words, searches_in, takes_words}
 use Rattle.nr_board.specs.RetiredSearch.{SearchesFor}
 use Rattle.nr_board.specs.Searches.{TakesFor}
-use Rattle.nr_board.specs.WriterSeats.{LacksSlot}
 use Rattle.nr_board.specs.declared.publish.Taken.{Taken}
 use Rattle.nr_board.proofs.board.Board.take_retired.Goals as goal
 
@@ -47,7 +46,7 @@ returns-then-retired_len-eq0-clause-takes g c =
     let seat = c.args.seat.now in
     let some_words : 0 < map.announcers = omega (arith, c.announcers.ensures.value, c.if-announcers-eq0.false) in
     let none : length lists.retired ≡ 0 = omega (arith, c.retired_len.ensures, c.if-retired_len-eq0.true) in
-    subst (λ (counts : NoSlot). LacksSlot map g.G.BegunCall.call seat lists seat lists counts) (sym c.counts.ensures)
+    rw c.counts.ensures
     (lacks_none map g.G.BegunCall.call c.args.rows.now lists seat c.requires.settles c.requires.none_fresh some_words
     (empty lists.retired none))
   where

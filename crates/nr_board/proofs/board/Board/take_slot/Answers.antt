@@ -1,7 +1,4 @@
-use Rattle.std.proofs.Common.{subst, sym}
-use Rattle.nr_core.specs.declared.shape.Shape.{Shape}
 use Rattle.nr_board.proofs.Searching.{takes_fresh}
-use Rattle.nr_board.specs.WriterSeats.{TakesSlot}
 use Rattle.nr_board.proofs.board.Board.take_slot.Goals as goal
 
 pub returns-in-Some-clause-takes : goal.returns-in-Some-clause-takes
@@ -10,9 +7,6 @@ returns-in-Some-clause-takes g c =
     let lists = c.args.lists.now in
     let seat = c.args.seat.now in
     let fresh = c.in-Some.ensures in
-    subst
-    (λ (shape : Shape). TakesSlot map g.G.BegunCall.call c.args.rows.now seat lists seat c.take_fresh.new.self
-    c.in-Some.slot shape.first_count)
-    (sym c.shape.ensures)
+    rw c.shape.ensures
     (takes_fresh map g.G.BegunCall.call c.args.rows.now lists c.take_fresh.new.self seat c.in-Some.slot
     c.requires.settles fresh.0 fresh.1 fresh.2)

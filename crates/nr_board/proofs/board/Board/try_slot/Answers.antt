@@ -1,4 +1,4 @@
-use Rattle.std.proofs.Common.{ap, arith, get_or, subst, sym, ℕ, ◌<◌, ◌≤◌, ◌∙◌, ◌≡◌}
+use Rattle.std.proofs.Common.{ap, arith, subst, sym, ℕ, ◌<◌, ◌∙◌, ◌≡◌}
 use Rattle.nr_core.specs.Slots.{departures}
 use Rattle.nr_words.specs.declared.layout.Layout.{Layout}
 use Rattle.nr_words.specs.Places.{Departures, place_of}
@@ -39,8 +39,7 @@ load-requires c =
           (ap (λ (t : Table). t.shape) search.own ∙ sym board.key_is) tries.poll entry tries.here
           (inside_list search.desk.retired tries.poll entry tries.here)
           (there_is search.desk.retired tries.poll entry tries.here)
-          (subst (λ (n : ℕ). n ≤ get_or seat.me.0.heard entry.slot 0)
-          (sym (ap (λ (t : Table). t.announcers) search.own)) tries.heard)),
+          (rw (ap (λ (t : Table). t.announcers) search.own) tries.heard)),
     )
 
 pub returns-clause-own : goal.returns-clause-own

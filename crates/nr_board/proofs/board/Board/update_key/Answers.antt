@@ -1,9 +1,6 @@
-use Rattle.std.proofs.Common.{List, Ok, ap, subst, sym, ℕ, ◌∙◌}
+use Rattle.std.proofs.Common.{Ok, ap, sym, ◌∙◌}
 use Rattle.nr_core.specs.States.{key_of}
-use Rattle.nr_core.specs.declared.calls.WriterCall.{WriterCall}
 use Rattle.nr_board.proofs.WriterCalls.{has_not_updated, has_renewed, has_updated}
-use Rattle.nr_board.specs.Flags.{IsFlagged}
-use Rattle.nr_board.specs.WriterSeats.{Settles}
 use Rattle.nr_board.proofs.board.Board.update_key.Goals as goal
 
 pub publish_set-requires : goal.publish_set-requires
@@ -12,13 +9,9 @@ publish_set-requires g c =
     let is = begun.3 ∙ ap Ok (sym c.as_slice.ensures.value) in
     record {
       settles =
-          subst
-          (λ (call : WriterCall). Settles c.args.self.now call c.as_slice.result.now c.args.lists.now
-          c.begin_update.new.seat)
-          (sym c.requires.call) (has_renewed begun.2 is).settles;
+          rw c.requires.call (has_renewed begun.2 is).settles;
       flagged =
-          subst (λ (heard : List ℕ). IsFlagged c.args.self.now c.args.lists.now.retired heard c.args.flags.now)
-          (sym begun.2.heard) c.requires.flagged;
+          rw begun.2.heard c.requires.flagged;
       call = ap key_of (sym c.requires.call);
       key = c.requires.key;
     }
@@ -45,5 +38,4 @@ returns g c = let begun = c.in_ok-begin_update.ensures in let is = begun.3 ∙ a
 
 pub returns-in_err-begin_update-clause-flagged : goal.returns-in_err-begin_update-clause-flagged
 returns-in_err-begin_update-clause-flagged g c =
-    subst (λ (heard : List ℕ). IsFlagged c.args.self.now c.args.lists.now.retired heard c.args.flags.now)
-    (sym c.in_err-begin_update.ensures.2) c.requires.flagged
+    rw c.in_err-begin_update.ensures.2 c.requires.flagged

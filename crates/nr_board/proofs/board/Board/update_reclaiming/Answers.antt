@@ -1,10 +1,7 @@
-use Rattle.std.proofs.Common.{List, Ok, ap, subst, sym, ℕ, ◌∙◌}
+use Rattle.std.proofs.Common.{Ok, ap, sym, ◌∙◌}
 use Rattle.nr_core.specs.States.{key_of}
-use Rattle.nr_core.specs.declared.calls.WriterCall.{WriterCall}
 use Rattle.nr_board.proofs.Waiting.{given_out}
 use Rattle.nr_board.proofs.WriterCalls.{has_not_updated, has_renewed, has_updated_later}
-use Rattle.nr_board.specs.Flags.{IsFlagged}
-use Rattle.nr_board.specs.WriterSeats.{Settles}
 use Rattle.nr_board.proofs.board.Board.update_reclaiming.Goals as goal
 
 pub publish_reclaiming-requires : goal.publish_reclaiming-requires
@@ -13,13 +10,9 @@ publish_reclaiming-requires g c =
     let is = begun.3 ∙ ap Ok (sym c.as_slice.ensures.value) in
     record {
       settles =
-          subst
-          (λ (call : WriterCall). Settles c.args.self.now call c.as_slice.result.now c.args.lists.now
-          c.begin_update.new.seat)
-          (sym c.requires.call) (has_renewed begun.2 is).settles;
+          rw c.requires.call (has_renewed begun.2 is).settles;
       flagged =
-          subst (λ (heard : List ℕ). IsFlagged c.args.self.now c.args.lists.now.retired heard c.args.flags.now)
-          (sym begun.2.heard) c.requires.flagged;
+          rw begun.2.heard c.requires.flagged;
       call = ap key_of (sym c.requires.call);
       key = c.requires.key;
     }
@@ -58,5 +51,4 @@ returns-in-Err g c =
 
 pub returns-in_err-begin_update-clause-flagged : goal.returns-in_err-begin_update-clause-flagged
 returns-in_err-begin_update-clause-flagged g c =
-    subst (λ (heard : List ℕ). IsFlagged c.args.self.now c.args.lists.now.retired heard c.args.flags.now)
-    (sym c.in_err-begin_update.ensures.2) c.requires.flagged
+    rw c.in_err-begin_update.ensures.2 c.requires.flagged

@@ -1,16 +1,12 @@
 use Rattle.std.proofs.Common.{ap, arith, false, refl, subst, sym, ℕ, ◌+◌, ◌∙◌, ◌≡◌}
-use Rattle.atomic_table.specs.Table.{Allows}
 use Rattle.nr_words.specs.KeyWords.{hole_word}
 use Rattle.nr_core.specs.States.{number_at}
 use Rattle.nr_core.specs.declared.places.Place.TheVariants.{Withdrawing}
-use Rattle.nr_core.specs.declared.roles.Desk.{Desk}
-use Rattle.nr_core.specs.declared.roles.Role.TheVariants.{Writer}
 use Rattle.nr_core.specs.declared.shape.Shape.{Shape}
 use Rattle.nr_board.proofs.WriterSeats.{desk_at, gone_seat}
 use Rattle.nr_board.proofs.WriterSteps.{goes_so}
 use Rattle.nr_board.specs.Callers.{Table}
-use Rattle.nr_board.specs.Plays.{RoomAt, Went}
-use Rattle.nr_board.specs.Rule.{Kept}
+use Rattle.nr_board.specs.Plays.{RoomAt}
 use Rattle.nr_board.proofs.board.Board.withdraw.Goals as goal
 
 pub hole_word-hole-requires : goal.hole_word-hole-requires
@@ -31,10 +27,7 @@ swap-requires c =
     = ap (λ (n : ℕ). hole_word n false) withdrawing.number_is in (
       ap (λ (t : Table). t.id) (withdrawing.writes.own ∙ sym c.self.view_is),
       omega (arith, room.0, ap (λ (s : Shape). s.keys) about.0, ap (λ (t : Table). t.shape.keys) c.self.view_is),
-      subst (λ (w : ℕ). Allows (Kept shared.key.shape) shared.table_id.slots seat.id seat.me c.args.key (λ _. w)
-          (λ found after. (other : Desk) → seat.me.0.role ≡ Writer other → Went other found seat.me.0 after.0))
-          (sym (c.hole_word-hole.ensures.word ∙ word_is))
-          (goes_so shared.key.shape shared.table_id.slots seat.id seat.me at
+      rw (c.hole_word-hole.ensures.word ∙ word_is) (goes_so shared.key.shape shared.table_id.slots seat.id seat.me at
           (desk_at seat.me.0.role withdrawing.desk (Withdrawing c.args.key) withdrawing.writes.role
           withdrawing.place)
           refl tt tt),

@@ -1,6 +1,5 @@
-use Rattle.std.proofs.Common.{List, ap, arith, get_or, length, subst, sym, ◌*◌, ◌+◌, ◌<◌, ◌∙◌, ◌≡◌}
+use Rattle.std.proofs.Common.{ap, arith, get_or, sym, ◌*◌, ◌+◌, ◌∙◌, ◌≡◌}
 use Rattle.std.specs.Prelude.{Some}
-use Rattle.nr_model.specs.declared.rows.Row.{Row}
 use Rattle.nr_words.specs.SetWords.{encode}
 use Rattle.nr_core.specs.Marks.{set_in}
 use Rattle.nr_board.proofs.Rows.{encoded_row, length-encode}
@@ -18,8 +17,7 @@ returns-clause-row c =
     let first = c.recall-a.ensures.word.1 (omega (arith, c.requires.more)) in
     let second
     = c.recall-b.ensures.word.1
-    (subst (λ (l : List Row). 2 * place + 1 + 1 < length (encode l)) (sym same)
-    (omega (arith, c.requires.more))) in
+    (rw same (omega (arith, c.requires.more))) in
     let next : 2 * place + 1 + 1 ≡ 2 * place + 2 = omega arith in
     let second_is : c.recall-b.result ≡ get_or (encode rows) (2 * place + 2) 0
     = second ∙ (λ j. get_or (encode (same j)) (next j) 0) in

@@ -1,4 +1,4 @@
-use Rattle.std.proofs.Common.{Bool, List, ap, arith, false, get_or, length, set, subst, sym, ℕ, ◌+◌, ◌<◌, ◌≡◌}
+use Rattle.std.proofs.Common.{ap, arith, false, get_or, length, subst, ℕ, ◌<◌, ◌≡◌}
 use Rattle.nr_core.specs.States.{no_retired}
 use Rattle.nr_core.specs.declared.places.Retired.{Retired}
 use Rattle.nr_board.proofs.PollNotes.{at_get}
@@ -22,8 +22,7 @@ loop-place-preserved c =
     let place : ℕ = c.loop-place.place in
     let low : place < length retired = omega (arith, c.loop-place-test.true, c.retired_len-place-end.ensures) in
     let here = at_get retired place low in
-    subst (λ (l : List Bool). ClearedTo retired before l (place + 1)) (sym c.clear.ensures)
-    (subst (λ (e : Retired). ClearedTo retired before (set flags e.slot false) (place + 1)) (sym c.retired_at.ensures)
+    rw c.clear.ensures (rw c.retired_at.ensures
     (cleared_more retired before flags place (get_or retired place no_retired) c.loop-place.invariant here
     (c.requires place (get_or retired place no_retired) here)))
 
