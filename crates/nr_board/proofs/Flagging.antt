@@ -25,12 +25,9 @@ module _ (table : Table) (retired : List Retired) (heard : List ℕ) (flags : Li
     (flagged : Flagged table retired heard flags) where
   flag_is : (slot : ℕ) → is_flagged flags slot ≡ nat_lt (get_or heard slot 0) table.announcers
   flag_is slot =
-      by_cases
-      (λ (b : Bool). is_flagged flags slot ≡ b
-      → is_flagged flags slot ≡ nat_lt (get_or heard slot 0) table.announcers)
-      (is_flagged flags slot)
-      (λ _ is. is ∙ sym (lt-ltb (get_or heard slot 0) table.announcers (flagged.stuck slot is)))
-      (λ _ is. is ∙ sym (le-ltb (get_or heard slot 0) table.announcers (flagged.whole slot is))) refl
+      by_cases (λ _. is_flagged flags slot ≡ nat_lt (get_or heard slot 0) table.announcers) (is_flagged flags slot)
+      (λ is. is ∙ sym (lt-ltb (get_or heard slot 0) table.announcers (flagged.stuck slot is)))
+      (λ is. is ∙ sym (le-ltb (get_or heard slot 0) table.announcers (flagged.whole slot is)))
 
   -- a pass polls just the slots that all readers were heard of
   pub polls_are : (place : ℕ) → unflagged retired flags place ≡ heard_all table.announcers heard (take place retired)

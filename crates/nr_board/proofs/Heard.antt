@@ -1,11 +1,11 @@
 -- What the writer has heard of slots stays so while tokens step, and tells that nobody holds a slot by a word.
-use Rattle.std.proofs.Common.{◌≡◌, ◌≢◌, ℕ, suc, zero, ◌<◌, ◌≤◌, ◌⊎◌, ⊎_elim, inl, List, [], ◌∷◌, ◌++◌, Bool, true}
-use Rattle.std.proofs.Common.{cond, eq-eqb, get_or, set, ne_eqb, refl, sym, ap, ◌∙◌, subst, arith}
+use Rattle.std.proofs.Common.{◌≡◌, ◌≢◌, ℕ, suc, zero, ◌<◌, ◌≤◌, ◌⊎◌, ⊎_elim, inl, List, [], ◌∷◌, ◌++◌, Bool, true, cond}
+use Rattle.std.proofs.Common.{eq-eqb, get_or, set, ne_eqb, refl, sym, ap, ◌∙◌, subst, arith}
 use Rattle.std.proofs.lemmas.Bool.{eqb-true, ltb-false, ltb-true}
 use Rattle.std.specs.Prelude.{nat_lt}
 use mathlib.Core.Option.{some}
 use lib.ListN.{get_elem?}
-use Rattle.nr_core.proofs.Choices.{by_cases}
+use Rattle.nr_core.proofs.Choices.{by_cases, on_test}
 use Rattle.nr_core.proofs.Sums.{at_set, at_snoc}
 use Rattle.nr_core.specs.Roles.{holds, is_by, is_writer}
 use Rattle.nr_core.specs.Sums.{total}
@@ -140,7 +140,7 @@ no_terms f (view ∷ views) zeros =
 -- who is no reader with a word lends nothing
 pub lends_none : (view : View) (slot : ℕ) → holds slot view.role ≡ 0 → lends slot view ≡ 0
 lends_none view slot nothing =
-    by_cases (λ (b : Bool). cond b (holds slot view.role) 0 ≡ 0) (nat_lt 0 view.says) (λ _. nothing) (λ _. refl)
+    on_test (λ (n : ℕ). n ≡ 0) (nat_lt 0 view.says) (λ _. nothing) (λ _. refl)
 
 -- where all readers that have a word were heard, nobody holds the slot by a word
 pub lent_heard : (shape : Shape) (announcers : ℕ) (words : List ℕ) (views : List View) (writer : View) (slot : ℕ)

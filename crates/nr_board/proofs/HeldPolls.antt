@@ -1,5 +1,5 @@
 -- Polls of slots that are held, one for each of a list.
-use Rattle.std.proofs.Common.{◌≡◌, ℕ, List, [], ◌∷◌, ◌++◌, Bool, false, cond, length, refl, ap, ◌∙◌}
+use Rattle.std.proofs.Common.{◌≡◌, ℕ, List, [], ◌∷◌, ◌++◌, Bool, false, length, refl, ap}
 use mathlib.Core.List.{map-append}
 use lib.ListN.{length-map}
 use Rattle.nr_core.proofs.Choices.{by_cases}
@@ -24,18 +24,13 @@ pub passed_both : (passes : ℕ → Bool) (retired more : List Retired)
     → not_passed passes (retired ++ more) ≡ not_passed passes retired ++ not_passed passes more
 passed_both passes [] more = refl
 passed_both passes (entry ∷ retired) more = let rest = passed_both passes retired more in
-    by_cases
-    (λ (b : Bool). cond {A = List Retired} b (not_passed passes (retired ++ more))
-    (entry ∷ not_passed passes (retired ++ more))
-    ≡ cond {A = List Retired} b (not_passed passes retired) (entry ∷ not_passed passes retired)
-    ++ not_passed passes more)
+    by_cases (λ b. passes entry.slot ≡ b
+    → not_passed passes ((entry ∷ retired) ++ more) ≡ not_passed passes (entry ∷ retired) ++ not_passed passes more)
     (passes entry.slot)
-    (λ _. rest) (λ _. ap (λ (l : List Retired). entry ∷ l) rest)
+    (λ _ gone. rw gone rest) (λ _ stays. rw stays (ap (λ (l : List Retired). entry ∷ l) rest)) refl
 
 pub none_passed : (passes : ℕ → Bool) (retired : List Retired) → ((slot : ℕ) → passes slot ≡ false)
     → not_passed passes retired ≡ retired
 none_passed passes [] none = refl
 none_passed passes (entry ∷ retired) none =
-    ap (λ (b : Bool). cond {A = List Retired} b (not_passed passes retired) (entry ∷ not_passed passes retired))
-    (none entry.slot)
-    ∙ ap (λ (l : List Retired). entry ∷ l) (none_passed passes retired none)
+    rw (none entry.slot) (ap (λ (l : List Retired). entry ∷ l) (none_passed passes retired none))

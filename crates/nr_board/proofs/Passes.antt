@@ -59,16 +59,11 @@ module _ (retired : List Retired) (flags : List Bool) (place : ℕ) (low : place
 
   unflagged_past : is_flagged flags next_one.slot ≡ true
       → unflagged retired flags (place + 1) ≡ unflagged retired flags place
-  unflagged_past flagged =
-      unflagged_next
-      ∙ ap (λ (b : Bool). unflagged retired flags place ++ cond {A = List Retired} b [] (next_one ∷ [])) flagged
-      ∙ append-nil (unflagged retired flags place)
+  unflagged_past flagged = unflagged_next ∙ rw flagged (append-nil (unflagged retired flags place))
 
   unflagged_more : is_flagged flags next_one.slot ≡ false
       → unflagged retired flags (place + 1) ≡ unflagged retired flags place ++ next_one ∷ []
-  unflagged_more free =
-      unflagged_next
-      ∙ ap (λ (b : Bool). unflagged retired flags place ++ cond {A = List Retired} b [] (next_one ∷ [])) free
+  unflagged_more free = unflagged_next ∙ rw free refl
 
   polls_past : is_flagged flags next_one.slot ≡ true
       → polls_before retired flags (place + 1) ≡ polls_before retired flags place

@@ -6,10 +6,10 @@ use Rattle.std.proofs.lemmas.Bool.{ltb-false}
 use Rattle.nr_model.specs.Histories.{Entry}
 use Rattle.nr_model.specs.declared.calls.Reply.TheVariants as reply
 use Rattle.nr_words.specs.KeyWords.{same_count}
-use Rattle.nr_core.proofs.Choices.{by_cases}
+use Rattle.nr_core.proofs.Choices.{on_test}
 use Rattle.nr_core.specs.Roles.{retirements}
 use Rattle.nr_core.specs.States.{retired_at}
-use Rattle.nr_core.specs.Writer.{ended, looked, moved_to, no_slot, swapped, taking_retired, went}
+use Rattle.nr_core.specs.Writer.{looked, moved_to, no_slot, taking_retired, went}
 use Rattle.nr_core.specs.declared.calls.Step.{Step}
 use Rattle.nr_core.specs.declared.calls.Step.TheVariants.{Going}
 use Rattle.nr_core.specs.declared.calls.WriterCall.{WriterCall}
@@ -53,15 +53,12 @@ module _ (shape : Shape) (marks : Marks) (known : List Past) (desk : Desk) (word
       → PolledAll shape desk.retired now.polls
   search_polled call poll true told taken on none without = absurd (let is = without.1 in cc)
   search_polled call poll false told taken on none without =
-      by_cases
-      (λ b. (nat_lt (poll + 1) (length desk.retired) ≡ b)
-      → IsNoSlot (cond {A = Desk × Step} b (on, Going) (none, no_slot shape desk)).1
-      → PolledAll shape desk.retired now.polls)
+      on_test (λ (o : Desk × Step). IsNoSlot o.1 → PolledAll shape desk.retired now.polls)
       (nat_lt (poll + 1) (length desk.retired))
-      (λ _ _ goes. absurd (let is = goes.1 in cc))
-      (λ _ last _. by_room shape call desk.retired now.polls now.polls log refl
+      (λ _ goes. absurd (let is = goes.1 in cc))
+      (λ last _. by_room shape call desk.retired now.polls now.polls log refl
       (told.2 (ltb-false (poll + 1) (length desk.retired) last)))
-      refl without
+      without
 
   pub go_polled : (views : List View) (place : Place) → Sweeping role_of marks_of views desk marks.polls place
       → went_marks shape marks known desk place word after log now news → IsNoSlot (went shape desk place word).1
@@ -70,11 +67,7 @@ module _ (shape : Shape) (marks : Marks) (known : List Past) (desk : Desk) (word
   go_polled views (Leaving key) sweep told without = absurd (let is = without.1 in cc)
   go_polled views (Withdrawing key) sweep told without = absurd (let is = without.1 in cc)
   go_polled views (Putting call rows slot departed index) sweep told without =
-      by_cases
-      (λ b. IsNoSlot
-      (cond {A = Desk × Step} b (moved_to desk (Putting call rows slot departed (index + 1)), Going)
-      (swapped desk word, ended reply.Done)).1
-      → PolledAll shape desk.retired now.polls)
+      on_test (λ (o : Desk × Step). IsNoSlot o.1 → PolledAll shape desk.retired now.polls)
       (nat_le index (2 * length rows))
       (λ _ goes. absurd (let is = goes.1 in cc)) (λ _ ends. absurd (let is = ends.1 in cc)) without
   go_polled views (Reading call slot got) none told without =

@@ -10,7 +10,7 @@ use Rattle.nr_model.specs.declared.calls.Reply.TheVariants as reply
 use Rattle.nr_model.specs.Maps.{state_of}
 use Rattle.nr_model.specs.Rows.{IsRowSet}
 use Rattle.nr_words.specs.KeyWords.{has_ask, is_filled, slot_of}
-use Rattle.nr_core.proofs.Choices.{by_cases}
+use Rattle.nr_core.proofs.Choices.{by_cases, on_test}
 use Rattle.nr_core.proofs.KeyWords.{names_one}
 use Rattle.nr_core.proofs.WordPlaces.{same_content}
 use Rattle.nr_core.specs.Marks.{gripped, with_look}
@@ -161,25 +161,13 @@ names_held held word =
 
 -- a key has rows exactly where its word is filled
 rows_shown : (word : ℕ) → is_filled word ≡ true → kind_shown word ≡ kind.Rows
-rows_shown word full =
-    ap (λ (b : Bool). cond {A = KeyKind} b kind.Rows (cond {A = KeyKind} (has_ask word) kind.Asked kind.Hole)) full
-
-abbrev of_rows : KeyKind → ℕ
-of_rows kind.Hole = 0
-of_rows kind.Asked = 0
-of_rows kind.Rows = 1
+rows_shown word full = rw full refl
 
 shown_filled : (word : ℕ) → kind_shown word ≡ kind.Rows → is_filled word ≡ true
-shown_filled word is = by_cases (λ (b : Bool). b ≡ true) (is_filled word) (λ full. refl)
-    (λ empty. absurd (let shown : of_rows (kind_shown word) ≡ 1 = ap of_rows is in let none = none_of (has_ask word) in
-    let other : kind_shown word ≡ cond {A = KeyKind} (has_ask word) kind.Asked kind.Hole
-    = ap (λ (b : Bool). cond {A = KeyKind} b kind.Rows (cond {A = KeyKind} (has_ask word) kind.Asked kind.Hole))
-    empty in
-    omega (arith, ap of_rows other)))
-  where
-    none_of : (b : Bool) → of_rows (cond {A = KeyKind} b kind.Asked kind.Hole) ≡ 0
-    none_of true = refl
-    none_of false = refl
+shown_filled word is =
+    let Full : KeyKind → Type 0 = λ k. k ≡ kind.Rows → is_filled word ≡ true in
+    on_test Full (is_filled word) (λ full _. full)
+    (λ _. on_test Full (has_ask word) (λ _ shown. absurd (cc)) (λ _ shown. absurd (cc))) is
 
 -- what a find again tells of the seat, by its answer
 module _ (table : Table) (before after : MapSeat) (same : after.table_id ≡ before.table_id) (begin key found : ℕ)

@@ -19,19 +19,19 @@ use Rattle.nr_model.specs.declared.calls.Reply.TheVariants as reply
 use Rattle.nr_model.specs.declared.rows.Row.{Row}
 use Rattle.nr_model.specs.declared.states.KeyState.TheVariants as states
 use Rattle.nr_words.specs.SetWords.{decode, encode}
-use Rattle.nr_core.proofs.Choices.{by_cases}
+use Rattle.nr_core.proofs.Choices.{on_test}
 use Rattle.nr_core.proofs.Histories.{state_same}
 use Rattle.nr_core.proofs.Sets.{set_back}
 use Rattle.nr_core.specs.Slots.{content, bound_of}
 use Rattle.nr_core.specs.States.{key_of}
 use Rattle.nr_core.specs.Story.{call_of, ending, entry, map_after}
-use Rattle.nr_core.specs.Writer.{decided, decoded, moved_to, no_slot, read_on, renewed, settled, taking_fresh, went}
+use Rattle.nr_core.specs.Writer.{decided, decoded, moved_to, read_on, renewed, settled, went}
 use Rattle.nr_core.specs.declared.calls.Step.{Step}
 use Rattle.nr_core.specs.declared.calls.Step.TheVariants.{Ended, Going}
 use Rattle.nr_core.specs.declared.calls.WReply.TheVariants as writer
 use Rattle.nr_core.specs.declared.calls.WriterCall.{WriterCall}
 use Rattle.nr_core.specs.declared.calls.WriterCall.TheVariants.{Cancel, Evict, Fill, Find, Replace, Update}
-use Rattle.nr_core.specs.declared.places.Place.TheVariants.{Idle, Reading, Searching}
+use Rattle.nr_core.specs.declared.places.Place.TheVariants.{Reading}
 use Rattle.nr_core.specs.declared.roles.Desk.{Desk}
 use Rattle.nr_core.specs.declared.shape.Shape.{Shape}
 use Rattle.nr_board.proofs.KeySets.{stays_between}
@@ -45,17 +45,10 @@ use Rattle.nr_board.specs.WriterSeats.{GoesOn, IsReading, KeyHas, LeadsIn, MapSe
 -- a call that has its set ends with no reply yet
 pub settled_quiet : (shape : Shape) (desk : Desk) (call : WriterCall) (rows : List Row) (c : Call)
     → ending c (settled shape desk call rows).1 ≡ []
-settled_quiet shape desk call rows c = by_cases (λ v. ending c
-    (cond {A = Desk × Step} v (taking_fresh shape desk call rows, Going)
-    (cond {A = Desk × Step} (nat_eq (length desk.retired) 0) (moved_to desk Idle, no_slot shape desk)
-    (moved_to desk (Searching call rows 0), Going))).1 ≡ []) (nat_lt desk.fresh shape.slots)
-    (λ _. refl)
-    (λ _. by_cases
-    (λ v. ending c
-    (cond {A = Desk × Step} v (moved_to desk Idle, no_slot shape desk)
-    (moved_to desk (Searching call rows 0), Going)).1
-    ≡ [])
-    (nat_eq (length desk.retired) 0) (λ _. refl) (λ _. refl))
+settled_quiet shape desk call rows c =
+    let Quiet : Desk × Step → Type 0 = λ o. ending c o.1 ≡ [] in
+    on_test Quiet (nat_lt desk.fresh shape.slots) (λ _. refl)
+    (λ _. on_test Quiet (nat_eq (length desk.retired) 0) (λ _. refl) (λ _. refl))
 
 -- an entry that a step of the writer adds is its own
 ending_own : (call : Call) (step : Step) → entries_of (ending call step) 0 ≡ ending call step

@@ -77,14 +77,10 @@ all_of retired flags = sum retired
     sums : (l : List Retired) → total (misses flags) l + length (not_passed (is_flagged flags) l) ≡ length l
     sums [] = refl
     sums (entry ∷ l) = let rest = sums l in
-        by_cases
-        (λ (b : Bool). cond {A = ℕ} b 1 0 + total (misses flags) l
-        + length
-        (cond {A = List Retired} b (not_passed (is_flagged flags) l)
-        (entry ∷ not_passed (is_flagged flags) l))
-        ≡ suc (length l))
+        by_cases (λ b. is_flagged flags entry.slot ≡ b
+        → total (misses flags) (entry ∷ l) + length (not_passed (is_flagged flags) (entry ∷ l)) ≡ length (entry ∷ l))
         (is_flagged flags entry.slot)
-        (λ _. omega arith) (λ _. omega arith)
+        (λ _ flagged. rw flagged (omega arith)) (λ _ free. rw free (omega arith)) refl
 
     sum : (l : List Retired)
         → total (misses flags) l + length (not_passed (is_flagged flags) (take (length l) l)) ≡ length l

@@ -8,7 +8,7 @@ use Rattle.nr_model.specs.declared.states.KeyState.TheVariants as states
 use Rattle.nr_model.specs.Maps.{PartialMap, cancel_reply, evict_reply, fill_reply, find_reply, last_number}
 use Rattle.nr_model.specs.Maps.{replace_reply, reply_to, state_of, update_reply}
 use Rattle.nr_words.specs.KeyWords.{arrivals_of, has_ask, is_filled, slot_of}
-use Rattle.nr_core.proofs.Choices.{by_cases}
+use Rattle.nr_core.proofs.Choices.{on_test}
 use Rattle.nr_core.specs.declared.calls.WriterCall.{WriterCall}
 use Rattle.nr_core.specs.declared.calls.WriterCall.TheVariants.{Cancel, Evict, Fill, Find, Replace, Update}
 use Rattle.nr_core.specs.declared.places.Retired.{Retired}
@@ -59,27 +59,21 @@ no_evict (states.Rows n rows) P is = absurd (cc)
 no_cancel : (state : KeyState) (P : Type 0) → reply.Done ≡ cancel_reply state → P
 no_cancel (states.Hole n) P is = absurd (cc)
 no_cancel (states.Asked n) P is =
-    by_cases (λ b. reply.Done ≡ cond {A = Reply} b reply.Cancelled reply.Worn → P) (nat_lt n last_number)
-    (λ _ done. absurd (cc)) (λ _ done. absurd (cc)) is
+    on_test (λ (r : Reply). reply.Done ≡ r → P) (nat_lt n last_number) (λ _ done. absurd (cc)) (λ _ done. absurd (cc)) is
 no_cancel (states.Rows n rows) P is = absurd (cc)
 
 -- the word that shows that state
 full_word : (word : ℕ) → kind_shown word ≡ kind.Rows → is_filled word ≡ true
 full_word word shows =
-    by_cases
-    (λ b. cond {A = KeyKind} b kind.Rows (cond {A = KeyKind} (has_ask word) kind.Asked kind.Hole) ≡ kind.Rows
-    → b ≡ true)
-    (is_filled word) (λ _ _. refl)
-    (λ _. by_cases (λ a. cond {A = KeyKind} a kind.Asked kind.Hole ≡ kind.Rows → false ≡ true) (has_ask word)
-    (λ _ is. absurd (cc)) (λ _ is. absurd (cc)))
+    on_test (λ (k : KeyKind). k ≡ kind.Rows → is_filled word ≡ true) (is_filled word) (λ full _. full)
+    (λ _. on_test (λ (k : KeyKind). k ≡ kind.Rows → is_filled word ≡ true) (has_ask word) (λ _ is. absurd (cc))
+    (λ _ is. absurd (cc)))
     shows
 
 asked_word : (word : ℕ) → kind_shown word ≡ kind.Asked → is_filled word ≡ false
 asked_word word shows =
-    by_cases
-    (λ b. cond {A = KeyKind} b kind.Rows (cond {A = KeyKind} (has_ask word) kind.Asked kind.Hole) ≡ kind.Asked
-    → b ≡ false)
-    (is_filled word) (λ _ is. absurd (cc)) (λ _ _. refl) shows
+    on_test (λ (k : KeyKind). k ≡ kind.Asked → is_filled word ≡ false) (is_filled word) (λ _ is. absurd (cc))
+    (λ empty _. empty) shows
 
 module _ (word : ℕ) (old : Caller) (before after : List Retired) (retires : after ≡ before ++ unnamed word) where
   pub one_retired : (key : ℕ) → get_or old.marks.names key 0 ≡ name_number word → kind_shown word ≡ kind.Rows

@@ -8,7 +8,7 @@ use mathlib.Core.Logic.{dite}
 use mathlib.Core.Option.{some, some-injective}
 use native.Mathlib.Decide.{ℕ_discrete}
 use lib.ListN.{get_elem?}
-use Rattle.nr_core.proofs.Choices.{by_cases}
+use Rattle.nr_core.proofs.Choices.{by_cases, on_test}
 use Rattle.nr_core.proofs.Sums.{at_snoc, only-is, only-le, only-other, only-same, some_term, total-append}
 use Rattle.nr_core.specs.Roles.{retirements}
 use Rattle.nr_core.specs.Sums.{only, total}
@@ -198,16 +198,14 @@ suc_of found loud = omega arith
 pub more_flags : (found : ℕ) (flags : List Bool) (slot : ℕ) → is_flagged flags slot ≡ true
     → is_flagged (announced found flags) slot ≡ true
 more_flags found flags slot is =
-    by_cases (λ (b : Bool). is_flagged (cond {A = List Bool} b flags (set flags (found - 1) true)) slot ≡ true)
-    (nat_eq found 0) (λ _. is) (λ _. flag_stays flags (found - 1) slot is)
+    on_test (λ (l : List Bool). is_flagged l slot ≡ true) (nat_eq found 0) (λ _. is)
+    (λ _. flag_stays flags (found - 1) slot is)
 
 announced_loud : (found : ℕ) (flags : List Bool) → 0 < found → announced found flags ≡ set flags (found - 1) true
-announced_loud found flags loud =
-    ap (λ (b : Bool). cond {A = List Bool} b flags (set flags (found - 1) true)) (ne_eqb found 0 (λ e. omega arith))
+announced_loud found flags loud = rw (ne_eqb found 0 (λ e. omega arith)) refl
 
 announced_none : (found : ℕ) (flags : List Bool) → found ≡ 0 → announced found flags ≡ flags
-announced_none found flags none =
-    ap (λ (b : Bool). cond {A = List Bool} b flags (set flags (found - 1) true)) (eq-eqb found 0 none)
+announced_none found flags none = rw (eq-eqb found 0 none) refl
 
 -- either a slot is as it was, or the reader was the next one and says another slot
 either : (desk : Desk) (own found slot count : ℕ)
@@ -251,18 +249,13 @@ module _ (desk : Desk) (now next : View) (flags : List Bool) (own found : ℕ)
   whole_is : (slot : ℕ) → 0 < retirements slot desk.retired → is_flagged flags slot ≡ false
       → heard_before own (get_or now.heard slot 0) ≡ own
   whole_is slot waits unset = dite (ℕ_discrete own 0)
-      (λ e. ap (λ (b : Bool). cond {A = ℕ} b 0 (get_or now.heard slot 0)) (eq-eqb own 0 e) ∙ sym e)
-      (λ ne. ap (λ (b : Bool). cond {A = ℕ} b 0 (get_or now.heard slot 0)) (ne_eqb own 0 ne)
-      ∙ (heard (omega arith)).whole slot waits unset)
+      (λ e. rw (eq-eqb own 0 e) (sym e)) (λ ne. rw (ne_eqb own 0 ne) ((heard (omega arith)).whole slot waits unset))
 
   stuck_is : (slot : ℕ) → 0 < retirements slot desk.retired → is_flagged flags slot ≡ true
       → heard_before own (get_or now.heard slot 0) < own
   stuck_is slot waits set_before = dite (ℕ_discrete own 0)
       (λ e. absurd (clash (sym set_before ∙ first e slot waits)))
-      (λ ne.
-      let is = ap (λ (b : Bool). cond {A = ℕ} b 0 (get_or now.heard slot 0)) (ne_eqb own 0 ne) in
-      let few = (heard (omega arith)).stuck slot waits set_before in
-      omega arith)
+      (λ ne. rw (ne_eqb own 0 ne) ((heard (omega arith)).stuck slot waits set_before))
 
   heard_is : (slot : ℕ) → slot < now.shape.slots
       → get_or next.heard slot 0 ≡ heard_now desk own found slot (get_or now.heard slot 0)
@@ -286,30 +279,20 @@ module _ (desk : Desk) (now next : View) (flags : List Bool) (own found : ℕ)
   heard_so = record {
     whole = λ slot waits unset. let low = inside slot waits in
         let was : is_flagged flags slot ≡ false
-        = by_cases (λ (b : Bool). is_flagged flags slot ≡ b → is_flagged flags slot ≡ false) (is_flagged flags slot)
-        (λ _ is. absurd (clash (sym (more_flags found flags slot is) ∙ unset))) (λ _ is. is) refl in
+        = by_cases (λ b. b ≡ false) (is_flagged flags slot)
+        (λ is. absurd (clash (sym (more_flags found flags slot is) ∙ unset))) (λ _. refl) in
         let apart : found ≢ suc slot = λ e. clash (sym (says_flag slot (omega arith) e) ∙ unset) in
         let hb = whole_is slot waits was in
         heard_is slot low
-        ∙ ap
-        (λ (b : Bool).
-        cond {A = ℕ} (b
-        && (nat_eq (heard_before own (get_or now.heard slot 0)) own && not (nat_eq found (suc slot))))
-        (suc own) (heard_before own (get_or now.heard slot 0)))
-        (lt-ltb 0 (retirements slot desk.retired) waits)
-        ∙ ap
-        (λ (b : Bool). cond {A = ℕ} (b && not (nat_eq found (suc slot))) (suc own)
-        (heard_before own (get_or now.heard slot 0)))
-        (eq-eqb (heard_before own (get_or now.heard slot 0)) own hb)
-        ∙ ap (λ (b : Bool). cond {A = ℕ} (not b) (suc own) (heard_before own (get_or now.heard slot 0)))
-        (ne_eqb found (suc slot) apart);
+        ∙ rw (lt-ltb 0 (retirements slot desk.retired) waits)
+        (rw (eq-eqb (heard_before own (get_or now.heard slot 0)) own hb) (rw (ne_eqb found (suc slot) apart) refl));
     stuck = λ slot waits flagged. let low = inside slot waits in let is = heard_is slot low in
         ⊎_elim
         (λ (same : heard_now desk own found slot (get_or now.heard slot 0)
         ≡ heard_before own (get_or now.heard slot 0)).
-        by_cases (λ (b : Bool). is_flagged flags slot ≡ b → get_or next.heard slot 0 < suc own) (is_flagged flags slot)
-        (λ _ was. let few = stuck_is slot waits was in omega arith)
-        (λ _ was. let full = whole_is slot waits was in omega arith) refl)
+        by_cases (λ _. get_or next.heard slot 0 < suc own) (is_flagged flags slot)
+        (λ was. let few = stuck_is slot waits was in omega arith)
+        (λ was. let full = whole_is slot waits was in omega arith))
         (λ (on : (heard_before own (get_or now.heard slot 0) ≡ own) × (found ≢ suc slot)). absurd
         (let few = stuck_is slot waits (sym (other_flag slot on.1) ∙ flagged) in omega arith))
         (either desk own found slot (get_or now.heard slot 0));
@@ -330,17 +313,12 @@ module _ (desk : Desk) (now next : View) (flags : List Bool) (own found : ℕ)
       count = heard_before own (get_or now.heard slot 0)
 
       now_is : heard_now desk own found slot (get_or now.heard slot 0) ≡ count
-      now_is =
-          ap
-          (λ (n : ℕ). cond {A = ℕ} (nat_lt 0 n && (nat_eq count own && not (nat_eq found (suc slot)))) (suc own)
-          count)
-          none
+      now_is = rw none refl
 
       count_is : count ≡ 0
       count_is =
-          dite (ℕ_discrete own 0) (λ e. ap (λ (b : Bool). cond {A = ℕ} b 0 (get_or now.heard slot 0)) (eq-eqb own 0 e))
-          (λ ne. ap (λ (b : Bool). cond {A = ℕ} b 0 (get_or now.heard slot 0)) (ne_eqb own 0 ne)
-          ∙ before (omega arith) slot none)
+          dite (ℕ_discrete own 0) (λ e. rw (eq-eqb own 0 e) refl)
+          (λ ne. rw (ne_eqb own 0 ne) (before (omega arith) slot none))
 
 -- a load of it by a search
 module _ (desk : Desk) (before now next : View) (flags : List Bool) (own found : ℕ)
@@ -366,7 +344,7 @@ module _ (desk : Desk) (before now next : View) (flags : List Bool) (own found :
   stuck_now = stuck_is desk now next flags own found once inside wide so_far.first so_far.heard heard_told
 
   base_is : scan_base (suc own) next.marks.polls ≡ next.marks.polls
-  base_is = ap (λ (b : Bool). cond {A = List Past} b [] next.marks.polls) (ne_eqb (suc own) 0 (λ e. omega arith))
+  base_is = rw (ne_eqb (suc own) 0 (λ e. omega arith)) refl
 
   abbrev keeps_it : Bool
   keeps_it = keeps_unheard desk own found now.heard
@@ -380,28 +358,19 @@ module _ (desk : Desk) (before now next : View) (flags : List Bool) (own found :
       → (retirements (found - 1) desk.retired ≡ 0) ⊎ (is_flagged flags (found - 1) ≡ true)
   kept_by_none ne lets = dite (ℕ_discrete (retirements (found - 1) desk.retired) 0) inl
       (λ some_there. by_cases
-      (λ (b : Bool). is_flagged flags (found - 1) ≡ b
-      → (retirements (found - 1) desk.retired ≡ 0) ⊎ (is_flagged flags (found - 1) ≡ true))
-      (is_flagged flags (found - 1))
-      (λ _ is. inr is)
-      (λ _ is. absurd
+      (λ _. (retirements (found - 1) desk.retired ≡ 0) ⊎ (is_flagged flags (found - 1) ≡ true))
+      (is_flagged flags (found - 1)) inr
+      (λ is. absurd
       (differs
       (sym
-      (ap
-      (λ (b : Bool). b
-      && (nat_lt 0 (retirements (found - 1) desk.retired)
-      && nat_eq (heard_before own (get_or now.heard (found - 1) 0)) own))
-      (lt-ltb 0 found (omega arith))
-      ∙ ap (λ (b : Bool). b && nat_eq (heard_before own (get_or now.heard (found - 1) 0)) own)
-      (lt-ltb 0 (retirements (found - 1) desk.retired) (omega arith))
-      ∙ eq-eqb (heard_before own (get_or now.heard (found - 1) 0)) own (whole_now (found - 1) (omega arith) is))
-      ∙ lets)))
-      refl)
+      (rw (lt-ltb 0 found (omega arith))
+      (rw (lt-ltb 0 (retirements (found - 1) desk.retired) (omega arith))
+      (eq-eqb (heard_before own (get_or now.heard (found - 1) 0)) own (whole_now (found - 1) (omega arith) is)))) ∙ lets))))
 
   keep_so : KeepBack desk.retired said_now (suc own) (scan_base (suc own) next.marks.polls)
   keep_so = subst (KeepBack desk.retired said_now (suc own)) (sym base_is)
-      (by_cases (λ (b : Bool). keeps_it ≡ b → KeepBack desk.retired said_now (suc own) next.marks.polls) keeps_it
-      (λ _ keeps.
+      (by_cases (λ _. KeepBack desk.retired said_now (suc own) next.marks.polls) keeps_it
+      (λ keeps.
       let parts = both (nat_lt 0 found) _ keeps in
       let rest = both (nat_lt 0 (retirements (found - 1) desk.retired)) _ parts.1 in
       let loud = ltb-true 0 found parts.0 in
@@ -409,9 +378,8 @@ module _ (desk : Desk) (before now next : View) (flags : List Bool) (own found :
       let next_is = eqb-true (heard_before own (get_or now.heard (found - 1) 0)) own rest.1 in
       let low = inside (found - 1) waits in
       let unset : is_flagged flags (found - 1) ≡ false
-      = by_cases (λ (b : Bool). is_flagged flags (found - 1) ≡ b → is_flagged flags (found - 1) ≡ false)
-      (is_flagged flags (found - 1))
-      (λ _ is. absurd (let few = stuck_now (found - 1) waits is in omega arith)) (λ _ is. is) refl in
+      = by_cases (λ b. b ≡ false) (is_flagged flags (found - 1))
+      (λ is. absurd (let few = stuck_now (found - 1) waits is in omega arith)) (λ _. refl) in
       let told_so
       = subst (λ (b : Bool). NotesKeeper b own found (scan_base own now.marks.polls) next.marks.polls) keeps
       told.keeper in
@@ -422,14 +390,13 @@ module _ (desk : Desk) (before now next : View) (flags : List Bool) (own found :
       ∙ misses_more desk.retired flags (found - 1) (let most = once (found - 1) in omega arith) (omega arith) unset)
       (ap (λ (l : List Bool). is_flagged l (found - 1)) loudly ∙ flag_there flags (found - 1) (omega arith))
       told_so.0 told_so.1 told_so.2 told_so.3)
-      (λ _ lets. kept_on desk.retired flags own found (scan_base own now.marks.polls) next.marks.polls
+      (λ lets. kept_on desk.retired flags own found (scan_base own now.marks.polls) next.marks.polls
       (more_flags found flags) so_far.keep
       (dite (ℕ_discrete found 0)
       (λ e. ap (λ (l : List Bool). total (misses l) desk.retired) (announced_none found flags e))
       (λ ne. ap (λ (l : List Bool). total (misses l) desk.retired) (announced_loud found flags (omega arith))
       ∙ misses_same desk.retired flags (found - 1) (kept_by_none ne lets)))
-      (subst (λ (b : Bool). NotesKeeper b own found (scan_base own now.marks.polls) next.marks.polls) lets told.keeper))
-      refl)
+      (subst (λ (b : Bool). NotesKeeper b own found (scan_base own now.marks.polls) next.marks.polls) lets told.keeper)))
 
   -- the loads so far
   many_loads : length now.marks.loads ≡ length before.marks.loads + own
@@ -482,9 +449,8 @@ module _ (desk : Desk) (before now next : View) (flags : List Bool) (own found :
 
   said_so : Adds (FlaggedIn desk.retired said_now) said_then [] (scan_base (suc own) next.marks.polls)
   said_so = subst (Adds (FlaggedIn desk.retired said_now) said_then []) (sym base_is)
-      (by_cases
-      (λ (b : Bool). keeps_it ≡ b → Adds (FlaggedIn desk.retired said_now) said_then [] next.marks.polls) keeps_it
-      (λ _ keeps.
+      (by_cases (λ _. Adds (FlaggedIn desk.retired said_now) said_then [] next.marks.polls) keeps_it
+      (λ keeps.
       let parts = both (nat_lt 0 found) _ keeps in
       let rest = both (nat_lt 0 (retirements (found - 1) desk.retired)) _ parts.1 in
       let loud = ltb-true 0 found parts.0 in
@@ -503,7 +469,7 @@ module _ (desk : Desk) (before now next : View) (flags : List Bool) (own found :
             ∙ flag_there flags (found - 1) (omega arith),
       )
       (says_it told_so.0 told_so.2 loud) (said_before (scan_base own now.marks.polls) so_far.said)))
-      (λ _ lets.
+      (λ lets.
       subst (Adds (FlaggedIn desk.retired said_now) said_then [])
       (sym
       (subst (λ (b : Bool). NotesKeeper b own found (scan_base own now.marks.polls) next.marks.polls) lets
@@ -513,8 +479,7 @@ module _ (desk : Desk) (before now next : View) (flags : List Bool) (own found :
       (λ slot flagged. ⊎_elim (λ was. was)
       (λ (e : found ≡ suc slot). (flagged.0, was_flagged slot e flagged.0 lets))
       (flagged_before slot flagged))
-      flagged_on (λ _ _ said. said) (said_before (scan_base own now.marks.polls) so_far.said)))
-      refl)
+      flagged_on (λ _ _ said. said) (said_before (scan_base own now.marks.polls) so_far.said))))
     where
       said_before : (notes : List Past)
           → Adds (FlaggedIn desk.retired flags) (SaidBehind before.marks.loads now.marks.loads) [] notes
@@ -575,8 +540,8 @@ module _ (desk : Desk) (before now next : View) (flags : List Bool) (own found :
 
 pub announced_wide : (found : ℕ) (flags : List Bool) → length (announced found flags) ≡ length flags
 announced_wide found flags =
-    by_cases (λ (b : Bool). length (cond {A = List Bool} b flags (set flags (found - 1) true)) ≡ length flags)
-    (nat_eq found 0) (λ _. refl) (λ _. length-set flags (found - 1) true)
+    on_test (λ (l : List Bool). length l ≡ length flags) (nat_eq found 0) (λ _. refl)
+    (λ _. length-set flags (found - 1) true)
 
 -- THE FLAGS BEFORE THE FIRST WORD
 

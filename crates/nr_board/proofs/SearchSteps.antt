@@ -15,7 +15,7 @@ use Rattle.nr_model.specs.Maps.{filled_count, reply_to}
 use Rattle.nr_model.specs.declared.calls.Reply.TheVariants as reply
 use Rattle.nr_model.specs.declared.rows.Row.{Row}
 use Rattle.nr_words.specs.KeyWords.{same_count}
-use Rattle.nr_core.proofs.Choices.{by_cases}
+use Rattle.nr_core.proofs.Choices.{by_cases, on_test}
 use Rattle.nr_core.proofs.Counting.{slots_are}
 use Rattle.nr_core.proofs.Learn.{learns}
 use Rattle.nr_core.proofs.Poll.{gives_up, tries}
@@ -206,10 +206,7 @@ module _ (shape : Shape) (id own : ℕ) (view : View) (desk : Desk) (call : Writ
 
   begins : Begins role_of marks_of shape id view view.pasts desk call rows is_at is base
   begins =
-      by_cases
-      (λ (b : Bool). (cond {A = List Past} b [] view.marks.polls ≡ [])
-      ⊎ (cond {A = List Past} b [] view.marks.polls ≡ view.marks.polls))
-      (nat_eq own 0) (λ _. inl refl) (λ _. inr refl)
+      on_test (λ (l : List Past). (l ≡ []) ⊎ (l ≡ view.marks.polls)) (nat_eq own 0) (λ _. inl refl) (λ _. inr refl)
 
   abbrev Result : Type 0
   Result =

@@ -7,7 +7,7 @@ use Rattle.std.specs.Prelude.{nat_lt}
 use mathlib.Core.Logic.{dite}
 use native.Mathlib.Decide.{ℕ_discrete}
 use Rattle.nr_words.specs.KeyWords.{same_count}
-use Rattle.nr_core.proofs.Choices.{by_cases}
+use Rattle.nr_core.proofs.Choices.{on_test}
 use Rattle.nr_core.specs.States.{no_retired, retired_at}
 use Rattle.nr_model.specs.Histories.{Entry}
 use Rattle.nr_model.specs.declared.calls.Call.{Call}
@@ -79,30 +79,23 @@ module _ (shape : Shape) (desk : Desk) (call : WriterCall) (rows : List Row) whe
 
   swept_more : (polls : ℕ) → polls < length desk.retired → swept shape desk call rows polls ≡ on_to polls
   swept_more polls low =
-      ap (λ (b : Bool). cond {A = Desk × Step} b (on_to polls) none_left) (lt-ltb polls (length desk.retired) low)
+      rw (lt-ltb polls (length desk.retired) low) refl
 
   pub swept_all : (polls : ℕ) → length desk.retired ≤ polls → swept shape desk call rows polls ≡ none_left
   swept_all polls all =
-      ap (λ (b : Bool). cond {A = Desk × Step} b (on_to polls) none_left) (le-ltb polls (length desk.retired) all)
+      rw (le-ltb polls (length desk.retired) all) refl
 
   swept_quiet : (c : Call) (polls : ℕ) → ending c (swept shape desk call rows polls).1 ≡ []
   swept_quiet c polls =
-      by_cases (λ b. ending c (cond {A = Desk × Step} b (on_to polls) none_left).1 ≡ [])
-      (nat_lt polls (length desk.retired)) (λ _. refl) (λ _. refl)
+      on_test (λ (o : Desk × Step). ending c o.1 ≡ []) (nat_lt polls (length desk.retired)) (λ _. refl) (λ _. refl)
 
   -- a call that finds no slot that was never taken begins to poll, or has none
   settled_swept : shape.slots ≤ desk.fresh → settled shape desk call rows ≡ swept shape desk call rows 0
   settled_swept full =
-      ap
-      (λ (b : Bool). cond {A = Desk × Step} b (taking_fresh shape desk call rows, Going)
-      (cond {A = Desk × Step} (nat_eq (length desk.retired) 0) none_left (on_to 0)))
-      (le-ltb desk.fresh shape.slots full)
-      ∙ dite (ℕ_discrete (length desk.retired) 0)
-      (λ none. ap (λ (b : Bool). cond {A = Desk × Step} b none_left (on_to 0)) (eq-eqb (length desk.retired) 0 none)
-      ∙ sym (swept_all 0 (omega arith)))
-      (λ some_there. ap (λ (b : Bool). cond {A = Desk × Step} b none_left (on_to 0))
-      (ne_eqb (length desk.retired) 0 some_there)
-      ∙ sym (swept_more 0 (omega arith)))
+      rw (le-ltb desk.fresh shape.slots full)
+      (dite (ℕ_discrete (length desk.retired) 0)
+      (λ none. rw (eq-eqb (length desk.retired) 0 none) (sym (swept_all 0 (omega arith))))
+      (λ some_there. rw (ne_eqb (length desk.retired) 0 some_there) (sym (swept_more 0 (omega arith)))))
 
 -- the search begins
 pub searched_none : (table : Table) (call : WriterCall) (rows : List Row) (lists : SlotLists) (seat : MapSeat)

@@ -1,6 +1,6 @@
 -- A call that ends with no slot: it would be done, and each slot is a filled key's or retired.
-use Rattle.std.proofs.Common.{◌≡◌, ℕ, ◌+◌, ◌-◌, ◌*◌, ◌<◌, ◌≤◌, List, [], ◌∷◌, ◌++◌, true, get_or, length, nat_eq, cond}
-use Rattle.std.proofs.Common.{refl, sym, ap, ◌∙◌, subst, arith}
+use Rattle.std.proofs.Common.{◌≡◌, ℕ, ◌+◌, ◌-◌, ◌*◌, ◌<◌, ◌≤◌, List, [], ◌∷◌, ◌++◌, get_or, length, nat_eq, refl, sym}
+use Rattle.std.proofs.Common.{ap, ◌∙◌, subst, arith}
 use Rattle.std.proofs.lemmas.Bool.{eqb-true}
 use Rattle.std.specs.Prelude.{nat_le}
 use mathlib.Core.Option.{some}
@@ -10,8 +10,7 @@ use Rattle.nr_model.specs.Histories.{Entry}
 use Rattle.nr_model.specs.Maps.{filled_count, reply_at, reply_to, state_of}
 use Rattle.nr_model.specs.declared.calls.Call.{Call}
 use Rattle.nr_model.specs.declared.calls.Reply.TheVariants as reply
-use Rattle.nr_words.specs.SetWords.{decode}
-use Rattle.nr_core.proofs.Choices.{by_cases}
+use Rattle.nr_core.proofs.Choices.{on_test}
 use Rattle.nr_core.proofs.Counting.{slots_are}
 use Rattle.nr_core.proofs.Histories.{replies_so}
 use Rattle.nr_core.proofs.ReadThrough.{read_whole}
@@ -19,14 +18,13 @@ use Rattle.nr_core.proofs.Settle.{key_same}
 use Rattle.nr_core.proofs.Without.{IsWithout, NoneLeft, decided_none, look_none, not_going, not_reply, polled_none}
 use Rattle.nr_core.specs.Core.{AtPlace, Core, Reads}
 use Rattle.nr_core.specs.Operations.{going, target_of}
-use Rattle.nr_core.specs.Roles.{held, taken}
+use Rattle.nr_core.specs.Roles.{held, taken, retirements}
 use Rattle.nr_core.specs.Slots.{content, departures, bound_of}
 use Rattle.nr_core.specs.States.{key_of, retired_at}
 use Rattle.nr_core.specs.Story.{call_of, map_after}
-use Rattle.nr_core.specs.Writer.{decoded, ended, looked, moved_to, swapped, went}
+use Rattle.nr_core.specs.Writer.{decoded, looked, went}
 use Rattle.nr_core.specs.declared.calls.NoSlot.{NoSlot}
 use Rattle.nr_core.specs.declared.calls.Step.{Step}
-use Rattle.nr_core.specs.declared.calls.Step.TheVariants.{Going}
 use Rattle.nr_core.specs.declared.calls.WriterCall.{WriterCall}
 use Rattle.nr_core.specs.declared.places.Place.{Place}
 use Rattle.nr_core.specs.declared.places.Place.TheVariants.{Idle, Leaving, Putting, Reading, Searching, Withdrawing}
@@ -34,7 +32,6 @@ use Rattle.nr_core.specs.declared.roles.Desk.{Desk}
 use Rattle.nr_core.specs.declared.roles.Role.{Role}
 use Rattle.nr_core.specs.declared.roles.Role.TheVariants.{Writer}
 use Rattle.nr_core.specs.declared.shape.Shape.{Shape}
-use Rattle.nr_core.specs.Roles.{retirements}
 use Rattle.nr_core.specs.declared.places.Retired.{Retired}
 use Rattle.nr_core.specs.PollNotes.{AllHeld}
 use Rattle.nr_board.proofs.Polled.{PolledAll}
@@ -87,27 +84,18 @@ module _ (shape : Shape) (words : List ℕ) (roles : List Role) (log : List Entr
   go_short_at (Withdrawing k) is without = absurd (not_reply counts reply.Cancelled without)
   go_short_at (Putting call rows slot departed index) is without =
       let found = get_or words (target_of (going shape desk (Putting call rows slot departed index))) 0 in
-      by_cases
-      (λ v.
-      let outcome
-      = cond {A = Desk × Step} v (moved_to desk (Putting call rows slot departed (index + 1)), Going)
-      (swapped desk found, ended reply.Done) in
-      IsWithout counts outcome → Shortage shape log desk (call_of call) outcome counts)
+      on_test (λ (o : Desk × Step). IsWithout counts o → Shortage shape log desk (call_of call) o counts)
       (nat_le index (2 * length rows))
       (λ _ e. absurd (not_going counts e)) (λ _ e. absurd (not_reply counts reply.Done e)) without
   go_short_at (Reading call slot got) is without =
       let reads : Reads shape words (map_after shape log) (held roles) (key_of call) slot got
       = at_place (Reading call slot got) is in
       let got' : List ℕ = got ++ get_or words (content shape slot (length got)) 0 ∷ [] in
-      by_cases
-      (λ v.
-      let outcome
-      = cond {A = Desk × Step} v (decoded shape desk call (decode got'))
-      (moved_to desk (Reading call slot got'), Going) in
-      (v ≡ true → length got' ≡ 2 * get_or got' 0 0 + 1) → IsWithout counts outcome
-      → Shortage shape log desk (call_of call) outcome counts)
+      on_test (λ (o : Desk × Step). IsWithout counts o → Shortage shape log desk (call_of call) o counts)
       (nat_eq (length got') (2 * get_or got' 0 0 + 1))
-      (λ _ whole e. let set_is = read_whole shape words roles log core (key_of call) slot got reads (whole refl) in
+      (λ last e.
+      let whole = eqb-true (length got') (2 * get_or got' 0 0 + 1) last in
+      let set_is = read_whole shape words roles log core (key_of call) slot got reads whole in
       let none
       = decided_none shape desk counts call reads.rows
       (subst (λ o. IsWithout counts (decoded shape desk call o)) set_is e) in
@@ -116,8 +104,7 @@ module _ (shape : Shape) (words : List ℕ) (roles : List Role) (log : List Entr
         full = none.1;
         done = replies shape log call (ap (reply_at (bound_of shape) (call_of call)) reads.full ∙ none.3 reads.number);
       })
-      (λ _ _ e. absurd (not_going counts e))
-      (eqb-true (length got') (2 * get_or got' 0 0 + 1)) without
+      (λ _ e. absurd (not_going counts e)) without
   go_short_at (Searching call rows poll) is without =
       let searches = at_place (Searching call rows poll) is in
       let none

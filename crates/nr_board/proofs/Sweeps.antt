@@ -1,10 +1,10 @@
 -- A reap, poll by poll: the slots whose sets wait are split into those that were found held and those that are still to
 -- be polled.
-use Rattle.std.proofs.Common.{◌≡◌, ◌∙◌, ℕ, zero, suc, ◌+◌, ◌<◌, ◌≤◌, Bool, true, false, cond, List, [], ◌∷◌, ◌++◌, ap}
-use Rattle.std.proofs.Common.{append-nil, append_assoc, arith, drop, get_or, length, length-append, refl, subst, sym}
-use Rattle.std.proofs.Common.{◌≢◌, ⊎_elim}
+use Rattle.std.proofs.Common.{drop-cons, ◌≡◌, ◌∙◌, ℕ, zero, suc, ◌+◌, ◌<◌, ◌≤◌, Bool, true, false, List, [], ◌∷◌, ◌++◌}
+use Rattle.std.proofs.Common.{ap, append-nil, append_assoc, arith, drop, get_or, length, length-append, refl, subst}
+use Rattle.std.proofs.Common.{sym, ◌≢◌, ⊎_elim}
 use Rattle.std.proofs.lemmas.Bool.{ltb-false}
-use Rattle.nr_core.proofs.Choices.{by_cases}
+use Rattle.nr_core.proofs.Choices.{on_test}
 use Rattle.std.specs.Prelude.{Some, nat_lt, ◌||◌}
 use lib.ListN.{get_elem?}
 use mathlib.Core.Logic.{dite}
@@ -124,12 +124,6 @@ probes_so shape slots id me desk poll entry is idle here heard =
 
 -- THE SLOTS THAT WAIT
 
-drop_at : (l : List Retired) (place : ℕ) → place < length l
-    → drop place l ≡ get_or l place no_retired ∷ drop (suc place) l
-drop_at [] place low = absurd (omega arith)
-drop_at (x ∷ l) zero low = refl
-drop_at (x ∷ l) (suc place) low = drop_at l place (omega arith)
-
 abbrev flag : List Bool → ℕ → Bool
 flag flags slot = get_or flags slot false
 
@@ -141,36 +135,23 @@ module _ (passes : ℕ → Bool) (l : List Retired) (place : ℕ) (low : place <
   drop_next : drop place l ≡ entry_there ∷ drop (place + 1) l
   drop_next =
       let e : suc place ≡ place + 1 = omega arith in
-      drop_at l place low ∙ ap (λ (n : ℕ). entry_there ∷ drop n l) e
+      drop-cons l place no_retired low ∙ ap (λ (n : ℕ). entry_there ∷ drop n l) e
 
   waits_not : passes entry_there.slot ≡ true → not_passed passes (drop place l) ≡ not_passed passes (drop (place + 1) l)
-  waits_not gone =
-      ap (not_passed passes) drop_next
-      ∙ ap
-      (λ (b : Bool). cond {A = List Retired} b (not_passed passes (drop (place + 1) l))
-      (entry_there ∷ not_passed passes (drop (place + 1) l)))
-      gone
+  waits_not gone = ap (not_passed passes) drop_next ∙ rw gone refl
 
   waits_there : passes entry_there.slot ≡ false
       → not_passed passes (drop place l) ≡ entry_there ∷ not_passed passes (drop (place + 1) l)
-  waits_there stays =
-      ap (not_passed passes) drop_next
-      ∙ ap
-      (λ (b : Bool). cond {A = List Retired} b (not_passed passes (drop (place + 1) l))
-      (entry_there ∷ not_passed passes (drop (place + 1) l)))
-      stays
+  waits_there stays = ap (not_passed passes) drop_next ∙ rw stays refl
 
 -- one waits, if one at a place of the list does
 some_waits : (passes : ℕ → Bool) (l : List Retired) (place : ℕ) → place < length l
     → passes (get_or l place no_retired).slot ≡ false → 0 < length (not_passed passes l)
 some_waits passes [] place low stays = absurd (omega arith)
-some_waits passes (x ∷ l) zero low stays =
-    let is
-    = ap (λ (b : Bool). length (cond {A = List Retired} b (not_passed passes l) (x ∷ not_passed passes l))) stays in
-    omega arith
-some_waits passes (x ∷ l) (suc place) low stays = let rest = some_waits passes l place (omega arith) stays in
-    by_cases (λ (b : Bool). 0 < length (cond {A = List Retired} b (not_passed passes l) (x ∷ not_passed passes l)))
-    (passes x.slot) (λ _. rest) (λ _. omega arith)
+some_waits passes (x ∷ l) zero low stays = rw stays (omega arith)
+some_waits passes (x ∷ l) (suc place) low stays =
+    on_test (λ (m : List Retired). 0 < length m) (passes x.slot)
+    (λ _. some_waits passes l place (omega arith) stays) (λ _. omega arith)
 
 none_held : (readers : ℕ) → HeldEach readers [] []
 none_held readers = record {

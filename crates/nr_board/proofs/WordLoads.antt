@@ -5,7 +5,7 @@ use Rattle.std.proofs.Common.{length-append}
 use Rattle.std.specs.Prelude.{nat_lt, not, ◌&&◌}
 use mathlib.Core.Logic.{dite}
 use native.Mathlib.Decide.{ℕ_discrete}
-use Rattle.nr_core.proofs.Choices.{by_cases}
+use Rattle.nr_core.proofs.Choices.{by_cases, on_test}
 use Rattle.nr_core.specs.Roles.{retirements}
 use Rattle.nr_core.specs.declared.places.Retired.{Retired}
 use Rattle.nr_core.specs.declared.roles.Desk.{Desk}
@@ -35,8 +35,7 @@ no_loads marks polls = λ j. record marks { polls = polls; loads = sym (append-n
 unsaid_few : (slot : ℕ) (words : List ℕ) → unsaid slot words ≤ length words
 unsaid_few slot [] = omega arith
 unsaid_few slot (word ∷ words) = let rest = unsaid_few slot words in
-    by_cases (λ (b : Bool). cond {A = ℕ} b 0 (suc (unsaid slot words)) ≤ length (word ∷ words)) (nat_eq word (suc slot))
-    (λ _. omega arith) (λ _. omega arith)
+    on_test (λ (n : ℕ). n ≤ length (word ∷ words)) (nat_eq word (suc slot)) (λ _. omega arith) (λ _. omega arith)
 
 -- what a word says, those behind it can't take back
 unsaid_stays : (slot : ℕ) (words more : List ℕ) → unsaid slot words < length words

@@ -15,7 +15,7 @@ use Rattle.nr_model.specs.declared.calls.Call.TheVariants as model
 use Rattle.nr_model.specs.declared.calls.Reply.TheVariants as reply
 use Rattle.nr_model.specs.declared.rows.Row.{Row}
 use Rattle.nr_words.specs.KeyWords.{is_filled}
-use Rattle.nr_core.proofs.Choices.{by_cases}
+use Rattle.nr_core.proofs.Choices.{by_cases, on_test}
 use Rattle.nr_core.proofs.Depart.{departs}
 use Rattle.nr_core.proofs.HoldNamed.{holds_named, looks_up}
 use Rattle.nr_core.proofs.Learn.{learns}
@@ -160,7 +160,7 @@ loud_lends view slot loud = ap (λ (b : Bool). cond b (holds slot view.role) 0) 
 
 idle_lends : (view : View) → ((slot : ℕ) → holds slot view.role ≡ 0) → (slot : ℕ) → lends slot view ≡ 0
 idle_lends view nothing slot =
-    by_cases (λ (b : Bool). cond b (holds slot view.role) 0 ≡ 0) (nat_lt 0 view.says) (λ _. nothing slot) (λ _. refl)
+    on_test (λ (n : ℕ). n ≡ 0) (nat_lt 0 view.says) (λ _. nothing slot) (λ _. refl)
 
 module _ (shape : Shape) (id own : ℕ) (view : View) (has : HasWord own view) (state : State (Unit {0}) View)
     (kept : Kept shape state) (at : get_elem? state.views id ≡ some view)

@@ -49,7 +49,7 @@ use Rattle.nr_core.proofs.GoMarks.{goes_marked}
 use Rattle.nr_core.proofs.LookMarks.{looks_marked}
 use Rattle.nr_core.specs.MarkSteps.{GoesMarks, LooksMarks, PollTells, PollsNext, PutsMarks, went_marks}
 use Rattle.nr_core.specs.Marked.{IsPresent, KnowsMarks, MarkTelling, NotesPresent, Remarked}
-use Rattle.nr_core.proofs.Choices.{by_cases}
+use Rattle.nr_core.proofs.Choices.{by_cases, on_test}
 use Rattle.nr_board.proofs.Brings.{given_brings, reads_no_fill, wants_brings, writer_entries}
 use Rattle.nr_board.proofs.Learning.{shows_kind}
 use Rattle.nr_board.proofs.Polled.{PolledAll, go_polled, look_polled}
@@ -439,14 +439,7 @@ going_on shape words roles log core id desk there announcers heard place is busy
               (at_get desk.retired poll stands.1)).0,
         )
     go (Putting call rows slot departed index) busy _ stands =
-        by_cases
-        (λ b. OnPlain shape
-        (cond {A = Operation} b (Store (content shape slot index) (get_or (encode rows) index 0))
-        (Swap (key_of call) (naming slot departed)))
-        ⊎ Polls shape announcers heard
-        (cond {A = Operation} b (Store (content shape slot index) (get_or (encode rows) index 0))
-        (Swap (key_of call) (naming slot departed))))
-        (nat_le index (2 * length rows))
+        on_test (λ (o : Operation). OnPlain shape o ⊎ Polls shape announcers heard o) (nat_le index (2 * length rows))
         (λ low.
         let few : index ≤ 2 * length rows = leb-true index (2 * length rows) low in
         let short = stands.wants.row_set.1 in
