@@ -2,7 +2,7 @@
 -- retires.
 use Rattle.std.proofs.Common.{◌≡◌, ◌≢◌, ℕ, suc, zero, ◌<◌, ⊎_elim, List, [], ◌∷◌, ◌++◌, Bool, true, false, set, get_or}
 use Rattle.std.proofs.Common.{take, get_or-set_other, length-set, refl, sym, ap, ◌∙◌, subst, arith}
-use Rattle.std.proofs.lemmas.Bool.{le-ltb, lt-ltb}
+use Rattle.std.proofs.lemmas.Bool.{false≢true, le-ltb, lt-ltb}
 use Rattle.std.specs.Prelude.{nat_lt}
 use mathlib.Core.Logic.{dite}
 use native.Mathlib.Decide.{ℕ_discrete}
@@ -52,7 +52,7 @@ flags_put table retired last scanned heard flags mine flagged is fewer some_word
     record {
       wide = length-set flags mine true ∙ before.wide;
       whole = λ slot unset. dite (ℕ_discrete slot mine)
-          (λ e. absurd (clash (sym (ap (is_flagged (set flags mine true)) e ∙ flag_set flags mine) ∙ unset)))
+          (λ e. absurd (false≢true (sym unset ∙ ap (is_flagged (set flags mine true)) e ∙ flag_set flags mine)))
           (λ ne.
           let was = before.whole slot (sym (flag_elsewhere flags mine slot ne) ∙ unset) in
           let same = get_or-set_other scanned mine slot 0 0 ne in
@@ -68,9 +68,6 @@ flags_put table retired last scanned heard flags mine flagged is fewer some_word
           (λ ne. flag_elsewhere flags mine slot ne ∙ before.others slot (fewer slot ne none));
     }
   where
-    clash : true ≡ false → ⊥
-    clash e = absurd (cc)
-
     get_or_at : List ℕ → ℕ → ℕ
     get_or_at l slot = get_or l slot 0
 

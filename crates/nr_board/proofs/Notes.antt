@@ -25,9 +25,9 @@ use Rattle.nr_core.proofs.Knowing.{knowing_set, knowing_snoc, told_since}
 use Rattle.nr_core.proofs.ListPlaces.{no_places}
 use Rattle.nr_core.proofs.SeatMarks.{alike_marked, evolves_alike, seats_marked}
 use Rattle.nr_core.specs.Marked.{AllSince, Since}
-use Rattle.nr_core.specs.Marks.{told_by, with_loads}
+use Rattle.nr_core.specs.Marks.{told_by, with_loads, LoggedLoad}
 use Rattle.nr_board.specs.Rule.{Fits, Kept, StartsWith, counts, marks_of, pasts_of, role_of, told_pasts_of}
-use Rattle.nr_board.specs.Views.{View, no_desk}
+use Rattle.nr_board.specs.Views.{Loaded, View, no_desk}
 use Rattle.std.specs.Prelude.{nat_lt}
 use Rattle.nr_board.specs.Announcing.{lends, lent}
 use Rattle.nr_board.proofs.Heard.{AllHear, hears_as, hears_more, hears_on}
@@ -119,6 +119,35 @@ module _ (shape : Shape) (state : State (Unit {0}) View) (id : ℕ) (view next :
           (λ (t : (j ≢ id) × (get_elem? state.views j ≡ some u)). of_other j u t.1)
           (at_set state.views id j next u there)
 
+-- so does one that counts steps, logs loads and hears what it hears
+pub counts_on : (shape : Shape) (state : State (Unit {0}) View) (id : ℕ) (view : View) (kept : Kept shape state)
+    → get_elem? state.views id ≡ some view → (steps : ℕ) (loads : List LoggedLoad) (heard : List ℕ)
+    (loaded : List Loaded)
+    → let next
+    = record view { steps = steps; marks = with_loads view.marks loads; heard = heard; loaded_ahead = loaded } in
+    AllHear (set state.views id next)
+    → Kept shape (record { words = state.words; homes = state.homes; views = set state.views id next })
+counts_on shape state id view kept at steps loads heard loaded hears =
+    let next
+    = record view { steps = steps; marks = with_loads view.marks loads; heard = heard; loaded_ahead = loaded } in
+    let fits = kept.fits id view at in
+    replaced shape state id view next kept at refl (inl refl) refl hears (kept.told_of id view at) (record {
+      begins = fits.begins;
+      told = fits.told;
+      own = fits.own;
+      knows_own = fits.knows_own;
+      acts = fits.acts;
+      sized = fits.sized;
+    }) (kept.maker id view at) (kept.pasts id view at) (kept.told_pasts id view at)
+
+pub logs_on : (shape : Shape) (state : State (Unit {0}) View) (id : ℕ) (view : View) (kept : Kept shape state)
+    → get_elem? state.views id ≡ some view → (steps : ℕ) (loads : List LoggedLoad) (loaded : List Loaded)
+    → let next = record view { steps = steps; marks = with_loads view.marks loads; loaded_ahead = loaded } in
+    Kept shape (record { words = state.words; homes = state.homes; views = set state.views id next })
+logs_on shape state id view kept at steps loads loaded =
+    counts_on shape state id view kept at steps loads view.heard loaded
+    (heard_same state.views id view _ at refl refl (λ _. (refl, refl)) kept.hears)
+
 -- a note stands beside the tokens that there are: it says what begins the history, and of readers what is so
 adds_note : (shape : Shape) (source : View) (state : State (Unit {0}) View) (kept : Kept shape state)
     → StartsWith kept.log source.seen
@@ -180,20 +209,7 @@ module _ (shape : Shape) (id : ℕ) (view : View) (state : State (Unit {0}) View
 
   -- the maker counts the step
   makes : Kept shape counted
-  makes =
-      let fits = kept.fits id view at in
-      let own : Fits shape kept.log maker
-      = record {
-        begins = fits.begins;
-        told = fits.told;
-        own = fits.own;
-        knows_own = fits.knows_own;
-        acts = fits.acts;
-        sized = fits.sized;
-      } in
-      replaced shape state id view maker kept at refl (inl refl) refl
-      (heard_same state.views id view maker at refl refl (λ _. (refl, refl)) kept.hears) (kept.told_of id view at)
-      own (kept.maker id view at) (kept.pasts id view at) (kept.told_pasts id view at)
+  makes = logs_on shape state id view kept at maker.steps view.marks.loads view.loaded_ahead
 
   there : get_elem? counted.views id ≡ some maker
   there = here_after state.views id view maker at
@@ -218,20 +234,7 @@ pub loads_so : (shape : Shape) (slots id : ℕ) (me : Me (Unit {0}) View) (place
 loads_so shape slots id me place state kept homes at bounded =
     let view = me.0 in
     let next = with_load place (get_or state.words place 0) view in
-    let fits = kept.fits id view at in
-    let own : Fits shape kept.log next
-    = record {
-      begins = fits.begins;
-      told = fits.told;
-      own = fits.own;
-      knows_own = fits.knows_own;
-      acts = fits.acts;
-      sized = fits.sized;
-    } in
-    let rests
-    = replaced shape state id view next kept at refl (inl refl) refl
-    (heard_same state.views id view next at refl refl (λ _. (refl, refl)) kept.hears) (kept.told_of id view at)
-    own (kept.maker id view at) (kept.pasts id view at) (kept.told_pasts id view at) in (
+    let rests = logs_on shape state id view kept at next.steps next.marks.loads next.loaded_ahead in (
       next,
       keeps,
       tt,
@@ -245,20 +248,7 @@ pub looks_ahead_so : (shape : Shape) (slots id : ℕ) (me : Me (Unit {0}) View) 
 looks_ahead_so shape slots id me key state kept homes at bounded =
     let view = me.0 in
     let next = ahead key (name_number (get_or state.words key 0)) view in
-    let fits = kept.fits id view at in
-    let own : Fits shape kept.log next
-    = record {
-      begins = fits.begins;
-      told = fits.told;
-      own = fits.own;
-      knows_own = fits.knows_own;
-      acts = fits.acts;
-      sized = fits.sized;
-    } in
-    let rests
-    = replaced shape state id view next kept at refl (inl refl) refl
-    (heard_same state.views id view next at refl refl (λ _. (refl, refl)) kept.hears) (kept.told_of id view at)
-    own (kept.maker id view at) (kept.pasts id view at) (kept.told_pasts id view at) in (
+    let rests = logs_on shape state id view kept at next.steps next.marks.loads next.loaded_ahead in (
       next,
       keeps,
       tt,

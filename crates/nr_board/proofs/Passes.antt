@@ -1,4 +1,5 @@
 -- A pass of a search, slot by slot.
+use Rattle.std.proofs.lemmas.Bool.{false≢true}
 use Rattle.std.proofs.Common.{◌≡◌, ◌≢◌, ℕ, suc, ◌+◌, ◌<◌, ◌≤◌, ◌⊎◌, ⊎_elim, inl, inr, List, [], ◌∷◌, ◌++◌, Bool, true}
 use Rattle.std.proofs.Common.{false, cond, length, take, get_or, refl, sym, ap, ◌∙◌, subst, arith, append-nil}
 use Rattle.std.proofs.Common.{append_assoc, length-append, take-suc}
@@ -116,9 +117,6 @@ module _ (retired : List Retired) (flags : List Bool) (readers place first : ℕ
     (so_far : NotesTo retired flags readers place first notes) (note : Past)
     (holds : note.slot ≡ Some (get_or retired place no_retired).slot) (made : 0 < note.reader)
     (few : note.reader ≤ readers) (nowhere_else : NotedNowhereElse notes note) where
-  clash : true ≡ false → ⊥
-  clash e = absurd (cc)
-
   abbrev value : Option ℕ → ℕ
   value (Some n) = n
   value None = 0
@@ -136,7 +134,7 @@ module _ (retired : List Retired) (flags : List Bool) (readers place first : ℕ
       ⊎ ((at : ℕ) × (entry : Retired) × (at < place) × (get_elem? retired at ≡ some entry)
       × (slot ≡ entry.slot)))).
       let is : h.0 ≡ (get_or retired place no_retired).slot = ap value (sym h.1 ∙ slot_is) in
-      ⊎_elim (λ (flagged : is_flagged flags h.0 ≡ true). clash (sym flagged ∙ ap (is_flagged flags) is ∙ free))
+      ⊎_elim (λ (flagged : is_flagged flags h.0 ≡ true). false≢true (sym (sym flagged ∙ ap (is_flagged flags) is ∙ free)))
       (λ (p : (at : ℕ) × (entry : Retired) × (at < place) × (get_elem? retired at ≡ some entry) × (h.0 ≡ entry.slot)).
       absurd
       (let one = differ p.0 place p.1 (get_or retired place no_retired) p.3 here (sym p.4 ∙ is) in
@@ -226,9 +224,6 @@ module _ (table : Table) (lists : SlotLists) (flags : List Bool) (before now : M
   here_now : get_elem? so_far.search.search.desk.retired place ≡ some entry
   here_now = there_too so_far.search.search.desk lists place entry so_far.search.retired here
 
-  differ : true ≡ false → ⊥
-  differ e = absurd (cc)
-
   pub entry_inside : entry.slot < table.shape.slots
   entry_inside = so_far.search.search.room.inside place entry here_now
 
@@ -247,7 +242,7 @@ module _ (table : Table) (lists : SlotLists) (flags : List Bool) (before now : M
         now.me.0.marks.polls
         (λ slot polled. ⊎_elim (λ r. (r, polled.1))
         (λ (e : slot ≡ entry.slot). absurd
-        (differ (sym flagged ∙ ap (is_flagged flags) (sym e) ∙ polled.1)))
+        (false≢true (sym (sym flagged ∙ ap (is_flagged flags) (sym e) ∙ polled.1))))
         (reached_more lists.retired place entry here slot polled.0))
         (λ slot polled. (reached_on lists.retired place slot polled.0, polled.1)) (λ _ _ held. held) so_far.kept;
     heard = so_far.heard;

@@ -83,6 +83,30 @@ module _ (table : Table) (lists : SlotLists) (before : MapSeat) (rests : RestsAt
   first_are : first_polls ≡ held_polls (ready_to (token before) before.me.0.heard)
   first_are = ap held_polls (ready_is before.me.0.heard)
 
+  -- a first sweep was in vain, and a scan follows
+  abbrev ScannedOnce : MapSeat → MapSeat → List LoggedLoad → Type 0
+  ScannedOnce mid last loads =
+      SweepsFor lists before mid sweep.Held
+      × WordsTell before.me.0.announcers lists.retired before.me.0.shape.slots loads last.me.0.heard
+      × (last.me.0 ≡ scanned_to loads last.me.0.heard mid.me.0)
+
+  last_is : (mid last : MapSeat) (loads : List LoggedLoad) (scanned : ScannedOnce mid last loads)
+      → last.me.0 ≡ scanned_to loads last.me.0.heard (probed scanned.0.0 first_polls before.me.0)
+  last_is mid last loads scanned = scanned.2 ∙ ap (scanned_to loads last.me.0.heard) scanned.0.3
+
+  scans_first : (mid last : MapSeat) (loads : List LoggedLoad) (scanned : ScannedOnce mid last loads)
+      → 0 < before.me.0.announcers
+      → ScansFirst (token before) last.me.0.heard (first_polls ++ loads) scanned.0.0
+  scans_first mid last loads scanned some_words = inr (
+    some_words,
+    rw (sym (ready_is before.me.0.heard)) scanned.0.2,
+    loads,
+    subst
+        (λ (l : List Retired). WordsTell before.me.0.announcers l before.me.0.shape.slots loads last.me.0.heard)
+        (sym retired_is) scanned.1,
+    ap (λ (l : List LoggedLoad). l ++ loads) first_are,
+  )
+
   -- what the sweeps give of a set that they found
   pub record FoundSet (now : MapSeat) (slot : ℕ) : Type 0 where
     pub held : List Retired
@@ -133,11 +157,8 @@ module _ (table : Table) (lists : SlotLists) (before : MapSeat) (rests : RestsAt
       let loads = twice.4 in
       let second = twice.7 in
       let heard = last.me.0.heard in
-      let last_is : last.me.0 ≡ scanned_to loads heard (probed first.0 first_polls before.me.0)
-      = twice.6 ∙ ap (scanned_to loads heard) first.3 in
-      let words
-      = subst (λ (l : List Retired). WordsTell before.me.0.announcers l before.me.0.shape.slots loads heard)
-      (sym retired_is) twice.5 in
+      let scanned : ScannedOnce mid last loads = (first, twice.5, twice.6) in
+      let last_so = last_is mid last loads scanned in
       record {
         held = second.0;
         later = second.1;
@@ -146,16 +167,9 @@ module _ (table : Table) (lists : SlotLists) (before : MapSeat) (rests : RestsAt
         earlier = first.0;
         scanned = heard;
         loads = first_polls ++ loads;
-        first =
-            inr (
-              twice.0,
-              rw (sym (ready_is before.me.0.heard)) first.2,
-              loads,
-              words,
-              ap (λ (l : List LoggedLoad). l ++ loads) first_are,
-            );
-        split = sym (ready_is heard) ∙ sym (ap (ready_in lists) last_is) ∙ second.4;
-        each = subst (λ (v : View). HeldEach v.shape.readers second.0 second.3) last_is second.5;
+        first = scans_first mid last loads scanned twice.0;
+        split = sym (ready_is heard) ∙ sym (ap (ready_in lists) last_so) ∙ second.4;
+        each = subst (λ (v : View). HeldEach v.shape.readers second.0 second.3) last_so second.5;
         slot_is = second.6;
         inside = second.7;
         view =
@@ -256,34 +270,24 @@ module _ (table : Table) (lists : SlotLists) (before : MapSeat) (rests : RestsAt
       let loads = twice.4 in
       let second = twice.7 in
       let heard = last.me.0.heard in
-      let last_is : last.me.0 ≡ scanned_to loads heard (probed first.0 first_polls before.me.0)
-      = twice.6 ∙ ap (scanned_to loads heard) first.3 in
-      let words
-      = subst (λ (l : List Retired). WordsTell before.me.0.announcers l before.me.0.shape.slots loads heard)
-      (sym retired_is) twice.5 in
+      let scanned : ScannedOnce mid last loads = (first, twice.5, twice.6) in
+      let last_so = last_is mid last loads scanned in
       let ready_now : ready_in lists last.me.0 ≡ ready_to (token before) heard
-      = ap (ready_in lists) last_is ∙ ready_is heard in
+      = ap (ready_in lists) last_so ∙ ready_is heard in
       record {
         notes = second.0;
         earlier = first.0;
         scanned = heard;
         loads = first_polls ++ loads;
-        first =
-            inr (
-              twice.0,
-              rw (sym (ready_is before.me.0.heard)) first.2,
-              loads,
-              words,
-              ap (λ (l : List LoggedLoad). l ++ loads) first_are,
-            );
+        first = scans_first mid last loads scanned twice.0;
         scans = λ _.
             (let both = length-append first_polls loads in
-            let many = words_many words in
+            let many = words_many twice.5 in
             let some_words = twice.0 in
             omega arith);
         some_wait = subst (λ (l : List Retired). 0 < length l) waiting_is first.1;
         each =
-            subst (λ (p : ℕ × List Retired). HeldEach p.0 p.1 second.0) (λ j. ((last_is j).shape.readers, ready_now j))
+            subst (λ (p : ℕ × List Retired). HeldEach p.0 p.1 second.0) (λ j. ((last_so j).shape.readers, ready_now j))
             second.2;
         view =
             swept_twice first.0 second.0 first_polls loads (held_polls (ready_in lists last.me.0)) heard before.me.0

@@ -1,5 +1,5 @@
 -- The writer reads the set that was put into a slot last: the words spell it, until the writer's next set is put there.
-use Rattle.std.proofs.Common.{◌≡◌, ℕ, ◌<◌, ◌∙◌, inl, refl, sym, ap, subst, arith, get_or}
+use Rattle.std.proofs.Common.{◌≡◌, ℕ, ◌<◌, ◌∙◌, refl, sym, ap, subst, arith, get_or}
 use lib.Seq.{set-get_or}
 use mathlib.Core.Option.{none}
 use Rattle.atomic_table.specs.Table.{Allows, Me, keeps, step}
@@ -11,30 +11,18 @@ use Rattle.nr_core.specs.declared.roles.Role.{Role}
 use Rattle.nr_core.specs.declared.shape.Shape.{Shape}
 use Rattle.nr_core.specs.Marked.{KnowsMarks}
 use Rattle.nr_core.specs.Marks.{set_in}
-use Rattle.nr_board.proofs.Notes.{heard_same, replaced}
+use Rattle.nr_board.proofs.Notes.{logs_on}
 use Rattle.nr_board.proofs.Rows.{length-encode}
 use Rattle.nr_board.specs.Notes.{has_noted}
 use Rattle.nr_board.specs.Recalls.{IsWordOf, has_recalled}
-use Rattle.nr_board.specs.Rule.{Fits, Kept, marks_of, role_of}
+use Rattle.nr_board.specs.Rule.{Kept, marks_of, role_of}
 use Rattle.nr_board.specs.Views.{View}
 
 pub recalls_so : (shape : Shape) (slots id : ℕ) (me : Me (Unit {0}) View) (place : ℕ)
     → Allows (Kept shape) slots id me place (λ word. word) (has_recalled (step slots place 0 0 none) me)
 recalls_so shape slots id me place state kept homes at bounded =
     let view = me.0 in let next = has_noted view in let fits = kept.fits id view at in
-    let own : Fits shape kept.log next
-    = record {
-      begins = fits.begins;
-      told = fits.told;
-      own = fits.own;
-      knows_own = fits.knows_own;
-      acts = fits.acts;
-      sized = fits.sized;
-    } in
-    let rests
-    = replaced shape state id view next kept at refl (inl refl) refl
-    (heard_same state.views id view next at refl refl (λ _. (refl, refl)) kept.hears) (kept.told_of id view at)
-    own (kept.maker id view at) (kept.pasts id view at) (kept.told_pasts id view at) in
+    let rests = logs_on shape state id view kept at next.steps next.marks.loads next.loaded_ahead in
     let found : ℕ = get_or state.words place 0 in (
       next,
       keeps,

@@ -2,7 +2,7 @@
 use Rattle.std.proofs.Common.{◌≡◌, ◌≢◌, ℕ, suc, ◌+◌, ◌-◌, ◌%◌, ◌^◌, ◌<◌, ◌≤◌, ⊎_elim, List, [], ◌∷◌, Bool, true, false}
 use Rattle.std.proofs.Common.{cond, length, map, get_or, set, length-set, get_or-set_other, get_or-set_same, refl, sym}
 use Rattle.std.proofs.Common.{ap, ◌∙◌, subst, arith}
-use Rattle.std.proofs.lemmas.Bool.{eqb-true}
+use Rattle.std.proofs.lemmas.Bool.{false≢true, eqb-true}
 use Rattle.std.specs.Prelude.{nat_lt}
 use mathlib.Core.Logic.{dite}
 use native.Mathlib.Decide.{ℕ_discrete}
@@ -130,7 +130,7 @@ announces_own shape announcers words after views id own view next at mine has sa
           (λ ne. frame other ne ∙ before.says j other u q.1 his low)) (at_set views id j next u there);
       wordless = λ j u there none. ⊎_elim
           (λ (q : (j ≡ id) × (next ≡ u)). absurd
-          (differ (sym mine ∙ (ap (λ (v : View). is_by (suc own) v.role) q.1 ∙ none own has))))
+          (false≢true (sym (ap (λ (v : View). is_by (suc own) v.role) q.1 ∙ none own has) ∙ mine)))
           (λ (q : (j ≢ id) × (get_elem? views j ≡ some u)). before.wordless j u q.1 none)
           (at_set views id j next u there);
       holds_it = λ j slot u there loud grips. ⊎_elim
@@ -140,13 +140,10 @@ announces_own shape announcers words after views id own view next at mine has sa
           (λ (q : (j ≢ id) × (get_elem? views j ≡ some u)). before.holds_it j slot u q.1 loud grips)
           (at_set views id j next u there);
       unsaid = λ other none low. frame other
-          (λ e. differ
-          (sym (ap (λ (n : ℕ). is_by (suc n) next.role) e ∙ mine) ∙ none id next (here_after views id view next at)))
+          (λ e. false≢true
+          (sym (none id next (here_after views id view next at)) ∙ ap (λ (n : ℕ). is_by (suc n) next.role) e ∙ mine))
           ∙ before.unsaid other (no_reader_before views id view next at same other none) low;
     }
-  where
-    differ : true ≡ false → ⊥
-    differ clash = absurd (cc)
 
 -- the readers' words lie apart
 pub says_apart : (shape : Shape) (words : List ℕ) (own x other : ℕ) → other ≢ own

@@ -2,7 +2,7 @@
 use Rattle.std.proofs.Common.{◌≡◌, ◌≢◌, ℕ, suc, zero, ◌+◌, ◌-◌, ◌<◌, ◌≤◌, ◌⊎◌, ⊎_elim, inl, inr, List, [], ◌∷◌, ◌++◌}
 use Rattle.std.proofs.Common.{Bool, true, false, cond, length, get_or, set, nat_eq, eq-eqb, ne_eqb, get_or-set_other}
 use Rattle.std.proofs.Common.{get_or-set_same, length-set, refl, sym, ap, ◌∙◌, subst, arith, length-append}
-use Rattle.std.proofs.lemmas.Bool.{eqb-true, lt-ltb, ltb-true}
+use Rattle.std.proofs.lemmas.Bool.{false≢true, eqb-true, lt-ltb, ltb-true}
 use Rattle.std.specs.Prelude.{nat_lt, not, Some, None, ◌&&◌}
 use mathlib.Core.Logic.{dite}
 use mathlib.Core.Option.{some, some-injective}
@@ -225,12 +225,9 @@ either desk own found slot count = let hb : ℕ = heard_before own count in
     → (cond {A = ℕ} (not b) (suc own) hb ≡ hb) ⊎ ((hb ≡ own) × (found ≢ suc slot)))
     (nat_eq found (suc slot))
     (λ _ _. inl refl)
-    (λ _ other. inr (eqb-true hb own next, λ e. differ (sym (eq-eqb found (suc slot) e) ∙ other))) refl)
+    (λ _ other. inr (eqb-true hb own next, λ e. false≢true (sym other ∙ eq-eqb found (suc slot) e))) refl)
     (λ _ _. inl refl) refl)
     (λ _. inl refl)
-  where
-    differ : true ≡ false → ⊥
-    differ clash = absurd (cc)
 
 -- what a load of a reader's word makes heard, and what its flag tells of that
 module _ (desk : Desk) (now next : View) (flags : List Bool) (own found : ℕ)
@@ -242,9 +239,6 @@ module _ (desk : Desk) (now next : View) (flags : List Bool) (own found : ℕ)
   abbrev said : List Bool
   said = announced found flags
 
-  clash : true ≡ false → ⊥
-  clash e = absurd (cc)
-
   -- a retired slot without a flag was heard of the readers before, and one with a flag of fewer
   whole_is : (slot : ℕ) → 0 < retirements slot desk.retired → is_flagged flags slot ≡ false
       → heard_before own (get_or now.heard slot 0) ≡ own
@@ -254,7 +248,7 @@ module _ (desk : Desk) (now next : View) (flags : List Bool) (own found : ℕ)
   stuck_is : (slot : ℕ) → 0 < retirements slot desk.retired → is_flagged flags slot ≡ true
       → heard_before own (get_or now.heard slot 0) < own
   stuck_is slot waits set_before = dite (ℕ_discrete own 0)
-      (λ e. absurd (clash (sym set_before ∙ first e slot waits)))
+      (λ e. absurd (false≢true (sym (first e slot waits) ∙ set_before)))
       (λ ne. rw (ne_eqb own 0 ne) ((heard (omega arith)).stuck slot waits set_before))
 
   heard_is : (slot : ℕ) → slot < now.shape.slots
@@ -280,8 +274,8 @@ module _ (desk : Desk) (now next : View) (flags : List Bool) (own found : ℕ)
     whole = λ slot waits unset. let low = inside slot waits in
         let was : is_flagged flags slot ≡ false
         = by_cases (λ b. b ≡ false) (is_flagged flags slot)
-        (λ is. absurd (clash (sym (more_flags found flags slot is) ∙ unset))) (λ _. refl) in
-        let apart : found ≢ suc slot = λ e. clash (sym (says_flag slot (omega arith) e) ∙ unset) in
+        (λ is. absurd (false≢true (sym unset ∙ more_flags found flags slot is))) (λ _. refl) in
+        let apart : found ≢ suc slot = λ e. false≢true (sym unset ∙ says_flag slot (omega arith) e) in
         let hb = whole_is slot waits was in
         heard_is slot low
         ∙ rw (lt-ltb 0 (retirements slot desk.retired) waits)
@@ -329,9 +323,6 @@ module _ (desk : Desk) (before now next : View) (flags : List Bool) (own found :
   abbrev said_now : List Bool
   said_now = announced found flags
 
-  differs : true ≡ false → ⊥
-  differs e = absurd (cc)
-
   heard_told : next.heard ≡ heard_from desk own found now.heard 0 now.shape.slots
   heard_told = ap (λ (v : View). v.heard) told.same
 
@@ -351,7 +342,7 @@ module _ (desk : Desk) (before now next : View) (flags : List Bool) (own found :
 
   both : (a b : Bool) → (a && b) ≡ true → (a ≡ true) × (b ≡ true)
   both true b e = (refl, e)
-  both false b e = absurd (differs (sym e))
+  both false b e = absurd (false≢true e)
 
   -- a word that keeps no slot from being heard says none that is retired, or one that has a flag
   kept_by_none : found ≢ 0 → keeps_it ≡ false
@@ -361,11 +352,11 @@ module _ (desk : Desk) (before now next : View) (flags : List Bool) (own found :
       (λ _. (retirements (found - 1) desk.retired ≡ 0) ⊎ (is_flagged flags (found - 1) ≡ true))
       (is_flagged flags (found - 1)) inr
       (λ is. absurd
-      (differs
-      (sym
-      (rw (lt-ltb 0 found (omega arith))
+      (false≢true
+      (sym lets
+      ∙ rw (lt-ltb 0 found (omega arith))
       (rw (lt-ltb 0 (retirements (found - 1) desk.retired) (omega arith))
-      (eq-eqb (heard_before own (get_or now.heard (found - 1) 0)) own (whole_now (found - 1) (omega arith) is)))) ∙ lets))))
+      (eq-eqb (heard_before own (get_or now.heard (found - 1) 0)) own (whole_now (found - 1) (omega arith) is)))))))
 
   keep_so : KeepBack desk.retired said_now (suc own) (scan_base (suc own) next.marks.polls)
   keep_so = subst (KeepBack desk.retired said_now (suc own)) (sym base_is)

@@ -1,7 +1,7 @@
 -- The writer loads a reader's word: what it hears then is so.
 use Rattle.std.proofs.Common.{◌≡◌, ◌≢◌, ℕ, suc, ◌+◌, ◌<◌, ◌≤◌, ◌⊎◌, ⊎_elim, inl, inr, List, zero, length, [], ◌∷◌, ◌++◌}
-use Rattle.std.proofs.Common.{true, false, cond, get_or, map, set, eq-eqb, refl, sym, ap, ◌∙◌, subst, arith}
-use Rattle.std.proofs.lemmas.Bool.{eqb-true, ltb-true}
+use Rattle.std.proofs.Common.{cond, get_or, map, set, eq-eqb, refl, sym, ap, ◌∙◌, subst, arith}
+use Rattle.std.proofs.lemmas.Bool.{false≢true, eqb-true, ltb-true}
 use Rattle.std.specs.Prelude.{nat_eq, nat_lt, not, ◌&&◌}
 use mathlib.Core.Logic.{dite}
 use mathlib.Core.Option.{none, some}
@@ -24,9 +24,9 @@ use Rattle.nr_core.specs.Marks.{with_loads}
 use Rattle.nr_board.proofs.Heard.{AllHear, hears_after, no_reader}
 use Rattle.nr_board.proofs.WriterSteps.{same_desk, writer_shape}
 use Rattle.nr_core.proofs.Counting.{named_inside, names_it}
-use Rattle.nr_board.proofs.Notes.{replaced}
+use Rattle.nr_board.proofs.Notes.{counts_on}
 use Rattle.nr_board.specs.Announcing.{Hears, lends, says_at}
-use Rattle.nr_board.specs.Rule.{Fits, Kept, marks_of, role_of}
+use Rattle.nr_board.specs.Rule.{Kept, marks_of, role_of}
 use Rattle.nr_board.specs.Scans.{has_scanned, heard_before, heard_from, heard_now}
 use Rattle.nr_board.specs.Views.{View}
 use Rattle.nr_board.specs.WordLoads.{word_load}
@@ -55,14 +55,11 @@ module _ (desk : Desk) (own found : ℕ) where
       (λ other. inr (
         refl,
         (let is = eqb-true before own next in omega arith),
-        (λ e. differ (sym (eq-eqb found (suc slot) e) ∙ other)),
+        (λ e. false≢true (sym other ∙ eq-eqb found (suc slot) e)),
         ltb-true 0 (retirements slot desk.retired) waits,
       )))
       (λ later. inl less))
       (λ named. inl less)
-    where
-      differ : true ≡ false → ⊥
-      differ clash = absurd (cc)
 
   heard_each : (heard : List ℕ) (first more at : ℕ)
       → HeardMore desk own found (first + at) (get_or heard (first + at) 0)
@@ -188,18 +185,8 @@ scans_so shape slots id own me desk is within state kept homes at bounded =
       heard = heard_from desk own found view.heard 0 view.shape.slots;
     } in
     let heard = scan_heard shape state kept id own view next desk at is within refl refl refl in
-    let own_fits : Fits shape kept.log next
-    = record {
-      begins = fits.begins;
-      told = fits.told;
-      own = fits.own;
-      knows_own = fits.knows_own;
-      acts = fits.acts;
-      sized = fits.sized;
-    } in
     let rests
-    = replaced shape state id view next kept at refl (inl refl) refl heard (kept.told_of id view at) own_fits
-    (kept.maker id view at) (kept.pasts id view at) (kept.told_pasts id view at) in (
+    = counts_on shape state id view kept at next.steps next.marks.loads next.heard next.loaded_ahead heard in (
       next,
       keeps,
       tt,

@@ -36,10 +36,11 @@ waited_token : (mid new : MapSeat) (steps : ℕ) → new.table_id ≡ mid.table_
     → token new ≡ with_steps steps (token mid)
 waited_token mid new steps same waits = λ j. caller_of (same j) (waits j)
 
--- both began and ended that many steps later
-grows_later : (steps made : ℕ) (old mid : Caller) (entries : List Entry) → Grows made entries old mid
-    → Grows made entries (with_steps steps old) (with_steps steps mid)
-grows_later steps made old mid entries grows = record {
+-- the same growth between tokens that counted otherwise
+grows_counted : {made : ℕ} {entries : List Entry} {old new : Caller} → Grows made entries old new
+    → (sum before after : ℕ) → after ≡ before + sum
+    → Grows sum entries (record old { steps = before }) (record new { steps = after })
+grows_counted grows sum before after count = record {
   table = grows.table;
   number = grows.number;
   between = grows.between;
@@ -48,27 +49,22 @@ grows_later steps made old mid entries grows = record {
   legal = grows.legal;
   own = grows.own;
   callers = grows.callers;
-  steps_made = omega (arith, grows.steps_made);
+  steps_made = count;
   pasts = grows.pasts;
   loaded_ahead = grows.loaded_ahead;
 }
 
+-- both began and ended that many steps later
+grows_later : (steps made : ℕ) (old mid : Caller) (entries : List Entry) → Grows made entries old mid
+    → Grows made entries (with_steps steps old) (with_steps steps mid)
+grows_later steps made old mid entries grows =
+    grows_counted grows made (old.steps + steps) (mid.steps + steps) (omega (arith, grows.steps_made))
+
 -- the steps are its own
 pub grows_with : (steps made sum : ℕ) (old : Caller) (entries : List Entry) (new : Caller) → sum ≡ made + steps
     → Grows made entries (with_steps steps old) new → Grows sum entries old new
-grows_with steps made sum old entries new is grows = record {
-  table = grows.table;
-  number = grows.number;
-  between = grows.between;
-  seen = grows.seen;
-  mine = grows.mine;
-  legal = grows.legal;
-  own = grows.own;
-  callers = grows.callers;
-  steps_made = omega (arith, grows.steps_made);
-  pasts = grows.pasts;
-  loaded_ahead = grows.loaded_ahead;
-}
+grows_with steps made sum old entries new is grows =
+    grows_counted grows sum old.steps new.steps (omega (arith, grows.steps_made))
 
 writes_later : (table : Table) (desk : Desk) (mid new : MapSeat) (steps : ℕ) → new.table_id ≡ mid.table_id
     → new.me.0 ≡ waited steps mid.me.0 → WritesAt table desk mid → WritesAt table desk new
@@ -157,19 +153,9 @@ set_later {table = table} {made = made} {before = before} {mid = mid} steps set 
         knows = record { legal = settles.knows.legal; own = settles.knows.own; callers = settles.knows.callers };
         polls = settles.polls;
       };
-      grows = record {
-        table = grows.table;
-        number = grows.number;
-        between = grows.between;
-        seen = grows.seen;
-        mine = grows.mine;
-        legal = grows.legal;
-        own = grows.own;
-        callers = grows.callers;
-        steps_made = omega (arith, grows.steps_made);
-        pasts = grows.pasts;
-        loaded_ahead = grows.loaded_ahead;
-      };
+      grows =
+          grows_counted grows (made + steps) (token before).steps ((token mid).steps + steps)
+          (omega (arith, grows.steps_made));
       marks = set.marks;
       heard = set.heard;
     }

@@ -1,6 +1,7 @@
 -- A whole scan, word by word, as the writer's seat makes it: in a search, and between two calls.
-use Rattle.std.proofs.Common.{◌≡◌, ℕ, suc, ◌+◌, ◌<◌, ◌≤◌, List, [], ◌∷◌, Bool, true, false, length, get_or, refl, sym}
-use Rattle.std.proofs.Common.{ap, ◌∙◌, subst, arith}
+use Rattle.std.proofs.lemmas.Bool.{false≢true}
+use Rattle.std.proofs.Common.{◌≡◌, ℕ, suc, ◌+◌, ◌<◌, ◌≤◌, List, [], ◌∷◌, Bool, length, get_or, refl, sym, ap, ◌∙◌}
+use Rattle.std.proofs.Common.{subst, arith}
 use mathlib.Core.Logic.{dite}
 use mathlib.Core.Option.{some, some-ne-none}
 use native.Mathlib.Decide.{ℕ_discrete}
@@ -75,7 +76,6 @@ pub scan_begins : (table : Table) (lists : SlotLists) (seat : MapSeat) (flags : 
     → NoneFlagged lists.retired flags → length flags ≡ table.shape.slots → OthersFlagged lists.retired flags
     → ScanGoes table lists seat seat flags 0
 scan_begins table lists seat flags search none wide others =
-    let clash : true ≡ false → ⊥ = λ e. absurd (cc) in
     let view = seat.me.0 in
     let more : view.steps ≡ view.steps + 0 = omega arith in
     record {
@@ -96,7 +96,7 @@ scan_begins table lists seat flags search none wide others =
         };
         said =
             adds_none (FlaggedIn lists.retired flags) (SaidBehind view.marks.loads view.marks.loads) []
-            (λ slot flagged. clash (sym flagged.1 ∙ none slot flagged.0));
+            (λ slot flagged. false≢true (sym (none slot flagged.0) ∙ flagged.1));
       };
       wide = wide;
       others = others;
