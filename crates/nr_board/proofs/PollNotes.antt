@@ -6,7 +6,7 @@ use mathlib.Core.Option.{some, some-injective}
 use native.Mathlib.Decide.{ℕ_discrete}
 use lib.ListN.{get_elem?}
 use Rattle.nr_core.proofs.ListPlaces.{inside}
-use Rattle.nr_core.proofs.Sums.{only-is, only-same, some_term}
+use Rattle.nr_core.proofs.Sums.{got_at, only-is, only-same, some_term}
 use Rattle.nr_core.specs.Roles.{retirements}
 use Rattle.nr_core.specs.Sums.{only}
 use Rattle.nr_core.specs.States.{no_retired}
@@ -14,9 +14,7 @@ use Rattle.nr_core.specs.declared.places.Retired.{Retired}
 use Rattle.nr_board.specs.Noting.{Reached}
 
 pub at_get : (l : List Retired) (place : ℕ) → place < length l → get_elem? l place ≡ some (get_or l place no_retired)
-at_get [] place low = absurd (omega arith)
-at_get (x ∷ l) zero low = refl
-at_get (x ∷ l) (suc place) low = at_get l place (omega arith)
+at_get l place low = got_at l place no_retired low
 
 -- what is in the list is retired
 pub is_retired : (retired : List Retired) (at : ℕ) (entry : Retired) → get_elem? retired at ≡ some entry

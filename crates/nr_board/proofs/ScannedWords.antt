@@ -14,11 +14,10 @@ use Rattle.nr_core.specs.Roles.{retirements}
 use Rattle.nr_core.specs.Sums.{only, total}
 use Rattle.nr_core.specs.declared.places.Retired.{Retired}
 use Rattle.nr_core.specs.declared.roles.Desk.{Desk}
-use Rattle.nr_core.proofs.ListPlaces.{at_left}
+use Rattle.nr_core.proofs.ListPlaces.{inside, at_left}
 use Rattle.nr_core.specs.Marks.{LoggedLoad, OfWord, Past, with_scan}
 use Rattle.nr_board.proofs.Keepers.{adds_more, adds_on, at_end}
 use Rattle.nr_board.proofs.PollNotes.{is_retired}
-use Rattle.nr_board.proofs.SearchSeats.{inside_list}
 use Rattle.nr_board.proofs.WordLoads.{loads_length, words_more}
 use Rattle.nr_board.specs.Flags.{OthersFlagged}
 use Rattle.nr_board.specs.Scans.{heard_before, heard_from, heard_now}
@@ -574,4 +573,4 @@ pub none_flagged : (retired : List Retired) (before flags : List Bool) → Clear
     → NoneFlagged retired flags
 none_flagged retired before flags cleared slot waits =
     let t = some_term (λ (x : Retired). only slot x.slot) retired waits in
-    rw (sym (only-is slot t.1.slot t.3)) (cleared.clear t.0 t.1 (inside_list retired t.0 t.1 t.2) t.2)
+    rw (sym (only-is slot t.1.slot t.3)) (cleared.clear t.0 t.1 (inside retired t.0 t.1 t.2) t.2)

@@ -1,11 +1,12 @@
 use Rattle.std.proofs.Common.{ap, arith, subst, sym, ℕ, ◌<◌, ◌∙◌, ◌≡◌}
+use Rattle.nr_core.proofs.ListPlaces.{inside}
 use Rattle.nr_core.specs.Slots.{departures}
 use Rattle.nr_words.specs.declared.layout.Layout.{Layout}
 use Rattle.nr_words.specs.Places.{Departures, place_of}
 use Rattle.nr_core.specs.declared.places.Retired.{Retired}
 use Rattle.nr_core.specs.declared.shape.Shape.{Shape}
 use Rattle.nr_board.proofs.BoardPlaces.{departures_at, departures_in, stands}
-use Rattle.nr_board.proofs.SearchSeats.{has_tried_so, inside_list, there_is}
+use Rattle.nr_board.proofs.SearchSeats.{has_tried_so, there_is}
 use Rattle.nr_board.specs.Callers.{Table}
 use Rattle.nr_board.specs.Plays.{Room}
 use Rattle.nr_board.specs.SearchSeats.{TriesAt}
@@ -37,7 +38,7 @@ load-requires c =
       rw (departures_at board entry.slot low is)
           (has_tried_so shared.key.shape n seat.id seat.me search.desk search.call search.rows search.role search.place
           (ap (λ (t : Table). t.shape) search.own ∙ sym board.key_is) tries.poll entry tries.here
-          (inside_list search.desk.retired tries.poll entry tries.here)
+          (inside search.desk.retired tries.poll entry tries.here)
           (there_is search.desk.retired tries.poll entry tries.here)
           (rw (ap (λ (t : Table). t.announcers) search.own) tries.heard)),
     )
@@ -58,6 +59,6 @@ returns-clause-tries c =
     λ desk call rows poll is_desk is_at here. c.load.ensures.2 desk call rows poll is_desk is_at
     (subst (λ (s : Shape). Room s desk) (sym size)
     (subst (Room c.args.self.now.shape) (sym (ap desk_of search.role) ∙ ap desk_of is_desk) search.room))
-    (inside_list desk.retired poll entry here)
+    (inside desk.retired poll entry here)
     (is ∙ ap (λ (s : Shape). departures s entry.slot) (sym size)
     ∙ ap (λ (e : Retired). departures seat.me.0.shape e.slot) (there_is desk.retired poll entry here))
