@@ -165,22 +165,22 @@ module _ {A : Type 0} (role : A → Role) (marks : A → Marks) where
         (sweeping polls sweep) (
           refl,
           rw miss (
-                refl,
-                missed,
-                λ last.
-                    let low = p.1 in
-                    subst (NoRoom shape call desk.retired polls) (sym (ap (λ l. log ++ l) none ∙ append-nil log))
-                    (no_room_left shape words roles log id desk call core there (λ s. ap (taken s) is_at) p.2 wants.done
-                    polls
-                    (record {
-                      many = omega arith;
-                      slots = λ n e there'.
-                          let in_list = inside desk.retired n e there' in
-                          let q = before polls n (omega arith) in
-                          (q.0, q.1, sweep.slots n e q.0 (ap (λ l. get_elem? l n) same ∙ there') q.1);
-                      different = sweep.different;
-                    }) few),
-              ),
+            refl,
+            missed,
+            λ last.
+                let low = p.1 in
+                subst (NoRoom shape call desk.retired polls) (sym (ap (λ l. log ++ l) none ∙ append-nil log))
+                (no_room_left shape words roles log id desk call core there (λ s. ap (taken s) is_at) p.2 wants.done
+                polls
+                (record {
+                  many = omega arith;
+                  slots = λ n e there'.
+                      let in_list = inside desk.retired n e there' in
+                      let q = before polls n (omega arith) in
+                      (q.0, q.1, sweep.slots n e q.0 (ap (λ l. get_elem? l n) same ∙ there') q.1);
+                  different = sweep.different;
+                }) few),
+          ),
         ) in
         by_cases (λ b. same_count word entry.arrivals ≡ b → after ≡ Writer
         (cond {A = Desk × Step} b (taking_retired desk call rows poll word, Going)
