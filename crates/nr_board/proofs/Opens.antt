@@ -121,7 +121,9 @@ opens_so plan fits small = let shape = plan.shape in let view = opener plan in
       marked =
           opens_marked role_of marks_of shape (words_at_opening shape) view refl refl (none_named shape fits)
           (blank_at_opening shape);
-      pasts = λ place who there. rw (sym (only_one view place who there)) (no_places (Since role_of marks_of (view ∷ [])));
-      told_pasts = λ place who there. rw (sym (only_one view place who there)) (no_places (Since role_of marks_of (view ∷ [])));
+      pasts = λ place who there. rw (sym (only_one view place who there))
+          (no_places (Since role_of marks_of (view ∷ [])));
+      told_pasts = λ place who there. rw (sym (only_one view place who there))
+          (no_places (Since role_of marks_of (view ∷ [])));
       maker = λ j u at w. ap (λ (y : View). y.made) (sym (only_one view j u at));
     }

@@ -134,7 +134,8 @@ module _ (retired : List Retired) (flags : List Bool) (readers place first : ℕ
       ⊎ ((at : ℕ) × (entry : Retired) × (at < place) × (get_elem? retired at ≡ some entry)
       × (slot ≡ entry.slot)))).
       let is : h.0 ≡ (get_or retired place no_retired).slot = ap value (sym h.1 ∙ slot_is) in
-      ⊎_elim (λ (flagged : is_flagged flags h.0 ≡ true). false≢true (sym (sym flagged ∙ ap (is_flagged flags) is ∙ free)))
+      ⊎_elim
+      (λ (flagged : is_flagged flags h.0 ≡ true). false≢true (sym (sym flagged ∙ ap (is_flagged flags) is ∙ free)))
       (λ (p : (at : ℕ) × (entry : Retired) × (at < place) × (get_elem? retired at ≡ some entry) × (h.0 ≡ entry.slot)).
       absurd
       (let one = differ p.0 place p.1 (get_or retired place no_retired) p.3 here (sym p.4 ∙ is) in

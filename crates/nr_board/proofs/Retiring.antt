@@ -59,7 +59,8 @@ no_evict (states.Rows n rows) P is = absurd (cc)
 no_cancel : (state : KeyState) (P : Type 0) → reply.Done ≡ cancel_reply state → P
 no_cancel (states.Hole n) P is = absurd (cc)
 no_cancel (states.Asked n) P is =
-    on_test (λ (r : Reply). reply.Done ≡ r → P) (nat_lt n last_number) (λ _ done. absurd (cc)) (λ _ done. absurd (cc)) is
+    on_test (λ (r : Reply). reply.Done ≡ r → P) (nat_lt n last_number) (λ _ done. absurd (cc))
+    (λ _ done. absurd (cc)) is
 no_cancel (states.Rows n rows) P is = absurd (cc)
 
 -- the word that shows that state

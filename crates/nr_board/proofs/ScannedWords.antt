@@ -386,7 +386,8 @@ module _ (desk : Desk) (before now next : View) (flags : List Bool) (own found :
       (λ e. ap (λ (l : List Bool). total (misses l) desk.retired) (announced_none found flags e))
       (λ ne. ap (λ (l : List Bool). total (misses l) desk.retired) (announced_loud found flags (omega arith))
       ∙ misses_same desk.retired flags (found - 1) (kept_by_none ne lets)))
-      (subst (λ (b : Bool). NotesKeeper b own found (scan_base own now.marks.polls) next.marks.polls) lets told.keeper)))
+      (subst (λ (b : Bool). NotesKeeper b own found (scan_base own now.marks.polls) next.marks.polls) lets
+      told.keeper)))
 
   -- the loads so far
   many_loads : length now.marks.loads ≡ length before.marks.loads + own

@@ -100,7 +100,10 @@ puts shape words roles log core id desk there call rows slot departed index is_a
           (λ s near' from. left s (λ z. let u = unused-free slot desk.fresh (omega arith) in omega arith))
           mine.free;
       retired = retired_more shape words words' map map (held roles) (held roles') desk.retired
-          (λ s near' listed. left s (λ z. let l' : 0 < total (λ (x : Retired). only slot x.slot) desk.retired = rw (sym z) listed in omega arith)) mine.retired;
+          (λ s near' listed. left s
+          (λ z.
+          let l' : 0 < total (λ (x : Retired). only slot x.slot) desk.retired = rw (sym z) listed in
+          omega arith)) mine.retired;
       numbers = mine.numbers;
     } in
     off_keys shape words roles log core id (Writer desk) (Writer desk') w x (omega arith) there refl refl

@@ -153,7 +153,8 @@ module _ (shape : Shape) (words : List ℕ) (roles : List Role) (log : List Entr
       → Wants shape words (map_after shape log) (held roles) call rows
       → Core shape (set words place (get_or words place 0)) (set roles id (Writer (settled shape desk call rows).0))
       (log ++ ending (call_of call) (settled shape desk call rows).1)
-  settles call rows same wants = rw (settle_quiet shape words (map_after shape log) (held roles) desk call rows (call_of call))
+  settles call rows same wants =
+      rw (settle_quiet shape words (map_after shape log) (held roles) desk call rows (call_of call))
       (goes_on (settled shape desk call rows).0
       (λ s. settle_keeps shape words (map_after shape log) (held roles) desk call rows s ∙ same s)
       (settle_desk shape words (map_after shape log) (held roles) desk call rows
