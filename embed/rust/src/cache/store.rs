@@ -236,7 +236,9 @@ impl<K, V> Store<K, V> {
     ) -> PutEntry<K, V> {
         let id = entry.id;
         if self.is_too_heavy(&entry) {
-            self.invalidate(id);
+            // What is loaded for the id is outdated by now, or is younger than this, and goes on.
+            self.leaves(old, RemovalCause::Explicit);
+            self.ids.evict(id);
             return Err(entry);
         }
         let put = self.put_with(entry, old.is_none(), put);

@@ -129,11 +129,12 @@ fn one_load_is_under_way_beside_it() {
     assert_eq!((cache.try_get_with(&1, || AWAY), cache.stats().outdated), (Ok(11), 0));
 }
 
-#[test]
-fn what_is_loaded_since_it_was_old_leaves_that_load_under_way() {
+/// A cache with a load of key 1 beside its value, and with one that began once that had expired. Values of 100 are too heavy.
+fn with_two_loads() -> (Cache<u64, u64>, Request<u64, u64>, Request<u64, u64>) {
     let life = |_: &u64, value: &u64| Some(if *value == 10 { Duration::from_millis(20) } else { Duration::ZERO });
+    let weight = |_: &u64, value: &u64| if *value == 100 { 5 } else { 1 };
     let builder = Cache::builder().refresh_after(Duration::ZERO).stale_if_error(Duration::MAX).expire_after(life);
-    let cache: Cache<u64, u64> = builder.open().unwrap();
+    let cache = builder.threads(1).max_weight(4).weigher(weight).open().unwrap();
     let older = loop {
         assert!(cache.insert(1, 10));
         if let Sought::Aged(10, older) = cache.get_or_request(&1) {
@@ -143,13 +144,21 @@ fn what_is_loaded_since_it_was_old_leaves_that_load_under_way() {
     while cache.contains_key(&1) {
         thread::yield_now();
     }
-    let own = request(&cache);
+    let younger = request(&cache);
     assert!(matches!(cache.get_or_request(&1), Sought::UnderWay(_)));
-    // Its value has expired as it comes, and the younger load isn't begun again.
-    assert!(older.fill(11));
-    assert!(matches!(cache.get_or_request(&1), Sought::UnderWay(_)));
-    assert!(own.fill(12));
-    assert_eq!((cache.try_get_with(&1, || AWAY), cache.stats().outdated), (Ok(12), 0));
+    (cache, older, younger)
+}
+
+#[test]
+fn what_is_loaded_since_it_was_old_leaves_the_younger_load_under_way() {
+    for (value, is_held) in [(11, true), (100, false)] {
+        let (cache, older, younger) = with_two_loads();
+        // Its value has expired as it comes, or is too heavy, and the younger load isn't begun again.
+        assert_eq!((older.fill(value), cache.stats().refused), (is_held, u64::from(!is_held)));
+        assert!(matches!(cache.get_or_request(&1), Sought::UnderWay(_)));
+        assert!(younger.fill(12));
+        assert_eq!((cache.try_get_with(&1, || AWAY), cache.stats().outdated), (Ok(12), 0));
+    }
 }
 
 #[test]
