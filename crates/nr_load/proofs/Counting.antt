@@ -72,31 +72,12 @@ tells_evict keys by key answer low = tells_one keys _ 0 0 low refl refl refl
 -- the requests that were to be sent, as a client counts them
 send_one : (by key : ℕ) (answer : Reply)
     → one (is_sent (entry by (call.Ask key) answer)) ≡ length (sent_by (call.Ask key) answer)
-send_one by key (reply.Rows rows) = own_key key false
-send_one by key reply.Hole = own_key key false
 send_one by key (reply.Send number) = own_key key true
-send_one by key reply.Waiting = own_key key false
-send_one by key reply.Filled = own_key key false
-send_one by key reply.Done = own_key key false
-send_one by key reply.NotAsked = own_key key false
-send_one by key reply.Already = own_key key false
-send_one by key reply.Stale = own_key key false
-send_one by key reply.Dropped = own_key key false
-send_one by key reply.NoRow = own_key key false
-send_one by key reply.TooMany = own_key key false
-send_one by key reply.Evicted = own_key key false
-send_one by key reply.Cancelled = own_key key false
-send_one by key reply.Worn = own_key key false
-send_one by key reply.Nothing = own_key key false
+send_one by key answer = own_key key false
 
 send_here : (by : ℕ) (c : Call) (answer : Reply) → one (is_sent (entry by c answer)) ≡ length (sent_by c answer)
-send_here by (call.Find key) answer = refl
 send_here by (call.Ask key) answer = send_one by key answer
-send_here by (call.Fill key number rows) answer = refl
-send_here by (call.Update key batch) answer = refl
-send_here by (call.Replace key rows) answer = refl
-send_here by (call.Evict key) answer = refl
-send_here by (call.Cancel key) answer = refl
+send_here by c answer = refl
 
 pub sends_counted : (es : List Entry) → length (sent es) ≡ count_by is_sent es
 sends_counted [] = refl

@@ -1,5 +1,5 @@
 -- The asked keys, counted one by one.
-use Rattle.std.proofs.Common.{◌≡◌, ◌≤◌, ℕ, ◌+◌, List, [], ◌∷◌, length, get_or, refl, sym, ap, ◌∙◌, subst, add-one}
+use Rattle.std.proofs.Common.{◌≡◌, ◌≤◌, ℕ, ◌+◌, List, [], ◌∷◌, length, get_or, refl, sym, ap, ◌∙◌, add-one}
 use Rattle.std.proofs.Common.{arith}
 use Rattle.nr_model.specs.Histories.{Entry, after}
 use Rattle.nr_model.specs.Laws.{pending}
@@ -15,7 +15,6 @@ use Rattle.nr_board.specs.Callers.{Caller, Table, map_seen, map_at_opening}
 use Rattle.nr_board.specs.Kinds.{kind_of}
 use Rattle.nr_board.specs.Meetings.{StatesKey}
 use Rattle.nr_map.specs.Rounds.{BeginningsMeet}
-use Rattle.nr_board.specs.Rule.{StartsWith}
 use Rattle.nr_load.specs.Balance.{Stays}
 use Rattle.nr_load.specs.Gathers.{asked_one}
 
@@ -24,14 +23,12 @@ abbrev pub pending_at : Caller → ℕ → ℕ
 pending_at caller key = pending (state_of (map_seen caller) key)
 
 pub asked_small : (shown : KeyKind) → asked_one shown ≤ 1
-asked_small kind.Hole = omega arith
 asked_small kind.Asked = omega arith
-asked_small kind.Rows = omega arith
+asked_small shown = omega arith
 
 asks_pending : (shown : KeyKind) (state : KeyState) → shown ≡ kind_of state → asked_one shown ≡ pending state
 asks_pending shown (states.Hole number) is = ap asked_one is
-asks_pending shown (states.Asked number) is = ap asked_one is
-asks_pending shown (states.Rows number rows) is = ap asked_one is
+asks_pending shown state is = ap asked_one is
 
 -- one key more, where nothing was learnt since the first
 pub counts_on : BeginningsMeet → (first old new : Caller) (k asked more : ℕ) (shown : KeyKind) → Stays first old
@@ -40,7 +37,7 @@ pub counts_on : BeginningsMeet → (first old new : Caller) (k asked more : ℕ)
 counts_on meet first old new k asked more shown stays exact states is same =
     let back : old.seen ≡ first.seen
     = meet old.seen first.seen stays.seen
-    (subst (λ (l : List Entry). StartsWith l old.seen) same states.learns.seen) in
+    (rw same at states.learns.seen) in
     let table : new.table ≡ first.table = states.learns.table ∙ stays.table in
     let maps : map_seen new ≡ map_seen first
     = ap (λ (t : Table). after (map_at_opening t) new.seen) table

@@ -1,5 +1,5 @@
 -- A client's gets send no more requests than they have tries.
-use Rattle.std.proofs.Common.{ℕ, suc, zero, ◌+◌, ◌*◌, ◌<◌, ◌≤◌, List, [], ◌∷◌, ◌++◌, length, sym, ap, subst, arith}
+use Rattle.std.proofs.Common.{ℕ, suc, zero, ◌+◌, ◌*◌, ◌<◌, ◌≤◌, List, [], ◌∷◌, ◌++◌, length, ap, arith}
 use Rattle.std.proofs.Common.{Option}
 use Rattle.std.proofs.Math.Nat.{mul-suc}
 use Rattle.nr_model.specs.declared.rows.Row.{Row}
@@ -65,18 +65,15 @@ few_last : (keys key tries : ℕ) (g : Got) (missed : ℕ) (between : Hands) (be
     → (missed ≤ tries) × IsFew keys last 0
 few_last keys key tries got.Rows missed between before last new rows low few e = (
   omega (arith, few),
-  subst (λ (l : List Entry). IsFew keys l 0) (sym e.0)
-      (few_find keys between.reader.number key (reply.Rows rows) low),
+  rw e.0 (few_find keys between.reader.number key (reply.Rows rows) low),
 )
 few_last keys key tries got.GaveUp missed between before last new rows low few e = (
   omega (arith, few),
-  subst (λ (l : List Entry). IsFew keys l 0) (sym e.0)
-      (record { count = 0; low = omega arith; tells = tells_none keys }),
+  rw e.0 (record { count = 0; low = omega arith; tells = tells_none keys }),
 )
 few_last keys key tries got.Barred missed between before last new rows low few e = (
   omega (arith, few),
-  subst (λ (l : List Entry). IsFew keys l 0) (sym e.1)
-      (few_find keys between.reader.number key (reply.Rows e.0) low),
+  rw e.1 (few_find keys between.reader.number key (reply.Rows e.0) low),
 )
 
 -- of all that a caller did meanwhile

@@ -1,7 +1,7 @@
 -- In the history of a load each find finds the one row that the base has then: the writer's calls obey the base, and so
 -- each key that is filled has its row.
 use Rattle.std.proofs.Common.{◌≡◌, ◌≢◌, ℕ, zero, suc, ◌+◌, ◌<◌, ◌≤◌, ◌==◌, ◌%◌, nat_lt, Bool, true, false}
-use Rattle.std.proofs.Common.{if◌then◌else◌, cond, MatchBool, List, [], ◌∷◌, ◌++◌, length, replicate, slice_index}
+use Rattle.std.proofs.Common.{cond, MatchBool, List, [], ◌∷◌, ◌++◌, length, replicate, slice_index}
 use Rattle.std.proofs.Common.{slice_index_or, refl, sym, ap, ◌∙◌, subst, arith, eq-eqb, ⊎_elim, length-set, Option}
 use Rattle.std.proofs.Common.{None, Some, Ok}
 use Rattle.std.proofs.lemmas.Bool.{cases_eq}
@@ -17,6 +17,7 @@ use Rattle.nr_model.specs.Batches.{applied}
 use Rattle.nr_model.specs.Histories.{Entry, IsLegal, entries_of, is_done}
 use Rattle.nr_model.specs.Maps.{PartialMap, call_key, find_reply, next, reply_to, rows_or, state_after, state_of}
 use Rattle.nr_model.proofs.HistoryLemmas.{state_of-next_other, state_of-next_same}
+use Rattle.nr_core.proofs.Choices.{on_test}
 use Rattle.nr_core.specs.declared.shape.Shape.{Shape}
 use Rattle.nr_board.specs.Callers.{Table, map_at_opening}
 use Rattle.nr_board.specs.Entries.{AreCallers, IsCallers, is_reading}
@@ -25,13 +26,10 @@ use Rattle.nr_load.specs.Base.{base_deltas}
 
 -- a call of the writer is of the row that the base has
 abbrev Fits : List ℕ → Call → Type 0
-Fits base (call.Find key) = Unit {0}
-Fits base (call.Ask key) = Unit {0}
 Fits base (call.Fill key number rows) = rows ≡ row_of key (slice_index base key) ∷ []
 Fits base (call.Update key batch) = batch ≡ base_deltas key (slice_index base key)
 Fits base (call.Replace key rows) = rows ≡ row_of key (slice_index base key) ∷ []
-Fits base (call.Evict key) = Unit {0}
-Fits base (call.Cancel key) = Unit {0}
+Fits base _ = Unit {0}
 
 abbrev pub Obeys : List ℕ → List Entry → Type 0
 Obeys base [] = Unit {0}
@@ -53,12 +51,10 @@ based-append base (e ∷ es) fs = based-append (changed base e.call) es fs
 abbrev Leads : List ℕ → List Entry → List ℕ → Type 0
 Leads base es base' = Obeys base es × (based base es ≡ base')
 
-steps_lead : (by key : ℕ) (base base' : List ℕ) (batch : Option (List Delta)) (later : List Entry)
-    → StepsBase key base base' batch → later ≡ applies by key batch → Leads base later base'
-steps_lead by key base base' None later steps is =
-    subst (λ (l : List Entry). Leads base l base') (sym is) (tt, sym steps.1)
-steps_lead by key base base' (Some batch) later steps is =
-    subst (λ (l : List Entry). Leads base l base') (sym is) ((steps.1, tt), sym steps.2)
+steps_lead : (by key : ℕ) (base base' : List ℕ) (batch : Option (List Delta)) → StepsBase key base base' batch
+    → Leads base (applies by key batch) base'
+steps_lead by key base base' None steps = (tt, sym steps.1)
+steps_lead by key base base' (Some batch) steps = ((steps.1, tt), sym steps.2)
 
 changes_lead : (fourth : Bool) (by key : ℕ) (base base' : List ℕ) (later : List Entry)
     → MatchBool fourth
@@ -66,34 +62,31 @@ changes_lead : (fourth : Bool) (by key : ℕ) (base base' : List ℕ) (later : L
     × (base' ≡ base))
     ((batch : Option (List Delta)) × StepsBase key base base' batch × (later ≡ applies by key batch))
     → Leads base later base'
-changes_lead true by key base base' later is =
-    subst (λ (l : List Entry). Leads base l base') (sym is.0.1) ((tt, tt), sym is.1)
-changes_lead false by key base base' later is = steps_lead by key base base' is.0 later is.1 is.2
+changes_lead true by key base base' later is = rw is.0.1 ((tt, tt), sym is.1)
+changes_lead false by key base base' later is = rw is.2 (steps_lead by key base base' is.0 is.1)
 
 follows_lead : (by fills key : ℕ) (base : List ℕ) (done : Bool) (later : List Entry) (fills' : ℕ) (base' : List ℕ)
     → FollowsBase by key done later fills base fills' base' → Leads base later base'
 follows_lead by fills key base true later fills' base' follows =
     changes_lead (fills' % 4 == 0) by key base base' later follows.1
-follows_lead by fills key base false later fills' base' follows =
-    subst (λ (l : List Entry). Leads base l base') (sym follows.1) (tt, sym follows.2)
+follows_lead by fills key base false later fills' base' follows = rw follows.1 (tt, sym follows.2)
 
 round_leads : (by fills : ℕ) (base : List ℕ) (round : List Entry) (fills' : ℕ) (base' : List ℕ)
     → IsRound by round fills base fills' base' → Leads base round base'
 round_leads by fills base round fills' base' is =
     let rest = follows_lead by fills is.key base (is_done is.answer) is.later fills' base' is.follows in
-    subst (λ (l : List Entry). Leads base l base') (sym is.is) ((refl, rest.0), rest.1)
+    rw is.is ((refl, rest.0), rest.1)
 
 pub rounds_lead : (by keys count : ℕ) (entries : List Entry) (fills : ℕ) (base : List ℕ)
     → Rounds by keys count entries fills base → Leads (replicate keys 0) entries base
-rounds_lead by keys zero entries fills base rounds =
-    subst (λ (l : List Entry). Leads (replicate keys 0) l base) (sym rounds.0) (tt, sym rounds.2)
+rounds_lead by keys zero entries fills base rounds = rw rounds.0 (tt, sym rounds.2)
 rounds_lead by keys (suc count) entries fills base rounds =
     let before = rounds.0 in let round = rounds.3 in
     let first = rounds_lead by keys count before rounds.1 rounds.2 rounds.4 in
     let last = round_leads by rounds.1 rounds.2 round fills base rounds.5 in
-    subst (λ (l : List Entry). Leads (replicate keys 0) l base) (sym rounds.6) (
-      obeys_both (replicate keys 0) before round first.0 (subst (λ (b : List ℕ). Obeys b round) (sym first.1) last.0),
-      based-append (replicate keys 0) before round ∙ ap (λ (b : List ℕ). based b round) first.1 ∙ last.1,
+    rw (rounds.6, based-append) (
+      obeys_both (replicate keys 0) before round first.0 (rw first.1 last.0),
+      rw first.1 last.1,
     )
 
 -- a key in that state has the row of that number, if it is filled
@@ -111,70 +104,45 @@ step_applies : (bound key x : ℕ) → 1 ≤ bound
 unfolding applied
 step_applies bound key x some = grind (arith, nat_tests)
 
-either_row : (b : Bool) (key x : ℕ) (one other : KeyState) → HasRow key x one → HasRow key x other
-    → HasRow key x (if b then one else other)
-either_row true key x one other first second = first
-either_row false key x one other first second = second
-
 -- at its own key
 own : (bound : ℕ) (base : List ℕ) (c : Call) (s : KeyState) → 1 ≤ bound → call_key c < length base → Fits base c
     → HasRow (call_key c) (slice_index base (call_key c)) s
     → HasRow (call_key c) (slice_index (changed base c) (call_key c)) (state_after bound c s)
-own bound base (call.Find key) s some near fits has = has
-own bound base (call.Ask key) (Hole n) some near fits has = tt
-own bound base (call.Ask key) (Asked n) some near fits has = tt
-own bound base (call.Ask key) (Rows n rows) some near fits has = has
-own bound base (call.Fill key number set) (Hole n) some near fits has = tt
 own bound base (call.Fill key number set) (Asked n) some near fits has =
-    either_row (n == number) key (slice_index base key) (Rows n set) (Asked n) fits tt
-own bound base (call.Fill key number set) (Rows n rows) some near fits has = has
-own bound base (call.Update key batch) (Hole n) some near fits has = tt
-own bound base (call.Update key batch) (Asked n) some near fits has = tt
+    on_test (HasRow key (slice_index base key)) (n == number) {this = Rows n set} {that = Asked n} (λ _. fits) (λ _. tt)
 own bound base (call.Update key batch) (Rows n rows) some near fits has =
     let x = slice_index base key in
     let left : applied bound rows batch ≡ Ok (row_of key (x + 1) ∷ [])
     = (λ i. applied bound (has i) (fits i)) ∙ step_applies bound key x some in
     ap (λ r. rows_or r rows) left ∙ ap (λ (n : ℕ). row_of key n ∷ []) (sym (get_or-set_same base key (x + 1) 0 near))
-own bound base (call.Replace key set) (Hole n) some near fits has = tt
-own bound base (call.Replace key set) (Asked n) some near fits has = tt
 own bound base (call.Replace key set) (Rows n rows) some near fits has = fits
-own bound base (call.Evict key) (Hole n) some near fits has = tt
-own bound base (call.Evict key) (Asked n) some near fits has = tt
-own bound base (call.Evict key) (Rows n rows) some near fits has = tt
-own bound base (call.Cancel key) (Hole n) some near fits has = tt
 own bound base (call.Cancel key) (Asked n) some near fits has =
-    either_row (nat_lt n 4194303) key (slice_index base key) (Hole (n + 1)) (Asked n) tt tt
-own bound base (call.Cancel key) (Rows n rows) some near fits has = has
+    on_test (HasRow key (slice_index base key)) (nat_lt n 4194303) {this = Hole (n + 1)} {that = Asked n} (λ _. tt)
+    (λ _. tt)
+own bound base (call.Evict key) (Rows n rows) some near fits has = tt
+own bound base c (Rows n rows) some near fits has = has
+own bound base (call.Find key) (Hole n) some near fits has = tt
+own bound base c (Hole n) some near fits has = tt
+own bound base c (Asked n) some near fits has = tt
 
 changed-other : (base : List ℕ) (c : Call) (key : ℕ) → call_key c ≢ key
     → slice_index (changed base c) key ≡ slice_index base key
-changed-other base (call.Find k) key other = refl
-changed-other base (call.Ask k) key other = refl
-changed-other base (call.Fill k number set) key other = refl
 changed-other base (call.Update k batch) key other = get_or-set_other base k key _ 0 (λ same. other (sym same))
-changed-other base (call.Replace k set) key other = refl
-changed-other base (call.Evict k) key other = refl
-changed-other base (call.Cancel k) key other = refl
+changed-other base c key other = refl
 
 length-changed : (base : List ℕ) (c : Call) → length (changed base c) ≡ length base
-length-changed base (call.Find k) = refl
-length-changed base (call.Ask k) = refl
-length-changed base (call.Fill k number set) = refl
 length-changed base (call.Update k batch) = length-set base k _
-length-changed base (call.Replace k set) = refl
-length-changed base (call.Evict k) = refl
-length-changed base (call.Cancel k) = refl
+length-changed base c = refl
 
 keeps_base : (map : PartialMap) (base : List ℕ) (c : Call) → 1 ≤ map.bound → call_key c < length map.states
     → call_key c < length base → Fits base c → HasBase base map → HasBase (changed base c) (next map c)
 keeps_base map base c some within near fits has key = ⊎_elim
     (λ (same : call_key c ≡ key). subst (λ (k : ℕ). HasRow k (slice_index (changed base c) k) (state_of (next map c) k))
     same
-    (subst (HasRow (call_key c) (slice_index (changed base c) (call_key c))) (sym (state_of-next_same map c within))
+    (rw (state_of-next_same map c within)
     (own map.bound base c (state_of map (call_key c)) some near fits (has (call_key c)))))
-    (λ (other : call_key c ≢ key). subst (λ (x : ℕ). HasRow key x (state_of (next map c) key))
-    (sym (changed-other base c key other))
-    (subst (HasRow key (slice_index base key)) (sym (state_of-next_other map key c other)) (has key)))
+    (λ (other : call_key c ≢ key).
+    rw (changed-other base c key other, state_of-next_other map key c other) (has key))
     (cases_eq (call_key c) key)
 
 finds_state : (base : List ℕ) (key : ℕ) (s : KeyState) → HasRow key (slice_index base key) s
@@ -185,23 +153,14 @@ finds_state base key (Rows n rows) has = has
 
 finds_one : (base : List ℕ) (map : PartialMap) (c : Call) → HasBase base map → FindsRow base c (reply_to map c)
 finds_one base map (call.Find key) has = finds_state base key (state_of map key) (has key)
-finds_one base map (call.Ask key) has = tt
-finds_one base map (call.Fill key number set) has = tt
-finds_one base map (call.Update key batch) has = tt
-finds_one base map (call.Replace key set) has = tt
-finds_one base map (call.Evict key) has = tt
-finds_one base map (call.Cancel key) has = tt
+finds_one base map c has = tt
 
 -- the calls of readers don't concern the base
 passes : (c : Call) (es : List Entry) (base : List ℕ) → is_reading c ≡ true → Obeys base es
     → Fits base c × Obeys (changed base c) es
 passes (call.Find key) es base reads obeys = (tt, obeys)
 passes (call.Ask key) es base reads obeys = (tt, obeys)
-passes (call.Fill key number set) es base reads obeys = absurd (cc)
-passes (call.Update key batch) es base reads obeys = absurd (cc)
-passes (call.Replace key set) es base reads obeys = absurd (cc)
-passes (call.Evict key) es base reads obeys = absurd (cc)
-passes (call.Cancel key) es base reads obeys = absurd (cc)
+passes c es base reads obeys = absurd (cc)
 
 reads_on : (his : Bool) (e : Entry) (es : List Entry) (base : List ℕ) → is_reading e.call ≡ true
     → Obeys base (cond his (e ∷ es) es) → Fits base e.call × Obeys (changed base e.call) es
@@ -211,8 +170,7 @@ reads_on false e es base reads obeys = passes e.call es base reads obeys
 obeys_on : (shape : Shape) (e : Entry) (history : List Entry) (base : List ℕ) → IsCallers shape e
     → Obeys base (entries_of (e ∷ history) 0) → Fits base e.call × Obeys (changed base e.call) (entries_of history 0)
 obeys_on shape e history base caller obeys = ⊎_elim
-    (λ writes. subst (λ (his : Bool). Obeys base (cond his (e ∷ entries_of history 0) (entries_of history 0)))
-    (eq-eqb e.caller 0 writes.0) obeys)
+    (λ writes. rw (eq-eqb e.caller 0 writes.0) at obeys)
     (λ reads. reads_on (e.caller == 0) e (entries_of history 0) base reads.1 obeys)
     caller.1
 
@@ -223,7 +181,7 @@ finds_rows shape [] map base some size long has callers obeys legal = tt
 finds_rows shape (e ∷ history) map base some size long has callers obeys legal =
     let near = callers.0.0 in
     let on = obeys_on shape e history base callers.0 obeys in (
-      subst (FindsRow base e.call) (sym legal.0) (finds_one base map e.call has),
+      rw legal.0 (finds_one base map e.call has),
       finds_rows shape history (next map e.call) (changed base e.call) some
           (length-set map.states (call_key e.call) _ ∙ size) (length-changed base e.call ∙ long)
           (keeps_base map base e.call some (omega (arith, near, size)) (omega (arith, near, long)) on.0 has) callers.1

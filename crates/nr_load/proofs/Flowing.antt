@@ -1,7 +1,6 @@
 -- Each turn of a load's dataflow is one round of its base, or none, and its trigger is the one that was filled.
 use Rattle.std.proofs.Common.{◌≡◌, ◌≢◌, ◌==◌, ◌%◌, ◌<◌, ℕ, ◌+◌, Bool, true, false, MatchBool, List, [], ◌∷◌, ◌++◌}
-use Rattle.std.proofs.Common.{length, refl, sym, ap, ◌∙◌, subst, arith, append-nil, Option, None, Some, Result, Ok, Err}
-use Rattle.nr_model.specs.declared.rows.Row.{Row}
+use Rattle.std.proofs.Common.{length, refl, sym, ap, ◌∙◌, arith, append-nil, Option, None, Some, Result, Ok, Err}
 use Rattle.nr_model.specs.declared.batches.Delta.{Delta}
 use Rattle.nr_model.specs.declared.calls.Call.TheVariants as call
 use Rattle.nr_model.specs.declared.calls.Reply.{Reply}
@@ -19,19 +18,20 @@ use Rattle.nr_board.specs.Callers.{Caller, Table}
 use Rattle.nr_board.specs.WriterAnswers.{EvictsKey, UpdatesKey}
 use Rattle.nr_trigger.specs.declared.post.Post.{Post}
 use Rattle.nr_trigger.specs.declared.post.Upquery.{Upquery}
-use Rattle.nr_trigger.specs.Tokens.{TakerSeen}
 use Rattle.nr_serve.specs.declared.try_turns.TryTurn.TheVariants as turn
 use Rattle.nr_serve.specs.Flows.{FlowSeen}
 use Rattle.nr_serve.specs.Hands.{capped}
 use Rattle.nr_serve.specs.Ends.{IsPast}
 use Rattle.nr_serve.specs.Sources.{FailsNever}
 use Rattle.nr_serve.specs.Turns.{FindsNone, Spends, SpendsOne, TurnsOrFails, kept_posts}
+use Rattle.nr_load.specs.declared.flow.Turned.{Turned}
 use Rattle.nr_load.specs.declared.flow.Turned.TheVariants as turned
-use Rattle.nr_load.specs.Base.{Changes, FollowsBase, GivesRow, IsRound, StepsBase, applies}
-use Rattle.nr_load.specs.Flowed.{Changed, RefusesUpdate, TurnsOnce}
+use Rattle.nr_load.specs.Base.{FollowsBase, GivesRow, IsRound, StepsBase, applies}
+use Rattle.nr_load.specs.Flowed.{Changed, IsTurn, TurnsOnce}
 use Rattle.nr_load.specs.Gained.{Gained}
 use Rattle.nr_load.specs.UnderWay.{upqueries_in, upqueries_of}
-use Rattle.nr_load.proofs.Gaining.{evicts_gain, gained_none, gained_of, gained_then, turns_gain, updates_gain}
+use Rattle.nr_load.proofs.Counting.{tells_evict, tells_update}
+use Rattle.nr_load.proofs.Gaining.{gained_as, gained_none, gained_then, grown, turns_gain}
 
 -- a change whose writer gained just these entries
 abbrev pub GainsChange : ℕ → Caller → Caller → Result (Unit {0}) UpdateFault → (fills key : ℕ) → List ℕ → List ℕ
@@ -39,27 +39,24 @@ abbrev pub GainsChange : ℕ → Caller → Caller → Result (Unit {0}) UpdateF
 GainsChange keys a b answer fills key base base' =
     (gained : Gained keys a b 0 0) × Changed a.number fills key gained.entries base base' answer
 
-is_changed : (fourth : Bool) (is : Bool) (A B : Type 0) → is ≡ fourth → MatchBool fourth A B → MatchBool is A B
-is_changed fourth is A B same which = subst (λ (b : Bool). MatchBool b A B) (sym same) which
-
 pub change_evicts : (keys fills key : ℕ) (a b : Caller) (base base' : List ℕ) (answer : Evict) (done : Unit {0})
     → key < keys
     → (fills % 4 == 0) ≡ true → base' ≡ base → EvictsKey key a b answer
     → GainsChange keys a b (Ok done) fills key base base'
 change_evicts keys fills key a b base base' evict.Evicted done low fourth same evicts = (
-  evicts_gain keys key a b evict.Evicted low evicts,
-  is_changed true (fills % 4 == 0) _ _ fourth ((reply.Evicted, refl), same),
+  grown 2 keys a b _ 0 0 evicts.0 (tells_evict keys a.number key _ low),
+  rw fourth ((reply.Evicted, refl), same),
 )
 change_evicts keys fills key a b base base' evict.Nothing done low fourth same evicts = (
-  evicts_gain keys key a b evict.Nothing low evicts,
-  is_changed true (fills % 4 == 0) _ _ fourth ((reply.Nothing, refl), same),
+  grown 1 keys a b _ 0 0 evicts.0 (tells_evict keys a.number key _ low),
+  rw fourth ((reply.Nothing, refl), same),
 )
 
 pub change_stays : (keys fills key : ℕ) (a b : Caller) (base base' : List ℕ) (done : Unit {0})
     → (fills % 4 == 0) ≡ false → b ≡ a → StepsBase key base base' None
     → GainsChange keys a b (Ok done) fills key base base'
 change_stays keys fills key a b base base' done other same steps =
-    (gained_none keys a b same, is_changed false (fills % 4 == 0) _ _ other (None, steps, refl))
+    (gained_none keys a b same, rw other (None, steps, refl))
 
 pub change_updates : (keys bound fills key : ℕ) (a b : Caller) (base base' : List ℕ) (batch : List Delta)
     (answer : Result (Unit {0}) UpdateFault)
@@ -67,50 +64,43 @@ pub change_updates : (keys bound fills key : ℕ) (a b : Caller) (base base' : L
     → UpdatesKey bound key batch a b answer
     → ((counts : NoSlot) → answer ≢ Err (update.NoSlot counts)) → GainsChange keys a b answer fills key base base'
 change_updates keys bound fills key a b base base' batch (Ok done) low other steps updates finds = (
-  updates_gain keys bound key batch a b (Ok done) low updates,
-  is_changed false (fills % 4 == 0) _ _ other (Some batch, steps, refl),
+  grown _ keys a b _ 0 0 updates.3.gains (tells_update keys a.number key batch _ low),
+  rw other (Some batch, steps, refl),
 )
 change_updates keys bound fills key a b base base' batch (Err update.Dropped) low other steps updates finds = (
-  updates_gain keys bound key batch a b (Err update.Dropped) low updates,
+  grown _ keys a b _ 0 0 updates.0 (tells_update keys a.number key batch _ low),
   (key, batch, reply.Dropped, refl, λ same. absurd (cc)),
 )
 change_updates keys bound fills key a b base base' batch (Err update.NoRow) low other steps updates finds = (
-  updates_gain keys bound key batch a b (Err update.NoRow) low updates,
+  grown _ keys a b _ 0 0 updates.2 (tells_update keys a.number key batch _ low),
   (key, batch, reply.NoRow, refl, λ same. absurd (cc)),
 )
 change_updates keys bound fills key a b base base' batch (Err update.TooMany) low other steps updates finds = (
-  updates_gain keys bound key batch a b (Err update.TooMany) low updates,
+  grown _ keys a b _ 0 0 updates.2 (tells_update keys a.number key batch _ low),
   (key, batch, reply.TooMany, refl, λ same. absurd (cc)),
 )
 change_updates keys bound fills key a b base base' batch (Err (update.NoSlot counts)) low other steps updates finds =
     absurd (finds counts refl)
 
--- a turn with a trigger that needed no fill
-passed_by : (old new : FlowSeen (List ℕ)) (key fills : ℕ) (answer : Result (Unit {0}) FillFault) (told : Reply)
-    → length old.source ≡ old.map.shape.keys → is_done told ≡ false → (spends : SpendsOne GivesRow key old new answer)
+-- a trigger that was spent is a round, with whatever follows its fill
+spent_round : (old mid new : FlowSeen (List ℕ)) (key fills fills' : ℕ) (answer : Result (Unit {0}) FillFault)
+    (told : Reply) (later : List Entry)
+    → length old.source ≡ old.map.shape.keys → (spends : SpendsOne GivesRow key old mid answer)
+    → FollowsBase old.writer.number spends.post.upquery.key (is_done told) later fills old.source fills' new.source
     → IsRound old.writer.number
     (entry old.writer.number (call.Fill spends.post.upquery.key spends.post.upquery.number spends.answers.rows) told
-    ∷ [])
-    fills old.source fills new.source
-passed_by old new key fills answer told long not_done spends =
+    ∷ later)
+    fills old.source fills' new.source
+spent_round old mid new key fills fills' answer told later long spends follows =
     let near : spends.post.upquery.key < length old.source = omega (arith, spends.near, spends.key_is, long) in
     record {
       key = spends.post.upquery.key;
       near = near;
       number = spends.post.upquery.number;
       answer = told;
-      later = [];
-      is =
-          ap
-          (λ (rows : List Row). entry old.writer.number
-          (call.Fill spends.post.upquery.key spends.post.upquery.number rows) told
-          ∷ [])
-          (spends.answers.gave.1 near);
-      follows =
-          subst
-          (λ (done : Bool). FollowsBase old.writer.number spends.post.upquery.key done
-          [] fills old.source fills new.source)
-          (sym not_done) (refl, refl, spends.answers.gave.0);
+      later = later;
+      is = rw (spends.answers.gave.1 near);
+      follows = follows;
     }
 
 passed_round : (old new : FlowSeen (List ℕ)) (key fills : ℕ) (fault : FillFault)
@@ -119,21 +109,19 @@ passed_round : (old new : FlowSeen (List ℕ)) (key fills : ℕ) (fault : FillFa
     → IsRound old.writer.number (turns_gain GivesRow old new (turn.Passed key) (fault, past, spends)).entries fills
     old.source fills new.source
 passed_round old new key fills fill.NotAsked long past spends =
-    passed_by old new key fills (Err fill.NotAsked) reply.NotAsked long refl spends
+    spent_round old new new key fills fills _ reply.NotAsked [] long spends (refl, refl, spends.answers.gave.0)
 passed_round old new key fills fill.Already long past spends =
-    passed_by old new key fills (Err fill.Already) reply.Already long refl spends
+    spent_round old new new key fills fills _ reply.Already [] long spends (refl, refl, spends.answers.gave.0)
 passed_round old new key fills fill.Stale long past spends =
-    passed_by old new key fills (Err fill.Stale) reply.Stale long refl spends
+    spent_round old new new key fills fills _ reply.Stale [] long spends (refl, refl, spends.answers.gave.0)
 passed_round old new key fills (fill.NoSlot counts) long past spends = absurd past
 
 passed_fits : (old new : FlowSeen (List ℕ)) (key : ℕ) (fault : FillFault) (past : IsPast fault)
     (spends : SpendsOne GivesRow key old new (Err fault))
     → upqueries_of (spends.post ∷ [])
     ≡ upqueries_in (turns_gain GivesRow old new (turn.Passed key) (fault, past, spends)).entries
-passed_fits old new key fill.NotAsked past spends = refl
-passed_fits old new key fill.Already past spends = refl
-passed_fits old new key fill.Stale past spends = refl
 passed_fits old new key (fill.NoSlot counts) past spends = absurd past
+passed_fits old new key fault past spends = refl
 
 pub turn_passes : (old new : FlowSeen (List ℕ)) (key fills : ℕ) → length old.source ≡ old.map.shape.keys
     → fills ≡ capped fills → TurnsOrFails GivesRow FailsNever old new (turn.Passed key)
@@ -153,18 +141,12 @@ turn_passes old new key fills long small turns = record {
 -- nothing was taken
 spends_none : (old new : FlowSeen (List ℕ)) → FindsNone old new → Spends [] old.taker old.kept new.taker None
 spends_none old new finds =
-    let taker = ap (λ (flow : FlowSeen (List ℕ)). flow.taker) finds.2 in
-    record {
-      same = record {
-        queue = ap (λ (t : TakerSeen). t.queue) taker;
-        keys = ap (λ (t : TakerSeen). t.keys) taker;
-        map = ap (λ (t : TakerSeen). t.map) taker;
-        made = ap (λ (t : TakerSeen). t.made) taker;
-      };
+    rw finds.2 (record {
+      same = record { queue = refl; keys = refl; map = refl; made = refl };
       gain = [];
-      taken = ap (λ (t : TakerSeen). t.taken) taker ∙ sym (append-nil old.taker.taken);
+      taken = sym (append-nil old.taker.taken);
       all = ap (λ (kept : Option Post). kept_posts kept ++ []) finds.0;
-    }
+    })
 
 pub turn_idles : (old new : FlowSeen (List ℕ)) (fills : ℕ) → fills ≡ capped fills
     → TurnsOrFails GivesRow FailsNever old new turn.Idle → TurnsOnce old fills new fills turned.Idle
@@ -207,40 +189,8 @@ module _ (old mid new : FlowSeen (List ℕ)) (key fills fills' : ℕ) (long : le
       → GainsChange mid.map.shape.keys mid.writer new.writer answer fills' key mid.source new.source
       → Gained old.map.shape.keys old.writer new.writer 0 1
   with_change answer change = gained_then old.map.shape.keys old.writer mid.writer new.writer 0 1 0 0 filled
-      (gained_of mid.map.shape.keys old.map.shape.keys mid.writer new.writer new.writer 0 0
-      (ap (λ (t : Table). t.shape.keys) map) refl change.0)
-
-  filled_round : (later : List Entry) → Changes mid.writer.number fills' key later mid.source new.source
-      → IsRound old.writer.number
-      (entry old.writer.number (call.Fill spends.post.upquery.key spends.post.upquery.number spends.answers.rows)
-      reply.Done
-      ∷ later)
-      fills old.source fills' new.source
-  filled_round later changes =
-      let near : spends.post.upquery.key < length old.source = omega (arith, spends.near, spends.key_is, long) in
-      record {
-        key = spends.post.upquery.key;
-        near = near;
-        number = spends.post.upquery.number;
-        answer = reply.Done;
-        later = later;
-        is =
-            ap
-            (λ (rows : List Row). entry old.writer.number
-            (call.Fill spends.post.upquery.key spends.post.upquery.number rows) reply.Done
-            ∷ later)
-            (spends.answers.gave.1 near);
-        follows = (
-          counted,
-          subst (λ (by : ℕ). Changes by fills' spends.post.upquery.key later old.source new.source) filled.number
-              (subst (λ (k : ℕ). Changes mid.writer.number fills' k later old.source new.source) (sym spends.key_is)
-              (subst (λ (base : List ℕ). Changes mid.writer.number fills' key later base new.source)
-              spends.answers.gave.0 changes)),
-        );
-      }
-
-  spent_one : Spends (spends.post ∷ []) old.taker old.kept new.taker None
-  spent_one = subst (λ (t : TakerSeen). Spends (spends.post ∷ []) old.taker old.kept t None) (sym kept.0) spends.spends
+      (gained_as mid.map.shape.keys old.map.shape.keys mid.writer mid.writer new.writer
+      new.writer 0 0 (ap (λ (t : Table). t.shape.keys) map) refl refl change.0)
 
   one_fits : (answer : Result (Unit {0}) UpdateFault)
       (change : GainsChange mid.map.shape.keys mid.writer new.writer answer fills' key mid.source new.source)
@@ -249,32 +199,33 @@ module _ (old mid new : FlowSeen (List ℕ)) (key fills fills' : ℕ) (long : le
       ap (λ (l : List Upquery). spends.post.upquery ∷ l)
       (sym (change_unanswered answer mid.writer.number fills' key mid.source new.source change.0.entries change.1))
 
+  spent_one : (answer : Result (Unit {0}) UpdateFault)
+      (change : GainsChange mid.map.shape.keys mid.writer new.writer answer fills' key mid.source new.source)
+      (what : Turned)
+      → IsTurn old.writer.number (with_change answer change).entries fills old.source fills' new.source what
+      → TurnsOnce old fills new fills' what
+  spent_one answer change what turn = record {
+    count = 1;
+    gained = with_change answer change;
+    fills_are = counted;
+    turn = turn;
+    spent = spends.post ∷ [];
+    one = omega arith;
+    spends = rw kept.0 spends.spends;
+    fits = one_fits answer change;
+    none = kept.1 ∙ spends.none;
+  }
+
   pub turn_fills : (done : Unit {0})
       → GainsChange mid.map.shape.keys mid.writer new.writer (Ok done) fills' key mid.source new.source
       → TurnsOnce old fills new fills' turned.Went
-  turn_fills done change = record {
-    count = 1;
-    gained = with_change (Ok done) change;
-    fills_are = counted;
-    turn = filled_round change.0.entries change.1;
-    spent = spends.post ∷ [];
-    one = omega arith;
-    spends = spent_one;
-    fits = one_fits (Ok done) change;
-    none = kept.1 ∙ spends.none;
-  }
+  turn_fills done change =
+      spent_one (Ok done) change turned.Went
+      (spent_round old mid new key fills fills' (Ok tt) reply.Done change.0.entries long spends
+      (counted, rw (filled.number, ← spends.key_is, spends.answers.gave.0) at change.1))
 
   pub turn_is_refused : (fault : UpdateFault)
       → GainsChange mid.map.shape.keys mid.writer new.writer (Err fault) fills' key mid.source new.source
       → TurnsOnce old fills new fills' turned.Wrong
-  turn_is_refused fault change = record {
-    count = 1;
-    gained = with_change (Err fault) change;
-    fills_are = counted;
-    turn = (_, change.0.entries, refl, subst (λ (by : ℕ). RefusesUpdate by change.0.entries) filled.number change.1);
-    spent = spends.post ∷ [];
-    one = omega arith;
-    spends = spent_one;
-    fits = one_fits (Err fault) change;
-    none = kept.1 ∙ spends.none;
-  }
+  turn_is_refused fault change =
+      spent_one (Err fault) change turned.Wrong (_, change.0.entries, refl, rw filled.number at change.1)

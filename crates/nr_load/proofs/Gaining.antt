@@ -1,16 +1,11 @@
 -- What each call of the dataflow adds to the writer's calls.
-use Rattle.std.proofs.Common.{◌≡◌, ℕ, ◌+◌, ◌<◌, List, [], ◌++◌, sym, ap, ◌∙◌, subst, append_assoc, append-nil, Result}
+use Rattle.std.proofs.Common.{◌≡◌, ℕ, ◌+◌, ◌<◌, List, [], ◌++◌, sym, ap, ◌∙◌, append_assoc, append-nil, Result}
 use Rattle.std.proofs.Common.{Ok, Err}
 use Rattle.nr_model.specs.declared.rows.Row.{Row}
-use Rattle.nr_model.specs.declared.batches.Delta.{Delta}
 use Rattle.nr_model.specs.Histories.{Entry}
-use Rattle.nr_board.specs.declared.answers.Evict.{Evict}
-use Rattle.nr_board.specs.declared.answers.Evict.TheVariants as evict
 use Rattle.nr_board.specs.declared.answers.FillFault.{FillFault}
 use Rattle.nr_board.specs.declared.answers.FillFault.TheVariants as fill
-use Rattle.nr_board.specs.declared.answers.UpdateFault.{UpdateFault}
-use Rattle.nr_board.specs.declared.answers.UpdateFault.TheVariants as update
-use Rattle.nr_board.specs.WriterAnswers.{EvictsKey, FillsKey, UpdatesKey}
+use Rattle.nr_board.specs.WriterAnswers.{FillsKey}
 use Rattle.nr_board.specs.Callers.{Caller, Grows}
 use Rattle.nr_serve.specs.declared.try_turns.TryTurn.{TryTurn}
 use Rattle.nr_serve.specs.declared.try_turns.TryTurn.TheVariants as turn
@@ -18,7 +13,7 @@ use Rattle.nr_serve.specs.Flows.{FlowSeen}
 use Rattle.nr_serve.specs.Ends.{IsPast}
 use Rattle.nr_serve.specs.Turns.{SpendsOne, TurnsOrFails}
 use Rattle.nr_load.specs.Gained.{Gained, Tells}
-use Rattle.nr_load.proofs.Counting.{tells_both, tells_evict, tells_fill, tells_none, tells_update}
+use Rattle.nr_load.proofs.Counting.{tells_both, tells_fill, tells_none}
 
 abbrev pub gained_none : (keys : ℕ) (a b : Caller) → b ≡ a → Gained keys a b 0 0
 gained_none keys a b same = record {
@@ -39,61 +34,25 @@ gained_then keys a b c s f t g one two = record {
   tells = tells_both keys one.entries two.entries s f t g one.tells two.tells;
 }
 
--- the same of an equal number of keys, and to an equal caller
-abbrev pub gained_of : (keys keys' : ℕ) (a b b' : Caller) (s f : ℕ) → keys ≡ keys' → b' ≡ b → Gained keys a b s f
-    → Gained keys' a b' s f
-gained_of keys keys' a b b' s f same is gained = record {
-  table = ap (λ (c : Caller). c.table) is ∙ gained.table;
-  number = ap (λ (c : Caller). c.number) is ∙ gained.number;
+-- the same of an equal number of keys, from an equal caller to an equal caller
+abbrev pub gained_as : (keys keys' : ℕ) (a a' b b' : Caller) (s f : ℕ) → keys ≡ keys' → a ≡ a' → b' ≡ b
+    → Gained keys a b s f → Gained keys' a' b' s f
+gained_as keys keys' a a' b b' s f same from to gained = record {
+  table = ap (λ (c : Caller). c.table) to ∙ gained.table ∙ ap (λ (c : Caller). c.table) from;
+  number = ap (λ (c : Caller). c.number) to ∙ gained.number ∙ ap (λ (c : Caller). c.number) from;
   entries = gained.entries;
-  mine = ap (λ (c : Caller). c.mine) is ∙ gained.mine;
-  tells = subst (λ (n : ℕ). Tells n gained.entries s f) same gained.tells;
+  mine = ap (λ (c : Caller). c.mine) to ∙ gained.mine ∙ ap (λ (c : Caller). c.mine ++ gained.entries) from;
+  tells = rw (← same) gained.tells;
 }
 
--- and from an equal caller
-abbrev pub gained_from : (keys keys' : ℕ) (a a' b : Caller) (s f : ℕ) → keys ≡ keys' → a ≡ a' → Gained keys a b s f
-    → Gained keys' a' b s f
-gained_from keys keys' a a' b s f same is gained = record {
-  table = gained.table ∙ ap (λ (c : Caller). c.table) is;
-  number = gained.number ∙ ap (λ (c : Caller). c.number) is;
-  entries = gained.entries;
-  mine = gained.mine ∙ ap (λ (c : Caller). c.mine ++ gained.entries) is;
-  tells = subst (λ (n : ℕ). Tells n gained.entries s f) same gained.tells;
-}
-
-abbrev grown : (steps keys : ℕ) (a b : Caller) (entries : List Entry) (s f : ℕ) → Grows steps entries a b
+abbrev pub grown : (steps keys : ℕ) (a b : Caller) (entries : List Entry) (s f : ℕ) → Grows steps entries a b
     → Tells keys entries s f → Gained keys a b s f
 grown steps keys a b entries s f grows tells =
     record { table = grows.table; number = grows.number; entries = entries; mine = grows.mine; tells = tells }
 
-abbrev pub evicts_gain : (keys key : ℕ) (a b : Caller) (answer : Evict) → key < keys → EvictsKey key a b answer
-    → Gained keys a b 0 0
-evicts_gain keys key a b evict.Evicted low evicts =
-    grown 2 keys a b _ 0 0 evicts.0 (tells_evict keys a.number key _ low)
-evicts_gain keys key a b evict.Nothing low evicts =
-    grown 1 keys a b _ 0 0 evicts.0 (tells_evict keys a.number key _ low)
-
-abbrev pub updates_gain : (keys bound key : ℕ) (batch : List Delta) (a b : Caller)
-    (answer : Result (Unit {0}) UpdateFault)
-    → key < keys → UpdatesKey bound key batch a b answer → Gained keys a b 0 0
-updates_gain keys bound key batch a b (Ok done) low updates =
-    grown _ keys a b _ 0 0 updates.3.gains (tells_update keys a.number key batch _ low)
-updates_gain keys bound key batch a b (Err update.Dropped) low updates =
-    grown _ keys a b _ 0 0 updates.0 (tells_update keys a.number key batch _ low)
-updates_gain keys bound key batch a b (Err update.NoRow) low updates =
-    grown _ keys a b _ 0 0 updates.2 (tells_update keys a.number key batch _ low)
-updates_gain keys bound key batch a b (Err update.TooMany) low updates =
-    grown _ keys a b _ 0 0 updates.2 (tells_update keys a.number key batch _ low)
-updates_gain keys bound key batch a b (Err (update.NoSlot counts)) low updates =
-    grown _ keys a b [] 0 0 updates.3.grows (tells_none keys)
-
 abbrev pub fills_of : TryTurn → ℕ
-fills_of turn.Idle = 0
 fills_of (turn.Filled key) = 1
-fills_of (turn.Passed key) = 0
-fills_of (turn.Failed key) = 0
-fills_of (turn.Kept counts) = 0
-fills_of (turn.Worn key) = 0
+fills_of answer = 0
 
 abbrev passes : (keys key number : ℕ) (rows : List Row) (a b : Caller) (fault : FillFault) → IsPast fault → key < keys
     → FillsKey key number rows a b (Err fault) → Gained keys a b 0 0
@@ -109,7 +68,7 @@ module _ {S : Type 0} (gives : S → (key bound : ℕ) → List Row → S → Ty
   pub near_post : (old new : FlowSeen S) (key : ℕ) (answer : Result (Unit {0}) FillFault)
       (spends : SpendsOne gives key old new answer)
       → spends.post.upquery.key < old.map.shape.keys
-  near_post old new key answer spends = subst (λ (k : ℕ). k < old.map.shape.keys) (sym spends.key_is) spends.near
+  near_post old new key answer spends = rw spends.key_is spends.near
 
   abbrev pub turns_gain : (old new : FlowSeen S) (answer : TryTurn) → TurnsOrFails gives (λ _ _ _ _. ⊥) old new answer
       → Gained old.map.shape.keys old.writer new.writer 0 (fills_of answer)

@@ -1,10 +1,9 @@
 -- One round of gathers: each reader that is gathered hears what the writer had seen before the round.
-use Rattle.std.proofs.Common.{◌≡◌, ◌≢◌, ◌<◌, ◌≤◌, ℕ, ◌+◌, List, [], ◌++◌, length, get_or, set, refl, sym, ap, ◌∙◌}
-use Rattle.std.proofs.Common.{subst, append_assoc, below_more, arith}
-use Rattle.std.proofs.lemmas.List.{append-nil, get_or-set_same, get_or-set_other, get_or_default}
-use Rattle.nr_model.specs.Histories.{Entry, IsLegal, entries_of}
-use Rattle.nr_board.specs.Callers.{Caller, Table, map_at_opening, IsSound}
-use Rattle.nr_board.specs.Entries.{AreCallers}
+use Rattle.std.proofs.Common.{◌≡◌, ◌≢◌, ◌<◌, ◌≤◌, ℕ, ◌+◌, List, ◌++◌, length, get_or, set, ap, ◌∙◌}
+use Rattle.std.proofs.Common.{append_assoc, below_more, arith}
+use Rattle.std.proofs.lemmas.List.{get_or-set_same, get_or-set_other, get_or_default}
+use Rattle.nr_model.specs.Histories.{Entry}
+use Rattle.nr_board.specs.Callers.{Caller, IsSound}
 use Rattle.nr_board.specs.Meetings.{Gathers, Learns}
 use Rattle.nr_map.specs.Rounds.{CallsStay}
 use Rattle.nr_board.specs.Rule.{StartsWith}
@@ -17,10 +16,6 @@ starts_then a b c one two =
       rest = one.rest ++ two.rest;
       is = two.is ∙ ap (λ (l : List Entry). l ++ two.rest) one.is ∙ append_assoc a one.rest two.rest;
     }
-
-pub stays_same : (c : Caller) → Stays c c
-stays_same c =
-    record { table = refl; number = refl; mine = refl; seen = record { rest = []; is = sym (append-nil c.seen) } }
 
 pub stays_then : (a b c : Caller) → Stays a b → Stays b c → Stays a c
 stays_then a b c one two =
@@ -36,12 +31,7 @@ learns_stays steps old new l = record { table = l.table; number = l.number; mine
 
 pub learns_sound : (steps : ℕ) (old new : Caller) → Learns steps old new → IsSound new
 learns_sound steps old new l =
-    let same : old.table ≡ new.table = sym l.table in
-    record {
-      own = l.own;
-      legal = subst (λ (t : Table). IsLegal (map_at_opening t) new.seen) same l.legal;
-      callers = subst (λ (t : Table). AreCallers t.shape new.seen) same l.callers;
-    }
+    record { own = l.own; legal = rw l.table l.legal; callers = rw l.table l.callers }
 
 -- one gather of a round
 pub gathered : (log : List Entry) (w r w' r' : Caller) → Gathers w r w' r' → StartsWith w.seen log
@@ -53,9 +43,7 @@ gathered log w r w' r' g begins =
     (starts_then w.seen w'.seen r'.seen g.of_reader.learns.seen g.of_writer.seen) in
     record {
       stays = learns_stays 2 r r' learns;
-      calls =
-          subst (λ (m : List Entry). StartsWith (entries_of w'.seen r'.number) m) (sym learns.mine)
-          (subst (λ (n : ℕ). StartsWith (entries_of w'.seen n) r.mine) (sym learns.number) g.of_reader.calls);
+      calls = rw (learns.mine, learns.number) g.of_reader.calls;
       heard = (more, learns.own);
     }
 
@@ -74,11 +62,8 @@ one_more stay log w w' r r' old rs i low same item on heard done rest at other b
     below_more (λ (j : ℕ). (o : Caller) → Hears log (get_or old j o) w'.seen (get_or (set rs i r') j o)) i
     (λ j before o. let apart : j ≢ i = omega arith in
     heard_on stay log w.seen w'.seen _ _
-    (subst (λ (x : Caller). Hears log (get_or old j o) w.seen x) (sym (get_or-set_other rs i j r' o apart))
-    (done j o before))
-    on)
+    (rw (get_or-set_other rs i j r' o apart) (done j o before)) on)
     (λ o. let inside : i < length old = omega arith in
     let first : r ≡ get_or old i o = item ∙ rest i r (omega arith) ∙ get_or_default old i r o inside in
-    subst (λ (x : Caller). Hears log (get_or old i o) w'.seen x) (sym (get_or-set_same rs i r' o low))
-    (subst (λ (x : Caller). Hears log x w'.seen r') first heard))
+    rw (get_or-set_same rs i r' o low) (rw first at heard))
     at below_i other

@@ -1,5 +1,5 @@
 -- What the promises that were kept say of the tokens.
-use Rattle.std.proofs.Common.{◌≡◌, ℕ, Bool, true, not, List, [], ◌∷◌, ◌++◌, length, refl, subst, arith, Option, None}
+use Rattle.std.proofs.Common.{◌≡◌, ℕ, Bool, true, not, List, [], ◌∷◌, ◌++◌, length, refl, arith, Option, None}
 use Rattle.std.proofs.Common.{Some, is_some}
 use Rattle.std.proofs.lemmas.List.{append-nil}
 use Rattle.std.specs.declared.thread.PromisedHandle.{PromisedHandle}
@@ -9,12 +9,12 @@ use Rattle.nr_load.specs.declared.flow.Flowed.{Flowed}
 use Rattle.nr_load.specs.declared.workers.Outcome.{Outcome}
 use Rattle.nr_load.specs.declared.workers.Serving.{Serving}
 use Rattle.nr_load.specs.Flowed.{Flows}
-use Rattle.nr_load.specs.Outcomes.{CarriesFirst, KeptBy, Serves, ServesFirst}
+use Rattle.nr_load.specs.Outcomes.{CarriesFirst, KeptBy, ServesFirst}
 
 -- nothing was left to join
 pub all_joined : (handles rest : List (PromisedHandle Outcome Serving)) (outcomes : List Outcome) → length rest ≡ 0
     → ((more : List Outcome) → KeptBy rest more → KeptBy handles (outcomes ++ more)) → KeptBy handles outcomes
-all_joined handles [] outcomes e f = subst (λ (os : List Outcome). KeptBy handles os) (append-nil outcomes) (f [] tt)
+all_joined handles [] outcomes e f = rw append-nil at (f [] tt)
 all_joined handles (h ∷ rest) outcomes e f = absurd (omega (arith, e))
 
 pub none_refused : {A : Type 0} (refused : Option A) (is_whole : Bool) → is_some refused ≡ not is_whole
@@ -35,9 +35,7 @@ pub started : (seed gets : ℕ) (readers rest : List Caller) (handles : List (Pr
     → ((more : List (PromisedHandle Outcome Serving)) → CarriesFirst seed gets rest more
     → CarriesFirst seed gets readers (handles ++ more))
     → CarriesFirst seed gets readers handles
-started seed gets readers rest handles f =
-    subst (λ (hs : List (PromisedHandle Outcome Serving)). CarriesFirst seed gets readers hs) (append-nil handles)
-    (f [] tt)
+started seed gets readers rest handles f = rw append-nil at (f [] tt)
 
 pub served : (seed gets : ℕ) (readers : List Caller) (handles : List (PromisedHandle Outcome Serving))
     (outcomes : List Outcome)
@@ -47,13 +45,10 @@ served seed gets readers [] (o ∷ os) carries kept = absurd kept
 served seed gets readers (h ∷ hs) [] carries kept = absurd kept
 served seed gets [] (h ∷ hs) (o ∷ os) carries kept = absurd carries
 served seed gets (r ∷ rs) (h ∷ hs) (o ∷ os) carries kept = (
-  subst (λ (x : Caller). Serves seed gets x o) carries.0.2
-      (subst (λ (n : ℕ). Serves seed n h.promise.reader.value o) carries.0.1
-      (subst (λ (n : ℕ). Serves n h.promise.gets h.promise.reader.value o) carries.0.0 kept.0)),
+  rw (carries.0.0, carries.0.1, carries.0.2) at kept.0,
   served seed gets rs hs os carries.1 kept.1,
 )
 
 pub flows_of : (a b : Caller) (t u : TakerSeen) (flowed : Flowed) → (a ≡ b) × (t ≡ u) → Flows a t flowed
     → Flows b u flowed
-flows_of a b t u flowed same flows =
-    subst (λ (c : Caller). Flows c u flowed) same.0 (subst (λ (taker : TakerSeen). Flows a taker flowed) same.1 flows)
+flows_of a b t u flowed same flows = rw (same.0, same.1) at flows

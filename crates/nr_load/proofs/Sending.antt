@@ -1,8 +1,7 @@
 -- The requests that a client counted since its opening.
-use Rattle.std.proofs.Common.{◌≡◌, ℕ, List, length, ap, ◌∙◌}
+use Rattle.std.proofs.Common.{◌≡◌, ℕ, length, ◌∙◌}
 use Rattle.std.specs.Prelude.{drop}
 use Rattle.std.proofs.Math.Seq.{drop-append_seam}
-use Rattle.nr_model.specs.Histories.{Entry}
 use Rattle.nr_board.specs.Callers.{Caller}
 use Rattle.nr_serve.specs.Tickets.{sent}
 use Rattle.nr_load.specs.Gained.{Gained}
@@ -11,7 +10,4 @@ use Rattle.nr_load.proofs.Counting.{sends_counted}
 pub since_gained : (keys : ℕ) (a b : Caller) (s f : ℕ) → Gained keys a b s f
     → length (sent (drop (length a.mine) b.mine)) ≡ s
 since_gained keys a b s f gained =
-    ap (λ (l : List Entry). length (sent (drop (length a.mine) l))) gained.mine
-    ∙ ap (λ (l : List Entry). length (sent l)) (drop-append_seam a.mine gained.entries)
-    ∙ sends_counted gained.entries
-    ∙ gained.tells.sent
+    rw (gained.mine, drop-append_seam) (sends_counted gained.entries ∙ gained.tells.sent)

@@ -1,39 +1,23 @@
 -- What the outcomes of all readers come to.
-use Rattle.std.proofs.Common.{◌≡◌, ◌≤◌, ◌<◌, ℕ, suc, zero, ◌+◌, ◌*◌, Bool, true, false, if◌then◌else◌, List, [], ◌∷◌}
+use Rattle.std.proofs.Common.{◌≡◌, ◌≤◌, ◌<◌, ℕ, suc, zero, ◌*◌, Bool, true, false, if◌then◌else◌, List, [], ◌∷◌}
 use Rattle.std.proofs.Common.{◌++◌, length, All, map, get_or, refl, ap, ◌∙◌, arith, Option, None, Some}
-use Rattle.std.specs.List.{count_by, slice_get}
-use Rattle.std.proofs.Math.Nat.{mul-suc, mul-le-mul_left}
-use Rattle.std.proofs.lemmas.List.Elements.{All-cons, All-head, All-nil, All-tail}
-use Rattle.std.proofs.lemmas.Option.{get_or_from_slice_get}
+use Rattle.std.specs.List.{count_by}
+use Rattle.std.proofs.Math.Nat.{mul-suc}
+use Rattle.std.proofs.lemmas.List.Elements.{All-head, All-tail}
 use Rattle.nr_model.specs.Histories.{Entry}
 use Rattle.nr_core.specs.Sums.{total}
-use Rattle.nr_core.specs.Marks.{no_marks}
-use Rattle.nr_board.specs.Callers.{Caller, Table}
-use Rattle.nr_map.specs.Opened.{newcomer}
-use Rattle.nr_map.specs.Rounds.{is_cancel, is_fill, is_sent}
+use Rattle.nr_board.specs.Callers.{Caller}
 use Rattle.nr_load.specs.declared.fault.LoadFault.{LoadFault}
 use Rattle.nr_load.specs.declared.fault.LoadFault.TheVariants as faults
 use Rattle.nr_load.specs.declared.workers.Outcome.{Outcome}
 use Rattle.nr_load.specs.Ends.{first_of}
 use Rattle.nr_load.specs.Faults.{earlier}
 use Rattle.nr_load.specs.Gained.{Gained}
-use Rattle.nr_load.specs.Outcomes.{ServesFirst, answered_in, made_in, reader_of, sends_in}
+use Rattle.nr_load.specs.Outcomes.{Serves, ServesFirst, reader_of}
 
 -- a token that has made no call
 abbrev pub IsNew : Caller → Type 0
 IsNew reader = reader.mine ≡ []
-
-pub all_new : (t : Table) (rs : List Caller) (count : ℕ) → length rs ≡ count
-    → ((place : ℕ) → place < count → slice_get rs place ≡ Some (newcomer t (place + 1) no_marks)) → All IsNew rs
-all_new t rs count size new at other low =
-    ap (λ (r : Caller). r.mine) (get_or_from_slice_get rs at _ other (new at (omega (arith, size, low))))
-
-pub numbered : (t : Table) (rs : List Caller) (count : ℕ) → length rs ≡ count
-    → ((place : ℕ) → place < count → slice_get rs place ≡ Some (newcomer t (place + 1) no_marks))
-    → (at : ℕ) (other : Caller)
-    → at < length rs → (get_or rs at other).number ≡ at + 1
-numbered t rs count size new at other low =
-    ap (λ (r : Caller). r.number) (get_or_from_slice_get rs at _ other (new at (omega (arith, size, low))))
 
 -- all that a new token did is what it gained
 pub counts_gained : (test : Entry → Bool) (keys s f n : ℕ) (a b : Caller) (gained : Gained keys a b s f) → a.mine ≡ []
@@ -41,54 +25,28 @@ pub counts_gained : (test : Entry → Bool) (keys s f n : ℕ) (a b : Caller) (g
 counts_gained test keys s f n a b gained none counted =
     ap (count_by test) (gained.mine ∙ ap (λ (l : List Entry). l ++ gained.entries) none) ∙ counted
 
-pub total_sent : (seed gets : ℕ) (rs : List Caller) (os : List Outcome) → All IsNew rs → ServesFirst seed gets rs os
-    → total (λ (r : Caller). count_by is_sent r.mine) (map reader_of os) ≡ sends_in os
-total_sent seed gets rs [] new serves = refl
-total_sent seed gets [] (o ∷ os) new serves = absurd serves
-total_sent seed gets (r ∷ rs) (o ∷ os) new serves =
-    let one = serves.0.gained in
-    let first : count_by is_sent o.reader.mine ≡ o.sends
-    = counts_gained is_sent _ _ _ _ r o.reader one (All-head IsNew r rs new) one.tells.sent in
-    omega (arith, first, total_sent seed gets rs os (All-tail IsNew r rs new) serves.1)
-
-pub total_filled : (seed gets : ℕ) (rs : List Caller) (os : List Outcome) → All IsNew rs → ServesFirst seed gets rs os
-    → total (λ (r : Caller). count_by is_fill r.mine) (map reader_of os) ≡ 0
-total_filled seed gets rs [] new serves = refl
-total_filled seed gets [] (o ∷ os) new serves = absurd serves
-total_filled seed gets (r ∷ rs) (o ∷ os) new serves =
-    let one = serves.0.gained in
-    let first : count_by is_fill o.reader.mine ≡ 0
-    = counts_gained is_fill _ _ _ _ r o.reader one (All-head IsNew r rs new) one.tells.filled in
-    omega (arith, first, total_filled seed gets rs os (All-tail IsNew r rs new) serves.1)
-
-pub total_cancelled : (seed gets : ℕ) (rs : List Caller) (os : List Outcome) → All IsNew rs
-    → ServesFirst seed gets rs os → total (λ (r : Caller). count_by is_cancel r.mine) (map reader_of os) ≡ 0
-total_cancelled seed gets rs [] new serves = refl
-total_cancelled seed gets [] (o ∷ os) new serves = absurd serves
-total_cancelled seed gets (r ∷ rs) (o ∷ os) new serves =
-    let one = serves.0.gained in
-    let first : count_by is_cancel o.reader.mine ≡ 0
-    = counts_gained is_cancel _ _ _ _ r o.reader one (All-head IsNew r rs new) one.tells.cancelled in
-    omega (arith, first, total_cancelled seed gets rs os (All-tail IsNew r rs new) serves.1)
+-- and so of all new readers
+pub total_gained : (test : Entry → Bool) (told : Outcome → ℕ) (seed gets : ℕ)
+    → ((r : Caller) (o : Outcome) (serves : Serves seed gets r o) → count_by test serves.gained.entries ≡ told o)
+    → (rs : List Caller) (os : List Outcome) → All IsNew rs → ServesFirst seed gets rs os
+    → total (λ (r : Caller). count_by test r.mine) (map reader_of os) ≡ total told os
+total_gained test told seed gets each rs [] new serves = refl
+total_gained test told seed gets each [] (o ∷ os) new serves = absurd serves
+total_gained test told seed gets each (r ∷ rs) (o ∷ os) new serves =
+    let first : count_by test o.reader.mine ≡ told o
+    = counts_gained test _ _ _ _ r o.reader serves.0.gained (All-head IsNew r rs new) (each r o serves.0) in
+    omega (arith, first, total_gained test told seed gets each rs os (All-tail IsNew r rs new) serves.1)
 
 -- the readers that came back are those that were given, in their order
-pub all_own : (seed gets : ℕ) (t : Table) (rs : List Caller) (os : List Outcome) → All (λ (r : Caller). r.table ≡ t) rs
-    → ServesFirst seed gets rs os → All (λ (r : Caller). r.table ≡ t) (map reader_of os)
-all_own seed gets t rs [] own serves = All-nil (λ (r : Caller). r.table ≡ t)
-all_own seed gets t [] (o ∷ os) own serves = absurd serves
-all_own seed gets t (r ∷ rs) (o ∷ os) own serves =
-    All-cons (λ (x : Caller). x.table ≡ t) o.reader (map reader_of os)
-    (serves.0.gained.table ∙ All-head (λ (x : Caller). x.table ≡ t) r rs own)
-    (all_own seed gets t rs os (All-tail (λ (x : Caller). x.table ≡ t) r rs own) serves.1)
-
-pub same_numbers : (seed gets : ℕ) (rs : List Caller) (os : List Outcome) → ServesFirst seed gets rs os
-    → length os ≡ length rs → (at : ℕ) (other : Caller) → at < length rs
-    → (get_or (map reader_of os) at other).number ≡ (get_or rs at other).number
-same_numbers seed gets [] os serves same at other low = absurd (omega (arith, low))
-same_numbers seed gets (r ∷ rs) [] serves same at other low = absurd (omega (arith, same))
-same_numbers seed gets (r ∷ rs) (o ∷ os) serves same zero other low = serves.0.gained.number
-same_numbers seed gets (r ∷ rs) (o ∷ os) serves same (suc at) other low =
-    same_numbers seed gets rs os serves.1 (omega (arith, same)) at other (omega arith)
+pub came_back : (seed gets : ℕ) (rs : List Caller) (os : List Outcome) → ServesFirst seed gets rs os
+    → (at : ℕ) (other : Caller) → at < length os
+    → ((get_or (map reader_of os) at other).table ≡ (get_or rs at other).table)
+    × ((get_or (map reader_of os) at other).number ≡ (get_or rs at other).number)
+came_back seed gets rs [] serves at other low = absurd (omega (arith, low))
+came_back seed gets [] (o ∷ os) serves at other low = absurd serves
+came_back seed gets (r ∷ rs) (o ∷ os) serves zero other low = (serves.0.gained.table, serves.0.gained.number)
+came_back seed gets (r ∷ rs) (o ∷ os) serves (suc at) other low =
+    came_back seed gets rs os serves.1 at other (omega arith)
 
 pub served_few : (seed gets : ℕ) (rs : List Caller) (os : List Outcome) → ServesFirst seed gets rs os
     → length os ≤ length rs
@@ -96,42 +54,14 @@ served_few seed gets rs [] serves = omega arith
 served_few seed gets [] (o ∷ os) serves = absurd serves
 served_few seed gets (r ∷ rs) (o ∷ os) serves = omega (arith, served_few seed gets rs os serves.1)
 
-pub served_made : (seed gets : ℕ) (rs : List Caller) (os : List Outcome) → ServesFirst seed gets rs os
-    → made_in os ≤ gets * length rs
-served_made seed gets rs [] serves = omega arith
-served_made seed gets [] (o ∷ os) serves = absurd serves
-served_made seed gets (r ∷ rs) (o ∷ os) serves =
-    omega (arith, served_made seed gets rs os serves.1, serves.0.made, mul-suc gets (length rs))
-
-served_sends : (seed gets : ℕ) (rs : List Caller) (os : List Outcome) → ServesFirst seed gets rs os
-    → sends_in os ≤ 1000000 * gets * length rs
-served_sends seed gets rs [] serves = omega arith
-served_sends seed gets [] (o ∷ os) serves = absurd serves
-served_sends seed gets (r ∷ rs) (o ∷ os) serves =
-    omega (arith, served_sends seed gets rs os serves.1, serves.0.few, mul-suc (1000000 * gets) (length rs))
-
-pub served_answered : (seed gets : ℕ) (rs : List Caller) (os : List Outcome) → ServesFirst seed gets rs os
-    → answered_in os ≤ gets * length rs
-served_answered seed gets rs [] serves = omega arith
-served_answered seed gets [] (o ∷ os) serves = absurd serves
-served_answered seed gets (r ∷ rs) (o ∷ os) serves =
-    omega (arith, served_answered seed gets rs os serves.1, serves.0.answered, mul-suc gets (length rs))
-
--- 1,024 readers don't send more than a number can count
-pub sends_fit : (seed gets : ℕ) (rs : List Caller) (os : List Outcome) → gets < 4294967296 → length rs ≤ 1024
-    → ServesFirst seed gets rs os → sends_in os < 18446744073709551616
-sends_fit seed gets rs os low few serves =
-    omega (arith, served_sends seed gets rs os serves, mul-le-mul_left {m = length rs} {n = 1024} (1000000 * gets) few)
-
-pub gets_fit : (seed gets : ℕ) (rs : List Caller) (os : List Outcome) → gets < 4294967296 → length rs ≤ 1024
-    → ServesFirst seed gets rs os → made_in os < 18446744073709551616
-gets_fit seed gets rs os low few serves =
-    omega (arith, served_made seed gets rs os serves, mul-le-mul_left {m = length rs} {n = 1024} gets few)
-
-pub answers_fit : (seed gets : ℕ) (rs : List Caller) (os : List Outcome) → gets < 4294967296 → length rs ≤ 1024
-    → ServesFirst seed gets rs os → answered_in os < 18446744073709551616
-answers_fit seed gets rs os low few serves =
-    omega (arith, served_answered seed gets rs os serves, mul-le-mul_left {m = length rs} {n = 1024} gets few)
+-- where each outcome tells no more than that, all tell no more than as often that as there are readers
+pub served_sum : (told : Outcome → ℕ) (most seed gets : ℕ)
+    → ((r : Caller) (o : Outcome) → Serves seed gets r o → told o ≤ most) → (rs : List Caller) (os : List Outcome)
+    → ServesFirst seed gets rs os → total told os ≤ most * length rs
+served_sum told most seed gets each rs [] serves = omega arith
+served_sum told most seed gets each [] (o ∷ os) serves = absurd serves
+served_sum told most seed gets each (r ∷ rs) (o ∷ os) serves =
+    omega (arith, served_sum told most seed gets each rs os serves.1, each r o serves.0, mul-suc most (length rs))
 
 no_choice : (b : Bool) (f g : LoadFault) → (if b then Some f else Some g) ≡ None → ⊥
 no_choice true f g e = cc

@@ -1,15 +1,14 @@
 -- Two rounds with a count between them: the writer knew all calls, so the count is that of all of them.
-use Rattle.std.proofs.Common.{◌≡◌, ◌<◌, ℕ, ◌+◌, List, ◌++◌, Bool, true, length, All, get_or, refl, sym, ap, ◌∙◌, subst}
+use Rattle.std.proofs.Common.{◌≡◌, ◌<◌, ℕ, ◌+◌, List, ◌++◌, Bool, true, length, All, get_or, refl, sym, ap, ◌∙◌}
 use Rattle.std.proofs.Common.{arith, length-append, [], ◌∷◌}
 use Rattle.std.proofs.lemmas.List.{append-nil, nil_from_length}
 use Rattle.std.specs.List.{count_by}
 use Rattle.nr_model.proofs.HistoryLemmas.{count_by-cons}
-use Rattle.nr_model.specs.Histories.{Entry, entries_of}
+use Rattle.nr_model.specs.Histories.{Entry}
 use Rattle.nr_core.specs.Sums.{total}
-use Rattle.nr_board.specs.Callers.{Caller, Table, IsSound}
+use Rattle.nr_board.specs.Callers.{Caller, IsSound}
 use Rattle.nr_map.specs.Rounds.{CallsStay, EntriesAreCallers, HasCalls, HasHeard, HasJustCalls, KnowsAll, RoundsTellAll}
 use Rattle.nr_map.specs.Rounds.{SendsOfAllKeys, is_cancel, is_fill, is_sent}
-use Rattle.nr_board.specs.Rule.{StartsWith}
 use Rattle.nr_load.specs.Balance.{Balances, Stays, of_all}
 use Rattle.nr_load.specs.Gathers.{CountsAsked, GathersAll, IsInOrder, IsTally}
 use Rattle.nr_load.proofs.Gathering.{starts_then}
@@ -73,9 +72,7 @@ tallies tell entries stay w0 w1 w2 w3 rs0 rs1 rs2 asked one counted two first or
     λ at other low. (stays2 at other (omega (arith, low, size2))).number ∙ (one.each at other low).stays.number in
     let calls1 : All (HasCalls w1.seen) rs2 = λ at other low.
     let s = stays2 at other low in
-    subst (λ (m : List Entry). StartsWith (entries_of w1.seen (get_or rs2 at other).number) m) (sym s.mine)
-    (subst (λ (n : ℕ). StartsWith (entries_of w1.seen n) (get_or rs1 at other).mine) (sym s.number)
-    (one.each at other (omega (arith, low, size2))).calls) in
+    rw (s.mine, s.number) (one.each at other (omega (arith, low, size2))).calls in
     let heard2 : All (HasHeard w2.seen) rs2
     = λ at other low. (two.each at other (omega (arith, low, size1, size2))).heard in
     let heard1 : All (HasHeard w1.seen) rs2
@@ -85,9 +82,9 @@ tallies tell entries stay w0 w1 w2 w3 rs0 rs1 rs2 asked one counted two first or
     let calls2 : All (HasCalls w2.seen) rs2
     = λ at other low. stay w1.seen w2.seen (get_or rs2 at other) counted.stays.seen (calls1 at other low) in
     let order1 : IsInOrder w1.table.shape.readers rs0
-    = subst (λ (t : Table). IsInOrder t.shape.readers rs0) (sym one.stays.table) order in
+    = rw one.stays.table order in
     let order2 : IsInOrder w2.table.shape.readers rs0
-    = subst (λ (t : Table). IsInOrder t.shape.readers rs0) (sym counted.stays.table) order1 in
+    = rw counted.stays.table order1 in
     let first1 : w1.number ≡ 0 = one.stays.number ∙ first in
     let knows1 : KnowsAll w1 rs2
     = knows_all w1 rs0 rs2 first1 sound1 order1 size2 numbers (tell w1.seen rs2 calls1 heard1) in
@@ -109,6 +106,4 @@ balances sends writer readers asked told =
     let sum : of_all is_sent told.knower readers
     ≡ of_all is_fill told.knower readers + of_all is_cancel told.knower readers + asked
     = omega (arith, sends told.knower readers told.knows, told.exact) in
-    let count : (Entry → Bool) → List Entry → ℕ
-    = λ test l. count_by test l + total (λ (r : Caller). count_by test r.mine) readers in
-    subst (λ (m : List Entry). count is_sent m ≡ count is_fill m + count is_cancel m + asked) told.mine sum
+    rw told.mine at sum

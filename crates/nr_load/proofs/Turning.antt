@@ -1,7 +1,7 @@
 -- The turns of a load's dataflow, one after the other: its calls are those of a base, and its triggers are answered in
 -- order.
-use Rattle.std.proofs.Common.{◌≡◌, ◌≢◌, ℕ, suc, ◌+◌, Bool, true, false, List, [], ◌∷◌, ◌++◌, replicate, refl, sym, ap}
-use Rattle.std.proofs.Common.{◌∙◌, subst, arith, append_assoc, append-nil, Option, None, Some}
+use Rattle.std.proofs.Common.{◌≡◌, ◌≢◌, ℕ, suc, ◌+◌, List, [], ◌∷◌, ◌++◌, replicate, refl, sym, ap}
+use Rattle.std.proofs.Common.{◌∙◌, arith, append_assoc, append-nil, Option, None, Some}
 use Rattle.std.specs.Prelude.{MatchOption}
 use Rattle.nr_model.specs.Histories.{Entry}
 use Rattle.nr_board.specs.Callers.{Caller, Table}
@@ -20,7 +20,7 @@ use Rattle.nr_load.specs.Base.{Rounds}
 use Rattle.nr_load.specs.Flowed.{Flows, IsTurn, TurnsAll, TurnsOnce}
 use Rattle.nr_load.specs.Gained.{Gained}
 use Rattle.nr_load.specs.UnderWay.{Readies, UnderWaySeen, upqueries_in, upqueries_of}
-use Rattle.nr_load.proofs.Gaining.{gained_from, gained_none, gained_of, gained_then}
+use Rattle.nr_load.proofs.Gaining.{gained_as, gained_none, gained_then}
 use Rattle.nr_load.proofs.Taking.{answers-append, spent_first, upqueries-append}
 
 -- what the turns so far came to, with these triggers under way
@@ -52,10 +52,7 @@ more_rounds : (by keys turns : ℕ) (before entries : List Entry) (what : Turned
     → (more : ℕ) × Rounds by keys more (before ++ entries) fills' base'
 more_rounds by keys turns before entries turned.Idle fills fills' base base' right rounds turn = (
   turns,
-  subst (λ (l : List Entry). Rounds by keys turns l fills' base')
-      (sym (append-nil before) ∙ ap (λ (l : List Entry). before ++ l) (sym turn.0))
-      (subst (λ (n : ℕ). Rounds by keys turns before n base') (sym turn.1)
-      (subst (λ (b : List ℕ). Rounds by keys turns before fills b) (sym turn.2) rounds)),
+  rw (turn.0, append-nil, turn.1, turn.2) rounds,
 )
 more_rounds by keys turns before entries turned.Went fills fills' base base' right rounds turn =
     (suc turns, (before, fills, base, entries, rounds, turn, refl))
@@ -89,18 +86,15 @@ module _ (first old mid new : FlowSeen (List ℕ)) (before after : UnderWaySeen)
 
   abbrev with_turn : Gained first.map.shape.keys first.writer new.writer 0 (far.count + turn.count)
   with_turn = gained_then first.map.shape.keys first.writer old.writer new.writer 0 far.count 0 turn.count far.gained
-      (gained_from mid.map.shape.keys first.map.shape.keys mid.writer old.writer new.writer 0 turn.count keys
-      ready.only.writer turn.gained)
+      (gained_as mid.map.shape.keys first.map.shape.keys mid.writer old.writer new.writer new.writer 0 turn.count keys
+      ready.only.writer refl turn.gained)
 
   fills_on : fills' ≡ capped (far.count + turn.count)
   fills_on = omega (arith, far.fills_are, turn.fills_are)
 
   turn_on : IsTurn first.writer.number turn.gained.entries fills old.source fills' new.source what
   turn_on =
-      subst (λ (base : List ℕ). IsTurn first.writer.number turn.gained.entries fills base fills' new.source what)
-      ready.only.source
-      (subst (λ (by : ℕ). IsTurn by turn.gained.entries fills mid.source fills' new.source what)
-      (ap (λ (c : Caller). c.number) ready.only.writer ∙ far.gained.number) turn.turn)
+      rw (ready.only.writer, far.gained.number, ready.only.source) at turn.turn
 
   rounds_on : what ≢ turned.Wrong
       → (more : ℕ)
@@ -203,22 +197,12 @@ flows_all a t first flow fills fault w u guest map writes takes w_is u_is turns 
     let keys = ap (λ (x : Table). x.shape.keys) map in
     record {
       count = turns.count;
-      gained = gained_from a.table.shape.keys a.table.shape.keys first.writer a w 0 turns.count refl writes
-          (gained_of first.map.shape.keys a.table.shape.keys first.writer flow.writer w 0 turns.count keys w_is
-          turns.gained);
+      gained = gained_as first.map.shape.keys a.table.shape.keys first.writer a flow.writer w 0 turns.count keys
+          writes w_is turns.gained;
       fills = turns.fills_are;
       rounds = λ none.
-          let rounds = turns.rounds none in
-          let is : Rounds a.number a.table.shape.keys rounds.0 turns.gained.entries fills rounds.1 =
-          subst (λ (n : ℕ). Rounds a.number n rounds.0 turns.gained.entries fills rounds.1) keys
-          (subst (λ (n : ℕ). Rounds n first.map.shape.keys rounds.0 turns.gained.entries fills rounds.1)
-          (ap (λ (c : Caller). c.number) writes) rounds.2) in
-          (rounds.0, rounds.1, is);
+          rw (ap (λ (c : Caller). c.number) writes, keys) at (turns.rounds none);
       gain = turns.gain;
       taken = ap (λ (x : TakerSeen). x.taken) u_is ∙ turns.taken ∙ ap (λ (x : TakerSeen). x.taken ++ turns.gain) takes;
       answered = turns.answered;
     }
-
-pub not_both : (b : Bool) → b ≡ true → b ≡ false → ⊥
-not_both true is not = absurd (cc)
-not_both false is not = absurd (cc)

@@ -7,7 +7,6 @@ use Rattle.nr_serve.specs.declared.hands.Hands.{Hands}
 use Rattle.nr_serve.specs.declared.answers.Got.{Got}
 use Rattle.nr_serve.specs.declared.answers.Got.TheVariants.{Rows, GaveUp, Barred}
 use Rattle.nr_load.specs.declared.fault.LoadFault.{LoadFault}
-use Rattle.nr_load.specs.declared.fault.LoadFault.TheVariants as faults
 use Rattle.nr_load.specs.Drawn.{drawn, drawn_on}
 use Rattle.nr_load.specs.Works.{GetsKey, Judged, Works, answers, of_gets}
 
@@ -17,13 +16,6 @@ Begins tries keys made g answered known old known' now g' =
     (n a : ℕ) (fault : Option LoadFault) (end : Hands) (h : Lcg) → Works tries keys n known' g' now h end a fault
     → Works tries keys (made + n) known g old h end (answered + a) fault
 
-pub begins : (tries keys : ℕ) (g : Lcg) (known : List ℕ) (old : Hands) → Begins tries keys 0 g 0 known old known old g
-begins tries keys g known old n a fault end h w =
-    let m : n ≡ 0 + n = omega arith in
-    let b : a ≡ 0 + a = omega arith in
-    subst (λ (i : ℕ). Works tries keys i known g old h end (0 + a) fault) m
-    (subst (λ (i : ℕ). Works tries keys n known g old h end i fault) b w)
-
 -- what was begun stands for itself
 pub ends : (tries keys made : ℕ) (g : Lcg) (answered : ℕ) (known : List ℕ) (old : Hands) (known' : List ℕ) (now : Hands)
     (g' : Lcg)
@@ -32,9 +24,7 @@ pub ends : (tries keys made : ℕ) (g : Lcg) (answered : ℕ) (known : List ℕ)
 ends tries keys made g answered known old known' now g' begun =
     let m : made + 0 ≡ made = omega arith in
     let a : answered + 0 ≡ answered = omega arith in
-    subst (λ (i : ℕ). Works tries keys i known g old g' now answered None) m
-    (subst (λ (i : ℕ). Works tries keys (made + 0) known g old g' now i None) a
-    (begun 0 0 None now g' (refl, refl, refl, refl)))
+    rw (m, a) at (begun 0 0 None now g' (refl, refl, refl, refl))
 
 -- one get more
 module _ (tries keys made : ℕ) (g : Lcg) (answered : ℕ) (known : List ℕ) (old : Hands) (known' : List ℕ)
@@ -46,17 +36,16 @@ module _ (tries keys made : ℕ) (g : Lcg) (answered : ℕ) (known : List ℕ) (
   goes_on judged n a fault end h w =
       let m : made + suc n ≡ made + 1 + n = omega arith in
       let b : answered + (answers got + a) ≡ answered + answers got + a = omega arith in
-      subst (λ (i : ℕ). Works tries keys i known g old h end (answered + answers got + a) fault) m
-      (subst (λ (i : ℕ). Works tries keys (made + suc n) known g old h end i fault) b
+      rw (← m, ← b)
       (begun (suc n) (answers got + a) fault end h
-      (got, mid, a, rows, None, fault, known'', gets, judged, refl, refl, w)))
+      (got, mid, a, rows, None, fault, known'', gets, judged, refl, refl, w))
 
   -- a fault ends them
   pub ends_with : (fault : LoadFault) → Judged (drawn keys g') got rows known' known'' (Some fault)
       → Works tries keys (made + 1) known g old (drawn_on g') mid (answered + answers got) (Some fault)
   ends_with fault judged =
       let b : answered + (answers got + 0) ≡ answered + answers got = omega arith in
-      subst (λ (i : ℕ). Works tries keys (made + 1) known g old (drawn_on g') mid i (Some fault)) b
+      rw (← b)
       (begun 1 (answers got + 0) (Some fault) mid (drawn_on g') (
         got,
         mid,
@@ -73,33 +62,20 @@ module _ (tries keys made : ℕ) (g : Lcg) (answered : ℕ) (known : List ℕ) (
       ))
 
 pub answers_one : (got : Got) → answers got ≤ 1
-answers_one Barred = omega arith
 answers_one Rows = omega arith
-answers_one GaveUp = omega arith
-
-some_or_none : (fault : LoadFault) → Some fault ≡ None → ⊥
-some_or_none fault is = absurd (cc)
+answers_one got = omega arith
 
 -- what is known has a number for each key still
 pub judged_long : (key : ℕ) (known : List ℕ) (got : Got) (rows : List Row) (told : Option LoadFault) (known' : List ℕ)
     → Judged key got rows known known' told → length known' ≡ length known
 judged_long key known Rows rows None known' judged =
     ap (λ (l : List ℕ). length l) judged.3 ∙ length-set known key judged.0
-judged_long key known Rows rows (Some fault) known' judged = ap (λ (l : List ℕ). length l) judged.1
-judged_long key known GaveUp rows told known' judged = ap (λ (l : List ℕ). length l) judged.1
-judged_long key known Barred rows told known' judged = ap (λ (l : List ℕ). length l) judged.1
+judged_long key known got rows told known' judged = ap (λ (l : List ℕ). length l) judged.1
 
 -- no get tells a want of memory
 pub judged_told : (key : ℕ) (known : List ℕ) (got : Got) (rows : List Row) (fault : LoadFault) (known' : List ℕ)
     → Judged key got rows known known' (Some fault) → of_gets (Some fault) ≡ Some fault
-judged_told key known Rows rows fault known' judged =
-    subst (λ (it : LoadFault). of_gets (Some it) ≡ Some it) (sym judged.0) refl
-judged_told key known GaveUp rows fault known' judged = absurd (let is = judged.0 in some_or_none fault is)
+judged_told key known Rows rows fault known' judged = rw judged.0
+judged_told key known GaveUp rows fault known' judged = let is = judged.0 in absurd (cc)
 judged_told key known Barred rows fault known' judged =
     subst (λ (it : Option LoadFault). of_gets it ≡ it) (sym judged.0) refl
-
-pub not_memory : (fault : LoadFault) → of_gets (Some fault) ≡ Some fault → Some fault ≡ Some faults.Memory → ⊥
-not_memory faults.Memory told is = some_or_none faults.Memory (sym told)
-not_memory faults.Thread told is = absurd (cc)
-not_memory faults.Barred told is = absurd (cc)
-not_memory faults.WrongRows told is = absurd (cc)

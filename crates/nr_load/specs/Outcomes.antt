@@ -1,7 +1,8 @@
 -- What the threads of the workers give back.
-use Rattle.std.specs.Prelude.{◌≡◌, ◌≤◌, ℕ, ◌+◌, ◌*◌, List, [], ◌∷◌, Option, None, false, replicate}
+use Rattle.std.specs.Prelude.{◌≡◌, ◌≤◌, ℕ, ◌*◌, List, [], ◌∷◌, Option, None, false, replicate}
 use Rattle.std.specs.declared.thread.PromisedHandle.{PromisedHandle}
 use Rattle.rand_pcg.specs.Lcg.{Lcg}
+use Rattle.nr_core.specs.Sums.{total}
 use Rattle.nr_board.specs.Callers.{Caller}
 use Rattle.nr_serve.specs.declared.hands.Hands.{Hands}
 use Rattle.nr_load.specs.declared.fault.LoadFault.{LoadFault}
@@ -63,16 +64,13 @@ abbrev pub reader_of : Outcome → Caller
 reader_of outcome = outcome.reader
 
 abbrev pub sends_in : List Outcome → ℕ
-sends_in [] = 0
-sends_in (outcome ∷ outcomes) = outcome.sends + sends_in outcomes
+sends_in = total (λ outcome. outcome.sends)
 
 abbrev pub made_in : List Outcome → ℕ
-made_in [] = 0
-made_in (outcome ∷ outcomes) = outcome.worked.made + made_in outcomes
+made_in = total (λ outcome. outcome.worked.made)
 
 abbrev pub answered_in : List Outcome → ℕ
-answered_in [] = 0
-answered_in (outcome ∷ outcomes) = outcome.worked.answered + answered_in outcomes
+answered_in = total (λ outcome. outcome.worked.answered)
 
 -- of that fault and those of the outcomes the first named
 abbrev pub earliest : Option LoadFault → List Outcome → Option LoadFault

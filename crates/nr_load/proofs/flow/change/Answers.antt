@@ -1,7 +1,5 @@
-use Rattle.std.proofs.Common.{ℕ, ◌%◌, List, Option, None, Some, refl, ap, arith, eq-eqb, ne_eqb, subst, sym}
-use Rattle.nr_model.specs.declared.batches.Delta.{Delta}
+use Rattle.std.proofs.Common.{ℕ, ◌%◌, List, refl, ap, arith, eq-eqb, ne_eqb}
 use Rattle.nr_serve.specs.Flows.{FlowSeen}
-use Rattle.nr_load.specs.Base.{StepsBase}
 use Rattle.nr_load.proofs.Flowing.{change_evicts, change_stays, change_updates}
 use Rattle.nr_load.proofs.flow.change.Goals as goal
 
@@ -17,9 +15,7 @@ returns-in_default-clause-gained c =
     let old = c.args.flow.now in
     change_stays old.map.shape.keys c.args.fills c.args.key old.writer old.writer old.source c.step.new.self tt
     (ne_eqb (c.args.fills % 4) 0 (λ same. omega (arith, same, c.if-fills-eq0.false))) refl
-    (subst (λ (base : List ℕ). StepsBase c.args.key base c.step.new.self None) c.source.ensures.value
-    (subst (λ (batch : Option (List Delta)). StepsBase c.args.key c.source.result.now c.step.new.self batch)
-    c.in_default.is c.step.ensures))
+    (rw (c.in_default.is, c.source.ensures.value) at c.step.ensures)
 
 pub returns-clause-gained : goal.returns-clause-gained
 returns-clause-gained c =
@@ -28,9 +24,6 @@ returns-clause-gained c =
     new.source c.in-Some.deltas
     c.apply_rows.result c.requires.key.0
     (ne_eqb (c.args.fills % 4) 0 (λ same. omega (arith, same, c.if-fills-eq0.false)))
-    (subst (λ (base : List ℕ). StepsBase c.args.key old.source base (Some c.in-Some.deltas))
-    (sym (ap (λ (flow : FlowSeen (List ℕ)). flow.source) c.apply_rows.ensures.rest))
-    (subst (λ (base : List ℕ). StepsBase c.args.key base c.step.new.self (Some c.in-Some.deltas)) c.source.ensures.value
-    (subst (λ (batch : Option (List Delta)). StepsBase c.args.key c.source.result.now c.step.new.self batch)
-    c.in-Some.is c.step.ensures)))
+    (rw (ap (λ (flow : FlowSeen (List ℕ)). flow.source) c.apply_rows.ensures.rest)
+    (rw (c.in-Some.is, c.source.ensures.value) at c.step.ensures))
     c.apply_rows.ensures.updates (c.apply_rows.ensures.room c.requires.room)

@@ -1,10 +1,8 @@
-use Rattle.std.proofs.Common.{List, length, refl, sym, ap, ◌∙◌, subst}
+use Rattle.std.proofs.Common.{List, length, refl, sym, ap, ◌∙◌}
+use Rattle.std.proofs.lemmas.Bool.{true≢false}
 use Rattle.nr_board.specs.Callers.{Table}
-use Rattle.nr_map.specs.SlotBounds.{HasRoomForAll}
-use Rattle.nr_trigger.specs.declared.post.Post.{Post}
-use Rattle.nr_load.specs.UnderWay.{AreBelow}
 use Rattle.nr_load.proofs.Finding.{rounds_long}
-use Rattle.nr_load.proofs.Turning.{not_both, so_far_more, so_far_none, turns_end}
+use Rattle.nr_load.proofs.Turning.{so_far_more, so_far_none, turns_end}
 use Rattle.nr_load.proofs.flow.turn_on.Goals as goal
 
 pub turn_once-turned-requires-clause-base : goal.turn_once-turned-requires-clause-base
@@ -15,13 +13,13 @@ turn_once-turned-requires-clause-base g c =
 
 pub turn_once-turned-requires-clause-room : goal.turn_once-turned-requires-clause-room
 turn_once-turned-requires-clause-room g c =
-    subst HasRoomForAll (sym (c.ready.ensures.only.map ∙ c.loop.invariant.map)) c.requires.room
+    rw (c.ready.ensures.only.map, c.loop.invariant.map) c.requires.room
 
 pub loop-init : goal.loop-init
 loop-init g c = record {
   map = refl;
   none = c.requires.none.0;
-  near = subst (λ (posts : List Post). AreBelow c.args.flow.now.map.shape.keys posts) (sym c.requires.none.1) tt;
+  near = rw c.requires.none.1 tt;
   far = so_far_none c.args.flow.now c.args.under_way.now.posts c.requires.base c.requires.none.1;
   lobby = c.guest-guest.ensures.lobby ∙ c.lobby-lobby.ensures;
 }
@@ -32,13 +30,11 @@ loop-preserved g c =
     record {
       map = turned.ensures.places.0 ∙ ready.only.map ∙ so_far.map;
       none = turned.ensures.turns.none;
-      near =
-          subst (λ (t : Table). AreBelow t.shape.keys c.ready.new.self.posts)
-          (sym (turned.ensures.places.0 ∙ ready.only.map)) ready.near;
+      near = rw (turned.ensures.places.0, ready.only.map) ready.near;
       far =
           so_far_more c.args.flow.now c.loop.flow c.ready.new.flow turned.new.flow c.loop.under_way c.ready.new.self
           turned.result c.loop.fills turned.new.fills so_far.map so_far.far ready turned.ensures.turns
-          (λ wrong. not_both c.is_last.result (c.is_last.ensures.wrong wrong) c.if-is_last.false);
+          (λ wrong. true≢false (sym (c.is_last.ensures.wrong wrong) ∙ c.if-is_last.false));
       lobby = c.is_closed_as-is_closed.ensures.looks.later.lobby ∙ so_far.lobby;
     }
 

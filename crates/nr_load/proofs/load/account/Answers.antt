@@ -1,24 +1,19 @@
-use Rattle.std.proofs.Common.{List, subst, arith}
-use Rattle.nr_board.specs.Callers.{Caller}
-use Rattle.nr_load.specs.Balance.{StaysEach}
-use Rattle.nr_load.proofs.Balancing.{accounts, balanced, exact}
+use Rattle.std.proofs.Common.{arith}
+use Rattle.nr_load.proofs.Balancing.{accounts, balanced}
 use Rattle.nr_load.proofs.load.account.Goals as goal
 
 pub returns : goal.returns
 returns c =
     let told = c.tally.ensures in
-    let each
-    = subst (λ (rs : List Caller). StaysEach rs c.tally.new.readers) c.as_mut_slice.ensures.value told.readers in
-    let fills
-    = exact c.args.writer c.tally.new.writer c.args.readers.items c.tally.new.readers c.args.sends c.args.fills
+    let each = rw c.as_mut_slice.ensures.value at told.readers in
+    let sums
+    = balanced c.args.writer c.tally.new.writer c.args.readers.items c.tally.new.readers c.args.sends c.args.fills
     c.tally.result told.balances told.writer each c.requires.sends
     c.requires.fills c.requires.cancels (omega (arith, c.ranges.sends.fits)) in
     record {
       account =
           accounts c.entries_are_callers.ensures c.args.map.now c.args.writer c.tally.new.writer c.args.readers.items
           c.tally.new.readers c.tally.result c.requires.writer.0 told.tally told.writer each;
-      fills = fills;
-      balance =
-          balanced c.args.writer c.tally.new.writer c.args.readers.items c.tally.new.readers c.args.sends c.args.fills
-          c.tally.result told.balances told.writer each c.requires.sends fills c.requires.cancels;
+      fills = sums.0;
+      balance = sums.1;
     }

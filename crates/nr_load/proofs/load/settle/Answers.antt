@@ -1,15 +1,9 @@
-use Rattle.std.proofs.Common.{◌≡◌, ◌<◌, ◌==◌, ◌*◌, ℕ, true, List, All, refl, sym, ap, ◌∙◌, subst, arith}
+use Rattle.std.proofs.Common.{◌≡◌, ◌==◌, ◌*◌, ℕ, refl, sym, ap, ◌∙◌, arith}
 use Rattle.std.proofs.lemmas.Bool.{eqb-true}
 use Rattle.nr_core.specs.declared.shape.Shape.{Shape}
-use Rattle.nr_board.specs.Callers.{Caller}
-use Rattle.nr_map.specs.Rounds.{is_cancel, is_fill, is_sent}
-use Rattle.nr_serve.specs.Hands.{capped}
-use Rattle.nr_load.specs.Balance.{of_all}
-use Rattle.nr_load.specs.Gathers.{IsInOrder}
-use Rattle.nr_load.specs.Reports.{IsAccount}
-use Rattle.nr_load.proofs.Accounting.{all_cancelled, all_filled, all_sent, in_order, own_readers}
+use Rattle.nr_load.proofs.Accounting.{all_cancelled, all_filled, all_sent, fits, in_order, own_readers}
 use Rattle.nr_load.proofs.Reporting.{comes}
-use Rattle.nr_load.proofs.Settling.{answers_fit, gets_fit, none_told, sends_fit, served_few}
+use Rattle.nr_load.proofs.Settling.{none_told, served_few}
 use Rattle.nr_load.proofs.load.settle.Goals as goal
 
 pub collect-readers-requires-clause-room : goal.collect-readers-requires-clause-room
@@ -28,59 +22,50 @@ collect-readers-requires-clause-room c =
 
 pub collect-readers-requires-clause-made : goal.collect-readers-requires-clause-made
 collect-readers-requires-clause-made c =
-    let e = c.requires.ended in
-    gets_fit c.args.plan.now.seed c.args.plan.now.gets e.readers _ (omega (arith, c.fits-plan))
-    (omega (arith, e.opened.count, ap (λ (shape : Shape). shape.readers) c.requires.sizes, c.requires.readers.1))
-    e.served
+    fits _ _ _ c.args.joined c.requires.ended (λ o. o.worked.made) c.args.plan.now.gets (λ r o serves. serves.made)
+    (omega (arith, c.fits-plan))
+    (omega (arith, ap (λ (shape : Shape). shape.readers) c.requires.sizes, c.requires.readers.1))
 
 pub collect-readers-requires-clause-sends : goal.collect-readers-requires-clause-sends
 collect-readers-requires-clause-sends c =
-    let e = c.requires.ended in
-    sends_fit c.args.plan.now.seed c.args.plan.now.gets e.readers _ (omega (arith, c.fits-plan))
-    (omega (arith, e.opened.count, ap (λ (shape : Shape). shape.readers) c.requires.sizes, c.requires.readers.1))
-    e.served
+    fits _ _ _ c.args.joined c.requires.ended (λ o. o.sends) (1000000 * c.args.plan.now.gets)
+    (λ r o serves. serves.few)
+    (omega (arith, c.fits-plan))
+    (omega (arith, ap (λ (shape : Shape). shape.readers) c.requires.sizes, c.requires.readers.1))
 
 pub collect-readers-requires-clause-answered : goal.collect-readers-requires-clause-answered
 collect-readers-requires-clause-answered c =
-    let e = c.requires.ended in
-    answers_fit c.args.plan.now.seed c.args.plan.now.gets e.readers _ (omega (arith, c.fits-plan))
-    (omega (arith, e.opened.count, ap (λ (shape : Shape). shape.readers) c.requires.sizes, c.requires.readers.1))
-    e.served
+    fits _ _ _ c.args.joined c.requires.ended (λ o. o.worked.answered) c.args.plan.now.gets
+    (λ r o serves. serves.answered)
+    (omega (arith, c.fits-plan))
+    (omega (arith, ap (λ (shape : Shape). shape.readers) c.requires.sizes, c.requires.readers.1))
 
 pub account-asked-requires-clause-readers : goal.account-asked-requires-clause-readers
 account-asked-requires-clause-readers c =
-    subst (λ (rs : List Caller). All (λ (r : Caller). r.table ≡ c.args.map.now) rs)
-    (sym c.collect-readers.ensures.readers) (own_readers _ _ _ c.args.joined c.requires.ended)
+    rw c.collect-readers.ensures.readers (own_readers _ _ _ c.args.joined c.requires.ended)
 
 pub account-asked-requires-clause-order : goal.account-asked-requires-clause-order
 account-asked-requires-clause-order c =
     let sums = c.collect-readers.result.0 in
-    let whole : c.args.joined.is_whole ≡ true
-    = (none_told sums.fault c.args.joined.flowed.fault c.args.joined.is_whole
-    (sums.made == c.from.result * c.from-2.result) (sym c.first_fault.ensures ∙ c.in_default.is)).0 in
-    subst (λ (rs : List Caller). IsInOrder c.args.map.now.shape.readers rs) (sym c.collect-readers.ensures.readers)
-    (in_order _ _ _ c.args.joined c.requires.ended whole)
+    rw c.collect-readers.ensures.readers (in_order _ _ _ c.args.joined c.requires.ended
+    (none_told sums.fault c.args.joined.flowed.fault c.args.joined.is_whole
+    (sums.made == c.from.result * c.from-2.result) (sym c.first_fault.ensures ∙ c.in_default.is)).0)
 
 pub account-asked-requires-clause-some : goal.account-asked-requires-clause-some
-account-asked-requires-clause-some c =
-    subst (λ (shape : Shape). 0 < shape.readers) (sym c.requires.sizes) c.requires.readers.0
+account-asked-requires-clause-some c = rw c.requires.sizes c.requires.readers.0
 
 pub account-asked-requires-clause-sends : goal.account-asked-requires-clause-sends
 account-asked-requires-clause-sends c =
-    subst (λ (rs : List Caller). of_all is_sent c.args.joined.flowed.writer rs ≡ c.collect-readers.result.0.sends)
-    (sym c.collect-readers.ensures.readers)
+    rw c.collect-readers.ensures.readers
     (all_sent _ _ _ c.args.joined c.requires.ended ∙ sym c.collect-readers.ensures.sends)
 
 pub account-asked-requires-clause-fills : goal.account-asked-requires-clause-fills
 account-asked-requires-clause-fills c =
-    subst (λ (rs : List Caller). c.args.joined.flowed.fills ≡ capped (of_all is_fill c.args.joined.flowed.writer rs))
-    (sym c.collect-readers.ensures.readers)
-    (all_filled _ _ _ c.args.joined c.requires.ended)
+    rw c.collect-readers.ensures.readers (all_filled _ _ _ c.args.joined c.requires.ended)
 
 pub account-asked-requires-clause-cancels : goal.account-asked-requires-clause-cancels
 account-asked-requires-clause-cancels c =
-    subst (λ (rs : List Caller). of_all is_cancel c.args.joined.flowed.writer rs ≡ 0)
-    (sym c.collect-readers.ensures.readers) (all_cancelled _ _ _ c.args.joined c.requires.ended)
+    rw c.collect-readers.ensures.readers (all_cancelled _ _ _ c.args.joined c.requires.ended)
 
 pub returns-clause-report : goal.returns-clause-report
 returns-clause-report c =
@@ -93,11 +78,9 @@ returns-clause-report c =
     let gets : c.from.result * c.from-2.result ≡ c.args.plan.now.readers * c.args.plan.now.gets
     = ap (λ (n : ℕ). n * c.from-2.result) readers ∙ ap (λ (n : ℕ). c.args.plan.now.readers * n) each in
     comes c.args.map.now c.args.plan.now c.args.joined c.requires.ended c.requires.sizes _
-    (subst (λ (rs : List Caller). IsAccount c.args.map.now c.args.joined.flowed.writer rs c.account-asked.result)
-    c.collect-readers.ensures.readers c.account-asked.ensures.account)
+    (rw c.collect-readers.ensures.readers at c.account-asked.ensures.account)
     all.0 (sym c.collect-readers.ensures.fault ∙ all.2) all.3
     (sym c.collect-readers.ensures.made ∙ eqb-true sums.made (c.from.result * c.from-2.result) all.1 ∙ gets) gets
     c.collect-readers.ensures.answered c.collect-readers.ensures.sends
-    (subst (λ (rs : List Caller). c.args.joined.flowed.fills ≡ of_all is_fill c.args.joined.flowed.writer rs)
-    c.collect-readers.ensures.readers c.account-asked.ensures.fills)
+    (rw c.collect-readers.ensures.readers at c.account-asked.ensures.fills)
     refl c.account-asked.ensures.balance

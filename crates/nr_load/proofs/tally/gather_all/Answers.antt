@@ -1,6 +1,5 @@
-use Rattle.std.proofs.Common.{arith, sym, ◌∙◌, subst}
+use Rattle.std.proofs.Common.{arith, ◌∙◌}
 use Rattle.std.proofs.lemmas.List.{get_or-set_other}
-use Rattle.nr_board.specs.Callers.{Caller}
 use Rattle.nr_board.specs.Meetings.{Gathers}
 use Rattle.nr_load.proofs.Gathering.{gathered, learns_sound, learns_stays, one_more, stays_then}
 use Rattle.nr_load.proofs.tally.gather_all.Goals as goal
@@ -9,8 +8,7 @@ pub loop-reader-preserved : goal.loop-reader-preserved
 loop-reader-preserved c =
     let i = c.loop-reader.invariant in let learns = c.gather.ensures.of_reader.learns in
     let gathers : Gathers c.loop-reader.writer c.reader-item.result c.gather.new.writer c.gather.new.reader =
-    subst (λ (r : Caller). Gathers c.loop-reader.writer r c.gather.new.writer c.gather.new.reader)
-    (sym c.reader-item.is) c.gather.ensures in
+    rw c.reader-item.is c.gather.ensures in
     record {
       stays = stays_then _ c.loop-reader.writer _ i.stays (learns_stays 2 _ _ learns);
       sound = λ some. learns_sound 2 _ _ learns;

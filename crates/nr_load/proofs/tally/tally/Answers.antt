@@ -1,6 +1,4 @@
-use Rattle.std.proofs.Common.{◌≡◌, ◌<◌, ◌∙◌, get_or, sym, subst, arith}
-use Rattle.nr_board.specs.Callers.{Table}
-use Rattle.nr_load.specs.Gathers.{IsInOrder}
+use Rattle.std.proofs.Common.{◌≡◌, ◌∙◌, get_or, sym, arith}
 use Rattle.nr_load.proofs.Gathering.{stays_then}
 use Rattle.nr_load.proofs.Telling.{balances, tallies}
 use Rattle.nr_load.proofs.tally.tally.Goals as goal
@@ -14,8 +12,8 @@ returns c =
     c.gather_all.new.writer c.count_asked-asked.new.writer c.gather_all-2.new.writer
     c.args.readers.now c.gather_all.new.readers c.gather_all-2.new.readers c.count_asked-asked.result
     one counted two c.requires.writer
-    (subst (λ (t : Table). IsInOrder t.shape.readers c.args.readers.now) table c.requires.order)
-    (subst (λ (t : Table). 0 < t.shape.readers) table c.requires.some) in
+    (rw table at c.requires.order)
+    (rw table at c.requires.some) in
     record {
       tally = tally;
       balances = balances c.sends_of_all_keys.ensures _ _ _ tally;

@@ -1,12 +1,8 @@
-use Rattle.std.proofs.Common.{◌≡◌, List, [], ◌∷◌, ◌++◌, length, vec_items, arith, sym, ap, ◌∙◌, subst, append_assoc}
+use Rattle.std.proofs.Common.{◌≡◌, List, ◌∷◌, length, arith, sym, ap, append_assoc}
 use Rattle.std.proofs.lemmas.List.Elements.{All-head, All-rest, All-same}
 use Rattle.std.specs.Vec.Iter.{into_iter_items}
-use Rattle.std.specs.declared.thread.PromisedHandle.{PromisedHandle}
 use Rattle.nr_board.specs.Callers.{Caller}
-use Rattle.nr_load.specs.declared.workers.Serving.{Serving}
-use Rattle.nr_load.specs.declared.workers.Outcome.{Outcome}
 use Rattle.nr_load.specs.Handed.{IsPosterOf}
-use Rattle.nr_load.specs.Outcomes.{CarriesFirst}
 use Rattle.nr_load.proofs.Joining.{started}
 use Rattle.nr_load.proofs.workers.start_workers.Goals as goal
 
@@ -36,17 +32,8 @@ loop-reader-preserved g c =
       queue =
           All-rest (IsPosterOf c.args.shared.now.service.map c.args.shared.now.service.queue) c.in-Some-next.poster
           (into_iter_items c.next-in-loop-reader.new.self) _ post.0 i.queue;
-      carries = λ hs rest.
-          subst
-          (λ (xs : List (PromisedHandle Outcome Serving)). CarriesFirst c.args.shared.now.plan.seed
-          c.args.shared.now.plan.gets (vec_items c.args.readers) xs)
-          (sym
-          (ap (λ (l : List (PromisedHandle Outcome Serving)). l ++ hs) push.items
-          ∙ append_assoc (vec_items c.loop-reader.handles) (h ∷ []) hs))
-          (i.carries (h ∷ hs)
-          (subst
-          (λ (rs : List Caller). CarriesFirst c.args.shared.now.plan.seed c.args.shared.now.plan.gets rs (h ∷ hs))
-          (sym step.0) (c.in-Ok.ensures, rest)));
+      carries = λ hs rest. rw (push.items, append_assoc)
+          (i.carries (h ∷ hs) (rw step.0 (c.in-Ok.ensures, rest)));
     }
 
 pub returns-clause-readers : goal.returns-clause-readers

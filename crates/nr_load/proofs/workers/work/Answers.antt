@@ -1,6 +1,5 @@
-use Rattle.std.proofs.Common.{◌≡◌, ◌<◌, ℕ, length, subst, sym, ap, ◌∙◌, arith, replicate}
+use Rattle.std.proofs.Common.{◌≡◌, ◌<◌, length, sym, subst, ap, ◌∙◌, arith, replicate}
 use Rattle.std.specs.Prelude.{drop}
-use Rattle.rand_pcg.specs.Lcg.{Lcg}
 use Rattle.nr_board.specs.Callers.{Caller, Table}
 use Rattle.nr_serve.specs.declared.hands.Hands.{Hands}
 use Rattle.nr_serve.specs.Clients.{since}
@@ -26,17 +25,9 @@ returns-clause-serves g c =
     (replicate c.args.reader.table.shape.keys 0)
     (stream_of c.args.shared.now.plan.seed c.args.reader.number) old load.new.draws.generator new load.result.0.answered
     (of_gets load.result.0.fault) =
-    subst
-    (λ (k : ℕ). Works 1000000 k load.result.0.made (replicate k 0)
-    (stream_of c.args.shared.now.plan.seed c.args.reader.number) old load.new.draws.generator new
-    load.result.0.answered (of_gets load.result.0.fault))
-    keys
-    (subst
-    (λ (x : Lcg). Works 1000000 c.open-draws.result.keys load.result.0.made (replicate c.open-draws.result.keys 0) x
-    old load.new.draws.generator new load.result.0.answered (of_gets load.result.0.fault))
-    stream load.ensures.works) in
+    rw (← keys, ← stream) load.ensures.works in
     let some : 0 < c.args.reader.table.shape.keys
-    = subst (λ (t : Table). 0 < t.shape.keys) table c.args.shared.now.keys.0 in
+    = rw table at c.args.shared.now.keys.0 in
     let first : old.reader ≡ c.args.reader = ap (λ (hands : Hands). hands.reader) c.of_service-client.ensures.hands in
     let few = works_few 1000000 _ load.result.0.made _ _ _ _ old new _ some works in
     let gained : Gained c.args.reader.table.shape.keys c.args.reader new.reader few.count 0
@@ -59,10 +50,7 @@ returns-clause-serves g c =
             generator = load.new.draws.generator;
             works = works;
           };
-      gained =
-          subst (λ (r : Caller). Gained c.args.reader.table.shape.keys c.args.reader r c.sends-sends.result 0)
-          (sym c.end-reader.ensures.reader)
-          (subst (λ (n : ℕ). Gained c.args.reader.table.shape.keys c.args.reader new.reader n 0) (sym sends) gained);
+      gained = rw (c.end-reader.ensures.reader, sends) gained;
       few = omega (arith, sends, few.low, load.ensures.few.0);
       made = load.ensures.few.0;
       answered = omega (arith, load.ensures.few.0, load.ensures.few.1);

@@ -1,6 +1,5 @@
-use Rattle.std.proofs.Common.{[], ◌∷◌, List, length, length-append, Option, ap, arith, inr, refl, subst}
+use Rattle.std.proofs.Common.{[], ◌∷◌, List, length, length-append, ap, arith, inr, refl}
 use Rattle.nr_trigger.specs.declared.post.Post.{Post}
-use Rattle.nr_serve.specs.Turns.{Nexts}
 use Rattle.nr_load.proofs.Taking.{takes_one_more, was_empty}
 use Rattle.nr_load.proofs.under_way.UnderWay.take_more.Goals as goal
 
@@ -8,7 +7,7 @@ pub returns-in_default-clause-far : goal.returns-in_default-clause-far
 returns-in_default-clause-far g c =
     inr
     (was_empty c.loop-taken.flow c.take.new.self
-    (subst (λ (got : Option Post). Nexts c.loop-taken.flow c.take.new.self got) c.in_default.is c.take.ensures))
+    (rw c.in_default.is at c.take.ensures))
 
 pub loop-taken-preserved : goal.loop-taken-preserved
 loop-taken-preserved g c =
@@ -19,7 +18,7 @@ loop-taken-preserved g c =
           (record { most = old.most; posts = old.triggers.items })
           (record { most = old.most; posts = pushed.new.self.items }) c.in-Some.trigger
           so_far.takes
-          (subst (λ (got : Option Post). Nexts c.loop-taken.flow c.take.new.self got) c.in-Some.is c.take.ensures)
+          (rw c.in-Some.is at c.take.ensures)
           pushed.ensures.items refl;
       count =
           omega (
