@@ -1,5 +1,5 @@
 //! Names and their numbers.
-ghost use Rattle.std.specs.Prelude.{◌≡◌, ◌≢◌, ◌≤◌, ◌<◌, ◌↔◌, ◌⊎◌, length, string_bytes, slice_get, IsTrue, IfOk, IfErr, OnOk, OnErr};
+ghost use Rattle.std.specs.Prelude.{◌≡◌, ◌≢◌, ◌≤◌, ◌<◌, ◌↔◌, ◌⊎◌, length, string_bytes, slice_get, None, IsTrue, IfOk, IfErr, OnOk, OnErr};
 ghost use Rattle.nr_names.specs.Naming.{no_names, number_of_name, intern_reply, adds, next_naming, IsSoundNaming};
 
 use crate::faults::NameFault;
@@ -68,16 +68,40 @@ impl NameTable {
         ensures numbered { IfOk result (λ number. number_of_name self.new.names name.now ≡ Some number) }
         ensures sound { IsSoundNaming LONGEST_NAME MAX_KEYS self.new }
     {
-        let next = self.names.len() as u32;
+        let _ = &self.keys; // for the proof: what holds of the fields is then known where a name is refused
         if name.is_empty() {
             return Err(NameFault::Empty);
         }
         if name.len() > LONGEST_NAME {
             return Err(NameFault::TooLong);
         }
-        if let Some(number) = self.numbers.get(name) {
-            return Ok(*number);
+        match self.number_of(name) {
+            Some(number) => Ok(number),
+            None => self.intern_new(name),
         }
+    }
+
+    // The number of a name, if it is known.
+    fn number_of(&self, name: &str) -> Option<u32>
+        ensures number { result ≡ number_of_name self.now.names name.now }
+    {
+        self.numbers.get(name).copied()
+    }
+
+    // As `intern`, of a name that isn't known.
+    fn intern_new(&mut self, name: &str) -> Result<u32, NameFault>
+        requires new { number_of_name self.old.names name.now ≡ None }
+        requires some { 0 < length name.now }
+        requires short { length name.now ≤ LONGEST_NAME }
+        ensures reply { result ≢ Err NameFault.Memory → result ≡ intern_reply LONGEST_NAME self.old name.now }
+        ensures memory { result ≡ Err NameFault.Memory → IsTrue (adds LONGEST_NAME self.old name.now) }
+
+        ensures next { OnOk result (self.new ≡ next_naming LONGEST_NAME self.old name.now) }
+        ensures kept { OnErr result (self.new ≡ self.old) }
+        ensures numbered { IfOk result (λ number. number_of_name self.new.names name.now ≡ Some number) }
+        ensures sound { IsSoundNaming LONGEST_NAME MAX_KEYS self.new }
+    {
+        let next = self.names.len() as u32;
         if next == self.keys {
             return Err(NameFault::Full);
         }
