@@ -1,7 +1,7 @@
 -- The history is exactly that of the calls that were made.
 use Rattle.std.proofs.Common.{◌≡◌, ◌≢◌, ◌<◌, ◌≤◌, ℕ, suc, ◌+◌, List, [], ◌∷◌, ◌++◌, Bool, cond, ◌==◌, length, map, take}
 use Rattle.std.proofs.Common.{drop, get_or, refl, sym, ap, ◌∙◌, subst, arith, eq-eqb, ne_eqb}
-use Rattle.std.proofs.lemmas.List.{append-nil, append_cancel_left, get_or-map, take-append-drop}
+use Rattle.std.proofs.lemmas.List.{append-nil, append_cancel_left, get_or-map, length-map, take-append-drop}
 use Rattle.std.proofs.lemmas.List.Elements.{filter-append}
 use Rattle.std.proofs.lemmas.List.Sums.{sum_by-cons}
 use Rattle.std.proofs.Math.Seq.{take-append_seam}
@@ -79,14 +79,6 @@ count_all : (xs : List Entry) → count_by one_each xs ≡ length xs
 count_all [] = refl
 count_all (x ∷ xs) = omega (arith, sum_by-cons (λ (y : Entry). cond (one_each y) 1 0) x xs, count_all xs)
 
-many_callers : (xs : List Handed) → length (map caller_in xs) ≡ length xs
-many_callers [] = refl
-many_callers (x ∷ xs) = ap suc (many_callers xs)
-
-pub many_mines : (xs : List Handed) → length (map mine_of xs) ≡ length xs
-many_mines [] = refl
-many_mines (x ∷ xs) = ap suc (many_mines xs)
-
 -- the calls of the caller at a place
 pub calls_at : (mine : List Entry) (hands : List Handed) (at : ℕ) (other : Handed) → at < length hands
     → calls_of mine (map mine_of hands) (suc at) ≡ mine_of (get_or hands at other)
@@ -102,7 +94,7 @@ pub as_many : EntriesAreCallers → LegalBegins
     → ((at : ℕ) (other : Handed) → at < length hands → IsHand table at (get_or hands at other))
     → IsSoundWriter w → StartsWith w.seen log → HasJust log w hands → length log ≡ made w hands
 as_many entries begins table w hands log own zero_is count places sound goes just =
-    let size : length (map caller_in hands) ≡ length hands = many_callers hands in
+    let size : length (map caller_in hands) ≡ length hands = length-map hands caller_in in
     let inside : (at : ℕ) → at < length (map caller_in hands) → at < length hands
     = λ at low. omega (arith, size, low) in
     sym (count_all log) ∙

@@ -7,6 +7,5 @@ pub mod Lines
 pub mod ReaderLines
 pub mod AfterLine
 pub mod Opening
-pub mod Sizes
 pub mod Numbers
 pub mod Pinned

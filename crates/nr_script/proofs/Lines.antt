@@ -2,7 +2,8 @@
 use Rattle.std.proofs.Common.{◌≡◌, ◌≢◌, ◌<◌, ◌≤◌, ℕ, suc, zero, List, [], ◌∷◌, ◌++◌, Bool, true, false, ◌&&◌, length}
 use Rattle.std.proofs.Common.{map, get_or, set, refl, sym, ap, ◌∙◌, subst, arith, append_assoc, length-append, Ok}
 use Rattle.std.proofs.Common.{Option}
-use Rattle.std.proofs.lemmas.List.{append-nil, nil_from_length, get_or-set_same, get_or-set_other, length-set, map-set}
+use Rattle.std.proofs.lemmas.List.{append-nil, nil_from_length, get_or-set_same, get_or-set_other, length-map}
+use Rattle.std.proofs.lemmas.List.{length-set, map-set}
 use mathlib.Core.Logic.{dite}
 use native.Mathlib.Decide.{ℕ_discrete}
 use Rattle.nr_model.specs.declared.calls.Call.{Call}
@@ -31,7 +32,7 @@ use Rattle.nr_script.specs.Alone.{IsAlone, IsHand, Laws, calls_of, log_of, shown
 use Rattle.nr_script.specs.Lines.{IsLine, SettlesLine}
 use Rattle.nr_script.specs.WriterMakes.{EndsWithoutSlot, PutsSet, Replies, WriterMakes}
 use Rattle.nr_script.proofs.Rounds.{starts_both, starts_then}
-use Rattle.nr_script.proofs.Exactly.{calls_at, entries_other, entries_own, log_begins, many_mines}
+use Rattle.nr_script.proofs.Exactly.{calls_at, entries_other, entries_own, log_begins}
 use Rattle.nr_script.proofs.Settling.{settled}
 use Rattle.nr_script.proofs.Shown.{answered, goes_on, lacking}
 use Rattle.nr_script.proofs.InUse.{all_current, all_known, all_readers, full, not_full}
@@ -106,7 +107,8 @@ module _ (table : Table) (w0 : Caller) (hands0 : List Handed) (alone : IsAlone t
         let here : calls_of w0.mine (map mine_of (set hands0 at x)) (suc at)
         ≡ calls_of w0.mine (map mine_of hands0) (suc at) ++ entries_of es (suc at)
         =
-        calls_now at ∙ get_or-set_same (map mine_of hands0) at (mine_of x) [] (omega (arith, many_mines hands0, low))
+        calls_now at
+        ∙ get_or-set_same (map mine_of hands0) at (mine_of x) [] (omega (arith, length-map hands0 mine_of, low))
         ∙ mine
         ∙ ap (λ (l : List Entry). l ++ es) (sym (calls_at w0.mine hands0 at x low))
         ∙ ap (λ (l : List Entry). calls_of w0.mine (map mine_of hands0) (suc at) ++ l) (sym are.his) in
@@ -316,18 +318,4 @@ module _ (laws : Laws) (table : Table) (w0 : Caller) (hands0 : List Handed) (cal
   says answers.Other made = absurd made
   says answers.NoSlot made = says_no_slot made
   says (answers.Reply reply.Done) made = says_done made
-  says (answers.Reply (reply.Rows rows)) made = says_reply (reply.Rows rows) made
-  says (answers.Reply reply.Hole) made = says_reply reply.Hole made
-  says (answers.Reply (reply.Send m)) made = says_reply (reply.Send m) made
-  says (answers.Reply reply.Waiting) made = says_reply reply.Waiting made
-  says (answers.Reply reply.Filled) made = says_reply reply.Filled made
-  says (answers.Reply reply.NotAsked) made = says_reply reply.NotAsked made
-  says (answers.Reply reply.Already) made = says_reply reply.Already made
-  says (answers.Reply reply.Dropped) made = says_reply reply.Dropped made
-  says (answers.Reply reply.NoRow) made = says_reply reply.NoRow made
-  says (answers.Reply reply.TooMany) made = says_reply reply.TooMany made
-  says (answers.Reply reply.Evicted) made = says_reply reply.Evicted made
-  says (answers.Reply reply.Nothing) made = says_reply reply.Nothing made
-  says (answers.Reply reply.Stale) made = says_reply reply.Stale made
-  says (answers.Reply reply.Cancelled) made = says_reply reply.Cancelled made
-  says (answers.Reply reply.Worn) made = says_reply reply.Worn made
+  says (answers.Reply r) made = says_reply r made

@@ -34,11 +34,7 @@ reading_cancels_none : (key : ℕ) (call : Call) (r : Reply) → is_reading call
     → cond {A = ℕ} (cancels_key key call && is_cancelled r) 1 0 ≡ 0
 reading_cancels_none key (model.Find k) r is = refl
 reading_cancels_none key (model.Ask k) r is = refl
-reading_cancels_none key (model.Fill k n rows) r is = let never : false ≡ true = is in cc
-reading_cancels_none key (model.Update k batch) r is = let never : false ≡ true = is in cc
-reading_cancels_none key (model.Replace k rows) r is = let never : false ≡ true = is in cc
-reading_cancels_none key (model.Evict k) r is = let never : false ≡ true = is in cc
-reading_cancels_none key (model.Cancel k) r is = let never : false ≡ true = is in cc
+reading_cancels_none key call r is = let never : false ≡ true = is in cc
 
 left_of : (b : Bool) (e : Entry) (log : List Entry) → cond b (e ∷ log) log ≡ [] → log ≡ []
 left_of true e log none = absurd (cc)

@@ -1,7 +1,7 @@
 -- The opening, after which every reader is gathered once.
 use Rattle.std.proofs.Common.{◌≡◌, ◌<◌, ◌≤◌, ⊎_elim, ℕ, suc, zero, ◌+◌, List, [], ◌∷◌, ◌++◌, All, length, map, take}
 use Rattle.std.proofs.Common.{get_or, refl, sym, ap, ◌∙◌, subst, arith, Option, None, replicate}
-use Rattle.std.proofs.lemmas.List.{append-nil, get_or-map}
+use Rattle.std.proofs.lemmas.List.{append-nil, get_or-map, get_or_past, length-map}
 use Rattle.std.proofs.lemmas.Option.{get_or_from_slice_get}
 use Rattle.std.proofs.lemmas.Bool.{cases_lt}
 use Rattle.std.proofs.Math.Seq.{take-nil}
@@ -19,13 +19,9 @@ use Rattle.nr_script.specs.Rounds.{Gathered}
 use Rattle.nr_script.specs.Alone.{IsAlone, Laws, calls_of, log_of, made, shown_by, shown_after}
 use Rattle.nr_script.specs.Lines.{IsLine, SettlesLine}
 use Rattle.nr_script.proofs.Rounds.{starts_same}
-use Rattle.nr_script.proofs.Exactly.{calls_at, many_mines}
-use Rattle.nr_script.proofs.Settling.{beyond_it, settled}
+use Rattle.nr_script.proofs.Exactly.{calls_at}
+use Rattle.nr_script.proofs.Settling.{settled}
 use Rattle.nr_script.proofs.Lines.{shown_with}
-
-many_idle : (readers : List Caller) → length (map idle readers) ≡ length readers
-many_idle [] = refl
-many_idle (r ∷ readers) = ap suc (many_idle readers)
 
 no_pins : (readers : List Caller) → map pin_of (map idle readers) ≡ replicate (length readers) None
 no_pins [] = refl
@@ -42,12 +38,12 @@ module _ (laws : Laws) (shape : Shape) (table : Table) (w : Caller) (readers : L
   hands = map idle readers
 
   size : length hands ≡ shape.readers
-  size = many_idle readers ∙ new.count
+  size = length-map readers idle ∙ new.count
 
   hand_at : (at : ℕ) (other : Handed) → at < length hands
       → get_or hands at other ≡ idle (newcomer table (at + 1) no_marks)
   hand_at at other low =
-      let inside : at < length readers = omega (arith, many_idle readers, low) in
+      let inside : at < length readers = omega (arith, length-map readers idle, low) in
       let near : at < shape.readers = omega (arith, size, low) in
       let c : Caller = newcomer table (at + 1) no_marks in
       get_or-map idle readers at c other inside ∙ ap idle (get_or_from_slice_get readers at c c (new.reads at near))
@@ -62,7 +58,8 @@ module _ (laws : Laws) (shape : Shape) (table : Table) (w : Caller) (readers : L
   calls_none zero = ap (λ (c : Caller). c.mine) new.writes
   calls_none (suc at) = ⊎_elim
       (λ (low : at < length hands). calls_at w.mine hands at (idle w) low ∙ ap mine_of (hand_at at (idle w) low))
-      (λ (past : length hands ≤ at). beyond_it (map mine_of hands) at (omega (arith, many_mines hands, past)))
+      (λ (past : length hands ≤ at).
+      get_or_past (map mine_of hands) at [] (omega (arith, length-map hands mine_of, past)))
       (cases_lt at (length hands))
 
   next : (at : ℕ) → at + 1 ≡ suc at
@@ -114,6 +111,6 @@ module _ (laws : Laws) (shape : Shape) (table : Table) (w : Caller) (readers : L
 pub all_idle : (t : Table) (readers : List Caller) → All (λ (r : Caller). r.table ≡ t) readers
     → All (λ (s : Handed). s.reader.table ≡ t) (map idle readers)
 all_idle t readers own at other low =
-    let inside : at < length readers = omega (arith, many_idle readers, low) in
+    let inside : at < length readers = omega (arith, length-map readers idle, low) in
     ap (λ (s : Handed). s.reader.table) (get_or-map idle readers at other.reader other inside)
     ∙ own at other.reader inside

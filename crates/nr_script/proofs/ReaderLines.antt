@@ -1,7 +1,7 @@
 -- Lines of a reader, and what they are answered.
 use Rattle.std.proofs.Common.{◌≡◌, ◌≢◌, ◌<◌, ◌⊎◌, inl, inr, ⊎_elim, ℕ, suc, List, [], ◌∷◌, ◌++◌, cond, ◌==◌, length}
 use Rattle.std.proofs.Common.{map, get_or, set, refl, sym, ap, ◌∙◌, subst, arith, eq-eqb, ne_eqb, length-append, Ok}
-use Rattle.std.proofs.Common.{Err, Option, None, Some, IsSome}
+use Rattle.std.proofs.Common.{Option, None, Some, IsSome}
 use Rattle.std.proofs.lemmas.List.{append-nil, nil_from_length, append_cancel_left, get_or_default, get_or-map}
 use Rattle.std.proofs.lemmas.List.{get_or-set_same, map-set, set-get_or}
 use Rattle.std.proofs.lemmas.List.Elements.{filter-append}
@@ -23,7 +23,6 @@ use Rattle.nr_board.specs.Kinds.{kind_of}
 use Rattle.nr_board.specs.Rule.{StartsWith}
 use Rattle.nr_script.specs.Answers.{Answer}
 use Rattle.nr_script.specs.Answers as answers
-use Rattle.nr_script.specs.declared.alone.answer.PinRefusal.TheVariants as refusals
 use Rattle.nr_map.specs.Hands.{Handed}
 use Rattle.nr_script.specs.MapState.{MapOutcome, Pin, MapState, answer_again, answer_call, answer_pin, find_again}
 use Rattle.nr_script.specs.MapState.{pin_at, pins_after, with_pin, without_pin}
@@ -349,7 +348,3 @@ module _ (laws : Laws) (table : Table) (w0 : Caller) (hands0 : List Handed) (alo
       )
   says_again key answers.Ok inside made = absurd made
   says_again key answers.NoSlot inside made = absurd made
-
-pub many_pins : (xs : List Handed) → length (map pin_of xs) ≡ length xs
-many_pins [] = refl
-many_pins (x ∷ xs) = ap suc (many_pins xs)

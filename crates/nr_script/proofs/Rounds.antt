@@ -53,15 +53,6 @@ starts_each later log caller s =
           ∙ filter-append (λ (e : Entry). e.caller == caller) log s.rest;
     }
 
-pub stays_same : (c : Caller) → WriterStays c c
-stays_same c =
-    record {
-      number = refl;
-      mine = refl;
-      seen = starts_same c.seen;
-      only = record { table = refl; fresh = refl; retired = refl; numbers = refl; marks = refl };
-    }
-
 pub only_then : (a b c : Caller) → OnlyLearnt a b → OnlyLearnt b c → OnlyLearnt a c
 only_then a b c one two =
     record {

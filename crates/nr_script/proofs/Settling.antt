@@ -1,7 +1,7 @@
 -- A line and its round.
 use Rattle.std.proofs.Common.{◌≡◌, ◌≢◌, ◌<◌, ◌≤◌, ℕ, suc, zero, List, [], ◌∷◌, ◌++◌, length, map, get_or, refl, sym, ap}
 use Rattle.std.proofs.Common.{◌∙◌, subst, arith, ⊎_elim}
-use Rattle.std.proofs.lemmas.List.{append-nil}
+use Rattle.std.proofs.lemmas.List.{append-nil, get_or_past, length-map}
 use Rattle.std.proofs.lemmas.Bool.{cases_lt}
 use mathlib.Core.Logic.{dite}
 use native.Mathlib.Decide.{ℕ_discrete}
@@ -15,7 +15,7 @@ use Rattle.nr_script.specs.Alone.{HasJust, IsHand, Laws, ReadyForRound, calls_of
 use Rattle.nr_script.specs.Lines.{IsLine, SettlesLine}
 use Rattle.nr_script.proofs.Rounds.{same_at, same_length, starts_both, starts_each, starts_then}
 use Rattle.nr_board.proofs.Entries.{nobody_else}
-use Rattle.nr_script.proofs.Exactly.{calls_at, exact_step, log_begins, log_is, many_mines}
+use Rattle.nr_script.proofs.Exactly.{calls_at, exact_step, log_begins, log_is}
 
 pub map_still : {B : Type 0} (f : Still → B) (xs : List Handed)
     → map f (map still xs) ≡ map (λ (x : Handed). f (still x)) xs
@@ -25,11 +25,6 @@ map_still f (x ∷ xs) = ap (λ l. f (still x) ∷ l) (map_still f xs)
 pub same_map : {B : Type 0} (f : Still → B) (xs ys : List Handed) → map still xs ≡ map still ys
     → map (λ (x : Handed). f (still x)) xs ≡ map (λ (x : Handed). f (still x)) ys
 same_map f xs ys e = sym (map_still f xs) ∙ ap (λ (l : List Still). map f l) e ∙ map_still f ys
-
-pub beyond_it : (xs : List (List Entry)) (at : ℕ) → length xs ≤ at → get_or xs at [] ≡ []
-beyond_it [] at past = refl
-beyond_it (x ∷ xs) zero past = absurd (omega arith)
-beyond_it (x ∷ xs) (suc at) past = beyond_it xs at (omega arith)
 
 module _ (laws : Laws) (table : Table) (w0 : Caller) (hands0 : List Handed) (w : Caller)
     (hands : List Handed) (first : ℕ) (es : List Entry) (w' : Caller) (hands' : List Handed)
@@ -84,7 +79,7 @@ module _ (laws : Laws) (table : Table) (w0 : Caller) (hands0 : List Handed) (w :
       (λ isnt. of_other at other low isnt)
 
   many : length (map mine_of hands) ≡ length hands
-  many = many_mines hands
+  many = length-map hands mine_of
 
   readers_are : length hands ≡ g.mid.table.shape.readers
   readers_are = line.size ∙ alone.count ∙ ap (λ (t : Table). t.shape.readers) (sym table_is)
@@ -95,7 +90,7 @@ module _ (laws : Laws) (table : Table) (w0 : Caller) (hands0 : List Handed) (w :
       (λ (low : at < length hands). of_reader at (idle w) low ∙ sym (calls_at w.mine hands at (idle w) low))
       (λ (past : length hands ≤ at). nobody_else g.mid.table.shape g.mid.seen (suc at) g.sound.callers
       (omega (arith, readers_are, past))
-      ∙ sym (beyond_it (map mine_of hands) at (omega (arith, many, past))))
+      ∙ sym (get_or_past (map mine_of hands) at [] (omega (arith, many, past))))
       (cases_lt at (length hands))
 
   mid_is : g.mid.seen ≡ log ++ es

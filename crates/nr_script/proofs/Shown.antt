@@ -70,39 +70,11 @@ module _ (puts : PutGoesOn) (table : Table) (log : List Entry) (n : ℕ) (call :
 
   puts_are : (r : Reply) → put_numbers table.shape (log ++ entry n call r ∷ []) ≡ puts_after r (call_key call) state
   puts_are reply.Done = puts_done puts table.shape log n call
-  puts_are (reply.Rows rows) = puts_quiet puts table.shape log (entry n call (reply.Rows rows)) refl
-  puts_are reply.Hole = puts_quiet puts table.shape log (entry n call reply.Hole) refl
-  puts_are (reply.Send m) = puts_quiet puts table.shape log (entry n call (reply.Send m)) refl
-  puts_are reply.Waiting = puts_quiet puts table.shape log (entry n call reply.Waiting) refl
-  puts_are reply.Filled = puts_quiet puts table.shape log (entry n call reply.Filled) refl
-  puts_are reply.NotAsked = puts_quiet puts table.shape log (entry n call reply.NotAsked) refl
-  puts_are reply.Already = puts_quiet puts table.shape log (entry n call reply.Already) refl
-  puts_are reply.Dropped = puts_quiet puts table.shape log (entry n call reply.Dropped) refl
-  puts_are reply.NoRow = puts_quiet puts table.shape log (entry n call reply.NoRow) refl
-  puts_are reply.TooMany = puts_quiet puts table.shape log (entry n call reply.TooMany) refl
-  puts_are reply.Evicted = puts_quiet puts table.shape log (entry n call reply.Evicted) refl
-  puts_are reply.Nothing = puts_quiet puts table.shape log (entry n call reply.Nothing) refl
-  puts_are reply.Worn = puts_quiet puts table.shape log (entry n call reply.Worn) refl
-  puts_are reply.Cancelled = puts_quiet puts table.shape log (entry n call reply.Cancelled) refl
-  puts_are reply.Stale = puts_quiet puts table.shape log (entry n call reply.Stale) refl
+  puts_are r = puts_quiet puts table.shape log (entry n call r) refl
 
   count_is : (r : Reply) → put_count (log ++ entry n call r ∷ []) ≡ put_count_after r state
   count_is reply.Done = (puts log (entry n call reply.Done) 0).0
-  count_is (reply.Rows rows) = quiet_count puts log (entry n call (reply.Rows rows)) refl
-  count_is reply.Hole = quiet_count puts log (entry n call reply.Hole) refl
-  count_is (reply.Send m) = quiet_count puts log (entry n call (reply.Send m)) refl
-  count_is reply.Waiting = quiet_count puts log (entry n call reply.Waiting) refl
-  count_is reply.Filled = quiet_count puts log (entry n call reply.Filled) refl
-  count_is reply.NotAsked = quiet_count puts log (entry n call reply.NotAsked) refl
-  count_is reply.Already = quiet_count puts log (entry n call reply.Already) refl
-  count_is reply.Dropped = quiet_count puts log (entry n call reply.Dropped) refl
-  count_is reply.NoRow = quiet_count puts log (entry n call reply.NoRow) refl
-  count_is reply.TooMany = quiet_count puts log (entry n call reply.TooMany) refl
-  count_is reply.Evicted = quiet_count puts log (entry n call reply.Evicted) refl
-  count_is reply.Nothing = quiet_count puts log (entry n call reply.Nothing) refl
-  count_is reply.Worn = quiet_count puts log (entry n call reply.Worn) refl
-  count_is reply.Cancelled = quiet_count puts log (entry n call reply.Cancelled) refl
-  count_is reply.Stale = quiet_count puts log (entry n call reply.Stale) refl
+  count_is r = quiet_count puts log (entry n call r) refl
 
   -- the map's reply to the call
   abbrev pub reply_here : Reply

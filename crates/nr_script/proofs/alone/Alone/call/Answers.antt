@@ -2,8 +2,9 @@ use Rattle.std.proofs.Common.{◌≡◌, ◌<◌, ℕ, List, length, sym, ap, �
 use Rattle.std.specs.Prelude.{Ok}
 use Rattle.std.proofs.lemmas.List.{with_items_is}
 use Rattle.nr_model.specs.Maps.{SetFits, key_count}
-use Rattle.nr_script.specs.WriterCalls.{writer_key}
-use Rattle.nr_script.specs.WriterCalls.{model_call}
+use Rattle.nr_core.proofs.Histories.{bound-after, length-now}
+use Rattle.nr_board.specs.Callers.{map_at_opening}
+use Rattle.nr_script.specs.WriterCalls.{model_call, writer_key}
 use Rattle.nr_map.specs.Hands.{Handed}
 use Rattle.nr_script.specs.Alone.{IsAlone, log_of, shown_by}
 use Rattle.nr_script.specs.Rounds.{Gathered}
@@ -11,14 +12,13 @@ use Rattle.nr_script.specs.MapState.{MapState, answer_call}
 use Rattle.std.specs.Vec.{with_items}
 use Rattle.nr_script.proofs.Rounds.{same_length}
 use Rattle.nr_script.proofs.Lines.{says}
-use Rattle.nr_script.proofs.Sizes.{bound_is, keys_are}
 use Rattle.nr_script.proofs.alone.Alone.call.Goals as goal
 
 pub call_writer-answer-requires-clause-key : goal.call_writer-answer-requires-clause-key
 call_writer-answer-requires-clause-key c =
     let low
     = subst (λ (s : MapState). writer_key c.args.call.now < key_count s.map) (sym c.self.view_is) c.requires.key in
-    omega (arith, keys_are c.self.inside.map (log_of c.self.inside.writer c.self.inside.hands.items))
+    omega (arith, length-now c.self.inside.map.shape (log_of c.self.inside.writer c.self.inside.hands.items))
 
 pub call_writer-answer-requires-clause-fits : goal.call_writer-answer-requires-clause-fits
 call_writer-answer-requires-clause-fits c =
@@ -26,7 +26,7 @@ call_writer-answer-requires-clause-fits c =
     = subst (λ (s : MapState). SetFits s.map.bound (model_call c.args.call.now)) (sym c.self.view_is)
     c.requires.fits in
     subst (λ (n : ℕ). SetFits n (model_call c.args.call.now))
-    (bound_is c.self.inside.map (log_of c.self.inside.writer c.self.inside.hands.items)) fits
+    (bound-after (log_of c.self.inside.writer c.self.inside.hands.items) (map_at_opening c.self.inside.map)) fits
 
 pub invariant_of-self : goal.invariant_of-self
 invariant_of-self c =

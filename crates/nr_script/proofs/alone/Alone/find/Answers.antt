@@ -1,68 +1,28 @@
-use Rattle.std.proofs.Common.{◌<◌, sym, subst, arith, Ok, Result}
-use Rattle.nr_model.specs.Maps.{key_count}
+use Rattle.std.proofs.Common.{arith}
 use Rattle.nr_model.specs.declared.calls.Call.TheVariants as model
-use Rattle.nr_script.specs.Answers.{Answer}
-use Rattle.nr_script.specs.declared.alone.answer.PinRefusal.{PinRefusal}
-use Rattle.nr_script.specs.Alone.{log_of}
-use Rattle.nr_script.specs.MapState.{MapState, answer_of_reader}
-use Rattle.nr_script.specs.Hands.{MakesCall}
-use Rattle.nr_script.proofs.AfterLine.{alone_here, answers_here, place_here, round_after_note}
-use Rattle.nr_script.proofs.ReaderLines.{says_call}
-use Rattle.nr_script.proofs.Sizes.{keys_are}
+use Rattle.nr_script.proofs.AfterLine.{call_ends, key_inside}
 use Rattle.nr_script.proofs.alone.Alone.find.Goals as goal
 
 pub find_at-requires-clause-key : goal.find_at-requires-clause-key
 find_at-requires-clause-key c =
-    let low = subst (λ (s : MapState). c.args.key < key_count s.map) (sym c.self.view_is) c.requires.key in
-    omega (arith, keys_are c.self.inside.map (log_of c.self.inside.writer c.self.inside.hands.items))
+    omega (
+      arith,
+      key_inside c.self.inside.map c.self.inside.writer c.self.inside.hands.items _ c.args.key
+          c.self.view_is c.requires.key,
+    )
 
 pub invariant_of-self-2 : goal.invariant_of-self-2
 invariant_of-self-2 c =
-    let map = c.self.inside.map in
-    let w0 = c.self.inside.writer in
-    let hands = c.self.inside.hands in
-    let at = c.args.at in
-    let w' = c.gather_round.new.writer in
-    let hands' = c.gather_round.new.hands in
-    let items = c.as_mut_slice.ensures.value in
-    let old = c.index_mut.result.now in
-    let x = c.find_at.new.hand in
-    let call = model.Find c.args.key in
-    let answer = c.in_ok-answer.answer in
-    let g
-    = round_after_note map w0 hands at x w' hands' _ items _ _ answer c.in_ok-answer.was c.find_at.ensures.writer
-    c.gather_round.ensures in
-    let low = place_here map w0 hands at _ c.self.view_is c.requires.reader in
-    let made : MakesCall c.self.inside.writer.seen call old x (Ok answer)
-    = subst (λ (r : Result Answer PinRefusal). MakesCall c.self.inside.writer.seen call old x r) c.in_ok-answer.was
-    c.find_at.ensures.made in
-    let said
-    = says_call c.laws.ensures map w0 hands.items c.self.invariant at old x low c.index_mut.ensures.value w'
-    hands' g c.self.inside.writer.seen call answer made in
-    alone_here map w0 hands at x w' hands' _ items c.as_mut_slice.ensures.len g said.0
+    (call_ends c.laws.ensures c.self.inside.map c.self.inside.writer c.self.inside.hands c.self.invariant c.args.at
+    _ c.self.view_is c.requires.reader c.index_mut.result.now c.find_at.new.hand c.index_mut.ensures.value
+    c.gather_round.new.writer c.gather_round.new.hands _ c.as_mut_slice.ensures.value c.as_mut_slice.ensures.len
+    _ c.in_ok-answer.answer c.in_ok-answer.was
+    _ (model.Find c.args.key) c.find_at.ensures.writer c.gather_round.ensures c.find_at.ensures.made).0
 
 pub returns : goal.returns
 returns c =
-    let map = c.self.inside.map in
-    let w0 = c.self.inside.writer in
-    let hands = c.self.inside.hands in
-    let at = c.args.at in
-    let w' = c.gather_round.new.writer in
-    let hands' = c.gather_round.new.hands in
-    let items = c.as_mut_slice.ensures.value in
-    let old = c.index_mut.result.now in
-    let x = c.find_at.new.hand in
-    let call = model.Find c.args.key in
-    let answer = c.in_ok-answer.answer in
-    let g
-    = round_after_note map w0 hands at x w' hands' _ items _ _ answer c.in_ok-answer.was c.find_at.ensures.writer
-    c.gather_round.ensures in
-    let low = place_here map w0 hands at _ c.self.view_is c.requires.reader in
-    let made : MakesCall c.self.inside.writer.seen call old x (Ok answer)
-    = subst (λ (r : Result Answer PinRefusal). MakesCall c.self.inside.writer.seen call old x r) c.in_ok-answer.was
-    c.find_at.ensures.made in
-    let said
-    = says_call c.laws.ensures map w0 hands.items c.self.invariant at old x low c.index_mut.ensures.value w'
-    hands' g c.self.inside.writer.seen call answer made in
-    answers_here map w0 hands at x w' hands' _ items c.as_mut_slice.ensures.len g
-    (λ (s : MapState). answer_of_reader s at call) _ answer c.self.view_is said.1
+    (call_ends c.laws.ensures c.self.inside.map c.self.inside.writer c.self.inside.hands c.self.invariant c.args.at
+    _ c.self.view_is c.requires.reader c.index_mut.result.now c.find_at.new.hand c.index_mut.ensures.value
+    c.gather_round.new.writer c.gather_round.new.hands _ c.as_mut_slice.ensures.value c.as_mut_slice.ensures.len
+    _ c.in_ok-answer.answer c.in_ok-answer.was
+    _ (model.Find c.args.key) c.find_at.ensures.writer c.gather_round.ensures c.find_at.ensures.made).1
