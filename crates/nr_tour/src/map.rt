@@ -19,7 +19,7 @@ mod upkeep;
 
 pub use crate::map::calls::{ROWS, ask_and_fill, set_of};
 pub use crate::map::opening::opened;
-pub use crate::map::page::Page;
+pub use crate::map::page::{Page, print};
 use crate::map::sizes::MORE;
 use crate::map::upkeep::CHANGE;
 use nr_model::Batch;
@@ -38,32 +38,32 @@ pub fn show_map<R: AllocGlobal + Print + Threads + Sync>(rt: &R) -> anyhow::Resu
 // Finds and requests.
 fn show_reads<R: AllocGlobal + Print + Threads + Sync>(rt: &R) -> anyhow::Result<()> {
     let alloc = rt.alloc();
-    lookups::chapter(alloc)?.print(rt)?;
-    many::chapter(alloc)?.print(rt)?;
-    threads::chapter(rt, alloc)?.print(rt)
+    print(rt, lookups::chapter(alloc))?;
+    print(rt, many::chapter(alloc))?;
+    print(rt, threads::chapter(rt, alloc))
 }
 
 // What the writer changes, and what readers keep meanwhile.
 fn show_changes<R: AllocGlobal + Print>(rt: &R, change: &Batch) -> anyhow::Result<()> {
     let alloc = rt.alloc();
-    upkeep::chapter(alloc, change)?.print(rt)?;
-    pins::chapter(alloc, change)?.print(rt)?;
-    hands::chapter(alloc, change)?.print(rt)
+    print(rt, upkeep::chapter(alloc, change))?;
+    print(rt, pins::chapter(alloc, change))?;
+    print(rt, hands::chapter(alloc, change))
 }
 
 // Rooms, slots and sizes.
 fn show_places<R: AllocGlobal + Print>(rt: &R, change: &Batch) -> anyhow::Result<()> {
     let alloc = rt.alloc();
-    rooms::chapter(alloc)?.print(rt)?;
-    reclaiming::chapter(alloc)?.print(rt)?;
-    slots::chapter(alloc, change)?.print(rt)?;
+    print(rt, rooms::chapter(alloc))?;
+    print(rt, reclaiming::chapter(alloc))?;
+    print(rt, slots::chapter(alloc, change))?;
     let more = Batch::of(&MORE)?;
-    sizes::chapter(alloc, change, &more)?.print(rt)
+    print(rt, sizes::chapter(alloc, change, &more))
 }
 
 // What is taken back, and what one token tells another.
 fn show_meetings<R: AllocGlobal + Print>(rt: &R) -> anyhow::Result<()> {
     let alloc = rt.alloc();
-    cancels::chapter(alloc)?.print(rt)?;
-    meetings::chapter(alloc)?.print(rt)
+    print(rt, cancels::chapter(alloc))?;
+    print(rt, meetings::chapter(alloc))
 }

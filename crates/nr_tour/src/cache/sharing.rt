@@ -6,7 +6,7 @@ ghost use Rattle.nr_tour.specs.Deeds.{Did, EachHeldIsFresh};
 use crate::cache::deeds::Deed;
 use crate::cache::desk::Desk;
 use crate::map::Page;
-use nr_cache::{Begun, Flight, GivenValue, Landed, Store, StoreShape, find};
+use nr_cache::{Begun, Flight, FoundValue, GivenValue, Landed, Store, StoreShape, find};
 use nr_idmap::{IdHand, IdMap, IdReader};
 use nr_model::OpenFault;
 use std::alloc::{AllocError, Global};
@@ -45,6 +45,13 @@ fn begin<R: Wait>(rt: &R, desk: &Mutex<Desk<'_>>, id: u64) -> Result<Option<Flig
     match desk.lock(rt).begin(id)? {
         Begun::Load(flight) => Ok(Some(flight)),
         Begun::Held | Begun::Wait(_) | Begun::Alone => Ok(None),
+    }
+}
+
+fn value_of(found: Option<FoundValue>) -> Option<u64> {
+    match found {
+        Some(found) => Some(found.value),
+        None => None,
     }
 }
 
@@ -106,7 +113,7 @@ fn load_in_turn<R: Wait>(rt: &R, desk: &Mutex<Desk<'_>>, id: u64) -> Result<Told
     let failed = fail(rt, desk, id)?;
     let held_late = load_late(rt, desk, id)?;
     Ok(Told {
-        found: found.map(|found| found.value),
+        found: value_of(found),
         evicted,
         failed,
         held_late,
@@ -129,6 +136,12 @@ fn done_by_now<R: Wait>(rt: &R, desk: &Mutex<Desk<'_>>) -> Result<VecDeque<Deed>
     desk.lock(rt).deeds.clone()
 }
 
+fn show_told(is_one: bool, one: &Told, two: &Told, page: &mut Page) {
+    page.line("of the two only one loads the id that both miss: ", &is_one);
+    page.line("one of its own: ", one);
+    page.line("the other: ", two);
+}
+
 // Two threads at once.
 fn share<R: Threads + Wait + Sync>(
     rt: &R,
@@ -138,12 +151,7 @@ fn share<R: Threads + Wait + Sync>(
     let (one, two) = join(rt, || work(rt, desk, 1), || work(rt, desk, 2));
     let (first, one) = one?;
     let (second, two) = two?;
-    page.line(
-        "of the two only one loads the id that both miss: ",
-        &(first != second),
-    );
-    page.line("one of its own: ", &one);
-    page.line("the other: ", &two);
+    show_told(first != second, &one, &two, page);
     page.line("so much was done: ", &done_by_now(rt, desk)?.len());
     Ok(())
 }
@@ -167,20 +175,37 @@ fn found_alone(map: &IdMap, reader: IdReader) -> Option<u64>
     let mut hand = IdHand::of(reader);
     let found = find(map, &mut hand, BOTH);
     hand.into_reader(map);
-    found.map(|found| found.value)
+    value_of(found)
+}
+
+// The store goes behind a lock for a while.
+fn share_and_end<R: Threads + Wait + Sync>(
+    rt: &R,
+    alloc: Global,
+    map: &IdMap,
+    store: Store,
+    page: &mut Page,
+) -> Result<(), AllocError>
+    requires own { store.keeper.table ≡ map.now }
+    requires new { Did [] store }
+{
+    let desk = Mutex::new(Desk::of(alloc, map, store));
+    let shared = share(rt, &desk, page);
+    let (_deeds, left) = desk.into_inner().end();
+    page.line("flights left: ", &left.len());
+    shared
 }
 
 pub fn chapter<R: Threads + Wait + Sync>(rt: &R, alloc: Global) -> Result<Page, OpenFault> {
-    let mut page = Page::titled(alloc, "A shared store");
     let (map, store, reader) = opened(alloc)?;
-    let desk = Mutex::new(Desk::of(alloc, &map, store));
-    let shared = share(rt, &desk, &mut page);
-    let (_deeds, left) = desk.into_inner().end();
-    shared.map_err(|_| OpenFault::Memory)?;
-    page.line("flights left: ", &left.len());
+    let mut page = Page::titled(alloc, "A shared store");
+    let shared = share_and_end(rt, alloc, &map, store, &mut page);
     page.line(
         "without the lock a reader finds ",
         &found_alone(&map, reader),
     );
-    Ok(page)
+    match shared {
+        Ok(()) => Ok(page),
+        Err(_) => Err(OpenFault::Memory),
+    }
 }

@@ -2,6 +2,7 @@
 ghost use Rattle.std.specs.Prelude.{◌≡◌, ◌<◌};
 
 use nr_ids::{Clerk, Directory, Reader, Refused, Requested};
+use std::io;
 use std::io::Print;
 
 // What a thread comes to that wants an id's rows.
@@ -49,6 +50,38 @@ fn answer(directory: &Directory, clerk: &mut Clerk, id: u64) -> Option<u32>
     }
 }
 
+fn show_admitted<R: Print>(
+    rt: &R,
+    directory: &Directory,
+    clerk: &mut Clerk,
+    reader: &mut Reader,
+) -> io::Result<()>
+    requires own { (clerk.old.directory ≡ directory.now) × (reader.old.directory ≡ directory.now) }
+    ensures own { (clerk.new.directory ≡ directory.now) × (reader.new.directory ≡ directory.now) }
+{
+    let first = ask_for(directory, reader, 42);
+    let second = ask_for(directory, reader, 42);
+    let way = answer(directory, clerk, 42);
+    let found = directory.look_up(reader, 42);
+    println!(rt; "id 42: {first:?}, then {second:?}; admitted to {way:?}, and found in {found:?}")
+}
+
+fn show_groups<R: Print>(rt: &R, directory: &Directory) -> io::Result<()> {
+    let plan = directory.plan();
+    let (group, second) = (plan.group_of(42), plan.second_of(42));
+    let first = plan.first_way(42);
+    println!(rt; "its groups are {group} and {second}; the first's ways begin at {first}")
+}
+
+fn unname(directory: &Directory, clerk: &mut Clerk)
+    requires own { clerk.old.directory ≡ directory.now }
+    ensures own { clerk.new.directory ≡ directory.now }
+{
+    if let Some(way) = directory.way_of(clerk, 42) {
+        directory.unname(clerk, way);
+    }
+}
+
 /// A miss of id 42, which is admitted and loses its way again.
 pub fn show_misses<R: AllocGlobal + Print>(
     rt: &R,
@@ -59,18 +92,9 @@ pub fn show_misses<R: AllocGlobal + Print>(
     requires own { (clerk.old.directory ≡ directory.now) × (reader.old.directory ≡ directory.now) }
     ensures own { (clerk.new.directory ≡ directory.now) × (reader.new.directory ≡ directory.now) }
 {
-    let first = ask_for(directory, reader, 42);
-    let second = ask_for(directory, reader, 42);
-    let way = answer(directory, clerk, 42);
-    let found = directory.look_up(reader, 42);
-    println!(rt; "id 42: {first:?}, then {second:?}; admitted to {way:?}, and found in {found:?}")?;
-    let plan = directory.plan();
-    let (group, second) = (plan.group_of(42), plan.second_of(42));
-    let first = plan.first_way(42);
-    println!(rt; "its groups are {group} and {second}; the first's ways begin at {first}")?;
-    if let Some(way) = directory.way_of(clerk, 42) {
-        directory.unname(clerk, way);
-    }
+    show_admitted(rt, directory, clerk, reader)?;
+    show_groups(rt, directory)?;
+    unname(directory, clerk);
     let gone = directory.look_up(reader, 42);
     println!(rt; "without its name: {gone:?}")?;
     Ok(())

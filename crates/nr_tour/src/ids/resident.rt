@@ -1,16 +1,20 @@
 //! A map over ids: one thread misses, its claim is answered, and it finds.
-ghost use Rattle.std.specs.Prelude.{◌≡◌, ◌<◌, IfSome};
+ghost use Rattle.std.specs.Prelude.{◌≡◌, ◌<◌, IfOk, IfSome};
 ghost use Rattle.nr_idmap.specs.Keepers.{id_rows, id_table_of};
 
 use crate::ids::answering::answer;
 use crate::ids::wanting::want;
-use nr_idmap::{IdMap, IdReader, IdShape, IdWriter, Upquery};
-use nr_model::{Row, RowSet};
+use nr_idmap::{ClosedMap, IdMap, IdReader, IdShape, IdWriter, Upquery};
+use nr_model::{OpenFault, Row, RowSet};
+use std::alloc::Global;
 use std::io;
 use std::io::Print;
 
-/// A map over ids for one reader is opened, and ends.
-pub fn show_ids<R: AllocGlobal + Print>(rt: &R) -> anyhow::Result<()> {
+/// A map over ids with its writer and its one reader.
+pub fn opened_ids(alloc: Global) -> Result<(IdMap, IdWriter, IdReader), OpenFault>
+    ensures own { IfOk result (λ (map, writer, reader). (writer.table ≡ map) × (id_table_of reader ≡ map)) }
+    ensures room { IfOk result (λ (map, _, _). 0 < id_rows map) }
+{
     // The key of a program that serves strangers is drawn at random.
     let shape = IdShape {
         groups: 2,
@@ -20,18 +24,42 @@ pub fn show_ids<R: AllocGlobal + Print>(rt: &R) -> anyhow::Result<()> {
         rows: 3,
         first_number: 0,
     };
-    let (map, mut writer, mut readers) = IdMap::open(rt.alloc(), &shape)?;
-    let (told, left) = match readers.pop() {
-        Some(mut reader) => show_miss(rt, &map, &mut writer, &mut reader),
-        None => (Ok(()), None),
+    let (map, writer, mut readers) = IdMap::open(alloc, &shape)?;
+    let Some(reader) = readers.pop() else {
+        unreachable!()
     };
-    let gone = map.close();
+    Ok((map, writer, reader))
+}
+
+/// Nobody fills it any more.
+pub fn end_upquery(left: Option<Upquery>, gone: &ClosedMap)
+    requires { IfSome left (λ upquery. upquery.table ≡ gone.now) }
+{
     if let Some(upquery) = left {
-        // Nobody fills it any more.
-        upquery.end(&gone);
+        upquery.end(gone);
     }
-    told?;
+}
+
+/// A map over ids for one reader is opened, and ends.
+pub fn show_ids<R: AllocGlobal + Print>(rt: &R) -> anyhow::Result<()> {
+    let (map, writer, reader) = opened_ids(rt.alloc())?;
+    show_and_close(rt, map, writer, reader)?;
     Ok(())
+}
+
+// An upquery can't be dropped, so from here on there is no way out by a `?`.
+fn show_and_close<R: Print>(
+    rt: &R,
+    map: IdMap,
+    mut writer: IdWriter,
+    mut reader: IdReader,
+) -> io::Result<()>
+    requires own { (writer.table ≡ map) × (id_table_of reader ≡ map) }
+    requires room { 0 < id_rows map }
+{
+    let (told, left) = show_miss(rt, &map, &mut writer, &mut reader);
+    end_upquery(left, &map.close());
+    told
 }
 
 // An id is missed, claimed, answered and found. An upquery that isn't filled is left.

@@ -3,7 +3,8 @@
 ghost use Rattle.std.specs.Prelude.{◌≡◌, ◌<◌, IfOk, IfSome};
 ghost use Rattle.nr_idmap.specs.Keepers.{id_rows, id_table_of};
 
-use nr_idmap::{Claim, ClosedMap, IdMap, IdReader, IdShape, IdWriter, Requested, Upquery};
+use crate::ids::resident::{end_upquery, opened_ids};
+use nr_idmap::{Claim, IdMap, IdReader, IdWriter, Requested, Upquery};
 use nr_idserve::{GotId, IdClient, IdDataflow, IdService, NoVictims, Taken};
 use nr_model::{OpenFault, Row, RowSet};
 use nr_serve::Lobby;
@@ -79,15 +80,6 @@ fn end_claim(kept: Option<Claim>) {
     }
 }
 
-// Nobody fills it any more.
-fn end_upquery(left: Option<Upquery>, gone: &ClosedMap)
-    requires { IfSome left (λ upquery. upquery.table ≡ gone.now) }
-{
-    if let Some(upquery) = left {
-        upquery.end(gone);
-    }
-}
-
 // The client misses id 42, and finds it once the dataflow has filled it. What is left at the end: an
 // upquery that isn't filled, and one that is kept. The queue has a claim then that nobody answers.
 fn serve<R: Wait + Print>(
@@ -125,28 +117,58 @@ fn tell<R: Print>(rt: &R, missed: GotId, found: GotId, rows: &RowSet) -> io::Res
     )
 }
 
-/// A map over ids for one client is opened, and ends.
-pub fn show_client<R: AllocGlobal + Wait + Print>(rt: &R) -> anyhow::Result<()> {
-    // The key of a program that serves strangers is drawn at random.
-    let shape = IdShape {
-        groups: 2,
-        key: 5,
-        slots: 18,
-        readers: 1,
-        rows: 3,
-        first_number: 0,
-    };
-    let (map, writer, mut readers) = IdMap::open(rt.alloc(), &shape)?;
-    let (claims, poster, taker) = opened_queue(rt.alloc())?;
-    let service = IdService::of(map, claims, Lobby::open(rt.alloc())?);
-    let Some(reader) = readers.pop() else {
-        return Ok(());
-    };
+/// A map over ids and a queue of its claims, with a token of each kind.
+#[derive(Drop)]
+struct IdServer {
+    map: IdMap,
+    writer: IdWriter,
+    reader: IdReader,
+    claims: Triggers,
+    poster: Poster,
+    taker: Taker,
+}
+
+fn opened_server(alloc: Global) -> Result<IdServer, OpenFault>
+    ensures map { IfOk result (λ server. (server.writer.table ≡ server.map) × (id_table_of server.reader ≡ server.map) × (0 < id_rows server.map)) }
+    ensures queue { IfOk result (λ server. (server.poster.queue ≡ server.claims.id) × (0 < server.poster.keys) × (server.taker.queue ≡ server.claims.id)) }
+{
+    let (claims, poster, taker) = opened_queue(alloc)?;
+    let (map, writer, reader) = opened_ids(alloc)?;
+    Ok(IdServer {
+        map,
+        writer,
+        reader,
+        claims,
+        poster,
+        taker,
+    })
+}
+
+// An upquery can't be dropped, so from here on there is no way out by a `?`.
+fn serve_and_close<R: Wait + Print>(rt: &R, server: IdServer, lobby: Lobby) -> io::Result<()>
+    requires map { (server.writer.table ≡ server.map) × (id_table_of server.reader ≡ server.map) × (0 < id_rows server.map) }
+    requires queue { (server.poster.queue ≡ server.claims.id) × (0 < server.poster.keys) × (server.taker.queue ≡ server.claims.id) }
+{
+    let IdServer {
+        map,
+        writer,
+        reader,
+        claims,
+        poster,
+        taker,
+    } = server;
+    let service = IdService::of(map, claims, lobby);
     let (told, left, kept) = serve(rt, &service, reader, poster, writer, taker);
     let (map, _claims, _lobby) = service.into_parts();
     let gone = map.close();
     end_upquery(left, &gone);
     end_upquery(kept, &gone);
-    told?;
+    told
+}
+
+/// A map over ids for one client is opened, and ends.
+pub fn show_client<R: AllocGlobal + Wait + Print>(rt: &R) -> anyhow::Result<()> {
+    let lobby = Lobby::open(rt.alloc())?;
+    serve_and_close(rt, opened_server(rt.alloc())?, lobby)?;
     Ok(())
 }

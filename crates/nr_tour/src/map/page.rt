@@ -41,6 +41,7 @@ impl Page {
         }
     }
 
+    /// Prints the page, if it is whole.
     pub fn print<R: Print>(&self, rt: &R) -> anyhow::Result<()> {
         if !self.is_whole {
             Err(OpenFault::Memory)?;
@@ -48,4 +49,9 @@ impl Page {
         println!(rt; "{}", self.text)?;
         Ok(())
     }
+}
+
+/// Prints a chapter, if it could be written.
+pub fn print<R: Print>(rt: &R, chapter: Result<Page, OpenFault>) -> anyhow::Result<()> {
+    chapter?.print(rt)
 }

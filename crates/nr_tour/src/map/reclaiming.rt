@@ -1,10 +1,10 @@
 //! Rows that refer to texts, which are freed when nobody can see their set any more.
-ghost use Rattle.std.specs.Prelude.{◌≡◌, ◌<◌};
+ghost use Rattle.std.specs.Prelude.{◌≡◌, ◌<◌, All, length};
 
 use crate::map::calls::ask;
 use crate::map::page::Page;
 use crate::map::texts::Texts;
-use nr_map::{FillFault, Pin, Reader, ReaderMap, Reaped, Reclaimed, Remains, Writer};
+use nr_map::{FillFault, Pin, Reader, ReaderMap, Reaped, Reclaimed, Remains, Rest, Writer};
 use nr_model::{Delta, OpenFault, Row, SortedRows};
 use std::alloc::Global;
 
@@ -125,34 +125,74 @@ fn put_three(
     reader
 }
 
-// A key whose set is put three times, in a map of two slots.
-fn give_back(alloc: Global, texts: &mut Texts, page: &mut Page) -> Result<(), OpenFault> {
-    let (map, mut writer, mut readers) = ReaderMap::open(alloc, 1, 2, 1, 0)?;
+// The one reader of a map leaves its list and is back in it, where there is room for it still.
+fn put_by_one(
+    map: &ReaderMap,
+    writer: &mut Writer,
+    readers: &mut Vec<Reader>,
+    texts: &mut Texts,
+    page: &mut Page,
+)
+    requires own { writer.old.table ≡ map.now }
+    requires key { 0 < map.now.shape.keys }
+    requires rows { 0 < map.now.shape.rows }
+    requires one { length readers.old.items ≡ 1 }
+    requires readers { All (λ reader. reader.table ≡ map.now) readers.old.items }
+    ensures own { writer.new.table ≡ map.now }
+    ensures one { length readers.new.items ≡ 1 }
+    ensures readers { All (λ reader. reader.table ≡ map.now) readers.new.items }
+{
     let Some(reader) = readers.pop() else {
         unreachable!()
     };
-    let reader = put_three(&map, &mut writer, reader, texts, page);
-    readers.push(reader).map_err(|_| OpenFault::Memory)?;
+    let reader = put_three(map, writer, reader, texts, page);
+    readers.push_reserved(reader);
+}
+
+// A key whose set is put three times, in a map of two slots.
+fn give_back(alloc: Global, texts: &mut Texts, page: &mut Page) -> Result<(), OpenFault> {
+    let (map, mut writer, mut readers) = ReaderMap::open(alloc, 1, 2, 1, 0)?;
+    put_by_one(&map, &mut writer, &mut readers, texts, page);
     free_rest(map.take_apart(writer, readers), 2, texts);
     page.line("at the end of the map: ", &texts.count());
     Ok(())
 }
 
-// The sets of a map that isn't given away come out where they lie. Here one of two slots was taken.
-fn leave_in_place(alloc: Global, page: &mut Page) -> Result<(), OpenFault> {
-    let (map, mut writer, mut readers) = ReaderMap::open(alloc, 1, 2, 1, 0)?;
+// The one reader asks for the key, which is filled.
+fn fill_for_one(map: &ReaderMap, writer: &mut Writer, readers: &mut Vec<Reader>, page: &mut Page)
+    requires own { writer.old.table ≡ map.now }
+    requires key { 0 < map.now.shape.keys }
+    requires rows { 0 < map.now.shape.rows }
+    requires one { length readers.old.items ≡ 1 }
+    requires readers { All (λ reader. reader.table ≡ map.now) readers.old.items }
+    ensures own { writer.new.table ≡ map.now }
+    ensures one { length readers.new.items ≡ 1 }
+    ensures readers { All (λ reader. reader.table ≡ map.now) readers.new.items }
+{
     let Some(mut reader) = readers.pop() else {
         unreachable!()
     };
-    ask(&map, &mut reader, 0);
-    page.line("a fill: ", &fill(&map, &mut writer));
-    readers.push(reader).map_err(|_| OpenFault::Memory)?;
-    let mut rest = map.leave(writer, readers);
+    ask(map, &mut reader, 0);
+    page.line("a fill: ", &fill(map, writer));
+    readers.push_reserved(reader);
+}
+
+// What is left of a map that stays. One of its two slots was taken.
+fn show_rest(map: &ReaderMap, mut rest: Rest, page: &mut Page)
+    requires own { rest.writer.table ≡ map.now }
+{
     let mut had = SortedRows::new();
-    let first = rest.next_of(&map, &mut had);
-    let second = rest.next_of(&map, &mut had);
+    let first = rest.next_of(map, &mut had);
+    let second = rest.next_of(map, &mut had);
     page.line("where it lies: ", &[first, second]);
     page.more(": ", &had.as_slice());
+}
+
+// The sets of a map that isn't given away come out where they lie.
+fn leave_in_place(alloc: Global, page: &mut Page) -> Result<(), OpenFault> {
+    let (map, mut writer, mut readers) = ReaderMap::open(alloc, 1, 2, 1, 0)?;
+    fill_for_one(&map, &mut writer, &mut readers, page);
+    show_rest(&map, map.leave(writer, readers), page);
     Ok(())
 }
 

@@ -1,12 +1,20 @@
 //! The dataflow's store of texts, to which rows refer.
 use nr_model::{OpenFault, Row};
-use std::alloc::Global;
+use std::alloc::{AllocError, Global};
 
 const TEXTS: [&str; 3] = [
     "short",
     "a text of more words",
     "the longest, which stands in the map at its end",
 ];
+
+fn copies(alloc: Global) -> Result<Vec<Option<String>>, AllocError> {
+    let mut texts = Vec::new(alloc);
+    for text in TEXTS {
+        texts.push(Some(String::from_str(alloc, text)?))?;
+    }
+    Ok(texts)
+}
 
 /// A row `a:b` refers to the text at place `b`; `a` puts the rows of a set in order.
 #[derive(Drop)]
@@ -17,12 +25,10 @@ pub struct Texts {
 impl Texts {
     /// A store with a text at each of the places 0 to 2.
     pub fn of_three(alloc: Global) -> Result<Texts, OpenFault> {
-        let mut texts = Vec::new(alloc);
-        for text in TEXTS {
-            let text = String::from_str(alloc, text).map_err(|_| OpenFault::Memory)?;
-            texts.push(Some(text)).map_err(|_| OpenFault::Memory)?;
+        match copies(alloc) {
+            Ok(texts) => Ok(Texts { texts }),
+            Err(_) => Err(OpenFault::Memory),
         }
-        Ok(Texts { texts })
     }
 
     /// The text that a row refers to. Who holds the row's set finds it there.

@@ -5,7 +5,7 @@ ghost use Rattle.nr_serve.specs.Applied.{HasPut};
 
 use crate::map::{Page, ask_and_fill, set_of};
 use crate::server::flow::end;
-use crate::server::queue::{Server, opened_server};
+use crate::server::queue::{Server, opened_with_lobby};
 use crate::server::source::Shelf;
 use nr_model::{OpenFault, Row, RowSet};
 use nr_serve::{Applied, Client, Dataflow, Lobby, Measure, OpenGate, Service};
@@ -93,8 +93,7 @@ fn work<R: Wait>(rt: &R, server: Server, lobby: Lobby, page: &mut Page)
 
 /// A client in whose get all is found that was told.
 pub fn told_and_heard<R: Wait>(rt: &R, alloc: Global) -> Result<Page, OpenFault> {
-    let server = opened_server(alloc, 4)?;
-    let lobby = Lobby::open(alloc)?;
+    let (server, lobby) = opened_with_lobby(alloc, 4)?;
     let mut page = Page::titled(alloc, "How much was applied");
     work(rt, server, lobby, &mut page);
     Ok(page)

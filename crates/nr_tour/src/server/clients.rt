@@ -2,7 +2,7 @@
 ghost use Rattle.std.specs.Prelude.{◌≡◌};
 
 use crate::map::Page;
-use crate::server::queue::{Server, opened_server};
+use crate::server::queue::{Server, opened_with_lobby};
 use crate::server::source::Shelf;
 use nr_map::{Reader, Writer};
 use nr_model::{OpenFault, RowSet};
@@ -97,8 +97,11 @@ fn serve_beside<R: Threads + Wait + Sync>(
     )
 }
 
-/// A client gets key 1 while the dataflow takes turns.
-pub fn waited_for<R: Threads + Wait + Sync>(rt: &R, alloc: Global) -> Result<Page, OpenFault> {
+fn serve<R: Threads + Wait + Sync>(rt: &R, server: Server, lobby: Lobby) -> Option<Served>
+    requires map { (server.writer.table ≡ server.map) × (server.reader.table ≡ server.map) × (server.map.shape.keys ≡ 2) }
+    requires poster { (server.poster.queue ≡ server.triggers.id) × (server.poster.keys ≡ 2) }
+    requires taker { (server.taker.queue ≡ server.triggers.id) × (server.taker.keys ≡ 2) }
+{
     let Server {
         map,
         writer,
@@ -106,14 +109,23 @@ pub fn waited_for<R: Threads + Wait + Sync>(rt: &R, alloc: Global) -> Result<Pag
         triggers,
         poster,
         taker,
-    } = opened_server(alloc, 4)?;
-    let service = Service::of(map, triggers, Lobby::open(alloc)?);
+    } = server;
+    let service = Service::of(map, triggers, lobby);
+    serve_beside(rt, &service, reader, poster, writer, taker)
+}
+
+fn show_served(served: &Served, page: &mut Page) {
+    page.line("it got ", &served.got);
+    page.more(": ", &served.rows.as_slice());
+    page.line("requests to be sent: ", &served.sends);
+}
+
+/// A client gets key 1 while the dataflow takes turns.
+pub fn waited_for<R: Threads + Wait + Sync>(rt: &R, alloc: Global) -> Result<Page, OpenFault> {
+    let (server, lobby) = opened_with_lobby(alloc, 4)?;
     let mut page = Page::titled(alloc, "A client");
-    let served = serve_beside(rt, &service, reader, poster, writer, taker);
-    if let Some(served) = served {
-        page.line("it got ", &served.got);
-        page.more(": ", &served.rows.as_slice());
-        page.line("requests to be sent: ", &served.sends);
+    if let Some(served) = serve(rt, server, lobby) {
+        show_served(&served, &mut page);
     }
     Ok(page)
 }

@@ -3,7 +3,7 @@ ghost use Rattle.std.specs.Prelude.{◌≡◌};
 
 use crate::map::Page;
 use crate::server::flow::{end, take_turn};
-use crate::server::queue::{Server, opened_server};
+use crate::server::queue::{Server, opened_with_lobby};
 use crate::server::source::Shelf;
 use nr_model::{OpenFault, RowSet};
 use nr_serve::{Client, Dataflow, Got, Lobby, OpenGate, Service};
@@ -66,8 +66,7 @@ fn work<R: Wait + Clock>(rt: &R, server: Server, lobby: Lobby, until: Instant, p
 
 /// Two gets of a key that is filled between them, each until that time, which is past.
 pub fn in_time<R: Wait + Clock>(rt: &R, alloc: Global, until: Instant) -> Result<Page, OpenFault> {
-    let server = opened_server(alloc, 4)?;
-    let lobby = Lobby::open(alloc)?;
+    let (server, lobby) = opened_with_lobby(alloc, 4)?;
     let mut page = Page::titled(alloc, "A limit of time");
     work(rt, server, lobby, until, &mut page);
     Ok(page)

@@ -3,7 +3,7 @@
 ghost use Rattle.std.specs.Prelude.{◌≡◌};
 
 use crate::map::Page;
-use crate::server::queue::{Server, opened_server};
+use crate::server::queue::{Server, opened_with_lobby};
 use crate::server::source::Shelf;
 use nr_map::UpdateFault;
 use nr_model::{Batch, Delta, OpenFault, Row, RowSet};
@@ -141,8 +141,7 @@ pub fn end(client: Client<'_, OpenGate>, flow: Dataflow<'_, Shelf>) {
 
 /// A client and a dataflow in one hand.
 pub fn in_one_hand<R: Wait>(rt: &R, alloc: Global, by: &Batch) -> Result<Page, OpenFault> {
-    let server = opened_server(alloc, 4)?;
-    let lobby = Lobby::open(alloc)?;
+    let (server, lobby) = opened_with_lobby(alloc, 4)?;
     let mut page = Page::titled(alloc, "A dataflow");
     work(rt, server, lobby, by, &mut page);
     Ok(page)

@@ -2,7 +2,7 @@
 ghost use Rattle.std.specs.Prelude.{◌≡◌};
 
 use crate::map::{Page, ask_and_fill};
-use crate::server::queue::{Server, opened_server};
+use crate::server::queue::{Server, opened_with_lobby};
 use nr_map::Reader;
 use nr_model::{OpenFault, RowSet};
 use nr_serve::{Client, Gate, Got, Lobby, Service};
@@ -80,8 +80,7 @@ fn get_filled<R: Wait>(rt: &R, server: Server, lobby: Lobby, page: &mut Page)
 
 /// A client finds key 0 filled, and has its rows once the gate lets it pass.
 pub fn held_back<R: Wait>(rt: &R, alloc: Global) -> Result<Page, OpenFault> {
-    let server = opened_server(alloc, 1)?;
-    let lobby = Lobby::open(alloc)?;
+    let (server, lobby) = opened_with_lobby(alloc, 1)?;
     let mut page = Page::titled(alloc, "A gate");
     get_filled(rt, server, lobby, &mut page);
     Ok(page)

@@ -166,21 +166,36 @@ fn hold_meanwhile(map: &ReaderMap, writer: &mut Writer, reader: Reader, page: &m
     pin.release(map);
 }
 
+// The message is for two: a reader that passes it on splits its note for them.
+fn tell_two<R: Threads + Sync>(
+    rt: &R,
+    map: &ReaderMap,
+    writer: &mut Writer,
+    mut one: Reader,
+    two: Reader,
+    page: &mut Page,
+)
+    requires own { (one.table ≡ map.now) × (two.table ≡ map.now) × (writer.old.table ≡ map.now) }
+    requires key { 0 < map.now.shape.keys }
+{
+    let note = acknowledge(map, writer);
+    let (note, other) = map.split_note(&mut one, note);
+    let found = found_there(rt, map, two, note);
+    page.line("the thread that heard of it finds ", &found);
+    tell_back(map, writer, &mut one, other);
+    hold_meanwhile(map, writer, one, page);
+}
+
 /// A reader asks for key 0, the writer fills it, and a note of that goes to a thread which finds the
-/// key. The message is for two: a reader that passes it on splits its note for them.
+/// key.
 pub fn written_and_read<R: Threads + Wait + Sync>(
     rt: &R,
     alloc: Global,
 ) -> Result<Page, OpenFault> {
     let (map, mut writer, mut one, two) = opened(alloc, 2, 5)?;
-    let mut page = Page::titled(alloc, "An acknowledged write");
     let filled = fill_by_queue(rt, alloc, &map, &mut one, &mut writer)?;
+    let mut page = Page::titled(alloc, "An acknowledged write");
     page.line("the fill: ", &filled);
-    let note = acknowledge(&map, &mut writer);
-    let (note, other) = map.split_note(&mut one, note);
-    let found = found_there(rt, &map, two, note);
-    page.line("the thread that heard of it finds ", &found);
-    tell_back(&map, &mut writer, &mut one, other);
-    hold_meanwhile(&map, &mut writer, one, &mut page);
+    tell_two(rt, &map, &mut writer, one, two, &mut page);
     Ok(page)
 }

@@ -4,6 +4,7 @@ ghost use Rattle.std.specs.Prelude.{◌≡◌, ◌<◌, ◌≤◌, IfOk, MatchOp
 use crate::map::{Page, ROWS, opened, set_of};
 use nr_map::{Asked, FillFault, Reader, ReaderMap, Ticket, Writer};
 use nr_model::OpenFault;
+use nr_serve::Lobby;
 use nr_trigger::{Poster, Taker, Triggers};
 use std::alloc::Global;
 use std::sync::Wait;
@@ -48,6 +49,16 @@ pub fn opened_server(alloc: Global, capacity: u32) -> Result<Server, OpenFault>
         poster,
         taker,
     })
+}
+
+/// The same, with a lobby.
+pub fn opened_with_lobby(alloc: Global, capacity: u32) -> Result<(Server, Lobby), OpenFault>
+    ensures map { IfOk result (λ (server, _). (server.writer.table ≡ server.map) × (server.reader.table ≡ server.map) × (server.map.shape.keys ≡ 2)) }
+    ensures poster { IfOk result (λ (server, _). (server.poster.queue ≡ server.triggers.id) × (server.poster.keys ≡ 2)) }
+    ensures taker { IfOk result (λ (server, _). (server.taker.queue ≡ server.triggers.id) × (server.taker.keys ≡ 2)) }
+{
+    let lobby = Lobby::open(alloc)?;
+    Ok((opened_server(alloc, capacity)?, lobby))
 }
 
 // Posts a ticket. Where the queue is full it comes back, and its owner still owes its upquery.

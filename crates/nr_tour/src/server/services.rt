@@ -2,11 +2,11 @@
 ghost use Rattle.std.specs.Prelude.{◌≡◌};
 
 use crate::map::Page;
-use crate::server::queue::{Server, opened_server};
+use crate::server::queue::{Server, opened_with_lobby};
 use nr_map::{Asked, Reader};
 use nr_model::OpenFault;
 use nr_serve::{Lobby, Service};
-use nr_trigger::Poster;
+use nr_trigger::{Poster, Taker};
 use std::alloc::Global;
 use std::sync::Wait;
 
@@ -27,8 +27,21 @@ fn post_alone<R: Wait>(rt: &R, service: &Service, reader: &mut Reader, poster: &
     lobby.ring(rt, &mut lobby.guest());
 }
 
-/// The ticket comes out of the service's queue, and its map is there once more at the end.
-pub fn without_clients<R: Wait>(rt: &R, alloc: Global) -> Result<Page, OpenFault> {
+// The ticket comes out of the service's queue.
+fn take_alone<R: Wait>(rt: &R, service: &Service, taker: &mut Taker, page: &mut Page)
+    requires { taker.old.queue ≡ service.now.queue.id }
+{
+    if let Some(trigger) = service.triggers().take(rt, taker) {
+        page.line("requested: key ", &trigger.into_key());
+    }
+}
+
+// The map is there once more at the end.
+fn work<R: Wait>(rt: &R, server: Server, lobby: Lobby, page: &mut Page)
+    requires map { (server.reader.table ≡ server.map) × (server.map.shape.keys ≡ 2) }
+    requires poster { (server.poster.queue ≡ server.triggers.id) × (server.poster.keys ≡ 2) }
+    requires taker { server.taker.queue ≡ server.triggers.id }
+{
     let Server {
         map,
         writer: _,
@@ -36,14 +49,18 @@ pub fn without_clients<R: Wait>(rt: &R, alloc: Global) -> Result<Page, OpenFault
         triggers,
         mut poster,
         mut taker,
-    } = opened_server(alloc, 4)?;
-    let service = Service::of(map, triggers, Lobby::open(alloc)?);
-    let mut page = Page::titled(alloc, "A service");
+    } = server;
+    let service = Service::of(map, triggers, lobby);
     post_alone(rt, &service, &mut reader, &mut poster);
-    if let Some(trigger) = service.triggers().take(rt, &mut taker) {
-        page.line("requested: key ", &trigger.into_key());
-    }
+    take_alone(rt, &service, &mut taker, page);
     let (map, _triggers, _lobby) = service.into_parts();
     page.line("keys of its map: ", &map.keys());
+}
+
+/// A request that no client makes goes through a service.
+pub fn without_clients<R: Wait>(rt: &R, alloc: Global) -> Result<Page, OpenFault> {
+    let (server, lobby) = opened_with_lobby(alloc, 4)?;
+    let mut page = Page::titled(alloc, "A service");
+    work(rt, server, lobby, &mut page);
     Ok(page)
 }

@@ -4,7 +4,7 @@ ghost use Rattle.std.specs.Prelude.{◌≡◌, ◌<◌, ◌≤◌, IfSome, None,
 
 use crate::map::{Page, set_of};
 use crate::server::flow::end;
-use crate::server::queue::{Server, opened_server};
+use crate::server::queue::{Server, opened_with_lobby};
 use crate::server::source::Shelf;
 use nr_map::ReaderMap;
 use nr_model::{Batch, OpenFault, Row, RowSet};
@@ -183,8 +183,7 @@ fn work<R: Wait>(rt: &R, server: Server, lobby: Lobby, change: &Batch, page: &mu
 
 /// A client and a dataflow in one hand, and two upqueries under way.
 pub fn under_way<R: Wait>(rt: &R, alloc: Global, change: &Batch) -> Result<Page, OpenFault> {
-    let server = opened_server(alloc, 4)?;
-    let lobby = Lobby::open(alloc)?;
+    let (server, lobby) = opened_with_lobby(alloc, 4)?;
     let mut page = Page::titled(alloc, "Upqueries under way");
     work(rt, server, lobby, change, &mut page);
     Ok(page)
