@@ -49,6 +49,16 @@ pub(crate) fn find(map: &ReaderMap, reader: &mut Reader, key: u32, rows: &mut Ro
     map.find(reader, key, rows)
 }
 
+/// Whether a find of the key has just these rows.
+pub(crate) fn finds(map: &ReaderMap, reader: &mut Reader, key: u32, pairs: &[(u64, u64)]) -> bool
+    requires own { reader.old.table ≡ map.now }
+    requires key { key < map.now.shape.keys }
+    ensures own { reader.new.table ≡ map.now }
+{
+    let mut rows = RowSet::new();
+    find(map, reader, key, &mut rows) == Found::Rows && pairs_are(&rows, pairs)
+}
+
 /// Looks a key's rows up as the writer.
 pub(crate) fn look(map: &ReaderMap, writer: &mut Writer, key: u32, rows: &mut RowSet) -> Found
     requires own { writer.old.table ≡ map.now }
@@ -91,6 +101,15 @@ pub(crate) fn update(
         Ok(batch) => Some(map.update(writer, key, &batch)),
         Err(_) => None,
     }
+}
+
+/// Updates a key: whether that was done.
+pub(crate) fn updates(map: &ReaderMap, writer: &mut Writer, key: u32, deltas: &[Delta]) -> bool
+    requires own { writer.old.table ≡ map.now }
+    requires key { key < map.now.shape.keys }
+    ensures own { writer.new.table ≡ map.now }
+{
+    update(map, writer, key, deltas) == UPDATED
 }
 
 /// Evicts a key.

@@ -7,6 +7,8 @@ mod cache;
 #[cfg(test)]
 mod calls;
 #[cfg(test)]
+mod held;
+#[cfg(test)]
 mod ids;
 #[cfg(test)]
 mod kept;

@@ -2,12 +2,11 @@
 ghost use Rattle.std.specs.Prelude.{◌≡◌, ◌<◌};
 ghost use Rattle.nr_board.specs.Meetings.{Known};
 
-use crate::calls::{Told, UPDATED, fill, find, pairs_are, plus, rows_of, update};
+use crate::calls::{Told, fill, finds, plus, rows_of, updates};
 use crate::same::is_same;
 use crate::worked::Worked;
 use crossbeam_channel::{Receiver, Sender, unbounded};
-use nr_map::{Found, Note, Reader, ReaderMap, Writer};
-use nr_model::RowSet;
+use nr_map::{Note, Reader, ReaderMap, Writer};
 use std::alloc::{AllocError, Global};
 use std::marker::{Brand, Model, PhantomData};
 use std::sync::Wait;
@@ -72,9 +71,18 @@ fn write_and_tell<C: Carries, R: Wait>(
     requires carries { (note : Known) → note.table ≡ map.now → C.takes note }
 {
     let filled = fill(map, &mut writer, 0, 0, &rows_of(&[(5, 6)]));
-    let updated = update(map, &mut writer, 0, &[plus(7, 8)]);
+    let is_updated = updates(map, &mut writer, 0, &[plus(7, 8)]);
     let word = Word::of(map.note_writer(&mut writer));
-    filled == Some(Ok(())) && updated == UPDATED && told.send(rt, word).is_ok()
+    filled == Some(Ok(())) && is_updated && told.send(rt, word).is_ok()
+}
+
+/// Hears a note. Of two notes made of one either says the same.
+fn hear(map: &ReaderMap, reader: &mut Reader, note: Note)
+    requires own { (reader.old.table ≡ map.now) × (note.table ≡ map.now) }
+    ensures own { reader.new.table ≡ map.now }
+{
+    let (_first, second) = map.split_note(reader, note);
+    map.hear(reader, second);
 }
 
 /// Waits for word, and finds key 0 then: whether it has the rows that were written.
@@ -91,12 +99,8 @@ fn hear_and_find<C: Carries, R: Wait>(
     let Ok(word) = words.recv(rt) else {
         return false;
     };
-    // Of two notes made of one either says the same.
-    let (_first, second) = map.split_note(&mut reader, word.into_note());
-    map.hear(&mut reader, second);
-    let mut rows = RowSet::new();
-    let found = find(map, &mut reader, 0, &mut rows);
-    found == Found::Rows && pairs_are(&rows, &[(5, 6), (7, 8)])
+    hear(map, &mut reader, word.into_note());
+    finds(map, &mut reader, 0, &[(5, 6), (7, 8)])
 }
 
 /// The writer in one thread, the reader in another, and a channel between them.

@@ -1,7 +1,8 @@
 //! A reader holds a set in a thread of its own while the writer updates its key.
 ghost use Rattle.std.specs.Prelude.{◌≡◌, ◌<◌};
 
-use crate::calls::{Told, UPDATED, ask, minus, plus, update};
+use crate::calls::{Told, ask, evict, minus, plus, updates};
+use crate::held::{gather_pin, only_row, pin, release};
 use crate::same::is_same;
 use crate::worked::Worked;
 use nr_map::{KeyKind, Reader, ReaderMap, Writer};
@@ -37,18 +38,17 @@ fn hold(map: &ReaderMap, flags: &Flags, reader: Reader) -> (Option<Row>, Reader)
     requires key { 0 < map.now.shape.keys }
     ensures { let (_, token) = result in token.table ≡ map.now }
 {
-    let mut pin = match map.pin(reader, 0) {
+    let mut pin = match pin(map, reader, 0) {
         Ok(pin) => pin,
         Err(reader) => return (None, reader),
     };
     flags.pinned.store(true, Ordering::SeqCst);
-    let was_sent = is_raised(&flags.sent);
-    let row = if was_sent && pin.len() == 1 {
-        Some(pin.row(map, 0))
+    let row = if is_raised(&flags.sent) {
+        only_row(map, &mut pin)
     } else {
         None
     };
-    (row, pin.release(map))
+    (row, release(map, pin))
 }
 
 // Updates key 0 once it is pinned: whether it was done.
@@ -58,9 +58,9 @@ fn update_once_pinned(map: &ReaderMap, flags: &Flags, mut writer: Writer) -> (bo
     ensures { let (_, token) = result in token.table ≡ map.now }
 {
     let was_pinned = is_raised(&flags.pinned);
-    let updated = update(map, &mut writer, 0, &[minus(5, 6), plus(7, 8)]);
+    let is_updated = updates(map, &mut writer, 0, &[minus(5, 6), plus(7, 8)]);
     flags.updated.store(true, Ordering::SeqCst);
-    (was_pinned && updated == UPDATED, writer)
+    (was_pinned && is_updated, writer)
 }
 
 // Requests key 1 once key 0 is updated: whether the request is sent.
@@ -174,18 +174,11 @@ fn row_of_gathered(map: &ReaderMap, writer: &mut Writer, reader: Reader) -> Opti
     requires own { (reader.table ≡ map.now) × (writer.old.table ≡ map.now) }
     requires key { 0 < map.now.shape.keys }
 {
-    let mut pin = match map.pin(reader, 0) {
-        Ok(pin) => pin,
-        Err(_) => return None,
-    };
-    map.evict(writer, 0);
-    map.gather_pin(writer, &mut pin);
-    let row = if pin.len() == 1 {
-        Some(pin.row(map, 0))
-    } else {
-        None
-    };
-    pin.release(map);
+    let mut pin = pin(map, reader, 0).ok()?;
+    evict(map, writer, 0);
+    gather_pin(map, writer, &mut pin);
+    let row = only_row(map, &mut pin);
+    release(map, pin);
     row
 }
 

@@ -2,6 +2,7 @@
 ghost use Rattle.std.specs.Prelude.{◌≡◌, ◌<◌};
 
 use crate::calls::{Told, pairs_are, rows_of};
+use crate::held::{pin, release};
 use crate::same::is_same;
 use crate::worked::Worked;
 use nr_map::{Reader, ReaderMap, Reaped, Reclaimed, Writer};
@@ -99,13 +100,13 @@ fn replaces_beside_a_pin<R: Abort>(rt: &R, map: &ReaderMap, writer: &mut Writer,
     requires own { (writer.old.table ≡ map.now) × (reader.table ≡ map.now) }
     requires key { 0 < map.now.shape.keys }
 {
-    let Ok(pin) = map.pin(reader, 0) else {
+    let Ok(pin) = pin(map, reader, 0) else {
         panic!(rt; "key 0 is a hole")
     };
     replaces(rt, map, writer, 2, Reclaimed::Nothing, &[]);
     replaces(rt, map, writer, 3, Reclaimed::Nothing, &[]);
     replaces(rt, map, writer, 4, Reclaimed::Set, &[(2, 2)]);
-    pin.release(map);
+    release(map, pin);
     replaces(rt, map, writer, 5, Reclaimed::Set, &[(1, 1), (1, 1)]);
 }
 
@@ -125,7 +126,7 @@ fn reaps_beside_a_pin<R: Abort>(rt: &R, map: &ReaderMap, writer: &mut Writer, re
     requires own { (writer.old.table ≡ map.now) × (reader.table ≡ map.now) }
     requires key { 0 < map.now.shape.keys }
 {
-    let Ok(pin) = map.pin(reader, 0) else {
+    let Ok(pin) = pin(map, reader, 0) else {
         panic!(rt; "key 0 is a hole")
     };
     reaps(rt, map, writer, Reaped::Nothing, &[]);
@@ -133,7 +134,7 @@ fn reaps_beside_a_pin<R: Abort>(rt: &R, map: &ReaderMap, writer: &mut Writer, re
     reaps(rt, map, writer, Reaped::Held, &[]);
     replaces(rt, map, writer, 3, Reclaimed::Nothing, &[]);
     reaps(rt, map, writer, Reaped::Set, &[(2, 2)]);
-    pin.release(map);
+    release(map, pin);
     reaps(rt, map, writer, Reaped::Set, &[(1, 1), (1, 1)]);
     reaps(rt, map, writer, Reaped::Nothing, &[]);
     replaces(rt, map, writer, 4, Reclaimed::Nothing, &[]);

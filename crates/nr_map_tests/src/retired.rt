@@ -2,6 +2,7 @@
 ghost use Rattle.std.specs.Prelude.{◌≡◌, ◌<◌};
 
 use crate::calls::{Told, UPDATED, look, pairs_are, plus, update};
+use crate::held::{pin, release};
 use crate::same::is_same;
 use crate::worked::Worked;
 use nr_map::{Found, NoSlot, Reader, ReaderMap, UpdateFault, Writer};
@@ -36,10 +37,10 @@ fn update_beside_pin(
     requires key { 0 < map.now.shape.keys }
     ensures own { writer.new.table ≡ map.now }
 {
-    let pin = map.pin(reader, 0).ok()?;
+    let pin = pin(map, reader, 0).ok()?;
     let first = update(map, writer, 0, &[plus(2, 2)]);
     let second = update(map, writer, 0, &[plus(3, 3)]);
-    pin.release(map);
+    release(map, pin);
     Some([first, second])
 }
 

@@ -2,7 +2,8 @@
 //! threads' steps fall.
 ghost use Rattle.std.specs.Prelude.{◌≡◌, ◌<◌};
 
-use crate::calls::{Told, UPDATED, minus, plus, update};
+use crate::calls::{Told, minus, plus, updates};
+use crate::held::{pin, release};
 use crate::same::is_same;
 use crate::worked::{Worked, next};
 use nr_map::{Reader, ReaderMap, Shape, Writer};
@@ -18,10 +19,10 @@ fn pin_often(map: &ReaderMap, mut reader: Reader) -> u32
 {
     let mut held = 0;
     for _ in 0..TURNS {
-        reader = match map.pin(reader, 0) {
+        reader = match pin(map, reader, 0) {
             Ok(pin) => {
                 held = u32::min(held, TURNS) + 1;
-                pin.release(map)
+                release(map, pin)
             }
             Err(reader) => reader,
         };
@@ -41,7 +42,7 @@ fn update_often(map: &ReaderMap, mut writer: Writer) -> u32
         } else {
             minus(1, 1)
         };
-        if update(map, &mut writer, 0, &[delta]) == UPDATED {
+        if updates(map, &mut writer, 0, &[delta]) {
             done = u32::min(done, TURNS) + 1;
         }
     }
