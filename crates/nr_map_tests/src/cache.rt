@@ -65,10 +65,9 @@ impl Shelf {
         };
         let mut shelf = Shelf::of(rt, &shape);
         for id in 1..5u64 {
-            let stamp = if id == stale { 5 } else { 6 };
-            assert!(rt; matches!(shelf.stamps(id, stamp, 10 * id, 0), Landed::Held(_)));
+            shelf.stamps(rt, id, if id == stale { 5 } else { 6 }, 0);
         }
-        assert!(rt; find(&shelf.map, &mut shelf.hand, stale).is_some());
+        assert!(rt; shelf.find(stale).is_some());
         shelf
     }
 
@@ -119,26 +118,26 @@ impl Shelf {
         assert!(rt; !map.next_of(&mut rest, &mut had));
     }
 
+    fn begin(&mut self, id: u64, mark: u64) -> Begun
+        requires { 0 < id }
+    {
+        self.store.begin(&self.map, id, mark)
+    }
+
     /// The id's flight begins: its number.
     fn loads<R: Abort>(&mut self, rt: &R, id: u64, mark: u64) -> u64
         requires { 0 < id }
     {
-        match self.store.begin(&self.map, id, mark) {
+        match self.begin(id, mark) {
             Begun::Load(flight) => flight.number,
             _ => panic!(rt; "the id's flight begins"),
         }
     }
 
-    /// The oldest flight ends, which has that mark.
-    fn fails<R: Abort>(&mut self, rt: &R, mark: Option<u64>) {
-        let ended = self.store.fail_oldest();
-        is_same(rt, &ended.map(|flight| flight.mark), &mark);
-    }
-
     fn waits<R: Abort>(&mut self, rt: &R, id: u64, mark: u64)
         requires { 0 < id }
     {
-        match self.store.begin(&self.map, id, 0) {
+        match self.begin(id, 0) {
             Begun::Wait(Flight { mark: its, .. }) => is_same(rt, &its, &mark),
             _ => panic!(rt; "the id's flight is under way"),
         }
@@ -147,62 +146,143 @@ impl Shelf {
     fn has<R: Abort>(&mut self, rt: &R, id: u64)
         requires { 0 < id }
     {
-        let begun = self.store.begin(&self.map, id, 0);
-        assert!(rt; matches!(begun, Begun::Held));
+        assert!(rt; matches!(self.begin(id, 0), Begun::Held));
     }
 
     fn is_alone<R: Abort>(&mut self, rt: &R, id: u64)
         requires { 0 < id }
     {
-        let begun = self.store.begin(&self.map, id, 0);
-        assert!(rt; matches!(begun, Begun::Alone));
+        assert!(rt; matches!(self.begin(id, 0), Begun::Alone));
     }
 
-    /// Whether the value is held.
-    fn lands(&mut self, number: u64, value: u64) -> bool {
-        let landed = self
-            .store
-            .land(&self.map, number, 1, value, 1, 0, &mut self.had);
-        matches!(landed, Landed::Held(_))
+    /// The flight of that number ends, which has that id and that mark.
+    fn fails<R: Abort>(&mut self, rt: &R, number: u64, flight: Option<(u64, u64)>) {
+        let ended = self.store.fail(number);
+        is_same(rt, &ended.map(|ended| (ended.id, ended.mark)), &flight);
     }
 
-    fn puts(&mut self, id: u64, value: u64) -> Landed
-        requires { 0 < id }
-    {
-        self.stamps(id, 1, value, 0)
+    /// The oldest flight ends, which has that mark.
+    fn fails_oldest<R: Abort>(&mut self, rt: &R, mark: Option<u64>) {
+        let ended = self.store.fail_oldest();
+        is_same(rt, &ended.map(|flight| flight.mark), &mark);
     }
 
-    fn stamps(&mut self, id: u64, stamp: u64, value: u64, bound: u64) -> Landed
+    fn land(&mut self, number: u64, value: u64, weight: u32) -> Landed {
+        let had = &mut self.had;
+        self.store.land(&self.map, number, 1, value, weight, 0, had)
+    }
+
+    /// The value is held.
+    fn lands<R: Abort>(&mut self, rt: &R, number: u64, value: u64) {
+        assert!(rt; is_held(self.land(number, value, 1)));
+    }
+
+    /// The value is its loader's own.
+    fn keeps_out<R: Abort>(&mut self, rt: &R, number: u64, value: u64) {
+        assert!(rt; !is_held(self.land(number, value, 1)));
+    }
+
+    fn put(&mut self, id: u64, stamp: u64, value: u64, weight: u32, bound: u64) -> Landed
         requires { (0 < id) × (0 < stamp) }
     {
         let had = &mut self.had;
-        self.store.put(&self.map, id, stamp, value, 1, bound, had)
+        self.store
+            .put(&self.map, id, stamp, value, weight, bound, had)
+    }
+
+    /// The value is held.
+    fn puts<R: Abort>(&mut self, rt: &R, id: u64, value: u64)
+        requires { 0 < id }
+    {
+        assert!(rt; is_held(self.put(id, 1, value, 1, 0)));
+    }
+
+    /// A value with that stamp is held.
+    fn stamps<R: Abort>(&mut self, rt: &R, id: u64, stamp: u64, bound: u64)
+        requires { (0 < id) × (0 < stamp) }
+    {
+        assert!(rt; is_held(self.put(id, stamp, tenfold(id), 1, bound)));
+    }
+
+    /// For each of the ids ten times itself is held.
+    fn puts_each<R: Abort>(&mut self, rt: &R, first: u64, end: u64)
+        requires { 0 < first }
+    {
+        for id in first..end {
+            self.puts(rt, id, tenfold(id));
+        }
+    }
+
+    /// The same, and each is found at once.
+    fn puts_and_finds<R: Abort>(&mut self, rt: &R, first: u64, end: u64)
+        requires { 0 < first }
+    {
+        for id in first..end {
+            self.puts(rt, id, tenfold(id));
+            self.finds(rt, id, Some(tenfold(id)));
+        }
+    }
+
+    /// The same, and the store itself finds each.
+    fn puts_and_looks<R: Abort>(&mut self, rt: &R, first: u64, end: u64)
+        requires { 0 < first }
+    {
+        for id in first..end {
+            self.puts(rt, id, tenfold(id));
+            self.looks(rt, id, Some(tenfold(id)));
+        }
+    }
+
+    /// Ten times each of the ids is found.
+    fn finds_each<R: Abort>(&mut self, rt: &R, first: u64, end: u64)
+        requires { 0 < first }
+    {
+        for id in first..end {
+            self.finds(rt, id, Some(tenfold(id)));
+        }
+    }
+
+    fn find(&mut self, id: u64) -> Option<FoundValue>
+        requires { 0 < id }
+    {
+        find(&self.map, &mut self.hand, id)
     }
 
     fn finds<R: Abort>(&mut self, rt: &R, id: u64, value: Option<u64>)
         requires { 0 < id }
     {
-        let found = find(&self.map, &mut self.hand, id);
+        let found = self.find(id);
         let wanted = value.map(|value| FoundValue { stamp: 1, value });
         is_same(rt, &found, &wanted);
+    }
+
+    /// Each of the ids is wanted, and put where it isn't found.
+    fn asks_for_each<R: Abort>(&mut self, rt: &R, first: u64, end: u64)
+        requires { 0 < first }
+    {
+        for id in first..end {
+            if self.find(id).is_none() {
+                self.puts(rt, id, tenfold(id));
+            }
+        }
+    }
+
+    fn look(&mut self, id: u64) -> Option<FoundValue>
+        requires { 0 < id }
+    {
+        self.store.look(&self.map, id)
     }
 
     /// The value that the store itself finds.
     fn looks<R: Abort>(&mut self, rt: &R, id: u64, value: Option<u64>)
         requires { 0 < id }
     {
-        let found = self.store.look(&self.map, id);
+        let found = self.look(id);
         let wanted = value.map(|value| FoundValue { stamp: 1, value });
         is_same(rt, &found, &wanted);
     }
 
-    fn swaps(&mut self, id: u64, old: u64, value: u64) -> Swapped
-        requires { 0 < id }
-    {
-        self.swaps_for(id, old, value, 1)
-    }
-
-    fn swaps_for(&mut self, id: u64, old: u64, value: u64, weight: u32) -> Swapped
+    fn swap(&mut self, id: u64, old: u64, value: u64, weight: u32) -> Swapped
         requires { 0 < id }
     {
         let had = &mut self.had;
@@ -210,10 +290,26 @@ impl Shelf {
             .swap(&self.map, id, old, 1, value, weight, 0, had)
     }
 
-    fn evicts(&mut self, id: u64) -> bool
+    fn swaps<R: Abort>(&mut self, rt: &R, id: u64, old: u64, value: u64, wanted: Swapped)
         requires { 0 < id }
     {
-        self.store.evict(&self.map, id)
+        assert!(rt; are_alike(self.swap(id, old, value, 1), wanted));
+    }
+
+    /// Whether the id had a value.
+    fn evicts<R: Abort>(&mut self, rt: &R, id: u64, wanted: bool)
+        requires { 0 < id }
+    {
+        is_same(rt, &self.store.evict(&self.map, id), &wanted);
+    }
+
+    fn evict_one(&mut self, bound: u64) -> Option<GivenValue> {
+        self.store.evict_one(&self.map, bound)
+    }
+
+    /// One value goes, which is this.
+    fn gives_up<R: Abort>(&mut self, rt: &R, wanted: Option<GivenValue>) {
+        is_same(rt, &self.evict_one(0), &wanted);
     }
 
     /// One value goes, so that many are left, and comes out as it was told.
@@ -228,8 +324,12 @@ impl Shelf {
         self.gave_out(rt, &[row(0, given.id), row(given.stamp, given.value)]);
     }
 
+    fn counted(&mut self) -> Counts {
+        self.store.count(&self.map)
+    }
+
     fn counts<R: Abort>(&mut self, rt: &R, values: u32, flights: usize, changes: usize) {
-        let counts = self.store.count(&self.map);
+        let counts = self.counted();
         let wanted = Counts {
             values,
             weight: 0,
@@ -239,10 +339,34 @@ impl Shelf {
         is_same(rt, &counts, &wanted);
     }
 
-    fn invalidates(&mut self, id: u64) -> bool
+    /// Whether the id had a value.
+    fn invalidates<R: Abort>(&mut self, rt: &R, id: u64, wanted: bool)
         requires { 0 < id }
     {
-        self.store.invalidate(&self.map, id)
+        is_same(rt, &self.store.invalidate(&self.map, id), &wanted);
+    }
+
+    fn invalidates_all(&mut self) {
+        self.store.invalidate_all(&self.map);
+    }
+
+    /// Whether there is room for the change.
+    fn begins_change<R: Abort>(&mut self, rt: &R, id: u64, wanted: bool)
+        requires { 0 < id }
+    {
+        is_same(rt, &self.store.begin_change(id), &wanted);
+    }
+
+    /// Whether the id is changed.
+    fn ends_change<R: Abort>(&mut self, rt: &R, id: u64, wanted: bool)
+        requires { 0 < id }
+    {
+        is_same(rt, &self.store.end_change(id), &wanted);
+    }
+
+    /// What the store may hold bounds what it holds.
+    fn is_within(&self) {
+        self.store.is_within();
     }
 
     fn reaps<R: Abort>(&mut self, rt: &R, wanted: Reaped) {
@@ -255,32 +379,50 @@ impl Shelf {
     }
 }
 
+fn is_held(landed: Landed) -> bool {
+    matches!(landed, Landed::Held(_))
+}
+
+fn are_alike(swapped: Swapped, wanted: Swapped) -> bool {
+    match (swapped, wanted) {
+        (Swapped::Held(given), Swapped::Held(other)) => given == other,
+        (Swapped::Other(found), Swapped::Other(other)) => found == other,
+        (Swapped::Own, Swapped::Own) | (Swapped::Absent, Swapped::Absent) => true,
+        _ => false,
+    }
+}
+
+fn tenfold(id: u64) -> u64 {
+    id.wrapping_mul(10)
+}
+
 #[test]
 fn a_value_is_loaded_once_and_found(rt: HostRuntime) {
     let mut shelf = Shelf::open(&rt);
     shelf.finds(&rt, 7, None);
     let number = shelf.loads(&rt, 7, 70);
     shelf.waits(&rt, 7, 70);
-    assert!(&rt; shelf.lands(number, 700));
+    shelf.lands(&rt, number, 700);
     shelf.finds(&rt, 7, Some(700));
     shelf.has(&rt, 7);
     // A flight ends once.
-    assert!(&rt; !shelf.lands(number, 701));
+    shelf.keeps_out(&rt, number, 701);
     shelf.closes(&rt, &[]);
 }
 
 #[test]
 fn a_value_comes_out_once_nobody_holds_it(rt: HostRuntime) {
     let mut shelf = Shelf::open(&rt);
-    assert!(&rt; matches!(shelf.puts(7, 70), Landed::Held(Reclaimed::Nothing)));
+    let landed = shelf.put(7, 1, 70, 1, 0);
+    assert!(&rt; matches!(landed, Landed::Held(Reclaimed::Nothing)));
     shelf.finds(&rt, 7, Some(70));
-    assert!(&rt; shelf.invalidates(7));
+    shelf.invalidates(&rt, 7, true);
     shelf.reaps(&rt, Reaped::Held);
     shelf.finds(&rt, 7, None);
     shelf.reaps(&rt, Reaped::Set);
     shelf.gave_out(&rt, &[row(0, 7), row(1, 70)]);
     shelf.reaps(&rt, Reaped::Nothing);
-    assert!(&rt; !shelf.invalidates(7));
+    shelf.invalidates(&rt, 7, false);
     shelf.closes(&rt, &[]);
 }
 
@@ -288,14 +430,14 @@ fn a_value_comes_out_once_nobody_holds_it(rt: HostRuntime) {
 fn what_began_before_an_invalidation_is_its_loaders_own(rt: HostRuntime) {
     let mut shelf = Shelf::open(&rt);
     let number = shelf.loads(&rt, 7, 70);
-    assert!(&rt; !shelf.invalidates(7));
+    shelf.invalidates(&rt, 7, false);
     shelf.waits(&rt, 7, 70);
-    assert!(&rt; !shelf.lands(number, 700));
+    shelf.keeps_out(&rt, number, 700);
     shelf.finds(&rt, 7, None);
     // A put outdates a flight too, and its value stays.
     let number = shelf.loads(&rt, 7, 71);
-    assert!(&rt; matches!(shelf.puts(7, 701), Landed::Held(_)));
-    assert!(&rt; !shelf.lands(number, 702));
+    shelf.puts(&rt, 7, 701);
+    shelf.keeps_out(&rt, number, 702);
     shelf.finds(&rt, 7, Some(701));
     shelf.closes(&rt, &[]);
 }
@@ -304,18 +446,18 @@ fn what_began_before_an_invalidation_is_its_loaders_own(rt: HostRuntime) {
 fn what_is_loaded_during_a_change_is_its_loaders_own(rt: HostRuntime) {
     let mut shelf = Shelf::open(&rt);
     let before = shelf.loads(&rt, 7, 70);
-    assert!(&rt; shelf.store.begin_change(7));
+    shelf.begins_change(&rt, 7, true);
     // There is room for one change.
-    assert!(&rt; !shelf.store.begin_change(8));
-    assert!(&rt; !shelf.lands(before, 700));
+    shelf.begins_change(&rt, 8, false);
+    shelf.keeps_out(&rt, before, 700);
     let during = shelf.loads(&rt, 7, 71);
-    assert!(&rt; matches!(shelf.puts(7, 701), Landed::Own));
-    assert!(&rt; shelf.store.end_change(7));
-    assert!(&rt; !shelf.store.end_change(7));
-    assert!(&rt; !shelf.lands(during, 702));
+    assert!(&rt; !is_held(shelf.put(7, 1, 701, 1, 0)));
+    shelf.ends_change(&rt, 7, true);
+    shelf.ends_change(&rt, 7, false);
+    shelf.keeps_out(&rt, during, 702);
     shelf.finds(&rt, 7, None);
     let after = shelf.loads(&rt, 7, 72);
-    assert!(&rt; shelf.lands(after, 703));
+    shelf.lands(&rt, after, 703);
     shelf.finds(&rt, 7, Some(703));
     shelf.closes(&rt, &[]);
 }
@@ -323,39 +465,35 @@ fn what_is_loaded_during_a_change_is_its_loaders_own(rt: HostRuntime) {
 #[test]
 fn a_value_is_swapped_while_it_is_there(rt: HostRuntime) {
     let mut shelf = Shelf::open(&rt);
-    assert!(&rt; matches!(shelf.swaps(7, 70, 71), Swapped::Absent));
+    shelf.swaps(&rt, 7, 70, 71, Swapped::Absent);
     shelf.looks(&rt, 7, None);
-    assert!(&rt; matches!(shelf.puts(7, 70), Landed::Held(_)));
-    assert!(&rt;
-        matches!(
-            shelf.swaps(7, 71, 72),
-            Swapped::Other(FoundValue {
-                stamp: 1,
-                value: 70
-            })
-        )
-    );
+    shelf.puts(&rt, 7, 70);
+    shelf.swaps(&rt, 7, 71, 72, other(70));
     shelf.looks(&rt, 7, Some(70));
-    assert!(&rt; matches!(shelf.swaps(7, 70, 71), Swapped::Held(Reclaimed::Nothing)));
+    shelf.swaps(&rt, 7, 70, 71, Swapped::Held(Reclaimed::Nothing));
     shelf.finds(&rt, 7, Some(71));
     shelf.reaps(&rt, Reaped::Set);
     shelf.gave_out(&rt, &[row(0, 7), row(1, 70)]);
     // During a change the value that was there goes, and none comes.
-    assert!(&rt; shelf.store.begin_change(7));
-    assert!(&rt; matches!(shelf.swaps(7, 70, 72), Swapped::Other(_)));
-    assert!(&rt; matches!(shelf.swaps(7, 71, 72), Swapped::Own));
+    shelf.begins_change(&rt, 7, true);
+    shelf.swaps(&rt, 7, 70, 72, other(71));
+    shelf.swaps(&rt, 7, 71, 72, Swapped::Own);
     shelf.looks(&rt, 7, None);
-    assert!(&rt; shelf.store.end_change(7));
+    shelf.ends_change(&rt, 7, true);
     shelf.closes(&rt, &[]);
+}
+
+fn other(value: u64) -> Swapped {
+    Swapped::Other(FoundValue { stamp: 1, value })
 }
 
 #[test]
 fn an_eviction_leaves_the_flight(rt: HostRuntime) {
     let mut shelf = Shelf::open(&rt);
     let number = shelf.loads(&rt, 7, 70);
-    assert!(&rt; !shelf.evicts(7));
-    assert!(&rt; shelf.lands(number, 700));
-    assert!(&rt; shelf.evicts(7));
+    shelf.evicts(&rt, 7, false);
+    shelf.lands(&rt, number, 700);
+    shelf.evicts(&rt, 7, true);
     shelf.finds(&rt, 7, None);
     shelf.closes(&rt, &[]);
 }
@@ -364,18 +502,16 @@ fn an_eviction_leaves_the_flight(rt: HostRuntime) {
 fn all_is_counted_and_invalidated(rt: HostRuntime) {
     let mut shelf = Shelf::open(&rt);
     shelf.counts(&rt, 0, 0, 0);
-    for id in 1..6u64 {
-        assert!(&rt; matches!(shelf.puts(id, 10 * id), Landed::Held(_)));
-    }
+    shelf.puts_each(&rt, 1, 6);
     let number = shelf.loads(&rt, 6, 60);
-    assert!(&rt; shelf.store.begin_change(7));
+    shelf.begins_change(&rt, 7, true);
     shelf.counts(&rt, 5, 1, 1);
-    shelf.store.invalidate_all(&shelf.map);
+    shelf.invalidates_all();
     shelf.counts(&rt, 0, 1, 1);
     for id in 1..6u64 {
         shelf.looks(&rt, id, None);
     }
-    assert!(&rt; !shelf.lands(number, 60));
+    shelf.keeps_out(&rt, number, 60);
     shelf.counts(&rt, 0, 0, 1);
     shelf.closes(&rt, &[]);
 }
@@ -383,13 +519,13 @@ fn all_is_counted_and_invalidated(rt: HostRuntime) {
 #[test]
 fn what_is_left_comes_out(rt: HostRuntime) {
     let mut shelf = Shelf::open(&rt);
-    assert!(&rt; matches!(shelf.puts(7, 70), Landed::Held(_)));
-    assert!(&rt; matches!(shelf.puts(8, 80), Landed::Held(_)));
-    assert!(&rt; matches!(shelf.puts(9, 90), Landed::Held(_)));
+    shelf.puts(&rt, 7, 70);
+    shelf.puts(&rt, 8, 80);
+    shelf.puts(&rt, 9, 90);
     // One came out before, and one waits.
-    assert!(&rt; shelf.evicts(7));
+    shelf.evicts(&rt, 7, true);
     shelf.reaps(&rt, Reaped::Set);
-    assert!(&rt; shelf.evicts(8));
+    shelf.evicts(&rt, 8, true);
     shelf.leaves(&rt, &[row(0, 8), row(1, 80)], &[row(0, 9), row(1, 90)]);
 }
 
@@ -399,17 +535,8 @@ fn flights_have_room_and_end_with_the_store(rt: HostRuntime) {
     let first = shelf.loads(&rt, 1, 10);
     let _second = shelf.loads(&rt, 2, 20);
     shelf.is_alone(&rt, 3);
-    assert!(&rt;
-        matches!(
-            shelf.store.fail(first),
-            Some(Flight {
-                id: 1,
-                mark: 10,
-                ..
-            })
-        )
-    );
-    assert!(&rt; shelf.store.fail(first).is_none());
+    shelf.fails(&rt, first, Some((1, 10)));
+    shelf.fails(&rt, first, None);
     let _third = shelf.loads(&rt, 3, 30);
     shelf.closes(&rt, &[20, 30]);
 }
@@ -417,16 +544,16 @@ fn flights_have_room_and_end_with_the_store(rt: HostRuntime) {
 #[test]
 fn the_oldest_flight_ends_first(rt: HostRuntime) {
     let mut shelf = Shelf::open(&rt);
-    assert!(&rt; shelf.store.fail_oldest().is_none());
+    shelf.fails_oldest(&rt, None);
     let _first = shelf.loads(&rt, 1, 10);
     let second = shelf.loads(&rt, 2, 20);
-    shelf.fails(&rt, Some(10));
+    shelf.fails_oldest(&rt, Some(10));
     let _third = shelf.loads(&rt, 1, 30);
-    assert!(&rt; shelf.store.fail(second).is_some());
+    shelf.fails(&rt, second, Some((2, 20)));
     let _fourth = shelf.loads(&rt, 2, 40);
-    shelf.fails(&rt, Some(30));
-    shelf.fails(&rt, Some(40));
-    shelf.fails(&rt, None);
+    shelf.fails_oldest(&rt, Some(30));
+    shelf.fails_oldest(&rt, Some(40));
+    shelf.fails_oldest(&rt, None);
     shelf.closes(&rt, &[]);
 }
 
@@ -435,7 +562,7 @@ fn a_landing_makes_room(rt: HostRuntime) {
     let mut shelf = Shelf::open(&rt);
     for id in 100..200u64 {
         let number = shelf.loads(&rt, id, 0);
-        assert!(&rt; shelf.lands(number, id));
+        shelf.lands(&rt, number, id);
         shelf.finds(&rt, id, Some(id));
     }
     shelf.closes(&rt, &[]);
@@ -445,18 +572,18 @@ fn a_landing_makes_room(rt: HostRuntime) {
 fn one_value_goes_where_the_store_is_full(rt: HostRuntime) {
     let mut shelf = Shelf::of_few(&rt, 3);
     for id in 1..4u64 {
-        assert!(&rt; matches!(shelf.puts(id, 10 * id), Landed::Held(_)));
+        shelf.puts(&rt, id, 10 * id);
         shelf.counts(&rt, id as u32, 0, 0);
     }
     for id in 4..40u64 {
-        assert!(&rt; matches!(shelf.puts(id, 10 * id), Landed::Held(_)));
+        shelf.puts(&rt, id, 10 * id);
         shelf.counts(&rt, 3, 0, 0);
         shelf.looks(&rt, id, Some(10 * id));
     }
     // A value in place of another makes no other go.
-    assert!(&rt; matches!(shelf.puts(39, 391), Landed::Held(_)));
+    shelf.puts(&rt, 39, 391);
     shelf.counts(&rt, 3, 0, 0);
-    shelf.store.is_within();
+    shelf.is_within();
     shelf.closes(&rt, &[]);
 }
 
@@ -465,7 +592,7 @@ fn one_value_goes_where_the_store_is_full(rt: HostRuntime) {
 fn what_is_found_stays(rt: HostRuntime) {
     let mut shelf = Shelf::of_few(&rt, 4);
     for id in 1..40u64 {
-        assert!(&rt; matches!(shelf.puts(id, 10 * id), Landed::Held(_)));
+        shelf.puts(&rt, id, 10 * id);
         shelf.finds(&rt, 1, Some(10));
     }
     shelf.closes(&rt, &[]);
@@ -480,17 +607,9 @@ fn roomy<R: AllocGlobal + Abort>(rt: &R) -> Shelf {
 #[test]
 fn a_scan_takes_none_that_were_found(rt: HostRuntime) {
     let mut shelf = roomy(&rt);
-    for id in 1..13u64 {
-        assert!(&rt; matches!(shelf.puts(id, 10 * id), Landed::Held(_)));
-        shelf.finds(&rt, id, Some(10 * id));
-    }
-    for id in 13..200u64 {
-        assert!(&rt; matches!(shelf.puts(id, 10 * id), Landed::Held(_)));
-        shelf.looks(&rt, id, Some(10 * id));
-    }
-    for id in 1..13u64 {
-        shelf.finds(&rt, id, Some(10 * id));
-    }
+    shelf.puts_and_finds(&rt, 1, 13);
+    shelf.puts_and_looks(&rt, 13, 200);
+    shelf.finds_each(&rt, 1, 13);
     shelf.closes(&rt, &[]);
 }
 
@@ -498,20 +617,11 @@ fn a_scan_takes_none_that_were_found(rt: HostRuntime) {
 #[test]
 fn a_set_below_the_capacity_stops_missing(rt: HostRuntime) {
     let mut shelf = roomy(&rt);
-    for id in 101..133u64 {
-        assert!(&rt; matches!(shelf.puts(id, 10 * id), Landed::Held(_)));
-    }
+    shelf.puts_each(&rt, 101, 133);
     for _round in 0..6 {
-        for id in 1..9u64 {
-            let found = find(&shelf.map, &mut shelf.hand, id);
-            if found.is_none() {
-                assert!(&rt; matches!(shelf.puts(id, 10 * id), Landed::Held(_)));
-            }
-        }
+        shelf.asks_for_each(&rt, 1, 9);
     }
-    for id in 1..9u64 {
-        shelf.finds(&rt, id, Some(10 * id));
-    }
+    shelf.finds_each(&rt, 1, 9);
     shelf.closes(&rt, &[]);
 }
 
@@ -526,10 +636,7 @@ fn a_full_group_makes_room(rt: HostRuntime) {
             ..SMALL
         },
     );
-    for id in 1..60u64 {
-        assert!(&rt; matches!(shelf.puts(id, 10 * id), Landed::Held(_)));
-        shelf.looks(&rt, id, Some(10 * id));
-    }
+    shelf.puts_and_looks(&rt, 1, 60);
     shelf.counts(&rt, 8, 0, 0);
     shelf.closes(&rt, &[]);
 }
@@ -548,23 +655,20 @@ fn has_gone<R: AllocGlobal + Abort>(rt: &R, stale: u64, bound: u64, is_gone: boo
     requires { 0 < stale }
 {
     let mut shelf = Shelf::of_stale(rt, stale);
-    assert!(rt; matches!(shelf.stamps(5, 6, 50, bound), Landed::Held(_)));
-    let found = shelf.store.look(&shelf.map, stale);
-    is_same(rt, &found.is_none(), &is_gone);
+    shelf.stamps(rt, 5, 6, bound);
+    is_same(rt, &shelf.look(stale).is_none(), &is_gone);
     shelf.closes(rt, &[]);
 }
 
 #[test]
 fn values_make_room_one_by_one(rt: HostRuntime) {
     let mut shelf = Shelf::open(&rt);
-    assert!(&rt; shelf.store.evict_one(&shelf.map, 0).is_none());
-    for id in 1..6u64 {
-        assert!(&rt; matches!(shelf.puts(id, 10 * id), Landed::Held(_)));
-    }
+    shelf.gives_up(&rt, None);
+    shelf.puts_each(&rt, 1, 6);
     for gone in 1..6u32 {
         shelf.makes_room(&rt, 5 - gone);
     }
-    assert!(&rt; shelf.store.evict_one(&shelf.map, 0).is_none());
+    shelf.gives_up(&rt, None);
     shelf.reaps(&rt, Reaped::Nothing);
     shelf.closes(&rt, &[]);
 }
@@ -573,10 +677,9 @@ fn values_make_room_one_by_one(rt: HostRuntime) {
 fn who_makes_room_leaves_the_flights(rt: HostRuntime) {
     let mut shelf = Shelf::open(&rt);
     let number = shelf.loads(&rt, 7, 70);
-    assert!(&rt; matches!(shelf.puts(8, 80), Landed::Held(_)));
-    let given = shelf.store.evict_one(&shelf.map, 0);
-    is_same(&rt, &given, &Some(eight()));
-    assert!(&rt; shelf.lands(number, 700));
+    shelf.puts(&rt, 8, 80);
+    shelf.gives_up(&rt, Some(eight()));
+    shelf.lands(&rt, number, 700);
     shelf.finds(&rt, 7, Some(700));
     shelf.closes(&rt, &[]);
 }
@@ -585,12 +688,11 @@ fn who_makes_room_leaves_the_flights(rt: HostRuntime) {
 #[test]
 fn a_held_value_makes_room(rt: HostRuntime) {
     let mut shelf = Shelf::open(&rt);
-    assert!(&rt; matches!(shelf.puts(8, 80), Landed::Held(_)));
+    shelf.puts(&rt, 8, 80);
     shelf.finds(&rt, 8, Some(80));
-    let given = shelf.store.evict_one(&shelf.map, 0);
-    is_same(&rt, &given, &Some(eight()));
+    shelf.gives_up(&rt, Some(eight()));
     shelf.reaps(&rt, Reaped::Held);
-    assert!(&rt; shelf.store.evict_one(&shelf.map, 0).is_none());
+    shelf.gives_up(&rt, None);
     shelf.finds(&rt, 8, None);
     shelf.reaps(&rt, Reaped::Set);
     shelf.gave_out(&rt, &[row(0, 8), row(1, 80)]);
@@ -609,15 +711,21 @@ fn eight() -> GivenValue {
 #[test]
 fn a_value_below_the_bound_makes_room_first(rt: HostRuntime) {
     for stale in 1..5u64 {
-        let mut shelf = Shelf::of_stale(&rt, stale);
-        let given = shelf.store.evict_one(&shelf.map, 6);
-        is_same(&rt, &given.map(|given| given.id), &Some(stale));
-        shelf.closes(&rt, &[]);
-        let mut shelf = Shelf::of_stale(&rt, stale);
-        let given = shelf.store.evict_one(&shelf.map, 5);
-        assert!(&rt; given.is_some_and(|given| given.id != stale));
-        shelf.closes(&rt, &[]);
+        makes_room(&rt, stale, 6, true);
+        makes_room(&rt, stale, 5, false);
     }
+}
+
+/// Whether the one of four values makes room whose stamp is 5, for the bound.
+fn makes_room<R: AllocGlobal + Abort>(rt: &R, stale: u64, bound: u64, is_given: bool)
+    requires { 0 < stale }
+{
+    let mut shelf = Shelf::of_stale(rt, stale);
+    let Some(given) = shelf.evict_one(bound) else {
+        panic!(rt; "a value goes")
+    };
+    is_same(rt, &(given.id == stale), &is_given);
+    shelf.closes(rt, &[]);
 }
 
 // Where all are found, one goes all the same.
@@ -625,7 +733,7 @@ fn a_value_below_the_bound_makes_room_first(rt: HostRuntime) {
 fn of_found_values_one_goes(rt: HostRuntime) {
     let mut shelf = Shelf::of_few(&rt, 1);
     for id in 1..40u64 {
-        assert!(&rt; matches!(shelf.puts(id, 10 * id), Landed::Held(_)));
+        shelf.puts(&rt, id, 10 * id);
         shelf.finds(&rt, id, Some(10 * id));
         shelf.counts(&rt, 1, 0, 0);
     }
