@@ -1,12 +1,10 @@
 //! Gets with a limit of time: those that are too late, and those that end before, with rows or without.
 ghost use Rattle.std.specs.Prelude.{◌≡◌, ◌<◌};
 
-use crate::opened::{Opened, Plain, end_client, end_flow, one_row};
+use crate::opened::{Asking, Plain, Serving, end_client, end_flow, one_row, opened};
 use crate::same::is_same;
-use nr_map::{Reader, Writer};
-use nr_model::{Row, RowSet};
-use nr_serve::{Client, Dataflow, Got, OpenGate, Service, Turn};
-use nr_trigger::{Poster, Taker};
+use nr_model::Row;
+use nr_serve::{Client, Dataflow, Got, OpenGate, Turn};
 use std::process::Abort;
 use std::sync::Wait;
 use std::thread::{self, Threads};
@@ -65,46 +63,26 @@ fn is_late_and_filled<R: Abort + Wait + Clock>(
     is_same(rt, &gets_in(rt, client, 0, 10), &(Some(Got::Rows), filled));
 }
 
-// Calls that with a client and a dataflow of what was opened.
-fn is_late<R: Abort + Wait + Clock>(rt: &R, opened: Opened) {
-    let Opened {
-        service,
-        writer,
-        taker,
-        reader,
-        poster,
-    } = opened;
-    let gate = OpenGate;
-    let mut client = Client::of_service(&service, reader, poster, &gate);
-    let mut flow = Dataflow::of_service(&service, writer, taker, Plain { bound: 0 });
-    is_late_and_filled(rt, &mut client, &mut flow);
-    is_same(rt, &(end_client(client), end_flow(flow)), &(false, false));
+#[test]
+fn a_get_that_sleeps_too_long_is_too_late(rt: HostRuntime) {
+    let (service, tokens) = opened(&rt, 4);
+    let (mut client, mut flow) = tokens.opens(&service, &OpenGate, Plain { bound: 0 });
+    is_late_and_filled(&rt, &mut client, &mut flow);
+    is_same(&rt, &(end_client(client), end_flow(flow)), &(false, false));
 }
 
 // Gets key 0 within a minute.
-fn gets_soon<R: Wait + Clock>(
-    rt: &R,
-    service: &Service,
-    tokens: (Reader, Poster),
-) -> (Ended, Option<Row>)
-    requires map { let (reader, _) = tokens in (reader.table ≡ service.now.map) × (service.now.map.shape.keys ≡ 2) }
-    requires queue { let (_, poster) = tokens in (poster.queue ≡ service.now.queue.id) × (poster.keys ≡ 2) }
-{
-    let (reader, poster) = tokens;
+fn gets_soon<R: Wait + Clock>(rt: &R, asking: Asking<'_>) -> (Ended, Option<Row>) {
     let gate = OpenGate;
-    let mut client = Client::of_service(service, reader, poster, &gate);
+    let mut client = asking.opens(&gate);
     let ended = gets_in(rt, &mut client, 60_000, 10);
     end_client(client);
     ended
 }
 
 // Fills key 0 once it is asked for, and a client that waits for it sleeps.
-fn fills_later<R: Wait + Clock>(rt: &R, service: &Service, tokens: (Writer, Taker))
-    requires map { let (writer, _) = tokens in (writer.table ≡ service.now.map) × (service.now.map.shape.keys ≡ 2) }
-    requires queue { let (_, taker) = tokens in (taker.queue ≡ service.now.queue.id) × (taker.keys ≡ 2) }
-{
-    let (writer, taker) = tokens;
-    let mut flow = Dataflow::of_service(service, writer, taker, Plain { bound: 0 });
+fn fills_later<R: Wait + Clock>(rt: &R, serving: Serving<'_>) {
+    let mut flow = serving.opens(Plain { bound: 0 });
     for _ in 0..1_000 {
         thread::sleep(rt, Duration::from_millis(50));
         if flow.turn(rt) == Turn::Filled(0) {
@@ -114,37 +92,24 @@ fn fills_later<R: Wait + Clock>(rt: &R, service: &Service, tokens: (Writer, Take
     end_flow(flow);
 }
 
-fn is_woken<R: Threads + Wait + Clock + Sync>(rt: &R, opened: Opened) -> (Ended, Option<Row>) {
-    let Opened {
-        service,
-        writer,
-        taker,
-        reader,
-        poster,
-    } = opened;
-    let service = &service;
-    let (ended, _) = thread::join(
+fn is_woken<R: Threads + Wait + Clock + Sync>(
+    rt: &R,
+    asking: Asking<'_>,
+    serving: Serving<'_>,
+) -> (Ended, Option<Row>) {
+    let (ended, ()) = thread::join(
         rt,
-        move || -> (Ended, Option<Row>)
-            requires map { (reader.table ≡ service.now.map) × (service.now.map.shape.keys ≡ 2) }
-            requires queue { (poster.queue ≡ service.now.queue.id) × (poster.keys ≡ 2) }
-        { gets_soon(rt, service, (reader, poster)) },
-        move || -> ()
-            requires map { (writer.table ≡ service.now.map) × (service.now.map.shape.keys ≡ 2) }
-            requires queue { (taker.queue ≡ service.now.queue.id) × (taker.keys ≡ 2) }
-        { fills_later(rt, service, (writer, taker)) },
+        move || gets_soon(rt, asking),
+        move || fills_later(rt, serving),
     );
     ended
-}
-
-#[test]
-fn a_get_that_sleeps_too_long_is_too_late(rt: HostRuntime) {
-    is_late(&rt, Opened::open(&rt, 4));
 }
 
 // It would sleep for a minute otherwise, as long as a test may take.
 #[test]
 fn a_fill_ends_a_sleep_before_its_time(rt: HostRuntime) {
-    let ended = is_woken(&rt, Opened::open(&rt, 4));
+    let (service, tokens) = opened(&rt, 4);
+    let (asking, serving) = tokens.sides(&service);
+    let ended = is_woken(&rt, asking, serving);
     is_same(&rt, &ended, &(Some(Got::Rows), Some(Row { a: 0, b: 5 })));
 }

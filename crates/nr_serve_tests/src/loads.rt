@@ -1,6 +1,7 @@
 //! Whole loads. What is asserted does not depend on how the threads' steps fall.
 ghost use Rattle.std.specs.Prelude.{◌<◌, ◌≤◌};
 
+use crate::same::is_same;
 use nr_load::{Draws, LoadFault, LoadReport, Plan, WindowedPlan, run_load, run_windowed_load};
 use nr_serve::{Gate, OpenGate};
 use std::process::Abort;
@@ -142,7 +143,7 @@ fn two_readers_meet_in_one_get(rt: HostRuntime) {
         fills: 1,
         asked: 0,
     };
-    assert_eq!(rt; (report, meeting.are_answered(1)), (wanted, true));
+    is_same(&rt, &(report, meeting.are_answered(1)), &(wanted, true));
 }
 
 #[test]
@@ -155,9 +156,10 @@ fn two_readers_meet_in_each_of_fifty_gets(rt: HostRuntime) {
         gets: 50,
     };
     let report = reported(&rt, &plan, &meeting);
-    assert_eq!(rt;
-        (told(&report), meeting.are_answered(50)),
-        ((100, 100, true), true)
+    is_same(
+        &rt,
+        &(told(&report), meeting.are_answered(50)),
+        &((100, 100, true), true),
     );
 }
 
@@ -202,9 +204,10 @@ fn the_draws_are_the_same_however_many_upqueries_are_under_way(rt: HostRuntime) 
             keys: 3,
             gets: 4,
         };
-        assert_eq!(rt; reported(&rt, &plan, &OpenGate), of_three_keys(seed));
+        let wanted = of_three_keys(seed);
+        is_same(&rt, &reported(&rt, &plan, &OpenGate), &wanted);
         for upqueries in [0, 1, 8, 64, 65536] {
-            assert_eq!(rt; windowed(&rt, plan, upqueries), of_three_keys(seed));
+            is_same(&rt, &windowed(&rt, plan, upqueries), &wanted);
         }
     }
 }
@@ -219,8 +222,11 @@ fn many_upqueries_under_way_are_in_balance(rt: HostRuntime) {
             gets: 100,
         };
         let report = windowed(&rt, plan, upqueries);
-        assert_eq!(rt; told(&report), (2400, 2400, true));
-        assert_eq!(rt; report.asked, 0);
+        is_same(
+            &rt,
+            &(told(&report), report.asked),
+            &((2400, 2400, true), 0),
+        );
     }
 }
 
@@ -260,8 +266,8 @@ fn a_thousand_readers_on_one_key(rt: HostRuntime) {
         gets: 2,
     };
     match run_load(&rt, rt.alloc(), &plan, &OpenGate) {
-        Ok(report) => assert_eq!(rt; told(&report), (2048, 2048, true)),
-        Err(fault) => assert_eq!(rt; fault, LoadFault::Thread),
+        Ok(report) => is_same(&rt, &told(&report), &(2048, 2048, true)),
+        Err(fault) => is_same(&rt, &fault, &LoadFault::Thread),
     }
 }
 
@@ -286,7 +292,7 @@ fn a_gate_that_never_opens_ends_the_load(rt: HostRuntime) {
         gets: 1,
     };
     let ended = run_load(&rt, rt.alloc(), &plan, &ShutGate);
-    assert_eq!(rt; ended, Err(LoadFault::Barred));
+    is_same(&rt, &ended, &Err(LoadFault::Barred));
 }
 
 /// Whichever request for memory is refused, a load says so or is not hurt.
@@ -300,7 +306,7 @@ fn refused_memory_ends_a_load(rt: HostRuntime) {
     };
     let windowed = WindowedPlan { plan, upqueries: 8 };
     match run_windowed_load(&rt, rt.alloc(), &windowed, &OpenGate) {
-        Ok(report) => assert_eq!(rt; told(&report), (6, 6, true)),
+        Ok(report) => is_same(&rt, &told(&report), &(6, 6, true)),
         Err(fault) => assert!(rt; matches!(fault, LoadFault::Memory | LoadFault::Thread)),
     }
 }
@@ -321,8 +327,9 @@ fn a_report_that_is_off(rt: HostRuntime) {
         asked: 1,
         ..report
     };
-    assert_eq!(rt;
-        (report.balance(), more.balance(), over.balance()),
-        (true, false, false)
+    is_same(
+        &rt,
+        &(report.balance(), more.balance(), over.balance()),
+        &(true, false, false),
     );
 }

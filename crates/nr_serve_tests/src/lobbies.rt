@@ -1,7 +1,7 @@
 //! Lobbies without clients.
 ghost use Rattle.std.specs.Prelude.{◌≡◌};
 
-use crate::opened::Opened;
+use crate::opened::opened;
 use crate::same::is_same;
 use nr_serve::{Guest, Lobby, NoLimit, Raiser, Watched};
 use nr_trigger::{Taker, Triggers};
@@ -109,28 +109,19 @@ fn is_rung<R: Abort + Wait>(
 }
 
 // A client and a dataflow of another crate have a guest each.
-fn serves_another_crate<R: Abort + Wait>(rt: &R, opened: Opened) {
-    let Opened {
-        service,
-        writer: _writer,
-        mut taker,
-        reader: _reader,
-        poster: _poster,
-    } = opened;
+#[test]
+fn a_lobby_serves_another_crate(rt: HostRuntime) {
+    let (service, tokens) = opened(&rt, 4);
+    let mut taker = tokens.into_taker();
     let mut watched = Watched::of(service.lobby());
     let mut raiser = Raiser::of(service.lobby());
-    is_raised(rt, &mut watched, &mut raiser);
-    is_told(rt, &mut watched, &mut raiser);
+    is_raised(&rt, &mut watched, &mut raiser);
+    is_told(&rt, &mut watched, &mut raiser);
     is_rung(
-        rt,
+        &rt,
         service.triggers(),
         &mut taker,
         &mut watched,
         &mut raiser,
     );
-}
-
-#[test]
-fn a_lobby_serves_another_crate(rt: HostRuntime) {
-    serves_another_crate(&rt, Opened::open(&rt, 4));
 }

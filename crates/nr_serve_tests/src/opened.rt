@@ -1,14 +1,17 @@
-//! Maps and queues with their tokens, and calls of clients and dataflows whose answers are asserted.
-ghost use Rattle.std.specs.Prelude.{◌≡◌, ◌<◌, ◌≤◌, All, length};
+//! Services with their tokens, and calls of clients and dataflows whose answers are asserted.
+ghost use Rattle.std.specs.Prelude.{◌≡◌, ◌<◌, ◌≤◌, All, None, length};
 
 use crate::same::is_same;
-use nr_map::{Reader, ReaderMap, Shape, Writer};
+use nr_map::{Asked, Reader, ReaderMap, Shape, Writer};
 use nr_model::{Row, RowSet};
 use nr_serve::{Client, Dataflow, FallibleSource, Gate, Got, Lobby, Service, Source, Turn};
 use nr_trigger::{Poster, Taker, Triggers};
 use std::marker::Model;
 use std::process::Abort;
 use std::sync::Wait;
+use std::sync::atomic::{AtomicBool, Ordering};
+use std::thread;
+use std::time::{Clock, Duration};
 
 /// Key `k` has the one row `k:5`. Notes the bound that it was told last.
 #[derive(Drop)]
@@ -91,57 +94,192 @@ fn one_poster<R: Abort + AllocGlobal>(rt: &R, capacity: u32) -> (Triggers, Taker
     (triggers, taker, poster)
 }
 
-/// A map of two keys, a queue of their tickets and a lobby, with a token of each kind.
+/// The tokens of a service of two keys.
 #[derive(Drop)]
-pub(crate) struct Opened {
-    pub(crate) service: Service,
-    pub(crate) writer: Writer,
-    pub(crate) taker: Taker,
-    pub(crate) reader: Reader,
-    pub(crate) poster: Poster,
+pub(crate) struct Tokens {
+    writer: Writer,
+    taker: Taker,
+    reader: Reader,
+    poster: Poster,
 }
 
-impl Model for Opened {
+impl Model for Tokens {
     ghost use Rattle.std.specs.Prelude.{◌≡◌};
-    ghost use Rattle.nr_serve.specs.Services.{ServiceSeen};
+    ghost use Rattle.nr_board.specs.Callers.{Table};
+    ghost use Rattle.nr_trigger.specs.Tokens.{TakerSeen};
 
-    ghost Value = { ServiceSeen };
+    ghost Value = { Table × TakerSeen };
 
-    ghost view = { λ opened. opened.service };
+    ghost view = { λ tokens. (tokens.writer.table, tokens.taker) };
 
-    ghost invariant = { λ opened. (opened.service.map.shape.keys ≡ 2) × (opened.service.map.shape.rows ≡ 15)
-        × (opened.writer.table ≡ opened.service.map) × (opened.reader.table ≡ opened.service.map)
-        × (opened.taker.queue ≡ opened.service.queue.id) × (opened.taker.keys ≡ 2)
-        × (opened.poster.queue ≡ opened.service.queue.id) × (opened.poster.keys ≡ 2) };
+    ghost invariant = { λ tokens. (tokens.writer.table.shape.keys ≡ 2) × (tokens.writer.table.shape.rows ≡ 15)
+        × (tokens.reader.table ≡ tokens.writer.table) × (tokens.poster.queue ≡ tokens.taker.queue)
+        × (tokens.taker.keys ≡ 2) × (tokens.poster.keys ≡ 2) };
 }
 
-impl Opened {
-    pub(crate) fn open<R: Abort + AllocGlobal>(rt: &R, slots: u32) -> Opened {
-        Opened::with_room(rt, slots, 2)
-    }
+/// What a client is opened with.
+#[derive(Drop)]
+pub(crate) struct Asking<'a> {
+    pub(crate) service: &'a Service,
+    reader: Reader,
+    poster: Poster,
+    ghost own: { (reader.table ≡ service.now.map) × (poster.queue ≡ service.now.queue.id) },
+    ghost keys: { (service.now.map.shape.keys ≡ 2) × (poster.keys ≡ 2) },
+}
 
-    /// With a queue of that many places.
-    pub(crate) fn with_room<R: Abort + AllocGlobal>(rt: &R, slots: u32, capacity: u32) -> Opened {
-        Opened::numbered(rt, slots, capacity, 0)
+impl<'a> Asking<'a> {
+    pub(crate) fn opens<G: Gate>(self, gate: &'a G) -> Client<'a, G>
+        ensures places { (result.map ≡ self.entry.service.now.map) × (result.guest.lobby ≡ self.entry.service.now.lobby) }
+        ensures keys { result.map.shape.keys ≡ 2 }
+    {
+        let Asking {
+            service,
+            reader,
+            poster,
+        } = self;
+        Client::of_service(service, reader, poster, gate)
     }
+}
 
-    /// Whose ticket numbers begin at that one.
-    pub(crate) fn numbered<R: Abort + AllocGlobal>(
-        rt: &R,
-        slots: u32,
-        capacity: u32,
-        first_number: u64,
-    ) -> Opened {
-        let (map, writer, reader, _two) = numbered_from(rt, 2, slots, first_number);
-        let (triggers, taker, poster) = one_poster(rt, capacity);
-        let lobby = Lobby::open(rt.alloc()).expect(rt, "a lobby");
-        Opened {
-            service: Service::of(map, triggers, lobby),
+/// What a dataflow is opened with.
+#[derive(Drop)]
+pub(crate) struct Serving<'a> {
+    pub(crate) service: &'a Service,
+    writer: Writer,
+    taker: Taker,
+    ghost own: { (writer.table ≡ service.now.map) × (taker.queue ≡ service.now.queue.id) },
+    ghost sizes: { (service.now.map.shape.keys ≡ 2) × (service.now.map.shape.rows ≡ 15) × (taker.keys ≡ 2) },
+}
+
+impl<'a> Serving<'a> {
+    pub(crate) fn opens<S>(self, source: S) -> Dataflow<'a, S>
+        ensures places { (result.map ≡ self.entry.service.now.map) × (result.guest.lobby ≡ self.entry.service.now.lobby) }
+        ensures sizes { (result.map.shape.keys ≡ 2) × (result.map.shape.rows ≡ 15) }
+        ensures none { result.kept ≡ None }
+    {
+        let Serving {
+            service,
+            writer,
+            taker,
+        } = self;
+        Dataflow::of_service(service, writer, taker, source)
+    }
+}
+
+impl Tokens {
+    /// For threads of the client and of the dataflow.
+    pub(crate) fn sides<'a>(self, service: &'a Service) -> (Asking<'a>, Serving<'a>)
+        requires { let (table, taker) = self in (table ≡ service.now.map) × (taker.queue ≡ service.now.queue.id) }
+        ensures { let (client, flow) = result in (client.service.now ≡ service.now) × (flow.service.now ≡ service.now) }
+    {
+        let Tokens {
             writer,
             taker,
             reader,
             poster,
+        } = self;
+        let client = Asking {
+            service,
+            reader,
+            poster,
+        };
+        let flow = Serving {
+            service,
+            writer,
+            taker,
+        };
+        (client, flow)
+    }
+
+    /// Asks for key 0 and fills it. Whether that was done.
+    pub(crate) fn fills(&mut self, service: &Service) -> bool
+        requires { let (table, taker) = self.old in (table ≡ service.now.map) × (taker.queue ≡ service.now.queue.id) }
+        ensures { self.new ≡ self.old }
+    {
+        fills(service.map(), &mut self.reader, &mut self.writer)
+    }
+
+    pub(crate) fn into_taker(self) -> Taker
+        ensures { let (_, taker) = self in result ≡ taker }
+    {
+        let Tokens {
+            writer: _writer,
+            taker,
+            reader: _reader,
+            poster: _poster,
+        } = self;
+        taker
+    }
+
+    /// The client and the dataflow.
+    pub(crate) fn opens<'a, G: Gate, S>(
+        self,
+        service: &'a Service,
+        gate: &'a G,
+        source: S,
+    ) -> (Client<'a, G>, Dataflow<'a, S>)
+        requires { let (table, taker) = self in (table ≡ service.now.map) × (taker.queue ≡ service.now.queue.id) }
+        ensures keys { let (client, flow) = result in (client.map.shape.keys ≡ 2) × (flow.map ≡ client.map) }
+        ensures rows { let (_, flow) = result in flow.map.shape.rows ≡ 15 }
+        ensures none { let (_, flow) = result in flow.kept ≡ None }
+    {
+        let (client, flow) = self.sides(service);
+        (client.opens(gate), flow.opens(source))
+    }
+}
+
+/// A service whose map has that many slots, with its tokens.
+pub(crate) fn opened<R: Abort + AllocGlobal>(rt: &R, slots: u32) -> (Service, Tokens)
+    ensures { let (service, tokens) = result in let (table, taker) = tokens in (table ≡ service.map) × (taker.queue ≡ service.queue.id) }
+{
+    opened_from(rt, slots, 2, 0)
+}
+
+/// Whose queue has that many places, and whose ticket numbers begin at that one.
+pub(crate) fn opened_from<R: Abort + AllocGlobal>(
+    rt: &R,
+    slots: u32,
+    capacity: u32,
+    first_number: u64,
+) -> (Service, Tokens)
+    ensures { let (service, tokens) = result in let (table, taker) = tokens in (table ≡ service.map) × (taker.queue ≡ service.queue.id) }
+{
+    let (map, writer, reader, _two) = numbered_from(rt, 2, slots, first_number);
+    let (triggers, taker, poster) = one_poster(rt, capacity);
+    let lobby = Lobby::open(rt.alloc()).expect(rt, "a lobby");
+    let tokens = Tokens {
+        writer,
+        taker,
+        reader,
+        poster,
+    };
+    (Service::of(map, triggers, lobby), tokens)
+}
+
+/// Whether another thread comes within ten seconds.
+pub(crate) fn comes<R: Clock>(rt: &R, came: &AtomicBool) -> bool {
+    for _ in 0..10_000 {
+        if came.load(Ordering::SeqCst) {
+            return true;
         }
+        thread::sleep(rt, Duration::from_millis(1));
+    }
+    false
+}
+
+/// Asks for key 0 and fills it. Whether that was done.
+pub(crate) fn fills(map: &ReaderMap, reader: &mut Reader, writer: &mut Writer) -> bool
+    requires own { (reader.old.table ≡ map.now) × (writer.old.table ≡ map.now) }
+    requires sizes { (map.now.shape.keys ≡ 2) × (map.now.shape.rows ≡ 15) }
+    ensures { (reader.new.table ≡ map.now) × (writer.new.table ≡ map.now) }
+{
+    match map.ask(reader, 0) {
+        Asked::Send(ticket) => {
+            let number = ticket.number();
+            map.fill(writer, ticket.into_key(), number, &one_row(0, 5))
+                .is_ok()
+        }
+        Asked::Waiting | Asked::Filled => false,
     }
 }
 

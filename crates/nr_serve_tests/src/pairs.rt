@@ -2,10 +2,10 @@
 ghost use Rattle.std.specs.Prelude.{◌≡◌};
 
 use crate::loads::Meeting;
-use crate::opened::{end_client, one_row};
+use crate::opened::{end_client, fills};
 use crate::parts::Parts;
 use crate::same::is_same;
-use nr_map::{Asked, Reader, ReaderMap, Writer};
+use nr_map::{Reader, ReaderMap};
 use nr_model::RowSet;
 use nr_serve::{Client, Got, Lobby};
 use nr_trigger::{Poster, Triggers};
@@ -23,70 +23,49 @@ struct Place {
     ghost keys: { map.shape.keys ≡ 2 },
 }
 
-// Asks for key 0 and fills it. Whether that was done.
-fn fills(map: &ReaderMap, reader: &mut Reader, writer: &mut Writer) -> bool
-    requires own { (reader.old.table ≡ map.now) × (writer.old.table ≡ map.now) }
-    requires sizes { (map.now.shape.keys ≡ 2) × (map.now.shape.rows ≡ 15) }
-    ensures { reader.new.table ≡ map.now }
-{
-    match map.ask(reader, 0) {
-        Asked::Send(ticket) => {
-            let number = ticket.number();
-            map.fill(writer, ticket.into_key(), number, &one_row(0, 5))
-                .is_ok()
-        }
-        Asked::Waiting | Asked::Filled => false,
-    }
+/// A client that is to come there.
+#[derive(Drop)]
+struct Coming<'a> {
+    place: &'a Place,
+    reader: Reader,
+    poster: Poster,
+    ghost own: { (reader.table ≡ place.now.map) × (poster.queue ≡ place.now.triggers.id) × (poster.keys ≡ 2) },
 }
 
-// One get of key 0, of three tries.
-fn gets_once<R: Wait>(rt: &R, place: &Place, tokens: (Reader, Poster)) -> Got
-    requires map { let (reader, _) = tokens in reader.table ≡ place.now.map }
-    requires queue { let (_, poster) = tokens in (poster.queue ≡ place.now.triggers.id) × (poster.keys ≡ 2) }
-{
-    let Place {
-        map,
-        triggers,
-        lobby,
-        gate,
-    } = place;
-    let (reader, poster) = tokens;
-    let mut client = Client::open(map, reader, triggers, poster, lobby, gate);
-    let got = client.get(rt, 0, 3, &mut RowSet::new());
-    end_client(client);
-    got
+impl Coming<'_> {
+    // One get of key 0, of three tries.
+    fn gets_once<R: Wait>(self, rt: &R) -> Got {
+        let Coming {
+            place,
+            reader,
+            poster,
+        } = self;
+        let Place {
+            map,
+            triggers,
+            lobby,
+            gate,
+        } = place;
+        let mut client = Client::open(map, reader, triggers, poster, lobby, gate);
+        let got = client.get(rt, 0, 3, &mut RowSet::new());
+        end_client(client);
+        got
+    }
 }
 
 // How both gets end, where a second thread can be started.
 fn get_both<R: Threads + Wait + Sync>(
     rt: &R,
-    place: &Place,
-    one: (Reader, Poster),
-    two: (Reader, Poster),
-) -> Option<(Got, Got)>
-    requires map { let (here, _) = one in let (there, _) = two in (here.table ≡ place.now.map) × (there.table ≡ place.now.map) }
-    requires queue { let (_, here) = one in let (_, there) = two in (here.queue ≡ place.now.triggers.id) × (there.queue ≡ place.now.triggers.id) }
-    requires keys { let (_, here) = one in let (_, there) = two in (here.keys ≡ 2) × (there.keys ≡ 2) }
-{
-    thread::scope(
-        thread::scope_env(),
-        rt,
-        |scope| -> Option<(Got, Got)>
-            requires map { let (here, _) = one in let (there, _) = two in (here.table ≡ place.now.map) × (there.table ≡ place.now.map) }
-            requires queue { let (_, here) = one in let (_, there) = two in (here.queue ≡ place.now.triggers.id) × (there.queue ≡ place.now.triggers.id) }
-            requires keys { let (_, here) = one in let (_, there) = two in (here.keys ≡ 2) × (there.keys ≡ 2) }
-        {
-            let Ok(other) = scope.spawn(
-                move || -> Got
-                    requires { let (reader, poster) = two in (reader.table ≡ place.now.map) × (poster.queue ≡ place.now.triggers.id) × (poster.keys ≡ 2) }
-                { gets_once(rt, place, two) },
-            ) else {
-                return None;
-            };
-            let got = gets_once(rt, place, one);
-            Some((got, other.join(rt)))
-        },
-    )
+    one: Coming<'_>,
+    two: Coming<'_>,
+) -> Option<(Got, Got)> {
+    thread::scope(thread::scope_env(), rt, |scope| -> Option<(Got, Got)> {
+        let Ok(other) = scope.spawn(move || two.gets_once(rt)) else {
+            return None;
+        };
+        let got = one.gets_once(rt);
+        Some((got, other.join(rt)))
+    })
 }
 
 fn both_pass<R: Threads + Wait + Sync + Abort>(rt: &R, parts: Parts) {
@@ -97,7 +76,7 @@ fn both_pass<R: Threads + Wait + Sync + Abort>(rt: &R, parts: Parts) {
         mut writer,
         taker: _taker,
         one: (mut reader, poster),
-        two,
+        two: (other_reader, other_poster),
     } = parts;
     is_same(rt, &fills(&map, &mut reader, &mut writer), &true);
     let place = Place {
@@ -106,7 +85,17 @@ fn both_pass<R: Threads + Wait + Sync + Abort>(rt: &R, parts: Parts) {
         lobby,
         gate: Meeting::new(),
     };
-    let got = get_both(rt, &place, (reader, poster), two);
+    let one = Coming {
+        place: &place,
+        reader,
+        poster,
+    };
+    let two = Coming {
+        place: &place,
+        reader: other_reader,
+        poster: other_poster,
+    };
+    let got = get_both(rt, one, two);
     is_same(rt, &got, &Some((Got::Rows, Got::Rows)));
     is_same(rt, &place.gate.are_answered(1), &true);
 }

@@ -2,21 +2,13 @@
 ghost use Rattle.std.specs.Prelude.{◌≡◌};
 
 use crate::gates::Noting;
-use crate::opened::{Opened, Plain, end_client, end_flow, gets, misses, turns};
+use crate::opened::{Plain, end_client, end_flow, gets, misses, opened, turns};
 use crate::same::is_same;
 use nr_map::{Evict, NoSlot};
 use nr_model::{Delta, Row, RowSet};
 use nr_serve::{Client, Dataflow, Got, Lobby, Turn};
 use std::process::Abort;
 use std::sync::Wait;
-
-#[derive(Clone, Copy, Debug)]
-enum Scene {
-    ClosedLobby,
-    ShutGate,
-    NoSlot,
-    Note,
-}
 
 /// What is added to the row `0:5`, with which key 0 is filled.
 const ADDED: Row = Row { a: 1, b: 7 };
@@ -87,80 +79,42 @@ fn hears_and_finds<R: Abort + Wait>(
     is_same(rt, &(applied.is_ok(), rows.get(1)), &(true, Some(ADDED)));
 }
 
-impl Scene {
-    fn slots(self) -> u32 {
-        match self {
-            Scene::NoSlot => 1,
-            Scene::ClosedLobby | Scene::ShutGate | Scene::Note => 4,
-        }
-    }
-
-    // The client's first get that may pass the gate.
-    fn first(self) -> u64 {
-        match self {
-            Scene::ShutGate => 3,
-            Scene::ClosedLobby | Scene::NoSlot | Scene::Note => 1,
-        }
-    }
-
-    fn play<R: Abort + Wait>(
-        self,
-        rt: &R,
-        lobby: &Lobby,
-        gate: &Noting,
-        client: &mut Client<'_, Noting>,
-        flow: &mut Dataflow<'_, Plain>,
-    )
-        requires client { client.old.map.shape.keys ≡ 2 }
-        requires flow { flow.old.map ≡ client.old.map }
-    {
-        match self {
-            Scene::ClosedLobby => gives_up(rt, lobby, client),
-            Scene::ShutGate => is_barred_and_passes(rt, gate, client, flow),
-            Scene::NoSlot => keeps_its_trigger(rt, client, flow),
-            Scene::Note => hears_and_finds(rt, client, flow),
-        }
-    }
-}
-
-// Plays the scene with a client and a dataflow of what was opened.
-fn play_in<R: Abort + Wait>(rt: &R, scene: Scene, opened: Opened) {
-    let Opened {
-        service,
-        writer,
-        taker,
-        reader,
-        poster,
-    } = opened;
-    let gate = Noting::from(scene.first());
-    let source = Plain { bound: 0 };
-    let mut client = Client::of_service(&service, reader, poster, &gate);
-    let mut flow = Dataflow::of_service(&service, writer, taker, source);
-    scene.play(rt, service.lobby(), &gate, &mut client, &mut flow);
+#[test]
+fn nobody_sleeps_in_a_closed_lobby(rt: HostRuntime) {
+    let (service, tokens) = opened(&rt, 4);
+    let gate = Noting::from(1);
+    let (mut client, flow) = tokens.opens(&service, &gate, Plain { bound: 0 });
+    gives_up(&rt, service.lobby(), &mut client);
     end_client(client);
     end_flow(flow);
 }
 
-fn play<R: Abort + Wait + AllocGlobal>(rt: &R, scene: Scene) {
-    play_in(rt, scene, Opened::open(rt, scene.slots()));
-}
-
-#[test]
-fn nobody_sleeps_in_a_closed_lobby(rt: HostRuntime) {
-    play(&rt, Scene::ClosedLobby);
-}
-
 #[test]
 fn a_gate_that_never_lets_pass_bars_a_get(rt: HostRuntime) {
-    play(&rt, Scene::ShutGate);
+    let (service, tokens) = opened(&rt, 4);
+    let gate = Noting::from(3);
+    let (mut client, mut flow) = tokens.opens(&service, &gate, Plain { bound: 0 });
+    is_barred_and_passes(&rt, &gate, &mut client, &mut flow);
+    end_client(client);
+    end_flow(flow);
 }
 
 #[test]
 fn a_turn_without_a_slot_keeps_its_trigger(rt: HostRuntime) {
-    play(&rt, Scene::NoSlot);
+    let (service, tokens) = opened(&rt, 1);
+    let gate = Noting::from(1);
+    let (mut client, mut flow) = tokens.opens(&service, &gate, Plain { bound: 0 });
+    keeps_its_trigger(&rt, &mut client, &mut flow);
+    end_client(client);
+    end_flow(flow);
 }
 
 #[test]
 fn a_client_that_is_told_finds_what_was_applied(rt: HostRuntime) {
-    play(&rt, Scene::Note);
+    let (service, tokens) = opened(&rt, 4);
+    let gate = Noting::from(1);
+    let (mut client, mut flow) = tokens.opens(&service, &gate, Plain { bound: 0 });
+    hears_and_finds(&rt, &mut client, &mut flow);
+    end_client(client);
+    end_flow(flow);
 }

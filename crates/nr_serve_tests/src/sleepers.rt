@@ -1,5 +1,6 @@
 //! Threads that sleep in a lobby, and what wakes them: each is given time to fall asleep, and then must come back by
 //! one call alone. On a slow machine it may not sleep yet, and what is asserted holds all the same.
+use crate::opened::comes;
 use crate::same::is_same;
 use nr_serve::{Lobby, NoLimit, Watched};
 use std::alloc::{AllocError, Global};
@@ -10,8 +11,6 @@ use std::thread::{self, Scope, Threads};
 use std::time::{Clock, Duration};
 
 const GROUPS: u32 = 64;
-
-const LOOKS: u32 = 10_000;
 
 /// What a thread sleeps for: a raise of the whole lobby, or one for a key, by the lobby's own call or as a client does.
 #[derive(Clone, Copy, Debug)]
@@ -53,13 +52,7 @@ impl Sleeper {
 
     // Whether it comes within ten seconds.
     fn comes<R: Clock>(&self, rt: &R) -> bool {
-        for _ in 0..LOOKS {
-            if self.came.load(Ordering::SeqCst) {
-                return true;
-            }
-            thread::sleep(rt, Duration::from_millis(1));
-        }
-        false
+        comes(rt, &self.came)
     }
 }
 
@@ -152,20 +145,16 @@ fn are_woken<R: Threads + Wait + Clock + Sync>(
     })
 }
 
-// One for each group of keys.
-fn of_each_group(alloc: Global) -> Result<Vec<Sleeper>, AllocError> {
+// One for each group of keys, by the lobby's own call or as a client.
+fn of_each_group(alloc: Global, as_clients: bool) -> Result<Vec<Sleeper>, AllocError> {
     let mut sleepers = Vec::new(alloc);
     for key in 0..GROUPS {
-        sleepers.push(Sleeper::of(Cause::Key(key)))?;
-    }
-    Ok(sleepers)
-}
-
-// The same, as clients.
-fn client_of_each_group(alloc: Global) -> Result<Vec<Sleeper>, AllocError> {
-    let mut sleepers = Vec::new(alloc);
-    for key in 0..GROUPS {
-        sleepers.push(Sleeper::of(Cause::KeyOfClient(key)))?;
+        let cause = if as_clients {
+            Cause::KeyOfClient(key)
+        } else {
+            Cause::Key(key)
+        };
+        sleepers.push(Sleeper::of(cause))?;
     }
     Ok(sleepers)
 }
@@ -207,24 +196,24 @@ fn a_raise_for_a_key_wakes_all_sleepers_of_its_group(rt: HostRuntime) {
 
 #[test]
 fn raises_for_keys_wake_each_group_by_itself(rt: HostRuntime) {
-    let sleepers = of_each_group(rt.alloc()).expect(&rt, "memory");
+    let sleepers = of_each_group(rt.alloc(), false).expect(&rt, "memory");
     all_wake(&rt, sleepers.as_slice(), Deed::RaiseForEach);
 }
 
 #[test]
 fn raises_for_keys_wake_clients_of_each_group_by_themselves(rt: HostRuntime) {
-    let sleepers = client_of_each_group(rt.alloc()).expect(&rt, "memory");
+    let sleepers = of_each_group(rt.alloc(), true).expect(&rt, "memory");
     all_wake(&rt, sleepers.as_slice(), Deed::RaiseForEach);
 }
 
 #[test]
 fn a_raise_wakes_all_groups(rt: HostRuntime) {
-    let sleepers = of_each_group(rt.alloc()).expect(&rt, "memory");
+    let sleepers = of_each_group(rt.alloc(), false).expect(&rt, "memory");
     all_wake(&rt, sleepers.as_slice(), Deed::Raise);
 }
 
 #[test]
 fn a_close_wakes_all_groups(rt: HostRuntime) {
-    let sleepers = of_each_group(rt.alloc()).expect(&rt, "memory");
+    let sleepers = of_each_group(rt.alloc(), false).expect(&rt, "memory");
     all_wake(&rt, sleepers.as_slice(), Deed::Close);
 }

@@ -2,11 +2,13 @@
 ghost use Rattle.std.specs.Prelude.{◌≡◌, ◌<◌, IfSome, None};
 
 use crate::gates::Noting;
-use crate::opened::{Opened, end_client, end_flow, gets, misses, one_row};
+use crate::opened::{Tokens, end_client, end_flow, gets, misses, one_row, opened, opened_from};
 use crate::same::{are_same, is_same};
 use nr_map::{Cancel, Evict};
 use nr_model::{Row, RowSet};
-use nr_serve::{Client, Dataflow, FallibleSource, Got, Lobby, SourceFault, Spent, TryTurn};
+use nr_serve::{
+    Client, Dataflow, FallibleSource, Got, Lobby, Service, SourceFault, Spent, TryTurn,
+};
 use nr_trigger::Trigger;
 use std::process::Abort;
 use std::sync::Wait;
@@ -225,14 +227,6 @@ enum Scene {
 }
 
 impl Scene {
-    fn open<R: Abort + AllocGlobal>(self, rt: &R) -> Opened {
-        match self {
-            Scene::NoSlot => Opened::open(rt, 1),
-            Scene::Wears => Opened::numbered(rt, 4, 2, 4_194_303),
-            _ => Opened::open(rt, 4),
-        }
-    }
-
     fn play<R: Abort + Wait>(
         self,
         rt: &R,
@@ -255,56 +249,53 @@ impl Scene {
     }
 }
 
-fn play_in<R: Abort + Wait>(rt: &R, scene: Scene, opened: Opened) {
-    let Opened {
-        service,
-        writer,
-        taker,
-        reader,
-        poster,
-    } = opened;
+fn play_in<R: Abort + Wait>(rt: &R, scene: Scene, service: &Service, tokens: Tokens)
+    requires { let (table, taker) = tokens in (table ≡ service.now.map) × (taker.queue ≡ service.now.queue.id) }
+{
     let gate = Noting::from(1);
-    let mut client = Client::of_service(&service, reader, poster, &gate);
-    let mut flow = Dataflow::of_service(&service, writer, taker, Faulty { faults: 0 });
+    let (mut client, mut flow) = tokens.opens(service, &gate, Faulty { faults: 0 });
     scene.play(rt, service.lobby(), &mut client, &mut flow);
     is_same(rt, &(end_client(client), end_flow(flow)), &(false, false));
 }
 
-fn play<R: Abort + Wait + AllocGlobal>(rt: &R, scene: Scene) {
-    play_in(rt, scene, scene.open(rt));
+// In a map of that many slots.
+fn play<R: Abort + Wait + AllocGlobal>(rt: &R, scene: Scene, slots: u32) {
+    let (service, tokens) = opened(rt, slots);
+    play_in(rt, scene, &service, tokens);
 }
 
 #[test]
 fn triggers_are_filled_in_any_order(rt: HostRuntime) {
-    play(&rt, Scene::OutOfOrder);
+    play(&rt, Scene::OutOfOrder, 4);
 }
 
 #[test]
 fn a_source_that_fails_is_told_and_asked_anew(rt: HostRuntime) {
-    play(&rt, Scene::SourceFails);
+    play(&rt, Scene::SourceFails, 4);
 }
 
 #[test]
 fn rows_that_come_after_a_cancel_fill_nothing(rt: HostRuntime) {
-    play(&rt, Scene::ComesLate(Act::Fill));
+    play(&rt, Scene::ComesLate(Act::Fill), 4);
 }
 
 #[test]
 fn a_failure_after_a_cancel_takes_nothing_back(rt: HostRuntime) {
-    play(&rt, Scene::ComesLate(Act::Fail));
+    play(&rt, Scene::ComesLate(Act::Fail), 4);
 }
 
 #[test]
 fn a_trigger_without_a_slot_is_kept_and_taken_first(rt: HostRuntime) {
-    play(&rt, Scene::NoSlot);
+    play(&rt, Scene::NoSlot, 1);
 }
 
 #[test]
 fn a_worn_request_is_kept_until_it_is_filled(rt: HostRuntime) {
-    play(&rt, Scene::Wears);
+    let (service, tokens) = opened_from(&rt, 4, 2, 4_194_303);
+    play_in(&rt, Scene::Wears, &service, tokens);
 }
 
 #[test]
 fn a_ring_since_the_bell_was_read_ends_a_sleep(rt: HostRuntime) {
-    play(&rt, Scene::SleepsOnce);
+    play(&rt, Scene::SleepsOnce, 4);
 }

@@ -3,12 +3,12 @@
 //! yet, and what is asserted of that holds all the same.
 ghost use Rattle.std.specs.Prelude.{◌≡◌};
 
-use crate::opened::{Opened, Plain, end_client, end_flow};
+use crate::opened::{Asking, Plain, Serving, comes, end_client, end_flow, opened};
 use crate::same::is_same;
-use nr_map::{Cancel, Reader, Writer};
+use nr_map::Cancel;
 use nr_model::RowSet;
-use nr_serve::{Client, Dataflow, Got, OpenGate, Service, Turn};
-use nr_trigger::{Poster, Taker};
+use nr_serve::{Dataflow, Got, Lobby, OpenGate, Turn};
+use std::process::Abort;
 use std::sync::Wait;
 use std::sync::atomic::{AtomicBool, Ordering};
 use std::thread::{self, Threads};
@@ -19,17 +19,6 @@ const LOOKS: u32 = 10_000;
 // For a time in which the other thread goes to sleep.
 fn pause<R: Clock>(rt: &R) {
     thread::sleep(rt, Duration::from_millis(50));
-}
-
-// Whether the other thread comes within ten seconds.
-fn comes<R: Clock>(rt: &R, came: &AtomicBool) -> bool {
-    for _ in 0..LOOKS {
-        if came.load(Ordering::SeqCst) {
-            return true;
-        }
-        thread::sleep(rt, Duration::from_millis(1));
-    }
-    false
 }
 
 /// What is to wake a thread that sleeps: what it sleeps for, or the end.
@@ -51,29 +40,18 @@ fn was_idle<R: CpuClock>(rt: &R, since: Duration) -> bool {
     busy(rt).saturating_sub(since) < Duration::from_millis(100)
 }
 
-/// What a thread tells that slept: how its get ended and how many requests were sent, or nothing of a dataflow; and
-/// whether it was idle meanwhile.
+/// What a client tells that slept: how its get ended, how many requests were sent, and whether it was idle meanwhile.
 #[derive(Clone, Copy, Debug, PartialEq, Eq)]
 struct Slept {
-    got: Option<Got>,
+    got: Got,
     sends: u64,
     is_idle: bool,
 }
 
 // Gets key 0 in that many tries, and tells that it came back.
-fn gets<R: Wait + CpuClock>(
-    rt: &R,
-    service: &Service,
-    tokens: (Reader, Poster),
-    tries: u32,
-    came: &AtomicBool,
-) -> Slept
-    requires map { let (reader, _) = tokens in (reader.table ≡ service.now.map) × (service.now.map.shape.keys ≡ 2) }
-    requires queue { let (_, poster) = tokens in (poster.queue ≡ service.now.queue.id) × (poster.keys ≡ 2) }
-{
-    let (reader, poster) = tokens;
+fn gets<R: Wait + CpuClock>(rt: &R, asking: Asking<'_>, tries: u32, came: &AtomicBool) -> Slept {
     let gate = OpenGate;
-    let mut client = Client::of_service(service, reader, poster, &gate);
+    let mut client = asking.opens(&gate);
     let mut rows = RowSet::new();
     let since = busy(rt);
     let got = client.get(rt, 0, tries, &mut rows);
@@ -82,24 +60,15 @@ fn gets<R: Wait + CpuClock>(
     end_client(client);
     came.store(true, Ordering::SeqCst);
     Slept {
-        got: Some(got),
+        got,
         sends,
         is_idle,
     }
 }
 
 // One turn, which sleeps where nothing is posted; and tells that it came back, and whether it was idle.
-fn turns<R: Wait + CpuClock>(
-    rt: &R,
-    service: &Service,
-    tokens: (Writer, Taker),
-    came: &AtomicBool,
-) -> bool
-    requires map { let (writer, _) = tokens in (writer.table ≡ service.now.map) × (service.now.map.shape.keys ≡ 2) }
-    requires queue { let (_, taker) = tokens in (taker.queue ≡ service.now.queue.id) × (taker.keys ≡ 2) }
-{
-    let (writer, taker) = tokens;
-    let mut flow = Dataflow::of_service(service, writer, taker, Plain { bound: 0 });
+fn turns<R: Wait + CpuClock>(rt: &R, serving: Serving<'_>, came: &AtomicBool) -> bool {
+    let mut flow = serving.opens(Plain { bound: 0 });
     let since = busy(rt);
     flow.turn_or_sleep(rt);
     let is_idle = was_idle(rt, since);
@@ -121,12 +90,8 @@ fn cancels<R: Wait + Clock>(rt: &R, flow: &mut Dataflow<'_, Plain>)
 }
 
 // Takes back the request of a client, which is to ask for key 0 once more, and fills the key then.
-fn cancels_and_fills<R: Wait + Clock>(rt: &R, service: &Service, tokens: (Writer, Taker))
-    requires map { let (writer, _) = tokens in (writer.table ≡ service.now.map) × (service.now.map.shape.keys ≡ 2) }
-    requires queue { let (_, taker) = tokens in (taker.queue ≡ service.now.queue.id) × (taker.keys ≡ 2) }
-{
-    let (writer, taker) = tokens;
-    let mut flow = Dataflow::of_service(service, writer, taker, Plain { bound: 0 });
+fn cancels_and_fills<R: Wait + Clock>(rt: &R, serving: Serving<'_>) {
+    let mut flow = serving.opens(Plain { bound: 0 });
     cancels(rt, &mut flow);
     for _ in 0..LOOKS {
         pause(rt);
@@ -137,26 +102,27 @@ fn cancels_and_fills<R: Wait + Clock>(rt: &R, service: &Service, tokens: (Writer
     end_flow(flow);
 }
 
+// Closes the lobby, after a second if it is late.
+fn closes<R: Wait + Clock>(rt: &R, lobby: &Lobby, is_late: bool) {
+    if is_late {
+        thread::sleep(rt, Duration::from_secs(1));
+    }
+    lobby.close(rt);
+}
+
 // Lets a client sleep, wakes it, and tells whether it came back before it was helped.
 fn wakes_client<R: Wait + Clock>(
     rt: &R,
-    service: &Service,
-    tokens: (Writer, Taker),
+    serving: Serving<'_>,
     cause: Cause,
     came: &AtomicBool,
-) -> bool
-    requires map { let (writer, _) = tokens in (writer.table ≡ service.now.map) × (service.now.map.shape.keys ≡ 2) }
-    requires queue { let (_, taker) = tokens in (taker.queue ≡ service.now.queue.id) × (taker.keys ≡ 2) }
-{
+) -> bool {
     pause(rt);
-    let lobby = service.lobby();
+    let lobby = serving.service.lobby();
     match cause {
-        Cause::Work => cancels_and_fills(rt, service, tokens),
-        Cause::Close => lobby.close(rt),
-        Cause::LateClose => {
-            thread::sleep(rt, Duration::from_secs(1));
-            lobby.close(rt);
-        }
+        Cause::Work => cancels_and_fills(rt, serving),
+        Cause::Close => closes(rt, lobby, false),
+        Cause::LateClose => closes(rt, lobby, true),
     }
     let is_awake = comes(rt, came);
     lobby.close(rt);
@@ -164,44 +130,26 @@ fn wakes_client<R: Wait + Clock>(
     is_awake
 }
 
-// Gives a dataflow work, or closes its lobby.
-fn stirs<R: Wait + Clock + CpuClock>(
-    rt: &R,
-    service: &Service,
-    tokens: (Reader, Poster),
-    cause: Cause,
-)
-    requires map { let (reader, _) = tokens in (reader.table ≡ service.now.map) × (service.now.map.shape.keys ≡ 2) }
-    requires queue { let (_, poster) = tokens in (poster.queue ≡ service.now.queue.id) × (poster.keys ≡ 2) }
-{
-    let lobby = service.lobby();
-    match cause {
-        Cause::Work => {
-            gets(rt, service, tokens, 1, &AtomicBool::new(false));
-        }
-        Cause::Close => lobby.close(rt),
-        Cause::LateClose => {
-            thread::sleep(rt, Duration::from_secs(1));
-            lobby.close(rt);
-        }
-    }
+// Gives a dataflow work.
+fn asks<R: Wait + CpuClock>(rt: &R, asking: Asking<'_>) {
+    gets(rt, asking, 1, &AtomicBool::new(false));
 }
 
 // Lets a dataflow sleep, wakes it, and tells whether it came back before it was helped.
 fn wakes_flow<R: Wait + Clock + CpuClock>(
     rt: &R,
-    service: &Service,
-    tokens: (Reader, Poster),
+    asking: Asking<'_>,
     cause: Cause,
     came: &AtomicBool,
-) -> bool
-    requires map { let (reader, _) = tokens in (reader.table ≡ service.now.map) × (service.now.map.shape.keys ≡ 2) }
-    requires queue { let (_, poster) = tokens in (poster.queue ≡ service.now.queue.id) × (poster.keys ≡ 2) }
-{
+) -> bool {
     pause(rt);
-    stirs(rt, service, tokens, cause);
+    let lobby = asking.service.lobby();
+    match cause {
+        Cause::Work => asks(rt, asking),
+        Cause::Close => closes(rt, lobby, false),
+        Cause::LateClose => closes(rt, lobby, true),
+    }
     let is_awake = comes(rt, came);
-    let lobby = service.lobby();
     lobby.close(rt);
     lobby.ring(rt, &mut lobby.guest());
     is_awake
@@ -210,145 +158,96 @@ fn wakes_flow<R: Wait + Clock + CpuClock>(
 // What a client tells that slept, and whether it was woken. The other side has a thread of its own.
 fn client_sleeps<R: Threads + Wait + Clock + CpuClock + Sync>(
     rt: &R,
-    service: &Service,
-    here: (Reader, Poster),
-    there: (Writer, Taker),
+    asking: Asking<'_>,
+    serving: Serving<'_>,
     cause: Cause,
-) -> Option<(Slept, bool)>
-    requires map { let (reader, _) = here in let (writer, _) = there in (reader.table ≡ service.now.map) × (writer.table ≡ service.now.map) × (service.now.map.shape.keys ≡ 2) }
-    requires queue { let (_, poster) = here in let (_, taker) = there in (poster.queue ≡ service.now.queue.id) × (taker.queue ≡ service.now.queue.id) }
-    requires keys { let (_, poster) = here in let (_, taker) = there in (poster.keys ≡ 2) × (taker.keys ≡ 2) }
-{
+) -> Option<(Slept, bool)> {
     let came = AtomicBool::new(false);
-    thread::scope(
-        thread::scope_env(),
-        rt,
-        |scope| -> Option<(Slept, bool)>
-            requires map { let (reader, _) = here in let (writer, _) = there in (reader.table ≡ service.now.map) × (writer.table ≡ service.now.map) × (service.now.map.shape.keys ≡ 2) }
-            requires queue { let (_, poster) = here in let (_, taker) = there in (poster.queue ≡ service.now.queue.id) × (taker.queue ≡ service.now.queue.id) }
-            requires keys { let (_, poster) = here in let (_, taker) = there in (poster.keys ≡ 2) × (taker.keys ≡ 2) }
-        {
-            let came = &came;
-            let Ok(other) = scope.spawn(
-                move || -> bool
-                    requires { let (writer, taker) = there in (writer.table ≡ service.now.map) × (service.now.map.shape.keys ≡ 2) × (taker.queue ≡ service.now.queue.id) × (taker.keys ≡ 2) }
-                { wakes_client(rt, service, there, cause, came) },
-            ) else {
-                return None;
-            };
-            let slept = gets(rt, service, here, 10, came);
-            Some((slept, other.join(rt)))
-        },
-    )
+    let came = &came;
+    thread::scope(thread::scope_env(), rt, |scope| -> Option<(Slept, bool)> {
+        let Ok(other) = scope.spawn(move || wakes_client(rt, serving, cause, came)) else {
+            return None;
+        };
+        let slept = gets(rt, asking, 10, came);
+        Some((slept, other.join(rt)))
+    })
 }
 
 // Whether a dataflow that slept was idle, and was woken. The other side has a thread of its own.
 fn flow_sleeps<R: Threads + Wait + Clock + CpuClock + Sync>(
     rt: &R,
-    service: &Service,
-    here: (Writer, Taker),
-    there: (Reader, Poster),
-    cause: Cause,
-) -> Option<(bool, bool)>
-    requires map { let (writer, _) = here in let (reader, _) = there in (writer.table ≡ service.now.map) × (reader.table ≡ service.now.map) × (service.now.map.shape.keys ≡ 2) }
-    requires queue { let (_, taker) = here in let (_, poster) = there in (taker.queue ≡ service.now.queue.id) × (poster.queue ≡ service.now.queue.id) }
-    requires keys { let (_, taker) = here in let (_, poster) = there in (taker.keys ≡ 2) × (poster.keys ≡ 2) }
-{
-    let came = AtomicBool::new(false);
-    thread::scope(
-        thread::scope_env(),
-        rt,
-        |scope| -> Option<(bool, bool)>
-            requires map { let (writer, _) = here in let (reader, _) = there in (writer.table ≡ service.now.map) × (reader.table ≡ service.now.map) × (service.now.map.shape.keys ≡ 2) }
-            requires queue { let (_, taker) = here in let (_, poster) = there in (taker.queue ≡ service.now.queue.id) × (poster.queue ≡ service.now.queue.id) }
-            requires keys { let (_, taker) = here in let (_, poster) = there in (taker.keys ≡ 2) × (poster.keys ≡ 2) }
-        {
-            let came = &came;
-            let Ok(other) = scope.spawn(
-                move || -> bool
-                    requires { let (reader, poster) = there in (reader.table ≡ service.now.map) × (service.now.map.shape.keys ≡ 2) × (poster.queue ≡ service.now.queue.id) × (poster.keys ≡ 2) }
-                { wakes_flow(rt, service, there, cause, came) },
-            ) else {
-                return None;
-            };
-            let is_idle = turns(rt, service, here, came);
-            Some((is_idle, other.join(rt)))
-        },
-    )
-}
-
-fn client_is_woken<R: Threads + Wait + Clock + CpuClock + Sync>(
-    rt: &R,
-    opened: Opened,
-    cause: Cause,
-) -> Option<(Slept, bool)> {
-    let Opened {
-        service,
-        writer,
-        taker,
-        reader,
-        poster,
-    } = opened;
-    client_sleeps(rt, &service, (reader, poster), (writer, taker), cause)
-}
-
-fn flow_is_woken<R: Threads + Wait + Clock + CpuClock + Sync>(
-    rt: &R,
-    opened: Opened,
+    asking: Asking<'_>,
+    serving: Serving<'_>,
     cause: Cause,
 ) -> Option<(bool, bool)> {
-    let Opened {
-        service,
-        writer,
-        taker,
-        reader,
-        poster,
-    } = opened;
-    flow_sleeps(rt, &service, (writer, taker), (reader, poster), cause)
+    let came = AtomicBool::new(false);
+    let came = &came;
+    thread::scope(thread::scope_env(), rt, |scope| -> Option<(bool, bool)> {
+        let Ok(other) = scope.spawn(move || wakes_flow(rt, asking, cause, came)) else {
+            return None;
+        };
+        let is_idle = turns(rt, serving, came);
+        Some((is_idle, other.join(rt)))
+    })
 }
 
-fn ended(got: Got, sends: u64) -> Slept {
-    Slept {
-        got: Some(got),
+// A client comes back by that cause, idle until then, and its get ends so.
+fn client_is_woken<R: Threads + Wait + Clock + CpuClock + Sync + AllocGlobal + Abort>(
+    rt: &R,
+    cause: Cause,
+    got: Got,
+    sends: u64,
+) {
+    let (service, tokens) = opened(rt, 4);
+    let (asking, serving) = tokens.sides(&service);
+    let woken = client_sleeps(rt, asking, serving, cause);
+    let slept = Slept {
+        got,
         sends,
         is_idle: true,
-    }
+    };
+    is_same(rt, &woken, &Some((slept, true)));
+}
+
+// A dataflow comes back by that cause, idle until then.
+fn flow_is_woken<R: Threads + Wait + Clock + CpuClock + Sync + AllocGlobal + Abort>(
+    rt: &R,
+    cause: Cause,
+) {
+    let (service, tokens) = opened(rt, 4);
+    let (asking, serving) = tokens.sides(&service);
+    let woken = flow_sleeps(rt, asking, serving, cause);
+    is_same(rt, &woken, &Some((true, true)));
 }
 
 // The client requests the key twice, since the first request was taken back.
 #[test]
 fn a_cancel_and_a_fill_wake_a_client(rt: HostRuntime) {
-    let woken = client_is_woken(&rt, Opened::open(&rt, 4), Cause::Work);
-    is_same(&rt, &woken, &Some((ended(Got::Rows, 2), true)));
+    client_is_woken(&rt, Cause::Work, Got::Rows, 2);
 }
 
 #[test]
 fn a_close_wakes_a_client(rt: HostRuntime) {
-    let woken = client_is_woken(&rt, Opened::open(&rt, 4), Cause::Close);
-    is_same(&rt, &woken, &Some((ended(Got::GaveUp, 1), true)));
+    client_is_woken(&rt, Cause::Close, Got::GaveUp, 1);
 }
 
 // A client that waits for a second has a processor for next to none of it.
 #[test]
 fn a_client_that_waits_is_idle(rt: HostRuntime) {
-    let woken = client_is_woken(&rt, Opened::open(&rt, 4), Cause::LateClose);
-    is_same(&rt, &woken, &Some((ended(Got::GaveUp, 1), true)));
+    client_is_woken(&rt, Cause::LateClose, Got::GaveUp, 1);
 }
 
 #[test]
 fn a_post_wakes_a_dataflow(rt: HostRuntime) {
-    let woken = flow_is_woken(&rt, Opened::open(&rt, 4), Cause::Work);
-    is_same(&rt, &woken, &Some((true, true)));
+    flow_is_woken(&rt, Cause::Work);
 }
 
 #[test]
 fn a_close_wakes_a_dataflow(rt: HostRuntime) {
-    let woken = flow_is_woken(&rt, Opened::open(&rt, 4), Cause::Close);
-    is_same(&rt, &woken, &Some((true, true)));
+    flow_is_woken(&rt, Cause::Close);
 }
 
 #[test]
 fn a_dataflow_that_waits_is_idle(rt: HostRuntime) {
-    let woken = flow_is_woken(&rt, Opened::open(&rt, 4), Cause::LateClose);
-    is_same(&rt, &woken, &Some((true, true)));
+    flow_is_woken(&rt, Cause::LateClose);
 }

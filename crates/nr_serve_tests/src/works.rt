@@ -1,11 +1,11 @@
 //! Gets of a worker, one after another in one thread.
 ghost use Rattle.std.specs.Prelude.{◌≡◌, ◌≤◌, length};
 
-use crate::opened::{Opened, end_client, end_flow, one_row};
+use crate::opened::{end_client, end_flow, misses, one_row, opened};
+use crate::same::is_same;
 use nr_load::{Draws, LoadFault, Worked, load_gets};
 use nr_model::RowSet;
-use nr_serve::{Client, Dataflow, Got, Lobby, OpenGate, Source, Turn};
-use std::alloc::Global;
+use nr_serve::{Client, Dataflow, Lobby, OpenGate, Source, Turn};
 use std::process::Abort;
 use std::sync::Wait;
 
@@ -24,55 +24,45 @@ fn lies<R: Abort + Wait>(rt: &R, client: &mut Client<'_, OpenGate>, flow: &mut D
     requires { client.old.map.shape.keys ≡ 2 }
     ensures { client.new.map ≡ client.old.map }
 {
-    assert_eq!(rt; client.get(rt, 0, 1, &mut RowSet::new()), Got::GaveUp);
-    assert_eq!(rt; flow.turn(rt), Turn::Filled(0));
+    misses(rt, client, 0);
+    is_same(rt, &flow.turn(rt), &Turn::Filled(0));
 }
 
-// Gets of key 0 of a worker of number 1.
-fn works<R: Wait>(rt: &R, alloc: Global, client: &mut Client<'_, OpenGate>, lobby: &Lobby) -> Worked
+// Gets of key 0 of a worker of number 1 come to that.
+fn works<R: Abort + Wait + AllocGlobal>(
+    rt: &R,
+    client: &mut Client<'_, OpenGate>,
+    lobby: &Lobby,
+    wanted: &Worked,
+)
     requires { client.old.map.shape.keys ≡ 2 }
     ensures { client.new.map ≡ client.old.map }
 {
     let mut draws = Draws::open(1, 1, 1);
-    load_gets(rt, alloc, client, &mut draws, 5, lobby)
-}
-
-// The worker's gets where a liar filled its key, and then in a closed lobby; and whether tokens kept something.
-fn works_twice<R: Abort + Wait>(rt: &R, alloc: Global, opened: Opened) -> ([Worked; 2], bool) {
-    let Opened {
-        service,
-        writer,
-        taker,
-        reader,
-        poster,
-    } = opened;
-    let gate = OpenGate;
-    let mut client = Client::of_service(&service, reader, poster, &gate);
-    let mut flow = Dataflow::of_service(&service, writer, taker, Liar);
-    lies(rt, &mut client, &mut flow);
-    let lobby = service.lobby();
-    let first = works(rt, alloc, &mut client, lobby);
-    lobby.close(rt);
-    let second = works(rt, alloc, &mut client, lobby);
-    let kept = (end_client(client), end_flow(flow));
-    ([first, second], kept != (false, false))
+    let worked = load_gets(rt, rt.alloc(), client, &mut draws, 5, lobby);
+    is_same(rt, &worked, wanted);
 }
 
 // Rows of a source that lies are told, and no get is begun in a closed lobby.
 #[test]
 fn wrong_rows_are_told_and_a_closed_lobby_has_no_gets(rt: HostRuntime) {
-    let worked = works_twice(&rt, rt.alloc(), Opened::open(&rt, 4));
+    let (service, tokens) = opened(&rt, 4);
+    let (mut client, mut flow) = tokens.opens(&service, &OpenGate, Liar);
+    lies(&rt, &mut client, &mut flow);
     let lied = Worked {
         made: 1,
         answered: 1,
         stopped: false,
         fault: Some(LoadFault::WrongRows),
     };
+    works(&rt, &mut client, service.lobby(), &lied);
+    service.lobby().close(&rt);
     let closed = Worked {
         made: 0,
         answered: 0,
         stopped: true,
         fault: None,
     };
-    assert_eq!(rt; worked, ([lied, closed], false));
+    works(&rt, &mut client, service.lobby(), &closed);
+    is_same(&rt, &(end_client(client), end_flow(flow)), &(false, false));
 }

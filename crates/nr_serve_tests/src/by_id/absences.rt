@@ -2,9 +2,8 @@
 ghost use Rattle.std.specs.Prelude.{◌≡◌, ◌<◌};
 ghost use Rattle.nr_idmap.specs.Keepers.{id_rows};
 
-use crate::by_id::opened::{
-    Opened, Without, end_client, end_flow, fails, fills, finds, gets, takes, takes_none,
-};
+use crate::by_id::opened::{Without, ends, fails, fills, finds, gets, opened, takes, takes_none};
+use crate::same::is_same;
 use nr_idmap::Evict;
 use nr_idserve::{GotId, IdClient, IdDataflow, NoVictims};
 use nr_model::Row;
@@ -16,6 +15,13 @@ fn is_idle<R: Abort + Wait>(rt: &R, flow: &mut IdDataflow<'_>)
     ensures { flow.new.map ≡ flow.old.map }
 {
     takes_none(rt, flow, &mut NoVictims, Without::Idle);
+}
+
+fn evicts<R: Abort + Wait>(rt: &R, flow: &mut IdDataflow<'_>, id: u64, wanted: Evict)
+    requires { 0 < id }
+    ensures { flow.new.map ≡ flow.old.map }
+{
+    is_same(rt, &flow.evict(rt, id), &wanted);
 }
 
 // While an id's claim or upquery is open, it is claimed by no other get.
@@ -44,7 +50,7 @@ fn is_invalidated<R: Abort + Wait>(rt: &R, flow: &mut IdDataflow<'_>)
     }
     let upquery = takes(rt, flow);
     match flow.invalidate(rt, upquery) {
-        Ok(spent) => assert_eq!(rt; spent, Spent::Failed),
+        Ok(spent) => is_same(rt, &spent, &Spent::Failed),
         Err(_upquery) => panic!(rt; "it is withdrawn"),
     }
 }
@@ -58,36 +64,25 @@ fn is_asked_anew<R: Abort + Wait>(rt: &R, client: &mut IdClient<'_>, flow: &mut 
     fails(rt, flow, failed);
     gets(rt, client, 2, GotId::GaveUp);
     is_invalidated(rt, flow);
-    assert_eq!(rt; client.failures_for(2), 1);
+    is_same(rt, &client.failures_for(2), &1);
     gets(rt, client, 2, GotId::GaveUp);
     let upquery = takes(rt, flow);
-    assert_eq!(rt; flow.evict(rt, 2), Evict::Nothing);
+    evicts(rt, flow, 2, Evict::Nothing);
     fills(rt, flow, upquery, 6);
     finds(rt, client, 2, &[Row { a: 1, b: 6 }]);
-    assert_eq!(rt; flow.evict(rt, 2), Evict::Evicted);
+    evicts(rt, flow, 2, Evict::Evicted);
     gets(rt, client, 2, GotId::GaveUp);
     let again = takes(rt, flow);
     fills(rt, flow, again, 7);
     finds(rt, client, 2, &[Row { a: 1, b: 7 }]);
 }
 
-fn asks<R: Abort + Wait>(rt: &R, opened: Opened) {
-    let Opened {
-        service,
-        writer,
-        taker,
-        one,
-        two: _two,
-    } = opened;
-    let mut client = IdClient::open(&service, one.0, one.1);
-    let mut flow = IdDataflow::open(&service, writer, taker);
-    is_asked_once(rt, &mut client, &mut flow);
-    is_asked_anew(rt, &mut client, &mut flow);
-    assert_eq!(rt; (end_client(client), end_flow(rt, flow)), (false, None));
-    let (_map, _claims, _lobby) = service.into_parts();
-}
-
 #[test]
 fn an_absence_is_asked_once(rt: HostRuntime) {
-    asks(&rt, Opened::open(&rt, 1, 4));
+    let (service, tokens) = opened(&rt, 1, 4);
+    let (mut client, mut flow) = tokens.opens(&service);
+    is_asked_once(&rt, &mut client, &mut flow);
+    is_asked_anew(&rt, &mut client, &mut flow);
+    ends(&rt, client, flow, None);
+    let (_map, _claims, _lobby) = service.into_parts();
 }

@@ -4,7 +4,7 @@ ghost use Rattle.nr_model.specs.Batches.{IsBatch};
 ghost use Rattle.nr_idmap.specs.Keepers.{id_rows};
 ghost use Rattle.nr_idmap.specs.Tags.{AreIdDeltas};
 
-use crate::by_id::opened::{Opened, end_client, end_flow, fills, finds, gets, takes};
+use crate::by_id::opened::{ends, fills, finds, gets, opened, takes};
 use nr_idmap::are_id_deltas;
 use nr_idserve::{GotId, IdClient, IdDataflow};
 use nr_model::{Batch, Delta, Row};
@@ -49,22 +49,11 @@ fn tell<R: Abort + Wait>(rt: &R, client: &mut IdClient<'_>, flow: &mut IdDataflo
     finds(rt, client, 1, &[Row { a: 3, b: 1 }]);
 }
 
-fn changes_and_tells<R: Abort + Wait>(rt: &R, opened: Opened) {
-    let Opened {
-        service,
-        writer,
-        taker,
-        one,
-        two: _two,
-    } = opened;
-    let mut client = IdClient::open(&service, one.0, one.1);
-    let mut flow = IdDataflow::open(&service, writer, taker);
-    changes(rt, &mut client, &mut flow);
-    tell(rt, &mut client, &mut flow);
-    assert_eq!(rt; (end_client(client), end_flow(rt, flow)), (false, None));
-}
-
 #[test]
 fn rows_change_and_notes_tell(rt: HostRuntime) {
-    changes_and_tells(&rt, Opened::open(&rt, 1, 4));
+    let (service, tokens) = opened(&rt, 1, 4);
+    let (mut client, mut flow) = tokens.opens(&service);
+    changes(&rt, &mut client, &mut flow);
+    tell(&rt, &mut client, &mut flow);
+    ends(&rt, client, flow, None);
 }

@@ -2,9 +2,7 @@
 ghost use Rattle.std.specs.Prelude.{◌≡◌, ◌<◌};
 ghost use Rattle.nr_idmap.specs.Keepers.{id_rows};
 
-use crate::by_id::opened::{
-    Opened, Without, end_client, end_flow, fails, fills, finds, gets, takes, takes_none,
-};
+use crate::by_id::opened::{Without, ends, fails, fills, finds, gets, opened, takes, takes_none};
 use nr_idserve::{GotId, IdClient, IdDataflow, NoVictims};
 use nr_model::Row;
 use std::process::Abort;
@@ -31,23 +29,12 @@ fn end_in_any_order<R: Abort + Wait>(rt: &R, client: &mut IdClient<'_>, flow: &m
     finds(rt, client, 1, &[Row { a: 1, b: 10 }]);
 }
 
-fn asks_three<R: Abort + Wait>(rt: &R, opened: Opened) {
-    let Opened {
-        service,
-        writer,
-        taker,
-        one,
-        two: _two,
-    } = opened;
-    let mut client = IdClient::open(&service, one.0, one.1);
-    let mut flow = IdDataflow::open(&service, writer, taker);
-    end_in_any_order(rt, &mut client, &mut flow);
-    assert_eq!(rt; (end_client(client), end_flow(rt, flow)), (false, None));
-}
-
 #[test]
 fn upqueries_end_in_any_order(rt: HostRuntime) {
-    asks_three(&rt, Opened::open(&rt, 1, 4));
+    let (service, tokens) = opened(&rt, 1, 4);
+    let (mut client, mut flow) = tokens.opens(&service);
+    end_in_any_order(&rt, &mut client, &mut flow);
+    ends(&rt, client, flow, None);
 }
 
 // The queue has a place for one claim. The second is kept, and posted by the next get.
@@ -67,22 +54,11 @@ fn keeps_and_posts<R: Abort + Wait>(rt: &R, client: &mut IdClient<'_>, flow: &mu
 }
 
 // Ids 7 and 42 are in two groups, so both can be claimed at once.
-fn asks_two<R: Abort + Wait>(rt: &R, opened: Opened) {
-    let Opened {
-        service,
-        writer,
-        taker,
-        one,
-        two: _two,
-    } = opened;
-    assert!(rt; service.map().group_of(7) != service.map().group_of(42));
-    let mut client = IdClient::open(&service, one.0, one.1);
-    let mut flow = IdDataflow::open(&service, writer, taker);
-    keeps_and_posts(rt, &mut client, &mut flow);
-    assert_eq!(rt; (end_client(client), end_flow(rt, flow)), (false, None));
-}
-
 #[test]
 fn a_claim_that_the_queue_refuses_is_kept(rt: HostRuntime) {
-    asks_two(&rt, Opened::open(&rt, 2, 1));
+    let (service, tokens) = opened(&rt, 2, 1);
+    assert!(&rt; service.map().group_of(7) != service.map().group_of(42));
+    let (mut client, mut flow) = tokens.opens(&service);
+    keeps_and_posts(&rt, &mut client, &mut flow);
+    ends(&rt, client, flow, None);
 }

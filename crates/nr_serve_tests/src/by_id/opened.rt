@@ -1,7 +1,8 @@
-//! Maps over ids with a queue of claims and a lobby, and calls whose answers are asserted.
-ghost use Rattle.std.specs.Prelude.{◌≡◌, ◌<◌, All, IfOk};
+//! Services by id with their tokens, and calls of clients and dataflows whose answers are asserted.
+ghost use Rattle.std.specs.Prelude.{◌≡◌, ◌<◌, All, IfOk, None};
 ghost use Rattle.nr_idmap.specs.Keepers.{id_rows, id_table_of};
 
+use crate::same::{are_same, is_same};
 use nr_idmap::{IdMap, IdReader, IdShape, IdWriter, Upquery};
 use nr_idserve::{GotId, IdClient, IdDataflow, IdService, NoVictims, Taken, Victims};
 use nr_model::{Row, RowSet};
@@ -11,28 +12,113 @@ use std::marker::Model;
 use std::process::Abort;
 use std::sync::Wait;
 
-/// A service, with a token of each kind, and two of readers and posters.
+/// The tokens of a service's dataflow, and of two clients.
 #[derive(Drop)]
-pub(crate) struct Opened {
-    pub(crate) service: IdService,
-    pub(crate) writer: IdWriter,
-    pub(crate) taker: Taker,
-    pub(crate) one: (IdReader, Poster),
-    pub(crate) two: (IdReader, Poster),
+pub(crate) struct Tokens {
+    writer: IdWriter,
+    taker: Taker,
+    one: (IdReader, Poster),
+    two: (IdReader, Poster),
 }
 
-impl Model for Opened {
+impl Model for Tokens {
     ghost use Rattle.std.specs.Prelude.{◌≡◌, ◌<◌};
-    ghost use Rattle.nr_idmap.specs.Keepers.{id_rows, id_table_of};
-    ghost use Rattle.nr_idserve.specs.IdServices.{IdServiceSeen};
+    ghost use Rattle.nr_idmap.specs.Keepers.{IdTable, id_rows, id_table_of};
+    ghost use Rattle.nr_trigger.specs.Tokens.{TakerSeen};
 
-    ghost Value = { IdServiceSeen };
+    ghost Value = { IdTable × TakerSeen };
 
-    ghost view = { λ opened. opened.service };
+    ghost view = { λ tokens. (tokens.writer.table, tokens.taker) };
 
-    ghost invariant = { λ opened. (0 < id_rows opened.service.map) × (opened.writer.table ≡ opened.service.map) × (opened.taker.queue ≡ opened.service.queue.id)
-        × (let (reader, poster) = opened.one in (id_table_of reader ≡ opened.service.map) × (poster.queue ≡ opened.service.queue.id) × (0 < poster.keys))
-        × (let (reader, poster) = opened.two in (id_table_of reader ≡ opened.service.map) × (poster.queue ≡ opened.service.queue.id) × (0 < poster.keys)) };
+    ghost invariant = { λ tokens. (0 < id_rows tokens.writer.table)
+        × (let (reader, poster) = tokens.one in (id_table_of reader ≡ tokens.writer.table) × (poster.queue ≡ tokens.taker.queue) × (0 < poster.keys))
+        × (let (reader, poster) = tokens.two in (id_table_of reader ≡ tokens.writer.table) × (poster.queue ≡ tokens.taker.queue) × (0 < poster.keys)) };
+}
+
+/// What a client is opened with.
+#[derive(Drop)]
+pub(crate) struct Asking<'a> {
+    service: &'a IdService,
+    reader: IdReader,
+    poster: Poster,
+    ghost own: { (id_table_of reader ≡ service.now.map) × (poster.queue ≡ service.now.queue.id) × (0 < poster.keys) },
+}
+
+impl<'a> Asking<'a> {
+    pub(crate) fn opens(self) -> IdClient<'a>
+        ensures { (result.map ≡ self.entry.service.now.map) × (result.guest.lobby ≡ self.entry.service.now.lobby) }
+    {
+        let Asking {
+            service,
+            reader,
+            poster,
+        } = self;
+        IdClient::open(service, reader, poster)
+    }
+}
+
+/// What a dataflow is opened with.
+#[derive(Drop)]
+pub(crate) struct Serving<'a> {
+    pub(crate) service: &'a IdService,
+    pub(crate) writer: IdWriter,
+    pub(crate) taker: Taker,
+    ghost own: { (writer.table ≡ service.now.map) × (taker.queue ≡ service.now.queue.id) × (0 < id_rows service.now.map) },
+}
+
+impl<'a> Serving<'a> {
+    pub(crate) fn opens(self) -> IdDataflow<'a>
+        ensures places { (result.map ≡ self.entry.service.now.map) × (result.queue ≡ self.entry.service.now.queue) × (result.lobby ≡ self.entry.service.now.lobby) }
+        ensures room { 0 < id_rows result.map }
+        ensures free { (result.kept ≡ None) × (result.refused ≡ None) }
+    {
+        let Serving {
+            service,
+            writer,
+            taker,
+        } = self;
+        IdDataflow::open(service, writer, taker)
+    }
+}
+
+impl Tokens {
+    /// For threads of two clients and of the dataflow.
+    pub(crate) fn sides<'a>(self, service: &'a IdService) -> (Asking<'a>, Asking<'a>, Serving<'a>)
+        requires { let (table, taker) = self in (table ≡ service.now.map) × (taker.queue ≡ service.now.queue.id) }
+        ensures { let (one, two, flow) = result in (one.service.now ≡ service.now) × (two.service.now ≡ service.now) × (flow.service.now ≡ service.now) }
+    {
+        let Tokens {
+            writer,
+            taker,
+            one: (reader, poster),
+            two: (other_reader, other_poster),
+        } = self;
+        let one = Asking {
+            service,
+            reader,
+            poster,
+        };
+        let two = Asking {
+            service,
+            reader: other_reader,
+            poster: other_poster,
+        };
+        let flow = Serving {
+            service,
+            writer,
+            taker,
+        };
+        (one, two, flow)
+    }
+
+    /// The first client and the dataflow.
+    pub(crate) fn opens<'a>(self, service: &'a IdService) -> (IdClient<'a>, IdDataflow<'a>)
+        requires { let (table, taker) = self in (table ≡ service.now.map) × (taker.queue ≡ service.now.queue.id) }
+        ensures { let (client, flow) = result in (flow.map ≡ client.map) × (0 < id_rows flow.map) }
+    {
+        let (one, _two, flow) = self.sides(service);
+        (one.opens(), flow.opens())
+    }
 }
 
 // The last of a map's readers, which there is.
@@ -78,20 +164,24 @@ fn queue<R: Abort + AllocGlobal>(rt: &R, capacity: u32) -> (Triggers, Taker, Pos
     (claims, taker, one, two)
 }
 
-impl Opened {
-    /// Of so many groups, with a queue of that many places.
-    pub(crate) fn open<R: Abort + AllocGlobal>(rt: &R, groups: u32, capacity: u32) -> Opened {
-        let (map, writer, one, two) = map_of(rt, groups);
-        let (claims, taker, first, second) = queue(rt, capacity);
-        let lobby = Lobby::open(rt.alloc()).expect(rt, "a lobby");
-        Opened {
-            service: IdService::of(map, claims, lobby),
-            writer,
-            taker,
-            one: (one, first),
-            two: (two, second),
-        }
-    }
+/// A service of so many groups, whose queue has that many places, with its tokens.
+pub(crate) fn opened<R: Abort + AllocGlobal>(
+    rt: &R,
+    groups: u32,
+    capacity: u32,
+) -> (IdService, Tokens)
+    ensures { let (service, tokens) = result in let (table, taker) = tokens in (table ≡ service.map) × (taker.queue ≡ service.queue.id) }
+{
+    let (map, writer, one, two) = map_of(rt, groups);
+    let (claims, taker, first, second) = queue(rt, capacity);
+    let lobby = Lobby::open(rt.alloc()).expect(rt, "a lobby");
+    let tokens = Tokens {
+        writer,
+        taker,
+        one: (one, first),
+        two: (two, second),
+    };
+    (IdService::of(map, claims, lobby), tokens)
 }
 
 /// A get of one try ends so.
@@ -100,7 +190,7 @@ pub(crate) fn gets<R: Abort + Wait>(rt: &R, client: &mut IdClient<'_>, id: u64, 
     ensures { client.new.map ≡ client.old.map }
 {
     let mut rows = RowSet::new();
-    assert_eq!(rt; client.get(rt, id, 1, &mut rows), wanted);
+    is_same(rt, &client.get(rt, id, 1, &mut rows), &wanted);
 }
 
 /// A get of one try finds just these rows.
@@ -109,8 +199,8 @@ pub(crate) fn finds<R: Abort + Wait>(rt: &R, client: &mut IdClient<'_>, id: u64,
     ensures { client.new.map ≡ client.old.map }
 {
     let mut rows = RowSet::new();
-    assert_eq!(rt; client.get(rt, id, 1, &mut rows), GotId::Rows);
-    assert_eq!(rt; rows.as_slice(), wanted);
+    is_same(rt, &client.get(rt, id, 1, &mut rows), &GotId::Rows);
+    are_same(rt, rows.as_slice(), wanted);
 }
 
 /// A take that finds no upquery.
@@ -149,7 +239,7 @@ pub(crate) fn takes_none<V: Victims, R: Abort + Wait>(
     ensures places { flow.new.map ≡ flow.old.map }
 {
     match take_by(rt, flow, victims) {
-        Err(without) => assert_eq!(rt; without, wanted),
+        Err(without) => is_same(rt, &without, &wanted),
         Ok(_upquery) => panic!(rt; "no upquery"),
     }
 }
@@ -174,7 +264,7 @@ pub(crate) fn fills<R: Abort + Wait>(rt: &R, flow: &mut IdDataflow<'_>, upquery:
     ensures queue { flow.new.queue ≡ flow.old.queue }
 {
     match flow.fill(rt, upquery, &[Row { a: 1, b }]) {
-        Ok(spent) => assert_eq!(rt; spent, Spent::Filled),
+        Ok(spent) => is_same(rt, &spent, &Spent::Filled),
         Err((_upquery, _counts)) => panic!(rt; "a slot"),
     }
 }
@@ -185,7 +275,7 @@ pub(crate) fn fails<R: Abort + Wait>(rt: &R, flow: &mut IdDataflow<'_>, upquery:
     ensures places { flow.new.map ≡ flow.old.map }
 {
     match flow.fail(rt, upquery) {
-        Ok(spent) => assert_eq!(rt; spent, Spent::Failed),
+        Ok(spent) => is_same(rt, &spent, &Spent::Failed),
         Err(_upquery) => panic!(rt; "it is withdrawn"),
     }
 }
@@ -209,4 +299,18 @@ pub(crate) fn end_flow<R: Abort>(rt: &R, flow: IdDataflow<'_>) -> Option<u64> {
         None => refused,
         Some(_upquery) => panic!(rt; "an upquery is kept"),
     }
+}
+
+/// Ends both: the client kept no claim, and the dataflow that one, if any.
+pub(crate) fn ends<R: Abort>(
+    rt: &R,
+    client: IdClient<'_>,
+    flow: IdDataflow<'_>,
+    refused: Option<u64>,
+) {
+    is_same(
+        rt,
+        &(end_client(client), end_flow(rt, flow)),
+        &(false, refused),
+    );
 }

@@ -2,9 +2,7 @@
 ghost use Rattle.std.specs.Prelude.{◌≡◌, ◌<◌, All};
 ghost use Rattle.nr_idmap.specs.Keepers.{id_rows};
 
-use crate::by_id::opened::{
-    Opened, Without, end_client, end_flow, fills, finds, gets, take_by, takes, takes_none,
-};
+use crate::by_id::opened::{Without, ends, fills, finds, gets, opened, take_by, takes, takes_none};
 use nr_idserve::{AnyVictim, GotId, IdClient, IdDataflow, NoVictims, Victims};
 use nr_model::Row;
 use std::process::Abort;
@@ -86,40 +84,18 @@ fn makes_room_of_a_second<R: Abort + Wait>(
     takes_none(rt, flow, &mut NoVictims, Without::Full(20));
 }
 
-fn fills_group<R: Abort + Wait>(rt: &R, opened: Opened) {
-    let Opened {
-        service,
-        writer,
-        taker,
-        one,
-        two: _two,
-    } = opened;
-    let mut client = IdClient::open(&service, one.0, one.1);
-    let mut flow = IdDataflow::open(&service, writer, taker);
-    makes_room(rt, &mut client, &mut flow);
-    assert_eq!(rt; (end_client(client), end_flow(rt, flow)), (false, Some(6)));
-}
-
 #[test]
 fn a_full_group_makes_room(rt: HostRuntime) {
-    fills_group(&rt, Opened::open(&rt, 1, 4));
-}
-
-fn fills_both_groups<R: Abort + Wait>(rt: &R, opened: Opened) {
-    let Opened {
-        service,
-        writer,
-        taker,
-        one,
-        two: _two,
-    } = opened;
-    let mut client = IdClient::open(&service, one.0, one.1);
-    let mut flow = IdDataflow::open(&service, writer, taker);
-    makes_room_of_a_second(rt, &mut client, &mut flow);
-    assert_eq!(rt; (end_client(client), end_flow(rt, flow)), (false, Some(20)));
+    let (service, tokens) = opened(&rt, 1, 4);
+    let (mut client, mut flow) = tokens.opens(&service);
+    makes_room(&rt, &mut client, &mut flow);
+    ends(&rt, client, flow, Some(6));
 }
 
 #[test]
 fn an_id_of_another_group_makes_room(rt: HostRuntime) {
-    fills_both_groups(&rt, Opened::open(&rt, 2, 4));
+    let (service, tokens) = opened(&rt, 2, 4);
+    let (mut client, mut flow) = tokens.opens(&service);
+    makes_room_of_a_second(&rt, &mut client, &mut flow);
+    ends(&rt, client, flow, Some(20));
 }

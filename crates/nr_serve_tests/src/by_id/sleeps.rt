@@ -1,12 +1,14 @@
 //! Clients that sleep: until a time, and until an id of their group is evicted; and a dataflow that sleeps.
 ghost use Rattle.std.specs.Prelude.{◌≡◌, ◌<◌, None};
-ghost use Rattle.nr_idmap.specs.Keepers.{id_rows, id_table_of};
+ghost use Rattle.nr_idmap.specs.Keepers.{id_rows};
 
-use crate::by_id::opened::{Opened, Without, end_client, end_flow, fills, gets, take_by, takes};
-use nr_idmap::{Evict, IdReader, IdWriter};
-use nr_idserve::{GotId, IdClient, IdDataflow, IdService, NoVictims, Taken};
+use crate::by_id::opened::{
+    Asking, Serving, Without, end_client, end_flow, ends, fills, gets, opened, take_by, takes,
+};
+use crate::same::is_same;
+use nr_idmap::Evict;
+use nr_idserve::{GotId, IdClient, IdDataflow, NoVictims, Taken};
 use nr_model::RowSet;
-use nr_trigger::{Poster, Taker};
 use std::process::Abort;
 use std::sync::Wait;
 use std::thread::{Threads, join};
@@ -30,143 +32,86 @@ fn gets_now<R: Abort + Wait + Clock>(
 fn is_late<R: Abort + Wait + Clock>(rt: &R, client: &mut IdClient<'_>, flow: &mut IdDataflow<'_>)
     requires { 0 < id_rows flow.old.map }
 {
-    assert_eq!(rt; gets_now(rt, client, 1, 2), None);
-    assert_eq!(rt; gets_now(rt, client, 1, 1), Some(GotId::GaveUp));
+    is_same(rt, &gets_now(rt, client, 1, 2), &None);
+    is_same(rt, &gets_now(rt, client, 1, 1), &Some(GotId::GaveUp));
     let upquery = takes(rt, flow);
     fills(rt, flow, upquery, 5);
-    assert_eq!(rt; gets_now(rt, client, 1, 2), Some(GotId::Rows));
-}
-
-fn times_out<R: Abort + Wait + Clock>(rt: &R, opened: Opened) {
-    let Opened {
-        service,
-        writer,
-        taker,
-        one,
-        two: _two,
-    } = opened;
-    let mut client = IdClient::open(&service, one.0, one.1);
-    let mut flow = IdDataflow::open(&service, writer, taker);
-    is_late(rt, &mut client, &mut flow);
-    assert_eq!(rt; (end_client(client), end_flow(rt, flow)), (false, None));
+    is_same(rt, &gets_now(rt, client, 1, 2), &Some(GotId::Rows));
 }
 
 #[test]
 fn a_get_is_too_late(rt: HostRuntime) {
-    times_out(&rt, Opened::open(&rt, 1, 4));
+    let (service, tokens) = opened(&rt, 1, 4);
+    let (mut client, mut flow) = tokens.opens(&service);
+    is_late(&rt, &mut client, &mut flow);
+    ends(&rt, client, flow, None);
 }
 
-/// What the thread of a client is given.
-#[derive(Drop)]
-struct Asking<'a> {
-    service: &'a IdService,
-    reader: IdReader,
-    poster: Poster,
-    ghost own: { (id_table_of reader ≡ service.now.map) × (poster.queue ≡ service.now.queue.id) × (0 < poster.keys) },
+// Wants id 9, which nobody brings, by two tries. It sleeps between them.
+fn waits<R: Abort + Wait>(rt: &R, asking: Asking<'_>) {
+    let mut client = asking.opens();
+    let mut rows = RowSet::new();
+    is_same(rt, &client.get(rt, 9, 2, &mut rows), &GotId::GaveUp);
+    is_same(rt, &end_client(client), &false);
 }
 
-impl Asking<'_> {
-    // Wants id 9, which nobody brings, by two tries. It sleeps between them.
-    fn waits<R: Abort + Wait>(self, rt: &R) {
-        let Asking {
-            service,
-            reader,
-            poster,
-        } = self;
-        let mut client = IdClient::open(service, reader, poster);
-        let mut rows = RowSet::new();
-        assert_eq!(rt; client.get(rt, 9, 2, &mut rows), GotId::GaveUp);
-        assert!(rt; !end_client(client));
-    }
-}
-
-/// What the thread of the dataflow is given.
-#[derive(Drop)]
-struct Serving<'a> {
-    service: &'a IdService,
-    writer: IdWriter,
-    taker: Taker,
-    ghost own: { (writer.table ≡ service.now.map) × (taker.queue ≡ service.now.queue.id) },
-}
-
-impl Serving<'_> {
-    // Once the claim of id 9 has come, for which its group has no way, evicts an id of that group.
-    fn evicts<R: Abort + Wait>(self, rt: &R) {
-        let Serving {
-            service,
-            writer,
-            taker,
-        } = self;
-        let mut flow = IdDataflow::open(service, writer, taker);
-        for _ in rt.forever() {
-            match take_by(rt, &mut flow, &mut NoVictims) {
-                Ok(_upquery) => panic!(rt; "no upquery"),
-                Err(Without::Full(_)) => break,
-                Err(Without::Idle) => std::thread::yield_now(),
-                Err(Without::Passed(_)) => panic!(rt; "the claim is open"),
-            }
+// Takes until the claim of id 9 has come, for which its group has no way.
+fn is_full<R: Abort + Wait>(rt: &R, flow: &mut IdDataflow<'_>) {
+    for _ in rt.forever() {
+        match take_by(rt, flow, &mut NoVictims) {
+            Ok(_upquery) => panic!(rt; "no upquery"),
+            Err(Without::Full(_)) => return,
+            Err(Without::Idle) => std::thread::yield_now(),
+            Err(Without::Passed(_)) => panic!(rt; "the claim is open"),
         }
-        assert_eq!(rt; flow.evict(rt, 4), Evict::Evicted);
-        assert_eq!(rt; end_flow(rt, flow), Some(9));
     }
+}
+
+// Evicts an id of that group then.
+fn evicts<R: Abort + Wait>(rt: &R, serving: Serving<'_>) {
+    let mut flow = serving.opens();
+    is_full(rt, &mut flow);
+    is_same(rt, &flow.evict(rt, 4), &Evict::Evicted);
+    is_same(rt, &end_flow(rt, flow), &Some(9));
 }
 
 // Ids 1 to 8 are filled, and the tokens come back.
-fn fills_group<R: Abort + Wait>(
+fn fills_group<'a, R: Abort + Wait>(
     rt: &R,
-    service: &IdService,
-    here: (IdReader, Poster),
-    there: (IdWriter, Taker),
-) -> (IdWriter, Taker)
-    requires map { let (reader, _) = here in let (writer, _) = there in (id_table_of reader ≡ service.now.map) × (writer.table ≡ service.now.map) × (0 < id_rows service.now.map) }
-    requires queue { let (_, poster) = here in let (_, taker) = there in (poster.queue ≡ service.now.queue.id) × (0 < poster.keys) × (taker.queue ≡ service.now.queue.id) }
-    ensures own { let (writer, taker) = result in (writer.table ≡ service.now.map) × (taker.queue ≡ service.now.queue.id) }
-{
-    let mut client = IdClient::open(service, here.0, here.1);
-    let mut flow = IdDataflow::open(service, there.0, there.1);
+    asking: Asking<'_>,
+    serving: Serving<'a>,
+) -> Serving<'a> {
+    let service = serving.service;
+    let mut client = asking.opens();
+    let mut flow = serving.opens();
     for id in 1..9 {
         gets(rt, &mut client, id, GotId::GaveUp);
         let upquery = takes(rt, &mut flow);
         fills(rt, &mut flow, upquery, 5);
     }
-    assert!(rt; !end_client(client));
+    is_same(rt, &end_client(client), &false);
     let (writer, taker, kept, _refused) = flow.end();
     match kept {
-        None => (writer, taker),
+        None => Serving {
+            service,
+            writer,
+            taker,
+        },
         Some(_upquery) => panic!(rt; "an upquery is kept"),
     }
 }
 
 fn both<R: Threads + Abort + Wait + Sync>(rt: &R, asking: Asking<'_>, serving: Serving<'_>) {
-    join(rt, move || asking.waits(rt), move || serving.evicts(rt));
-}
-
-fn wakes<R: Threads + Abort + Wait + Sync>(rt: &R, opened: Opened) {
-    let Opened {
-        service,
-        writer,
-        taker,
-        one,
-        two,
-    } = opened;
-    let (writer, taker) = fills_group(rt, &service, one, (writer, taker));
-    let asking = Asking {
-        service: &service,
-        reader: two.0,
-        poster: two.1,
-    };
-    let serving = Serving {
-        service: &service,
-        writer,
-        taker,
-    };
-    both(rt, asking, serving);
+    join(rt, move || waits(rt, asking), move || evicts(rt, serving));
 }
 
 // The get of id 9 would sleep for ever, were the lobby raised by admissions, fills and withdrawals alone.
 #[test]
 fn an_eviction_wakes_who_sleeps(rt: HostRuntime) {
-    wakes(&rt, Opened::open(&rt, 1, 4));
+    let (service, tokens) = opened(&rt, 1, 4);
+    let (filling, asking, serving) = tokens.sides(&service);
+    let serving = fills_group(&rt, filling, serving);
+    both(&rt, asking, serving);
 }
 
 // Sleeps after an idle take. Nobody sleeps in a closed lobby.
@@ -181,22 +126,12 @@ fn sleeps_if_idle<R: Abort + Wait>(rt: &R, flow: &mut IdDataflow<'_>)
     }
 }
 
-fn sleeps_once<R: Abort + Wait>(rt: &R, opened: Opened) {
-    let Opened {
-        service,
-        writer,
-        taker,
-        one: _one,
-        two: _two,
-    } = opened;
-    let lobby = service.lobby();
-    lobby.close(rt);
-    let mut flow = IdDataflow::open(&service, writer, taker);
-    sleeps_if_idle(rt, &mut flow);
-    assert_eq!(rt; end_flow(rt, flow), None);
-}
-
 #[test]
 fn an_idle_dataflow_sleeps(rt: HostRuntime) {
-    sleeps_once(&rt, Opened::open(&rt, 1, 4));
+    let (service, tokens) = opened(&rt, 1, 4);
+    service.lobby().close(&rt);
+    let (_one, _two, serving) = tokens.sides(&service);
+    let mut flow = serving.opens();
+    sleeps_if_idle(&rt, &mut flow);
+    is_same(&rt, &end_flow(&rt, flow), &None);
 }

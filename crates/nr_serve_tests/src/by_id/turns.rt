@@ -2,7 +2,8 @@
 ghost use Rattle.std.specs.Prelude.{◌≤◌, length};
 ghost use Rattle.nr_idmap.specs.Tags.{AreIdRows};
 
-use crate::by_id::opened::{Opened, end_client, end_flow, finds, gets};
+use crate::by_id::opened::{ends, finds, gets, opened};
+use crate::same::is_same;
 use nr_idserve::{GotId, IdClient, IdDataflow, IdSource, IdTurn, NoVictims};
 use nr_model::{Row, RowSet};
 use nr_serve::SourceFault;
@@ -38,7 +39,7 @@ fn one_row(b: u64) -> RowSet
 }
 
 fn turns<R: Abort + Wait>(rt: &R, flow: &mut IdDataflow<'_>, source: &mut Numbers, wanted: IdTurn) {
-    assert_eq!(rt; flow.turn(rt, &mut NoVictims, source), wanted);
+    is_same(rt, &flow.turn(rt, &mut NoVictims, source), &wanted);
 }
 
 // The source is asked once for an id that was claimed, and never by an idle turn.
@@ -52,7 +53,7 @@ fn asks_once<R: Abort + Wait>(rt: &R, client: &mut IdClient<'_>, flow: &mut IdDa
     turns(rt, flow, &mut source, IdTurn::Filled(3));
     turns(rt, flow, &mut source, IdTurn::Idle);
     finds(rt, client, 3, &[Row { a: 1, b: 3 }]);
-    assert_eq!(rt; source.asked, 1);
+    is_same(rt, &source.asked, &1);
 }
 
 // An id is claimed anew once the source failed for it.
@@ -63,7 +64,7 @@ fn asks_anew<R: Abort + Wait>(rt: &R, client: &mut IdClient<'_>, flow: &mut IdDa
     };
     gets(rt, client, 4, GotId::GaveUp);
     turns(rt, flow, &mut source, IdTurn::Failed(4));
-    assert_eq!(rt; client.failures_for(4), 1);
+    is_same(rt, &client.failures_for(4), &1);
     source.has_rows = true;
     gets(rt, client, 4, GotId::GaveUp);
     turns(rt, flow, &mut source, IdTurn::Filled(4));
@@ -79,29 +80,17 @@ fn turns_or_sleeps<R: Abort + Wait>(rt: &R, client: &mut IdClient<'_>, flow: &mu
     let idle = flow.turn_or_sleep(rt, &mut NoVictims, &mut source);
     gets(rt, client, 5, GotId::GaveUp);
     let turned = flow.turn_or_sleep(rt, &mut NoVictims, &mut source);
-    assert_eq!(rt; (idle, turned), (IdTurn::Idle, IdTurn::Filled(5)));
+    is_same(rt, &(idle, turned), &(IdTurn::Idle, IdTurn::Filled(5)));
     finds(rt, client, 5, &[Row { a: 1, b: 5 }]);
-}
-
-fn asks<R: Abort + Wait>(rt: &R, opened: Opened) {
-    let Opened {
-        service,
-        writer,
-        taker,
-        one,
-        two: _two,
-    } = opened;
-    let mut client = IdClient::open(&service, one.0, one.1);
-    let mut flow = IdDataflow::open(&service, writer, taker);
-    asks_once(rt, &mut client, &mut flow);
-    asks_anew(rt, &mut client, &mut flow);
-    let lobby = service.lobby();
-    lobby.close(rt);
-    turns_or_sleeps(rt, &mut client, &mut flow);
-    assert_eq!(rt; (end_client(client), end_flow(rt, flow)), (false, None));
 }
 
 #[test]
 fn a_turn_asks_its_source(rt: HostRuntime) {
-    asks(&rt, Opened::open(&rt, 1, 4));
+    let (service, tokens) = opened(&rt, 1, 4);
+    let (mut client, mut flow) = tokens.opens(&service);
+    asks_once(&rt, &mut client, &mut flow);
+    asks_anew(&rt, &mut client, &mut flow);
+    service.lobby().close(&rt);
+    turns_or_sleeps(&rt, &mut client, &mut flow);
+    ends(&rt, client, flow, None);
 }

@@ -1,6 +1,6 @@
 use Rattle.std.proofs.Common.{◌≡◌, ◌<◌}
 use Rattle.nr_idmap.specs.Keepers.{id_rows}
-use Rattle.nr_serve_tests.proofs.by_id.threads.Answering.serves.Given as goal
+use Rattle.nr_serve_tests.proofs.by_id.threads.serves.Given as goal
 
 abbrev pub invariant-loop : goal.invariant-loop
 invariant-loop g l =
