@@ -68,8 +68,9 @@ impl<K, V, S> CacheBuilder<K, V, S> {
     }
 
     /// How many readers there can be at a time, and so how many threads may get without a lock: 1 to 65,533; 16 where
-    /// nothing is said. There are as many parts, each with a lock for misses and writes, but 16 at most, and fewer where
-    /// readers take 3 MB. A reader takes 6 kB a part.
+    /// nothing is said. For one thread there is one part. Else there are four for each, or one where weights have a bound,
+    /// but 32 at most, and fewer where all readers would take more than 3 MB: a reader takes 6 kB in each part. A part has
+    /// a lock of its own for misses and writes.
     pub fn threads(self, threads: u32) -> CacheBuilder<K, V, S> {
         CacheBuilder { threads, ..self }
     }
