@@ -124,11 +124,14 @@ fn main() -> Result<(), Box<dyn Error>> {
     let listener = Listener::Tcp(TcpListener::bind((&address[..], u16::try_from(port)?))?);
     let ending = Ending::new()?;
     let place = listener.place()?;
+    // Closes after all others: of two that close at the same time neither is the last, and the base's log would stay.
+    let last = open_base()?;
     let threads = begin(shared, listener, workers, loaders as usize, open_base)?;
     println!("listening on {place}");
     ending.wait();
     shared.door.shut(GRACE);
     // Who loads and votes ends when no worker is left to ask for that.
     threads.into_iter().for_each(|thread| _ = thread.join());
+    drop(last);
     Ok(())
 }
