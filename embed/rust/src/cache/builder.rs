@@ -14,6 +14,7 @@ use std::collections::hash_map::RandomState;
 use std::fmt;
 use std::hash::{BuildHasher, Hash};
 use std::sync::Arc;
+use std::thread::available_parallelism;
 use std::time::Duration;
 
 const MAX_CAPACITY: usize = 2_600_000;
@@ -23,8 +24,9 @@ const MAX_THREADS: u32 = 65_533;
 
 const MAX_PARTS: usize = 32;
 
-/// So that two threads that miss at the same time rarely do so in one part. Where entries have weights there is one part for
-/// each thread, since none may weigh more than a part's share.
+/// So that two threads that miss at the same time rarely do so in one part. No more do than there are processors, and each
+/// part has lines of memory of its own, which its hits want near. Where entries have weights there is one part for each
+/// thread, since none may weigh more than a part's share.
 const PARTS_PER_THREAD: usize = 4;
 
 /// How many readers the maps of all parts may have where there is more than one: of 6 kB each.
@@ -68,9 +70,9 @@ impl<K, V, S> CacheBuilder<K, V, S> {
     }
 
     /// How many readers there can be at a time, and so how many threads may get without a lock: 1 to 65,533; 16 where
-    /// nothing is said. For one thread there is one part. Else there are four for each, or one where weights have a bound,
-    /// but 32 at most, and fewer where all readers would take more than 3 MB: a reader takes 6 kB in each part. A part has
-    /// a lock of its own for misses and writes.
+    /// nothing is said. For one thread there is one part. Else there are four for each, or for each processor if there are
+    /// fewer, or one for each thread where weights have a bound, but 32 at most, and fewer where all readers would take more
+    /// than 3 MB: a reader takes 6 kB in each part. A part has a lock of its own for misses and writes.
     pub fn threads(self, threads: u32) -> CacheBuilder<K, V, S> {
         CacheBuilder { threads, ..self }
     }
@@ -149,14 +151,15 @@ impl<K: Hash + Eq, V, S: BuildHasher> CacheBuilder<K, V, S> {
             parts.push(Part::new(expiry, told.clone(), store));
         }
         let spare = spare.into_iter().zip(0..).map(|(ids, number)| Desk::new(ids, number)).collect();
-        Ok(Cache { shared: Arc::new(Shared::new(self.hasher, self.capacity, parts, spare)) })
+        Ok(Cache { shared: Arc::new(Shared::new(self.hasher, self.capacity, expiry, parts, spare)) })
     }
 
     /// How many parts the cache has: some for each thread, as far as that takes neither much memory nor so small parts that
     /// by chance some would be full long before others.
-    fn parts(&self) -> usize {
+    pub(crate) fn parts(&self) -> usize {
         let threads = self.threads as usize;
-        let wanted = if threads == 1 || self.max_weight.is_some() { threads } else { threads * PARTS_PER_THREAD };
+        let at_once = available_parallelism().map_or(threads, |processors| threads.min(processors.get()));
+        let wanted = if threads == 1 || self.max_weight.is_some() { threads } else { at_once * PARTS_PER_THREAD };
         wanted.min(MAX_PARTS).min(MAX_READERS / (threads + 1)).min(self.capacity / LEAST_PART).max(1)
     }
 }

@@ -311,6 +311,17 @@ fn its_parts_hold_its_capacity_together() {
 }
 
 #[test]
+fn it_has_four_parts_for_each_thread_that_can_run() {
+    let processors = thread::available_parallelism().unwrap().get();
+    let parts = |threads| Cache::<u64, u64>::builder().capacity(10_000).threads(threads).parts();
+    assert_eq!([parts(1), parts(2), parts(3)], [1, 4 * processors.min(2), 4 * processors.min(3)]);
+    // Not so many that its readers take more than 3 MB.
+    assert_eq!([parts(16), parts(63)], [(4 * processors).min(30), (4 * processors).min(8)]);
+    let weighed = Cache::<u64, u64>::builder().capacity(10_000).threads(6).max_weight(10_000);
+    assert_eq!(weighed.parts(), 6);
+}
+
+#[test]
 fn what_is_found_again_and_again_stays() {
     let cache = cache(50);
     let mut reader = cache.reader().unwrap();
