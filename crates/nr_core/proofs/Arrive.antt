@@ -23,6 +23,7 @@ use Rattle.nr_core.specs.Sums.{only}
 use Rattle.nr_core.specs.declared.roles.Grip.TheVariants.{Nothing, On}
 use Rattle.nr_core.specs.declared.roles.Role.TheVariants.{Reader}
 use Rattle.nr_core.specs.declared.shape.Shape.{Shape}
+use Rattle.nr_core.proofs.Stepping.{reader_tells}
 use Rattle.nr_model.specs.declared.states.KeyState.TheVariants as key
 use Rattle.nr_model.specs.declared.calls.Call.TheVariants as model
 use Rattle.nr_model.specs.declared.calls.Reply.TheVariants as reply
@@ -61,21 +62,11 @@ arrives shape id reader k near words roles log core there =
     = λ z hole is shown none.
     let e = entry reader (model.Find k) reply.Hole in
     let kept = find_keeps shape log reader k reply.Hole near in
-    record {
-      after = Reader reader Nothing;
-      entries = e ∷ [];
-      core =
-          on_key shape words roles log (e ∷ []) core id reader Nothing Nothing k x near there name
-          (legal-more shape log e core.legal (sym (replies_so shape log (model.Find k) ∙ ap find_reply is ∙ hole)))
-          (λ j _. kept j) (λ j. ap number_of (kept j)) (λ j _. kept j)
-          (subst (ShowsState shape words x) (sym (kept k ∙ is)) (shows_word shape words w x z name parity bits shown))
-          tt (λ s _. refl) (λ s e'. absurd (omega arith));
-      same = λ _. refl;
-      writer = refl;
-      reader = refl;
-      own = λ _. refl;
-      told = inr (none, refl, refl);
-    } in
+    reader_tells Nothing (model.Find k) reply.Hole (on_key (e ∷ []) core id reader Nothing Nothing k x near there name
+    (legal-more shape log e core.legal (sym (replies_so shape log (model.Find k) ∙ ap find_reply is ∙ hole)))
+    (λ j _. kept j) (λ j. ap number_of (kept j)) (λ j _. kept j)
+    (subst (ShowsState shape words x) (sym (kept k ∙ is)) (shows_word shape words w x z name parity bits shown))
+    tt (λ s _. refl) (λ s e'. absurd (omega arith))) (inr (none, refl, refl)) in
     let go : (z : KeyState) → Goal z = λ z. elim z as Goal [
       | key.Hole number ↦ λ is shown. missing (key.Hole number) refl is shown shown.0
       | key.Asked number ↦ λ is shown. missing (key.Asked number) refl is shown shown.0
@@ -85,26 +76,15 @@ arrives shape id reader k near words roles log core there =
           let named_so : name_number w ≡ suc s = shown.1 in
           let e = entry reader (model.Find k) (reply.Rows rows) in
           let role = Reader reader (On s rows false) in
-          let kept = find_keeps shape log reader k (reply.Rows rows) near in record {
-            after = role;
-            entries = e ∷ [];
-            core =
-                on_key shape words roles log (e ∷ []) core id reader Nothing (On s rows false) k x near there name
-                (legal-more shape log e core.legal (sym (replies_so shape log (model.Find k) ∙ ap find_reply is)))
-                (λ j _. kept j) (λ j. ap number_of (kept j)) (λ j _. kept j)
-                (subst (ShowsState shape words x) (sym (kept k ∙ is))
-                (shows_word shape words w x (key.Rows number rows) name parity bits shown))
-                (shown.2, shown.3)
-                (λ t ne. only-other t s (λ z. ne (named_so ∙ ap suc z)))
-                (λ t e'.
-                let one : s ≡ t = omega arith in
-                let more = total-set (holds t) roles id (Reader reader Nothing) role there in
-                let unit : only t s ≡ 1 = ap (only t) one ∙ only-same t in
-                omega (arith, core.counts k t near e', b.2));
-            same = λ _. refl;
-            writer = refl;
-            reader = refl;
-            own = λ _. refl;
-            told = inl (s, rows, named_so, shown.2, shown.3.0, refl, refl);
-          }
+          let kept = find_keeps shape log reader k (reply.Rows rows) near in reader_tells (On s rows false)
+          (model.Find k) (reply.Rows rows) (on_key (e ∷ []) core id reader Nothing (On s rows false) k x near there name
+          (legal-more shape log e core.legal (sym (replies_so shape log (model.Find k) ∙ ap find_reply is)))
+          (λ j _. kept j) (λ j. ap number_of (kept j)) (λ j _. kept j)
+          (subst (ShowsState shape words x) (sym (kept k ∙ is))
+          (shows_word shape words w x (key.Rows number rows) name parity bits shown)) (shown.2, shown.3)
+          (λ t ne. only-other t s (λ z. ne (named_so ∙ ap suc z))) (λ t e'.
+          let one : s ≡ t = omega arith in
+          let more = total-set (holds t) roles id (Reader reader Nothing) role there in
+          let unit : only t s ≡ 1 = ap (only t) one ∙ only-same t in
+          omega (arith, core.counts k t near e', b.2))) (inl (s, rows, named_so, shown.2, shown.3.0, refl, refl))
     ] in go state refl (core.shows k near)

@@ -22,6 +22,7 @@ use Rattle.nr_core.specs.Story.{entry, map_after}
 use Rattle.nr_core.specs.declared.roles.Grip.TheVariants.{Nothing}
 use Rattle.nr_core.specs.declared.roles.Role.TheVariants.{Reader}
 use Rattle.nr_core.specs.declared.shape.Shape.{Shape}
+use Rattle.nr_core.proofs.Stepping.{reader_tells}
 use Rattle.nr_model.specs.declared.states.KeyState.TheVariants as key
 use Rattle.nr_model.specs.declared.calls.Call.TheVariants as model
 use Rattle.nr_model.specs.declared.calls.Reply.TheVariants as reply
@@ -68,29 +69,15 @@ asks shape id reader k near words roles log core there =
     let name = name-asked w x one in let e = entry reader (model.Ask k) (ask_reply state) in
     let same : state_of (map_after shape (log ++ e ∷ [])) k ≡ asked state = state_same shape log e near in
     let shown = core.shows k near in
-    let other = state_other shape log e in record {
-      after = Reader reader Nothing;
-      entries = e ∷ [];
-      core =
-          on_key shape words roles log (e ∷ []) core id reader Nothing Nothing k x near there name
-          (legal-more shape log e core.legal (sym (replies_so shape log (model.Ask k))))
-          other
-          (λ j. dite (ℕ_discrete j k)
-          (λ z. ap (λ (y : ℕ). number_of (state_of (map_after shape (log ++ e ∷ [])) y)) z ∙ ap number_of same
-          ∙ asked_number state ∙ ap (λ (y : ℕ). number_of (state_of map y)) (sym z)) (λ ne. ap number_of (other j ne)))
-          (λ j n. dite (ℕ_discrete j k)
-          (λ z. ap (state_of (map_after shape (log ++ e ∷ []))) z ∙ same
-          ∙ asked_stays state (λ number y. n number (ap (state_of map) z ∙ y)) ∙ ap (state_of map) (sym z))
-          (λ ne. other j ne))
-          (subst (ShowsState shape words x) (sym same)
-          (shows-asked shape words w x state name (omega arith) (omega arith) shown))
-          tt (λ s _. refl)
-          (λ s e'.
-          let more = total-set (holds s) roles id (Reader reader Nothing) (Reader reader Nothing) there in
-          omega (arith, core.counts k s near e'));
-      same = λ _. refl;
-      writer = refl;
-      reader = refl;
-      own = λ _. refl;
-      told = (refl, ap (λ (y : Reply). entry reader (model.Ask k) y ∷ []) (asked_word shape words w state shown));
-    }
+    let other = state_other shape log e in reader_tells Nothing (model.Ask k) (ask_reply state)
+    (on_key (e ∷ []) core id reader Nothing Nothing k x near there name
+    (legal-more shape log e core.legal (sym (replies_so shape log (model.Ask k)))) other (λ j. dite (ℕ_discrete j k)
+    (λ z. ap (λ (y : ℕ). number_of (state_of (map_after shape (log ++ e ∷ [])) y)) z ∙ ap number_of same
+    ∙ asked_number state ∙ ap (λ (y : ℕ). number_of (state_of map y)) (sym z)) (λ ne. ap number_of (other j ne)))
+    (λ j n. dite (ℕ_discrete j k) (λ z. ap (state_of (map_after shape (log ++ e ∷ []))) z ∙ same
+    ∙ asked_stays state (λ number y. n number (ap (state_of map) z ∙ y)) ∙ ap (state_of map) (sym z))
+    (λ ne. other j ne)) (subst (ShowsState shape words x) (sym same)
+    (shows-asked shape words w x state name (omega arith) (omega arith) shown)) tt (λ s _. refl) (λ s e'.
+    let more = total-set (holds s) roles id (Reader reader Nothing) (Reader reader Nothing) there in
+    omega (arith, core.counts k s near e')))
+    (refl, ap (λ (y : Reply). entry reader (model.Ask k) y ∷ []) (asked_word shape words w state shown))

@@ -5,12 +5,11 @@ use Rattle.std.specs.List.{range_with_len}
 use Rattle.nr_model.specs.Histories.{Entry}
 use Rattle.nr_model.specs.Maps.{is_filled_key, state_of}
 use Rattle.nr_model.specs.declared.states.KeyState.{KeyState}
-use Rattle.nr_model.specs.declared.states.KeyState.TheVariants as key
 use Rattle.nr_core.proofs.Choices.{by_cases}
 use Rattle.nr_core.proofs.Histories.{length-now}
 use Rattle.nr_core.proofs.Sums.{below-first, below-same}
 use Rattle.nr_core.specs.Story.{map_after}
-use Rattle.nr_core.specs.Sums.{below, only, total}
+use Rattle.nr_core.specs.Sums.{below, only}
 use Rattle.nr_core.specs.declared.roles.Desk.{Desk}
 use Rattle.nr_core.specs.declared.shape.Shape.{Shape}
 use Rattle.nr_core.specs.Puts.{put_number}
@@ -18,14 +17,8 @@ use Rattle.nr_model.specs.Strays.{keyed, strays}
 use Rattle.nr_core.specs.Marks.{Marks}
 use Rattle.nr_core.specs.Exact.{Lists, filled_puts, named_puts}
 use Rattle.nr_core.proofs.HowOften.{how_often, stray_count, strays_count}
-use Rattle.nr_core.proofs.Tidy.{name_has, named_often}
-
-below-list : (f : ℕ → ℕ) (l : List ℕ) → total f l ≡ below (λ i. f (get_or l i 0)) (length l)
-below-list f [] = refl
-below-list f (x ∷ xs) =
-    let t = below-list f xs in
-    let u = below-first (λ i. f (get_or (x ∷ xs) i 0)) (length xs) in
-    omega arith
+use Rattle.nr_core.proofs.Tidy.{name_has, named_often, below-list}
+use Rattle.nr_model.specs.declared.states.KeyState.TheVariants as key
 
 -- the put numbers of the filled keys, of the states of the keys from `at` on
 abbrev puts_from : List Entry → ℕ → List KeyState → List ℕ

@@ -23,14 +23,15 @@ use Rattle.nr_core.specs.declared.roles.Role.TheVariants.{Writer}
 use Rattle.nr_core.specs.declared.shape.Shape.{Shape}
 
 -- a writer's step that changes no word: it learns, or decides
-pub desk_step : (shape : Shape) (words : List ℕ) (roles : List Role) (log es : List Entry)
-    (core : Core shape words roles log) (id : ℕ) (desk desk' : Desk) (i : ℕ)
+pub desk_step : {shape : Shape} {words : List ℕ} {roles : List Role} {log : List Entry} (es : List Entry)
+    (core : Core shape words roles log) (id : ℕ) {desk desk' : Desk} (i : ℕ)
     → get_elem? roles id ≡ some (Writer desk) → IsLegal (opening_map shape) (log ++ es)
     → ((k : ℕ) → state_of (map_after shape (log ++ es)) k ≡ state_of (map_after shape log) k)
     → ((s : ℕ) → s < shape.slots → keeps s (Writer desk') ≡ keeps s (Writer desk))
     → AtDesk shape words (map_after shape log) (held roles) desk'
     → Core shape (set words i (get_or words i 0)) (set roles id (Writer desk')) (log ++ es)
-desk_step shape words roles log es core id desk desk' i at legal same keeping own =
+desk_step {shape = shape} {words = words} {roles = roles} {log = log} es core id {desk = desk} {desk' = desk'} i at
+    legal same keeping own =
     let roles' = set roles id (Writer desk') in
     let map = map_after shape log in
     let map' = map_after shape (log ++ es) in
@@ -57,16 +58,15 @@ desk_step shape words roles log es core id desk desk' i at legal same keeping ow
           ∙ ap (λ (y : ℕ). (get_or words (departures shape s) 0 + y) % 2 ^ 40) (sym (still s));
       knows = λ j u there. ⊎_elim
           (λ (t : (j ≡ id) × (Writer desk' ≡ u)). subst (Knows shape words map' (held roles')) t.1 own')
-          (λ (t : (j ≢ id) × (get_elem? roles j ≡ some u)). no_writer shape words roles log core words map'
-          (held roles') id desk at
+          (λ (t : (j ≢ id) × (get_elem? roles j ≡ some u)). no_writer core words map' (held roles') id at
           (λ _ _ _ _ _. refl) j u t.0 t.1 (core.knows j u t.1)) (at_set roles id j (Writer desk') u there);
       one = omega (arith, total-set is_writer roles id (Writer desk) (Writer desk') at, core.one);
       few = omega (arith, total-set is_reader roles id (Writer desk) (Writer desk') at, core.few);
     }
 
 -- a writer's step on a key's word, which may name another slot
-pub rename : (shape : Shape) (words : List ℕ) (roles : List Role) (log es : List Entry)
-    (core : Core shape words roles log) (id : ℕ) (desk desk' : Desk) (k x : ℕ)
+pub rename : {shape : Shape} {words : List ℕ} {roles : List Role} {log : List Entry} (es : List Entry)
+    (core : Core shape words roles log) (id : ℕ) {desk desk' : Desk} (k x : ℕ)
     → k < shape.keys → get_elem? roles id ≡ some (Writer desk) → IsLegal (opening_map shape) (log ++ es)
     → ((j : ℕ) → j ≢ k → state_of (map_after shape (log ++ es)) j ≡ state_of (map_after shape log) j)
     → ShowsState shape words x (state_of (map_after shape (log ++ es)) k)
@@ -77,7 +77,8 @@ pub rename : (shape : Shape) (words : List ℕ) (roles : List Role) (log es : Li
     → arrivals_of x % 2 ^ 40 ≡ (get_or words (departures shape s) 0 + held roles s) % 2 ^ 40)
     → AtDesk shape (set words k x) (map_after shape (log ++ es)) (held (set roles id (Writer desk'))) desk'
     → Core shape (set words k x) (set roles id (Writer desk')) (log ++ es)
-rename shape words roles log es core id desk desk' k x near at legal states shown keeping counted own =
+rename {shape = shape} {words = words} {roles = roles} {log = log} es core id {desk = desk} {desk' = desk'} k x near at
+    legal states shown keeping counted own =
     let words' = set words k x in
     let roles' = set roles id (Writer desk') in
     let map = map_after shape log in
@@ -121,8 +122,7 @@ rename shape words roles log es core id desk desk' k x near at legal states show
           ∙ core.counts j s l (ap name_number (sym (other j ne)) ∙ e) ∙ sym (sum s));
       knows = λ j u there. ⊎_elim
           (λ (t : (j ≡ id) × (Writer desk' ≡ u)). subst (Knows shape words' map' (held roles')) t.1 own)
-          (λ (t : (j ≢ id) × (get_elem? roles j ≡ some u)). no_writer shape words roles log core words' map'
-          (held roles') id desk at
+          (λ (t : (j ≢ id) × (get_elem? roles j ≡ some u)). no_writer core words' map' (held roles') id at
           (λ s i _ _ _. cont s i) j u t.0 t.1 (core.knows j u t.1)) (at_set roles id j (Writer desk') u there);
       one = omega (arith, total-set is_writer roles id (Writer desk) (Writer desk') at, core.one);
       few = omega (arith, total-set is_reader roles id (Writer desk) (Writer desk') at, core.few);

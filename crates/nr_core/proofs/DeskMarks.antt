@@ -29,18 +29,18 @@ use Rattle.nr_core.specs.declared.roles.Desk.{Desk}
 use Rattle.nr_core.specs.declared.roles.Role.{Role}
 use Rattle.nr_core.specs.declared.roles.Role.TheVariants.{Writer}
 use Rattle.nr_core.specs.declared.shape.Shape.{Shape}
-use Rattle.nr_model.specs.declared.calls.Reply.TheVariants as reply
 use Rattle.nr_core.specs.Puts.{put_count, put_number}
 use Rattle.nr_core.specs.Marks.{LoggedLoad, Marks, Past, set_in, with_polls, with_scan}
 use Rattle.nr_core.specs.PollNotes.{AllHeld, NoRoom}
 use Rattle.nr_core.specs.Marked.{AllSince, Desked, KnowsMarks, MarkTelling, Marked, NotesPresent, Remarked, Sweeping}
 use Rattle.nr_core.specs.Marked.{Untouched, lives, Since}
 use Rattle.nr_core.proofs.MarksSince.{evolves_writer, marked_writer, desk_loads}
-use Rattle.nr_core.proofs.PutNumbers.{nil_count, nil_number}
 use Rattle.nr_core.specs.declared.operation.Operation.TheVariants.{Load}
 use Rattle.nr_core.proofs.ReaderMarks.{contents_loaded}
 use Rattle.nr_core.proofs.ListPlaces.{no_places}
 use lib.Seq.{set-get_or}
+use Rattle.nr_core.proofs.PutNumbers.{QuietEnd}
+use Rattle.nr_model.specs.declared.calls.Reply.TheVariants as reply
 
 -- a slot that is untouched after a step was so before it, and its content words stay
 abbrev pub Leaves : Shape → List ℕ → List ℕ → Place → Place → Type 0
@@ -53,36 +53,28 @@ abbrev pub Went : Shape → Desk → Place → Telling
 Went shape desk place word after entries =
     (after ≡ Writer (went shape desk place word).0) × (entries ≡ ending_at place (went shape desk place word).1)
 
--- a step that puts nothing leaves the put numbers
-abbrev pub QuietEnd : List Entry → List Entry → Type 0
-QuietEnd log entries =
-    ((k : ℕ) → put_number (log ++ entries) k ≡ put_number log k) × (put_count (log ++ entries) ≡ put_count log)
-
-pub nothing_ends : (log : List Entry) → QuietEnd log []
-nothing_ends log = (nil_number log, nil_count log)
-
 -- there is no slot where every slot was taken once and none is retired
-pub no_room_left : (shape : Shape) (words : List ℕ) (roles : List Role) (log : List Entry) (id : ℕ) (desk : Desk)
-    (call : WriterCall)
+pub no_room_left : {shape : Shape} {words : List ℕ} {roles : List Role} {log : List Entry} (id : ℕ) {desk : Desk}
+    {call : WriterCall}
     → Core shape words roles log → get_elem? roles id ≡ some (Writer desk) → ((slot : ℕ) → taken slot desk.place ≡ 0)
     → shape.slots ≤ desk.fresh
     → reply_at (bound_of shape) (call_of call) (state_of (map_after shape log) (key_of call)) ≡ reply.Done
     → (polls : List Past) → AllHeld desk.retired polls → length polls ≤ shape.readers
     → NoRoom shape call desk.retired polls log
-no_room_left shape words roles log id desk call core there free full done polls held few = record {
-  done =
-      replies_so shape log (call_of call)
-      ∙ ap (λ (k : ℕ). reply_at (bound_of shape) (call_of call) (state_of (map_after shape log) k)) (key_same call)
-      ∙ done;
-  slots = slots_are shape words roles log core id desk there full free;
-  apart = λ slot. dite (dec_le (retirements slot desk.retired) 1) (λ l. l)
-      (λ l.
-      let near = retired_inside slot (omega arith) in
-      let o = retired_once shape words roles log core id desk there slot near in
-      absurd (omega arith));
-  held = held;
-  few = few;
-}
+no_room_left {shape = shape} {words = words} {roles = roles} {log = log} id {desk = desk} {call = call} core there free
+    full done polls held few = record {
+      done = replies_so shape log (call_of call)
+          ∙ ap (λ (k : ℕ). reply_at (bound_of shape) (call_of call) (state_of (map_after shape log) k)) (key_same call)
+          ∙ done;
+      slots = slots_are shape words roles log core id desk there full free;
+      apart = λ slot. dite (dec_le (retirements slot desk.retired) 1) (λ l. l)
+          (λ l.
+          let near = retired_inside slot (omega arith) in
+          let o = retired_once shape words roles log core id desk there slot near in
+          absurd (omega arith));
+      held = held;
+      few = few;
+    }
   where
     retired_inside : (slot : ℕ) → 0 < retirements slot desk.retired → slot < shape.slots
     retired_inside slot l =
@@ -90,27 +82,27 @@ no_room_left shape words roles log id desk call core there free full done polls 
         subst (λ (y : ℕ). y < shape.slots) (only-is slot t.1.slot t.3)
         ((core.knows id (Writer desk) there).retired t.0 t.1 t.2).0
 
-module _ {A : Type 0} (role : A → Role) (marks : A → Marks) where
-  pub desk_of : (shape : Shape) (words : List ℕ) (callers : List A) (log : List Entry) (id : ℕ) (me : A) (desk : Desk)
+module _ {A : Type 0} {role : A → Role} {marks : A → Marks} where
+  pub desk_of : {shape : Shape} {words : List ℕ} {callers : List A} {log : List Entry} (id : ℕ) {me : A} {desk : Desk}
       → Marked role marks shape words callers log → get_elem? callers id ≡ some me → role me ≡ Writer desk
       → Desked role marks shape words callers log desk (marks me)
-  desk_of shape words callers log id me desk m at was =
+  desk_of {shape = shape} {words = words} {callers = callers} {log = log} id {me = me} m at was =
       subst (λ r. KnowsMarks role marks shape words callers log r (marks me)) was (m.each id me at)
 
   -- a writer's step, after which its desk and marks are these
-  pub writer_step : (shape : Shape) (id : ℕ) (me : A) (operation : Operation) (tells : MarkTelling) (words : List ℕ)
-      (callers : List A)
-      (log : List Entry) → Core shape words (map role callers) log → Marked role marks shape words callers log
-      → get_elem? callers id ≡ some me
-      → (desk desk' : Desk) → role me ≡ Writer desk
-      → (after : Role) (entries : List Entry) → after ≡ Writer desk' → (now : Marks) (news : List Past)
+  pub writer_step : {shape : Shape} {id : ℕ} {me : A} {operation : Operation} {tells : MarkTelling} {words : List ℕ}
+      {callers : List A}
+      {log : List Entry} → Core shape words (map role callers) log → Marked role marks shape words callers log
+      → get_elem? callers id ≡ some me → {desk desk' : Desk} → role me ≡ Writer desk
+      → {after : Role} {entries : List Entry} → after ≡ Writer desk' → (now : Marks) (news : List Past)
       → AllSince role marks callers news → NotesPresent role marks callers (marks me).polls now.polls
       → Desked role marks shape
       (set words (target_of operation) (becomes operation (get_or words (target_of operation) 0))) callers
       (log ++ entries) desk' now
       → tells (get_or words (target_of operation) 0) after (log ++ entries) now news
       → Remarked role marks shape words callers log id operation me after entries tells
-  writer_step shape id me operation tells words callers log core m at desk desk' was after entries is now news since
+  writer_step {shape = shape} {id = id} {me = me} {operation = operation} {words = words} {callers = callers}
+      {log = log} core m at {desk = desk} {desk' = desk'} was {entries = entries} is now news since
       noted own told =
       record {
         now = now;
@@ -131,9 +123,8 @@ module _ {A : Type 0} (role : A → Role) (marks : A → Marks) where
       }
 
   -- names that follow the words, where nothing was put and no slot came to life
-  pub desk_keep : (shape : Shape) (words words' : List ℕ) (callers : List A) (log log' : List Entry) (desk desk' : Desk)
-      (mine : Marks) (names : List ℕ) (polls : List Past)
-      → Desked role marks shape words callers log desk mine
+  pub desk_keep : {shape : Shape} {words words' : List ℕ} {callers : List A} {log log' : List Entry} {desk desk' : Desk}
+      {mine : Marks} {names : List ℕ} {polls : List Past} → Desked role marks shape words callers log desk mine
       → length names ≡ shape.keys → ((i : ℕ) → i < shape.keys → get_or names i 0 ≡ name_number (get_or words' i 0))
       → ((i s : ℕ) → i < shape.keys → name_number (get_or words' i 0) ≡ suc s
       → name_number (get_or words i 0) ≡ suc s)
@@ -142,7 +133,8 @@ module _ {A : Type 0} (role : A → Role) (marks : A → Marks) where
       → AllSince role marks callers polls → Sweeping role marks callers desk' polls desk'.place
       → Leaves shape words words' desk.place desk'.place
       → Desked role marks shape words' callers log' desk' (record mine { names = names; polls = polls })
-  desk_keep shape words words' callers log log' desk desk' mine names polls t long named_so older numbers many live
+  desk_keep {shape = shape} {words = words} {words' = words'} {mine = mine} {names = names} t long named_so older
+      numbers many live
       noted sweep leaves =
       record {
         wide = (long, t.wide.1);
@@ -160,16 +152,16 @@ module _ {A : Type 0} (role : A → Role) (marks : A → Marks) where
       }
 
   -- the words of the keys stay, and the retired slots are fewer or the same
-  pub desk_stay : (shape : Shape) (words words' : List ℕ) (callers : List A) (log entries : List Entry)
-      (desk desk' : Desk) (mine : Marks)
-      (polls : List Past) → Desked role marks shape words callers log desk mine
+  pub desk_stay : {shape : Shape} {words words' : List ℕ} {callers : List A} {log : List Entry} (entries : List Entry)
+      {desk desk' : Desk} {mine : Marks}
+      {polls : List Past} → Desked role marks shape words callers log desk mine
       → ((i : ℕ) → i < shape.keys → get_or words' i 0 ≡ get_or words i 0)
       → QuietEnd log entries → ((s : ℕ) → retirements s desk'.retired ≤ retirements s desk.retired)
       → AllSince role marks callers polls → Sweeping role marks callers desk' polls desk'.place
       → Leaves shape words words' desk.place desk'.place
       → Desked role marks shape words' callers (log ++ entries) desk' (with_polls mine polls)
-  desk_stay shape words words' callers log entries desk desk' mine polls t same quiet fewer noted sweep leaves =
-      desk_keep shape words words' callers log (log ++ entries) desk desk' mine mine.names polls t t.wide.0
+  desk_stay {shape = shape} {words = words} {words' = words'} entries t same quiet fewer noted sweep leaves =
+      desk_keep t t.wide.0
       (λ i l. t.names i l ∙ sym (ap name_number (same i l))) (λ i s l e. ap name_number (sym (same i l)) ∙ e)
       quiet.0 quiet.1
       (λ s l on.
@@ -182,8 +174,8 @@ module _ {A : Type 0} (role : A → Role) (marks : A → Marks) where
       noted sweep leaves
 
   -- a load by the writer leaves the lists of its desk, whatever it notes and logs
-  module _ (shape : Shape) (words : List ℕ) (callers : List A) (log entries : List Entry) (me : A) (place : ℕ)
-      (desk desk' : Desk) where
+  module _ {shape : Shape} {words : List ℕ} {callers : List A} {log : List Entry} (entries : List Entry) {me : A}
+      (place : ℕ) {desk desk' : Desk} where
     pub load_stays : Desked role marks shape words callers log desk (marks me) → QuietEnd log entries
         → ((s : ℕ) → retirements s desk'.retired ≤ retirements s desk.retired)
         → ((s : ℕ) → Untouched s desk'.place → Untouched s desk.place)
@@ -194,13 +186,12 @@ module _ {A : Type 0} (role : A → Role) (marks : A → Marks) where
     load_stays own quiet fewer untouched polls loads since sweep =
         let words' = set words place (get_or words place 0) in
         desk_loads role marks shape words' callers (log ++ entries) desk' (with_polls (marks me) polls) loads
-        (desk_stay shape words words' callers log entries desk desk' (marks me) polls own
-        (λ j _. ap (λ l. get_or l j 0) (set-get_or words place 0)) quiet fewer since sweep
+        (desk_stay entries own (λ j _. ap (λ l. get_or l j 0) (set-get_or words place 0)) quiet fewer since sweep
         (λ s _ rest. (untouched s rest, contents_loaded shape words place s)))
 
-    pub load_step : (id : ℕ) (tells : MarkTelling) → Core shape words (map role callers) log
+    pub load_step : {id : ℕ} {tells : MarkTelling} → Core shape words (map role callers) log
         → Marked role marks shape words callers log → get_elem? callers id ≡ some me → role me ≡ Writer desk
-        → (after : Role) → after ≡ Writer desk' → QuietEnd log entries
+        → {after : Role} → after ≡ Writer desk' → QuietEnd log entries
         → ((s : ℕ) → retirements s desk'.retired ≤ retirements s desk.retired)
         → ((s : ℕ) → Untouched s desk'.place → Untouched s desk.place)
         → (polls : List Past) (loads : List LoggedLoad) → AllSince role marks callers polls
@@ -208,11 +199,7 @@ module _ {A : Type 0} (role : A → Role) (marks : A → Marks) where
         → Sweeping role marks callers desk' polls desk'.place
         → tells (get_or words place 0) after (log ++ entries) (with_scan (marks me) polls loads) []
         → Remarked role marks shape words callers log id (Load place) me after entries tells
-    load_step id tells core m at was after is quiet fewer untouched polls loads since present sweep told =
-        writer_step shape id me (Load place) tells words callers log core m at desk desk' was after entries is
+    load_step {id = id} core m at was is quiet fewer untouched polls loads since present sweep told =
+        writer_step core m at was is
         (with_scan (marks me) polls loads) [] (no_places (Since role marks callers)) present
-        (load_stays (desk_of shape words callers log id me desk m at was) quiet fewer untouched polls loads since sweep)
-        told
-
-pub none_end : (log entries : List Entry) → entries ≡ [] → QuietEnd log entries
-none_end log entries none = subst (QuietEnd log) (sym none) (nothing_ends log)
+        (load_stays (desk_of id m at was) quiet fewer untouched polls loads since sweep) told

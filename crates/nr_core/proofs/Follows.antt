@@ -1,8 +1,8 @@
 -- What one event more does: one operation on one word, never a put into a held slot, and entries of its own caller.
 use Rattle.std.proofs.Common.{[], Bool, true, false, sym, List, ap, append-nil, arith, cond, length, nat_eq, refl}
 use Rattle.std.proofs.Common.{subst, ℕ, ◌*◌, ◌++◌, ◌<◌, ◌∙◌, ◌≡◌, ◌≢◌, ◌≤◌}
-use Rattle.std.proofs.lemmas.Bool.{eqb-true, leb-true, ltb-true}
-use Rattle.std.specs.Prelude.{None, Option, Some, nat_le, ◌&&◌}
+use Rattle.std.proofs.lemmas.Bool.{eqb-true, leb-true}
+use Rattle.std.specs.Prelude.{None, Option, Some, nat_le}
 use Rattle.nr_model.specs.Histories.{Entry, entries_of}
 use Rattle.nr_model.specs.Maps.{ask_reply, find_reply}
 use Rattle.nr_model.specs.declared.calls.Call.{Call}
@@ -10,7 +10,7 @@ use Rattle.nr_model.specs.declared.calls.Reply.{Reply}
 use Rattle.nr_model.specs.declared.states.KeyState.{KeyState}
 use Rattle.nr_core.proofs.Choices.{on_test}
 use Rattle.nr_core.proofs.Go.{own_ending_at}
-use Rattle.nr_core.proofs.Guards.{both, guard, no_some, reader_in}
+use Rattle.nr_core.proofs.Guards.{guard, no_some, at_key, at_reader, at_reader_key}
 use Rattle.nr_core.proofs.Histories.{of-append}
 use Rattle.nr_core.proofs.OffKeys.{none_of}
 use Rattle.nr_core.proofs.Reach.{hold_room, place_room}
@@ -25,7 +25,7 @@ use Rattle.nr_core.specs.Operations.{going, operation, target_of}
 use Rattle.nr_core.specs.declared.operation.Operation.{Operation}
 use Rattle.nr_core.specs.declared.operation.Operation.TheVariants.{Load}
 use Rattle.nr_core.specs.Room.{RoomForStep, RoomOf}
-use Rattle.nr_core.specs.Refusals.{has_key, has_reader, if_busy, if_holding, if_not_busy, if_not_holding, if_unreadable}
+use Rattle.nr_core.specs.Refusals.{if_not_busy, if_not_holding, if_unreadable}
 use Rattle.nr_core.specs.Refusals.{refusal}
 use Rattle.nr_core.specs.Roles.{held}
 use Rattle.nr_core.specs.Slots.{content, slot_room}
@@ -94,15 +94,11 @@ held_untouched : (state : State) (log : List Entry) (event : Event) (is_core : I
     → (0 < held is_core.roles s) × (s < state.shape.slots) → i < slot_room state.shape
     → target_of (operation state event) ≡ content state.shape s i
     → operation state event ≡ Load (content state.shape s i)
-held_untouched state log (Arrive r k) is_core ok s i held_so low here = let shape = state.shape in
-    let g = guard (has_reader shape r && has_key shape k) (if_holding (hold_of state r)) refuse.OutOfRange ok in
-    let b = both (has_reader shape r) (has_key shape k) g.0 in
-    let near : k < shape.keys = ltb-true k shape.keys b.1 in
+held_untouched state log (Arrive r k) is_core ok s i held_so low here =
+    let near = (at_reader_key state.shape r k _ ok).2 in
     absurd (omega arith)
-held_untouched state log (Ask r k) is_core ok s i held_so low here = let shape = state.shape in
-    let g = guard (has_reader shape r && has_key shape k) (if_holding (hold_of state r)) refuse.OutOfRange ok in
-    let b = both (has_reader shape r) (has_key shape k) g.0 in
-    let near : k < shape.keys = ltb-true k shape.keys b.1 in
+held_untouched state log (Ask r k) is_core ok s i held_so low here =
+    let near = (at_reader_key state.shape r k _ ok).2 in
     absurd (omega arith)
 held_untouched state log (Read r p) is_core ok s i held_so low here = ap Load here
 held_untouched state log (FindAgain r k) is_core ok s i held_so low here = ap Load here
@@ -144,46 +140,27 @@ held_untouched state log Go is_core ok s i held_so low here = go state.desk.plac
         let zero_there : held is_core.roles s ≡ 0 = ap (held is_core.roles) same_slot ∙ free in absurd (omega arith))
         (λ no e. absurd (omega arith)) e
 
+key_inside : {state : State} {log : List Entry} (is_core : IsCoreState state log) {k : ℕ} → k < state.shape.keys
+    → k < length state.words
+key_inside is_core near = let wide = is_core.core.wide in omega arith
+
 -- an operation is on one of the words
 inside_words : (state : State) (log : List Entry) (event : Event) → IsCoreState state log → refusal state event ≡ None
     → target_of (operation state event) < length state.words
-inside_words state log (Arrive r k) is_core ok = let wide = is_core.core.wide in
-    let g
-    = guard (has_reader state.shape r && has_key state.shape k) (if_holding (hold_of state r)) refuse.OutOfRange
-    ok in
-    let b = both (has_reader state.shape r) (has_key state.shape k) g.0 in
-    let near : k < state.shape.keys = ltb-true k state.shape.keys b.1 in
-    omega arith
-inside_words state log (Ask r k) is_core ok = let wide = is_core.core.wide in
-    let g
-    = guard (has_reader state.shape r && has_key state.shape k) (if_holding (hold_of state r)) refuse.OutOfRange
-    ok in
-    let b = both (has_reader state.shape r) (has_key state.shape k) g.0 in
-    let near : k < state.shape.keys = ltb-true k state.shape.keys b.1 in
-    omega arith
-inside_words state log (FindAgain r k) is_core ok = let wide = is_core.core.wide in
-    let g
-    = guard (has_reader state.shape r && has_key state.shape k) (if_not_holding (hold_of state r)) refuse.OutOfRange
-    ok in
-    let b = both (has_reader state.shape r) (has_key state.shape k) g.0 in
-    let near : k < state.shape.keys = ltb-true k state.shape.keys b.1 in
-    omega arith
-inside_words state log (Start call) is_core ok = let wide = is_core.core.wide in
-    let g = guard (has_key state.shape (key_of call)) (if_busy state.desk.place) refuse.OutOfRange ok in
-    let near : key_of call < state.shape.keys = ltb-true (key_of call) state.shape.keys g.0 in
-    omega arith
+inside_words state log (Arrive r k) is_core ok = key_inside is_core (at_reader_key state.shape r k _ ok).2
+inside_words state log (Ask r k) is_core ok = key_inside is_core (at_reader_key state.shape r k _ ok).2
+inside_words state log (FindAgain r k) is_core ok = key_inside is_core (at_reader_key state.shape r k _ ok).2
+inside_words state log (Start call) is_core ok = key_inside is_core (at_key state.shape (key_of call) _ ok).0
 inside_words state log (Read r index) is_core ok = let wide = is_core.core.wide in
-    let g = guard (has_reader state.shape r) (if_unreadable index (hold_of state r)) refuse.OutOfRange ok in
-    let low = (reader_in state.shape r g.0).0 in
-    let t = readable_room state.shape index (hold_of state r) g.1 (hold_room state log is_core r low) in
+    let at = at_reader state.shape r _ ok in
+    let t = readable_room state.shape index (hold_of state r) at.2 (hold_room state log is_core r at.0) in
     omega (arith, content_inside state.shape (slot_in (hold_of state r)) index t.0 t.1)
 inside_words state log (Depart r) is_core ok = let wide = is_core.core.wide in
-    let g = guard (has_reader state.shape r) (if_not_holding (hold_of state r)) refuse.OutOfRange ok in
-    let low = (reader_in state.shape r g.0).0 in
+    let at = at_reader state.shape r _ ok in
     omega (
       arith,
       departures_inside state.shape (slot_in (hold_of state r))
-          (departs_room state.shape (hold_of state r) g.1 (hold_room state log is_core r low)),
+          (departs_room state.shape (hold_of state r) at.2 (hold_room state log is_core r at.0)),
     )
 inside_words state log Go is_core ok = go state.desk.place refl (place_room state log is_core state.desk.place refl)
   where

@@ -188,9 +188,9 @@ module _ (shape : Shape) where
       knows_more Note same_number left same t = tt
 
 -- what the writer knows at a place
-pub stands_at : (shape : Shape) (words : List ℕ) (roles : List Role) (log : List Entry) → Core shape words roles log
-    → (id : ℕ) (desk : Desk) → get_elem? roles id ≡ some (Writer desk) → (place : Place) → desk.place ≡ place
+pub stands_at : {shape : Shape} {words : List ℕ} {roles : List Role} {log : List Entry} → Core shape words roles log
+    → (id : ℕ) {desk : Desk} → get_elem? roles id ≡ some (Writer desk) → {place : Place} → desk.place ≡ place
     → AtPlace shape words (map_after shape log) (held roles) desk.fresh desk.retired place
-stands_at shape words roles log core id desk there place is =
+stands_at {shape = shape} {words = words} {roles = roles} {log = log} core id {desk = desk} there {place = place} is =
     subst (AtPlace shape words (map_after shape log) (held roles) desk.fresh desk.retired) is
     (core.knows id (Writer desk) there).place

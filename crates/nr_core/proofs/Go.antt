@@ -35,31 +35,31 @@ use Rattle.nr_core.specs.declared.roles.Desk.{Desk}
 use Rattle.nr_core.specs.declared.roles.Role.{Role}
 use Rattle.nr_core.specs.declared.roles.Role.TheVariants.{Writer}
 use Rattle.nr_core.specs.declared.shape.Shape.{Shape}
+use Rattle.nr_core.proofs.Stepping.{writer_makes}
 use Rattle.nr_model.specs.declared.calls.Call.TheVariants as model
 use Rattle.nr_core.specs.declared.calls.Refusal.TheVariants as refuse
 use Rattle.nr_model.specs.declared.calls.Reply.TheVariants as reply
 
-goes_at : (shape : Shape) (words : List ℕ) (roles : List Role) (log : List Entry) → Core shape words roles log
-    → (id : ℕ) (desk : Desk)
+goes_at : {shape : Shape} {words : List ℕ} {roles : List Role} {log : List Entry} → Core shape words roles log
+    → (id : ℕ) {desk : Desk}
     → get_elem? roles id ≡ some (Writer desk) → (place : Place) → desk.place ≡ place → if_not_busy place ≡ None
     → let operation = going shape desk place in
     let found = get_or words (target_of operation) 0 in
     let after = went shape desk place found in
     Core shape (set words (target_of operation) (becomes operation found)) (set roles id (Writer after.0))
     (log ++ ending_at place after.1)
-goes_at shape words roles log core id desk there Idle is_at ok =
+goes_at core id there Idle is_at ok =
     absurd (no_some (Some refuse.NotBusy) refuse.NotBusy refl ok)
-goes_at shape words roles log core id desk there (Reading call slot got) is_at ok =
-    reads_on shape words roles log core id desk there call slot got is_at
-goes_at shape words roles log core id desk there (Leaving k) is_at ok =
-    unpublishes shape words roles log core id desk there k is_at
-goes_at shape words roles log core id desk there (Withdrawing k) is_at ok =
-    withdraws shape words roles log core id desk there k is_at
-goes_at shape words roles log core id desk there (Searching call rows poll) is_at ok =
-    polls shape words roles log core id desk there call rows poll is_at
-goes_at shape words roles log core id desk there (Putting call rows slot departed index) is_at ok =
-    by_cases
-    (λ v.
+goes_at core id there (Reading call slot got) is_at ok =
+    reads_on core id there call slot got is_at
+goes_at core id there (Leaving k) is_at ok =
+    unpublishes core id there k is_at
+goes_at core id there (Withdrawing k) is_at ok =
+    withdraws core id there k is_at
+goes_at core id there (Searching call rows poll) is_at ok =
+    polls core id there call rows poll is_at
+goes_at {shape = shape} {words = words} {roles = roles} {log = log} core id {desk = desk} there
+    (Putting call rows slot departed index) is_at ok = by_cases (λ v.
     let operation
     = cond {A = Operation} v (Store (content shape slot index) (get_or (encode rows) index 0))
     (Swap (key_of call) (naming slot departed)) in
@@ -69,10 +69,8 @@ goes_at shape words roles log core id desk there (Putting call rows slot departe
     (swapped desk found, ended reply.Done) in
     Core shape (set words (target_of operation) (becomes operation found)) (set roles id (Writer after.0))
     (log ++ ending (call_of call) after.1))
-    (nat_le index (2 * length rows))
-    (λ yes. puts shape words roles log core id desk there call rows slot departed index is_at
-    (leb-true index (2 * length rows) yes))
-    (λ no. publishes shape words roles log core id desk there call rows slot departed index is_at
+    (nat_le index (2 * length rows)) (λ yes. puts core id there call rows slot departed index is_at
+    (leb-true index (2 * length rows) yes)) (λ no. publishes core id there call rows slot departed index is_at
     (leb-false index (2 * length rows) no))
 
 pub own_ending_at : (place : Place) (step : Step) (caller : ℕ)
@@ -88,13 +86,5 @@ pub goes : (shape : Shape) (id : ℕ) (desk : Desk) → if_not_busy desk.place �
     → CanStep shape id (Writer desk) (going shape desk desk.place) (Goes shape desk)
 goes shape id desk busy words roles log core there =
     let after = went shape desk desk.place (get_or words (target_of (going shape desk desk.place)) 0) in
-    record {
-      after = Writer after.0;
-      entries = ending_at desk.place after.1;
-      core = goes_at shape words roles log core id desk there desk.place refl busy;
-      same = λ _. refl;
-      writer = refl;
-      reader = refl;
-      own = own_ending_at desk.place after.1;
-      told = (refl, refl);
-    }
+    writer_makes after.0 (ending_at desk.place after.1) (goes_at core id there desk.place refl busy)
+    (own_ending_at desk.place after.1) (refl, refl)

@@ -20,7 +20,6 @@ use Rattle.nr_core.specs.declared.roles.Desk.{Desk}
 use Rattle.nr_core.specs.declared.roles.Role.{Role}
 use Rattle.nr_core.specs.declared.roles.Role.TheVariants.{Writer}
 use Rattle.nr_core.specs.declared.shape.Shape.{Shape}
-use Rattle.nr_model.specs.declared.calls.Reply.TheVariants as reply
 use Rattle.nr_core.proofs.Guards.{no_some}
 use Rattle.nr_core.specs.Marks.{Marks, Past}
 use Rattle.nr_core.specs.Marked.{CanMark}
@@ -30,6 +29,7 @@ use Rattle.nr_core.proofs.SwapMarks.{publishes_marked, puts_marked, unpublishes_
 use Rattle.nr_core.proofs.DeskMarks.{Went}
 use Rattle.nr_core.proofs.LookMarks.{reads_on_marked}
 use Rattle.std.proofs.lemmas.Bool.{leb-true, leb-false}
+use Rattle.nr_model.specs.declared.calls.Reply.TheVariants as reply
 
 module _ {A : Type 0} (role : A → Role) (marks : A → Marks) (shape : Shape) (id : ℕ) (me : A) (known : List Past)
     (desk : Desk) (was : role me ≡ Writer desk) where

@@ -10,8 +10,8 @@ use Rattle.nr_model.specs.Maps.{PartialMap, call_key, next, reply_at, reply_to, 
 use Rattle.nr_model.specs.declared.calls.Call.{Call}
 use Rattle.nr_core.specs.Story.{map_after, opening_map}
 use Rattle.nr_core.specs.declared.shape.Shape.{Shape}
-use Rattle.nr_model.specs.declared.states.KeyState.TheVariants as key
 use Rattle.nr_core.specs.Slots.{bound_of}
+use Rattle.nr_model.specs.declared.states.KeyState.TheVariants as key
 
 pub of-append : (b : ℕ) (es fs : List Entry) → entries_of (es ++ fs) b ≡ entries_of es b ++ entries_of fs b
 of-append b es fs = filter-append (λ e. nat_eq e.caller b) es fs

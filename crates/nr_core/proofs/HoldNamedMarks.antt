@@ -1,10 +1,8 @@
 -- A look-up, and a hold of the slot that a key names: the reader's marks go along.
-use Rattle.std.proofs.Common.{List, [], ap, arith, cond, false, get_or, inr, inl, refl, suc, sym, ℕ, Bool}
+use Rattle.std.proofs.Common.{List, [], ap, arith, cond, get_or, inr, inl, refl, suc, sym, ℕ, Bool}
 use Rattle.std.proofs.Common.{⊎_elim, ◌⊎◌, ◌%◌, ◌++◌, ◌+◌, ◌-◌, ◌<◌, ◌^◌, ◌∙◌, ◌∷◌, ◌≡◌}
 use lib.Seq.{set-get_or}
 use Rattle.nr_model.specs.Histories.{Entry}
-use Rattle.nr_model.specs.declared.calls.Call.TheVariants as model
-use Rattle.nr_model.specs.declared.calls.Reply.TheVariants as reply
 use Rattle.nr_words.specs.KeyWords.{is_filled}
 use Rattle.nr_core.proofs.Choices.{by_cases}
 use Rattle.nr_core.proofs.Sums.{below-term, only-same}
@@ -13,18 +11,20 @@ use Rattle.nr_core.specs.declared.operation.Operation.TheVariants.{Add, Load}
 use Rattle.nr_core.specs.Slots.{departures, name_number}
 use Rattle.nr_core.specs.Story.{entry}
 use Rattle.nr_core.specs.Sums.{only}
-use Rattle.nr_core.specs.declared.roles.Grip.TheVariants.{Nothing, On}
+use Rattle.nr_core.specs.declared.roles.Grip.TheVariants.{Nothing}
 use Rattle.nr_core.specs.declared.roles.Role.{Role}
 use Rattle.nr_core.specs.declared.roles.Role.TheVariants.{Reader}
 use Rattle.nr_core.specs.declared.shape.Shape.{Shape}
-use Rattle.nr_core.specs.Puts.{put_count, put_number}
+use Rattle.nr_core.specs.Puts.{put_number}
 use Rattle.nr_core.specs.Marks.{Marks, Past, acted, with_look}
 use Rattle.nr_core.specs.Marked.{CanMark, CanMarkWhere, Remarked}
 use Rattle.nr_core.specs.MarkSteps.{HoldsNamedMarks, LooksUpMarks}
 use Rattle.nr_core.proofs.ListPlaces.{some_is}
 use Rattle.nr_core.proofs.MarksSince.{rests}
-use Rattle.nr_core.proofs.PutNumbers.{nil_count, nil_number, quiet_count, quiet_number}
 use Rattle.nr_core.proofs.ReaderMarks.{contents_counted, contents_loaded, names_behind, reader_step}
+use Rattle.nr_core.proofs.PutNumbers.{QuietEnd, none_end, one_ends}
+use Rattle.nr_model.specs.declared.calls.Call.TheVariants as model
+use Rattle.nr_model.specs.declared.calls.Reply.TheVariants as reply
 
 module _ {A : Type 0} (role : A → Role) (marks : A → Marks) (shape : Shape) (id : ℕ) (me : A) (known : List Past) where
   pub looks_up_marked : (reader key : ℕ) → role me ≡ Reader reader Nothing
@@ -33,17 +33,12 @@ module _ {A : Type 0} (role : A → Role) (marks : A → Marks) (shape : Shape) 
       let word : ℕ = get_or words key 0 in
       let looked : Marks = with_look (marks me) key (name_number word) in
       let e = entry reader (model.Find key) reply.Hole in
-      let finish : (now : Marks) (more : List Entry) → entries ≡ more
-      → ((k : ℕ) → put_number (log ++ more) k ≡ put_number log k) → put_count (log ++ more) ≡ put_count log
-      → now.polls ≡ (marks me).polls
+      let finish : (now : Marks) → QuietEnd log entries → now.polls ≡ (marks me).polls
       → ((now.acts ≡ (marks me).acts) × (now.put ≡ (marks me).put)) ⊎ ((marks me).acts < now.acts)
       → now ≡ cond (is_filled word) looked (acted looked (put_number (log ++ entries) key))
       → Remarked role marks shape words callers log id (Load key) me after entries (LooksUpMarks (marks me) key)
-      = λ now more is numbers many polls moves told. reader_step role marks shape id me known (Load key)
-      (LooksUp reader key) (LooksUpMarks (marks me) key) words callers log m at reader Nothing Nothing was after
-      entries ans.0
-      (λ k _. ap (λ l. name_number (get_or l k 0)) (set-get_or words key 0))
-      (λ k. ap (λ l. put_number (log ++ l) k) is ∙ numbers k) (ap (λ l. put_count (log ++ l)) is ∙ many) now polls
+      = λ now ends polls moves told. reader_step m at was ans.0
+      (λ k _. ap (λ l. name_number (get_or l k 0)) (set-get_or words key 0)) ends now polls
       (⊎_elim (λ (s : (now.acts ≡ (marks me).acts) × (now.put ≡ (marks me).put)). inl (refl, s.0, s.1)) inr moves)
       (λ j s u desk there writes t on. absurd (cc)) (contents_loaded shape words key) (told, refl) in
       by_cases
@@ -51,12 +46,12 @@ module _ {A : Type 0} (role : A → Role) (marks : A → Marks) (shape : Shape) 
       (LooksUpMarks (marks me) key))
       (is_filled word)
       (λ full. finish looked
-      [] (ans.1 ∙ ap (λ (b : Bool). cond {A = List Entry} b [] (e ∷ [])) full) (nil_number log) (nil_count log) refl
+      (none_end log entries (ans.1 ∙ ap (λ (b : Bool). cond {A = List Entry} b [] (e ∷ [])) full)) refl
       (inl (refl, refl))
       (sym (ap (λ (b : Bool). cond {A = Marks} b looked (acted looked (put_number (log ++ entries) key))) full)))
-      (λ empty. finish (acted looked (put_number (log ++ entries) key)) (e ∷ [])
-      (ans.1 ∙ ap (λ (b : Bool). cond {A = List Entry} b [] (e ∷ [])) empty) (λ k. quiet_number log e k refl)
-      (quiet_count log e refl) refl (inr (omega arith))
+      (λ empty. finish (acted looked (put_number (log ++ entries) key))
+      (one_ends log entries e (ans.1 ∙ ap (λ (b : Bool). cond {A = List Entry} b [] (e ∷ [])) empty) refl) refl
+      (inr (omega arith))
       (sym (ap (λ (b : Bool). cond {A = Marks} b looked (acted looked (put_number (log ++ entries) key))) empty)))
 
   pub holds_named_marked : (reader key slot : ℕ) → key < shape.keys → role me ≡ Reader reader Nothing
@@ -70,18 +65,14 @@ module _ {A : Type 0} (role : A → Role) (marks : A → Marks) (shape : Shape) 
       let rows = ans.0 in
       let e = entry reader (model.Find key) (reply.Rows rows) in
       let now = acted (with_look (marks me) key (suc slot)) (put_number (log ++ entries) key) in
-      let numbers : (k : ℕ) → put_number (log ++ entries) k ≡ put_number log k
-      = λ k. ap (λ l. put_number (log ++ l) k) ans.4 ∙ quiet_number log e k refl in
-      reader_step role marks shape id me known (Add i (2 ^ 64 - 1)) (HoldsNamed shape reader slot key)
-      (HoldsNamedMarks (marks me) key slot) words callers log m at reader Nothing (On slot rows false) was after
-      entries ans.3
-      (λ k l. ap name_number (names_behind words shape.keys i x (omega arith) k l)) numbers
-      (ap (λ l. put_count (log ++ l)) ans.4 ∙ quiet_count log e refl) now refl (inr (omega arith))
+      let ends = one_ends log entries e ans.4 refl in
+      reader_step m at was ans.3
+      (λ k l. ap name_number (names_behind words shape.keys i x (omega arith) k l)) ends now refl (inr (omega arith))
       (λ j s u desk there writes t on.
       let same = some_is slot s on in
       let named : name_number (get_or words key 0) ≡ suc s = names ∙ ap suc same in
       let kept = t.puts key s near named in (
-        (kept.0 ∙ sym (numbers key), kept.1),
+        (kept.0 ∙ sym (ends.0 key), kept.1),
         λ l. absurd
             (let r = rests role marks shape words callers log j u desk s core there writes l in
             let b = below-term (λ k. only (suc s) (name_number (get_or words k 0))) shape.keys key near in

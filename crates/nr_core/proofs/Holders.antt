@@ -56,13 +56,14 @@ module _ {A : Type 0} (role : A → Role) (marks : A → Marks) (callers : List 
     pub there : get_elem? callers place ≡ some who
     pub is : role who ≡ Reader reader grip
 
-  abbrev pub noted : ReaderThere → Past
+module _ {A : Type 0} {role : A → Role} {marks : A → Marks} {callers : List A} where
+  abbrev pub noted : ReaderThere role marks callers → Past
   noted one = past one.reader one.grip (marks one.who)
 
   -- a slot that a poll finds held is held by one of them
   pub holder_of : (slot found arrivals : ℕ)
       → arrivals % 2 ^ 40 ≡ (found + held (map role callers) slot) % 2 ^ 40 → same_count found arrivals ≡ false
-      → (one : ReaderThere) × (gripped one.grip ≡ Some slot)
+      → (one : ReaderThere role marks callers) × (gripped one.grip ≡ Some slot)
   holder_of slot found arrivals counted miss =
       let roles = map role callers in
       let differs : found % 2 ^ 40 ≢ arrivals % 2 ^ 40 = eqb-false (found % 2 ^ 40) (arrivals % 2 ^ 40) miss in
@@ -73,10 +74,10 @@ module _ {A : Type 0} (role : A → Role) (marks : A → Marks) (callers : List 
       let o = reader_of slot f.1 f.3 in
       (record { place = f.0; who = g.0; reader = o.0; grip = o.1; there = g.1; is = g.2 ∙ o.2 }, o.3)
 
-  module _ (one : ReaderThere) where
-    pub in_range : (shape : Shape) (words : List ℕ) (log : List Entry) → Marked role marks shape words callers log
+  module _ (one : ReaderThere role marks callers) where
+    pub in_range : {shape : Shape} {words : List ℕ} {log : List Entry} → Marked role marks shape words callers log
         → (0 < one.reader) × (one.reader ≤ shape.readers)
-    in_range shape words log m =
+    in_range {shape = shape} {words = words} {log = log} m =
         subst (λ r. KnowsMarks role marks shape words callers log r (marks one.who)) one.is
         (m.each one.place one.who one.there)
 
@@ -111,17 +112,18 @@ module _ {A : Type 0} (role : A → Role) (marks : A → Marks) (callers : List 
           (λ (last : (at ≡ length notes) × (noted one ≡ old)).
           let is' : role who ≡ Reader one.reader grip = is ∙ ap (λ (b : Past). Reader b.reader grip) (sym last.1) in
           let same
-          = same_caller once one.place place one.reader one.who who one.grip grip one.there here one.is is' in
+          = same_caller role marks callers once one.place place one.reader one.who who one.grip grip one.there here
+          one.is is' in
           ap (λ (b : Past). b.slot) (sym last.1) ∙ ap gripped (ap grip_in (sym one.is ∙ ap role same ∙ is')) ∙ on)
           (at_last notes (noted one) old at there)
 
   -- what a poll of a held slot tells that notes it
-  pub tells_missed : (shape : Shape) (words : List ℕ) (log : List Entry) (mine : Marks) (desk : Desk)
-      → Marked role marks shape words callers log → (one : ReaderThere) (slot : ℕ) → gripped one.grip ≡ Some slot
-      → HoldNoOthers role marks callers desk mine.polls → 0 < retirements slot desk.retired
+  pub tells_missed : {shape : Shape} {words : List ℕ} {log : List Entry} (mine : Marks) (desk : Desk)
+      → Marked role marks shape words callers log → (one : ReaderThere role marks callers) (slot : ℕ) → gripped
+      one.grip ≡ Some slot → HoldNoOthers role marks callers desk mine.polls → 0 < retirements slot desk.retired
       → ProbeTells false shape slot mine (with_polls (with_poll mine slot false) (mine.polls ++ noted one ∷ []))
-  tells_missed shape words log mine desk m one slot on others retired =
-      let range = in_range one shape words log m in (
+  tells_missed mine desk m one slot on others retired =
+      let range = in_range one m in (
         noted one,
         refl,
         on,

@@ -1,43 +1,36 @@
 -- Each entry is told between its call's first step and its last.
-use Rattle.std.proofs.Common.{[], List, ap, append-nil, append_assoc, arith, cond, fold, inl, inr, length, map, nat_eq}
+use Rattle.std.proofs.Common.{[], List, ap, append-nil, append_assoc, arith, cond, fold, inl, inr, length, map}
 use Rattle.std.proofs.Common.{refl, subst, sym, ℕ, ⊎_elim, ◌++◌, ◌+◌, ◌*◌, ◌<◌, ◌∙◌, ◌∷◌, ◌≡◌, ◌⊎◌}
 use Rattle.std.proofs.lemmas.List.Sums.{fold-append}
 use Rattle.std.proofs.lemmas.Bool.{ne_eqb}
-use Rattle.std.specs.Prelude.{Err, None, Ok, Option, Result, Some, nat_le, nat_lt, slice_index, ◌&&◌}
-use Rattle.nr_model.specs.Batches.{applied}
+use Rattle.std.specs.Prelude.{None, Option, Some, nat_le, nat_lt}
 use Rattle.nr_model.specs.Histories.{Entry, entries_of}
-use Rattle.nr_model.specs.Maps.{ask_reply, find_reply, last_number}
-use Rattle.nr_model.specs.declared.batches.ApplyFault.{ApplyFault}
+use Rattle.nr_model.specs.Maps.{ask_reply, find_reply}
 use Rattle.nr_model.specs.declared.calls.Call.{Call}
 use Rattle.nr_model.specs.declared.calls.Reply.{Reply}
-use Rattle.nr_model.specs.declared.rows.Row.{Row}
 use Rattle.nr_model.specs.declared.states.KeyState.{KeyState}
-use Rattle.nr_model.specs.declared.calls.Call.TheVariants as model
-use Rattle.nr_model.specs.declared.calls.Reply.TheVariants as reply
-use Rattle.nr_words.specs.KeyWords.{has_ask, is_filled, same_count, slot_of}
-use Rattle.nr_words.specs.SetWords.{decode}
+use Rattle.nr_words.specs.KeyWords.{same_count}
 use Rattle.nr_core.proofs.Choices.{on_test}
 use Rattle.nr_core.proofs.Follows.{told_by_caller}
-use Rattle.nr_core.proofs.Guards.{both, guard, reader_in}
 use Rattle.nr_core.proofs.Histories.{of-append}
 use Rattle.nr_core.specs.InTime.{BeganAmong, EntriesInTime, TellsOne, TellsOwn, told_by, told_since, under_way}
 use Rattle.nr_core.specs.Laws.{call_in, caller_of_event}
 use Rattle.nr_core.specs.Machine.{found_by, moved, names_held, unless}
-use Rattle.nr_core.specs.Refusals.{has_key, has_reader, refusal}
-use Rattle.nr_core.specs.Slots.{bound_of}
+use Rattle.nr_core.specs.Refusals.{refusal}
 use Rattle.nr_core.specs.States.{Arrive, Ask, Depart, Event, FindAgain, Go, Read, Start, State, hold_of, retired_at}
 use Rattle.nr_core.specs.Story.{Story, answering, beginning, call_of, ending, ending_at, shown, story_of, tell, told}
-use Rattle.nr_core.specs.Writer.{decoded, looked, renewed, settled, went}
+use Rattle.nr_core.specs.Writer.{looked, went}
 use Rattle.nr_core.specs.declared.calls.Refusal.{Refusal}
 use Rattle.nr_core.specs.declared.calls.Step.{Step}
 use Rattle.nr_core.specs.declared.calls.Step.TheVariants.{Ended, Going}
 use Rattle.nr_core.specs.declared.calls.WriterCall.{WriterCall}
-use Rattle.nr_core.specs.declared.calls.WriterCall.TheVariants.{Cancel, Evict, Fill, Find, Replace, Update}
 use Rattle.nr_core.specs.declared.places.Place.{Place}
 use Rattle.nr_core.specs.declared.places.Place.TheVariants.{Idle, Leaving, Putting, Reading, Searching, Withdrawing}
 use Rattle.nr_core.specs.declared.roles.Desk.{Desk}
 use Rattle.nr_core.specs.declared.shape.Shape.{Shape}
-use Rattle.nr_core.specs.declared.calls.Refusal.TheVariants as refuse
+use Rattle.nr_core.proofs.Guards.{at_reader_key}
+use Rattle.nr_core.proofs.Outcomes.{OfOutcomes, ShownBy, looked_has, read_has}
+use Rattle.nr_model.specs.declared.calls.Call.TheVariants as model
 use Rattle.nr_core.specs.declared.calls.WReply.TheVariants as writer
 
 -- After a step of the writer no call is under way, or the same one is, and the step told nothing.
@@ -45,53 +38,23 @@ abbrev GoesOn : List WriterCall → Desk × Step → Type 0
 GoesOn calls outcome = (call_in outcome.0.place ≡ []) ⊎ ((call_in outcome.0.place ≡ calls) × (outcome.1 ≡ Going))
 
 module _ (shape : Shape) (desk : Desk) where
-  settled_on : (call : WriterCall) (rows : List Row) → GoesOn (call ∷ []) (settled shape desk call rows)
-  settled_on call rows =
-      on_test (GoesOn (call ∷ [])) (nat_lt desk.fresh shape.slots) (λ _. inr (refl, refl))
-      (λ _. on_test (GoesOn (call ∷ [])) (nat_eq (length desk.retired) 0) (λ _. inl refl) (λ _. inr (refl, refl)))
-
-  looked_on : (call : WriterCall) (word : ℕ) → GoesOn (call ∷ []) (looked shape desk call word)
-  looked_on (Find key) word =
-      on_test (GoesOn (Find key ∷ [])) (is_filled word) (λ _. inr (refl, refl)) (λ _. inl refl)
-  looked_on (Fill key number rows) word =
-      let On = GoesOn (Fill key number rows ∷ []) in
-      on_test On (is_filled word) (λ _. inl refl)
-      (λ _. on_test On (has_ask word)
-      (λ _. on_test On (nat_eq (slot_of word) number) (λ _. settled_on (Fill key number rows) rows) (λ _. inl refl))
-      (λ _. inl refl))
-  looked_on (Update key batch) word =
-      on_test (GoesOn (Update key batch ∷ [])) (is_filled word) (λ _. inr (refl, refl)) (λ _. inl refl)
-  looked_on (Replace key rows) word =
-      on_test (GoesOn (Replace key rows ∷ [])) (is_filled word) (λ _. settled_on (Replace key rows) rows)
-      (λ _. inl refl)
-  looked_on (Evict key) word =
-      on_test (GoesOn (Evict key ∷ [])) (is_filled word) (λ _. inr (refl, refl)) (λ _. inl refl)
-  looked_on (Cancel key) word =
-      let On = GoesOn (Cancel key ∷ []) in
-      on_test On (is_filled word) (λ _. inl refl)
-      (λ _. on_test On (has_ask word)
-      (λ _. on_test On (nat_lt (slot_of word) last_number) (λ _. inr (refl, refl)) (λ _. inl refl)) (λ _. inl refl))
-
-  renewed_on : (call : WriterCall) (new : Result (List Row) ApplyFault)
-      → GoesOn (call ∷ []) (renewed shape desk call new)
-  renewed_on call (Ok rows) = settled_on call rows
-  renewed_on call (Err fault) = inl refl
-
-  decoded_on : (call : WriterCall) (read : Option (List Row)) → GoesOn (call ∷ []) (decoded shape desk call read)
-  decoded_on call None = inl refl
-  decoded_on (Find key) (Some rows) = inl refl
-  decoded_on (Fill key number new) (Some rows) = inl refl
-  decoded_on (Update key batch) (Some rows) = renewed_on (Update key batch) (applied (bound_of shape) rows batch)
-  decoded_on (Replace key new) (Some rows) = inl refl
-  decoded_on (Evict key) (Some rows) = inl refl
-  decoded_on (Cancel key) (Some rows) = inl refl
+  on_now : (shown : KeyState → Type 0) → OfOutcomes shape desk shown (λ call. GoesOn (call ∷ []))
+  on_now shown = record {
+    reads = λ _ _ _. inr (refl, refl);
+    leaves = λ _. inr (refl, refl);
+    withdraws = λ _. inr (refl, refl);
+    replies = λ _ _ _. inl refl;
+    gives_up = λ _. inl refl;
+    takes = λ _ _. inr (refl, refl);
+    searches = λ _ _. inr (refl, refl);
+    none = λ _ _ _ _. inl refl;
+  }
 
   went_on : (place : Place) (found : ℕ) → GoesOn (call_in place) (went shape desk place found)
       ⊎ (place ≡ Idle)
   went_on Idle found = inr refl
-  went_on (Reading call slot got) found = inl (let read = got ++ found ∷ [] in
-      on_test (GoesOn (call ∷ [])) (nat_eq (length read) (2 * slice_index read 0 + 1))
-      (λ _. decoded_on call (decode read)) (λ _. inr (refl, refl)))
+  went_on (Reading call slot got) found =
+      inl (read_has shape desk (λ call. GoesOn (call ∷ [])) on_now call slot (got ++ found ∷ []))
   went_on (Leaving key) found = inl (inl refl)
   went_on (Withdrawing key) found = inl (inl refl)
   went_on (Searching call rows poll) found = inl
@@ -186,31 +149,25 @@ of_reader story event reader =
     ∙ ap (λ v. cond {A = List Entry} v (told story.state event) [])
     (ne_eqb (caller_of_event event) 0 (λ zero. let e : caller_of_event event ≡ 0 = zero in omega arith))
 
--- a reader that is taken at a key
-at_key : (shape : Shape) (reader at : ℕ) (rest : Option Refusal)
-    → cond (has_reader shape reader && has_key shape at) rest (Some refuse.OutOfRange) ≡ None → 0 < reader
-at_key shape reader at rest ok =
-    let g = guard (has_reader shape reader && has_key shape at) rest refuse.OutOfRange ok in
-    (reader_in shape reader (both (has_reader shape reader) (has_key shape at) g.0).0).0
-
 leaves : (story : Story) (event : Event) → Leaves story event
 leaves story (Arrive reader at) =
     leaves_if story (Arrive reader at)
-    (λ ok. inl (refl, of_reader story (Arrive reader at) (at_key story.state.shape reader at _ ok)))
+    (λ ok. inl (refl, of_reader story (Arrive reader at) (at_reader_key story.state.shape reader at _ ok).0))
 leaves story (Read reader index) = leaves_if story (Read reader index) (λ _. inl (refl, refl))
 leaves story (Depart reader) = leaves_if story (Depart reader) (λ _. inl (refl, refl))
 leaves story (Ask reader at) =
     leaves_if story (Ask reader at)
-    (λ ok. inl (refl, of_reader story (Ask reader at) (at_key story.state.shape reader at _ ok)))
+    (λ ok. inl (refl, of_reader story (Ask reader at) (at_reader_key story.state.shape reader at _ ok).0))
 leaves story (FindAgain reader at) =
     leaves_if story (FindAgain reader at)
-    (λ ok. inl (refl, of_reader story (FindAgain reader at) (at_key story.state.shape reader at _ ok)))
+    (λ ok. inl (refl, of_reader story (FindAgain reader at) (at_reader_key story.state.shape reader at _ ok).0))
 leaves story (Start call) = leaves_if story (Start call) (λ _.
     let state = story.state in
     let outcome = looked state.shape state.desk call (found_by state (Start call)) in
     ⊎_elim (λ none. inr (inl none))
     (λ on. inr (inr (call, refl, on.0, ap (λ entries. entries_of entries 0) (no_ending (call_of call) outcome.1 on.1))))
-    (looked_on state.shape state.desk call (found_by state (Start call))))
+    (looked_has state.shape state.desk (λ call. GoesOn (call ∷ [])) (found_by state (Start call))
+    (on_now state.shape state.desk (ShownBy state.shape (found_by state (Start call)))) call))
 leaves story Go = leaves_if story Go (λ _.
     let state = story.state in
     let outcome = went state.shape state.desk state.desk.place (found_by state Go) in

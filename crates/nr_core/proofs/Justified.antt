@@ -1,7 +1,6 @@
 -- A no-slot is justified.
-use Rattle.std.proofs.Common.{[], List, ap, arith, cond, false, get_or, length, map, nat_eq, refl, subst, sym, ℕ, ◌*◌}
-use Rattle.std.proofs.Common.{◌++◌, ◌+◌, ◌-◌, ◌<◌, ◌∙◌, ◌∷◌, ◌≡◌, ◌≤◌}
-use Rattle.std.proofs.lemmas.Bool.{eqb-true, ltb-true}
+use Rattle.std.proofs.Common.{[], List, ap, arith, cond, false, get_or, length, map, refl, subst, sym, ℕ, ◌*◌}
+use Rattle.std.proofs.Common.{◌++◌, ◌+◌, ◌-◌, ◌∙◌, ◌∷◌, ◌≡◌, ◌≤◌}
 use Rattle.std.proofs.lemmas.List.{take_all}
 use Rattle.std.specs.Prelude.{Err, None, Ok, Option, Result, Some, nat_le}
 use Rattle.nr_model.specs.Histories.{Entry}
@@ -9,23 +8,21 @@ use Rattle.nr_model.specs.Maps.{reply_at, state_of}
 use Rattle.nr_words.specs.KeyWords.{same_count}
 use Rattle.nr_core.proofs.Choices.{on_test}
 use Rattle.nr_core.proofs.Counting.{slots_are}
-use Rattle.nr_core.proofs.Guards.{guard, is_idle}
+use Rattle.nr_core.proofs.Guards.{is_idle, at_key}
 use Rattle.nr_core.proofs.Histories.{replies_so}
-use Rattle.nr_core.proofs.Poll.{polls}
-use Rattle.nr_core.proofs.ReadThrough.{read_whole}
 use Rattle.nr_core.proofs.Settle.{key_same}
 use Rattle.nr_core.proofs.StateRoles.{IsCoreState}
 use Rattle.nr_core.proofs.Sweeps.{AtSweep, Notes, Swept, polled_slots}
-use Rattle.nr_core.proofs.Without.{IsWithout, NoneLeft, decided_none, look_none, not_going, not_reply, polled_none}
+use Rattle.nr_core.proofs.Without.{IsWithout, NoneLeft, look_none, not_going, not_reply, polled_none, read_none}
 use Rattle.nr_core.specs.Laws.{EndsWithout, IsJustified, call_of_event, call_in}
 use Rattle.nr_core.specs.Machine.{or_refusal, found_by, moved, unless}
 use Rattle.nr_core.specs.Operations.{going, target_of}
-use Rattle.nr_core.specs.Refusals.{has_key, if_busy, refusal}
-use Rattle.nr_core.specs.Roles.{held, taken}
-use Rattle.nr_core.specs.Slots.{bound_of, content, departures}
+use Rattle.nr_core.specs.Refusals.{refusal}
+use Rattle.nr_core.specs.Roles.{taken}
+use Rattle.nr_core.specs.Slots.{bound_of, departures}
 use Rattle.nr_core.specs.States.{Arrive, Ask, Depart, Event, FindAgain, Go, Read, Start, State, key_of, retired_at}
 use Rattle.nr_core.specs.Story.{Poll, Story, call_of, ending, map_after, poll_at, polls_after, polls_at, tell, told}
-use Rattle.nr_core.specs.Writer.{decoded, looked, put_on, went}
+use Rattle.nr_core.specs.Writer.{looked, put_on, went}
 use Rattle.nr_core.specs.declared.calls.NoSlot.{NoSlot}
 use Rattle.nr_core.specs.declared.calls.Refusal.{Refusal}
 use Rattle.nr_core.specs.declared.calls.Step.{Step}
@@ -36,7 +33,6 @@ use Rattle.nr_core.specs.declared.places.Place.TheVariants.{Idle, Leaving, Putti
 use Rattle.nr_core.specs.declared.places.Retired.{Retired}
 use Rattle.nr_core.specs.declared.roles.Desk.{Desk}
 use Rattle.nr_core.proofs.Frames.{stands_at}
-use Rattle.nr_core.specs.declared.calls.Refusal.TheVariants as refuse
 use Rattle.nr_model.specs.declared.calls.Reply.TheVariants as reply
 use Rattle.nr_core.specs.declared.calls.WReply.TheVariants as writer
 
@@ -147,34 +143,21 @@ go_ending state log polls is_core swept (Putting call rows slot departed index) 
     on_test (λ (o : Desk × Step). IsWithout counts o → Goal) (nat_le index (2 * length rows))
     (λ _ e'. absurd (not_going counts e')) (λ _ e'. absurd (not_reply counts reply.Done e')) e
 go_ending state log polls is_core swept (Reading call s got) is counts e =
-    let shape = state.shape in let words = state.words in let desk = state.desk in let map_now = map_after shape log in
-    let p = stands_at shape words is_core.roles log is_core.core 0 desk is_core.fit.writer _ is in
-    let got' : List ℕ = got ++ get_or words (content shape s (length got)) 0 ∷ [] in
     let none_polled : polls ≡ [] = subst (AtSweep state polls) is swept.sweep in
-    on_test
-    (λ (o : Desk × Step). IsWithout counts o
-    → (q : WriterCall) × (call ∷ [] ≡ q ∷ []) × Ending state log (Reading call s got) polls q o counts)
-    (nat_eq (length got') (2 * get_or got' 0 0 + 1))
-    (λ last e'.
-    let whole = eqb-true (length got') (2 * get_or got' 0 0 + 1) last in
-    let set_is = read_whole shape words is_core.roles log is_core.core (key_of call) s got p whole in
-    let n
-    = decided_none shape desk counts call p.rows
-    (subst (λ o. IsWithout counts (decoded shape desk call o)) set_is e') in (
+    let n = read_none is_core.core state.desk counts call s got (stands_at is_core.core 0 is_core.fit.writer is) e in (
       call,
       refl,
       record {
-        none = subst (λ o. NoneLeft shape desk (decoded shape desk call o) counts) (sym set_is) n.0;
+        none = n.0;
         full = n.1;
         free = λ _. refl;
-        done = ap (reply_at (bound_of shape) (call_of call)) p.full ∙ n.3 p.number;
-        polled = ap (map (λ (poll : Poll). poll.slot)) none_polled ∙ no_polls desk.retired n.2;
+        done = n.3;
+        polled = ap (map (λ (poll : Poll). poll.slot)) none_polled ∙ no_polls state.desk.retired n.2;
       },
-    ))
-    (λ _ e'. absurd (not_going counts e')) e
+    )
 go_ending state log polls is_core swept (Searching call rows q) is counts e =
     let shape = state.shape in let words = state.words in let desk = state.desk in let map_now = map_after shape log in
-    let at_p = stands_at shape words is_core.roles log is_core.core 0 desk is_core.fit.writer _ is in
+    let at_p = stands_at is_core.core 0 is_core.fit.writer is in
     let notes : Notes state polls q = subst (AtSweep state polls) is swept.sweep in
     let found = get_or words (departures shape (retired_at desk q).slot) 0 in let within = at_p.1 in
     let n = polled_none shape desk counts call rows q found e in
@@ -211,9 +194,8 @@ no_slot_is_justified story (Start call) is_core swept after counts e =
     let w = get_or state.words (key_of call) 0 in
     let outcome = looked shape desk call w in
     let a = answered (refusal state (Start call)) outcome.1 (Ended (writer.NoSlot counts)) e in
-    let g = guard (has_key shape (key_of call)) (if_busy desk.place) refuse.OutOfRange a.0 in
-    let near : key_of call < shape.keys = ltb-true (key_of call) shape.keys g.0 in
-    let idle = is_idle desk.place g.1 in
+    let at = at_key shape (key_of call) _ a.0 in
+    let idle = is_idle desk.place at.1 in
     let n = look_none shape desk counts call w a.1 in
     justify story (Start call) is_core a.0 after counts call refl outcome refl (record {
       none = n.0;
@@ -221,7 +203,7 @@ no_slot_is_justified story (Start call) is_core swept after counts e =
       free = λ s. ap (taken s) idle;
       done =
           n.3 (state_of (map_after shape story.history) (key_of call)) state.words
-          (is_core.core.shows (key_of call) near);
+          (is_core.core.shows (key_of call) at.0);
       polled = no_polls desk.retired n.2;
     })
 no_slot_is_justified story Go is_core swept after counts e =

@@ -4,31 +4,22 @@ use lib.ListN.{get_elem?}
 use lib.Seq.{set-get_or}
 use mathlib.Core.Option.{some}
 use Rattle.nr_model.specs.Histories.{Entry}
-use Rattle.nr_core.proofs.OffKeys.{none_of}
 use Rattle.nr_core.proofs.Sums.{set_again}
 use Rattle.nr_core.specs.Core.{Core}
 use Rattle.nr_core.specs.declared.operation.Operation.TheVariants.{Load}
-use Rattle.nr_core.specs.Roles.{is_by}
 use Rattle.nr_core.specs.Steps.{CanStep, LoadsWord}
 use Rattle.nr_core.specs.declared.roles.Role.{Role}
 use Rattle.nr_core.specs.declared.shape.Shape.{Shape}
+use Rattle.nr_core.proofs.Stepping.{stays_quiet}
 
 -- a load changes no word, and leaves the roles
-pub nothing : (shape : Shape) (words : List ℕ) (roles : List Role) (log : List Entry) (id i : ℕ) (r : Role)
+pub nothing : {shape : Shape} {words : List ℕ} {roles : List Role} {log : List Entry} (id i : ℕ) {r : Role}
     → Core shape words roles log → get_elem? roles id ≡ some r
     → Core shape (set words i (get_or words i 0)) (set roles id r) (log ++ [])
-nothing shape words roles log id i r core at =
+nothing {shape = shape} {words = words} {roles = roles} {log = log} id i {r = r} core at =
     subst (λ (p : (List ℕ) × (List Role) × (List Entry)). Core shape p.0 p.1 p.2)
     (λ j. (sym (set-get_or words i 0) j, sym (set_again roles id r at) j, sym (append-nil log) j)) core
 
 pub learns : (shape : Shape) (id : ℕ) (role : Role) (place : ℕ) → CanStep shape id role (Load place) (LoadsWord role)
-learns shape id role place words roles log core there = record {
-  after = role;
-  entries = [];
-  core = nothing shape words roles log id place role core there;
-  same = λ _. refl;
-  writer = refl;
-  reader = refl;
-  own = λ a. none_of (is_by a role);
-  told = (refl, refl);
-}
+learns shape id role place words roles log core there = stays_quiet
+    (nothing id place core there) (refl, refl)

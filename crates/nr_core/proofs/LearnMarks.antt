@@ -1,7 +1,7 @@
 -- Steps that learn how readers are: the writer compares them with its lists, a reader itself with what it was told of
 -- itself.
 use Rattle.std.proofs.Common.{[], List, ap, append-nil, arith, cond, get_or, inl, inr, map, refl, subst, suc, sym, zero}
-use Rattle.std.proofs.Common.{ℕ, ◌++◌, ◌<◌, ◌∙◌, ◌∷◌, ◌≡◌, ◌≤◌}
+use Rattle.std.proofs.Common.{ℕ, ◌<◌, ◌∙◌, ◌∷◌, ◌≡◌, ◌≤◌}
 use Rattle.std.proofs.lemmas.Bool.{lt-leb}
 use Rattle.std.specs.Prelude.{Some}
 use lib.ListN.{get_elem?}
@@ -29,19 +29,18 @@ use Rattle.nr_core.specs.declared.roles.Grip.TheVariants.{Nothing, On}
 use Rattle.nr_core.specs.declared.roles.Role.{Role}
 use Rattle.nr_core.specs.declared.roles.Role.TheVariants.{Reader, Writer}
 use Rattle.nr_core.specs.declared.shape.Shape.{Shape}
-use Rattle.nr_core.specs.Puts.{put_count, put_number}
 use Rattle.nr_core.specs.Marks.{Marks, Past, gripped, past}
 use Rattle.nr_core.specs.Pasts.{Current, Living, Refreshed}
-use Rattle.nr_core.specs.Marked.{AllSince, CanMark, Desked, Once, Since}
+use Rattle.nr_core.specs.Marked.{AllSince, CanMark, Desked, Once, Since, lives}
 use Rattle.nr_core.specs.Exact.{Lists}
 use Rattle.nr_core.specs.MarkSteps.{ReaderLearns, WriterLearns}
 use Rattle.nr_core.proofs.ListPlaces.{at_maps, no_places, some_is}
 use Rattle.nr_core.proofs.Holders.{grip_in, same_caller}
-use Rattle.nr_core.proofs.PutNumbers.{nil_count, nil_number}
 use Rattle.nr_core.proofs.ReaderMarks.{reader_step, contents_loaded}
 use Rattle.nr_core.proofs.SwapMarks.{grips_it}
 use Rattle.nr_core.proofs.Tidy.{listed}
-use Rattle.nr_core.proofs.DeskMarks.{desk_of, load_stays, none_end, writer_step}
+use Rattle.nr_core.proofs.DeskMarks.{desk_of, load_stays, writer_step}
+use Rattle.nr_core.proofs.PutNumbers.{none_end}
 
 below_some : (f : ℕ → ℕ) (n : ℕ) → 0 < below f n → (k : ℕ) × (k < n) × (0 < f k)
 below_some f zero l = absurd (omega arith)
@@ -50,7 +49,7 @@ below_some f (suc n) l =
     (λ nz. (n, omega arith, omega arith))
 
 -- a slot that is held is not taken
-pub not_taken : (shape : Shape) (words : List ℕ) (at : PartialMap) (holders : ℕ → ℕ) (fresh : ℕ)
+not_taken : (shape : Shape) (words : List ℕ) (at : PartialMap) (holders : ℕ → ℕ) (fresh : ℕ)
     (retired : List Retired) (slot : ℕ) (p : Place)
     → 0 < holders slot → AtPlace shape words at holders fresh retired p → taken slot p ≡ 0
 not_taken shape words at holders fresh retired slot Idle l t = refl
@@ -65,12 +64,40 @@ not_taken shape words at holders fresh retired slot (Putting a b mine c d) l t =
     let z : holders slot ≡ 0 = ap holders (sym same) ∙ t.nobody in
     omega arith))
 
-pub grip_near : (shape : Shape) (words : List ℕ) (at : PartialMap) (holders : ℕ → ℕ) (x : Grip) (slot : ℕ)
+grip_near : (shape : Shape) (words : List ℕ) (at : PartialMap) (holders : ℕ → ℕ) (x : Grip) (slot : ℕ)
     → Grips shape words at holders x → gripped x ≡ Some slot → slot < shape.slots
 grip_near shape words at holders Nothing slot t e = absurd (cc)
 grip_near shape words at holders (On s rows sized) slot t e = subst (λ (y : ℕ). y < shape.slots) (some_is s slot e) t.0
 
 module _ {A : Type 0} (role : A → Role) (marks : A → Marks) where
+  -- a slot that a reader holds is named or retired
+  pub held_lives : {shape : Shape} {words : List ℕ} (callers : List A) {log : List Entry}
+      → Core shape words (map role callers) log → (id : ℕ) {writer : A} {desk : Desk}
+      → get_elem? callers id ≡ some writer → role writer ≡ Writer desk → (place : ℕ) {reader : ℕ} {grip : Grip}
+      {who : A}
+      → get_elem? callers place ≡ some who → role who ≡ Reader reader grip → (slot : ℕ) → gripped grip ≡ Some slot
+      → (slot < shape.slots) × (0 < lives shape words desk slot)
+  held_lives {shape} {words} callers {log} core id {writer} {desk} at was place {reader} {grip} {who} there is slot
+      on =
+      let roles = map role callers in
+      let at' : get_elem? roles id ≡ some (Writer desk) = at_maps role callers id writer at ∙ ap some was in
+      let there' : get_elem? roles place ≡ some (Reader reader grip)
+      = at_maps role callers place who there ∙ ap some is in
+      let mine = core.knows id (Writer desk) at' in
+      let near = grip_near shape words (map_after shape log) (held roles) grip slot
+      (core.knows place (Reader reader grip) there') on in
+      let part = term_le (holds slot) roles place (Reader reader grip) there' in
+      let one = grips_it grip slot on in
+      let held_so : 0 < held roles slot = omega arith in
+      let free
+      = not_taken shape words (map_after shape log) (held roles) desk.fresh desk.retired slot desk.place held_so
+      mine.place in
+      let used : unused slot desk.fresh ≡ 0
+      = dite (dec_le desk.fresh slot) (λ l. absurd (let z = (mine.free slot l near).0 in omega arith))
+      (λ l. ap (λ b. cond {A = ℕ} b 1 0) (lt-leb desk.fresh slot (omega arith))) in
+      let once = retired_once shape words roles log core id desk at' slot near in
+      (near, omega arith)
+
   module _ (shape : Shape) (words : List ℕ) (callers : List A) (log : List Entry)
       (core : Core shape words (map role callers) log)
       (once : Once role marks callers) (id : ℕ) (me : A) (desk : Desk) (at : get_elem? callers id ≡ some me)
@@ -96,25 +123,8 @@ module _ {A : Type 0} (role : A → Role) (marks : A → Marks) where
       where
         living : (slot : ℕ) → gripped grip ≡ Some slot → Living desk.retired (marks me) slot
         living slot on =
-            let roles = map role callers in
-            let at' : get_elem? roles id ≡ some (Writer desk) = at_maps role callers id me at
-            ∙ ap some was in
-            let there' : get_elem? roles place ≡ some (Reader reader grip)
-            = at_maps role callers place who there ∙ ap some is in
-            let mine = core.knows id (Writer desk) at' in
-            let near
-            = grip_near shape words (map_after shape log) (held roles) grip slot
-            (core.knows place (Reader reader grip) there') on in
-            let part = term_le (holds slot) roles place (Reader reader grip) there' in
-            let one = grips_it grip slot on in
-            let held_so : 0 < held roles slot = omega arith in
-            let t
-            = not_taken shape words (map_after shape log) (held roles) desk.fresh desk.retired slot desk.place
-            held_so mine.place in
-            let u : unused slot desk.fresh ≡ 0
-            = dite (dec_le desk.fresh slot) (λ l. absurd (let z = (mine.free slot l near).0 in omega arith))
-            (λ l. ap (λ b. cond {A = ℕ} b 1 0) (lt-leb desk.fresh slot (omega arith))) in
-            let p = retired_once shape words roles log core id desk at' slot near in let wide = own.wide.0 in
+            let lives_so = (held_lives callers core id at was place there is slot on).1 in
+            let wide = own.wide.0 in
             dite (ℕ_discrete (retirements slot desk.retired) 0)
             (λ z.
             let b = below_some (λ k. only (suc slot) (name_number (get_or words k 0))) shape.keys (omega arith) in
@@ -178,11 +188,10 @@ module _ {A : Type 0} (role : A → Role) (marks : A → Marks) where
         → CanMark role marks shape id me told (Load place) (LoadsWord (role me))
         (WriterLearns shape (marks me) desk told)
     learns_writer desk was words callers log core m once at since after entries ans =
-        let own = desk_of role marks shape words callers log id me desk m at was in
+        let own = desk_of id m at was in
         let t = refreshed shape words callers log core once id me desk at was own told since in
-        writer_step role marks shape id me (Load place) (WriterLearns shape (marks me) desk told) words callers log core
-        m at desk desk was after entries (ans.0 ∙ was) (marks me) t.0 t.1 (λ place note here. inl here)
-        (load_stays role marks shape words callers log entries me place desk desk own (none_end log entries ans.1)
+        writer_step core m at was (ans.0 ∙ was) (marks me) t.0 t.1 (λ place note here. inl here)
+        (load_stays entries place own (none_end log entries ans.1)
         (λ s. omega arith) (λ s rest. rest) (marks me).polls (marks me).loads own.noted own.sweep) (
           refl,
           t.2,
@@ -194,13 +203,9 @@ module _ {A : Type 0} (role : A → Role) (marks : A → Marks) where
     pub learns_reader : (reader : ℕ) (grip : Grip) → role me ≡ Reader reader grip
         → CanMark role marks shape id me told (Load place) (LoadsWord (role me))
         (ReaderLearns reader grip (marks me) told)
-    learns_reader reader grip was words callers log core m once at since after entries ans =
-        reader_step role marks shape id me told (Load place) (LoadsWord (role me))
-        (ReaderLearns reader grip (marks me) told) words callers log m at reader grip grip was after entries
-        (ans.0 ∙ was)
-        (λ j _. ap (λ l. name_number (get_or l j 0)) (set-get_or words place 0))
-        (λ k. ap (λ l. put_number (log ++ l) k) ans.1 ∙ nil_number log k)
-        (ap (λ l. put_count (log ++ l)) ans.1 ∙ nil_count log) (marks me) refl (inl (refl, refl, refl))
+    learns_reader reader grip was words callers log core m once at since after entries ans = reader_step
+        m at was (ans.0 ∙ was) (λ j _. ap (λ l. name_number (get_or l j 0)) (set-get_or words place 0))
+        (none_end log entries ans.1) (marks me) refl (inl (refl, refl, refl))
         (λ j slot u desk there writes t e. (t.held id reader slot me grip at was e, λ _. e))
         (contents_loaded shape words place) (
           refl,

@@ -23,6 +23,7 @@ pub mod Settle
 pub mod Guards
 pub mod Sets
 pub mod ReadThrough
+mod Outcomes
 pub mod Without
 pub mod Counting
 pub mod Numbers
@@ -49,6 +50,8 @@ mod Walks
 mod Shapes
 mod OnKey
 mod OffKeys
+mod Stepping
+mod Recount
 mod DeskFrames
 mod Swap
 mod Unpublish

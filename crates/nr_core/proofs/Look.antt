@@ -1,6 +1,6 @@
 -- The look, the first step of each call of the writer: by the key's state the call ends, or goes on.
 use Rattle.std.proofs.Common.{Bool, false, true, List, [], ap, arith, eq-eqb, get_or, nat_eq, ne_eqb, refl, set, subst}
-use Rattle.std.proofs.Common.{suc, sym, ℕ, ◌%◌, ◌++◌, ◌+◌, ◌<◌, ◌∙◌, ◌≡◌}
+use Rattle.std.proofs.Common.{suc, sym, ℕ, ◌%◌, ◌++◌, ◌<◌, ◌∙◌, ◌≡◌}
 use Rattle.std.proofs.lemmas.Bool.{ltb-true}
 use Rattle.std.specs.Prelude.{nat_lt}
 use lib.ListN.{get_elem?}
@@ -14,28 +14,26 @@ use Rattle.nr_words.specs.KeyWords.{slot_of}
 use Rattle.nr_core.proofs.Choices.{on_test}
 use Rattle.nr_core.proofs.Frames.{asked_no_hole, not_hole}
 use Rattle.nr_core.proofs.KeyWords.{names_none, names_one}
-use Rattle.nr_core.proofs.Settle.{ends, goes_on, idle_desk, key_same, own_ending, settles}
-use Rattle.nr_core.specs.Core.{AtDesk, Core, ShowsState}
+use Rattle.nr_core.proofs.Settle.{ends, key_same, own_ending, settles, keeps_moved, moved_desk, moves}
+use Rattle.nr_core.specs.Core.{AtDesk, Core, ShowsState, Reads}
 use Rattle.nr_core.specs.Given.{IsGivenCall}
 use Rattle.nr_core.specs.declared.operation.Operation.TheVariants.{Load}
-use Rattle.nr_core.specs.Roles.{held, keeps, taken}
-use Rattle.nr_core.specs.Slots.{bound_of, name_number, unused}
+use Rattle.nr_core.specs.Roles.{held, keeps}
+use Rattle.nr_core.specs.Slots.{bound_of, name_number}
 use Rattle.nr_core.specs.States.{key_of}
 use Rattle.nr_core.specs.Steps.{CanStep, Looks}
 use Rattle.nr_core.specs.Story.{call_of, ending, map_after}
-use Rattle.nr_core.specs.Sums.{only, total}
 use Rattle.nr_core.specs.Writer.{ended, looked, moved_to}
 use Rattle.nr_core.specs.declared.calls.Step.{Step}
 use Rattle.nr_core.specs.declared.calls.Step.TheVariants.{Going}
 use Rattle.nr_core.specs.declared.calls.WriterCall.{WriterCall}
 use Rattle.nr_core.specs.declared.calls.WriterCall.TheVariants.{Cancel, Evict, Fill, Find, Replace, Update}
-use Rattle.nr_core.specs.declared.places.Place.{Place}
 use Rattle.nr_core.specs.declared.places.Place.TheVariants.{Idle, Leaving, Reading, Withdrawing}
-use Rattle.nr_core.specs.declared.places.Retired.{Retired}
 use Rattle.nr_core.specs.declared.roles.Desk.{Desk}
 use Rattle.nr_core.specs.declared.roles.Role.{Role}
 use Rattle.nr_core.specs.declared.roles.Role.TheVariants.{Writer}
 use Rattle.nr_core.specs.declared.shape.Shape.{Shape}
+use Rattle.nr_core.proofs.Stepping.{writer_makes}
 use Rattle.nr_model.specs.declared.states.KeyState.TheVariants as key
 use Rattle.nr_model.specs.declared.calls.Call.TheVariants as model
 use Rattle.nr_model.specs.declared.calls.Reply.TheVariants as reply
@@ -52,49 +50,42 @@ module _ (shape : Shape) (words : List ℕ) (roles : List Role) (log : List Entr
   state call = state_of (map_after shape log) (key_of call)
 
   idle_keeps : (s : ℕ) → keeps s (Writer (moved_to desk Idle)) ≡ keeps s (Writer desk)
-  idle_keeps s =
-      ap (λ (p : Place). unused s desk.fresh + total (λ (x : Retired). only s x.slot) desk.retired + taken s p)
-      (sym idle)
+  idle_keeps = keeps_moved desk Idle Idle idle (λ _. refl)
 
-  mine : AtDesk shape words (map_after shape log) (held roles) (moved_to desk Idle)
-  mine = idle_desk shape words (map_after shape log) (held roles) desk (core.knows id (Writer desk) there)
+  mine : AtDesk shape words (map_after shape log) (held roles) desk
+  mine = core.knows id (Writer desk) there
 
   -- a look that ends the call, at a key in that state
   stops : (call : WriterCall) (y : Reply) (z : KeyState) → key_of call < shape.keys → state call ≡ z
       → reply_at (bound_of shape) (call_of call) z ≡ y → state_after (bound_of shape) (call_of call) z ≡ z
       → After call (moved_to desk Idle, ended y)
-  stops call y z near is replies stays =
-      ends shape words roles log core id desk there (key_of call) (moved_to desk Idle) (call_of call) y
+  stops call y z near is replies stays = ends core id there (key_of call) (moved_to desk Idle) (call_of call) y
       (subst (λ (k : ℕ). k < shape.keys) (sym (key_same call)) near)
       (ap (λ (k : ℕ). reply_at (bound_of shape) (call_of call) (state_of (map_after shape log) k)) (key_same call)
       ∙ ap (reply_at (bound_of shape) (call_of call)) is ∙ replies)
       (ap (λ (k : ℕ). state_after (bound_of shape) (call_of call) (state_of (map_after shape log) k)) (key_same call)
       ∙ ap (state_after (bound_of shape) (call_of call)) is ∙ stays ∙ sym is
-      ∙ ap (state_of (map_after shape log)) (sym (key_same call)))
-      idle_keeps mine
+      ∙ ap (state_of (map_after shape log)) (sym (key_same call))) idle_keeps (moved_desk mine Idle tt)
 
   -- a look after which the set is read
+  named_slot : (k s number : ℕ) (rows : List Row) → k < shape.keys → name_number (get_or words k 0) ≡ suc s
+      → state_of (map_after shape log) k ≡ key.Rows number rows
+      → Reads shape words (map_after shape log) (held roles) k s []
+  named_slot k s number rows near names full = record {
+    near = near;
+    names = names;
+    number = number;
+    rows = rows;
+    full = full;
+    part = refl;
+    more = omega arith;
+  }
+
   begins : (call : WriterCall) (s number : ℕ) (rows : List Row) → key_of call < shape.keys
       → name_number (get_or words (key_of call) 0) ≡ suc s → state call ≡ key.Rows number rows
       → After call (moved_to desk (Reading call s []), Going)
-  begins call s number rows near names full =
-      goes_on shape words roles log core id desk there (key_of call) (moved_to desk (Reading call s [])) idle_keeps
-      (let m = mine in
-      record {
-        place = record {
-          near = near;
-          names = names;
-          number = number;
-          rows = rows;
-          full = full;
-          part = refl;
-          more = omega arith;
-        };
-        room = m.room;
-        free = m.free;
-        retired = m.retired;
-        numbers = m.numbers;
-      })
+  begins call s number rows near names full = moves core id there (key_of call) idle (Reading call s []) (λ _. refl)
+      (named_slot (key_of call) s number rows near names full)
 
   -- by the key's state
   abbrev AtState : WriterCall → KeyState → Type 0
@@ -123,8 +114,7 @@ module _ (shape : Shape) (words : List ℕ) (roles : List Role) (log : List Entr
   look_all (Replace k rows) given near (key.Asked n) is t =
       rw (names_none (get_or words k 0) t.0) (stops (Replace k rows) reply.Dropped (key.Asked n) near is refl refl)
   look_all (Replace k rows) given near (key.Rows n old) is t =
-      rw (names_one (get_or words k 0) t.0 t.1).0
-      (settles shape words roles log core id desk there k (Replace k rows) rows idle_keeps (record {
+      rw (names_one (get_or words k 0) t.0 t.1).0 (settles core id there k (Replace k rows) rows idle_keeps (record {
         near = near;
         row_set = given;
         no_hole = not_hole (state (Replace k rows)) n old is;
@@ -139,27 +129,9 @@ module _ (shape : Shape) (words : List ℕ) (roles : List Role) (log : List Entr
       rw (names_none (get_or words k 0) t.0) (stops (Evict k) reply.Nothing (key.Asked n) near is refl refl)
   look_all (Evict k) given near (key.Rows n rows) is t =
       let named = names_one (get_or words k 0) t.0 t.1 in
-      let m = mine in
-      rw named.0
-      (goes_on shape words roles log core id desk there k (moved_to desk (Leaving k)) idle_keeps
-      (record {
-        place = (
-          slot_of (get_or words k 0),
-          record {
-            near = near;
-            names = t.1 ∙ ap suc (sym named.1);
-            number = n;
-            rows = rows;
-            full = is;
-            part = refl;
-            more = omega arith;
-          },
-        );
-        room = m.room;
-        free = m.free;
-        retired = m.retired;
-        numbers = m.numbers;
-      }))
+      let slot = slot_of (get_or words k 0) in
+      rw named.0 (moves core id there k idle (Leaving k) (λ _. refl)
+      (slot, named_slot k slot n rows near (t.1 ∙ ap suc (sym named.1)) is))
   look_all (Fill k number rows) given near (key.Hole n) is t =
       let w = get_or words k 0 in let even = t.1 in
       rw (names_none w t.0, ne_eqb (w % 2) 1 (λ z. omega arith))
@@ -169,8 +141,7 @@ module _ (shape : Shape) (words : List ℕ) (roles : List Role) (log : List Entr
       let so : (b : Bool) → nat_eq (slot_of w) number ≡ b → nat_eq n number ≡ b
       = λ b test. ap (λ (m : ℕ). nat_eq m number) (sym t.2) ∙ test in
       rw (names_none w t.0, eq-eqb (w % 2) 1 t.1)
-      (on_test (After call) (nat_eq (slot_of w) number)
-      (λ own. settles shape words roles log core id desk there k call rows idle_keeps (record {
+      (on_test (After call) (nat_eq (slot_of w) number) (λ own. settles core id there k call rows idle_keeps (record {
         near = near;
         row_set = given;
         no_hole = asked_no_hole (state call) n is;
@@ -188,19 +159,13 @@ module _ (shape : Shape) (words : List ℕ) (roles : List Role) (log : List Entr
       rw (names_none w t.0, ne_eqb (w % 2) 1 (λ z. omega arith))
       (stops (Cancel k) reply.Nothing (key.Hole n) near is refl refl)
   look_all (Cancel k) given near (key.Asked n) is t =
-      let w = get_or words k 0 in let m = mine in
+      let w = get_or words k 0 in
       let so : (b : Bool) → nat_lt (slot_of w) last_number ≡ b → nat_lt n last_number ≡ b
       = λ b test. ap (λ (m : ℕ). nat_lt m last_number) (sym t.2) ∙ test in
       rw (names_none w t.0, eq-eqb (w % 2) 1 t.1)
       (on_test (After (Cancel k)) (nat_lt (slot_of w) last_number)
-      (λ early. goes_on shape words roles log core id desk there k (moved_to desk (Withdrawing k)) idle_keeps
-      (record {
-        place = record { near = near; number = n; asked = is; early = ltb-true n last_number (so true early) };
-        room = m.room;
-        free = m.free;
-        retired = m.retired;
-        numbers = m.numbers;
-      }))
+      (λ early. moves core id there k idle (Withdrawing k) (λ _. refl)
+      (record { near = near; number = n; asked = is; early = ltb-true n last_number (so true early) }))
       (λ late. stops (Cancel k) reply.Worn (key.Asked n) near is (rw (so false late) refl) (rw (so false late) refl)))
   look_all (Cancel k) given near (key.Rows n rows) is t =
       rw (names_one (get_or words k 0) t.0 t.1).0
@@ -211,15 +176,6 @@ pub looks : (shape : Shape) (id : ℕ) (desk : Desk) (call : WriterCall) → des
     → CanStep shape id (Writer desk) (Load (key_of call)) (Looks shape desk call)
 looks shape id desk call idle given near words roles log core there =
     let o = looked shape desk call (get_or words (key_of call) 0) in
-    record {
-      after = Writer o.0;
-      entries = ending (call_of call) o.1;
-      core =
-          look_all shape words roles log core id desk there idle call given near
-          (state_of (map_after shape log) (key_of call)) refl (core.shows (key_of call) near);
-      same = λ _. refl;
-      writer = refl;
-      reader = refl;
-      own = own_ending (call_of call) o.1;
-      told = (refl, refl);
-    }
+    writer_makes o.0 (ending (call_of call) o.1) (look_all shape words roles log core id desk there idle call given near
+    (state_of (map_after shape log) (key_of call)) refl (core.shows (key_of call) near))
+    (own_ending (call_of call) o.1) (refl, refl)

@@ -21,8 +21,8 @@ use Rattle.nr_core.specs.declared.roles.Role.TheVariants.{Note, Reader, Writer}
 use Rattle.nr_core.specs.declared.shape.Shape.{Shape}
 
 -- a step on a word behind the keys, which keeps each slot's place
-pub off_keys : (shape : Shape) (words : List ℕ) (roles : List Role) (log : List Entry)
-    (core : Core shape words roles log) (id : ℕ) (r r' : Role) (i x : ℕ)
+pub off_keys : {shape : Shape} {words : List ℕ} {roles : List Role} {log : List Entry}
+    (core : Core shape words roles log) (id : ℕ) {r : Role} (r' : Role) (i x : ℕ)
     → shape.keys ≤ i → get_elem? roles id ≡ some r → is_writer r' ≡ is_writer r → is_reader r' ≡ is_reader r
     → ((s : ℕ) → s < shape.slots → keeps s r' ≡ keeps s r)
     → ((s j : ℕ) → s < shape.slots → j ≤ 2 * (bound_of shape) → 0 < named shape words s
@@ -34,7 +34,8 @@ pub off_keys : (shape : Shape) (words : List ℕ) (roles : List Role) (log : Lis
     → Knows shape (set words i x) (map_after shape log) (held (set roles id r')) u)
     → Knows shape (set words i x) (map_after shape log) (held (set roles id r')) r'
     → Core shape (set words i x) (set roles id r') (log ++ [])
-off_keys shape words roles log core id r r' i x behind at w-same r-same keeping conts sums others own =
+off_keys {shape = shape} {words = words} {roles = roles} {log = log} core id {r = r} r' i x behind at w-same r-same
+    keeping conts sums others own =
     let words' = set words i x in
     let roles' = set roles id r' in
     let map = map_after shape log in
@@ -78,14 +79,15 @@ off_keys shape words roles log core id r r' i x behind at w-same r-same keeping 
     }
 
 -- the others after a writer's step are no writer
-pub no_writer : (shape : Shape) (words : List ℕ) (roles : List Role) (log : List Entry)
+pub no_writer : {shape : Shape} {words : List ℕ} {roles : List Role} {log : List Entry}
     (core : Core shape words roles log) (words' : List ℕ)
-    (map' : PartialMap) (hold' : ℕ → ℕ) (id : ℕ) (desk : Desk) → get_elem? roles id ≡ some (Writer desk)
+    (map' : PartialMap) (hold' : ℕ → ℕ) (id : ℕ) {desk : Desk} → get_elem? roles id ≡ some (Writer desk)
     → ((s i : ℕ) → 0 < held roles s → s < shape.slots → i ≤ 2 * (bound_of shape)
     → get_or words' (content shape s i) 0 ≡ get_or words (content shape s i) 0)
     → (j : ℕ) (u : Role) → j ≢ id → get_elem? roles j ≡ some u → Knows shape words (map_after shape log) (held roles) u
     → Knows shape words' map' hold' u
-no_writer shape words roles log core words' map' hold' id desk at conts j u =
+no_writer {shape = shape} {words = words} {roles = roles} {log = log} core words' map' hold' id {desk = desk} at conts
+    j u =
     let map = map_after shape log in
     elim u as (λ v. j ≢ id → get_elem? roles j ≡ some v → Knows shape words map (held roles) v
     → Knows shape words' map' hold' v) [

@@ -50,7 +50,7 @@ pub kept_by : (s : ℕ) (roles : List Role) (j : ℕ) (u : Role) → get_elem? r
 kept_by s roles j u at l = let part = term_le (keeps s) roles j u at in omega arith
 
 -- a reader's step on a key's word that leaves what the word names
-pub on_key : (shape : Shape) (words : List ℕ) (roles : List Role) (log es : List Entry)
+pub on_key : {shape : Shape} {words : List ℕ} {roles : List Role} {log : List Entry} (es : List Entry)
     (core : Core shape words roles log) (id c : ℕ) (before after : Grip) (k x : ℕ)
     → k < shape.keys → get_elem? roles id ≡ some (Reader c before) → name_number x ≡ name_number (get_or words k 0)
     → IsLegal (opening_map shape) (log ++ es)
@@ -65,7 +65,8 @@ pub on_key : (shape : Shape) (words : List ℕ) (roles : List Role) (log es : Li
     → arrivals_of x % 2 ^ 40
     ≡ (get_or words (departures shape s) 0 + held (set roles id (Reader c after)) s) % 2 ^ 40)
     → Core shape (set words k x) (set roles id (Reader c after)) (log ++ es)
-on_key shape words roles log es core id c before after k x near at same-name legal states same-number stays shown own
+on_key {shape = shape} {words = words} {roles = roles} {log = log} es core id c before after k x near at same-name
+    legal states same-number stays shown own
     quiet counted =
     let words' = set words k x in
     let roles' = set roles id (Reader c after) in

@@ -14,7 +14,7 @@ use Rattle.nr_core.proofs.Choices.{by_cases}
 use Rattle.nr_core.proofs.Sums.{got_at, only-is, only-le, only-other, only-same, some_term, term_le, terms_le}
 use Rattle.nr_core.proofs.Sums.{total-append, total-remove}
 use Rattle.nr_core.specs.Core.{Core}
-use Rattle.nr_core.specs.Roles.{holds, retirements, taken}
+use Rattle.nr_core.specs.Roles.{retirements, taken}
 use Rattle.nr_core.specs.declared.operation.Operation.TheVariants.{Load}
 use Rattle.nr_core.specs.Slots.{departures}
 use Rattle.nr_core.specs.States.{no_retired, retired_at}
@@ -38,10 +38,11 @@ use Rattle.nr_core.specs.MarkSteps.{PollsMarks}
 use Rattle.nr_core.proofs.Different.{few_of}
 use Rattle.nr_core.proofs.ListPlaces.{at_last, at_maps, before, inside, some_is}
 use Rattle.nr_core.proofs.MarksSince.{rests}
-use Rattle.nr_core.proofs.DeskMarks.{Went, desk_of, load_step, no_room_left, none_end}
+use Rattle.nr_core.proofs.DeskMarks.{Went, desk_of, load_step, no_room_left}
 use Rattle.nr_core.proofs.Holders.{ReaderThere, alone_more, holder_of, in_range, noted, present_more, same_caller}
 use Rattle.nr_core.proofs.Holders.{since_more}
 use Rattle.nr_core.proofs.Frames.{stands_at}
+use Rattle.nr_core.proofs.PutNumbers.{none_end}
 
 module _ {A : Type 0} (role : A → Role) (marks : A → Marks) where
   module _ (shape : Shape) (words : List ℕ) (callers : List A) (log : List Entry)
@@ -53,9 +54,9 @@ module _ {A : Type 0} (role : A → Role) (marks : A → Marks) where
     sweeps_on : (polls : List Past) (poll : ℕ) (entry : Retired) → get_elem? desk.retired poll ≡ some entry
         → Sweeps role marks callers desk polls poll
         → (reader : ReaderThere role marks callers) → gripped reader.grip ≡ Some entry.slot
-        → Sweeps role marks callers desk' (polls ++ noted role marks callers reader ∷ []) (poll + 1)
+        → Sweeps role marks callers desk' (polls ++ noted reader ∷ []) (poll + 1)
     sweeps_on polls poll entry here old who on =
-        let reader = who.reader in let note = noted role marks callers who in let slot = entry.slot in
+        let reader = who.reader in let note = noted who in let slot = entry.slot in
         let many = old.many in
         let listed = term_le (λ (y : Retired). only slot y.slot) desk.retired poll entry here in
         let one = only-same slot in
@@ -91,8 +92,7 @@ module _ {A : Type 0} (role : A → Role) (marks : A → Marks) where
               let one' : only slot r.0.slot ≡ 1 = ap (only slot) z ∙ one in absurd (omega arith)) in
               let le = only-le b reader in omega arith)
               (λ ne. let z = only-other b reader ne in let le = old.different b in omega arith);
-          other =
-              alone_more role marks callers who polls once desk'
+          other = alone_more who polls once desk'
               (λ i o e n s w y g is on' rest. old.other i o e n s w y g is on'
               (subst (λ (l : List Retired). 0 < retirements s l) same rest));
         }
@@ -108,10 +108,10 @@ module _ {A : Type 0} (role : A → Role) (marks : A → Marks) where
         let i : ℕ = departures shape slot in
         let word : ℕ = get_or words i 0 in
         let roles = map role callers in
-        let own = desk_of role marks shape words callers log id me desk m at was in
+        let own = desk_of id m at was in
         let there : get_elem? roles id ≡ some (Writer desk) = at_maps role callers id me at ∙ ap some was in
         let mine = core.knows id (Writer desk) there in
-        let p = stands_at shape words roles log core id desk there _ is_at in
+        let p = stands_at core id there is_at in
         let sweeps : Sweeps role marks callers desk (marks me).polls poll
         = (subst (Sweeping role marks callers desk (marks me).polls) is_at own.sweep).1 each in
         let here : get_elem? desk.retired poll ≡ some entry = got_at desk.retired poll no_retired p.1 in
@@ -123,22 +123,22 @@ module _ {A : Type 0} (role : A → Role) (marks : A → Marks) where
         → ((s : ℕ) → retirements s desk'.retired ≤ retirements s desk.retired) → AllSince role marks callers polls
         → NotesPresent role marks callers (marks me).polls polls → Sweeping role marks callers desk' polls desk'.place
         → tells word after (log ++ entries) (with_scan (marks me) polls loads) [] → Goal
-        = λ desk' polls loads is none fewer since present sweep told. load_step role marks shape words callers log
-        entries me i desk desk' id tells core m at was after is (none_end log entries none) fewer
+        = λ desk' polls loads is none fewer since present sweep told. load_step
+        entries i core m at was is (none_end log entries none) fewer
         (λ s _. subst (Untouched s) (sym is_at) tt) polls loads since present sweep told in
         let misses : same_count word entry.arrivals ≡ false → (desk' : Desk) → desk'.retired ≡ desk.retired
         → ((polls : List Past) → Sweeps role marks callers desk' polls (poll + 1)
         → Sweeping role marks callers desk' polls desk'.place)
         → after ≡ Writer desk' → entries ≡ [] → Goal
         = λ miss desk' same sweeping is none.
-        let found = holder_of role marks callers slot word entry.arrivals count miss in
+        let found = holder_of slot word entry.arrivals count miss in
         let who = found.0 in
-        let polls = (marks me).polls ++ noted role marks callers who ∷ [] in
+        let polls = (marks me).polls ++ noted who ∷ [] in
         let sweep
         = sweeps_on shape words callers log core once id me desk desk' at was same (marks me).polls poll entry here
         sweeps who found.1 in
         let many = sweep.many in
-        let since = since_more role marks callers who (marks me).polls own.noted in
+        let since = since_more who (marks me).polls own.noted in
         let readers : (n : ℕ) (e : Past) → get_elem? polls n ≡ some e → (0 < e.reader) × (e.reader ≤ shape.readers)
         = λ n e there'. let w = since n e
         there' in
@@ -147,7 +147,7 @@ module _ {A : Type 0} (role : A → Role) (marks : A → Marks) where
         let few : length polls ≤ shape.readers
         = few_of (λ (e : Past). e.reader) polls shape.readers sweep.different readers in
         let missed : Missed shape known (marks me).polls slot polls = record {
-          note = noted role marks callers who;
+          note = noted who;
           more = refl;
           holds = found.1;
           newer = λ n e there' same_reader. let w = sinces n e there' in let l = w.least in
@@ -155,14 +155,13 @@ module _ {A : Type 0} (role : A → Role) (marks : A → Marks) where
               = same_caller role marks callers once w.place who.place who.reader w.who who.who w.grip who.grip w.there
               who.there (w.is ∙ ap (λ (b : ℕ). Reader b w.grip) same_reader) who.is in
               let acts : (marks w.who).acts ≡ (marks who.who).acts = ap (λ (b : A). (marks b).acts) z in omega arith;
-          range = in_range role marks callers who shape words log m;
+          range = in_range who m;
           different = sweep.different;
           few = few;
         } in
         finish desk' polls (with_poll (marks me) slot false).loads is none
         (λ s. let e = ap (retirements s) same in omega arith) since
-        (present_more role marks callers who (marks me).polls (marks me).polls (λ n e there'. inl there'))
-        (sweeping polls sweep) (
+        (present_more who (marks me).polls (marks me).polls (λ n e there'. inl there')) (sweeping polls sweep) (
           refl,
           rw miss (
             refl,
@@ -170,9 +169,7 @@ module _ {A : Type 0} (role : A → Role) (marks : A → Marks) where
             λ last.
                 let low = p.1 in
                 subst (NoRoom shape call desk.retired polls) (sym (ap (λ l. log ++ l) none ∙ append-nil log))
-                (no_room_left shape words roles log id desk call core there (λ s. ap (taken s) is_at) p.2 wants.done
-                polls
-                (record {
+                (no_room_left id core there (λ s. ap (taken s) is_at) p.2 wants.done polls (record {
                   many = omega arith;
                   slots = λ n e there'.
                       let in_list = inside desk.retired n e there' in

@@ -15,29 +15,30 @@ use Rattle.nr_core.proofs.Sums.{only-same, term_le, total-set}
 use Rattle.nr_core.proofs.WordPlaces.{content_apart, content_inside, same_content}
 use Rattle.nr_core.specs.Core.{AtDesk, Core}
 use Rattle.nr_core.specs.Roles.{held, holds, keeps, taken}
-use Rattle.nr_core.specs.Slots.{bound_of, content, departures, named, unused}
+use Rattle.nr_core.specs.Slots.{bound_of, content, departures, named}
 use Rattle.nr_core.specs.Story.{map_after}
 use Rattle.nr_core.specs.Sums.{only, total}
 use Rattle.nr_core.specs.Writer.{moved_to}
 use Rattle.nr_core.specs.declared.calls.WriterCall.{WriterCall}
-use Rattle.nr_core.specs.declared.places.Place.{Place}
 use Rattle.nr_core.specs.declared.places.Place.TheVariants.{Putting}
 use Rattle.nr_core.specs.declared.places.Retired.{Retired}
 use Rattle.nr_core.specs.declared.roles.Desk.{Desk}
 use Rattle.nr_core.specs.declared.roles.Role.{Role}
 use Rattle.nr_core.specs.declared.roles.Role.TheVariants.{Writer}
 use Rattle.nr_core.specs.declared.shape.Shape.{Shape}
+use Rattle.nr_core.proofs.Settle.{keeps_moved}
 
-pub puts : (shape : Shape) (words : List ℕ) (roles : List Role) (log : List Entry) (core : Core shape words roles log)
-    (id : ℕ) (desk : Desk)
+pub puts : {shape : Shape} {words : List ℕ} {roles : List Role} {log : List Entry} (core : Core shape words roles log)
+    (id : ℕ) {desk : Desk}
     → get_elem? roles id ≡ some (Writer desk) → (call : WriterCall) (rows : List Row) (slot departed index : ℕ)
     → desk.place ≡ Putting call rows slot departed index → index ≤ 2 * length rows
     → Core shape (set words (content shape slot index) (get_or (encode rows) index 0))
     (set roles id (Writer (moved_to desk (Putting call rows slot departed (index + 1))))) (log ++ [])
-puts shape words roles log core id desk there call rows slot departed index is_at low_enough =
+puts {shape = shape} {words = words} {roles = roles} {log = log} core id {desk = desk} there call rows slot departed
+    index is_at low_enough =
     let desk' = moved_to desk (Putting call rows slot departed (index + 1)) in let map = map_after shape log in
     let mine = core.knows id (Writer desk) there in
-    let putting = stands_at shape words roles log core id desk there _ is_at in
+    let putting = stands_at core id there is_at in
     let near : slot < shape.slots = putting.inside in let nobody_there : held roles slot ≡ 0 = putting.nobody in
     let short = putting.wants.row_set.1 in
     let wide = core.wide in
@@ -51,12 +52,7 @@ puts shape words roles log core id desk there call rows slot departed index is_a
     let once = core.places slot near in
     let part = term_le (keeps slot) roles id (Writer desk) there in
     let one = only-same slot in
-    let keeps_so : (u : ℕ)
-    → keeps u (Writer desk)
-    ≡ unused u desk.fresh + total (λ (x : Retired). only u x.slot) desk.retired + only u slot
-    = λ u.
-    ap (λ (y : Place). unused u desk.fresh + total (λ (x : Retired). only u x.slot) desk.retired + taken u y) is_at in
-    let all_of_it = keeps_so slot in
+    let all_of_it = ap (taken slot) is_at in
     let cont : (s j : ℕ) → s ≢ slot → j ≤ 2 * (bound_of shape)
     → get_or words' (content shape s j) 0 ≡ get_or words (content shape s j)
     0 = λ s j ne low. get_or-set_other words w (content shape s j) x 0
@@ -77,14 +73,13 @@ puts shape words roles log core id desk there call rows slot departed index is_a
     record { contents = λ j low. cont s j ne low; nobody = λ z. still s ∙ z; deps = λ _. dep s; sum = sum s } in
     let own : AtDesk shape words' map (held roles') desk' = record {
       place = record {
-        wants =
-            record {
-              near = putting.wants.near;
-              row_set = putting.wants.row_set;
-              no_hole = putting.wants.no_hole;
-              done = putting.wants.done;
-              leaves = putting.wants.leaves;
-            };
+        wants = let wants = putting.wants in record {
+          near = wants.near;
+          row_set = wants.row_set;
+          no_hole = wants.no_hole;
+          done = wants.done;
+          leaves = wants.leaves;
+        };
         inside = near;
         nobody = still slot ∙ nobody_there;
         counted = dep slot ∙ putting.counted;
@@ -106,13 +101,10 @@ puts shape words roles log core id desk there call rows slot departed index is_a
           omega arith)) mine.retired;
       numbers = mine.numbers;
     } in
-    off_keys shape words roles log core id (Writer desk) (Writer desk') w x (omega arith) there refl refl
-    (λ s _. sym (keeps_so s))
-    (λ s j l low is-named. cont s j
+    off_keys core id (Writer desk') w x (omega arith) there refl refl
+    (λ s _. keeps_moved desk (Putting call rows slot departed index)
+    (Putting call rows slot departed (index + 1)) is_at (λ _. refl) s) (λ s j l low is-named. cont s j
     (λ z. let n : 0 < named shape words slot = subst (λ (y : ℕ). 0 < named shape words y) z is-named in omega arith)
-    low)
-    (λ s _ _. sum s)
-    (no_writer shape words roles log core words' map (held roles') id desk there
-    (λ s j taken-by l low. cont s j
+    low) (λ s _ _. sum s) (no_writer core words' map (held roles') id there (λ s j taken-by l low. cont s j
     (λ z. let n : 0 < held roles slot = subst (λ (y : ℕ). 0 < held roles y) z taken-by in omega arith) low))
     own

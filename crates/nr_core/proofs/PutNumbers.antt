@@ -5,6 +5,7 @@ use Rattle.nr_model.specs.Histories.{Entry, is_done}
 use Rattle.nr_model.specs.Maps.{call_key}
 use Rattle.nr_core.proofs.Sums.{total-append}
 use Rattle.nr_core.specs.Puts.{put_count, put_from, put_number, puts_at, puts_set}
+use Rattle.std.proofs.Common.{subst, sym}
 
 put-append : (key next last : ℕ) (es fs : List Entry)
     → put_from key next last (es ++ fs) ≡ put_from key (next + put_count es) (put_from key next last es) fs
@@ -43,3 +44,19 @@ nil_number log key = ap (λ l. put_number l key) (append-nil log)
 
 pub nil_count : (log : List Entry) → put_count (log ++ []) ≡ put_count log
 nil_count log = ap put_count (append-nil log)
+
+-- a step that puts nothing leaves the put numbers
+abbrev pub QuietEnd : List Entry → List Entry → Type 0
+QuietEnd log entries =
+    ((k : ℕ) → put_number (log ++ entries) k ≡ put_number log k) × (put_count (log ++ entries) ≡ put_count log)
+
+pub nothing_ends : (log : List Entry) → QuietEnd log []
+nothing_ends log = (nil_number log, nil_count log)
+
+pub none_end : (log entries : List Entry) → entries ≡ [] → QuietEnd log entries
+none_end log entries none = subst (QuietEnd log) (sym none) (nothing_ends log)
+
+pub one_ends : (log entries : List Entry) (e : Entry) → entries ≡ e ∷ [] → is_done e.reply ≡ false
+    → QuietEnd log entries
+one_ends log entries e is quiet =
+    subst (QuietEnd log) (sym is) ((λ k. quiet_number log e k quiet), quiet_count log e quiet)

@@ -34,8 +34,8 @@ use Rattle.nr_core.specs.declared.roles.Grip.{Grip}
 use Rattle.nr_core.specs.declared.roles.Grip.TheVariants.{Nothing, On}
 use Rattle.nr_core.specs.declared.roles.Role.TheVariants.{Reader, Writer}
 use Rattle.nr_core.specs.declared.shape.Shape.{Shape}
-use Rattle.nr_core.specs.declared.places.Hold.TheVariants as hold
 use Rattle.nr_model.specs.declared.states.KeyState.{KeyState}
+use Rattle.nr_core.specs.declared.places.Hold.TheVariants as hold
 use Rattle.nr_model.specs.declared.states.KeyState.TheVariants as key
 
 all_given : (bound : ℕ) (events : List Event) (event : Event) → AllGiven bound events → IsGiven bound event

@@ -1,5 +1,5 @@
 -- A reader reads a word of the slot that it holds.
-use Rattle.std.proofs.Common.{Bool, List, [], ap, arith, cond, get_or, length, nat_eq, refl, set, true, ℕ, ◌%◌, ◌+◌}
+use Rattle.std.proofs.Common.{Bool, List, ap, arith, cond, get_or, length, nat_eq, refl, set, true, ℕ, ◌%◌, ◌+◌}
 use Rattle.std.proofs.Common.{◌<◌, ◌^◌, ◌∙◌, ◌≡◌, ◌≢◌}
 use lib.ListN.{get_elem?}
 use lib.Seq.{set-get_or}
@@ -7,11 +7,11 @@ use mathlib.Core.Option.{some}
 use Rattle.nr_model.specs.declared.rows.Row.{Row}
 use Rattle.nr_words.specs.SetWords.{encode}
 use Rattle.nr_core.proofs.Frames.{Left, holding_more, knows_more}
-use Rattle.nr_core.proofs.OffKeys.{none_of, off_keys}
+use Rattle.nr_core.proofs.OffKeys.{off_keys}
 use Rattle.nr_core.proofs.Sums.{total-set}
 use Rattle.nr_core.specs.Core.{Knows}
 use Rattle.nr_core.specs.declared.operation.Operation.TheVariants.{Load}
-use Rattle.nr_core.specs.Roles.{held, holds, is_by}
+use Rattle.nr_core.specs.Roles.{held, holds}
 use Rattle.nr_core.specs.Slots.{content, departures, name_number}
 use Rattle.nr_core.specs.Steps.{CanStep, ReadsHeld}
 use Rattle.nr_core.specs.Story.{map_after}
@@ -19,6 +19,7 @@ use Rattle.nr_core.specs.declared.roles.Grip.TheVariants.{On}
 use Rattle.nr_core.specs.declared.roles.Role.{Role}
 use Rattle.nr_core.specs.declared.roles.Role.TheVariants.{Reader}
 use Rattle.nr_core.specs.declared.shape.Shape.{Shape}
+use Rattle.nr_core.proofs.Stepping.{reader_quiet}
 
 pub reads : (shape : Shape) (id reader slot : ℕ) (rows : List Row) (sized : Bool) (index : ℕ)
     → index < length (encode rows)
@@ -44,18 +45,7 @@ reads shape id reader slot rows sized index low words roles log core there =
     = λ j u _ _. knows_more shape words words' map map (held roles) (held roles')
     (λ k l. ap (λ (l : List ℕ). name_number (get_or l k 0)) same) (λ _ _. refl) u (λ _. refl) (λ y _ _. left y)
     (λ a j low. (left a).contents j low) in
-    record {
-      after = role;
-      entries = [];
-      core =
-          off_keys shape words roles log core id (Reader reader (On slot rows sized)) role place (get_or words place 0)
-          (omega arith) there refl refl (λ _ _. refl) (λ t j _ low _. (left t).contents j low)
-          (λ t _ _. (left t).sum) others
-          (holding_more shape words words' map map (held roles) (held roles') (On slot rows sized')
-          (λ a j _ _ low. (left a).contents j low) mine);
-      same = λ _. refl;
-      writer = refl;
-      reader = refl;
-      own = λ a. none_of (is_by a (Reader reader (On slot rows sized)));
-      told = (mine.1.1 index low, refl, refl);
-    }
+    reader_quiet (On slot rows sized') (off_keys core id role place (get_or words place 0)
+    (omega arith) there refl refl (λ _ _. refl) (λ t j _ low _. (left t).contents j low) (λ t _ _. (left t).sum) others
+    (holding_more shape words words' map map (held roles) (held roles') (On slot rows sized')
+    (λ a j _ _ low. (left a).contents j low) mine)) (mine.1.1 index low, refl, refl)

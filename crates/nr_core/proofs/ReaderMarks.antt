@@ -1,6 +1,6 @@
 -- A reader's steps: it arrives, requests, reads and departs, and its marks go along.
 use Rattle.std.proofs.Common.{Bool, List, [], ap, arith, cond, false, get_or, get_or-set_other, get_or-set_same, inl}
-use Rattle.std.proofs.Common.{inr, nat_eq, refl, set, suc, sym, true, ℕ, ⊎_elim, map, ◌%◌, ◌++◌, ◌+◌, ◌<◌, ◌^◌, ◌∙◌}
+use Rattle.std.proofs.Common.{inr, refl, set, suc, sym, true, ℕ, ⊎_elim, ◌%◌, ◌++◌, ◌+◌, ◌<◌, ◌^◌, ◌∙◌}
 use Rattle.std.proofs.Common.{◌∷◌, ◌≡◌, ◌≤◌, ◌⊎◌}
 use Rattle.std.specs.Prelude.{Some, bit_or, length}
 use lib.ListN.{get_elem?}
@@ -18,13 +18,12 @@ use Rattle.nr_words.specs.declared.key_words.TheConstants.{ARRIVE}
 use Rattle.nr_core.proofs.KeyWords.{name-asked, name-bumped}
 use Rattle.nr_core.proofs.Sums.{below-term, only-same}
 use Rattle.nr_core.proofs.WordPlaces.{content_apart}
-use Rattle.nr_core.specs.Core.{Core}
 use Rattle.nr_core.specs.Roles.{retirements}
 use Rattle.nr_core.specs.Operations.{becomes, target_of}
 use Rattle.nr_core.specs.declared.operation.Operation.{Operation}
 use Rattle.nr_core.specs.declared.operation.Operation.TheVariants.{Add, Load, Or}
 use Rattle.nr_core.specs.Slots.{content, departures, name_number, bound_of}
-use Rattle.nr_core.specs.Steps.{Arrives, Asks, Departs, ReadsHeld, Telling, ask_word}
+use Rattle.nr_core.specs.Steps.{Arrives, Asks, Departs, ReadsHeld, ask_word}
 use Rattle.nr_core.specs.Story.{entry}
 use Rattle.nr_core.specs.Sums.{only}
 use Rattle.nr_core.specs.declared.roles.Desk.{Desk}
@@ -33,15 +32,16 @@ use Rattle.nr_core.specs.declared.roles.Grip.TheVariants.{Nothing, On}
 use Rattle.nr_core.specs.declared.roles.Role.{Role}
 use Rattle.nr_core.specs.declared.roles.Role.TheVariants.{Note, Reader, Writer}
 use Rattle.nr_core.specs.declared.shape.Shape.{Shape}
-use Rattle.nr_model.specs.declared.calls.Call.TheVariants as model
-use Rattle.nr_model.specs.declared.calls.Reply.TheVariants as reply
-use Rattle.nr_core.specs.Puts.{put_count, put_number}
+use Rattle.nr_core.specs.Puts.{put_number}
 use Rattle.nr_core.specs.Marks.{Marks, Past, acted, gripped}
 use Rattle.nr_core.specs.Marked.{Keeps, CanMark, Desked, Evolves, MarkTelling, Marked, Remarked, Since}
 use Rattle.nr_core.specs.MarkSteps.{ArrivesMarks, DepartsMarks, KeepsMarks}
 use Rattle.nr_core.proofs.ListPlaces.{no_places, some_is}
 use Rattle.nr_core.proofs.MarksSince.{SameContents, marked_reader, rests}
-use Rattle.nr_core.proofs.PutNumbers.{nil_count, nil_number, quiet_count, quiet_number}
+use Rattle.nr_core.proofs.Holders.{grip_in}
+use Rattle.nr_core.proofs.PutNumbers.{QuietEnd, none_end, one_ends}
+use Rattle.nr_model.specs.declared.calls.Call.TheVariants as model
+use Rattle.nr_model.specs.declared.calls.Reply.TheVariants as reply
 
 -- words of the keys that name the same after a step: on a key's word, behind the keys, by a load
 pub names_kept : (words : List ℕ) (i x : ℕ) → i < length words → name_number x ≡ name_number (get_or words i 0)
@@ -82,25 +82,16 @@ number_of (Writer e) = 0
 number_of (Reader a b) = a
 number_of Note = 0
 
-abbrev grip_of : Role → Grip
-grip_of (Writer e) = Nothing
-grip_of (Reader a b) = b
-grip_of Note = Nothing
-
-module _ {A : Type 0} (role : A → Role) (marks : A → Marks) (shape : Shape) (id : ℕ) (me : A) (known : List Past) where
+module _ {A : Type 0} {role : A → Role} {marks : A → Marks} {shape : Shape} {id : ℕ} {me : A} where
   -- a reader's step that leaves what the keys name and puts nothing
-  pub reader_step : (operation : Operation) (answers : Telling) (tells : MarkTelling) (words : List ℕ)
-      (callers : List A) (log : List Entry)
-      → Marked role marks shape words callers log → get_elem? callers id ≡ some me → (reader : ℕ) (x y : Grip)
-      → role me ≡ Reader reader x
-      → (after : Role) (entries : List Entry) → after ≡ Reader reader y
+  pub reader_step : {operation : Operation} {tells : MarkTelling} {words : List ℕ}
+      {callers : List A} {log : List Entry}
+      → Marked role marks shape words callers log → get_elem? callers id ≡ some me → {reader : ℕ} {x y : Grip}
+      → role me ≡ Reader reader x → {after : Role} {entries : List Entry} → after ≡ Reader reader y
       → ((key : ℕ) → key < shape.keys
       → name_number
       (get_or (set words (target_of operation) (becomes operation (get_or words (target_of operation) 0))) key
-      0)
-      ≡ name_number (get_or words key 0))
-      → ((key : ℕ) → put_number (log ++ entries) key ≡ put_number log key) → put_count (log ++ entries) ≡ put_count log
-      → (now : Marks) → now.polls ≡ (marks me).polls
+      0) ≡ name_number (get_or words key 0)) → QuietEnd log entries → (now : Marks) → now.polls ≡ (marks me).polls
       → ((gripped y ≡ gripped x) × (now.acts ≡ (marks me).acts) × (now.put ≡ (marks me).put))
       ⊎ ((marks me).acts < now.acts)
       → ((j slot : ℕ) (u : A) (desk : Desk) → get_elem? callers j ≡ some u → role u ≡ Writer desk
@@ -110,12 +101,13 @@ module _ {A : Type 0} (role : A → Role) (marks : A → Marks) (shape : Shape) 
       (set words (target_of operation) (becomes operation (get_or words (target_of operation) 0)))
       → tells (get_or words (target_of operation) 0) after (log ++ entries) now []
       → Remarked role marks shape words callers log id operation me after entries tells
-  reader_step operation answers tells words callers log m at reader x y was after entries is names puts many now
+  reader_step {operation = operation} {words = words} {callers = callers} {log = log} m at {reader = reader} {x = x}
+      {y = y} was {after = after} {entries = entries} is names quiet now
       same_polls moves holds contents told =
       let evolves : (who : A) → role who ≡ after → marks who ≡ now → Evolves role marks me who
       = λ who is_role is_marks c z e.
       let n : reader ≡ c = ap number_of (sym was ∙ e) in
-      let g : gripped x ≡ gripped z = ap (λ r. gripped (grip_of r)) (sym was ∙ e) in (
+      let g : gripped x ≡ gripped z = ap (λ r. gripped (grip_in r)) (sym was ∙ e) in (
         y,
         is_role ∙ is ∙ ap (λ (b : ℕ). Reader b y) n,
         ⊎_elim
@@ -132,7 +124,7 @@ module _ {A : Type 0} (role : A → Role) (marks : A → Marks) (shape : Shape) 
         marked = λ who is_role is_marks. marked_reader role marks shape words
             (set words (target_of operation) (becomes operation (get_or words (target_of operation) 0))) callers log
             (log ++ entries) id me who reader
-            x y at was (is_role ∙ is) (evolves who is_role is_marks) names puts many
+            x y at was (is_role ∙ is) (evolves who is_role is_marks) names quiet.0 quiet.1
             (λ j slot u desk there writes t e.
             let h = holds j slot u desk there writes t e in
             ((h.0.0 ∙ ap (λ (k : Marks). k.put) (sym is_marks), h.0.1), h.1))
@@ -141,76 +133,36 @@ module _ {A : Type 0} (role : A → Role) (marks : A → Marks) (shape : Shape) 
         told = told;
       }
 
-  -- a step after which the reader holds the same
-  same_hold : (operation : Operation) (answers : Telling) (reader : ℕ) (x : Grip) → role me ≡ Reader reader x
-      → ((words : List ℕ) (log entries : List Entry) (after : Role)
-      → answers (get_or words (target_of operation) 0) after entries → (y : Grip)
-      × (after ≡ Reader reader y) × (gripped y ≡ gripped x)
-      × ((key : ℕ) → put_number (log ++ entries) key ≡ put_number log key)
-      × (put_count (log ++ entries) ≡ put_count log))
-      → ((words : List ℕ) (roles : List Role) (log : List Entry) → Core shape words roles log → (key : ℕ)
-      → key < shape.keys
-      → name_number
-      (get_or (set words (target_of operation) (becomes operation (get_or words (target_of operation) 0))) key 0)
-      ≡ name_number
-      (get_or words key 0))
-      → ((words : List ℕ) (roles : List Role) (log : List Entry) → Core shape words roles log
-      → SameContents shape words
-      (set words (target_of operation) (becomes operation (get_or words (target_of operation) 0))))
-      → CanMark role marks shape id me known operation answers (KeepsMarks (marks me))
-  same_hold operation answers reader x was told names contents words callers log core m once at since after entries
-      ans =
-      let a = told words log entries after ans in
-      reader_step operation answers (KeepsMarks (marks me)) words callers log m at reader x a.0 was after entries a.1
-      (names words (map role callers) log core) a.3 a.4 (marks me) refl (inl (a.2, refl, refl))
-      (λ j slot u desk there writes t e. (t.held id reader slot me x at was (sym a.2 ∙ e), λ _. sym a.2 ∙ e))
-      (contents words (map role callers) log core) (refl, refl)
-
+module _ {A : Type 0} (role : A → Role) (marks : A → Marks) (shape : Shape) (id : ℕ) (me : A) (known : List Past) where
   pub asks_marked : (reader key : ℕ) → key < shape.keys → role me ≡ Reader reader Nothing
       → CanMark role marks shape id me known (Or key 1) (Asks reader key) (KeepsMarks (marks me))
-  asks_marked reader key near was = same_hold (Or key 1) (Asks reader key) reader Nothing was
-      (λ words log entries after a.
+  asks_marked reader key near was words callers log core m once at since after entries ans =
       let word : ℕ = get_or words key 0 in
-      let e = entry reader (model.Ask key) (ask_word word) in
-      let quiet = asks_nothing_done (slot_of word) (is_filled word) (has_ask word) in (
-        Nothing,
-        a.0,
-        refl,
-        (λ k. ap (λ l. put_number (log ++ l) k) a.1 ∙ quiet_number log e k quiet),
-        ap (λ l. put_count (log ++ l)) a.1 ∙ quiet_count log e quiet,
-      ))
-      (λ words roles log core k _.
       let wide = core.wide in
-      let word : ℕ = get_or words key 0 in
-      names_kept words key (bit_or word 1) (omega arith) (name-asked word (bit_or word 1) (with_ask_is word)) k)
-      (λ words roles log core. contents_behind shape words key _ near)
+      reader_step m at was ans.0
+      (λ k _. names_kept words key (bit_or word 1) (omega arith) (name-asked word (bit_or word 1) (with_ask_is word)) k)
+      (one_ends log entries (entry reader (model.Ask key) (ask_word word)) ans.1
+      (asks_nothing_done (slot_of word) (is_filled word) (has_ask word)))
+      (marks me) refl (inl (refl, refl, refl)) (λ j slot u desk there writes t e. absurd (cc))
+      (contents_behind shape words key _ near) (refl, refl)
 
   pub reads_marked : (reader slot index : ℕ) (rows : List Row) (sized : Bool)
       → role me ≡ Reader reader (On slot rows sized)
       → CanMark role marks shape id me known (Load (content shape slot index)) (ReadsHeld reader slot rows sized index)
       (KeepsMarks (marks me))
-  reads_marked reader slot index rows sized was =
-      same_hold (Load (content shape slot index)) (ReadsHeld reader slot rows sized index) reader (On slot rows sized)
-      was
-      (λ words log entries after a. (
-        On slot rows (cond (nat_eq index 0) true sized),
-        a.1,
-        refl,
-        (λ k. ap (λ l. put_number (log ++ l) k) a.2 ∙ nil_number log k),
-        ap (λ l. put_count (log ++ l)) a.2 ∙ nil_count log,
-      ))
-      (λ words roles log core k _. ap (λ l. name_number (get_or l k 0)) (set-get_or words (content shape slot index) 0))
-      (λ words roles log core. contents_loaded shape words (content shape slot index))
+  reads_marked reader slot index rows sized was words callers log core m once at since after entries ans =
+      let place : ℕ = content shape slot index in
+      reader_step m at was ans.1 (λ k _. ap (λ l. name_number (get_or l k 0)) (set-get_or words place 0))
+      (none_end log entries ans.2) (marks me) refl (inl (refl, refl, refl))
+      (λ j s u desk there writes t e. (t.held id reader s me (On slot rows sized) at was e, λ _. e))
+      (contents_loaded shape words place) (refl, refl)
 
   pub departs_marked : (reader slot : ℕ) (rows : List Row) (sized : Bool) → role me ≡ Reader reader (On slot rows sized)
       → CanMark role marks shape id me known (Add (departures shape slot) 1) (Departs reader) (DepartsMarks (marks me))
   departs_marked reader slot rows sized was words callers log core m once at since after entries ans =
       let i : ℕ = departures shape slot in let x : ℕ = (get_or words i 0 + 1) % 2 ^ 64 in
-      reader_step (Add i 1) (Departs reader) (DepartsMarks (marks me)) words callers log m at reader
-      (On slot rows sized) Nothing was after entries ans.0
-      (λ k l. ap name_number (names_behind words shape.keys i x (omega arith) k l))
-      (λ k. ap (λ l. put_number (log ++ l) k) ans.1 ∙ nil_number log k)
-      (ap (λ l. put_count (log ++ l)) ans.1 ∙ nil_count log)
+      reader_step m at was ans.0 (λ k l. ap name_number (names_behind words shape.keys i x (omega arith) k l))
+      (none_end log entries ans.1)
       (acted (marks me) (marks me).put) refl (inr (omega arith)) (λ j s u desk there writes t e. absurd (cc))
       (contents_counted shape words slot x) (refl, refl)
 
@@ -229,13 +181,11 @@ module _ {A : Type 0} (role : A → Role) (marks : A → Marks) (shape : Shape) 
       → ((slot : ℕ) → gripped y ≡ Some slot → name_number word ≡ suc slot) → Goal
       = λ y r quiet is is_entries holds.
       let e = entry reader (model.Find key) r in
-      let numbers : (k : ℕ) → put_number (log ++ entries) k ≡ put_number log k
-      = λ k. ap (λ l. put_number (log ++ l) k) is_entries ∙ quiet_number log e k quiet in
-      reader_step (Add key ARRIVE) (Arrives shape reader key) (ArrivesMarks (marks me) key) words callers log m at
-      reader Nothing y was after entries is (λ k _. names_kept words key x (omega arith) (name-bumped word) k)
-      numbers (ap (λ l. put_count (log ++ l)) is_entries ∙ quiet_count log e quiet) now refl (inr (omega arith))
+      let ends = one_ends log entries e is_entries quiet in
+      reader_step m at
+      was is (λ k _. names_kept words key x (omega arith) (name-bumped word) k) ends now refl (inr (omega arith))
       (λ j slot u desk there writes t on. let names = holds slot on in let kept = t.puts key slot near names in (
-        (kept.0 ∙ sym (numbers key), kept.1),
+        (kept.0 ∙ sym (ends.0 key), kept.1),
         λ l. absurd
             (let r = rests role marks shape words callers log j u desk slot core there writes l in
             let b = below-term (λ k. only (suc slot) (name_number (get_or words k 0))) shape.keys key near in

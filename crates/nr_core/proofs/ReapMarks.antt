@@ -1,8 +1,7 @@
 -- A poll by a reap: where it finds its slot held it notes a reader that holds it, and else the slot's set is reaped,
 -- which no key names and nobody holds.
 use Rattle.std.proofs.Common.{[], inl, List, ap, arith, false, get_or, get_or-set_other, map, refl, set, subst, suc}
-use Rattle.std.proofs.Common.{sym, true, ℕ, ◌%◌, ◌++◌, ◌<◌, ◌^◌, ◌∙◌, ◌∷◌, ◌≡◌, ◌≢◌, ◌≤◌}
-use Rattle.std.proofs.lemmas.Bool.{eqb-true}
+use Rattle.std.proofs.Common.{sym, true, ℕ, ◌++◌, ◌<◌, ◌∙◌, ◌∷◌, ◌≡◌, ◌≢◌}
 use Rattle.std.specs.Prelude.{Some}
 use lib.ListN.{get_elem?}
 use lib.Seq.{set-get_or}
@@ -10,8 +9,8 @@ use mathlib.Core.Option.{some}
 use Rattle.nr_model.specs.Histories.{Entry}
 use Rattle.nr_words.specs.KeyWords.{same_count}
 use Rattle.nr_core.proofs.Choices.{by_cases}
-use Rattle.nr_core.proofs.Sums.{below-term, only-le, only-same, term_le, total-le}
-use Rattle.nr_core.specs.Roles.{held, holds, is_reader}
+use Rattle.nr_core.proofs.Sums.{below-term, only-same, term_le}
+use Rattle.nr_core.specs.Roles.{holds}
 use Rattle.nr_core.specs.Steps.{LoadsWord}
 use Rattle.nr_core.specs.declared.operation.Operation.TheVariants.{Load}
 use Rattle.nr_core.specs.Slots.{departures, name_number}
@@ -20,24 +19,19 @@ use Rattle.nr_core.specs.declared.places.Place.TheVariants.{Idle}
 use Rattle.nr_core.specs.declared.places.Retired.{Retired}
 use Rattle.nr_core.specs.declared.roles.Desk.{Desk}
 use Rattle.nr_core.specs.declared.roles.Grip.{Grip}
-use Rattle.nr_core.specs.declared.roles.Grip.TheVariants.{Nothing, On}
 use Rattle.nr_core.specs.declared.roles.Role.{Role}
-use Rattle.nr_core.specs.declared.roles.Role.TheVariants.{Note, Reader, Writer}
+use Rattle.nr_core.specs.declared.roles.Role.TheVariants.{Reader, Writer}
 use Rattle.nr_core.specs.declared.shape.Shape.{Shape}
 use Rattle.nr_core.specs.Marks.{Marks, Past, LoggedLoad, gripped, with_poll, with_polls, with_reaped, with_scan}
 use Rattle.nr_core.specs.Marked.{AllSince, CanMark, Desked, HoldNoOthers, NotesPresent, Remarked, Since, Sweeping}
 use Rattle.nr_core.specs.MarkSteps.{ProbesMarks}
 use Rattle.nr_core.proofs.ListPlaces.{at_maps, no_places}
 use Rattle.nr_core.proofs.MarksSince.{rests}
-use Rattle.nr_core.proofs.DeskMarks.{desk_of, load_stays, none_end, writer_step}
+use Rattle.nr_core.proofs.DeskMarks.{desk_of, load_stays, writer_step}
 use Rattle.nr_core.proofs.Holders.{alone_more, holder_of, noted, present_more, since_more, tells_missed}
 use Rattle.nr_core.proofs.SwapMarks.{grips_it}
-
-holds_few : (s : ℕ) (r : Role) → holds s r ≤ is_reader r
-holds_few s (Writer desk) = omega arith
-holds_few s (Reader r Nothing) = omega arith
-holds_few s (Reader r (On t rows sized)) = only-le s t
-holds_few s Note = omega arith
+use Rattle.nr_core.proofs.Poll.{nobody_holds}
+use Rattle.nr_core.proofs.PutNumbers.{none_end}
 
 module _ {A : Type 0} (role : A → Role) (marks : A → Marks) where
   -- a slot's set is reaped that no key names and no reader holds
@@ -77,7 +71,7 @@ module _ {A : Type 0} (role : A → Role) (marks : A → Marks) where
         let word : ℕ = get_or words i 0 in
         let words' = set words i word in
         let roles = map role callers in
-        let own = desk_of role marks shape words callers log id me desk m at was in
+        let own = desk_of id m at was in
         let there : get_elem? roles id ≡ some (Writer desk) = at_maps role callers id me at ∙ ap some was in
         let count = ((core.knows id (Writer desk) there).retired poll entry here).1 in
         let listed = term_le (λ (y : Retired). only slot y.slot) desk.retired poll entry here in
@@ -90,22 +84,16 @@ module _ {A : Type 0} (role : A → Role) (marks : A → Marks) where
         let stays : (polls : List Past) (loads : List LoggedLoad) → AllSince role marks callers polls
         → HoldNoOthers role marks callers desk polls
         → Desked role marks shape words' callers (log ++ entries) desk (with_scan (marks me) polls loads)
-        = λ polls loads since others. load_stays role marks shape words callers log entries me i desk desk own
+        = λ polls loads since others. load_stays entries i own
         (none_end log entries ans.1) (λ s. omega arith) (λ s rest. rest) polls loads since
         (subst (Sweeping role marks callers desk polls) (sym idle) others) in
         let finish : (now : Marks) → NotesPresent role marks callers (marks me).polls now.polls
         → Desked role marks shape words' callers (log ++ entries) desk now
-        → tells word after (log ++ entries) now [] → Goal
-        = λ now noted desked told. writer_step role marks shape id me (Load i) tells words callers log core m at desk
-        desk was after entries (ans.0 ∙ was) now
-        [] (no_places (Since role marks callers)) noted desked told in
+        → tells word after (log ++ entries) now [] → Goal = λ now noted desked told. writer_step core m at
+        was (ans.0 ∙ was) now [] (no_places (Since role marks callers)) noted desked told in
         by_cases (λ b. same_count word entry.arrivals ≡ b → Goal) (same_count word entry.arrivals)
         (λ _ hit.
-        let few = core.few in
-        let fits = core.fits.readers in
-        let at_most = total-le (holds slot) is_reader (holds_few slot) roles in
-        let same : word % 2 ^ 40 ≡ entry.arrivals % 2 ^ 40 = eqb-true (word % 2 ^ 40) (entry.arrivals % 2 ^ 40) hit in
-        let nobody : held roles slot ≡ 0 = omega arith in
+        let nobody = nobody_holds core slot word entry.arrivals count hit in
         finish (with_reaped (with_poll (marks me) slot true) slot) (λ n e there'. inl there')
         (desk_reaped shape words' callers (log ++ entries) desk (with_poll (marks me) slot true) slot
         (stays (marks me).polls (with_poll (marks me) slot true).loads own.noted others)
@@ -126,16 +114,15 @@ module _ {A : Type 0} (role : A → Role) (marks : A → Marks) where
           rw hit refl,
         ))
         (λ _ miss.
-        let held = holder_of role marks callers slot word entry.arrivals count miss in
+        let held = holder_of slot word entry.arrivals count miss in
         let reader = held.0 in
-        let polls = (marks me).polls ++ noted role marks callers reader ∷ [] in
+        let polls = (marks me).polls ++ noted reader ∷ [] in
         finish (with_polls (with_poll (marks me) slot false) polls)
-        (present_more role marks callers reader (marks me).polls (marks me).polls (λ n e there'. inl there'))
-        (stays polls (with_poll (marks me) slot false).loads
-        (since_more role marks callers reader (marks me).polls own.noted)
-        (alone_more role marks callers reader (marks me).polls once desk others)) (
+        (present_more reader (marks me).polls (marks me).polls (λ n e there'. inl there'))
+        (stays polls (with_poll (marks me) slot false).loads (since_more reader (marks me).polls own.noted)
+        (alone_more reader (marks me).polls once desk others)) (
           refl,
-          rw miss (tells_missed role marks callers shape words log (marks me) desk m reader slot held.1 others
+          rw miss (tells_missed (marks me) desk m reader slot held.1 others
               (omega arith)),
         ))
         refl

@@ -9,16 +9,15 @@ use Rattle.nr_model.specs.declared.rows.Row.{Row}
 use Rattle.nr_words.specs.KeyWords.{same_count}
 use Rattle.nr_core.proofs.Choices.{by_cases}
 use Rattle.nr_core.proofs.Sums.{got_at, only-same, term_le, total-remove}
-use Rattle.nr_core.specs.Roles.{held}
 use Rattle.nr_core.specs.Core.{Core}
 use Rattle.nr_core.specs.Steps.{GivesUp, LoadsWord, Tries}
 use Rattle.nr_core.specs.declared.operation.Operation.TheVariants.{Load}
 use Rattle.nr_core.specs.Slots.{departures}
 use Rattle.nr_core.specs.States.{no_retired, retired_at}
 use Rattle.nr_core.specs.Sums.{only}
-use Rattle.nr_core.specs.Writer.{moved_to, taking_retired}
+use Rattle.nr_core.specs.Writer.{taking_retired}
 use Rattle.nr_core.specs.declared.calls.WriterCall.{WriterCall}
-use Rattle.nr_core.specs.declared.places.Place.TheVariants.{Idle, Searching}
+use Rattle.nr_core.specs.declared.places.Place.TheVariants.{Searching}
 use Rattle.nr_core.specs.declared.places.Retired.{Retired}
 use Rattle.nr_core.specs.declared.roles.Desk.{Desk}
 use Rattle.nr_core.specs.declared.roles.Grip.{Grip}
@@ -30,9 +29,10 @@ use Rattle.nr_core.specs.Marked.{AllSince, CanMark, HoldNoOthers, MarkTelling, M
 use Rattle.nr_core.specs.Marked.{Since, Sweeping, Sweeps, Untouched}
 use Rattle.nr_core.specs.MarkSteps.{KeepsMarks, TriesMarks, TryTells}
 use Rattle.nr_core.proofs.ListPlaces.{at_maps, no_places}
-use Rattle.nr_core.proofs.DeskMarks.{desk_of, load_step, none_end}
+use Rattle.nr_core.proofs.DeskMarks.{desk_of, load_step}
 use Rattle.nr_core.proofs.Holders.{ReaderThere, alone_more, holder_of, noted, present_more, since_more, tells_missed}
 use Rattle.nr_core.proofs.LookMarks.{no_notes, none_hold}
+use Rattle.nr_core.proofs.PutNumbers.{none_end}
 
 module _ {A : Type 0} (role : A → Role) (marks : A → Marks) where
   module _ (shape : Shape) (id : ℕ) (me : A) (known : List Past) (desk : Desk) (call : WriterCall) (rows : List Row)
@@ -61,7 +61,7 @@ module _ {A : Type 0} (role : A → Role) (marks : A → Marks) where
         → tells (get_or words place 0) after (log ++ entries) (with_scan (marks me) polls loads) []
         → Remarked role marks shape words callers log id (Load place) me after entries tells
     notes_now place tells words callers log core m at after entries is none polls loads since present others told =
-        load_step role marks shape words callers log entries me place desk desk id tells core m at was after is
+        load_step entries place core m at was is
         (none_end log entries none) (λ s. omega arith) (λ s rest. rest) polls loads since present
         (search_goes callers polls others) told
 
@@ -73,7 +73,7 @@ module _ {A : Type 0} (role : A → Role) (marks : A → Marks) where
         let slot : ℕ = entry.slot in
         let i : ℕ = departures shape slot in
         let word : ℕ = get_or words i 0 in
-        let own = desk_of role marks shape words callers log id me desk m at was in
+        let own = desk_of id m at was in
         let there : get_elem? (map role callers) id ≡ some (Writer desk)
         = at_maps role callers id me at ∙ ap some was in
         let here : get_elem? desk.retired poll ≡ some entry = got_at desk.retired poll no_retired low in
@@ -84,24 +84,21 @@ module _ {A : Type 0} (role : A → Role) (marks : A → Marks) where
         let Goal : Type 0 = Remarked role marks shape words callers log id (Load i) me after entries tells in
         let others = others_so callers own.sweep in
         by_cases (λ b. same_count word entry.arrivals ≡ b → after ≡ Writer (cond {A = Desk} b taken_it desk) → Goal)
-        (same_count word entry.arrivals)
-        (λ _ hit is. load_step role marks shape words callers log entries me i desk taken_it id tells core m at was
-        after is (none_end log entries ans.1)
+        (same_count word entry.arrivals) (λ _ hit is. load_step entries i core m at was is (none_end log entries ans.1)
         (λ s. let gone = total-remove (λ (y : Retired). only s y.slot) desk.retired poll entry here in omega arith)
         (λ s _. subst (Untouched s) (sym is_at) tt) (marks me).polls (with_poll (marks me) slot true).loads own.noted
         (λ n e there'. inl there') tt
         (refl, subst (λ b. TryTells b shape slot (marks me) (with_poll (marks me) slot true)) (sym hit) refl))
         (λ _ miss is.
-        let held = holder_of role marks callers slot word entry.arrivals count miss in
+        let held = holder_of slot word entry.arrivals count miss in
         let reader = held.0 in
-        let polls = (marks me).polls ++ noted role marks callers reader ∷ [] in
+        let polls = (marks me).polls ++ noted reader ∷ [] in
         notes_now i tells words callers log core m at after entries is ans.1 polls
-        (with_poll (marks me) slot false).loads
-        (since_more role marks callers reader (marks me).polls own.noted)
-        (present_more role marks callers reader (marks me).polls (marks me).polls (λ n e there'. inl there'))
-        (alone_more role marks callers reader (marks me).polls once desk others) (
+        (with_poll (marks me) slot false).loads (since_more reader (marks me).polls own.noted)
+        (present_more reader (marks me).polls (marks me).polls (λ n e there'. inl there'))
+        (alone_more reader (marks me).polls once desk others) (
           refl,
-          rw miss (tells_missed role marks callers shape words log (marks me) desk m reader slot held.1 others
+          rw miss (tells_missed (marks me) desk m reader slot held.1 others
               (omega arith)),
         ))
         refl ans.0
@@ -138,7 +135,7 @@ module _ {A : Type 0} (role : A → Role) (marks : A → Marks) where
     own_so : (words : List ℕ) (callers : List A) (log : List Entry) → Marked role marks shape words callers log
         → get_elem? callers id ≡ some me → OwnNotes callers
     own_so words callers log m at =
-        let own = desk_of role marks shape words callers log id me desk m at was in
+        let own = desk_of id m at was in
         (own.noted, others_so callers own.sweep)
 
     pub scans_marked : (base : List Past) → Begins base → (loads : List LoggedLoad) (place : ℕ)
@@ -167,20 +164,18 @@ module _ {A : Type 0} (role : A → Role) (marks : A → Marks) where
         let own = own_so words callers log m at in
         let one : ReaderThere role marks callers
         = record { place = other; who = who; reader = reader; grip = grip; there = here; is = reads } in
-        let polls = base ++ noted role marks callers one ∷ [] in
+        let polls = base ++ noted one ∷ [] in
         notes_now place (λ word after log now news. (now ≡ with_scan (marks me) polls loads) × (news ≡ [])) words
         callers log core m at after entries (ans.0 ∙ was) ans.1 polls loads
-        (since_more role marks callers one base (begins_since callers base begins own.0))
-        (present_more role marks callers one base (marks me).polls
+        (since_more one base (begins_since callers base begins own.0)) (present_more one base (marks me).polls
         (λ n e there'. inl (begins_there base begins n e there')))
-        (alone_more role marks callers one base once desk (begins_alone callers base begins own.1)) (refl, refl)
+        (alone_more one base once desk (begins_alone callers base begins own.1)) (refl, refl)
 
     -- or is given up
     pub gives_up_marked : (place : ℕ)
         → CanMark role marks shape id me known (Load place) (GivesUp desk) (KeepsMarks (marks me))
     gives_up_marked place words callers log core m once at sinces after entries ans =
-        let own = desk_of role marks shape words callers log id me desk m at was in
-        load_step role marks shape words callers log entries me place desk (moved_to desk Idle) id
-        (KeepsMarks (marks me)) core m at was after ans.0 (none_end log entries ans.1) (λ s. omega arith)
+        let own = desk_of id m at was in
+        load_step entries place core m at was ans.0 (none_end log entries ans.1) (λ s. omega arith)
         (λ s _. subst (Untouched s) (sym is_at) tt) (marks me).polls (marks me).loads own.noted
         (λ n e there'. inl there') (others_so callers own.sweep) (refl, refl)

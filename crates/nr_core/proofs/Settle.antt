@@ -1,6 +1,6 @@
 -- The writer's steps that leave all words: the call goes on, takes a slot or has none (settles), or ends with a reply
 -- (ends).
-use Rattle.std.proofs.Common.{[], List, ap, append-nil, arith, cond, get_or, length, map, nat_eq, refl, set, subst, sym}
+use Rattle.std.proofs.Common.{[], List, ap, append-nil, arith, cond, get_or, length, nat_eq, refl, set, subst, sym}
 use Rattle.std.proofs.Common.{ℕ, ◌++◌, ◌+◌, ◌<◌, ◌∙◌, ◌∷◌, ◌≡◌, ◌≢◌, ◌≤◌}
 use Rattle.std.proofs.lemmas.Bool.{eqb-false, lt-leb, ltb-false, ltb-true}
 use Rattle.std.specs.Prelude.{nat_lt}
@@ -19,8 +19,8 @@ use Rattle.nr_core.proofs.Frames.{unused-free}
 use Rattle.nr_core.proofs.Histories.{legal-more, replies_so, state_other, state_same}
 use Rattle.nr_core.proofs.OffKeys.{none_of}
 use Rattle.nr_core.proofs.Sums.{only-other, only-same}
-use Rattle.nr_core.specs.Core.{AtDesk, Core, Wants}
-use Rattle.nr_core.specs.Roles.{held, keeps}
+use Rattle.nr_core.specs.Core.{AtDesk, Core, Wants, AtPlace}
+use Rattle.nr_core.specs.Roles.{held, keeps, taken}
 use Rattle.nr_core.specs.Slots.{bound_of, unused}
 use Rattle.nr_core.specs.States.{key_of}
 use Rattle.nr_core.specs.Story.{call_of, ending, entry, map_after, opening_map}
@@ -30,11 +30,12 @@ use Rattle.nr_core.specs.declared.calls.Step.{Step}
 use Rattle.nr_core.specs.declared.calls.Step.TheVariants.{Ended, Going}
 use Rattle.nr_core.specs.declared.calls.WriterCall.{WriterCall}
 use Rattle.nr_core.specs.declared.calls.WriterCall.TheVariants.{Cancel, Evict, Fill, Find, Replace, Update}
-use Rattle.nr_core.specs.declared.places.Place.TheVariants.{Idle}
+use Rattle.nr_core.specs.declared.places.Place.TheVariants.{Idle, Searching}
 use Rattle.nr_core.specs.declared.roles.Desk.{Desk}
 use Rattle.nr_core.specs.declared.roles.Role.{Role}
 use Rattle.nr_core.specs.declared.roles.Role.TheVariants.{Writer}
 use Rattle.nr_core.specs.declared.shape.Shape.{Shape}
+use Rattle.nr_core.specs.declared.places.Place.{Place}
 use Rattle.nr_core.specs.declared.calls.WReply.TheVariants as writer
 
 -- 1 of a slot that was never taken, and what a taking leaves
@@ -67,10 +68,15 @@ own_ending call Going b = none_of (nat_eq 0 b)
 own_ending call (Ended (writer.Reply y)) b = refl
 own_ending call (Ended (writer.NoSlot n)) b = none_of (nat_eq 0 b)
 
-pub idle_desk : (shape : Shape) (words : List ℕ) (map : PartialMap) (hold : ℕ → ℕ) (desk : Desk)
-    → AtDesk shape words map hold desk → AtDesk shape words map hold (moved_to desk Idle)
-idle_desk shape words map hold desk t =
-    record { place = tt; room = t.room; free = t.free; retired = t.retired; numbers = t.numbers }
+-- the desk at another stage, where the writer knows what it should there, and keeps the same slots
+pub moved_desk : {shape : Shape} {words : List ℕ} {map : PartialMap} {hold : ℕ → ℕ} {desk : Desk}
+    → AtDesk shape words map hold desk → (place : Place) → AtPlace shape words map hold desk.fresh desk.retired place
+    → AtDesk shape words map hold (moved_to desk place)
+moved_desk t place at = record { place = at; room = t.room; free = t.free; retired = t.retired; numbers = t.numbers }
+
+pub keeps_moved : (desk : Desk) (from to : Place) → desk.place ≡ from → ((s : ℕ) → taken s to ≡ taken s from) → (s : ℕ)
+    → keeps s (Writer (moved_to desk to)) ≡ keeps s (Writer desk)
+keeps_moved desk from to is same s = let here = ap (taken s) is in let there = same s in omega arith
 
 module _ (shape : Shape) (words : List ℕ) (map : PartialMap) (hold : ℕ → ℕ) (desk : Desk) (call : WriterCall)
     (rows : List Row) where
@@ -100,13 +106,7 @@ module _ (shape : Shape) (words : List ℕ) (map : PartialMap) (hold : ℕ → �
       on_test (λ (o : Desk × Step). AtDesk shape words map hold o.0) (nat_eq (length desk.retired) 0) (λ _. t)
       (λ some_there.
       let n : length desk.retired ≢ 0 = eqb-false (length desk.retired) 0 some_there in
-      record {
-        place = (wants, omega arith, full);
-        room = t.room;
-        free = t.free;
-        retired = t.retired;
-        numbers = t.numbers;
-      }))
+      moved_desk t (Searching call rows 0) (wants, omega arith, full)))
 
   settle_keeps : (s : ℕ) → keeps s (Writer (settled shape desk call rows).0) ≡ keeps s (Writer (moved_to desk Idle))
   settle_keeps s =
@@ -120,8 +120,8 @@ module _ (shape : Shape) (words : List ℕ) (map : PartialMap) (hold : ℕ → �
       on_test Quiet (nat_lt desk.fresh shape.slots) (λ _. refl)
       (λ _. on_test Quiet (nat_eq (length desk.retired) 0) (λ _. refl) (λ _. refl))
 
-module _ (shape : Shape) (words : List ℕ) (roles : List Role) (log : List Entry) (core : Core shape words roles log)
-    (id : ℕ) (desk : Desk) (there : get_elem? roles id ≡ some (Writer desk)) (place : ℕ) where
+module _ {shape : Shape} {words : List ℕ} {roles : List Role} {log : List Entry} (core : Core shape words roles log)
+    (id : ℕ) {desk : Desk} (there : get_elem? roles id ≡ some (Writer desk)) (place : ℕ) where
   -- a step on a word that stays, which ends the call with a reply and changes no state
   pub ends : (desk' : Desk) (c : Call) (y : Reply) → call_key c < shape.keys
       → reply_at (bound_of shape) c (state_of (map_after shape log) (call_key c)) ≡ y
@@ -130,8 +130,7 @@ module _ (shape : Shape) (words : List ℕ) (roles : List Role) (log : List Entr
       → ((s : ℕ) → keeps s (Writer desk') ≡ keeps s (Writer desk))
       → AtDesk shape words (map_after shape log) (held roles) desk'
       → Core shape (set words place (get_or words place 0)) (set roles id (Writer desk')) (log ++ entry 0 c y ∷ [])
-  ends desk' c y near replies stays same own =
-      desk_step shape words roles log (entry 0 c y ∷ []) core id desk desk' place there
+  ends desk' c y near replies stays same own = desk_step (entry 0 c y ∷ []) core id place there
       (legal-more shape log (entry 0 c y) core.legal (sym (replies_so shape log c ∙ replies)))
       (λ j. dite (ℕ_discrete j (call_key c)) (λ e. ap (state_of (map_after shape (log ++ entry 0 c y ∷ []))) e
       ∙ state_same shape log (entry 0 c y) near ∙ stays ∙ ap (state_of (map_after shape log)) (sym e))
@@ -142,10 +141,17 @@ module _ (shape : Shape) (words : List ℕ) (roles : List Role) (log : List Entr
   pub goes_on : (desk' : Desk) → ((s : ℕ) → keeps s (Writer desk') ≡ keeps s (Writer desk))
       → AtDesk shape words (map_after shape log)
       (held roles) desk' → Core shape (set words place (get_or words place 0)) (set roles id (Writer desk')) (log ++ [])
-  goes_on desk' same own = desk_step shape words roles log [] core id desk desk' place there
+  goes_on desk' same own = desk_step [] core id place there
       (subst (IsLegal (opening_map shape)) (sym (append-nil log)) core.legal)
       (λ j. ap (λ l. state_of (map_after shape l) j) (append-nil log))
       (λ s _. same s) own
+
+  -- the call is at another stage, which keeps the same slots
+  pub moves : {from : Place} → desk.place ≡ from → (to : Place) → ((s : ℕ) → taken s to ≡ taken s from)
+      → AtPlace shape words (map_after shape log) (held roles) desk.fresh desk.retired to
+      → Core shape (set words place (get_or words place 0)) (set roles id (Writer (moved_to desk to))) (log ++ [])
+  moves {from} is to same at = goes_on (moved_to desk to) (keeps_moved desk from to is same)
+      (moved_desk (core.knows id (Writer desk) there) to at)
 
   -- a call that finds a slot for its set, or polls, or has none
   pub settles : (call : WriterCall) (rows : List Row)
@@ -158,4 +164,4 @@ module _ (shape : Shape) (words : List ℕ) (roles : List Role) (log : List Entr
       (goes_on (settled shape desk call rows).0
       (λ s. settle_keeps shape words (map_after shape log) (held roles) desk call rows s ∙ same s)
       (settle_desk shape words (map_after shape log) (held roles) desk call rows
-      (idle_desk shape words (map_after shape log) (held roles) desk (core.knows id (Writer desk) there)) wants))
+      (moved_desk (core.knows id (Writer desk) there) Idle tt) wants))

@@ -1,5 +1,5 @@
 -- What the core state of a story says in the words of the law: what stands between any two steps.
-use Rattle.std.proofs.Common.{Bool, List, ap, arith, cond, false, get_or, inl, inr, length, map, nat_eq, subst, suc}
+use Rattle.std.proofs.Common.{Bool, List, ap, arith, cond, false, get_or, inl, inr, length, map, nat_eq, suc}
 use Rattle.std.proofs.Common.{sym, true, ℕ, ⊎_elim, ◌%◌, ◌*◌, ◌+◌, ◌-◌, ◌<◌, ◌^◌, ◌∙◌, ◌≡◌, ◌≤◌, ◌⊎◌}
 use Rattle.std.proofs.lemmas.Bool.{eqb-true, leb-true, lt-leb}
 use Rattle.std.specs.Prelude.{None, Ok, Option, Some, nat_le}
@@ -16,7 +16,7 @@ use Rattle.nr_core.proofs.Counting.{named_inside}
 use Rattle.nr_core.proofs.Guards.{guard}
 use Rattle.nr_core.proofs.Reach.{none_beyond}
 use Rattle.nr_core.proofs.Shown.{shown_is}
-use Rattle.nr_core.proofs.StateRoles.{Found, IsCoreState, erased, state_sums}
+use Rattle.nr_core.proofs.StateRoles.{IsCoreState, erased, state_sums, found_of, reader_of}
 use Rattle.nr_core.proofs.Sums.{got_at, only-is, only-same, term_le}
 use Rattle.nr_core.specs.Core.{AtPlace}
 use Rattle.nr_core.specs.Laws.{HoldsFound, Stands, map_of}
@@ -95,54 +95,46 @@ reads_word state reader slot size rows index holds_it known spelt ok =
     ∙ ap (λ (y : Hold). Ok (get_or state.words (content state.shape (slot_in y) index) 0)) holds_it
     ∙ ap (λ (w : ℕ). Ok w) (spelt index low)
 
-pub holding : (story : Story) → IsCoreState story.state story.history → (r s : ℕ) (n : Option ℕ) → 0 < r
-    → hold_of story.state r ≡ hold.On s n → HoldsFound story r s n
-holding story is_core r s n low e =
-    let state = story.state in
-    let size = is_core.fit.size in
-    let i : ℕ = r - 1 in
-    let number : suc i ≡ r = omega arith in
-    let within : i < state.shape.readers
-    = dite (dec_le state.shape.readers i)
-    (λ l.
-    let z : 0 ≡ suc s = ap hold_number (sym (none_beyond state.holds i (omega arith)) ∙ e) in
-    absurd (omega arith))
-    (λ l. omega arith) in
-    let o = is_core.fit.readers i within in
-    let x = erased_is o.0 s n (sym o.2 ∙ e) in
-    let there_is : get_elem? is_core.roles (suc i) ≡ some (Reader (suc i) (On s x.0 x.1))
-    = o.1 ∙ ap (λ (g : Grip). some (Reader (suc i) g)) x.2 in
-    let knows = is_core.core.knows (suc i) (Reader (suc i) (On s x.0 x.1)) there_is in
-    let found_it : Found story.history r x.0
-    = subst (λ (c : ℕ). Found story.history c x.0) number (is_core.found i s x.0 x.1 there_is) in
-    record {
-      at = found_it.0;
-      rows = x.0;
-      before = found_it.1;
-      found = found_it.2;
-      row_set = knows.1.0;
-      spelt = knows.1.1;
-      known = x.3;
-      reads = λ index ok. reads_word state r s n x.0 index e x.3 knows.1.1 ok;
-    }
+-- a reader that holds a slot, by its role
+module _ (story : Story) (is_core : IsCoreState story.state story.history) (r s : ℕ) (n : Option ℕ) (low : 0 < r)
+    (holds_it : hold_of story.state r ≡ hold.On s n) where
+  holder_role : (rows : List Row) × (b : Bool) × (get_elem? is_core.roles r ≡ some (Reader r (On s rows b)))
+      × ((n ≡ None) ⊎ (n ≡ Some (length rows)))
+  holder_role =
+      let size = is_core.fit.size in
+      let high : r ≤ story.state.shape.readers
+      = dite (dec_le r story.state.shape.readers) (λ l. l)
+      (λ l.
+      let z : 0 ≡ suc s = ap hold_number (sym (none_beyond story.state.holds (r - 1) (omega arith)) ∙ holds_it) in
+      absurd (omega arith)) in
+      let o = reader_of is_core.fit r low high in
+      let x = erased_is o.0 s n (sym o.2 ∙ holds_it) in
+      (x.0, x.1, o.1 ∙ ap (λ (g : Grip). some (Reader r g)) x.2, x.3)
 
--- a reader that holds a slot is counted, and its slot is in range
-pub holder : (story : Story) (is_core : IsCoreState story.state story.history) → (r s : ℕ) (n : Option ℕ) → 0 < r
-    → hold_of story.state r ≡ hold.On s n → (0 < held is_core.roles s) × (s < story.state.shape.slots)
-holder story is_core r s n low e = let state = story.state in let size = is_core.fit.size in let i : ℕ = r - 1 in
-    let within : i < state.shape.readers
-    = dite (dec_le state.shape.readers i)
-    (λ l.
-    let z : 0 ≡ suc s = ap hold_number (sym (none_beyond state.holds i (omega arith)) ∙ e) in
-    absurd (omega arith))
-    (λ l. omega arith) in
-    let o = is_core.fit.readers i within in
-    let x = erased_is o.0 s n (sym o.2 ∙ e) in
-    let there_is : get_elem? is_core.roles (suc i) ≡ some (Reader (suc i) (On s x.0 x.1))
-    = o.1 ∙ ap (λ (g : Grip). some (Reader (suc i) g)) x.2 in
-    let part = term_le (holds s) is_core.roles (suc i) (Reader (suc i) (On s x.0 x.1)) there_is in
-    let one = only-same s in
-    (omega arith, (is_core.core.knows (suc i) (Reader (suc i) (On s x.0 x.1)) there_is).0)
+  pub holding : HoldsFound story r s n
+  holding =
+      let state = story.state in
+      let role = holder_role in
+      let knows = is_core.core.knows r (Reader r (On s role.0 role.1)) role.2 in
+      let found_it = found_of state story.history is_core r low s role.0 role.1 role.2 in
+      record {
+        at = found_it.0;
+        rows = role.0;
+        before = found_it.1;
+        found = found_it.2;
+        row_set = knows.1.0;
+        spelt = knows.1.1;
+        known = role.3;
+        reads = λ index ok. reads_word state r s n role.0 index holds_it role.3 knows.1.1 ok;
+      }
+
+  -- is counted, and its slot is in range
+  pub holder : (0 < held is_core.roles s) × (s < story.state.shape.slots)
+  holder =
+      let role = holder_role in
+      let part = term_le (holds s) is_core.roles r (Reader r (On s role.0 role.1)) role.2 in
+      let one = only-same s in
+      (omega arith, (is_core.core.knows r (Reader r (On s role.0 role.1)) role.2).0)
 
 pub stands : (story : Story) → IsCoreState story.state story.history → Stands story
 stands story is_core =
@@ -174,7 +166,7 @@ stands story is_core =
             state.desk.place desk.place
             (omega arith));
       };
-      held = λ r s n low e. holding story is_core r s n low e;
+      held = holding story is_core;
       sent = λ k near. sends_are_answered_lem shape.keys (bound_of shape) shape.first_number k story.history core.legal
           near;
     }

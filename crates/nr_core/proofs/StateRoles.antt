@@ -1,8 +1,8 @@
 -- The roles of a state's callers: the writer first, then the readers, who know the set that they found beside what they
 -- hold.
-use Rattle.std.proofs.Common.{Bool, List, [], ap, append-nil, arith, cond, eq-eqb, get_or, get_or-set_other}
+use Rattle.std.proofs.Common.{Bool, List, [], ap, append-nil, arith, cond, eq-eqb, get_or, get_or-set_other, sym, ◌-◌}
 use Rattle.std.proofs.Common.{get_or-set_same, length, length-set, ne_eqb, refl, set, subst, suc, ℕ, ⊎_elim, ◌++◌, ◌+◌}
-use Rattle.std.proofs.Common.{◌<◌, ◌∙◌, ◌∷◌, ◌≡◌, ◌≢◌}
+use Rattle.std.proofs.Common.{◌<◌, ◌∙◌, ◌∷◌, ◌≡◌, ◌≢◌, ◌≤◌}
 use Rattle.std.specs.Prelude.{None, Some}
 use lib.ListN.{get_elem?}
 use mathlib.Core.Logic.{dite}
@@ -29,8 +29,10 @@ use Rattle.nr_core.specs.declared.roles.Desk.{Desk}
 use Rattle.nr_core.specs.declared.roles.Grip.{Grip}
 use Rattle.nr_core.specs.declared.roles.Grip.TheVariants.{Nothing, On}
 use Rattle.nr_core.specs.declared.roles.Role.{Role}
-use Rattle.nr_core.specs.declared.roles.Role.TheVariants.{Note, Reader, Writer}
+use Rattle.nr_core.specs.declared.roles.Role.TheVariants.{Reader, Writer}
 use Rattle.nr_core.proofs.ListPlaces.{set_other}
+use Rattle.nr_core.specs.declared.operation.Operation.{Operation}
+use Rattle.nr_core.proofs.Holders.{grip_in}
 use Rattle.nr_core.specs.declared.places.Hold.TheVariants as hold
 use Rattle.nr_model.specs.declared.calls.Call.TheVariants as model
 use Rattle.nr_model.specs.declared.calls.Reply.TheVariants as reply
@@ -46,6 +48,15 @@ pub record Fit (n : ℕ) (roles : List Role) (holds : List Hold) (desk : Desk) :
   pub writer : get_elem? roles 0 ≡ some (Writer desk)
   pub readers : (i : ℕ) → i < n
       → (x : Grip) × (get_elem? roles (suc i) ≡ some (Reader (suc i) x)) × (get_or holds i hold.Nothing ≡ erased x)
+
+-- the reader of that number and what it holds
+pub reader_of : {n : ℕ} {roles : List Role} {holds : List Hold} {desk : Desk} → Fit n roles holds desk → (r : ℕ)
+    → 0 < r → r ≤ n
+    → (x : Grip) × (get_elem? roles r ≡ some (Reader r x)) × (get_or holds (r - 1) hold.Nothing ≡ erased x)
+reader_of {roles = roles} f r low high =
+    let number : suc (r - 1) ≡ r = omega arith in
+    let o = f.readers (r - 1) (omega arith) in
+    (o.0, subst (λ (c : ℕ). get_elem? roles c ≡ some (Reader c o.0)) number o.1, o.2)
 
 pub fit_reader : (n : ℕ) (roles : List Role) (holds : List Hold) (desk : Desk) → Fit n roles holds desk → (i : ℕ)
     → i < n → (x : Grip) (y : Hold) → y ≡ erased x → Fit n (set roles (suc i) (Reader (suc i) x)) (set holds i y) desk
@@ -103,13 +114,8 @@ found_quiet log es c rows none f = (
   of-append c log es ∙ ap (λ (l : List Entry). entries_of log c ++ l) none ∙ append-nil (entries_of log c) ∙ f.2,
 )
 
-abbrev grip_of : Role → Grip
-grip_of (Writer desk) = Nothing
-grip_of (Reader c x) = x
-grip_of Note = Nothing
-
 pub same_grip : (c c' : ℕ) (x x' : Grip) → Reader c x ≡ Reader c' x' → x ≡ x'
-same_grip c c' x x' e = ap grip_of e
+same_grip c c' x x' e = ap grip_in e
 
 abbrev grip_number : Grip → ℕ
 grip_number Nothing = 0
@@ -147,11 +153,54 @@ found_writer roles log es desk all quiet j s rows b e =
     (⊎_elim (λ (t : (suc j ≡ 0) × (Writer desk ≡ Reader (suc j) (On s rows b))). absurd (omega (arith, t.0)))
     (λ t. all j s rows b t.1) (at_set roles 0 (suc j) (Writer desk) (Reader (suc j) (On s rows b)) e))
 
+-- the set that a reader found last
+pub found_of : (state : State) (log : List Entry) (is_core : IsCoreState state log) (r : ℕ) → 0 < r → (s : ℕ)
+    (rows : List Row) (b : Bool)
+    → get_elem? is_core.roles r ≡ some (Reader r (On s rows b)) → Found log r rows
+found_of state log is_core r low s rows b there =
+    let number : suc (r - 1) ≡ r = omega arith in
+    subst (λ (c : ℕ). Found log c rows) number
+    (is_core.found (r - 1) s rows b
+    (subst (λ (c : ℕ). get_elem? is_core.roles c ≡ some (Reader c (On s rows b))) (sym number) there))
+
+-- a reader's event leads to such a state, if the reader's hold and the set that it found are its role's
+pub after_reader : (state : State) (log : List Entry) (is_core : IsCoreState state log) (r : ℕ) → 0 < r
+    → r ≤ state.shape.readers
+    → (words : List ℕ) (holds : List Hold) (made : List Operation) (x : Grip) (y : Hold)
+    → holds ≡ set state.holds (r - 1) y → y ≡ erased x → (es : List Entry)
+    → Core state.shape words (set is_core.roles r (Reader r x)) (log ++ es)
+    → ((c : ℕ) → r ≢ c → entries_of es c ≡ [])
+    → ((s : ℕ) (rows : List Row) (b : Bool) → x ≡ On s rows b → Found (log ++ es) r rows)
+    → IsCoreState (record { shape = state.shape; words = words; holds = holds; desk = state.desk; made = made })
+    (log ++ es)
+after_reader state log is_core r low high words holds made x y holds_so is es core quiet own =
+    let roles = is_core.roles in let i : ℕ = r - 1 in let number : suc i ≡ r = omega arith in record {
+      roles = set roles r (Reader r x);
+      core = core;
+      fit =
+          rw holds_so
+          (subst (λ (c : ℕ). Fit state.shape.readers (set roles c (Reader c x)) (set state.holds i y) state.desk) number
+          (fit_reader state.shape.readers roles state.holds state.desk is_core.fit i (omega arith) x y is));
+      found =
+          subst (λ (c : ℕ). AllFound (set roles c (Reader c x)) (log ++ es)) number
+          (found_set roles log es i x is_core.found (λ j ne. quiet (suc j) (λ z. ne (omega arith)))
+          (λ s rows b e. subst (λ (c : ℕ). Found (log ++ es) c rows) (sym number) (own s rows b e)));
+    }
+
 pub one_other : (c n : ℕ) (call : Call) (y : Reply) → c ≢ n → entries_of (entry c call y ∷ []) n ≡ []
 one_other c n call y ne = ap (λ b. cond {A = List Entry} b (entry c call y ∷ []) []) (ne_eqb c n ne)
 
 pub one_same : (c n : ℕ) (call : Call) (y : Reply) → c ≡ n → entries_of (entry c call y ∷ []) n ≡ entry c call y ∷ []
 one_same c n call y e = ap (λ b. cond {A = List Entry} b (entry c call y ∷ []) []) (eq-eqb c n e)
+
+pub found_now : (log : List Entry) (c k : ℕ) (rows : List Row)
+    → Found (log ++ entry c (model.Find k) (reply.Rows rows) ∷ []) c rows
+found_now log c k rows = let e = entry c (model.Find k) (reply.Rows rows) in (
+  k,
+  entries_of log c,
+  of-append c log (e ∷ []) ∙ ap (λ (l : List Entry). entries_of log c ++ l)
+      (one_same c c (model.Find k) (reply.Rows rows) refl),
+)
 
 pub ending_other : (call : Call) (state : Step) (j : ℕ) → entries_of (ending call state) (suc j) ≡ []
 ending_other call Going j = refl

@@ -51,9 +51,9 @@ unnamed_at l w i x =
     (λ _ e. inl (subst (λ (y : List Retired). get_elem? y i ≡ some x) (append-nil l) e))
 
 -- another word is swapped in for a key's word
-pub swap_step : (shape : Shape) (words : List ℕ) (roles : List Role) (log : List Entry)
-    (core : Core shape words roles log) (id : ℕ) (desk : Desk)
-    → get_elem? roles id ≡ some (Writer desk) → (k x : ℕ) (c : Call) (y : Reply) (numbers : List ℕ) → k < shape.keys
+pub swap_step : {shape : Shape} {words : List ℕ} {roles : List Role} {log : List Entry}
+    (core : Core shape words roles log) (id : ℕ) {desk : Desk}
+    → get_elem? roles id ≡ some (Writer desk) → (k x : ℕ) (c : Call) (y : Reply) {numbers : List ℕ} → k < shape.keys
     → call_key c ≡ k
     → reply_at (bound_of shape) c (state_of (map_after shape log) k) ≡ y
     → ShowsState shape words x (state_after (bound_of shape) c (state_of (map_after shape log) k))
@@ -64,7 +64,8 @@ pub swap_step : (shape : Shape) (words : List ℕ) (roles : List Role) (log : Li
     → Core shape (set words k x)
     (set roles id (Writer (record (swapped desk (get_or words k 0)) { numbers = numbers })))
     (log ++ entry 0 c y ∷ [])
-swap_step shape words roles log core id desk is_there k x c y numbers near at_k replies shown took counted listed =
+swap_step {shape = shape} {words = words} {roles = roles} {log = log} core id {desk = desk} is_there k x c y
+    {numbers = numbers} near at_k replies shown took counted listed =
     let w : ℕ = get_or words k 0 in
     let desk' : Desk = record (swapped desk w) { numbers = numbers } in
     let map = map_after shape log in
@@ -105,9 +106,7 @@ swap_step shape words roles log core id desk is_there k x c y numbers near at_k 
           (unnamed_at desk.retired w i z at_i);
       numbers = listed;
     } in
-    rename shape words roles log (e ∷ []) core id desk desk' k x near is_there
-    (legal-more shape log e core.legal
-    (sym
+    rename (e ∷ []) core id k x near is_there (legal-more shape log e core.legal (sym
     (replies_so shape log c ∙ ap (λ (j : ℕ). reply_at (bound_of shape) c (state_of map j)) at_k ∙ replies)))
     (λ j ne. state_other shape log e j (λ z. ne (z ∙ at_k)))
     (subst (ShowsState shape words x) (sym same) shown)

@@ -34,23 +34,23 @@ use Rattle.nr_core.specs.declared.roles.Grip.TheVariants.{Nothing, On}
 use Rattle.nr_core.specs.declared.roles.Role.{Role}
 use Rattle.nr_core.specs.declared.roles.Role.TheVariants.{Reader, Writer}
 use Rattle.nr_core.specs.declared.shape.Shape.{Shape}
-use Rattle.nr_model.specs.declared.calls.Call.TheVariants as model
-use Rattle.nr_model.specs.declared.states.KeyState.TheVariants as key
-use Rattle.nr_model.specs.declared.calls.Reply.TheVariants as reply
 use Rattle.nr_core.specs.Puts.{put_count, put_number, puts_at}
 use Rattle.nr_core.specs.Marks.{Marks, Past, gripped, with_name, without_name, set_in}
 use Rattle.nr_core.specs.Marked.{CanMark, Desked, HoldNoOthers, Since, Sweeping, lives, Untouched}
 use Rattle.nr_core.specs.MarkSteps.{KeepsMarks, PublishesMarks, UnpublishesMarks}
 use Rattle.nr_core.proofs.ListPlaces.{at_maps, no_places, some_is}
-use Rattle.nr_core.proofs.PutNumbers.{count_more, put_more, quiet_count, quiet_number}
+use Rattle.nr_core.proofs.PutNumbers.{count_more, put_more, quiet_count, quiet_number, QuietEnd, nothing_ends}
 use Rattle.nr_core.proofs.ReaderMarks.{names_behind, names_kept, contents_behind}
 use Rattle.nr_core.proofs.LookMarks.{none_hold}
-use Rattle.nr_core.proofs.DeskMarks.{QuietEnd, desk_keep, desk_of, desk_stay, nothing_ends, writer_step}
+use Rattle.nr_core.proofs.DeskMarks.{desk_keep, desk_of, desk_stay, writer_step}
 use Rattle.nr_core.proofs.MarksSince.{SameContents}
 use Rattle.nr_core.proofs.Frames.{spells_more, stands_at}
 use Rattle.nr_core.proofs.Swap.{unnamed_sum}
 use Rattle.nr_core.proofs.WordPlaces.{same_content}
 use Rattle.nr_words.proofs.SetWordLemmas.{length-row_words}
+use Rattle.nr_model.specs.declared.calls.Call.TheVariants as model
+use Rattle.nr_model.specs.declared.states.KeyState.TheVariants as key
+use Rattle.nr_model.specs.declared.calls.Reply.TheVariants as reply
 
 -- who holds a slot is counted there
 pub grips_it : (grip : Grip) (slot : ℕ) → gripped grip ≡ Some slot → grips slot grip ≡ 1
@@ -60,6 +60,21 @@ grips_it (On s rows sized) slot e = ap (only slot) (some_is s slot e) ∙ only-s
 -- the word of a hole names no slot
 hole_names_none : (number : ℕ) → name_number (hole_word number false) ≡ 0
 hole_names_none number = name_low (hole_word number false) (λ z. omega arith)
+
+-- how often a slot lives after another word was swapped in for a key's word
+lives_swapped : (shape : Shape) (words : List ℕ) (desk : Desk) (k x : ℕ) → k < shape.keys → k < length words → (s : ℕ)
+    → lives shape (set words k x) (swapped desk (get_or words k 0)) s
+    ≡ lives shape words desk s + only (suc s) (name_number x)
+lives_swapped shape words desk k x near inside s =
+    let word : ℕ = get_or words k 0 in
+    let change = below-change (λ j. only (suc s) (name_number (get_or (set words k x) j 0)))
+    (λ j. only (suc s) (name_number (get_or words j 0))) shape.keys k near
+    (λ j ne. ap (λ (y : ℕ). only (suc s) (name_number y)) (get_or-set_other words k j x 0 ne)) in
+    let here : only (suc s) (name_number (get_or (set words k x) k 0)) ≡ only (suc s) (name_number x)
+    = ap (λ (y : ℕ). only (suc s) (name_number y)) (get_or-set_same words k x 0 inside) in
+    let more = total-append (λ (y : Retired). only s y.slot) desk.retired (unnamed word) in
+    let gone = unnamed_sum s word in
+    omega arith
 
 abbrev index : List ℕ → ℕ → ℕ
 index l i = get_or l i 0
@@ -169,15 +184,13 @@ module _ {A : Type 0} (role : A → Role) (marks : A → Marks) where
         let i : ℕ = content shape slot at in
         let x : ℕ = get_or (encode rows) at 0 in
         let desk' = moved_to desk (Putting call rows slot departed (at + 1)) in
-        let own = desk_of role marks shape words callers log id me desk m there was in
+        let own = desk_of id m there was in
         let roles = map role callers in
         let there' : get_elem? roles id ≡ some (Writer desk) = at_maps role callers id me there ∙ ap some was in
-        let p = stands_at shape words roles log core id desk there' _ is_at in
+        let p = stands_at core id there' is_at in
         let short = p.wants.row_set.1 in
-        writer_step role marks shape id me (Store i x) (KeepsMarks (marks me)) words callers log core m there desk desk'
-        was after entries ans.0 (marks me)
-        [] (no_places (Since role marks callers)) (λ place note here. inl here)
-        (desk_stay role marks shape words (set words i x) callers log entries desk desk' (marks me) (marks me).polls own
+        writer_step core m there was ans.0 (marks me)
+        [] (no_places (Since role marks callers)) (λ place note here. inl here) (desk_stay entries own
         (names_behind words shape.keys i x (omega arith)) (subst (QuietEnd log) (sym ans.1) (nothing_ends log))
         (λ s. omega arith) own.noted tt
         (λ s _ untouched. (
@@ -202,9 +215,9 @@ module _ {A : Type 0} (role : A → Role) (marks : A → Marks) where
         let words' = set words k x in
         let desk' = swapped desk word in
         let e = entry 0 (call_of call) reply.Done in
-        let own = desk_of role marks shape words callers log id me desk m there was in let roles = map role callers in
+        let own = desk_of id m there was in let roles = map role callers in
         let at' : get_elem? roles id ≡ some (Writer desk) = at_maps role callers id me there ∙ ap some was in
-        let p = stands_at shape words roles log core id desk at' _ is_at in
+        let p = stands_at core id at' is_at in
         let near : k < shape.keys = p.wants.near in
         let in_range : slot < shape.slots = p.inside in
         let nobody : held roles slot ≡ 0 = p.nobody in
@@ -229,9 +242,7 @@ module _ {A : Type 0} (role : A → Role) (marks : A → Marks) where
         = λ i ne. ne_eqb (call_key (call_of call)) i (λ z. ne (sym z ∙ key_same call)) in
         let n : ℕ = put_count log in
         let many : put_count (log ++ e ∷ []) ≡ suc n = let z = count_more log e in omega arith in
-        writer_step role marks shape id me (Swap k x) (PublishesMarks (marks me) k slot rows) words callers log core m
-        there desk desk' was after
-        entries ans.0 (with_name (marks me) k slot n rows)
+        writer_step core m there was ans.0 (with_name (marks me) k slot n rows)
         [] (no_places (Since role marks callers)) (λ place note here. absurd (some-ne-none note (sym here)))
         (rw ans.1
         (desk_put shape words words' callers log (log ++ e ∷ []) desk desk' (marks me) k slot own near in_range
@@ -246,14 +257,8 @@ module _ {A : Type 0} (role : A → Role) (marks : A → Marks) where
         (λ i ne. put_more log e i ∙ ap (λ b. cond b n (put_number log i)) (no i ne))
         many
         (λ s l on.
-        let change
-        = below-change (λ j. only (suc s) (name_number (get_or words' j 0)))
-        (λ j. only (suc s) (name_number (get_or words j 0))) shape.keys k near
-        (λ j ne. ap (λ (y : ℕ). only (suc s) (name_number y)) (other j ne)) in
-        let at_k : only (suc s) (name_number (get_or words' k 0)) ≡ only s slot
-        = ap (only (suc s)) (ap name_number here ∙ name) ∙ only-suc s slot in
-        let more = total-append (λ (y : Retired). only s y.slot) desk.retired (unnamed word) in
-        let gone = unnamed_sum s word in
+        let living = lives_swapped shape words desk k x near (omega arith) s in
+        let named : only (suc s) (name_number x) ≡ only s slot = ap (only (suc s)) name ∙ only-suc s slot in
         dite (ℕ_discrete s slot) (λ z. inl z)
         (λ ne. let none = only-other s slot (λ z. ne (sym z)) in inr (omega arith)))
         (none_hold role marks callers desk') rows spells
@@ -276,21 +281,18 @@ module _ {A : Type 0} (role : A → Role) (marks : A → Marks) where
         let words' = set words k x in
         let desk' = swapped desk word in
         let e = entry 0 (model.Evict k) reply.Evicted in
-        let own = desk_of role marks shape words callers log id me desk m there was in let roles = map role callers in
+        let own = desk_of id m there was in let roles = map role callers in
         let at' : get_elem? roles id ≡ some (Writer desk) = at_maps role callers id me there ∙ ap some was in
-        let p = stands_at shape words roles log core id desk at' _ is_at in
+        let p = stands_at core id at' is_at in
         let reads = p.1 in let near : k < shape.keys = reads.near in let wide = core.wide in let wide' = own.wide.0 in
         let quiet : (marks me).polls ≡ [] = subst (Sweeping role marks callers desk (marks me).polls) is_at own.sweep in
         let here : name_number (get_or words' k 0) ≡ 0
         = ap name_number (get_or-set_same words k x 0 (omega arith)) ∙ hole_names_none (number_at desk k) in
         let other : (i : ℕ) → i ≢ k → get_or words' i 0 ≡ get_or words i 0
         = λ i ne. get_or-set_other words k i x 0 ne in
-        writer_step role marks shape id me (Swap k x) (UnpublishesMarks (marks me) k) words callers log core m there
-        desk desk' was after entries
+        writer_step core m there was
         ans.0 (without_name (marks me) k) [] (no_places (Since role marks callers)) (λ place note here. inl here)
-        (rw ans.1 (desk_keep role marks shape words words' callers log (log ++ e ∷ []) desk desk' (marks me)
-        (set (marks me).names k 0) (marks me).polls own (length-set (marks me).names k 0 ∙ wide')
-        (λ i l. dite (ℕ_discrete i k)
+        (rw ans.1 (desk_keep own (length-set (marks me).names k 0 ∙ wide') (λ i l. dite (ℕ_discrete i k)
         (λ z. ap (index (set (marks me).names k 0)) z ∙ get_or-set_same (marks me).names k 0 0 (omega arith)
         ∙ sym here ∙ ap (λ (y : ℕ). name_number (get_or words' y 0)) (sym z))
         (λ ne. get_or-set_other (marks me).names k i 0 0 ne ∙ own.names i l ∙ sym (ap name_number (other i ne))))
@@ -302,13 +304,9 @@ module _ {A : Type 0} (role : A → Role) (marks : A → Marks) where
         (λ ne. ap name_number (sym (other i ne)) ∙ z))
         (λ i. quiet_number log e i refl) (quiet_count log e refl)
         (λ s l on.
-        let change
-        = below-change (λ j. only (suc s) (name_number (get_or words' j 0)))
-        (λ j. only (suc s) (name_number (get_or words j 0))) shape.keys k near
-        (λ j ne. ap (λ (y : ℕ). only (suc s) (name_number y)) (other j ne)) in
-        let at_k : only (suc s) (name_number (get_or words' k 0)) ≡ 0 = ap (only (suc s)) here ∙ only-zero s in
-        let more = total-append (λ (y : Retired). only s y.slot) desk.retired (unnamed word) in
-        let gone = unnamed_sum s word in
+        let living = lives_swapped shape words desk k x near (omega arith) s in
+        let none : only (suc s) (name_number x) ≡ 0
+        = ap (only (suc s)) (hole_names_none (number_at desk k)) ∙ only-zero s in
         omega arith)
         own.noted (subst (HoldNoOthers role marks callers desk') (sym quiet) (none_hold role marks callers desk'))
         (λ s _ _. (subst (Untouched s) (sym is_at) tt, contents_behind shape words k x near s))))
@@ -325,21 +323,17 @@ module _ {A : Type 0} (role : A → Role) (marks : A → Marks) where
         let words' = set words k x in
         let desk' = withdrawn desk k in
         let e = entry 0 (model.Cancel k) reply.Cancelled in
-        let own = desk_of role marks shape words callers log id me desk m there was in let roles = map role callers in
+        let own = desk_of id m there was in let roles = map role callers in
         let at' : get_elem? roles id ≡ some (Writer desk) = at_maps role callers id me there ∙ ap some was in
-        let p = stands_at shape words roles log core id desk at' _ is_at in
+        let p = stands_at core id at' is_at in
         let near : k < shape.keys = p.near in let wide = core.wide in
         let quiet : (marks me).polls ≡ [] = subst (Sweeping role marks callers desk (marks me).polls) is_at own.sweep in
         let shown : ShowsState shape words (get_or words k 0) (key.Asked p.number)
         = subst (ShowsState shape words (get_or words k 0)) p.asked (core.shows k near) in
         let same : (i : ℕ) → name_number (get_or words' i 0) ≡ name_number (get_or words i 0)
         = names_kept words k x (omega arith) (hole_names_none (number_at desk k + 1) ∙ sym shown.0) in
-        writer_step role marks shape id me (Swap k x) (KeepsMarks (marks me)) words callers log core m there desk desk'
-        was after entries ans.0 (marks me)
-        [] (no_places (Since role marks callers)) (λ place note here. inl here)
-        (rw ans.1
-        (desk_keep role marks shape words words' callers log (log ++ e ∷ []) desk desk' (marks me) (marks me).names
-        (marks me).polls own own.wide.0
+        writer_step core m there was ans.0 (marks me)
+        [] (no_places (Since role marks callers)) (λ place note here. inl here) (rw ans.1 (desk_keep own own.wide.0
         (λ i l. own.names i l ∙ sym (same i)) (λ i s l z. sym (same i) ∙ z) (λ i. quiet_number log e i refl)
         (quiet_count log e refl)
         (λ s l on.

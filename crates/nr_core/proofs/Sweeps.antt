@@ -6,47 +6,38 @@
 use Rattle.std.proofs.Common.{[], List, ap, arith, cond, get_or, get_or-set_other, get_or-set_same, inl, inr, length}
 use Rattle.std.proofs.Common.{map, nat_eq, refl, set, subst, suc, sym, take, zero, ℕ, ⊎_elim, ◌%◌, ◌*◌, ◌++◌, ◌+◌, ◌-◌}
 use Rattle.std.proofs.Common.{◌/◌, ◌<◌, ◌^◌, ◌∙◌, ◌∷◌, ◌≡◌, ◌≢◌, ◌≤◌, ◌⊎◌}
-use Rattle.std.proofs.lemmas.Bool.{eqb-false, eqb-true, ltb-true}
+use Rattle.std.proofs.lemmas.Bool.{eqb-false, eqb-true}
 use Rattle.std.proofs.lemmas.List.{length-append, map-append}
-use Rattle.std.specs.Prelude.{Err, None, Ok, Option, Result, Some, nat_le, nat_lt, ◌&&◌}
+use Rattle.std.specs.Prelude.{None, nat_le, nat_lt}
 use lib.ListN.{get_elem?}
 use lib.Seq.{take-suc}
 use mathlib.Core.Logic.{dite}
 use mathlib.Core.Option.{some, some-injective, some-ne-none}
 use native.Mathlib.Decide.{ℕ_discrete}
-use Rattle.nr_model.specs.Batches.{applied}
 use Rattle.nr_model.specs.Histories.{Entry}
-use Rattle.nr_model.specs.Maps.{last_number, state_of}
-use Rattle.nr_model.specs.declared.batches.ApplyFault.{ApplyFault}
-use Rattle.nr_model.specs.declared.rows.Row.{Row}
-use Rattle.nr_words.specs.KeyWords.{has_ask, is_filled, slot_of}
+use Rattle.nr_model.specs.Maps.{state_of}
+use Rattle.nr_words.specs.KeyWords.{is_filled, slot_of}
 use Rattle.nr_core.proofs.Bound.{Distinct, Noted, few_notes, noted_poll, noted_step}
 use Rattle.nr_core.proofs.Choices.{by_cases, on_test}
-use Rattle.nr_core.proofs.Guards.{both, guard, reader_in}
 use Rattle.nr_core.proofs.KeyWords.{name_high}
 use Rattle.nr_core.proofs.ListPlaces.{at_last}
 use Rattle.nr_core.proofs.OnKey.{in_range}
-use Rattle.nr_core.proofs.Poll.{polls}
 use Rattle.nr_core.proofs.StateRoles.{IsCoreState, state_sums}
 use Rattle.nr_core.proofs.Sums.{below-term, got_at, only-is, only-same, some_term, term_le, terms_le}
 use Rattle.nr_core.specs.Accounts.{on}
 use Rattle.nr_core.specs.Machine.{moved, read_hold}
 use Rattle.nr_core.specs.Operations.{going, target_of}
-use Rattle.nr_core.specs.Refusals.{has_key, has_reader, if_holding, if_not_holding, if_unreadable, refusal}
-use Rattle.nr_core.specs.Roles.{held}
-use Rattle.nr_core.specs.Slots.{bound_of, content, name_number}
+use Rattle.nr_core.specs.Refusals.{refusal}
+use Rattle.nr_core.specs.Slots.{content, name_number}
 use Rattle.nr_core.specs.States.{Arrive, Ask, Depart, Event, FindAgain, Go, Read, Start, State, hold_of, key_of}
 use Rattle.nr_core.specs.States.{no_retired, retired_at, slot_in}
 use Rattle.nr_core.specs.Story.{Poll, holders_from, is_on, map_after, poll_at, polls_after}
 use Rattle.nr_core.specs.Sums.{only, total}
-use Rattle.nr_core.specs.Writer.{decided, decoded, looked, moved_to, no_slot, read_on, renewed, settled, taking_retired}
+use Rattle.nr_core.specs.Writer.{moved_to, no_slot, taking_retired}
 use Rattle.nr_core.specs.Writer.{went}
-use Rattle.nr_words.specs.SetWords.{decode}
 use Rattle.nr_core.specs.declared.operation.Operation.{Operation}
 use Rattle.nr_core.specs.declared.calls.Step.{Step}
 use Rattle.nr_core.specs.declared.calls.Step.TheVariants.{Going}
-use Rattle.nr_core.specs.declared.calls.WriterCall.{WriterCall}
-use Rattle.nr_core.specs.declared.calls.WriterCall.TheVariants.{Cancel, Evict, Fill, Find, Replace, Update}
 use Rattle.nr_core.specs.declared.places.Hold.{Hold}
 use Rattle.nr_core.specs.declared.places.Place.{Place}
 use Rattle.nr_core.specs.declared.places.Place.TheVariants.{Idle, Leaving, Putting, Reading, Searching, Withdrawing}
@@ -55,9 +46,10 @@ use Rattle.nr_core.specs.declared.roles.Desk.{Desk}
 use Rattle.nr_core.specs.declared.roles.Role.TheVariants.{Writer}
 use Rattle.nr_core.specs.declared.shape.Shape.{Shape}
 use Rattle.nr_core.proofs.Frames.{stands_at}
+use Rattle.nr_model.specs.declared.states.KeyState.{KeyState}
+use Rattle.nr_core.proofs.Guards.{at_reader, at_reader_key}
+use Rattle.nr_core.proofs.Outcomes.{OfOutcomes, ShownBy, looked_has, read_has}
 use Rattle.nr_core.specs.declared.places.Hold.TheVariants as hold
-use Rattle.nr_core.specs.declared.calls.Refusal.TheVariants as refuse
-use Rattle.nr_model.specs.declared.calls.Reply.TheVariants as reply
 
 -- how often reader c, counted from 0, holds slot u, and how often u is retired
 abbrev pub holds_at : State → ℕ → ℕ → ℕ
@@ -92,11 +84,12 @@ pub record Swept (state : State) (polls : List Poll) : Type 0 where
   pub held : (i : ℕ) → i < length polls → 0 < length (get_or polls i (record { slot = 0; holders = [] })).holders
 
 -- a reader's step keeps a sweep: who comes to hold a slot holds one that is named
-keeps_notes : (state : State) (words : List ℕ) (hs : List Hold) (made : List Operation) (polls : List Poll) (p : ℕ)
+keeps_notes : (state : State) (words : List ℕ) (hs : List Hold) (made : List Operation) (place : Place)
+    (polls : List Poll) (p : ℕ)
     → ((c u : ℕ) → 0 < on u (get_or hs c hold.Nothing) → (0 < holds_at state c u) ⊎ (retirements_of state u ≡ 0))
-    → Notes state polls p
-    → Notes (record { shape = state.shape; words = words; holds = hs; desk = state.desk; made = made }) polls p
-keeps_notes state words hs made polls p step n = record {
+    → Notes state polls p → Notes
+    (record { shape = state.shape; words = words; holds = hs; desk = moved_to state.desk place; made = made }) polls p
+keeps_notes state words hs made place polls p step n = record {
   notes = n.notes;
   size = n.size;
   polled = n.polled;
@@ -254,7 +247,7 @@ reader_swept state words hs made polls step s =
     go (Reading call u got) t = t
     go (Leaving k) t = tt
     go (Withdrawing k) t = tt
-    go (Searching call rows p) t = keeps_notes state words hs made polls p step t
+    go (Searching call rows p) t = keeps_notes state words hs made state.desk.place polls p step t
     go (Putting call rows u departed i) t = tt
 
 other_reader : (state : State) (i : ℕ) (x : Hold) → i < length state.holds
@@ -290,53 +283,18 @@ module _ (shape : Shape) (words : List ℕ) (hs : List Hold) (made : List Operat
   abbrev Good : List Poll → Desk × Step → Type 0
   Good polls o = AtSweep (with_desk o.0) polls o.0.place
 
-  settle_good : (desk : Desk) (call : WriterCall) (rows : List Row) (polls : List Poll) → polls ≡ []
-      → Good polls (settled shape desk call rows)
-  settle_good desk call rows polls none =
-      on_test (Good polls) (nat_lt desk.fresh shape.slots) (λ _. tt)
-      (λ _. on_test (Good polls) (nat_eq (length desk.retired) 0) (λ _. tt)
-      (λ _. no_notes (moved_to desk (Searching call rows 0)) polls none))
-
-  look_good : (desk : Desk) (call : WriterCall) (w : ℕ) → Good [] (looked shape desk call w)
-  look_good desk (Find k) w = on_test (Good []) (is_filled w) (λ _. refl) (λ _. tt)
-  look_good desk (Update k b) w = on_test (Good []) (is_filled w) (λ _. refl) (λ _. tt)
-  look_good desk (Replace k rows) w =
-      on_test (Good []) (is_filled w) (λ _. settle_good desk (Replace k rows) rows [] refl) (λ _. tt)
-  look_good desk (Evict k) w = on_test (Good []) (is_filled w) (λ _. tt) (λ _. tt)
-  look_good desk (Fill k number rows) w =
-      on_test (Good []) (is_filled w) (λ _. tt)
-      (λ _. on_test (Good []) (has_ask w)
-      (λ _. on_test (Good []) (nat_eq (slot_of w) number)
-      (λ _. settle_good desk (Fill k number rows) rows [] refl) (λ _. tt))
-      (λ _. tt))
-  look_good desk (Cancel k) w =
-      on_test (Good []) (is_filled w) (λ _. tt)
-      (λ _. on_test (Good []) (has_ask w)
-      (λ _. on_test (Good []) (nat_lt (slot_of w) last_number) (λ _. tt) (λ _. tt)) (λ _. tt))
-
-  decided_good : (desk : Desk) (call : WriterCall) (rows : List Row) (polls : List Poll) → polls ≡ []
-      → Good polls (decided shape desk call rows)
-  decided_good desk (Find k) rows polls none = tt
-  decided_good desk (Fill k number new) rows polls none = tt
-  decided_good desk (Replace k new) rows polls none = tt
-  decided_good desk (Evict k) rows polls none = tt
-  decided_good desk (Cancel k) rows polls none = tt
-  decided_good desk (Update k b) rows polls none = go (applied (bound_of shape) rows b)
-    where
-      go : (a : Result (List Row) ApplyFault) → Good polls (renewed shape desk (Update k b) a)
-      go (Ok new) = settle_good desk (Update k b) new polls none
-      go (Err f) = tt
-
-  decoded_good : (desk : Desk) (call : WriterCall) (found : Option (List Row)) (polls : List Poll) → polls ≡ []
-      → Good polls (decoded shape desk call found)
-  decoded_good desk call None polls none = tt
-  decoded_good desk call (Some rows) polls none = decided_good desk call rows polls none
-
-  read_good : (desk : Desk) (call : WriterCall) (s : ℕ) (got : List ℕ) (polls : List Poll) → polls ≡ []
-      → Good polls (read_on shape desk call s got)
-  read_good desk call s got polls none =
-      on_test (Good polls) (nat_eq (length got) (2 * get_or got 0 0 + 1))
-      (λ _. decoded_good desk call (decode got) polls none) (λ _. none)
+  good : (desk : Desk) (polls : List Poll) → polls ≡ [] → (shown : KeyState → Type 0)
+      → OfOutcomes shape desk shown (λ _. Good polls)
+  good desk polls none shown = record {
+    reads = λ _ _ _. none;
+    leaves = λ _. tt;
+    withdraws = λ _. tt;
+    replies = λ _ _ _. tt;
+    gives_up = λ _. tt;
+    takes = λ _ _. tt;
+    searches = λ call rows. no_notes (moved_to desk (Searching call rows 0)) polls none;
+    none = λ _ _ _ _. tt;
+  }
 
 got_or : (l : List Hold) (j : ℕ) (x : Hold) → get_elem? l j ≡ some x → (get_or l j hold.Nothing ≡ x) × (j < length l)
 got_or [] j x e = absurd (some-ne-none x (sym e))
@@ -389,8 +347,9 @@ go_swept state log polls is_core s Idle is w w_is words made =
     }
 go_swept state log polls is_core s (Reading call t got) is w w_is words made = record {
   few = s.few;
-  sweep = read_good state.shape words state.holds made state.desk call t (got ++ w ∷ []) polls
-      (subst (AtSweep state polls) is s.sweep);
+  sweep = read_has state.shape state.desk (λ _. Good state.shape words state.holds made polls)
+      (good state.shape words state.holds made state.desk polls (subst (AtSweep state polls) is s.sweep)) call t
+      (got ++ w ∷ []);
   held = s.held;
 }
 go_swept state log polls is_core s (Leaving k) is w w_is words made = record { few = s.few; sweep = tt; held = s.held }
@@ -408,7 +367,7 @@ go_swept state log polls is_core sw (Searching call rows p) is w w_is words made
     let s = z.slot in
     let n : Notes state polls p = subst (AtSweep state polls) is sw.sweep in
     let known = is_core.core.knows 0 (Writer desk) is_core.fit.writer in
-    let at_p = stands_at shape state.words is_core.roles log is_core.core 0 desk is_core.fit.writer _ is in
+    let at_p = stands_at is_core.core 0 is_core.fit.writer is in
     let within = at_p.1 in
     let count = (known.retired p z (got_at desk.retired p no_retired within)).1 in
     let Taken : Desk = taking_retired desk call rows p w in
@@ -434,18 +393,8 @@ go_swept state log polls is_core sw (Searching call rows p) is w w_is words made
       few = omega (arith, length-append polls (poll_at state p ∷ []));
       sweep = on_test (Good shape words state.holds made (polls ++ poll_at state p ∷ []))
           (nat_lt (p + 1) (length desk.retired))
-          (λ _.
-          let m = more.0 in
-          record {
-            notes = m.notes;
-            size = m.size;
-            polled = m.polled;
-            slots = m.slots;
-            which = m.which;
-            noted = m.noted;
-            distinct = m.distinct;
-          })
-          (λ _. tt);
+          (λ _. keeps_notes state words state.holds made (Searching call rows (p + 1)) (polls ++ poll_at state p ∷ [])
+          (p + 1) (λ c u held_so. inl held_so) more.0) (λ _. tt);
       held =
           all_more has_holder polls (poll_at state p) (record { slot = 0; holders = [] }) sw.held
           (some_holder s state.holds 1 held_there);
@@ -454,43 +403,36 @@ go_swept state log polls is_core sw (Searching call rows p) is w w_is words made
 pub swept_event : (state : State) (log : List Entry) (polls : List Poll) (event : Event) → IsCoreState state log
     → Swept state polls → refusal state event ≡ None → Swept (moved state event) (polls_after state polls event)
 swept_event state log polls (Arrive r k) is_core s ok =
-    let g
-    = guard (has_reader state.shape r && has_key state.shape k) (if_holding (hold_of state r)) refuse.OutOfRange
-    ok in
-    let b = both (has_reader state.shape r) (has_key state.shape k) g.0 in
-    let i = reader_in state.shape r b.0 in
-    let lo = i.0 in
-    let hi = i.1 in
+    let at = at_reader_key state.shape r k _ ok in
     let size = is_core.fit.size in
     reader_swept state (moved state (Arrive r k)).words (moved state (Arrive r k)).holds (moved state (Arrive r k)).made
-    polls (arrive_step state log is_core r k (omega arith) (ltb-true k state.shape.keys b.1)) s
+    polls (arrive_step state log is_core r k (omega (arith, at.0, at.1)) at.2) s
 swept_event state log polls (Ask r k) is_core s ok =
     reader_swept state (moved state (Ask r k)).words state.holds (moved state (Ask r k)).made polls
     (λ c u more. inl more) s
 swept_event state log polls (Read r p) is_core s ok =
-    let g = guard (has_reader state.shape r) (if_unreadable p (hold_of state r)) refuse.OutOfRange ok in
-    let i = reader_in state.shape r g.0 in
-    let lo = i.0 in let hi = i.1 in let size = is_core.fit.size in
+    let at = at_reader state.shape r _ ok in
+    let size = is_core.fit.size in
     let w = get_or state.words (content state.shape (slot_in (hold_of state r)) p) 0 in
     reader_swept state (moved state (Read r p)).words (moved state (Read r p)).holds (moved state (Read r p)).made polls
-    (other_reader state (r - 1) (read_hold p w (hold_of state r)) (omega arith)
+    (other_reader state (r - 1) (read_hold p w (hold_of state r)) (omega (arith, at.0, at.1))
     (λ u more. omega (arith, read_same p w u (hold_of state r))))
     s
 swept_event state log polls (Depart r) is_core s ok =
-    let g = guard (has_reader state.shape r) (if_not_holding (hold_of state r)) refuse.OutOfRange ok in
-    let i = reader_in state.shape r g.0 in
-    let lo = i.0 in
-    let hi = i.1 in
+    let at = at_reader state.shape r _ ok in
     let size = is_core.fit.size in
     reader_swept state (moved state (Depart r)).words (moved state (Depart r)).holds (moved state (Depart r)).made polls
-    (other_reader state (r - 1) hold.Nothing (omega arith) (λ u more. absurd (omega arith))) s
+    (other_reader state (r - 1) hold.Nothing (omega (arith, at.0, at.1)) (λ u more. absurd (omega arith))) s
 swept_event state log polls (FindAgain r k) is_core s ok =
     reader_swept state (moved state (FindAgain r k)).words state.holds (moved state (FindAgain r k)).made polls
     (λ c u more. inl more) s
 swept_event state log polls (Start call) is_core s ok = record {
   few = omega arith;
-  sweep = look_good state.shape (moved state (Start call)).words
-      state.holds (moved state (Start call)).made state.desk call (get_or state.words (key_of call) 0);
+  sweep =
+      let after = moved state (Start call) in
+      let word = get_or state.words (key_of call) 0 in
+      looked_has state.shape state.desk (λ _. Good state.shape after.words state.holds after.made []) word
+      (good state.shape after.words state.holds after.made state.desk [] refl (ShownBy state.shape word)) call;
   held = λ i low. absurd (omega arith);
 }
 swept_event state log polls Go is_core s ok =

@@ -39,10 +39,10 @@ each_once [] n inside = refl
 each_once (x ∷ l) n inside =
     omega (arith, (below-only x.slot n).0 (inside 0 x refl), each_once l n (λ i y e. inside (suc i) y e))
 
-pub taken_are : (shape : Shape) (words : List ℕ) (roles : List Role) (log : List Entry) (id : ℕ) (desk : Desk)
+pub taken_are : {shape : Shape} {words : List ℕ} {roles : List Role} {log : List Entry} (id : ℕ) {desk : Desk}
     → Core shape words roles log → get_elem? roles id ≡ some (Writer desk) → ((slot : ℕ) → taken slot desk.place ≡ 0)
     → filled_count (map_after shape log) + length desk.retired ≡ desk.fresh
-taken_are shape words roles log id desk core there free =
+taken_are {shape = shape} {words = words} {roles = roles} {log = log} id {desk = desk} core there free =
     let mine = core.knows id (Writer desk) there in let room = mine.room in
     let each : (slot : ℕ) → slot < shape.slots
     → (named shape words slot + unused slot desk.fresh) + retirements slot desk.retired ≡ 1

@@ -1,26 +1,25 @@
 -- In every state the writer's lists are as they should be: put numbers of named and retired slots differ, and the lists
 -- agree with the history.
 use Rattle.std.proofs.Common.{List, [], ap, arith, false, get_or, length, map, refl, subst, suc, sym, true, zero, ℕ}
-use Rattle.std.proofs.Common.{⊎_elim, ◌<◌, ◌∙◌, ◌∷◌, ◌≡◌, ◌≢◌, ◌≤◌}
+use Rattle.std.proofs.Common.{⊎_elim, ◌<◌, ◌∙◌, ◌∷◌, ◌≡◌, ◌≤◌, ◌+◌}
 use lib.ListN.{get_elem?}
 use mathlib.Core.Logic.{dite}
 use mathlib.Core.Option.{some, some-injective, some-ne-none}
-use native.Mathlib.Decide.{dec_le, ℕ_discrete}
+use native.Mathlib.Decide.{ℕ_discrete}
 use Rattle.nr_model.specs.Histories.{Entry}
 use Rattle.nr_model.specs.Maps.{is_filled_key, state_of}
 use Rattle.nr_model.specs.declared.states.KeyState.{KeyState}
 use Rattle.nr_core.proofs.Counting.{named_inside, retired_once}
-use Rattle.nr_core.proofs.Sums.{below-term, below-terms, only-is, only-le, only-same, some_term, term_le, terms_le}
+use Rattle.nr_core.proofs.Sums.{below-term, only-is, only-le, only-same, some_term, term_le, below-first, below-same}
 use Rattle.nr_core.specs.Core.{Core, ShowsState}
-use Rattle.nr_core.specs.Slots.{name_number}
+use Rattle.nr_core.specs.Slots.{name_number, named}
 use Rattle.nr_core.specs.Story.{map_after}
-use Rattle.nr_core.specs.Sums.{only, total}
+use Rattle.nr_core.specs.Sums.{only, total, below}
 use Rattle.nr_core.specs.declared.places.Retired.{Retired}
 use Rattle.nr_core.specs.declared.roles.Desk.{Desk}
 use Rattle.nr_core.specs.declared.roles.Role.{Role}
 use Rattle.nr_core.specs.declared.roles.Role.TheVariants.{Writer}
 use Rattle.nr_core.specs.declared.shape.Shape.{Shape}
-use Rattle.nr_model.specs.declared.states.KeyState.TheVariants as key
 use Rattle.nr_core.specs.Puts.{put_count}
 use Rattle.nr_core.specs.Marks.{Marks}
 use Rattle.nr_core.specs.Pasts.{Living}
@@ -29,18 +28,20 @@ use Rattle.nr_core.specs.Exact.{Lists, Tidy, named_puts, retired_puts}
 use Rattle.nr_core.proofs.HowOften.{count_is, how_often}
 use Rattle.nr_core.proofs.ListPlaces.{at_maps, inside}
 use Rattle.nr_core.proofs.TakenSlots.{taken_are}
+use Rattle.nr_model.specs.declared.states.KeyState.TheVariants as key
 
-two_terms : {A : Type 0} (g : A → ℕ) (l : List A) → ((a : A) → g a ≤ 1) → 1 < total g l
-    → (i : ℕ) × (j : ℕ) × (a : A) × (b : A) × (j ≢ i) × (get_elem? l i ≡ some a) × (get_elem? l j ≡ some b) × (0 < g a)
-    × (0 < g b)
-two_terms g [] most l = absurd (omega arith)
-two_terms g (x ∷ xs) most l = let m = most x in dite (ℕ_discrete (g x) 0)
-    (λ z.
-    let t = two_terms g xs most (omega arith) in
-    (suc t.0, suc t.1, t.2, t.3, (λ e. t.4 (omega arith)), t.5, t.6, t.7, t.8))
-    (λ nz.
-    let t = some_term g xs (omega arith) in
-    (zero, suc t.0, x, t.1, (λ e. absurd (omega arith)), refl, t.2, omega arith, t.3))
+pub below-list : (f : ℕ → ℕ) (l : List ℕ) → total f l ≡ below (λ i. f (get_or l i 0)) (length l)
+below-list f [] = refl
+below-list f (x ∷ xs) =
+    let t = below-list f xs in
+    let u = below-first (λ i. f (get_or (x ∷ xs) i 0)) (length xs) in
+    omega arith
+
+total-le_at : {A : Type 0} (f g : A → ℕ) (l : List A) → ((i : ℕ) (a : A) → get_elem? l i ≡ some a → f a ≤ g a)
+    → total f l ≤ total g l
+total-le_at f g [] each = omega arith
+total-le_at f g (x ∷ xs) each =
+    omega (arith, each 0 x refl, total-le_at f g xs (λ i a e. each (suc i) a e))
 
 at_or : (l : List ℕ) (i a : ℕ) → get_elem? l i ≡ some a → get_or l i 0 ≡ a
 at_or [] i a e = absurd (some-ne-none a (sym e))
@@ -127,79 +128,64 @@ module _ {A : Type 0} (role : A → Role) (marks : A → Marks) (shape : Shape) 
   one_place : (s : ℕ) → s < shape.slots → lives shape words desk s ≤ 1
   one_place s l = let p = retired_once shape words (map role callers) log core id desk there s l in omega arith
 
-  few_names : (number : ℕ) → total (name_has (marks me).puts number) (marks me).names ≤ 1
-  few_names number = dite (dec_le (total (name_has (marks me).puts number) (marks me).names) 1) (λ l. l) (λ l.
-      let t
-      = two_terms (name_has (marks me).puts number) (marks me).names (name_has-le (marks me).puts number)
-      (omega arith) in
-      let a = name_has-is (marks me).puts number t.2 t.7 in
-      let b = name_has-is (marks me).puts number t.3 t.8 in
-      let x = name_at t.0 t.2 t.5 in
-      let y = name_at t.1 t.3 t.6 in
-      let x' = by_name t.0 a.0 x.0 (x.1 ∙ a.1) in
-      let y' = by_name t.1 b.0 y.0 (y.1 ∙ b.1) in
-      let same : b.0 ≡ a.0 = own.apart b.0 a.0 y'.0 x'.0 y'.1 x'.1 (b.2 ∙ sym a.2) in
-      let two = below-terms (λ j. only (suc a.0) (name_number (get_or words j 0))) shape.keys t.1 t.0 y.0 x.0 t.4 in
-      let one : only (suc a.0) (name_number (get_or words t.0 0)) ≡ 1
-      = ap (only (suc a.0)) (x.1 ∙ a.1) ∙ only-same (suc a.0) in
-      let one' : only (suc a.0) (name_number (get_or words t.1 0)) ≡ 1
-      = ap (only (suc a.0)) (y.1 ∙ b.1 ∙ ap suc same) ∙ only-same (suc a.0) in
-      let p = one_place a.0 x'.0 in
-      absurd (omega arith))
+  -- how often a put number is a named slot's, and a retired one's
+  abbrev names_with : ℕ → ℕ
+  names_with number = total (name_has (marks me).puts number) (marks me).names
 
-  few_rests : (number : ℕ) → total (λ (x : Retired). only number (get_or (marks me).puts x.slot 0)) desk.retired ≤ 1
-  few_rests number =
-      dite (dec_le (total (λ (x : Retired). only number (get_or (marks me).puts x.slot 0)) desk.retired) 1) (λ l. l)
-      (λ l.
-      let t
-      = two_terms (λ (x : Retired). only number (get_or (marks me).puts x.slot 0)) desk.retired
-      (λ x. only-le number (get_or (marks me).puts x.slot 0)) (omega arith) in
-      let a = t.2.slot in let b = t.3.slot in
-      let x' = by_rest t.0 t.2 t.5 in
-      let y' = by_rest t.1 t.3 t.6 in
-      let same : b ≡ a
-      = own.apart b a y'.0 x'.0 y'.1 x'.1
-      (only-is number (get_or (marks me).puts b 0) t.8
-      ∙ sym (only-is number (get_or (marks me).puts a 0) t.7)) in
-      let two = terms_le (λ (x : Retired). only a x.slot) desk.retired t.0 t.1 t.2 t.3 t.4 t.5 t.6 in
-      let one = only-same a in
-      let one' : only a b ≡ 1 = ap (only a) same ∙ one in
-      let p = one_place a x'.0 in
-      absurd (omega arith))
+  abbrev rests_with : ℕ → ℕ
+  rests_with number = total (λ (x : Retired). only number (get_or (marks me).puts x.slot 0)) desk.retired
 
-  not_both : (number : ℕ) → 0 < total (name_has (marks me).puts number) (marks me).names
-      → 0 < total (λ (x : Retired). only number (get_or (marks me).puts x.slot 0)) desk.retired → ⊥
-  not_both number l m =
-      let t = some_term (name_has (marks me).puts number) (marks me).names l in
+  named_so : (s : ℕ) → total (only (suc s)) (marks me).names ≡ named shape words s
+  named_so s =
+      below-list (only (suc s)) (marks me).names
+      ∙ ap (below (λ i. only (suc s) (get_or (marks me).names i 0))) own.wide.0
+      ∙ below-same (λ i. only (suc s) (get_or (marks me).names i 0))
+      (λ i. only (suc s) (name_number (get_or words i 0))) shape.keys (λ i l. ap (only (suc s)) (own.names i l))
+
+  -- a slot that lives and has the number is the only one
+  only_it : (number s : ℕ) → (s < shape.slots) × (0 < lives shape words desk s) → get_or (marks me).puts s 0 ≡ number
+      → names_with number + rests_with number ≤ 1
+  only_it number s here is = omega (
+    arith,
+    total-le_at (name_has (marks me).puts number) (only (suc s)) (marks me).names (λ i n e.
+        dite (ℕ_discrete (name_has (marks me).puts number n) 0) (λ z. omega arith) (λ nz.
+        let a = name_has-is (marks me).puts number n (omega arith) in
+        let at = name_at i n e in
+        let there = by_name i a.0 at.0 (at.1 ∙ a.1) in
+        let same : a.0 ≡ s = own.apart a.0 s there.0 here.0 there.1 here.1 (a.2 ∙ sym is) in
+        omega (arith, name_has-le (marks me).puts number n, ap (only (suc s)) (a.1 ∙ ap suc same), only-same (suc s)))),
+    total-le_at (λ (x : Retired). only number (get_or (marks me).puts x.slot 0)) (λ (x : Retired). only s x.slot)
+        desk.retired (λ i x e.
+        dite (ℕ_discrete (only number (get_or (marks me).puts x.slot 0)) 0) (λ z. omega arith) (λ nz.
+        let has = only-is number (get_or (marks me).puts x.slot 0) (omega arith) in
+        let there = by_rest i x e in
+        let same : x.slot ≡ s = own.apart x.slot s there.0 here.0 there.1 here.1 (has ∙ sym is) in
+        omega (arith, only-le number (get_or (marks me).puts x.slot 0), ap (only s) same, only-same s))),
+    named_so s,
+    one_place s here.0,
+  )
+
+  one_with : (number : ℕ) → names_with number + rests_with number ≤ 1
+  one_with number = dite (ℕ_discrete (names_with number) 0)
+      (λ z. dite (ℕ_discrete (rests_with number) 0) (λ z'. omega arith) (λ nz.
+      let u
+      = some_term (λ (x : Retired). only number (get_or (marks me).puts x.slot 0)) desk.retired (omega arith) in
+      only_it number u.1.slot (by_rest u.0 u.1 u.2) (only-is number (get_or (marks me).puts u.1.slot 0) u.3)))
+      (λ nz.
+      let t = some_term (name_has (marks me).puts number) (marks me).names (omega arith) in
       let a = name_has-is (marks me).puts number t.1 t.3 in
-      let x = name_at t.0 t.1 t.2 in
-      let x' = by_name t.0 a.0 x.0 (x.1 ∙ a.1) in
-      let u = some_term (λ (y : Retired). only number (get_or (marks me).puts y.slot 0)) desk.retired m in
-      let y' = by_rest u.0 u.1 u.2 in
-      let b = u.1.slot in
-      let same : b ≡ a.0
-      = own.apart b a.0 y'.0 x'.0 y'.1 x'.1 (only-is number (get_or (marks me).puts b 0) u.3 ∙ sym a.2) in
-      let n = below-term (λ j. only (suc a.0) (name_number (get_or words j 0))) shape.keys t.0 x.0 in
-      let one : only (suc a.0) (name_number (get_or words t.0 0)) ≡ 1
-      = ap (only (suc a.0)) (x.1 ∙ a.1) ∙ only-same (suc a.0) in
-      let c = term_le (λ (y : Retired). only a.0 y.slot) desk.retired u.0 u.1 u.2 in
-      let one' : only a.0 b ≡ 1 = ap (only a.0) same ∙ only-same a.0 in
-      let p = one_place a.0 x'.0 in
-      absurd (omega arith)
+      let at = name_at t.0 t.1 t.2 in
+      only_it number a.0 (by_name t.0 a.0 at.0 (at.1 ∙ a.1)) a.2)
 
   pub tidy : Tidy desk.retired (marks me) (put_count log)
   tidy = record {
     once = λ number.
-        let a = few_names number in
-        let b = few_rests number in
+        let a = one_with number in
         let c = named_often (marks me).puts (marks me).names number in
         let e = retired_often (marks me).puts desk.retired number in
         let f = count_is (named_puts (marks me).puts (marks me).names) number in
         let g = count_is (retired_puts (marks me).puts desk.retired) number in
-        dite (ℕ_discrete (total (name_has (marks me).puts number) (marks me).names) 0) (λ z. omega arith)
-        (λ nz. dite (ℕ_discrete (total (λ (x : Retired). only number (get_or (marks me).puts x.slot 0)) desk.retired) 0)
-        (λ z. omega arith)
-        (λ nz'. absurd (not_both number (omega arith) (omega arith))));
+        omega arith;
     apart = λ s t l m e. let a = alive s l in let b = alive t m in own.apart s t a.0 b.0 a.1 b.1 e;
     fresh = λ s l. let a = alive s l in own.fresh s a.0 a.1;
   }
@@ -209,7 +195,7 @@ module _ {A : Type 0} (role : A → Role) (marks : A → Marks) (shape : Shape) 
     tidy = tidy;
     wide = own.wide.0;
     room = (core.knows id (Writer desk) there).room;
-    slots = λ free. taken_are shape words (map role callers) log id desk core there free;
+    slots = λ free. taken_are id core there free;
     empty = λ i l e. shown_empty shape words (get_or words i 0) (state_of (map_after shape log) i) (core.shows i l)
         (sym (own.names i l) ∙ e);
     full = λ i s l e.

@@ -26,20 +26,20 @@ use Rattle.nr_core.proofs.Frames.{stands_at}
 use Rattle.nr_model.specs.declared.calls.Call.TheVariants as model
 use Rattle.nr_model.specs.declared.calls.Reply.TheVariants as reply
 
-pub unpublishes : (shape : Shape) (words : List ℕ) (roles : List Role) (log : List Entry)
-    (core : Core shape words roles log) (id : ℕ) (desk : Desk)
+pub unpublishes : {shape : Shape} {words : List ℕ} {roles : List Role} {log : List Entry}
+    (core : Core shape words roles log) (id : ℕ) {desk : Desk}
     → get_elem? roles id ≡ some (Writer desk) → (at : ℕ) → desk.place ≡ Leaving at
     → Core shape (set words at (hole_word (number_at desk at) false))
     (set roles id (Writer (swapped desk (get_or words at 0)))) (log ++ entry 0 (model.Evict at) reply.Evicted ∷ [])
-unpublishes shape words roles log core id desk there at is_at =
+unpublishes {shape = shape} {words = words} {log = log} core id {desk = desk} there at is_at =
     let known = core.knows id (Writer desk) there in
     let map = map_after shape log in
-    let p = stands_at shape words roles log core id desk there _ is_at in
+    let p = stands_at core id there is_at in
     let r = p.1 in
     let within = number_within shape log desk.numbers core.fits core.legal known.numbers at r.near in
     let hole = hole_is (number_at desk at) (omega arith) in
-    swap_step shape words roles log core id desk there at (hole_word (number_at desk at) false) (model.Evict at)
-    reply.Evicted desk.numbers r.near refl (ap (reply_at (bound_of shape) (model.Evict at)) r.full)
+    swap_step core id there at (hole_word (number_at desk at) false) (model.Evict at)
+    reply.Evicted r.near refl (ap (reply_at (bound_of shape) (model.Evict at)) r.full)
     (subst (ShowsState shape words (hole_word (number_at desk at) false))
     (sym (ap (state_after (bound_of shape) (model.Evict at)) r.full))
     (hole.0, hole.1, hole.2 ∙ known.numbers.agree at r.near ∙ ap number_of r.full))

@@ -49,16 +49,16 @@ asked_retires_none shape words w n l shown =
     ap (λ b. l ++ cond b (record { slot = slot_of w; arrivals = arrivals_of w } ∷ []) []) (names_none w shown.0)
     ∙ append-nil l
 
-pub withdraws : (shape : Shape) (words : List ℕ) (roles : List Role) (log : List Entry)
-    (core : Core shape words roles log) (id : ℕ) (desk : Desk)
+pub withdraws : {shape : Shape} {words : List ℕ} {roles : List Role} {log : List Entry}
+    (core : Core shape words roles log) (id : ℕ) {desk : Desk}
     → get_elem? roles id ≡ some (Writer desk) → (at : ℕ) → desk.place ≡ Withdrawing at
     → Core shape (set words at (hole_word (number_at desk at + 1) false)) (set roles id (Writer (withdrawn desk at)))
     (log ++ entry 0 (model.Cancel at) reply.Cancelled ∷ [])
-withdraws shape words roles log core id desk there at is_at =
+withdraws {shape = shape} {words = words} {log = log} core id {desk = desk} there at is_at =
     let known = core.knows id (Writer desk) there in
     let map = map_after shape log in
     let w = get_or words at 0 in
-    let p = stands_at shape words roles log core id desk there _ is_at in
+    let p = stands_at core id there is_at in
     let n = p.number in
     let early = p.early in
     let listed : number_at desk at ≡ n = known.numbers.agree at p.near ∙ ap number_of p.asked in
@@ -71,7 +71,7 @@ withdraws shape words roles log core id desk there at is_at =
     = subst (ShowsState shape words w) p.asked (core.shows at p.near) in
     let numbers : List ℕ = set desk.numbers at (number_at desk at + 1) in
     rw (sym (asked_retires_none shape words w n desk.retired shown))
-    (swap_step shape words roles log core id desk there at x (model.Cancel at) reply.Cancelled numbers p.near refl
+    (swap_step core id there at x (model.Cancel at) reply.Cancelled p.near refl
     (ap (reply_at (bound_of shape) (model.Cancel at)) p.asked ∙ c.0)
     (subst (ShowsState shape words x) (sym leaves) (hole.0, hole.1, hole.2 ∙ ap (λ (m : ℕ). m + 1) listed))
     (λ s. ap (taken s) is_at ∙ sym (ap (only (suc s)) hole.0 ∙ only-zero s)) (λ s e. absurd (omega (arith, hole.0)))

@@ -1,26 +1,22 @@
 -- Each event of the writer keeps the core state of a state, its roles and what they found.
 use Rattle.std.proofs.Common.{List, get_or, set, ◌++◌, ◌≡◌}
-use Rattle.std.proofs.lemmas.Bool.{ltb-true}
 use Rattle.std.specs.Prelude.{None}
 use Rattle.nr_model.specs.Histories.{Entry}
 use Rattle.nr_core.proofs.CoreAfter.{core_after}
 use Rattle.nr_core.proofs.Go.{goes}
-use Rattle.nr_core.proofs.Guards.{guard, is_idle}
+use Rattle.nr_core.proofs.Guards.{is_idle, at_key}
 use Rattle.nr_core.proofs.Look.{looks}
 use Rattle.nr_core.proofs.StateRoles.{IsCoreState, ending_at_other, ending_other, fit_writer, found_writer}
 use Rattle.nr_core.specs.Given.{IsGivenCall}
 use Rattle.nr_core.specs.Machine.{moved}
 use Rattle.nr_core.specs.Operations.{going, target_of}
-use Rattle.nr_core.specs.declared.operation.Operation.TheVariants.{Load}
-use Rattle.nr_core.specs.Refusals.{has_key, if_busy, refusal}
+use Rattle.nr_core.specs.Refusals.{refusal}
 use Rattle.nr_core.specs.Slots.{bound_of}
 use Rattle.nr_core.specs.States.{Go, Start, State, key_of}
-use Rattle.nr_core.specs.Steps.{Goes, Looks}
 use Rattle.nr_core.specs.Story.{call_of, ending, ending_at, told}
 use Rattle.nr_core.specs.Writer.{looked, went}
 use Rattle.nr_core.specs.declared.calls.WriterCall.{WriterCall}
 use Rattle.nr_core.specs.declared.roles.Role.TheVariants.{Writer}
-use Rattle.nr_core.specs.declared.calls.Refusal.TheVariants as refuse
 
 pub after_start : (state : State) (log : List Entry) (call : WriterCall) → IsGivenCall (bound_of state.shape) call
     → IsCoreState state log
@@ -30,16 +26,14 @@ after_start state log call given is_core ok =
     let words = state.words in
     let roles = is_core.roles in
     let f = is_core.fit in
-    let g = guard (has_key shape (key_of call)) (if_busy state.desk.place) refuse.OutOfRange ok in
+    let at = at_key shape (key_of call) _ ok in
     let o = looked shape state.desk call (get_or words (key_of call) 0) in
     let step
-    = looks shape 0 state.desk call (is_idle state.desk.place g.1) given (ltb-true (key_of call) shape.keys g.0)
+    = looks shape 0 state.desk call (is_idle state.desk.place at.1) given at.0
     words roles log is_core.core f.writer in
     record {
       roles = set roles 0 (Writer o.0);
-      core =
-          core_after shape words roles log 0 (Writer state.desk) (Load (key_of call)) (Looks shape state.desk call) step
-          (Writer o.0) (ending (call_of call) o.1) step.told.0 step.told.1;
+      core = core_after step step.told.0 step.told.1;
       fit = fit_writer shape.readers roles state.holds state.desk o.0 f;
       found = found_writer roles log (ending (call_of call) o.1) o.0 is_core.found (ending_other (call_of call) o.1);
     }
@@ -55,9 +49,7 @@ after_go state log is_core ok =
     let o = went shape desk desk.place (get_or words (target_of (going shape desk desk.place)) 0) in
     let step = goes shape 0 desk ok words roles log is_core.core f.writer in record {
       roles = set roles 0 (Writer o.0);
-      core =
-          core_after shape words roles log 0 (Writer desk) (going shape desk desk.place) (Goes shape desk) step
-          (Writer o.0) (ending_at desk.place o.1) step.told.0 step.told.1;
+      core = core_after step step.told.0 step.told.1;
       fit = fit_writer shape.readers roles state.holds desk o.0 f;
       found = found_writer roles log (ending_at desk.place o.1) o.0 is_core.found (ending_at_other desk.place o.1);
     }

@@ -1,7 +1,7 @@
 use Rattle.std.proofs.Common.{rules, ◌≡◌, ◌<◌, false, length, slice_index, slice_set, List, Bool, ℕ}
 use Rattle.nr_core.proofs.Passed.{reaped_none, reaped_noted}
-use Rattle.nr_core.proofs.slot_lists.SlotLists.set_reaped.Goals as goal
 use Rattle.nr_core.proofs.slot_lists.SlotLists.set_reaped.Goals.{then-index-eq0, else-index-eq0}
+use Rattle.nr_core.proofs.slot_lists.SlotLists.set_reaped.Goals as goal
 
 -- src/slot_lists.rt:188:20
 pub pass_one-next-requires : goal.pass_one-next-requires

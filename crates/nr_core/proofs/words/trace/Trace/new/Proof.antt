@@ -24,9 +24,9 @@ use denote.Triple.Spec.{Meets, triple_of}
 use denote.Triple.Table.{entered}
 use denote.Triple.Walked.{says, Stays, walk_of, ends_at, walk_Meets}
 use Rattle.nr_core.proofs.Walks.{none, none_made}
+use Rattle.nr_core.specs.contracts.words.trace.Trace.new.Key.{name as #self}
 use Rattle.nr_core.specs.contracts.words.trace.Trace as Trace
 use Rattle.nr_core.specs.contracts.words.trace.Trace.new as F
-use Rattle.nr_core.specs.contracts.words.trace.Trace.new.Key.{name as #self}
 use Rattle.nr_core.proofs.words.trace.Trace.new.Statement as stated
 use Rattle.nr_core.proofs.words.trace.Trace.new.Code as code
 

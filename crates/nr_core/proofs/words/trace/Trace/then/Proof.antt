@@ -27,10 +27,10 @@ use denote.Triple.Spec.{Meets, triple_of}
 use denote.Triple.Table.{entered}
 use denote.Triple.Walked.{says, Stays, stay_dropped, walk_of, ends_at, walk_Meets, Goes-dropped}
 use Rattle.nr_core.proofs.Walks.{none, none_made}
+use Rattle.nr_core.specs.contracts.words.trace.Trace.then.Key.{name as #self}
 use Rattle.nr_core.specs.contracts.words.trace.Trace as Trace
 use Rattle.nr_core.specs.contracts.operation.Operation as Operation
 use Rattle.nr_core.specs.contracts.words.trace.Trace.then as F
-use Rattle.nr_core.specs.contracts.words.trace.Trace.then.Key.{name as #self}
 use Rattle.nr_core.proofs.words.trace.Trace.then.Statement as stated
 use Rattle.nr_core.proofs.words.trace.Trace.then.Code as code
 

@@ -1,0 +1,87 @@
+-- A step of a caller, from the core state after it and what it tells.
+use Rattle.std.proofs.Common.{List, [], cond, get_or, nat_eq, refl, set, ℕ, ◌++◌, ◌∷◌, ◌≡◌}
+use Rattle.nr_model.specs.Histories.{Entry, entries_of}
+use Rattle.nr_model.specs.declared.calls.Call.{Call}
+use Rattle.nr_model.specs.declared.calls.Reply.{Reply}
+use Rattle.nr_core.specs.Core.{Core}
+use Rattle.nr_core.specs.Operations.{becomes, target_of}
+use Rattle.nr_core.specs.Roles.{is_by}
+use Rattle.nr_core.specs.Steps.{Stepped, Telling}
+use Rattle.nr_core.specs.Story.{entry}
+use Rattle.nr_core.specs.declared.operation.Operation.{Operation}
+use Rattle.nr_core.specs.declared.roles.Desk.{Desk}
+use Rattle.nr_core.specs.declared.roles.Grip.{Grip}
+use Rattle.nr_core.specs.declared.roles.Role.{Role}
+use Rattle.nr_core.specs.declared.roles.Role.TheVariants.{Reader, Writer}
+use Rattle.nr_core.specs.declared.shape.Shape.{Shape}
+use Rattle.nr_core.proofs.OffKeys.{none_of}
+
+abbrev Tells : List ℕ → Operation → Telling → Role → List Entry → Type 0
+Tells words operation tells role entries = tells (get_or words (target_of operation) 0) role entries
+
+abbrev CoreWith : Shape → List ℕ → List Role → List Entry → ℕ → Operation → Role → List Entry → Type 0
+CoreWith shape words roles log id operation role entries =
+    Core shape (set words (target_of operation) (becomes operation (get_or words (target_of operation) 0)))
+    (set roles id role) (log ++ entries)
+
+module _ {shape : Shape} {words : List ℕ} {roles : List Role} {log : List Entry} {id : ℕ} {operation : Operation}
+    {tells : Telling} where
+  -- the caller's role stays, and it tells nothing
+  pub stays_quiet : {role : Role} → CoreWith shape words roles log id operation role []
+      → Tells words operation tells role [] → Stepped shape words roles log id role operation tells
+  stays_quiet {role} core told = record {
+    after = role;
+    entries = [];
+    core = core;
+    same = λ _. refl;
+    writer = refl;
+    reader = refl;
+    own = λ caller. none_of (is_by caller role);
+    told = told;
+  }
+
+  module _ {reader : ℕ} {before : Grip} (after : Grip) where
+    pub reader_quiet : CoreWith shape words roles log id operation (Reader reader after) []
+        → Tells words operation tells (Reader reader after) []
+        → Stepped shape words roles log id (Reader reader before) operation tells
+    reader_quiet core told = record {
+      after = Reader reader after;
+      entries = [];
+      core = core;
+      same = λ _. refl;
+      writer = refl;
+      reader = refl;
+      own = λ caller. none_of (nat_eq reader caller);
+      told = told;
+    }
+
+    pub reader_tells : (call : Call) (answer : Reply)
+        → CoreWith shape words roles log id operation (Reader reader after) (entry reader call answer ∷ [])
+        → Tells words operation tells (Reader reader after) (entry reader call answer ∷ [])
+        → Stepped shape words roles log id (Reader reader before) operation tells
+    reader_tells call answer core told = record {
+      after = Reader reader after;
+      entries = entry reader call answer ∷ [];
+      core = core;
+      same = λ _. refl;
+      writer = refl;
+      reader = refl;
+      own = λ _. refl;
+      told = told;
+    }
+
+  pub writer_makes : {desk : Desk} (after : Desk) (entries : List Entry)
+      → CoreWith shape words roles log id operation (Writer after) entries
+      → ((caller : ℕ) → entries_of entries caller ≡ cond (nat_eq 0 caller) entries [])
+      → Tells words operation tells (Writer after) entries
+      → Stepped shape words roles log id (Writer desk) operation tells
+  writer_makes after entries core own told = record {
+    after = Writer after;
+    entries = entries;
+    core = core;
+    same = λ _. refl;
+    writer = refl;
+    reader = refl;
+    own = own;
+    told = told;
+  }
