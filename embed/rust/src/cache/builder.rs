@@ -151,7 +151,7 @@ impl<K: Hash + Eq, V, S: BuildHasher> CacheBuilder<K, V, S> {
             parts.push(Part::new(expiry, told.clone(), store));
         }
         let spare = spare.into_iter().zip(0..).map(|(ids, number)| Desk::new(ids, number)).collect();
-        Ok(Cache { shared: Arc::new(Shared::new(self.hasher, self.capacity, expiry, parts, spare)) })
+        Ok(Cache { shared: Arc::new(Shared::new(self.hasher, self.capacity, parts, spare)) })
     }
 
     /// How many parts the cache has: some for each thread, as far as that takes neither much memory nor so small parts that

@@ -3,7 +3,6 @@ use super::entry::Entry;
 use super::seats::Seat;
 use super::sync;
 use crate::ids::Terms;
-use std::borrow::Borrow;
 use std::sync::atomic::Ordering::Relaxed;
 use std::sync::Arc;
 use std::time::{Duration, Instant};
@@ -138,16 +137,6 @@ impl Expiry {
     /// Whether it had done so before the time for which it is left.
     pub fn is_gone<K, V>(&self, entry: &Entry<K, V>, now: Moment) -> bool {
         now.checked_sub(self.if_error.unwrap_or(0)).is_some_and(|before| self.is_over(entry, before))
-    }
-
-    /// Whether an entry is a key's, and hasn't expired: then it was found.
-    pub fn is_found<K: Borrow<Q>, V, Q: Eq + ?Sized>(&self, entry: &Entry<K, V>, key: &Q) -> bool {
-        let now = self.now();
-        if entry.key.borrow() != key || self.is_over(entry, now) {
-            return false;
-        }
-        self.touch(entry, now);
-        true
     }
 
     /// Notes that the entry was found. Other threads see a write only once a sixteenth of the time to idle has passed.

@@ -152,6 +152,19 @@ impl<K, V> Part<K, V> {
         Box::new(Entry { weight, ..entry })
     }
 
+    /// Whether an entry is a key's, and hasn't expired: then it was found.
+    pub fn is_found<Q: Eq + ?Sized>(&self, entry: &Entry<K, V>, key: &Q) -> bool
+    where
+        K: Borrow<Q>,
+    {
+        let now = self.expiry.now();
+        if entry.key.borrow() != key || self.expiry.is_over(entry, now) {
+            return false;
+        }
+        self.expiry.touch(entry, now);
+        true
+    }
+
     /// What `read` makes of the entry of an id, if it is the one that is looked for, under the lock: for a thread
     /// without a reader.
     pub fn read_if<R>(

@@ -262,8 +262,8 @@ impl<K: Hash + Eq, V, S: BuildHasher> CacheReader<K, V, S> {
     where
         K: Borrow<Q>,
     {
-        let expiry = &self.cache.shared.expiry;
-        self.desk.find_if(at, |entry| expiry.is_found(entry, key))
+        let part = &self.cache.shared.parts()[at.part];
+        self.desk.find_if(at, |entry| part.is_found(entry, key))
     }
 
     /// The same for a get's first look, which is a hit or a miss.

@@ -1,7 +1,6 @@
 //! What the handles of a cache have in common.
 use super::counts::Counts;
 use super::desk::{At, Desk};
-use super::expiry::Expiry;
 use super::flights::spread;
 use super::part::Part;
 use super::stats::CacheStats;
@@ -17,8 +16,6 @@ const ID_OF_ZERO: u64 = 0x9e37_79b9_7f4a_7c15;
 pub(super) struct Shared<K, V, S> {
     hasher: S,
     pub capacity: usize,
-    /// The same as each part's, so that a hit reads no line of its part.
-    pub expiry: Expiry,
     /// The ids are spread over them, so that two threads that miss rarely want one lock.
     parts: Box<[Part<K, V>]>,
     /// One for each desk.
@@ -27,9 +24,9 @@ pub(super) struct Shared<K, V, S> {
 }
 
 impl<K, V, S> Shared<K, V, S> {
-    pub fn new(hasher: S, capacity: usize, expiry: Expiry, parts: Vec<Part<K, V>>, spare: Vec<Desk>) -> Self {
+    pub fn new(hasher: S, capacity: usize, parts: Vec<Part<K, V>>, spare: Vec<Desk>) -> Self {
         let counts = spare.iter().map(|_| Counts::default()).collect();
-        Shared { hasher, capacity, expiry, parts: parts.into(), counts, spare: Mutex::new(spare) }
+        Shared { hasher, capacity, parts: parts.into(), counts, spare: Mutex::new(spare) }
     }
 
     /// The id of a key, which is never 0.

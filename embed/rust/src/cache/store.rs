@@ -27,26 +27,28 @@ pub(super) fn place_of<K, V>(number: u64) -> Place<K, V> {
     NonNull::new(number as *mut Entry<K, V>).expect("a number is an entry's address")
 }
 
+/// In this order, so that what each miss writes lies together: most often another processor wrote it last.
+#[repr(C)]
 pub(super) struct Store<K, V> {
     pub ids: Ids,
-    pub expiry: Expiry,
-    pub seats: Seats,
-    /// How much its entries weigh together at most, where weights count.
-    pub most: Option<u64>,
     /// How many entries there are: those that are held, and those that left and haven't come out.
     lying: usize,
-    /// What came out: no reader holds it, and none can find it.
-    came_out: Handful<Place<K, V>>,
-    pub reaping: Reaping,
-    kept: KeptEntries<K, V>,
     /// How many entries were put, and how many when all were invalidated last.
     pub turns: u64,
     turns_before: u64,
+    /// How much its entries weigh together at most, where weights count.
+    pub most: Option<u64>,
     pub under_way: UnderWay<K>,
-    /// How often all loads were outdated.
-    clearings: u64,
+    pub reaping: Reaping,
+    pub seats: Seats,
+    /// What came out: no reader holds it, and none can find it.
+    came_out: Handful<Place<K, V>>,
+    kept: KeptEntries<K, V>,
     /// All but what readers count.
     pub counted: CacheStats,
+    /// How often all loads were outdated.
+    clearings: u64,
+    pub expiry: Expiry,
 }
 
 /// The entry beside which a value is loaded: it was not outdated when that began.
@@ -60,18 +62,18 @@ impl<K, V> Store<K, V> {
     pub fn new(ids: Ids, capacity: usize, expiry: Expiry, most: Option<u64>, reaping: Reaping) -> Store<K, V> {
         Store {
             ids,
-            expiry,
-            seats: Seats::new(capacity),
-            most,
             lying: 0,
-            came_out: Handful::default(),
-            reaping,
-            kept: KeptEntries::new(),
             turns: 0,
             turns_before: 0,
+            most,
             under_way: UnderWay::new(),
-            clearings: 0,
+            reaping,
+            seats: Seats::new(capacity),
+            came_out: Handful::default(),
+            kept: KeptEntries::new(),
             counted: CacheStats::default(),
+            clearings: 0,
+            expiry,
         }
     }
 

@@ -101,7 +101,7 @@ impl<K: Hash + Eq + 'static, V: Clone + 'static, S: BuildHasher + 'static> Cache
                 };
             }
             match part.begin(at.id, key, key.to_owned()) {
-                Begun::Held => found = self.read_if(at, |entry| self.shared.expiry.is_found(entry, key), seen),
+                Begun::Held => found = self.read_if(at, |entry| part.is_found(entry, key), seen),
                 Begun::Wait(flight, key) => return Sought::UnderWay(Wait::of(self.clone(), at.id, key, flight)),
                 Begun::Load(load) => return Sought::Missing(Request::of(self.clone(), load, key)),
             }
@@ -121,11 +121,10 @@ impl<K: Hash + Eq + 'static, V: Clone + 'static, S: BuildHasher + 'static> Cache
     where
         K: Borrow<Q>,
     {
-        let is_it = |entry: &Entry<K, V>| self.shared.expiry.is_found(entry, key);
+        let part = &self.shared.parts()[at.part];
         with_desk(&self.shared, |desk| {
             let Some(desk) = desk else {
-                let part = &self.shared.parts()[at.part];
-                let found = part.read_if(at.id, is_it, read);
+                let found = part.read_if(at.id, |entry| part.is_found(entry, key), read);
                 part.count(|counted| match found {
                     Some(_) => counted.hits += 1,
                     None => counted.misses += 1,
@@ -137,7 +136,7 @@ impl<K: Hash + Eq + 'static, V: Clone + 'static, S: BuildHasher + 'static> Cache
                 counts.count_hit();
                 read(entry)
             };
-            let found = desk.read_if(at, is_it, count_and_read);
+            let found = desk.read_if(at, |entry| part.is_found(entry, key), count_and_read);
             if found.is_none() {
                 counts.count_miss();
             }
@@ -150,7 +149,8 @@ impl<K: Hash + Eq + 'static, V: Clone + 'static, S: BuildHasher + 'static> Cache
     where
         K: Borrow<Q>,
     {
-        self.read_if(at, |entry| self.shared.expiry.is_found(entry, key), |entry| read(&entry.value))
+        let part = &self.shared.parts()[at.part];
+        self.read_if(at, |entry| part.is_found(entry, key), |entry| read(&entry.value))
     }
 
     /// What `read` makes of the entry of an id, if it is the one that is looked for.

@@ -29,7 +29,8 @@ impl<K> Over<K> {
     }
 }
 
-/// The same loads as the store has. They are few, and each is looked for among all of them.
+/// The same loads as the store has. They are few, and each is looked for among all of them. Each miss writes the first word.
+#[repr(C)]
 pub(super) struct UnderWay<K> {
     loads: Vec<Known<K>>,
     /// Those that have ended, which nobody was told yet.
@@ -92,6 +93,10 @@ impl<K> UnderWay<K> {
 
     /// Those that ended since the last call, for those who wait for them to be told.
     pub fn take_over(&mut self) -> Handful<Over<K>> {
+        // Mostly there are none, and then nothing is written.
+        if self.over.is_empty() {
+            return Handful::default();
+        }
         std::mem::take(&mut self.over)
     }
 }
