@@ -1,10 +1,16 @@
 -- Polls of slots that are held, one for each of a list.
-use Rattle.std.proofs.Common.{◌≡◌, ℕ, List, [], ◌∷◌, ◌++◌, Bool, false, length, refl, ap}
+use Rattle.std.proofs.Common.{◌≡◌, ℕ, zero, suc, ◌+◌, ◌<◌, List, [], ◌∷◌, ◌++◌, Bool, true, false, length, take, drop}
+use Rattle.std.proofs.Common.{get_or, refl, sym, ap, ◌∙◌, arith, append-nil, append_assoc, take-suc}
+use Rattle.std.proofs.lemmas.List.{take-append-drop}
+use mathlib.Core.Option.{some, some-injective, some-ne-none}
+use lib.ListN.{get_elem?}
+use Rattle.nr_core.specs.States.{no_retired}
 use mathlib.Core.List.{map-append}
 use lib.ListN.{length-map}
 use Rattle.nr_core.proofs.Choices.{by_cases}
 use Rattle.nr_core.specs.declared.places.Retired.{Retired}
 use Rattle.nr_core.specs.Marks.{OfSlot, LoggedLoad}
+use Rattle.nr_board.specs.Noting.{Reached}
 use Rattle.nr_board.specs.SlotLists.{held_polls, not_passed}
 
 abbrev held_poll : Retired → LoggedLoad
@@ -34,3 +40,58 @@ pub none_passed : (passes : ℕ → Bool) (retired : List Retired) → ((slot : 
 none_passed passes [] none = refl
 none_passed passes (entry ∷ retired) none =
     rw (none entry.slot) (ap (λ (l : List Retired). entry ∷ l) (none_passed passes retired none))
+
+-- THOSE BEFORE A PLACE OF THE LIST
+
+module _ (passes : ℕ → Bool) (retired : List Retired) (place : ℕ) (low : place < length retired) where
+  abbrev here : Retired
+  here = get_or retired place no_retired
+
+  up_to_here : not_passed passes (take (place + 1) retired)
+      ≡ not_passed passes (take place retired) ++ not_passed passes (here ∷ [])
+  up_to_here =
+      let more : place + 1 ≡ suc place = omega arith in
+      ap (λ (n : ℕ). not_passed passes (take n retired)) more
+      ∙ ap (not_passed passes) (take-suc retired place no_retired low)
+      ∙ passed_both passes (take place retired) (here ∷ [])
+
+  pub up_to_passed : passes here.slot ≡ true
+      → not_passed passes (take (place + 1) retired) ≡ not_passed passes (take place retired)
+  up_to_passed gone = up_to_here ∙ rw gone (append-nil (not_passed passes (take place retired)))
+
+  pub up_to_polled : passes here.slot ≡ false
+      → not_passed passes (take (place + 1) retired) ≡ not_passed passes (take place retired) ++ here ∷ []
+  up_to_polled stays = up_to_here ∙ rw stays refl
+
+  -- and those behind it
+  pub split_here : passes here.slot ≡ false
+      → not_passed passes retired
+      ≡ not_passed passes (take place retired) ++ here ∷ not_passed passes (drop (place + 1) retired)
+  split_here stays =
+      let behind = not_passed passes (drop (place + 1) retired) in
+      ap (not_passed passes) (sym (take-append-drop (place + 1) retired))
+      ∙ passed_both passes (take (place + 1) retired) (drop (place + 1) retired)
+      ∙ ap (λ (l : List Retired). l ++ behind) (up_to_polled stays)
+      ∙ append_assoc (not_passed passes (take place retired)) (here ∷ []) behind
+
+-- each of them is reached before that place
+pub polled_reached : (passes : ℕ → Bool) (retired : List Retired) (place at : ℕ) (entry : Retired)
+    → get_elem? (not_passed passes (take place retired)) at ≡ some entry → Reached retired place entry.slot
+polled_reached passes [] zero at entry there = absurd (some-ne-none entry (sym there))
+polled_reached passes [] (suc place) at entry there = absurd (some-ne-none entry (sym there))
+polled_reached passes (x ∷ retired) zero at entry there = absurd (some-ne-none entry (sym there))
+polled_reached passes (x ∷ retired) (suc place) at entry there =
+    let behind = λ (n : ℕ) (is : get_elem? (not_passed passes (take place retired)) n ≡ some entry).
+    reached_behind (polled_reached passes retired place n entry is) in
+    by_cases (λ b. passes x.slot ≡ b → Reached (x ∷ retired) (suc place) entry.slot) (passes x.slot)
+    (λ _ gone. behind at (rw gone at there)) (λ _ stays. first behind at (rw stays at there)) refl
+  where
+    reached_behind : Reached retired place entry.slot → Reached (x ∷ retired) (suc place) entry.slot
+    reached_behind r = (suc r.0, r.1, (let low = r.2 in omega arith), r.3, r.4)
+
+    first : ((n : ℕ) → get_elem? (not_passed passes (take place retired)) n ≡ some entry
+        → Reached (x ∷ retired) (suc place) entry.slot)
+        → (n : ℕ) → get_elem? (x ∷ not_passed passes (take place retired)) n ≡ some entry
+        → Reached (x ∷ retired) (suc place) entry.slot
+    first behind zero is = (zero, x, omega arith, refl, ap (λ (e : Retired). e.slot) (some-injective x entry is))
+    first behind (suc n) is = behind n is

@@ -1,12 +1,15 @@
 -- Notes of a search, one more at a time: each slot that was kept back keeps its note, and each note its slot.
-use Rattle.std.proofs.Common.{◌≡◌, ℕ, ◌+◌, ◌<◌, ◌≤◌, ◌⊎◌, ⊎_elim, inl, inr, List, [], ◌∷◌, ◌++◌, length, refl, sym, ap}
-use Rattle.std.proofs.Common.{◌∙◌}
-use Rattle.std.proofs.Common.{suc, zero, subst, append_assoc, append-nil, arith}
+use Rattle.std.proofs.Common.{◌≡◌, ◌≢◌, ℕ, ◌+◌, ◌<◌, ◌≤◌, ◌⊎◌, ⊎_elim, inl, inr, List, [], ◌∷◌, ◌++◌, length, refl, sym}
+use Rattle.std.proofs.Common.{ap, ◌∙◌, suc, zero, subst, append_assoc, append-nil, arith}
 use Rattle.std.specs.Prelude.{Some}
 use mathlib.Core.Option.{some, some-ne-none}
+use mathlib.Core.Logic.{dite}
+use native.Mathlib.Decide.{ℕ_discrete}
 use lib.ListN.{get_elem?}
 use Rattle.nr_model.specs.Histories.{Entry, entries_of}
 use Rattle.nr_core.proofs.ListPlaces.{at_last, at_left, inside}
+use Rattle.nr_core.proofs.Sums.{only-is, only-le, only-other, some_term, total-append}
+use Rattle.nr_core.specs.Sums.{only, total}
 use Rattle.nr_core.specs.Marks.{LoggedLoad, Past}
 use Rattle.nr_core.specs.Roles.{retirements}
 use Rattle.nr_core.specs.declared.places.Retired.{Retired}
@@ -121,6 +124,22 @@ adds_both is also now kept held told before mid notes back on too says tells fir
       (second.keepers at note there);
 }
 
+-- one note more, of a reader that none of them noted
+pub once_more : (notes : List Past) (note : Past)
+    → ((reader : ℕ) → total (λ (n : Past). only reader n.reader) notes ≤ 1)
+    → ((at : ℕ) (old : Past) → get_elem? notes at ≡ some old → old.reader ≢ note.reader)
+    → (reader : ℕ) → total (λ (n : Past). only reader n.reader) (notes ++ note ∷ []) ≤ 1
+once_more notes note apart is_new reader =
+    let both = total-append (λ (n : Past). only reader n.reader) notes (note ∷ []) in
+    let before = apart reader in
+    let one = only-le reader note.reader in
+    dite (ℕ_discrete (total (λ (n : Past). only reader n.reader) notes) 0) (λ none. omega arith)
+    (λ some_there.
+    let t = some_term (λ (n : Past). only reader n.reader) notes (omega arith) in
+    let other
+    = only-other reader note.reader (λ same. is_new t.0 t.1 t.2 (only-is reader t.1.reader t.3 ∙ sym same)) in
+    omega arith)
+
 -- a poll notes a reader that held its slot by the history at the poll
 pub held_noted : (before after : List Entry) (polls now : List Past) (slot : ℕ) (note : Past)
     → StartsWith after before → NotesTell after polls now → now ≡ polls ++ note ∷ [] → note.slot ≡ Some slot
@@ -139,6 +158,19 @@ held_noted before after polls now slot note begun tells more holds =
     })
     (tells (length polls) note
     (ap (λ (l : List Past). get_elem? l (length polls)) more ∙ at_end polls note (length polls) refl))
+
+-- one poll more, which noted a reader that held its slot
+pub adds_held : (is now : ℕ → Type 0) (first polls notes : List Past) (start mid after : List Entry) (mine : ℕ)
+    (note : Past)
+    → ((slot : ℕ) → now slot → is slot ⊎ (slot ≡ mine)) → ((slot : ℕ) → is slot → now slot) → now mine
+    → StartsWith after start → StartsWith after mid → NotesTell after polls notes → notes ≡ polls ++ note ∷ []
+    → note.slot ≡ Some mine → Adds is (HeldThen start mid) first polls → Adds now (HeldThen start after) first notes
+adds_held is now first polls notes start mid after mine note back on here begun more tells noted holds adds =
+    subst (Adds now (HeldThen start after) first) (sym noted)
+    (adds_more is now (HeldThen start after) first polls mine note back on here
+    (held_noted start after polls notes mine note begun tells noted holds)
+    (adds_on is is (HeldThen start mid) (HeldThen start after) first polls (λ _ of. of) (λ _ of. of)
+    (λ _ _ was. held_within starts_itself more was) adds))
 
 -- the notes of a search that was in vain
 pub kept_back : (readers : ℕ) (before after : List Entry) (loads : List LoggedLoad) (retired : List Retired)

@@ -1,22 +1,19 @@
 -- A pass of a search, slot by slot.
 use Rattle.std.proofs.lemmas.Bool.{false≢true}
-use Rattle.std.proofs.Common.{◌≡◌, ◌≢◌, ℕ, suc, ◌+◌, ◌<◌, ◌≤◌, ◌⊎◌, ⊎_elim, inl, inr, List, [], ◌∷◌, ◌++◌, Bool, true}
-use Rattle.std.proofs.Common.{false, cond, length, take, get_or, refl, sym, ap, ◌∙◌, subst, arith, append-nil}
-use Rattle.std.proofs.Common.{append_assoc, length-append, take-suc}
-use Rattle.std.specs.Prelude.{Some, None, Option, remove}
-use mathlib.Core.Logic.{dite}
+use Rattle.std.proofs.Common.{◌≡◌, ◌≢◌, ℕ, ◌+◌, ◌<◌, ◌≤◌, ◌⊎◌, ⊎_elim, inl, inr, List, [], ◌∷◌, ◌++◌, Bool, true}
+use Rattle.std.proofs.Common.{false, cond, length, get_or, refl, sym, ap, ◌∙◌, subst, arith}
+use Rattle.std.proofs.Common.{append_assoc, length-append}
+use Rattle.std.specs.Prelude.{Some, None, remove}
 use mathlib.Core.Option.{some}
-use native.Mathlib.Decide.{ℕ_discrete}
 use lib.ListN.{get_elem?}
-use Rattle.nr_core.proofs.Sums.{at_snoc, only-is, only-le, only-other, some_term, total-append}
+use Rattle.nr_core.proofs.Sums.{at_snoc}
 use Rattle.nr_core.specs.SlotLists.{SlotLists}
-use Rattle.nr_core.specs.Sums.{only, total}
 use Rattle.nr_core.specs.declared.places.Retired.{Retired}
 use Rattle.nr_core.specs.declared.shape.Shape.{Shape}
 use Rattle.nr_core.proofs.Different.{few_of}
 use Rattle.nr_core.specs.MarkSteps.{NotedNowhereElse, TryTells}
 use Rattle.nr_core.specs.Marks.{Marks, OfSlot, Past, LoggedLoad, with_poll, with_polls, with_scan}
-use Rattle.nr_board.proofs.Keepers.{adds_more, adds_none, adds_on, held_noted, held_within, starts_itself}
+use Rattle.nr_board.proofs.Keepers.{adds_held, adds_none, adds_on, once_more}
 use Rattle.nr_board.proofs.PollNotes.{at_get, is_retired, reached_here, reached_more, reached_none, reached_on}
 use Rattle.nr_board.proofs.SearchSeats.{there_is}
 use Rattle.nr_board.proofs.Searching.{grows_from, grows_none}
@@ -25,7 +22,8 @@ use Rattle.nr_board.proofs.WriterSteps.{same_desk}
 use Rattle.nr_board.specs.declared.publish.Taken.{Taken}
 use Rattle.nr_board.specs.Callers.{Grows, IsSound, Table, map_seen, token}
 use Rattle.nr_board.specs.Passes.{AreHeard, NotesOne, NotesTo, PassTakes, PassedTo, PolledTo, polls_before, unflagged}
-use Rattle.nr_board.specs.Noting.{Adds}
+use Rattle.nr_board.specs.Noting.{Reached}
+use Rattle.nr_core.proofs.ListPlaces.{some_is}
 use Rattle.nr_board.specs.Polls.{HeldThen}
 use Rattle.nr_board.specs.Plays.{Room}
 use Rattle.nr_board.specs.SearchPlays.{Tried, tried}
@@ -42,37 +40,9 @@ use Rattle.nr_core.specs.declared.roles.Role.TheVariants.{Writer}
 use Rattle.nr_model.specs.declared.rows.Row.{Row}
 use Rattle.nr_words.specs.KeyWords.{same_count}
 use Rattle.nr_board.specs.WholeScans.{is_flagged}
-use Rattle.nr_board.proofs.HeldPolls.{held_next, passed_both}
+use Rattle.nr_board.proofs.HeldPolls.{held_next, up_to_passed, up_to_polled}
 use Rattle.nr_board.proofs.WordLoads.{no_loads}
-use Rattle.nr_board.specs.SlotLists.{held_polls, not_passed}
-
--- one place more of the list
-module _ (retired : List Retired) (flags : List Bool) (place : ℕ) (low : place < length retired) where
-  abbrev next_one : Retired
-  next_one = get_or retired place no_retired
-
-  unflagged_next : unflagged retired flags (place + 1)
-      ≡ unflagged retired flags place ++ not_passed (is_flagged flags) (next_one ∷ [])
-  unflagged_next =
-      let more : place + 1 ≡ suc place = omega arith in
-      ap (unflagged retired flags) more ∙ ap (not_passed (is_flagged flags)) (take-suc retired place no_retired low)
-      ∙ passed_both (is_flagged flags) (take place retired) (next_one ∷ [])
-
-  unflagged_past : is_flagged flags next_one.slot ≡ true
-      → unflagged retired flags (place + 1) ≡ unflagged retired flags place
-  unflagged_past flagged = unflagged_next ∙ rw flagged (append-nil (unflagged retired flags place))
-
-  unflagged_more : is_flagged flags next_one.slot ≡ false
-      → unflagged retired flags (place + 1) ≡ unflagged retired flags place ++ next_one ∷ []
-  unflagged_more free = unflagged_next ∙ rw free refl
-
-  polls_past : is_flagged flags next_one.slot ≡ true
-      → polls_before retired flags (place + 1) ≡ polls_before retired flags place
-  polls_past flagged = ap length (unflagged_past flagged)
-
-  polls_more : is_flagged flags next_one.slot ≡ false
-      → polls_before retired flags (place + 1) ≡ polls_before retired flags place + 1
-  polls_more free = ap length (unflagged_more free) ∙ length-append (unflagged retired flags place) (next_one ∷ [])
+use Rattle.nr_board.specs.SlotLists.{held_polls}
 
 -- the notes as the pass goes on
 notes_on : (retired : List Retired) (flags : List Bool) (readers place : ℕ) (note : Past)
@@ -83,28 +53,19 @@ notes_on retired flags readers place note one = record {
   holds =
       ⊎_elim inl
       (λ (h : (slot : ℕ) × (note.slot ≡ Some slot)
-      × ((is_flagged flags slot ≡ true)
-      ⊎ ((at : ℕ) × (entry : Retired) × (at < place) × (get_elem? retired at ≡ some entry)
-      × (slot ≡ entry.slot)))).
-      inr (
-        h.0,
-        h.1,
-        ⊎_elim inl
-            (λ (p : (at : ℕ) × (entry : Retired) × (at < place) × (get_elem? retired at ≡ some entry)
-            × (h.0 ≡ entry.slot)).
-            inr (p.0, p.1, omega (arith, p.2), p.3, p.4))
-            h.2,
-      ))
+      × ((is_flagged flags slot ≡ true) ⊎ Reached retired place slot)).
+      inr (h.0, h.1, ⊎_elim inl (λ (r : Reached retired place h.0). inr (reached_on retired place h.0 r)) h.2))
       one.holds;
 }
 
 -- a slot with a flag is passed by
-pub notes_past : (retired : List Retired) (flags : List Bool) (readers place first : ℕ) (notes : List Past)
+notes_past : (retired : List Retired) (flags : List Bool) (readers place first : ℕ) (notes : List Past)
     → place < length retired → is_flagged flags (get_or retired place no_retired).slot ≡ true
     → NotesTo retired flags readers place first notes
     → NotesTo retired flags readers (place + 1) first notes
 notes_past retired flags readers place first notes low flagged so_far = record {
-  many = let same = polls_past retired flags place low flagged in let many = so_far.many in omega arith;
+  many = so_far.many ∙ ap (λ (l : List Retired). first + length l)
+      (sym (up_to_passed (is_flagged flags) retired place low flagged));
   each = λ at note there. notes_on retired flags readers place note (so_far.each at note there);
   apart = so_far.apart;
 }
@@ -113,40 +74,35 @@ module _ (retired : List Retired) (flags : List Bool) (readers place first : ℕ
     (low : place < length retired) (free : is_flagged flags (get_or retired place no_retired).slot ≡ false)
     (differ : (one other : ℕ) (a b : Retired) → get_elem? retired one ≡ some a → get_elem? retired other ≡ some b
     → a.slot ≡ b.slot → one ≡ other)
-    (here : get_elem? retired place ≡ some (get_or retired place no_retired))
     (so_far : NotesTo retired flags readers place first notes) (note : Past)
     (holds : note.slot ≡ Some (get_or retired place no_retired).slot) (made : 0 < note.reader)
     (few : note.reader ≤ readers) (nowhere_else : NotedNowhereElse notes note) where
-  abbrev value : Option ℕ → ℕ
-  value (Some n) = n
-  value None = 0
+  abbrev this : Retired
+  this = get_or retired place no_retired
 
-  not_none : (n : ℕ) (o : Option ℕ) → o ≡ Some n → o ≡ None → ⊥
-  not_none n o one none = absurd (cc)
+  here_it_is : get_elem? retired place ≡ some this
+  here_it_is = at_get retired place low
 
   -- its reader was not noted before
   is_new : (at : ℕ) (old : Past) → get_elem? notes at ≡ some old → old.reader ≢ note.reader
   is_new at old there same =
-      let slot_is : old.slot ≡ Some (get_or retired place no_retired).slot = nowhere_else at old there same ∙ holds in
-      ⊎_elim (λ (none : old.slot ≡ None). not_none (get_or retired place no_retired).slot old.slot slot_is none)
+      let slot_is : old.slot ≡ Some this.slot = nowhere_else at old there same ∙ holds in
+      ⊎_elim (λ (none : old.slot ≡ None). absurd (cc))
       (λ (h : (slot : ℕ) × (old.slot ≡ Some slot)
-      × ((is_flagged flags slot ≡ true)
-      ⊎ ((at : ℕ) × (entry : Retired) × (at < place) × (get_elem? retired at ≡ some entry)
-      × (slot ≡ entry.slot)))).
-      let is : h.0 ≡ (get_or retired place no_retired).slot = ap value (sym h.1 ∙ slot_is) in
+      × ((is_flagged flags slot ≡ true) ⊎ Reached retired place slot)).
+      let is : h.0 ≡ this.slot = some_is h.0 this.slot (sym h.1 ∙ slot_is) in
       ⊎_elim
-      (λ (flagged : is_flagged flags h.0 ≡ true). false≢true (sym (sym flagged ∙ ap (is_flagged flags) is ∙ free)))
-      (λ (p : (at : ℕ) × (entry : Retired) × (at < place) × (get_elem? retired at ≡ some entry) × (h.0 ≡ entry.slot)).
-      absurd
-      (let one = differ p.0 place p.1 (get_or retired place no_retired) p.3 here (sym p.4 ∙ is) in
-      omega (arith, p.2)))
+      (λ (flagged : is_flagged flags h.0 ≡ true). false≢true (sym free ∙ ap (is_flagged flags) (sym is) ∙ flagged))
+      (λ (p : Reached retired place h.0). absurd
+      (let one = differ p.0 place p.1 this p.3 here_it_is (p.4 ∙ is) in omega (arith, p.2)))
       h.2)
       (so_far.each at old there).holds
 
   -- a slot that was held is noted
-  pub notes_more : NotesTo retired flags readers (place + 1) first (notes ++ note ∷ [])
+  notes_more : NotesTo retired flags readers (place + 1) first (notes ++ note ∷ [])
   notes_more = record {
-    many = let more = polls_more retired flags place low free in
+    many = let more = ap length (up_to_polled (is_flagged flags) retired place low free) in
+        let both = length-append (unflagged retired flags place) (this ∷ []) in
         let long = length-append notes (note ∷ []) in let many = so_far.many in omega arith;
     each = λ at other there. ⊎_elim
         (λ (old : get_elem? notes at ≡ some other). notes_on retired flags readers place other
@@ -154,24 +110,9 @@ module _ (retired : List Retired) (flags : List Bool) (readers place first : ℕ
         (λ (new : note ≡ other). subst (NotesOne retired flags readers (place + 1)) new (record {
           made = made;
           few = few;
-          holds =
-              inr (
-                (get_or retired place no_retired).slot,
-                holds,
-                inr (place, get_or retired place no_retired, omega arith, here, refl),
-              );
+          holds = inr (this.slot, holds, inr (reached_here retired place this here_it_is));
         })) (at_snoc notes note other at there);
-    apart = λ reader.
-        let both = total-append (λ (n : Past). only reader n.reader) notes (note ∷ []) in
-        dite (ℕ_discrete note.reader reader)
-        (λ e.
-        let none : total (λ (n : Past). only reader n.reader) notes ≡ 0
-        = dite (ℕ_discrete (total (λ (n : Past). only reader n.reader) notes) 0) (λ z. z)
-        (λ some_there. absurd
-        (let t = some_term (λ (n : Past). only reader n.reader) notes (omega arith) in
-        is_new t.0 t.1 t.2 (only-is reader t.1.reader t.3 ∙ sym e))) in
-        let one = only-le reader note.reader in omega arith)
-        (λ ne. let none = only-other reader note.reader ne in let before = so_far.apart reader in omega arith);
+    apart = once_more notes note so_far.apart is_new;
   }
 
 -- as many notes at most as there are readers
@@ -229,7 +170,7 @@ module _ (table : Table) (lists : SlotLists) (flags : List Bool) (before now : M
   entry_inside = so_far.search.search.room.inside place entry here_now
 
   pub passed_by : is_flagged flags entry.slot ≡ true → PassedTo table lists flags before now (place + 1)
-  passed_by flagged = let same = sym (unflagged_past lists.retired flags place low flagged) in record {
+  passed_by flagged = let same = sym (up_to_passed (is_flagged flags) lists.retired place low flagged) in record {
     own = so_far.own;
     role = so_far.role;
     search = so_far.search;
@@ -274,9 +215,6 @@ module _ (table : Table) (lists : SlotLists) (flags : List Bool) (before now : M
     told : Tried search_now.desk search_now.call search_now.rows place found now.me.0 next.me.0
     told = tells search_now.desk search_now.call search_now.rows place search_now.role search_now.place here_now
 
-    abbrev held_now : ℕ → Past → Type 0
-    held_now = HeldThen before.me.0.seen next.me.0.seen
-
     entry_is : entry ≡ retired_at search_now.desk place
     entry_is = there_is search_now.desk.retired place entry here_now
 
@@ -312,8 +250,9 @@ module _ (table : Table) (lists : SlotLists) (flags : List Bool) (before now : M
         = subst (λ (p : Bool × Retired). TryTells p.0 now.me.0.shape p.1.slot now.me.0.marks next.me.0.marks)
         (λ j. (differs j, sym entry_is j)) told.marks in
         let polls = ap (λ (m : Marks). m.polls) noted.1 in
+        let longer = up_to_polled (is_flagged flags) lists.retired place low free in
         let count : polls_before lists.retired flags place + 1 ≡ polls_before lists.retired flags (place + 1)
-        = sym (polls_more lists.retired flags place low free) in
+        = sym (ap length longer ∙ length-append (unflagged lists.retired flags place) (entry ∷ [])) in
         let size = ap (λ (t : Table). t.shape.readers) search_now.own in record {
           own = same ∙ so_far.own;
           role = role ∙ sym search_now.role ∙ so_far.role;
@@ -339,26 +278,19 @@ module _ (table : Table) (lists : SlotLists) (flags : List Bool) (before now : M
               (λ one other a b at_a at_b. search_now.room.apart one other a b
               (there_too search_now.desk lists one a so_far.search.retired at_a)
               (there_too search_now.desk lists other b so_far.search.retired at_b))
-              here so_far.notes
+              so_far.notes
               noted.0 noted.2 noted.3 (let few = noted.4 in omega arith) noted.5);
           kept =
-              subst (Adds (PolledTo lists.retired flags (place + 1)) held_now before.me.0.marks.polls) (sym polls)
-              (adds_more (PolledTo lists.retired flags place) (PolledTo lists.retired flags (place + 1)) held_now
-              before.me.0.marks.polls now.me.0.marks.polls entry.slot noted.0
+              adds_held (PolledTo lists.retired flags place) (PolledTo lists.retired flags (place + 1))
+              before.me.0.marks.polls now.me.0.marks.polls next.me.0.marks.polls before.me.0.seen now.me.0.seen
+              next.me.0.seen entry.slot noted.0
               (λ slot polled. ⊎_elim (λ r. inl (r, polled.1)) inr
               (reached_more lists.retired place entry here slot polled.0))
               (λ slot polled. (reached_on lists.retired place slot polled.0, polled.1))
               (reached_here lists.retired place entry here, free)
-              (held_noted before.me.0.seen next.me.0.seen now.me.0.marks.polls next.me.0.marks.polls entry.slot
-              noted.0
               (grows_from (polls_before lists.retired flags place + 1) (token before) [] (token next) grown)
-              told.notes polls noted.2)
-              (adds_on (PolledTo lists.retired flags place) (PolledTo lists.retired flags place)
-              (HeldThen before.me.0.seen now.me.0.seen) held_now before.me.0.marks.polls now.me.0.marks.polls
-              (λ _ polled. polled) (λ _ polled. polled)
-              (λ _ _ held. held_within starts_itself
-              (grows_from 1 (token now) [] (token next) (seat_grows now next [] same told.leads.advances)) held)
-              so_far.kept));
+              (grows_from 1 (token now) [] (token next) (seat_grows now next [] same told.leads.advances)) told.notes
+              polls noted.2 so_far.kept;
           heard = told.heard ∙ so_far.heard;
           marks =
               marks_are next.me.0.marks false
@@ -366,9 +298,7 @@ module _ (table : Table) (lists : SlotLists) (flags : List Bool) (before now : M
               ∙ ap
               (λ (l : List LoggedLoad). with_scan before.me.0.marks next.me.0.marks.polls
               (before.me.0.marks.loads ++ l))
-              (sym
-              (ap held_polls (unflagged_more lists.retired flags place low free)
-              ∙ held_next (unflagged lists.retired flags place) entry));
+              (sym (ap held_polls longer ∙ held_next (unflagged lists.retired flags place) entry));
         }
 
     pub pass_takes : same_count found entry.arrivals ≡ true → (taken : Taken) → taken.slot ≡ entry.slot

@@ -35,7 +35,6 @@ use Rattle.nr_core.specs.declared.calls.NoSlot.{NoSlot}
 use Rattle.nr_core.specs.declared.roles.Desk.{Desk}
 use Rattle.nr_core.specs.declared.shape.Shape.{Shape}
 use Rattle.nr_model.specs.Maps.{filled_count}
-use Rattle.nr_model.specs.declared.calls.Reply.TheVariants as reply
 use Rattle.nr_board.specs.SearchPlays.{scan_base}
 use Rattle.nr_board.specs.SearchSeats.{Ends}
 use Rattle.nr_board.proofs.WordLoads.{words_many, words_told}

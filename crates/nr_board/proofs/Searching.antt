@@ -23,7 +23,7 @@ use Rattle.nr_core.specs.declared.places.Retired.{Retired}
 use Rattle.nr_core.specs.declared.roles.Desk.{Desk}
 use Rattle.nr_core.specs.declared.shape.Shape.{Shape}
 use Rattle.nr_board.proofs.HeldPolls.{held_many, held_next}
-use Rattle.nr_board.proofs.Keepers.{adds_more, adds_none, adds_on, held_noted, held_within, kept_back, starts_itself}
+use Rattle.nr_board.proofs.Keepers.{adds_held, adds_none, kept_back}
 use Rattle.nr_board.proofs.PollNotes.{at_get, reached_all, reached_here, reached_more, reached_none, reached_on}
 use Rattle.nr_board.proofs.PollNotes.{reached_waits}
 use Rattle.nr_board.proofs.WordLoads.{no_loads}
@@ -236,26 +236,16 @@ module _ (table : Table) (call : WriterCall) (rows : List Row) (lists : SlotList
               = ap length missed.more ∙ length-append mid.me.0.marks.polls
               (missed.note ∷ []) in let many = so_far.many in omega arith;
           kept =
-              let begun = grows_from (polls + 1) (token before) _ (token after) now_grown in
-              let on = grows_from 1 (token mid) _ (token after) leads.grows in
               let entry = retired_at desk_now polls in
               let here = at_get lists.retired polls low in
-              let held = HeldThen before.me.0.seen after.me.0.seen in
-              subst (Adds (Reached lists.retired (polls + 1)) held []) (sym polled_so.1.more)
-              (adds_more (Reached lists.retired polls) (Reached lists.retired (polls + 1)) held []
-              mid.me.0.marks.polls entry.slot polled_so.1.note
-              (λ slot reached. reached_more lists.retired polls entry here slot reached)
-              (λ slot reached. reached_on lists.retired polls slot reached)
+              adds_held (Reached lists.retired polls) (Reached lists.retired (polls + 1)) [] mid.me.0.marks.polls
+              after.me.0.marks.polls before.me.0.seen mid.me.0.seen after.me.0.seen entry.slot polled_so.1.note
+              (reached_more lists.retired polls entry here) (reached_on lists.retired polls)
               (reached_here lists.retired polls entry here)
-              (held_noted before.me.0.seen after.me.0.seen mid.me.0.marks.polls after.me.0.marks.polls entry.slot
-              polled_so.1.note begun
+              (grows_from (polls + 1) (token before) _ (token after) now_grown)
+              (grows_from 1 (token mid) _ (token after) leads.grows)
               (rw seen_is told.notes)
-              polled_so.1.more polled_so.1.holds)
-              (adds_on (Reached lists.retired polls) (Reached lists.retired polls)
-              (HeldThen before.me.0.seen mid.me.0.seen) held []
-              mid.me.0.marks.polls
-              (λ _ reached. reached) (λ _ reached. reached) (λ _ _ was. held_within starts_itself on was)
-              so_far.kept));
+              polled_so.1.more polled_so.1.holds so_far.kept;
           marks =
               polled_marks false after.me.0.marks polled_so.0
               ∙ ap

@@ -1,27 +1,22 @@
 -- A reap, poll by poll: the slots whose sets wait are split into those that were found held and those that are still to
 -- be polled.
-use Rattle.std.proofs.Common.{drop-cons, ◌≡◌, ◌∙◌, ℕ, zero, suc, ◌+◌, ◌<◌, ◌≤◌, Bool, true, false, List, [], ◌∷◌, ◌++◌}
+use Rattle.std.proofs.Common.{take, ◌≡◌, ◌∙◌, ℕ, zero, suc, ◌+◌, ◌<◌, ◌≤◌, Bool, true, false, List, [], ◌∷◌, ◌++◌}
 use Rattle.std.proofs.Common.{ap, append-nil, append_assoc, arith, drop, get_or, length, length-append, refl, subst}
 use Rattle.std.proofs.Common.{sym, ◌≢◌, ⊎_elim}
 use Rattle.std.proofs.lemmas.Bool.{ltb-false}
-use Rattle.nr_core.proofs.Choices.{on_test}
 use Rattle.std.specs.Prelude.{Some, nat_lt, ◌||◌}
 use lib.ListN.{get_elem?}
-use mathlib.Core.Logic.{dite}
 use mathlib.Core.Option.{some, some-injective, some-ne-none}
-use native.Mathlib.Decide.{ℕ_discrete}
 use Rattle.atomic_table.specs.Table.{Allows, Me}
 use Rattle.nr_model.specs.Histories.{entries_of}
 use Rattle.nr_words.specs.KeyWords.{same_count}
 use Rattle.nr_core.proofs.Learn.{learns}
-use Rattle.nr_core.proofs.Sums.{only-is, only-le, only-other, some_term, total-append}
 use Rattle.nr_core.proofs.WordPlaces.{same_departures}
 use Rattle.nr_core.specs.Core.{AreNumbers}
 use Rattle.nr_core.specs.Roles.{holds, is_reader, is_writer}
 use Rattle.atomic_table.proofs.Lists.{at_map}
 use Rattle.nr_core.specs.Steps.{LoadsWord}
 use Rattle.nr_core.specs.Slots.{departures}
-use Rattle.nr_core.specs.Sums.{only, total}
 use Rattle.nr_core.specs.SlotLists.{AreReaped, SlotLists}
 use Rattle.nr_core.specs.States.{no_retired}
 use Rattle.nr_core.specs.declared.operation.Operation.TheVariants.{Load}
@@ -32,17 +27,19 @@ use Rattle.nr_core.specs.declared.roles.Role.TheVariants.{Writer}
 use Rattle.nr_core.specs.declared.shape.Shape.{Shape}
 use Rattle.nr_core.proofs.ListPlaces.{at_last, at_left, before as before_at, inside, some_is}
 use Rattle.nr_core.proofs.ReapMarks.{probes_marked}
-use Rattle.nr_core.specs.Marks.{Marks, OfSlot, Past, LoggedLoad, with_poll, with_polls, with_reaped, with_scan}
+use Rattle.nr_core.specs.Marks.{Marks, OfSlot, Past, LoggedLoad, with_loads, with_poll, with_polls}
+use Rattle.nr_core.specs.Marks.{with_reaped, with_scan}
 use Rattle.nr_core.specs.MarkSteps.{ProbeTells, ProbesMarks}
-use Rattle.nr_board.proofs.HeldPolls.{held_next}
-use Rattle.nr_board.proofs.Keepers.{at_behind, at_end}
+use Rattle.nr_board.proofs.HeldPolls.{held_next, polled_reached, split_here, up_to_passed, up_to_polled}
+use Rattle.nr_board.proofs.Keepers.{at_behind, at_end, once_more}
 use Rattle.nr_board.proofs.Lift.{knows_pasts, lends_on, lifts, sees_alone}
 use Rattle.nr_board.proofs.Moves.{ActsGo, waited, waiting as learns_nothing}
 use Rattle.nr_board.proofs.PollNotes.{at_get}
 use Rattle.nr_board.specs.Callers.{Caller, Table, caller_of, map_seen, token}
 use Rattle.nr_board.specs.Entries.{AreCallers}
 use Rattle.nr_board.specs.Plays.{Room}
-use Rattle.nr_board.specs.Reaping.{HeldEach, ProbesAt, ProbesTo, SweepsFor, SweptTo, probed, ready_in, waiting}
+use Rattle.nr_board.specs.Reaping.{HeldEach, ProbesAt, ProbesTo, SweepsFor, SweptTo, probed, ready_before, reaping}
+use Rattle.nr_board.specs.Reaping.{SomeWait, waiting}
 use Rattle.nr_board.specs.Rule.{Kept, marks_of, role_of}
 use Rattle.nr_board.specs.SlotLists.{desk_with, held_polls, not_passed}
 use Rattle.nr_board.specs.Views.{View, caller_number, desk_of}
@@ -122,36 +119,7 @@ probes_so shape slots id me desk poll entry is idle here heard =
     subst (λ (p : Shape × Retired). ProbesTo p.0 p.1 found view next) (λ j. (sym sized j, one_entry j))
     (next_is, marked.told.1)))
 
--- THE SLOTS THAT WAIT
-
-abbrev flag : List Bool → ℕ → Bool
-flag flags slot = get_or flags slot false
-
--- what waits from a place of the list on, where the slot there is passed by, and where it waits
-module _ (passes : ℕ → Bool) (l : List Retired) (place : ℕ) (low : place < length l) where
-  abbrev entry_there : Retired
-  entry_there = get_or l place no_retired
-
-  drop_next : drop place l ≡ entry_there ∷ drop (place + 1) l
-  drop_next =
-      let e : suc place ≡ place + 1 = omega arith in
-      drop-cons l place no_retired low ∙ ap (λ (n : ℕ). entry_there ∷ drop n l) e
-
-  waits_not : passes entry_there.slot ≡ true → not_passed passes (drop place l) ≡ not_passed passes (drop (place + 1) l)
-  waits_not gone = ap (not_passed passes) drop_next ∙ rw gone refl
-
-  waits_there : passes entry_there.slot ≡ false
-      → not_passed passes (drop place l) ≡ entry_there ∷ not_passed passes (drop (place + 1) l)
-  waits_there stays = ap (not_passed passes) drop_next ∙ rw stays refl
-
--- one waits, if one at a place of the list does
-some_waits : (passes : ℕ → Bool) (l : List Retired) (place : ℕ) → place < length l
-    → passes (get_or l place no_retired).slot ≡ false → 0 < length (not_passed passes l)
-some_waits passes [] place low stays = absurd (omega arith)
-some_waits passes (x ∷ l) zero low stays = rw stays (omega arith)
-some_waits passes (x ∷ l) (suc place) low stays =
-    on_test (λ (m : List Retired). 0 < length m) (passes x.slot)
-    (λ _. some_waits passes l place (omega arith) stays) (λ _. omega arith)
+-- THE SLOTS THAT ARE HELD
 
 none_held : (readers : ℕ) → HeldEach readers [] []
 none_held readers = record {
@@ -169,19 +137,6 @@ module _ (readers : ℕ) (slots : List Retired) (notes : List Past) (entry : Ret
     (each : HeldEach readers slots notes) (on : note.slot ≡ Some entry.slot)
     (low : 0 < note.reader) (high : note.reader ≤ readers)
     (apart : (at : ℕ) (old : Past) → get_elem? notes at ≡ some old → old.reader ≢ note.reader) where
-  once : (reader : ℕ) → total (λ (old : Past). only reader old.reader) (notes ++ note ∷ []) ≤ 1
-  once reader =
-      let more = total-append (λ (old : Past). only reader old.reader) notes (note ∷ []) in
-      let most = each.held.different reader in
-      dite (ℕ_discrete note.reader reader)
-      (λ same.
-      let le = only-le reader note.reader in
-      dite (ℕ_discrete (total (λ (old : Past). only reader old.reader) notes) 0) (λ none. omega arith)
-      (λ some_one.
-      let t = some_term (λ (old : Past). only reader old.reader) notes (omega arith) in
-      absurd (apart t.0 t.1 t.2 (only-is reader t.1.reader t.3 ∙ sym same))))
-      (λ other. let none = only-other reader note.reader other in omega arith)
-
   held_more : HeldEach readers (slots ++ entry ∷ []) (notes ++ note ∷ [])
   held_more = let many = each.held.many in record {
     held = record {
@@ -192,7 +147,7 @@ module _ (readers : ℕ) (slots : List Retired) (notes : List Past) (entry : Ret
           (λ (new : (at ≡ length slots) × (entry ≡ e)).
           (note, at_end notes note at (omega (arith, new.0)), on ∙ ap (λ (x : Retired). Some x.slot) new.1))
           (at_last slots entry e at there);
-      different = once;
+      different = once_more notes note each.held.different apart;
     };
     range = λ at old there. ⊎_elim (λ (was : get_elem? notes at ≡ some old). each.range at old was)
         (λ (new : (at ≡ length notes) × (note ≡ old)). subst (λ (n : Past). (0 < n.reader) × (n.reader ≤ readers)) new.1
@@ -202,29 +157,34 @@ module _ (readers : ℕ) (slots : List Retired) (notes : List Past) (entry : Ret
 
 -- THE SWEEP
 
-probed_none : (view : View) → probed [] [] view ≡ view
-probed_none
+-- one load more
+probed_more : (notes : List Past) (polls : List LoggedLoad) (load : LoggedLoad) (view : View)
+    → record (probed notes polls view) {
+      steps = view.steps + length polls + 1;
+      marks = with_loads (probed notes polls view).marks ((view.marks.loads ++ polls) ++ load ∷ []);
+    }
+    ≡ probed notes (polls ++ load ∷ []) view
+probed_more notes polls load
     view = λ j.
     record view {
-      steps = same j;
-      marks = with_scan view.marks (append-nil view.marks.polls j) (append-nil view.marks.loads j);
+      steps = steps j;
+      marks = with_scan view.marks (view.marks.polls ++ notes) (append_assoc view.marks.loads polls (load ∷ []) j);
     }
   where
-    same : view.steps + 0 ≡ view.steps
-    same = omega arith
+    steps : view.steps + length polls + 1 ≡ view.steps + length (polls ++ load ∷ [])
+    steps = omega (arith, length-append polls (load ∷ []))
 
 pub swept_none : (lists : SlotLists) (seat : MapSeat) → SweptTo lists seat seat 0 false
-swept_none lists seat = record {
-  held = [];
-  notes = [];
-  split = refl;
-  each = none_held seat.me.0.shape.readers;
-  earlier = λ at entry there. absurd (some-ne-none entry (sym there));
-  own = refl;
-  view = sym (probed_none seat.me.0);
-  some_wait = λ clash. absurd (cc);
-  none_wait = λ _. (refl, refl, refl);
-}
+swept_none lists seat =
+    record { notes = []; each = none_held seat.me.0.shape.readers; own = refl; view = none_yet; some_wait = (refl, refl) }
+  where
+    none_yet : seat.me.0 ≡ probed [] [] seat.me.0
+    none_yet = let view = seat.me.0 in let steps : view.steps ≡ view.steps + 0 = omega arith in
+        λ j.
+        record view {
+          steps = steps j;
+          marks = with_scan view.marks (sym (append-nil view.marks.polls) j) (sym (append-nil view.marks.loads) j);
+        }
 
 module _ (lists : SlotLists) (before mid : MapSeat) (place : ℕ) (waits : Bool)
     (so_far : SweptTo lists before mid place waits) (low : place < length lists.retired) where
@@ -232,61 +192,54 @@ module _ (lists : SlotLists) (before mid : MapSeat) (place : ℕ) (waits : Bool)
   this = get_or lists.retired place no_retired
 
   -- a slot is passed by whose set was reaped, or which is not heard
+  abbrev reaped : ℕ → Bool
+  reaped slot = get_or lists.reaped slot false
+
   abbrev unheard : ℕ → Bool
   unheard slot = nat_lt (get_or before.me.0.heard slot 0) before.me.0.announcers
 
   abbrev passes : ℕ → Bool
-  passes slot = flag lists.reaped slot || unheard slot
+  passes slot = reaped slot || unheard slot
 
-  from_here : passes this.slot ≡ true
-      → ready_in lists before.me.0 ≡ so_far.held ++ not_passed passes (drop (place + 1) lists.retired)
-  from_here gone =
-      so_far.split ∙ ap (λ (l : List Retired). so_far.held ++ l) (waits_not passes lists.retired place low gone)
+  abbrev held : List Retired
+  held = ready_before lists before.me.0 place
 
-  earlier_on : (at : ℕ) (entry : Retired) → get_elem? so_far.held at ≡ some entry
-      → (other : ℕ) × (other < place + 1) × (get_elem? lists.retired other ≡ some entry)
-  earlier_on at entry there = let e = so_far.earlier at entry there in (e.0, (let low = e.1 in omega arith), e.2)
+  abbrev waiting_then : List Retired
+  waiting_then = waiting lists.reaped (take (place + 1) lists.retired)
 
-  pub swept_past : flag lists.reaped this.slot ≡ true → SweptTo lists before mid (place + 1) waits
-  swept_past gone = record {
-    held = so_far.held;
+  passed : (now : Bool) → SomeWait waiting_then before.me.0 mid.me.0 now → passes this.slot ≡ true
+      → SweptTo lists before mid (place + 1) now
+  passed now some_wait gone = let same = sym (up_to_passed passes lists.retired place low gone) in record {
     notes = so_far.notes;
-    split = from_here (ap (λ (b : Bool). b || unheard this.slot) gone);
-    each = so_far.each;
-    earlier = earlier_on;
+    each = subst (λ (l : List Retired). HeldEach before.me.0.shape.readers l so_far.notes) same so_far.each;
     own = so_far.own;
-    view = so_far.view;
-    some_wait = so_far.some_wait;
-    none_wait = λ none.
-        let was = so_far.none_wait none in
-        (was.0, was.1, was.2 ∙ waits_not (flag lists.reaped) lists.retired place low gone);
+    view = so_far.view ∙ ap (λ (l : List Retired). probed so_far.notes (held_polls l) before.me.0) same;
+    some_wait = some_wait;
   }
 
-  waits_now : flag lists.reaped this.slot ≡ false → 0 < length (waiting lists.reaped lists.retired)
-  waits_now stays = some_waits (flag lists.reaped) lists.retired place low stays
+  pub swept_past : reaped this.slot ≡ true → SweptTo lists before mid (place + 1) waits
+  swept_past gone =
+      passed waits
+      (subst (λ (l : List Retired). SomeWait l before.me.0 mid.me.0 waits)
+      (sym (up_to_passed reaped lists.retired place low gone)) so_far.some_wait)
+      (ap (λ (b : Bool). b || unheard this.slot) gone)
 
-  pub swept_unheard : flag lists.reaped this.slot ≡ false → unheard this.slot ≡ true
-      → SweptTo lists before mid (place + 1) true
-  swept_unheard stays far = record {
-    held = so_far.held;
-    notes = so_far.notes;
-    split = from_here ((λ j. stays j || far j));
-    each = so_far.each;
-    earlier = earlier_on;
-    own = so_far.own;
-    view = so_far.view;
-    some_wait = λ _. waits_now stays;
-    none_wait = λ clash. absurd (cc);
-  }
+  this_waits : reaped this.slot ≡ false → 0 < length waiting_then
+  this_waits stays =
+      omega (
+        arith,
+        ap length (up_to_polled reaped lists.retired place low stays),
+        length-append (waiting lists.reaped (take place lists.retired)) (this ∷ []),
+      )
+
+  pub swept_unheard : reaped this.slot ≡ false → unheard this.slot ≡ true → SweptTo lists before mid (place + 1) true
+  swept_unheard stays far = passed true (this_waits stays) (λ j. stays j || far j)
 
   module _ (shape : Shape) (found : ℕ) (after : MapSeat) (own : after.table_id ≡ mid.table_id)
-      (tells : ProbesTo shape this found mid.me.0 after.me.0) (stays : flag lists.reaped this.slot ≡ false)
+      (tells : ProbesTo shape this found mid.me.0 after.me.0) (stays : reaped this.slot ≡ false)
       (near : unheard this.slot ≡ false) where
-    split_here : ready_in lists before.me.0 ≡ so_far.held ++ this ∷ not_passed passes (drop (place + 1) lists.retired)
-    split_here =
-        so_far.split
-        ∙ ap (λ (l : List Retired). so_far.held ++ l)
-        (waits_there passes lists.retired place low ((λ j. stays j || near j)))
+    polled : passes this.slot ≡ false
+    polled = λ j. stays j || near j
 
     pub swept_more : (table : Table) → shape ≡ table.shape → RestsAt table lists before
         → same_count found this.arrivals ≡ false → SweptTo lists before after (place + 1) true
@@ -294,15 +247,14 @@ module _ (lists : SlotLists) (before mid : MapSeat) (place : ℕ) (waits : Bool)
         let told = subst (λ (b : Bool). ProbeTells b shape this.slot mid.me.0.marks after.me.0.marks) apart tells.1 in
         let note : Past = told.0 in
         let notes = so_far.notes ++ note ∷ [] in
+        let more = up_to_polled passes lists.retired place low polled in
         let polls_are : mid.me.0.marks.polls ≡ before.me.0.marks.polls ++ so_far.notes
         = ap (λ (v : View). v.marks.polls) so_far.view in
         let readers : shape.readers ≡ before.me.0.shape.readers
         = ap (λ (s : Shape). s.readers) sized ∙ sym (ap (λ (t : Table). t.shape.readers) rests.writes.own) in
-        let here : get_elem? lists.retired place ≡ some this = at_get lists.retired place low in
         let another : (at : ℕ) (old : Past) → get_elem? so_far.notes at ≡ some old → old.reader ≢ note.reader
         = λ at old there same.
-        let entry
-        = before_at so_far.held at (omega (arith, inside so_far.notes at old there, so_far.each.held.many)) in
+        let entry = before_at held at (omega (arith, inside so_far.notes at old there, so_far.each.held.many)) in
         let its = so_far.each.held.slots at entry.0 entry.1 in
         let its_slot : old.slot ≡ Some entry.0.slot
         = ap (λ (p : Past). p.slot) (some-injective old its.0 (sym there ∙ its.1)) ∙ its.2 in
@@ -311,34 +263,16 @@ module _ (lists : SlotLists) (before mid : MapSeat) (place : ℕ) (waits : Bool)
         (ap (λ (l : List Past). get_elem? l (length before.me.0.marks.polls + at)) polls_are
         ∙ at_behind before.me.0.marks.polls so_far.notes at ∙ there) same in
         let one_slot : entry.0.slot ≡ this.slot = some_is entry.0.slot this.slot (sym its_slot ∙ as_here ∙ told.2) in
-        let at_before = so_far.earlier at entry.0 entry.1 in
-        let one_place = rests.writes.room.apart at_before.0 place entry.0 this at_before.2 here one_slot in
-        let early = at_before.1 in
-        absurd (omega arith) in
-        let loads : (before.me.0.marks.loads ++ held_polls so_far.held) ++ OfSlot this.slot false ∷ []
-        ≡ before.me.0.marks.loads ++ held_polls (so_far.held ++ this ∷ [])
-        = append_assoc before.me.0.marks.loads (held_polls so_far.held) (OfSlot this.slot false ∷ [])
-        ∙ ap (λ (l : List LoggedLoad). before.me.0.marks.loads ++ l) (sym (held_next so_far.held this)) in
-        let steps : before.me.0.steps + length (held_polls so_far.held) + 1
-        ≡ before.me.0.steps + length (held_polls (so_far.held ++ this ∷ []))
-        = let longer
-        = ap length (held_next so_far.held this)
-        ∙ length-append (held_polls so_far.held) (OfSlot this.slot false ∷ []) in
-        omega (arith, longer) in
+        let earlier = polled_reached passes lists.retired place at entry.0 entry.1 in
+        let one_place
+        = rests.writes.room.apart earlier.0 place earlier.1 this earlier.3 (at_get lists.retired place low)
+        (earlier.4 ∙ one_slot) in
+        absurd (omega (arith, earlier.2)) in
         record {
-          held = so_far.held ++ this ∷ [];
           notes = notes;
-          split =
-              split_here
-              ∙ sym (append_assoc so_far.held (this ∷ []) (not_passed passes (drop (place + 1) lists.retired)));
-          each =
-              held_more before.me.0.shape.readers so_far.held so_far.notes this note so_far.each told.2 told.3
-              (let high = told.4 in omega arith) another;
-          earlier = λ at entry there. ⊎_elim
-              (λ (old : get_elem? so_far.held at ≡ some entry).
-              let e = so_far.earlier at entry old in (e.0, (let early = e.1 in omega arith), e.2))
-              (λ (new : (at ≡ length so_far.held) × (this ≡ entry)). (place, omega arith, here ∙ ap some new.1))
-              (at_last so_far.held this entry at there);
+          each = subst (λ (l : List Retired). HeldEach before.me.0.shape.readers l notes) (sym more)
+              (held_more before.me.0.shape.readers held so_far.notes this note so_far.each told.2 told.3
+              (let high = told.4 in omega arith) another);
           own = own ∙ so_far.own;
           view = tells.0 ∙ (λ j. record mid.me.0 { steps = mid.me.0.steps + 1; marks = told.1 j })
               ∙ ap
@@ -348,32 +282,31 @@ module _ (lists : SlotLists) (before mid : MapSeat) (place : ℕ) (waits : Bool)
                 marks = with_polls (with_poll v.marks this.slot false) (v.marks.polls ++ note ∷ []);
               })
               so_far.view
+              ∙ ap (λ (v : View). record v { marks = with_polls v.marks (v.marks.polls ++ note ∷ []) })
+              (probed_more so_far.notes (held_polls held) (OfSlot this.slot false) before.me.0)
               ∙ (λ j.
+              let polls = (sym (held_next held this) ∙ ap held_polls (sym more)) j in
               record before.me.0 {
-                steps = steps j;
+                steps = before.me.0.steps + length polls;
                 marks = with_scan before.me.0.marks
-                    (append_assoc before.me.0.marks.polls so_far.notes (note ∷ []) j) (loads j);
+                    (append_assoc before.me.0.marks.polls so_far.notes (note ∷ []) j)
+                    (before.me.0.marks.loads ++ polls);
               });
-          some_wait = λ _. waits_now stays;
-          none_wait = λ clash. absurd (cc);
+          some_wait = this_waits stays;
         }
 
     pub sweeps_free : same_count found this.arrivals ≡ true → this.slot < lists.slots
         → SweepsFor lists before after (sweep.Free this.slot)
-    sweeps_free agree near =
-        let told = subst (λ (b : Bool). ProbeTells b shape this.slot mid.me.0.marks after.me.0.marks) agree tells.1 in
-        let free : List LoggedLoad = OfSlot this.slot true ∷ [] in
-        let steps : before.me.0.steps + length (held_polls so_far.held) + 1
-        ≡ before.me.0.steps + length (held_polls so_far.held ++ free)
-        = let longer = length-append (held_polls so_far.held) free in omega (arith, longer) in (
-          so_far.held,
+    sweeps_free agree inside_it =
+        let told = subst (λ (b : Bool). ProbeTells b shape this.slot mid.me.0.marks after.me.0.marks) agree tells.1 in (
+          held,
           not_passed passes (drop (place + 1) lists.retired),
           this,
           so_far.notes,
-          split_here,
+          split_here passes lists.retired place low polled,
           so_far.each,
           refl,
-          near,
+          inside_it,
           tells.0 ∙ (λ j. record mid.me.0 { steps = mid.me.0.steps + 1; marks = told j })
               ∙ ap
               (λ (v : View).
@@ -382,14 +315,8 @@ module _ (lists : SlotLists) (before mid : MapSeat) (place : ℕ) (waits : Bool)
                 marks = with_reaped (with_poll v.marks this.slot true) this.slot;
               })
               so_far.view
-              ∙ (λ j.
-              record before.me.0 {
-                steps = steps j;
-                marks = with_reaped
-                    (with_scan before.me.0.marks (before.me.0.marks.polls ++ so_far.notes)
-                    (append_assoc before.me.0.marks.loads (held_polls so_far.held) free j))
-                    this.slot;
-              }),
+              ∙ ap (reaping this.slot)
+              (probed_more so_far.notes (held_polls held) (OfSlot this.slot true) before.me.0),
         )
 
 -- the first, which were reaped, are passed by

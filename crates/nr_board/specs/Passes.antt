@@ -42,9 +42,7 @@ pub record NotesOne (retired : List Retired) (flags : List Bool) (readers place 
   pub few : note.reader ≤ readers
   pub holds : (note.slot ≡ None)
       ⊎ ((slot : ℕ) × (note.slot ≡ Some slot)
-      × ((is_flagged flags slot ≡ true)
-      ⊎ ((at : ℕ) × (entry : Retired) × (at < place) × (get_elem? retired at ≡ some entry)
-      × (slot ≡ entry.slot))))
+      × ((is_flagged flags slot ≡ true) ⊎ Reached retired place slot))
 
 -- so many notes that were there, and one for each poll: each of another reader
 pub record NotesTo (retired : List Retired) (flags : List Bool) (readers place first : ℕ) (notes : List Past) : Type

@@ -1,7 +1,7 @@
 -- A reap: the writer polls the retired slots whose sets wait, oldest first, and gives out the set of the first that no
 -- reader holds. The slot stays retired, and its set is reaped.
-use Rattle.std.specs.Prelude.{◌≡◌, ℕ, ◌+◌, ◌*◌, ◌<◌, ◌≤◌, ◌⊎◌, ◌||◌, Bool, true, false, List, [], ◌∷◌, ◌++◌, drop}
-use Rattle.std.specs.Prelude.{length, nat_lt, slice_index, slice_index_or}
+use Rattle.std.specs.Prelude.{◌≡◌, ℕ, ◌+◌, ◌*◌, ◌<◌, ◌≤◌, ◌⊎◌, ◌||◌, Bool, true, false, List, [], ◌∷◌, ◌++◌}
+use Rattle.std.specs.Prelude.{length, nat_lt, slice_index, slice_index_or, take}
 use mathlib.Core.Option.{some}
 use lib.ListN.{get_elem?}
 use Rattle.nr_model.specs.Rows.{IsRowSet}
@@ -98,23 +98,22 @@ SweepsFor lists old new sweep.Held =
     × (view_of new ≡ probed notes (held_polls (ready_in lists (view_of old))) (view_of old))
 SweepsFor lists old new sweep.Nothing = (waiting lists.reaped lists.retired ≡ []) × (view_of new ≡ view_of old)
 
--- the sweep so far
+-- the slots before that place that are ready
+abbrev pub ready_before : SlotLists → View → ℕ → List Retired
+ready_before lists view place = ready view.announcers view.heard lists.reaped (take place lists.retired)
+
+-- whether one of those sets waits; else nothing was polled
+abbrev pub SomeWait : List Retired → View → View → Bool → Type 0
+SomeWait waiting before now true = 0 < length waiting
+SomeWait waiting before now false = (waiting ≡ []) × (now ≡ before)
+
+-- the sweep so far: each slot that it polled was held
 pub record SweptTo (lists : SlotLists) (before now : MapSeat) (place : ℕ) (waits : Bool) : Type 0 where
-  pub held : List Retired
   pub notes : List Past
-  pub split : ready_in lists (view_of before)
-      ≡ held ++ ready (view_of before).announcers (view_of before).heard lists.reaped (drop place lists.retired)
-  pub each : HeldEach (view_of before).shape.readers held notes
-  -- each of them stands before the place in the list
-  pub earlier : (at : ℕ) (entry : Retired) → get_elem? held at ≡ some entry
-      → (other : ℕ) × (other < place) × (get_elem? lists.retired other ≡ some entry)
+  pub each : HeldEach (view_of before).shape.readers (ready_before lists (view_of before) place) notes
   pub own : now.table_id ≡ before.table_id
-  pub view : view_of now ≡ probed notes (held_polls held) (view_of before)
-  -- whether a set waits
-  pub some_wait : waits ≡ true → 0 < length (waiting lists.reaped lists.retired)
-  pub none_wait : waits ≡ false
-      → (notes ≡ []) × (held ≡ [])
-      × (waiting lists.reaped lists.retired ≡ waiting lists.reaped (drop place lists.retired))
+  pub view : view_of now ≡ probed notes (held_polls (ready_before lists (view_of before) place)) (view_of before)
+  pub some_wait : SomeWait (waiting lists.reaped (take place lists.retired)) (view_of before) (view_of now) waits
 
 -- a sweep; or, where readers have words, one that was in vain, a scan, and another sweep
 abbrev pub SweepsHeard : SlotLists → MapSeat → MapSeat → Sweep → Type 0

@@ -1,4 +1,4 @@
-use Rattle.std.proofs.Common.{ap, arith, get_or, length, refl, subst, sym, true, false, Bool, List, ℕ, ◌+◌, ◌<◌, ◌∙◌}
+use Rattle.std.proofs.Common.{ap, arith, get_or, length, refl, subst, sym, false, Bool, List, ℕ, ◌<◌, ◌∙◌}
 use Rattle.std.proofs.Common.{◌≡◌}
 use Rattle.std.specs.Prelude.{nat_lt}
 use Rattle.nr_core.specs.SlotLists.{SlotLists}
@@ -13,7 +13,6 @@ use Rattle.nr_core.specs.declared.places.Retired.{Retired}
 use Rattle.nr_board.proofs.Sweeps.{probes_at, retired_near, swept_first, swept_more, swept_past, swept_unheard}
 use Rattle.nr_board.proofs.Sweeps.{sweeps_free}
 use Rattle.nr_board.specs.Reaping.{ProbesTo}
-use Rattle.nr_board.specs.declared.reaping.Sweep.TheVariants as sweep
 use Rattle.nr_board.proofs.board.Board.sweep.Goals.{then-not-is_reaped+then-not-is_flagged+else-same_count}
 use Rattle.nr_board.proofs.board.Board.sweep.Goals.{then-not-is_reaped+else-not-is_flagged, else-not-is_reaped}
 use Rattle.nr_board.proofs.board.Board.sweep.Goals as goal

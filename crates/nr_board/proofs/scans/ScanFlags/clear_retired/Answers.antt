@@ -1,4 +1,4 @@
-use Rattle.std.proofs.Common.{ap, arith, false, get_or, length, subst, ℕ, ◌<◌, ◌≡◌}
+use Rattle.std.proofs.Common.{ap, arith, get_or, length, subst, ℕ, ◌<◌, ◌≡◌}
 use Rattle.nr_core.specs.States.{no_retired}
 use Rattle.nr_core.specs.declared.places.Retired.{Retired}
 use Rattle.nr_board.proofs.PollNotes.{at_get}
