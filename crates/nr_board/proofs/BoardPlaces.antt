@@ -13,6 +13,7 @@ use Rattle.nr_board.specs.Callers.{Table}
 pub record Stands (board : Table) (key : Shape) (words : ℕ) : Type 0 where
   pub key_is : key ≡ board.shape
   pub size : words ≡ total_of (layout board.shape) + 8 * board.announcers
+  pub some_key : 0 < board.shape.keys
   pub few : board.shape.keys < 2 ^ 32
   pub fits : IsShape board.shape
 
@@ -23,7 +24,7 @@ pub stands : {shown board : Table} {key : Shape} {words : ℕ} → shown ≡ boa
     → Stands board key words
 stands {key = key} {words = words} is kept =
     subst (λ (board : Table). Stands board key words) is
-    (record { key_is = kept.0; size = kept.1; few = kept.3; fits = kept.4 })
+    (record { key_is = kept.0; size = kept.1; some_key = kept.2; few = kept.3; fits = kept.4 })
 
 module _ {board : Table} {key : Shape} {words : ℕ} (stand : Stands board key words) where
   -- all places fit
@@ -34,6 +35,9 @@ module _ {board : Table} {key : Shape} {words : ℕ} (stand : Stands board key w
 
   pub key_in : {place : ℕ} → place < board.shape.keys → place < words
   key_in near = omega (arith, near, stand.size)
+
+  pub key_near : {key_at : ℕ} → key_at < board.shape.keys → key_at < key.keys
+  key_near near = omega (arith, near, ap (λ (s : Shape). s.keys) stand.key_is)
 
   -- where a reader's own word lies
   module _ (own : ℕ) where

@@ -8,10 +8,6 @@ use Rattle.nr_board.proofs.WriterCalls.{look_ends, look_settles}
 use Rattle.nr_board.specs.SlotLists.{desk_with}
 use Rattle.nr_board.proofs.board.Board.begin_fill.Goals as goal
 
-pub look-requires-clause-given : goal.look-requires-clause-given
-look-requires-clause-given g c =
-    rw c.requires.call c.requires.row_set
-
 pub returns-then-found : goal.returns-then-found
 returns-then-found g c =
     let looks

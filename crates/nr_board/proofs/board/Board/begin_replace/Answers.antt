@@ -6,10 +6,6 @@ use Rattle.nr_board.proofs.WriterCalls.{look_ends, look_settles}
 use Rattle.nr_board.specs.SlotLists.{desk_with}
 use Rattle.nr_board.proofs.board.Board.begin_replace.Goals as goal
 
-pub look-requires-clause-given : goal.look-requires-clause-given
-look-requires-clause-given g c =
-    rw c.requires.call c.requires.row_set
-
 pub returns-then-not-parts : goal.returns-then-not-parts
 returns-then-not-parts g c =
     let looks

@@ -22,7 +22,3 @@ pub returns-in-Err : goal.returns-in-Err
 returns-in-Err g c =
     let told = has_lacked c.in_ok-begin_fill.ensures c.requires.call c.in-Err.ensures.publishes.0 in
     record { rests = told.0; flagged = c.in-Err.ensures.flagged; fills = (told.1, c.in-Err.ensures.publishes.1) }
-
-pub returns-in_err-begin_fill-clause-flagged : goal.returns-in_err-begin_fill-clause-flagged
-returns-in_err-begin_fill-clause-flagged g c =
-    rw c.in_err-begin_fill.ensures.2 c.requires.flagged

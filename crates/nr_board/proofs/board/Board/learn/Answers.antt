@@ -1,5 +1,5 @@
-use Rattle.std.proofs.Common.{ap, arith, sym, ◌∙◌, ◌<◌}
-use Rattle.nr_core.specs.declared.shape.Shape.{Shape}
+use Rattle.std.proofs.Common.{ap, sym, ◌∙◌}
+use Rattle.nr_board.proofs.BoardPlaces.{key_in, key_near, stands}
 use Rattle.nr_board.proofs.Gathering.{learned_lists, learned_numbers, learns_seat}
 use Rattle.nr_board.proofs.Learning.{learns_so}
 use Rattle.nr_board.specs.Callers.{Table}
@@ -8,12 +8,11 @@ use Rattle.nr_board.proofs.board.Board.learn.Goals as goal
 pub load-requires : goal.load-requires
 load-requires c =
     let shared = c.self.inside.table.shared in
-    let about = c.self.invariant in
-    let seat = c.args.seat.now in
-    let near : 0 < shared.key.shape.keys = omega (arith, about.2, ap (λ (s : Shape). s.keys) about.0) in (
+    let board = stands c.self.view_is c.self.invariant in
+    let seat = c.args.seat.now in (
       ap (λ (t : Table). t.id) (c.requires.own ∙ sym c.self.view_is),
-      omega (arith, ap (λ (s : Shape). s.keys) about.0),
-      learns_so shared.key.shape seat.id seat.me 0 near c.requires.caller shared.table_id.slots,
+      key_in board board.some_key,
+      learns_so shared.key.shape seat.id seat.me 0 (key_near board board.some_key) c.requires.caller shared.table_id.slots,
     )
 
 pub returns : goal.returns

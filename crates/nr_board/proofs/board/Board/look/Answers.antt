@@ -1,8 +1,9 @@
-use Rattle.std.proofs.Common.{ap, arith, subst, sym, ℕ, ◌<◌, ◌∙◌, ◌≡◌}
+use Rattle.std.proofs.Common.{ap, arith, subst, sym, ℕ, ◌<◌, ◌∙◌}
 use Rattle.nr_core.specs.Given.{IsGivenCall}
 use Rattle.nr_core.specs.States.{key_of}
 use Rattle.nr_core.specs.declared.shape.Shape.{Shape}
 use Rattle.nr_board.proofs.WriterSeats.{looked_seat}
+use Rattle.nr_board.proofs.BoardPlaces.{key_in, key_near, stands}
 use Rattle.nr_board.proofs.WriterSteps.{looks_so}
 use Rattle.nr_core.specs.declared.places.Place.{Place}
 use Rattle.nr_board.specs.Announcing.{heard_at}
@@ -13,18 +14,17 @@ use Rattle.nr_core.specs.Slots.{bound_of}
 pub load-requires : goal.load-requires
 load-requires g c =
     let shared = c.self.inside.table.shared in
-    let about = c.self.invariant in
+    let board = stands c.self.view_is c.self.invariant in
     let seat = c.args.seat.now in
     let writer = c.requires.writer in
     let call = g.G.BegunCall.call in
-    let key_is : shared.key.shape ≡ c.args.self.now.shape = about.0 ∙ ap (λ (t : Table). t.shape) c.self.view_is in
     let near : key_of call < shared.key.shape.keys
-    = omega (arith, c.requires.call, c.requires.key, ap (λ (s : Shape). s.keys) key_is) in
+    = omega (arith, c.requires.call, key_near board c.requires.key) in
     let given : IsGivenCall (bound_of shared.key.shape) call
-    = subst (λ (s : Shape). IsGivenCall (bound_of s) call) (sym key_is) c.requires.given in
+    = subst (λ (s : Shape). IsGivenCall (bound_of s) call) (sym board.key_is) c.requires.given in
     let n : ℕ = shared.table_id.slots in (
       ap (λ (t : Table). t.id) (writer.writes.own ∙ sym c.self.view_is),
-      omega (arith, c.requires.key, ap (λ (t : Table). t.shape.keys) c.self.view_is),
+      key_in board c.requires.key,
       rw c.requires.call
           (looks_so shared.key.shape n seat.id seat.me writer.desk call writer.writes.role writer.place given near),
     )

@@ -1,7 +1,6 @@
-use Rattle.std.proofs.Common.{ap, arith, sym, ℕ, ◌<◌, ◌∙◌, ◌≡◌}
+use Rattle.std.proofs.Common.{ap, arith, sym, ℕ, ◌∙◌, ◌≡◌}
 use Rattle.nr_core.specs.Slots.{content, names_slot}
-use Rattle.nr_core.specs.declared.shape.Shape.{Shape}
-use Rattle.nr_board.proofs.BoardPlaces.{stands}
+use Rattle.nr_board.proofs.BoardPlaces.{key_in, key_near, stands}
 use Rattle.nr_board.proofs.ReaderSeats.{again_exact, again_gains, again_holds, again_learns, again_marks, held_gripped}
 use Rattle.nr_board.proofs.ReaderSeats.{held_inside, held_slot}
 use Rattle.nr_board.proofs.ReaderSteps.{finds_again_so}
@@ -12,19 +11,13 @@ use Rattle.nr_board.proofs.board.Board.look_again.Goals as goal
 pub load-requires : goal.load-requires
 load-requires c =
     let shared = c.self.inside.table.shared in
-    let about = c.self.invariant in
-    let seat = c.args.seat.now in
-    let near : c.args.key < shared.key.shape.keys
-    = omega (
-      arith,
-      c.requires.key,
-      ap (λ (t : Table). t.shape.keys) c.self.view_is,
-      ap (λ (s : Shape). s.keys) about.0,
-    ) in (
+    let board = stands c.self.view_is c.self.invariant in
+    let seat = c.args.seat.now in (
       ap (λ (t : Table). t.id) (c.requires.reader.own ∙ sym c.self.view_is),
-      omega (arith, ap (λ (s : Shape). s.keys) about.0),
-      finds_again_so shared.key.shape shared.table_id.slots seat.id seat.me c.args.key near c.requires.reader.holds.is
-          (ap (λ (t : Table). t.shape) (c.requires.reader.own ∙ sym c.self.view_is) ∙ sym about.0),
+      key_in board c.requires.key,
+      finds_again_so shared.key.shape shared.table_id.slots seat.id seat.me c.args.key
+          (key_near board c.requires.key) c.requires.reader.holds.is
+          (ap (λ (t : Table). t.shape) c.requires.reader.own ∙ sym board.key_is),
     )
 
 pub returns : goal.returns

@@ -1,6 +1,5 @@
-use Rattle.std.proofs.Common.{ap, arith, sym, ◌∙◌, ◌<◌}
-use Rattle.nr_core.specs.declared.shape.Shape.{Shape}
-use Rattle.nr_board.proofs.BoardPlaces.{key_in, stands}
+use Rattle.std.proofs.Common.{ap, sym, ◌∙◌}
+use Rattle.nr_board.proofs.BoardPlaces.{key_in, key_near, stands}
 use Rattle.nr_board.proofs.WordSeats.{looked_hole, looked_idle, looked_named}
 use Rattle.nr_board.proofs.WordSteps.{looks_up_so}
 use Rattle.nr_board.specs.Callers.{Table}
@@ -10,12 +9,11 @@ pub load-requires : goal.load-requires
 load-requires c =
     let shared = c.self.inside.table.shared in
     let board = stands c.self.view_is c.self.invariant in
-    let seat = c.args.seat.now in
-    let near : c.args.key < shared.key.shape.keys
-    = omega (arith, c.requires.key, ap (λ (s : Shape). s.keys) board.key_is) in (
+    let seat = c.args.seat.now in (
       ap (λ (t : Table). t.id) (c.requires.reader.own ∙ sym c.self.view_is),
       key_in board c.requires.key,
-      looks_up_so shared.key.shape shared.table_id.slots seat.id seat.me c.args.key near c.requires.reader.idle
+      looks_up_so shared.key.shape shared.table_id.slots seat.id seat.me c.args.key
+          (key_near board c.requires.key) c.requires.reader.idle
           (ap (λ (t : Table). t.shape) c.requires.reader.own ∙ sym board.key_is),
     )
 

@@ -39,9 +39,6 @@ load-requires c =
           (rw (ap (λ (t : Table). t.announcers) probes.own) probes.heard)),
     )
 
-pub returns-clause-own : goal.returns-clause-own
-returns-clause-own c = c.load.ensures.0
-
 pub returns-clause-tells : goal.returns-clause-tells
 returns-clause-tells c = let seat = c.args.seat.now in let probes = c.requires in let entry = c.args.entry in
     let size = ap (λ (t : Table). t.shape) probes.own in

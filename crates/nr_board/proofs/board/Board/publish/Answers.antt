@@ -11,8 +11,8 @@ use Rattle.nr_core.specs.States.{key_of}
 use Rattle.nr_core.specs.declared.places.Place.TheVariants.{Putting}
 use Rattle.nr_core.specs.declared.roles.Desk.{Desk}
 use Rattle.nr_core.specs.declared.roles.Role.TheVariants.{Writer}
-use Rattle.nr_core.specs.declared.shape.Shape.{Shape}
 use Rattle.nr_board.proofs.WriterSeats.{desk_at, gone_seat}
+use Rattle.nr_board.proofs.BoardPlaces.{key_in, stands}
 use Rattle.nr_board.proofs.WriterSteps.{goes_so}
 use Rattle.nr_board.specs.Callers.{Table}
 use Rattle.nr_board.specs.Plays.{RoomAt, Went}
@@ -30,7 +30,7 @@ naming-word-requires c =
 pub swap-requires : goal.swap-requires
 swap-requires c =
     let shared = c.self.inside.table.shared in
-    let about = c.self.invariant in
+    let board = stands c.self.view_is c.self.invariant in
     let seat = c.args.seat.now in
     let publishing = c.requires.writer in
     let rows = publishing.rows in
@@ -56,8 +56,7 @@ swap-requires c =
     publishing.place)
     refl tt tt) in (
       ap (λ (t : Table). t.id) (publishing.writes.own ∙ sym c.self.view_is),
-      omega
-          (arith, c.requires.key, ap (λ (s : Shape). s.keys) about.0, ap (λ (t : Table). t.shape.keys) c.self.view_is),
+      key_in board c.requires.key,
       subst (λ (p : ℕ × ℕ). Allows (Kept shared.key.shape) n seat.id seat.me p.0 (λ _. p.1) told)
           (λ j. (sym publishing.key_is j, sym c.naming-word.ensures j)) allows,
     )

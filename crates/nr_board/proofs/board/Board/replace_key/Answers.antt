@@ -10,7 +10,3 @@ pub returns : goal.returns
 returns g c =
     let told = has_published c.in_ok-begin_replace.ensures c.requires.call c.in_default.ensures.publishes in
     record { rests = told.0; flagged = c.in_default.ensures.flagged; replaces = told.1 }
-
-pub returns-in_err-begin_replace-clause-flagged : goal.returns-in_err-begin_replace-clause-flagged
-returns-in_err-begin_replace-clause-flagged g c =
-    rw c.in_err-begin_replace.ensures.2 c.requires.flagged

@@ -5,9 +5,6 @@ use Rattle.nr_board.specs.Announcing.{says_at}
 use Rattle.nr_board.specs.Callers.{Table}
 use Rattle.nr_board.proofs.board.Board.scan.Goals as goal
 
-pub own_word-place-requires : goal.own_word-place-requires
-own_word-place-requires c = c.requires.within
-
 pub load-requires : goal.load-requires
 load-requires c =
     let shared = c.self.inside.table.shared in
@@ -23,9 +20,6 @@ load-requires c =
       rw (said_at board c.args.own is)
           (scans_so shared.key.shape n seat.id c.args.own seat.me scans.desk scans.role within),
     )
-
-pub returns-clause-own : goal.returns-clause-own
-returns-clause-own c = c.load.ensures.0
 
 pub returns-clause-hears : goal.returns-clause-hears
 returns-clause-hears c =

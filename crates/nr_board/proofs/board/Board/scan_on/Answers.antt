@@ -5,9 +5,6 @@ use Rattle.nr_board.specs.Announcing.{says_at}
 use Rattle.nr_board.specs.Callers.{Table}
 use Rattle.nr_board.proofs.board.Board.scan_on.Goals as goal
 
-pub own_word-place-requires : goal.own_word-place-requires
-own_word-place-requires c = c.requires.within
-
 pub load-requires : goal.load-requires
 load-requires c =
     let shared = c.self.inside.table.shared in
@@ -24,9 +21,6 @@ load-requires c =
           (has_searched_so shared.key.shape n seat.id seat.me search.desk search.call search.rows search.role
           search.place (ap (λ (t : Table). t.shape) search.own ∙ sym board.key_is) c.args.own within),
     )
-
-pub returns-clause-own : goal.returns-clause-own
-returns-clause-own c = c.load.ensures.0
 
 pub returns-clause-hears : goal.returns-clause-hears
 returns-clause-hears c =

@@ -43,9 +43,6 @@ load-requires c =
           (rw (ap (λ (t : Table). t.announcers) search.own) tries.heard)),
     )
 
-pub returns-clause-own : goal.returns-clause-own
-returns-clause-own c = c.load.ensures.0
-
 pub returns-clause-tries : goal.returns-clause-tries
 returns-clause-tries c =
     let seat = c.args.seat.now in

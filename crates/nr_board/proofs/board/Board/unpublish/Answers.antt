@@ -1,24 +1,18 @@
-use Rattle.std.proofs.Common.{ap, arith, false, refl, subst, sym, ℕ, ◌∙◌, ◌≡◌}
+use Rattle.std.proofs.Common.{ap, false, refl, subst, sym, ℕ, ◌∙◌, ◌≡◌}
 use Rattle.nr_words.specs.KeyWords.{hole_word}
 use Rattle.nr_core.specs.States.{number_at}
 use Rattle.nr_core.specs.declared.places.Place.TheVariants.{Leaving}
-use Rattle.nr_core.specs.declared.shape.Shape.{Shape}
 use Rattle.nr_board.proofs.WriterSeats.{desk_at, gone_seat}
+use Rattle.nr_board.proofs.BoardPlaces.{key_in, stands}
 use Rattle.nr_board.proofs.WriterSteps.{goes_so}
 use Rattle.nr_board.specs.Callers.{Table}
 use Rattle.nr_board.specs.Plays.{RoomAt}
 use Rattle.nr_board.proofs.board.Board.unpublish.Goals as goal
 
-pub hole_word-hole-requires : goal.hole_word-hole-requires
-hole_word-hole-requires c =
-    let leaving = c.requires in
-    let room = subst (RoomAt c.args.self.now.shape leaving.desk) leaving.place leaving.writes.room.place in
-    omega (arith, room.2, leaving.number_is)
-
 pub swap-requires : goal.swap-requires
 swap-requires c =
     let shared = c.self.inside.table.shared in
-    let about = c.self.invariant in
+    let board = stands c.self.view_is c.self.invariant in
     let seat = c.args.seat.now in
     let leaving = c.requires in
     let at = record leaving.desk { place = Leaving c.args.key } in
@@ -26,7 +20,7 @@ swap-requires c =
     let word_is : hole_word c.args.number false ≡ hole_word (number_at leaving.desk c.args.key) false
     = ap (λ (n : ℕ). hole_word n false) leaving.number_is in (
       ap (λ (t : Table). t.id) (leaving.writes.own ∙ sym c.self.view_is),
-      omega (arith, room.0, ap (λ (s : Shape). s.keys) about.0, ap (λ (t : Table). t.shape.keys) c.self.view_is),
+      key_in board room.0,
       rw (c.hole_word-hole.ensures.word ∙ word_is) (goes_so shared.key.shape shared.table_id.slots seat.id seat.me at
           (desk_at seat.me.0.role leaving.desk (Leaving c.args.key) leaving.writes.role leaving.place) refl tt tt),
     )

@@ -35,7 +35,3 @@ returns g c = let begun = c.in_ok-begin_update.ensures in let is = begun.3 ∙ a
       flagged = c.in_default.ensures.flagged;
       updates = (begun.1, c.as_slice.result.now, is, told.1.0, told.1.1);
     }
-
-pub returns-in_err-begin_update-clause-flagged : goal.returns-in_err-begin_update-clause-flagged
-returns-in_err-begin_update-clause-flagged g c =
-    rw c.in_err-begin_update.ensures.2 c.requires.flagged

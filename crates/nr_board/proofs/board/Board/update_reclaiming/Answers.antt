@@ -48,7 +48,3 @@ returns-in-Err g c =
       flagged = c.in-Err.ensures.flagged;
       updates = ((begun.1, c.as_slice.result.now, is, told.1.0, told.1.1), c.in-Err.ensures.publishes.1);
     }
-
-pub returns-in_err-begin_update-clause-flagged : goal.returns-in_err-begin_update-clause-flagged
-returns-in_err-begin_update-clause-flagged g c =
-    rw c.in_err-begin_update.ensures.2 c.requires.flagged

@@ -2,11 +2,8 @@ use Rattle.std.proofs.Common.{ap, arith, get_or, length, subst, ℕ, ◌<◌, �
 use Rattle.nr_core.specs.States.{no_retired}
 use Rattle.nr_core.specs.declared.places.Retired.{Retired}
 use Rattle.nr_board.proofs.PollNotes.{at_get}
-use Rattle.nr_board.proofs.ScannedWords.{ClearedTo, cleared_more, cleared_none, none_flagged}
+use Rattle.nr_board.proofs.ScannedWords.{ClearedTo, cleared_more, none_flagged}
 use Rattle.nr_board.proofs.scans.ScanFlags.clear_retired.Goals as goal
-
-pub loop-place-init : goal.loop-place-init
-loop-place-init c = cleared_none c.args.lists.now.retired c.args.self.now
 
 pub clear-requires : goal.clear-requires
 clear-requires c = let retired = c.args.lists.now.retired in let place : ℕ = c.loop-place.place in
