@@ -1,5 +1,5 @@
 -- A reap: its sweeps and the scan between them, put together.
-use Rattle.std.proofs.Common.{◌≡◌, ℕ, ◌+◌, ◌*◌, ◌<◌, ⊎_elim, inl, inr, true, List, [], ◌∷◌, ◌++◌, ap, append_assoc}
+use Rattle.std.proofs.Common.{◌≡◌, ℕ, ◌+◌, ◌*◌, ◌<◌, ⊎_elim, inl, inr, true, List, [], ◌∷◌, ◌++◌, ap, append-nil, append_assoc}
 use Rattle.std.proofs.Common.{arith, length, length-append, refl, set, subst, sym, ◌∙◌}
 use Rattle.nr_core.specs.SlotLists.{SlotLists}
 use Rattle.nr_core.specs.declared.places.Place.TheVariants.{Idle}
@@ -16,6 +16,7 @@ use Rattle.nr_board.specs.Views.{View, desk_of}
 use Rattle.nr_board.specs.WholeScans.{scanned_to}
 use Rattle.nr_board.specs.WordLoads.{WordsTell}
 use Rattle.nr_board.specs.WriterSeats.{MapSeat, RestsAt}
+use Rattle.nr_board.specs.declared.reaping.Sweep.{Sweep}
 use Rattle.nr_board.specs.declared.reaping.Sweep.TheVariants as sweep
 
 -- the view after those polls and a scan
@@ -27,43 +28,7 @@ swept notes loads more heard view =
       heard = heard;
     }
 
--- polls without a scan
-swept_once : (notes : List Past) (polls : List LoggedLoad) (view : View)
-    → probed notes polls view ≡ swept notes ([] ++ polls) 0 view.heard view
-swept_once notes polls
-    view = λ j.
-    record view {
-      steps = view.steps + no_more j;
-      marks = with_scan view.marks (view.marks.polls ++ notes) (view.marks.loads ++ polls);
-    }
-  where
-    no_more : length polls ≡ length polls + 0
-    no_more = omega arith
-
--- a sweep by what a scan heard, after one that was in vain
-swept_twice : (first second : List Past) (before scan polls : List LoggedLoad) (heard : List ℕ)
-    (view mid last next : View)
-    → mid ≡ probed first before view → last ≡ scanned_to scan heard mid → next ≡ probed second polls last
-    → next ≡ swept (first ++ second) ((before ++ scan) ++ polls) 0 heard view
-swept_twice first second before scan polls heard view mid last next one scans two =
-    two ∙ ap (probed second polls) scans ∙ ap (λ (v : View). probed second polls (scanned_to scan heard v)) one
-    ∙ (λ j.
-    record view {
-      steps = steps j;
-      marks = with_scan view.marks (append_assoc view.marks.polls first second j) (loads j);
-      heard = heard;
-    })
-  where
-    steps : view.steps + length before + length scan + length polls
-        ≡ view.steps + (length ((before ++ scan) ++ polls) + 0)
-    steps = let both = length-append before scan in let all = length-append (before ++ scan) polls in omega arith
-
-    loads : ((view.marks.loads ++ before) ++ scan) ++ polls ≡ view.marks.loads ++ ((before ++ scan) ++ polls)
-    loads =
-        ap (λ (l : List LoggedLoad). l ++ polls) (append_assoc view.marks.loads before scan)
-        ∙ append_assoc view.marks.loads (before ++ scan) polls
-
-module _ (table : Table) (lists : SlotLists) (before : MapSeat) (rests : RestsAt table lists before) where
+module _ {table : Table} {lists : SlotLists} {before : MapSeat} (rests : RestsAt table lists before) where
   -- the writer's lists are those of its token
   retired_is : (token before).retired ≡ lists.retired
   retired_is = ap (λ r. (desk_of r).retired) rests.writes.role
@@ -76,36 +41,91 @@ module _ (table : Table) (lists : SlotLists) (before : MapSeat) (rests : RestsAt
   waiting_is : waiting lists.reaped lists.retired ≡ waiting (token before).marks.reaped (token before).retired
   waiting_is = λ j. waiting (rests.reaped j) (sym retired_is j)
 
-  -- the polls of a first sweep that was in vain
-  abbrev first_polls : List LoggedLoad
-  first_polls = held_polls (ready_in lists before.me.0)
+  -- the last sweep, before which nothing was loaded, or a first one was in vain and the words were scanned
+  record LastSweep (now : MapSeat) (found : Sweep) : Type 0 where
+    last : MapSeat
+    earlier : List Past
+    loads : List LoggedLoad
+    first : ScansFirst (token before) last.me.0.heard loads earlier
+    scans : found ≡ sweep.Held → 0 < before.me.0.announcers → 0 < length loads
+    view : last.me.0 ≡ swept earlier loads 0 last.me.0.heard before.me.0
+    sweeps : SweepsFor lists last now found
 
-  first_are : first_polls ≡ held_polls (ready_to (token before) before.me.0.heard)
-  first_are = ap held_polls (ready_is before.me.0.heard)
+  last_sweep : (now : MapSeat) (found : Sweep) → SweepsHeard lists before now found → LastSweep now found
+  last_sweep now found sweeps = ⊎_elim
+      (λ (once : SweepsFor lists before now found × (found ≡ sweep.Held → before.me.0.announcers ≡ 0)).
+      record {
+        last = before;
+        earlier = [];
+        loads = [];
+        first = inl (refl, refl, refl);
+        scans = λ held some_words. let none = once.1 held in absurd (omega arith);
+        view =
+            let view = before.me.0 in let steps : view.steps ≡ view.steps + (0 + 0) = omega arith in
+            λ j.
+            record view {
+              steps = steps j;
+              marks = with_scan view.marks (sym (append-nil view.marks.polls) j)
+                  (sym (append-nil view.marks.loads) j);
+            };
+        sweeps = once.0;
+      })
+      (λ (twice : (0 < before.me.0.announcers) × (mid last : MapSeat) × SweepsFor lists before mid sweep.Held
+      × (scan : List LoggedLoad)
+      × WordsTell before.me.0.announcers lists.retired before.me.0.shape.slots scan last.me.0.heard
+      × (last.me.0 ≡ scanned_to scan last.me.0.heard mid.me.0) × SweepsFor lists last now found).
+      let (some_words, mid, last, first, scan, words, scans, second) = twice in
+      let polls = held_polls (ready_in lists before.me.0) in
+      let both = length-append polls scan in
+      let heard = last.me.0.heard in
+      record {
+        last = last;
+        earlier = first.0;
+        loads = polls ++ scan;
+        first = inr (
+          some_words,
+          rw (sym (ready_is before.me.0.heard)) first.2,
+          scan,
+          rw retired_is words,
+          ap (λ (l : List Retired). held_polls l ++ scan) (ready_is before.me.0.heard),
+        );
+        scans = λ _ _. omega (arith, words_many words);
+        view = scans ∙ ap (scanned_to scan heard) first.3
+            ∙ (let view = before.me.0 in
+            let steps : view.steps + length polls + length scan ≡ view.steps + (length (polls ++ scan) + 0)
+            = omega arith in
+            λ j.
+            record view {
+              steps = steps j;
+              marks = with_scan view.marks (view.marks.polls ++ first.0)
+                  (append_assoc view.marks.loads polls scan j);
+              heard = heard;
+            });
+        sweeps = second;
+      })
+      sweeps
 
-  -- a first sweep was in vain, and a scan follows
-  abbrev ScannedOnce : MapSeat → MapSeat → List LoggedLoad → Type 0
-  ScannedOnce mid last loads =
-      SweepsFor lists before mid sweep.Held
-      × WordsTell before.me.0.announcers lists.retired before.me.0.shape.slots loads last.me.0.heard
-      × (last.me.0 ≡ scanned_to loads last.me.0.heard mid.me.0)
+  module _ {now : MapSeat} {found : Sweep} (made : LastSweep now found) where
+    abbrev heard_then : List ℕ
+    heard_then = made.last.me.0.heard
 
-  last_is : (mid last : MapSeat) (loads : List LoggedLoad) (scanned : ScannedOnce mid last loads)
-      → last.me.0 ≡ scanned_to loads last.me.0.heard (probed scanned.0.0 first_polls before.me.0)
-  last_is mid last loads scanned = scanned.2 ∙ ap (scanned_to loads last.me.0.heard) scanned.0.3
+    ready_then : ready_in lists made.last.me.0 ≡ ready_to (token before) heard_then
+    ready_then = ap (ready_in lists) made.view ∙ ready_is heard_then
 
-  scans_first : (mid last : MapSeat) (loads : List LoggedLoad) (scanned : ScannedOnce mid last loads)
-      → 0 < before.me.0.announcers
-      → ScansFirst (token before) last.me.0.heard (first_polls ++ loads) scanned.0.0
-  scans_first mid last loads scanned some_words = inr (
-    some_words,
-    rw (sym (ready_is before.me.0.heard)) scanned.0.2,
-    loads,
-    subst
-        (λ (l : List Retired). WordsTell before.me.0.announcers l before.me.0.shape.slots loads last.me.0.heard)
-        (sym retired_is) scanned.1,
-    ap (λ (l : List LoggedLoad). l ++ loads) first_are,
-  )
+    -- after its polls
+    after_sweep : (notes : List Past) (polls : List LoggedLoad)
+        → probed notes polls made.last.me.0 ≡ swept (made.earlier ++ notes) (made.loads ++ polls) 0 heard_then before.me.0
+    after_sweep notes polls = let view = before.me.0 in let both = length-append made.loads polls in
+        let steps : view.steps + (length made.loads + 0) + length polls
+        ≡ view.steps + (length (made.loads ++ polls) + 0) = omega arith in
+        ap (probed notes polls) made.view
+        ∙ (λ j.
+        record view {
+          steps = steps j;
+          marks = with_scan view.marks (append_assoc view.marks.polls made.earlier notes j)
+              (append_assoc view.marks.loads made.loads polls j);
+          heard = heard_then;
+        })
 
   -- what the sweeps give of a set that they found
   pub record FoundSet (now : MapSeat) (slot : ℕ) : Type 0 where
@@ -126,65 +146,28 @@ module _ (table : Table) (lists : SlotLists) (before : MapSeat) (rests : RestsAt
         (swept (earlier ++ notes) (loads ++ (held_polls held ++ OfSlot slot true ∷ [])) 0 scanned before.me.0)
 
   pub found_set : (now : MapSeat) (slot : ℕ) → SweepsHeard lists before now (sweep.Free slot) → FoundSet now slot
-  found_set now slot found = ⊎_elim
-      (λ (once : SweepsFor lists before now (sweep.Free slot)
-      × (sweep.Free slot ≡ sweep.Held → before.me.0.announcers ≡ 0)).
-      let found_once = once.0 in record {
-        held = found_once.0;
-        later = found_once.1;
-        entry = found_once.2;
-        notes = found_once.3;
-        earlier = [];
-        scanned = before.me.0.heard;
-        loads = [];
-        first = inl (refl, refl, refl);
-        split = sym (ready_is before.me.0.heard) ∙ found_once.4;
-        each = found_once.5;
-        slot_is = found_once.6;
-        inside = found_once.7;
-        view =
-            found_once.8
-            ∙ ap (reaping slot)
-            (swept_once found_once.3 (held_polls found_once.0 ++ OfSlot slot true ∷ []) before.me.0);
-      })
-      (λ (twice : (0 < before.me.0.announcers) × (mid last : MapSeat) × SweepsFor lists before mid sweep.Held
-      × (loads : List LoggedLoad)
-      × WordsTell before.me.0.announcers lists.retired before.me.0.shape.slots loads last.me.0.heard
-      × (last.me.0 ≡ scanned_to loads last.me.0.heard mid.me.0) × SweepsFor lists last now (sweep.Free slot)).
-      let mid = twice.1 in
-      let last = twice.2 in
-      let first = twice.3 in
-      let loads = twice.4 in
-      let second = twice.7 in
-      let heard = last.me.0.heard in
-      let scanned : ScannedOnce mid last loads = (first, twice.5, twice.6) in
-      let last_so = last_is mid last loads scanned in
+  found_set now slot sweeps = let made = last_sweep now (sweep.Free slot) sweeps in
+      let (held, later, entry, notes, split, each, slot_is, inside, view) = made.sweeps in
       record {
-        held = second.0;
-        later = second.1;
-        entry = second.2;
-        notes = second.3;
-        earlier = first.0;
-        scanned = heard;
-        loads = first_polls ++ loads;
-        first = scans_first mid last loads scanned twice.0;
-        split = sym (ready_is heard) ∙ sym (ap (ready_in lists) last_so) ∙ second.4;
-        each = subst (λ (v : View). HeldEach v.shape.readers second.0 second.3) last_so second.5;
-        slot_is = second.6;
-        inside = second.7;
-        view =
-            second.8
-            ∙ ap (reaping slot)
-            (swept_twice first.0 second.3 first_polls loads (held_polls second.0 ++ OfSlot slot true ∷ []) heard
-            before.me.0 mid.me.0 last.me.0
-            (probed second.3 (held_polls second.0 ++ OfSlot slot true ∷ []) last.me.0) first.3 twice.6
-            refl);
-      }) found
+        held = held;
+        later = later;
+        entry = entry;
+        notes = notes;
+        earlier = made.earlier;
+        scanned = made.last.me.0.heard;
+        loads = made.loads;
+        first = made.first;
+        split = sym (ready_then made) ∙ split;
+        each = subst (λ (v : View). HeldEach v.shape.readers held notes) made.view each;
+        slot_is = slot_is;
+        inside = inside;
+        view = view ∙ ap (reaping slot) (after_sweep made notes (held_polls held ++ OfSlot slot true ∷ []));
+      }
 
   -- the slot whose set is reaped can be read
-  pub recalls_found : (now : MapSeat) (slot : ℕ) → now.table_id ≡ before.table_id → FoundSet now slot
+  pub recalls_found : {now : MapSeat} {slot : ℕ} → now.table_id ≡ before.table_id → FoundSet now slot
       → RecallsAt table slot now
-  recalls_found now slot same found = record {
+  recalls_found same found = record {
     own =
         (λ j. record { id = same j; shape = (found.view j).shape; announcers = (found.view j).announcers })
         ∙ rests.writes.own;
@@ -194,7 +177,7 @@ module _ (table : Table) (lists : SlotLists) (before : MapSeat) (rests : RestsAt
     untouched = tt;
   }
 
-  module _ (now last : MapSeat) (slot rows : ℕ) (same : now.table_id ≡ before.table_id) (found : FoundSet now slot)
+  module _ {now : MapSeat} {slot : ℕ} (last : MapSeat) (rows : ℕ) (same : now.table_id ≡ before.table_id) (found : FoundSet now slot)
       (last_same : last.table_id ≡ now.table_id) (waits : last.me.0 ≡ waited (2 * rows + 1) now.me.0) where
     abbrev all_notes : List Past
     all_notes = found.earlier ++ found.notes
@@ -244,61 +227,27 @@ module _ (table : Table) (lists : SlotLists) (before : MapSeat) (rests : RestsAt
         ≡ swept (earlier ++ notes) (loads ++ held_polls (ready_to (token before) scanned)) 0 scanned before.me.0
 
   pub keeps_all : (now : MapSeat) → SweepsHeard lists before now sweep.Held → KeepsAll now
-  keeps_all now found = ⊎_elim
-      (λ (once : SweepsFor lists before now sweep.Held × (sweep.Held ≡ sweep.Held → before.me.0.announcers ≡ 0)).
-      let held = once.0 in let none = once.1 refl in record {
-        notes = held.0;
-        earlier = [];
-        scanned = before.me.0.heard;
-        loads = [];
-        first = inl (refl, refl, refl);
-        scans = λ some_words. absurd (omega arith);
-        some_wait = subst (λ (l : List Retired). 0 < length l) waiting_is held.1;
-        each =
-            rw (sym (ready_is before.me.0.heard)) held.2;
-        view =
-            held.3 ∙ swept_once held.0 first_polls before.me.0
-            ∙ ap (λ (l : List LoggedLoad). swept held.0 l 0 before.me.0.heard before.me.0) first_are;
-      })
-      (λ (twice : (0 < before.me.0.announcers) × (mid last : MapSeat) × SweepsFor lists before mid sweep.Held
-      × (loads : List LoggedLoad)
-      × WordsTell before.me.0.announcers lists.retired before.me.0.shape.slots loads last.me.0.heard
-      × (last.me.0 ≡ scanned_to loads last.me.0.heard mid.me.0) × SweepsFor lists last now sweep.Held).
-      let mid = twice.1 in
-      let last = twice.2 in
-      let first = twice.3 in
-      let loads = twice.4 in
-      let second = twice.7 in
-      let heard = last.me.0.heard in
-      let scanned : ScannedOnce mid last loads = (first, twice.5, twice.6) in
-      let last_so = last_is mid last loads scanned in
-      let ready_now : ready_in lists last.me.0 ≡ ready_to (token before) heard
-      = ap (ready_in lists) last_so ∙ ready_is heard in
+  keeps_all now sweeps = let made = last_sweep now sweep.Held sweeps in
+      let (notes, some_wait, each, view) = made.sweeps in
+      let heard = made.last.me.0.heard in
       record {
-        notes = second.0;
-        earlier = first.0;
+        notes = notes;
+        earlier = made.earlier;
         scanned = heard;
-        loads = first_polls ++ loads;
-        first = scans_first mid last loads scanned twice.0;
-        scans = λ _.
-            (let both = length-append first_polls loads in
-            let many = words_many twice.5 in
-            let some_words = twice.0 in
-            omega arith);
-        some_wait = subst (λ (l : List Retired). 0 < length l) waiting_is first.1;
+        loads = made.loads;
+        first = made.first;
+        scans = made.scans refl;
+        some_wait = subst (λ (l : List Retired). 0 < length l) waiting_is some_wait;
         each =
-            subst (λ (p : ℕ × List Retired). HeldEach p.0 p.1 second.0) (λ j. ((last_so j).shape.readers, ready_now j))
-            second.2;
-        view =
-            swept_twice first.0 second.0 first_polls loads (held_polls (ready_in lists last.me.0)) heard before.me.0
-            mid.me.0 last.me.0 now.me.0 first.3 twice.6 second.3
+            subst (λ (p : ℕ × List Retired). HeldEach p.0 p.1 notes)
+            (λ j. ((made.view j).shape.readers, ready_then made j)) each;
+        view = view ∙ after_sweep made notes (held_polls (ready_in lists made.last.me.0))
             ∙ ap
-            (λ (l : List Retired). swept (first.0 ++ second.0) ((first_polls ++ loads) ++ held_polls l) 0 heard
-            before.me.0)
-            ready_now;
-      }) found
+            (λ (l : List Retired). swept (made.earlier ++ notes) (made.loads ++ held_polls l) 0 heard before.me.0)
+            (ready_then made);
+      }
 
-  module _ (now : MapSeat) (same : now.table_id ≡ before.table_id) (keeps : KeepsAll now) where
+  module _ {now : MapSeat} (same : now.table_id ≡ before.table_id) (keeps : KeepsAll now) where
     pub kept_token : token now
         ≡ after_polls (keeps.earlier ++ keeps.notes) (keeps.loads ++ held_polls (ready_to (token before) keeps.scanned))
         keeps.scanned 0 (token before)

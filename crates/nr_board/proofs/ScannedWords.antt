@@ -9,14 +9,14 @@ use mathlib.Core.Option.{some, some-injective}
 use native.Mathlib.Decide.{ℕ_discrete}
 use lib.ListN.{get_elem?}
 use Rattle.nr_core.proofs.Choices.{by_cases, on_test}
-use Rattle.nr_core.proofs.Sums.{at_snoc, only-is, only-le, only-other, only-same, some_term, total-append}
+use Rattle.nr_core.proofs.Sums.{at_snoc, only-is, only-other, only-same, some_term}
 use Rattle.nr_core.specs.Roles.{retirements}
 use Rattle.nr_core.specs.Sums.{only, total}
 use Rattle.nr_core.specs.declared.places.Retired.{Retired}
 use Rattle.nr_core.specs.declared.roles.Desk.{Desk}
 use Rattle.nr_core.proofs.ListPlaces.{inside, at_left}
 use Rattle.nr_core.specs.Marks.{LoggedLoad, OfWord, Past, with_scan}
-use Rattle.nr_board.proofs.Keepers.{adds_more, adds_on, at_end}
+use Rattle.nr_board.proofs.Keepers.{adds_more, adds_on, at_end, once_more}
 use Rattle.nr_board.proofs.PollNotes.{is_retired}
 use Rattle.nr_board.proofs.WordLoads.{loads_length, words_more}
 use Rattle.nr_board.specs.Flags.{OthersFlagged}
@@ -137,18 +137,6 @@ keeps_one flags more readers note on keeps = record {
       keeps.holds;
 }
 
--- no note is of a reader that was not looked at
-none_later : (flags : List Bool) (readers : ℕ) (notes : List Past) (reader : ℕ) → readers < reader
-    → ((at : ℕ) (note : Past) → get_elem? notes at ≡ some note → KeepsOne flags readers note)
-    → total (λ (note : Past). only reader note.reader) notes ≡ 0
-none_later flags readers notes reader late each =
-    dite (ℕ_discrete (total (λ (note : Past). only reader note.reader) notes) 0) (λ none. none)
-    (λ one. absurd
-    (let t = some_term (λ (note : Past). only reader note.reader) notes (omega arith) in
-    let few = (each t.0 t.1 t.2).few in
-    let is = only-is reader t.1.reader t.3 in
-    omega arith))
-
 module _ (retired : List Retired) (flags : List Bool) (own found : ℕ) (notes now : List Past)
     (more : (slot : ℕ) → is_flagged flags slot ≡ true → is_flagged (announced found flags) slot ≡ true)
     (keep : KeepBack retired flags own notes) where
@@ -177,17 +165,8 @@ module _ (retired : List Retired) (flags : List Bool) (own found : ℕ) (notes n
               few = omega arith;
               holds = ⊎_elim inl (λ (s : note.slot ≡ Some (found - 1)). inr (found - 1, s, flagged)) slot;
             })) (at_snoc notes note other at there);
-        apart = λ other.
-            let both = total-append (λ (n : Past). only other n.reader) notes (note ∷ []) in
-            dite (ℕ_discrete other (suc own))
-            (λ e.
-            let none = none_later flags own notes other (omega arith) keep.each in
-            let few = only-le other note.reader in
-            omega arith)
-            (λ ne.
-            let none = only-other other note.reader (λ e. ne (sym e ∙ reader)) in
-            let few = keep.apart other in
-            omega arith);
+        apart = once_more notes note keep.apart
+            (λ at old there same. let few = (keep.each at old there).few in absurd (omega arith));
       })
 
 -- where a slot is one more than that

@@ -13,12 +13,8 @@ pub recall_set-requires : goal.recall_set-requires
 recall_set-requires g c =
     let rests = rests_here c.args.self.now c.args.lists.now c.args.seat.now c.requires.own c.requires.rests in
     let found
-    = found_set c.args.self.now c.args.lists.now c.args.seat.now rests c.sweep_heard.new.seat c.in-Free.slot
-    c.in-Free.ensures.sweeps in
-    record {
-      recalls = recalls_found c.args.self.now c.args.lists.now c.args.seat.now rests c.sweep_heard.new.seat
-          c.in-Free.slot c.in-Free.ensures.own found;
-    }
+    = found_set rests c.sweep_heard.new.seat c.in-Free.slot c.in-Free.ensures.sweeps in
+    record { recalls = recalls_found rests c.in-Free.ensures.own found }
 
 pub returns-in-Free-clause-reaps : goal.returns-in-Free-clause-reaps
 returns-in-Free-clause-reaps g c =
@@ -28,12 +24,12 @@ returns-in-Free-clause-reaps g c =
     let mid = c.sweep_heard.new.seat in
     let slot : ℕ = c.in-Free.slot in
     let rests = rests_here map lists before c.requires.own c.requires.rests in
-    let found = found_set map lists before rests mid slot c.in-Free.ensures.sweeps in
+    let found = found_set rests mid slot c.in-Free.ensures.sweeps in
     let set_is : set_in mid.me.0.marks slot ≡ set_in before.me.0.marks slot
     = ap (λ (v : View). set_in v.marks slot) found.view in
     let token_is
-    = reaped_token map lists before rests mid c.recall_set.new.seat slot (length (set_in mid.me.0.marks slot))
-    c.in-Free.ensures.own found c.recall_set.ensures.own c.recall_set.ensures.waits in
+    = reaped_token rests c.recall_set.new.seat (length (set_in mid.me.0.marks slot)) c.in-Free.ensures.own found
+    c.recall_set.ensures.own c.recall_set.ensures.waits in
     let gives = subst (λ (s : ℕ).
     g.R.RowRoom.shows c.recall_set.new.rows (set_in before.me.0.marks s)
     × IsRowSet (token before).table.shape.rows (set_in before.me.0.marks s)
@@ -70,7 +66,7 @@ returns-in-Held-clause-reaps g c =
     let lists = c.args.lists.now in
     let before = c.args.seat.now in
     let rests = rests_here map lists before c.requires.own c.requires.rests in
-    let keeps = keeps_all map lists before rests c.sweep_heard.new.seat c.in-Held.ensures.sweeps in (
+    let keeps = keeps_all rests c.sweep_heard.new.seat c.in-Held.ensures.sweeps in (
       keeps.notes,
       keeps.earlier,
       keeps.scanned,
@@ -79,6 +75,6 @@ returns-in-Held-clause-reaps g c =
       keeps.scans,
       keeps.some_wait,
       keeps.each,
-      kept_token map lists before rests c.sweep_heard.new.seat c.in-Held.ensures.own keeps,
+      kept_token rests c.in-Held.ensures.own keeps,
       refl,
     )
