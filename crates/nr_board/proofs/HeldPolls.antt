@@ -1,5 +1,5 @@
 -- Polls of slots that are held, one for each of a list.
-use Rattle.std.proofs.Common.{◌≡◌, ℕ, zero, suc, ◌+◌, ◌<◌, List, [], ◌∷◌, ◌++◌, Bool, true, false, length, take, drop}
+use Rattle.std.proofs.Common.{◌≡◌, ℕ, zero, suc, ◌+◌, List, [], ◌∷◌, ◌++◌, Bool, true, false, length, take, drop}
 use Rattle.std.proofs.Common.{get_or, refl, sym, ap, ◌∙◌, arith, append-nil, append_assoc, take-suc}
 use Rattle.std.proofs.lemmas.List.{take-append-drop}
 use mathlib.Core.Option.{some, some-injective, some-ne-none}
@@ -10,6 +10,8 @@ use lib.ListN.{length-map}
 use Rattle.nr_core.proofs.Choices.{by_cases}
 use Rattle.nr_core.specs.declared.places.Retired.{Retired}
 use Rattle.nr_core.specs.Marks.{OfSlot, LoggedLoad}
+use Rattle.nr_board.proofs.PollNotes.{StandsAt, there_is}
+use Rattle.nr_core.proofs.ListPlaces.{inside}
 use Rattle.nr_board.specs.Noting.{Reached}
 use Rattle.nr_board.specs.SlotLists.{held_polls, not_passed}
 
@@ -43,36 +45,36 @@ none_passed passes (entry ∷ retired) none =
 
 -- THOSE BEFORE A PLACE OF THE LIST
 
-module _ (passes : ℕ → Bool) (retired : List Retired) (place : ℕ) (low : place < length retired) where
-  abbrev here : Retired
-  here = get_or retired place no_retired
-
+module _ (passes : ℕ → Bool) {retired : List Retired} {place : ℕ} {entry : Retired}
+    (here : StandsAt retired place entry) where
   up_to_here : not_passed passes (take (place + 1) retired)
-      ≡ not_passed passes (take place retired) ++ not_passed passes (here ∷ [])
+      ≡ not_passed passes (take place retired) ++ not_passed passes (entry ∷ [])
   up_to_here =
       let more : place + 1 ≡ suc place = omega arith in
       ap (λ (n : ℕ). not_passed passes (take n retired)) more
-      ∙ ap (not_passed passes) (take-suc retired place no_retired low)
-      ∙ passed_both passes (take place retired) (here ∷ [])
+      ∙ ap (not_passed passes) (take-suc retired place no_retired (inside retired place entry here.is))
+      ∙ passed_both passes (take place retired) (get_or retired place no_retired ∷ [])
+      ∙ ap (λ (e : Retired). not_passed passes (take place retired) ++ not_passed passes (e ∷ []))
+      (sym (there_is retired place entry here.is))
 
-  pub up_to_passed : passes here.slot ≡ true
+  pub up_to_passed : passes entry.slot ≡ true
       → not_passed passes (take (place + 1) retired) ≡ not_passed passes (take place retired)
   up_to_passed gone = up_to_here ∙ rw gone (append-nil (not_passed passes (take place retired)))
 
-  pub up_to_polled : passes here.slot ≡ false
-      → not_passed passes (take (place + 1) retired) ≡ not_passed passes (take place retired) ++ here ∷ []
+  pub up_to_polled : passes entry.slot ≡ false
+      → not_passed passes (take (place + 1) retired) ≡ not_passed passes (take place retired) ++ entry ∷ []
   up_to_polled stays = up_to_here ∙ rw stays refl
 
   -- and those behind it
-  pub split_here : passes here.slot ≡ false
+  pub split_here : passes entry.slot ≡ false
       → not_passed passes retired
-      ≡ not_passed passes (take place retired) ++ here ∷ not_passed passes (drop (place + 1) retired)
+      ≡ not_passed passes (take place retired) ++ entry ∷ not_passed passes (drop (place + 1) retired)
   split_here stays =
       let behind = not_passed passes (drop (place + 1) retired) in
       ap (not_passed passes) (sym (take-append-drop (place + 1) retired))
       ∙ passed_both passes (take (place + 1) retired) (drop (place + 1) retired)
       ∙ ap (λ (l : List Retired). l ++ behind) (up_to_polled stays)
-      ∙ append_assoc (not_passed passes (take place retired)) (here ∷ []) behind
+      ∙ append_assoc (not_passed passes (take place retired)) (entry ∷ []) behind
 
 -- each of them is reached before that place
 pub polled_reached : (passes : ℕ → Bool) (retired : List Retired) (place at : ℕ) (entry : Retired)

@@ -1,7 +1,7 @@
 -- A pass of a search, slot by slot.
 use Rattle.std.proofs.lemmas.Bool.{false≢true}
 use Rattle.std.proofs.Common.{◌≡◌, ◌≢◌, ℕ, ◌+◌, ◌<◌, ◌≤◌, ◌⊎◌, ⊎_elim, inl, inr, List, [], ◌∷◌, ◌++◌, Bool, true}
-use Rattle.std.proofs.Common.{false, cond, length, get_or, refl, sym, ap, ◌∙◌, subst, arith}
+use Rattle.std.proofs.Common.{false, cond, length, refl, sym, ap, ◌∙◌, subst, arith}
 use Rattle.std.proofs.Common.{append_assoc, length-append}
 use Rattle.std.specs.Prelude.{Some, None, remove}
 use mathlib.Core.Option.{some}
@@ -14,8 +14,8 @@ use Rattle.nr_core.proofs.Different.{few_of}
 use Rattle.nr_core.specs.MarkSteps.{NotedNowhereElse, TryTells}
 use Rattle.nr_core.specs.Marks.{Marks, OfSlot, Past, LoggedLoad, with_poll, with_polls, with_scan}
 use Rattle.nr_board.proofs.Keepers.{adds_held, adds_none, adds_on, once_more}
-use Rattle.nr_board.proofs.PollNotes.{at_get, is_retired, reached_here, reached_more, reached_none, reached_on}
-use Rattle.nr_board.proofs.SearchSeats.{there_is}
+use Rattle.nr_board.proofs.PollNotes.{StandsAt, is_retired, reached_here, reached_more, reached_none}
+use Rattle.nr_board.proofs.PollNotes.{reached_on, there_is}
 use Rattle.nr_board.proofs.Searching.{grows_from, grows_none}
 use Rattle.nr_board.proofs.Tokens.{grows_both, seat_grows}
 use Rattle.nr_board.proofs.WriterSteps.{same_desk}
@@ -25,13 +25,13 @@ use Rattle.nr_board.specs.Passes.{AreHeard, NotesOne, NotesTo, PassTakes, Passed
 use Rattle.nr_board.specs.Noting.{Reached}
 use Rattle.nr_core.proofs.ListPlaces.{some_is}
 use Rattle.nr_board.specs.Polls.{HeldThen}
-use Rattle.nr_board.specs.Plays.{Room}
+use Rattle.nr_board.specs.Plays.{Advances, Room}
 use Rattle.nr_board.specs.SearchPlays.{Tried, tried}
 use Rattle.nr_board.specs.SearchSeats.{IsSearching, SearchesIn, TriesAt, TriesTo}
 use Rattle.nr_core.specs.Core.{AreNumbers}
 use Rattle.nr_board.proofs.WriterSeats.{numbers_seat}
-use Rattle.nr_board.specs.WriterSeats.{MapSeat, WritesAt}
-use Rattle.nr_core.specs.States.{no_retired, retired_at}
+use Rattle.nr_board.specs.WriterSeats.{MapSeat}
+use Rattle.nr_core.specs.States.{retired_at}
 use Rattle.nr_core.specs.Writer.{taking_retired}
 use Rattle.nr_core.specs.declared.calls.WriterCall.{WriterCall}
 use Rattle.nr_core.specs.declared.places.Place.TheVariants.{Searching}
@@ -58,51 +58,27 @@ notes_on retired flags readers place note one = record {
       one.holds;
 }
 
--- a slot with a flag is passed by
-notes_past : (retired : List Retired) (flags : List Bool) (readers place first : ℕ) (notes : List Past)
-    → place < length retired → is_flagged flags (get_or retired place no_retired).slot ≡ true
-    → NotesTo retired flags readers place first notes
-    → NotesTo retired flags readers (place + 1) first notes
-notes_past retired flags readers place first notes low flagged so_far = record {
-  many = so_far.many ∙ ap (λ (l : List Retired). first + length l)
-      (sym (up_to_passed (is_flagged flags) retired place low flagged));
-  each = λ at note there. notes_on retired flags readers place note (so_far.each at note there);
-  apart = so_far.apart;
-}
-
-module _ (retired : List Retired) (flags : List Bool) (readers place first : ℕ) (notes : List Past)
-    (low : place < length retired) (free : is_flagged flags (get_or retired place no_retired).slot ≡ false)
-    (differ : (one other : ℕ) (a b : Retired) → get_elem? retired one ≡ some a → get_elem? retired other ≡ some b
-    → a.slot ≡ b.slot → one ≡ other)
-    (so_far : NotesTo retired flags readers place first notes) (note : Past)
-    (holds : note.slot ≡ Some (get_or retired place no_retired).slot) (made : 0 < note.reader)
-    (few : note.reader ≤ readers) (nowhere_else : NotedNowhereElse notes note) where
-  abbrev this : Retired
-  this = get_or retired place no_retired
-
-  here_it_is : get_elem? retired place ≡ some this
-  here_it_is = at_get retired place low
-
-  -- its reader was not noted before
-  is_new : (at : ℕ) (old : Past) → get_elem? notes at ≡ some old → old.reader ≢ note.reader
-  is_new at old there same =
-      let slot_is : old.slot ≡ Some this.slot = nowhere_else at old there same ∙ holds in
-      ⊎_elim (λ (none : old.slot ≡ None). absurd (cc))
-      (λ (h : (slot : ℕ) × (old.slot ≡ Some slot)
-      × ((is_flagged flags slot ≡ true) ⊎ Reached retired place slot)).
-      let is : h.0 ≡ this.slot = some_is h.0 this.slot (sym h.1 ∙ slot_is) in
-      ⊎_elim
-      (λ (flagged : is_flagged flags h.0 ≡ true). false≢true (sym free ∙ ap (is_flagged flags) (sym is) ∙ flagged))
-      (λ (p : Reached retired place h.0). absurd
-      (let one = differ p.0 place p.1 this p.3 here_it_is (p.4 ∙ is) in omega (arith, p.2)))
-      h.2)
-      (so_far.each at old there).holds
+module _ {retired : List Retired} {flags : List Bool} {readers place first : ℕ} {notes : List Past} {entry : Retired}
+    (here : StandsAt retired place entry) (so_far : NotesTo retired flags readers place first notes) where
+  -- a slot with a flag is passed by
+  notes_past : is_flagged flags entry.slot ≡ true → NotesTo retired flags readers (place + 1) first notes
+  notes_past flagged = record {
+    many =
+        so_far.many
+        ∙ ap (λ (l : List Retired). first + length l) (sym (up_to_passed (is_flagged flags) here flagged));
+    each = λ at note there. notes_on retired flags readers place note (so_far.each at note there);
+    apart = so_far.apart;
+  }
 
   -- a slot that was held is noted
-  notes_more : NotesTo retired flags readers (place + 1) first (notes ++ note ∷ [])
-  notes_more = record {
-    many = let more = ap length (up_to_polled (is_flagged flags) retired place low free) in
-        let both = length-append (unflagged retired flags place) (this ∷ []) in
+  notes_more : is_flagged flags entry.slot ≡ false
+      → ((one other : ℕ) (a b : Retired) → get_elem? retired one ≡ some a → get_elem? retired other ≡ some b
+      → a.slot ≡ b.slot → one ≡ other)
+      → (note : Past) → note.slot ≡ Some entry.slot → 0 < note.reader → note.reader ≤ readers
+      → NotedNowhereElse notes note → NotesTo retired flags readers (place + 1) first (notes ++ note ∷ [])
+  notes_more free differ note holds made few nowhere_else = record {
+    many = let more = ap length (up_to_polled (is_flagged flags) here free) in
+        let both = length-append (unflagged retired flags place) (entry ∷ []) in
         let long = length-append notes (note ∷ []) in let many = so_far.many in omega arith;
     each = λ at other there. ⊎_elim
         (λ (old : get_elem? notes at ≡ some other). notes_on retired flags readers place other
@@ -110,10 +86,26 @@ module _ (retired : List Retired) (flags : List Bool) (readers place first : ℕ
         (λ (new : note ≡ other). subst (NotesOne retired flags readers (place + 1)) new (record {
           made = made;
           few = few;
-          holds = inr (this.slot, holds, inr (reached_here retired place this here_it_is));
+          holds = inr (entry.slot, holds, inr (reached_here retired place entry here.is));
         })) (at_snoc notes note other at there);
     apart = once_more notes note so_far.apart is_new;
   }
+    where
+      -- its reader was not noted before
+      is_new : (at : ℕ) (old : Past) → get_elem? notes at ≡ some old → old.reader ≢ note.reader
+      is_new at old there same =
+          let slot_is : old.slot ≡ Some entry.slot = nowhere_else at old there same ∙ holds in
+          ⊎_elim (λ (none : old.slot ≡ None). absurd (cc))
+          (λ (h : (slot : ℕ) × (old.slot ≡ Some slot)
+          × ((is_flagged flags slot ≡ true) ⊎ Reached retired place slot)).
+          let is : h.0 ≡ entry.slot = some_is h.0 entry.slot (sym h.1 ∙ slot_is) in
+          ⊎_elim
+          (λ (flagged : is_flagged flags h.0 ≡ true). false≢true
+          (sym free ∙ ap (is_flagged flags) (sym is) ∙ flagged))
+          (λ (p : Reached retired place h.0). absurd
+          (let one = differ p.0 place p.1 entry p.3 here.is (p.4 ∙ is) in omega (arith, p.2)))
+          h.2)
+          (so_far.each at old there).holds
 
 -- as many notes at most as there are readers
 pub notes_few : (retired : List Retired) (flags : List Bool) (readers place first : ℕ) (notes : List Past)
@@ -132,11 +124,11 @@ there_too : (desk : Desk) (lists : SlotLists) (place : ℕ) (entry : Retired) �
     → get_elem? lists.retired place ≡ some entry → get_elem? desk.retired place ≡ some entry
 there_too desk lists place entry listed here = ap (λ (l : List Retired). get_elem? l place) listed ∙ here
 
-pub passed_none : (table : Table) (lists : SlotLists) (flags : List Bool) (seat : MapSeat) → SearchesIn table lists seat
-    → IsSound (token seat)
+pub passed_none : {table : Table} {lists : SlotLists} {flags : List Bool} {seat : MapSeat}
+    → SearchesIn table lists seat → IsSound (token seat)
     → NotesTo lists.retired flags table.shape.readers 0 (length seat.me.0.marks.polls) seat.me.0.marks.polls
     → PassedTo table lists flags seat seat 0
-passed_none table lists flags seat search knows notes =
+passed_none {lists = lists} {flags = flags} {seat = seat} search knows notes =
     record {
       own = refl;
       role = refl;
@@ -150,34 +142,22 @@ passed_none table lists flags seat search knows notes =
       marks = no_loads seat.me.0.marks seat.me.0.marks.polls;
     }
 
--- the entry at a place of the list, which the pass leaves as it was
-pub entry_at : (entry : Retired) (lists before : SlotLists) (place : ℕ) → entry ≡ get_or lists.retired place no_retired
-    → lists ≡ before → entry ≡ get_or before.retired place no_retired
-entry_at entry lists before place is same = is ∙ ap (λ (s : SlotLists). get_or s.retired place no_retired) same
-
-module _ (table : Table) (lists : SlotLists) (flags : List Bool) (before now : MapSeat) (place : ℕ)
-    (so_far : PassedTo table lists flags before now place) (low : place < length lists.retired) where
-  abbrev entry : Retired
-  entry = get_or lists.retired place no_retired
-
-  here : get_elem? lists.retired place ≡ some entry
-  here = at_get lists.retired place low
-
+module
+    _ {table : Table} {lists : SlotLists} {flags : List Bool} {before now : MapSeat} {place : ℕ} {entry : Retired}
+    (so_far : PassedTo table lists flags before now place) (here : StandsAt lists.retired place entry) where
   here_now : get_elem? so_far.search.search.desk.retired place ≡ some entry
-  here_now = there_too so_far.search.search.desk lists place entry so_far.search.retired here
+  here_now = there_too so_far.search.search.desk lists place entry so_far.search.retired here.is
 
   pub entry_inside : entry.slot < table.shape.slots
   entry_inside = so_far.search.search.room.inside place entry here_now
 
   pub passed_by : is_flagged flags entry.slot ≡ true → PassedTo table lists flags before now (place + 1)
-  passed_by flagged = let same = sym (up_to_passed (is_flagged flags) lists.retired place low flagged) in record {
+  passed_by flagged = let same = sym (up_to_passed (is_flagged flags) here flagged) in record {
     own = so_far.own;
     role = so_far.role;
     search = so_far.search;
     grows = subst (λ (l : List Retired). Grows (length l) [] (token before) (token now)) same so_far.grows;
-    notes =
-        notes_past lists.retired flags table.shape.readers place (length before.me.0.marks.polls) now.me.0.marks.polls
-        low flagged so_far.notes;
+    notes = notes_past here so_far.notes flagged;
     kept =
         adds_on (PolledTo lists.retired flags place) (PolledTo lists.retired flags (place + 1))
         (HeldThen before.me.0.seen now.me.0.seen) (HeldThen before.me.0.seen now.me.0.seen) before.me.0.marks.polls
@@ -185,7 +165,7 @@ module _ (table : Table) (lists : SlotLists) (flags : List Bool) (before now : M
         (λ slot polled. ⊎_elim (λ r. (r, polled.1))
         (λ (e : slot ≡ entry.slot). absurd
         (false≢true (sym (sym flagged ∙ ap (is_flagged flags) (sym e) ∙ polled.1))))
-        (reached_more lists.retired place entry here slot polled.0))
+        (reached_more lists.retired place entry here.is slot polled.0))
         (λ slot polled. (reached_on lists.retired place slot polled.0, polled.1)) (λ _ _ held. held) so_far.kept;
     heard = so_far.heard;
     marks =
@@ -204,7 +184,7 @@ module _ (table : Table) (lists : SlotLists) (flags : List Bool) (before now : M
     poll = place;
     here = here_now;
     heard =
-        rw so_far.heard (heard entry.slot (is_retired lists.retired place entry here) free);
+        rw so_far.heard (heard entry.slot (is_retired lists.retired place entry here.is) free);
   }
 
   module _ (free : is_flagged flags entry.slot ≡ false) (found : ℕ) (next : MapSeat)
@@ -212,17 +192,46 @@ module _ (table : Table) (lists : SlotLists) (flags : List Bool) (before now : M
     abbrev search_now : IsSearching table now
     search_now = so_far.search.search
 
-    told : Tried search_now.desk search_now.call search_now.rows place found now.me.0 next.me.0
-    told = tells search_now.desk search_now.call search_now.rows place search_now.role search_now.place here_now
+    -- what the poll tells by its answer, whatever the desk is named
+    told_of : (desk : Desk) (call : WriterCall) (rows : List Row) → now.me.0.role ≡ Writer desk
+        → desk.place ≡ Searching call rows 0 → (answer : Bool) → same_count found entry.arrivals ≡ answer
+        → Tried desk call rows place found now.me.0 next.me.0
+        × (tried desk call rows place found ≡ cond {A = Desk} answer (taking_retired desk call rows place found) desk)
+        × TryTells answer now.me.0.shape entry.slot now.me.0.marks next.me.0.marks
+    told_of desk call rows is is_at answer agree =
+        let there : get_elem? desk.retired place ≡ some entry
+        = ap (λ (d : Desk). get_elem? d.retired place)
+        (sym (same_desk now.me.0.role search_now.desk desk search_now.role is))
+        ∙ here_now in
+        let entry_is = there_is desk.retired place entry there in
+        let agrees : same_count found (retired_at desk place).arrivals ≡ answer
+        = ap (λ (e : Retired). same_count found e.arrivals) (sym entry_is) ∙ agree in
+        let mine = tells desk call rows place is is_at there in (
+          mine,
+          ap (λ (b : Bool). cond {A = Desk} b (taking_retired desk call rows place found) desk) agrees,
+          subst (λ (p : Bool × Retired). TryTells p.0 now.me.0.shape p.1.slot now.me.0.marks next.me.0.marks)
+              (λ j. (agrees j, sym entry_is j)) mine.marks,
+        )
 
-    entry_is : entry ≡ retired_at search_now.desk place
-    entry_is = there_is search_now.desk.retired place entry here_now
+    abbrev Own : Bool → Type 0
+    Own answer =
+        Tried search_now.desk search_now.call search_now.rows place found now.me.0 next.me.0
+        × (tried search_now.desk search_now.call search_now.rows place found
+        ≡ cond {A = Desk} answer (taking_retired search_now.desk search_now.call search_now.rows place found)
+        search_now.desk)
+        × TryTells answer now.me.0.shape entry.slot now.me.0.marks next.me.0.marks
+
+    own_told : (answer : Bool) → same_count found entry.arrivals ≡ answer → Own answer
+    own_told = told_of search_now.desk search_now.call search_now.rows search_now.role search_now.place
+
+    advances : Advances [] now.me.0 next.me.0
+    advances = (own_told (same_count found entry.arrivals) refl).0.leads.advances
 
     grown : Grows (polls_before lists.retired flags place + 1) [] (token before) (token next)
     grown =
         grows_both (polls_before lists.retired flags place) 1 (polls_before lists.retired flags place + 1)
         (token before) (token now)
-        [] (token next) refl so_far.grows (seat_grows now next [] same told.leads.advances)
+        [] (token next) refl so_far.grows (seat_grows now next [] same advances)
 
     -- the loads with this poll
     marks_are : (marks : Marks) (held : Bool)
@@ -238,19 +247,10 @@ module _ (table : Table) (lists : SlotLists) (flags : List Bool) (before now : M
 
     pub passed_more : same_count found entry.arrivals ≡ false → PassedTo table lists flags before next (place + 1)
     passed_more apart =
-        let differs : same_count found (retired_at search_now.desk place).arrivals ≡ false
-        = ap (λ (e : Retired). same_count found e.arrivals) (sym entry_is) ∙ apart in
-        let stays : tried search_now.desk search_now.call search_now.rows place found ≡ search_now.desk
-        = ap
-        (λ (b : Bool). cond {A = Desk} b
-        (taking_retired search_now.desk search_now.call search_now.rows place found) search_now.desk)
-        differs in
+        let (told, stays, noted) = own_told false apart in
         let role : next.me.0.role ≡ Writer search_now.desk = told.leads.role ∙ ap Writer stays in
-        let noted
-        = subst (λ (p : Bool × Retired). TryTells p.0 now.me.0.shape p.1.slot now.me.0.marks next.me.0.marks)
-        (λ j. (differs j, sym entry_is j)) told.marks in
         let polls = ap (λ (m : Marks). m.polls) noted.1 in
-        let longer = up_to_polled (is_flagged flags) lists.retired place low free in
+        let longer = up_to_polled (is_flagged flags) here free in
         let count : polls_before lists.retired flags place + 1 ≡ polls_before lists.retired flags (place + 1)
         = sym (ap length longer ∙ length-append (unflagged lists.retired flags place) (entry ∷ [])) in
         let size = ap (λ (t : Table). t.shape.readers) search_now.own in record {
@@ -273,23 +273,21 @@ module _ (table : Table) (lists : SlotLists) (flags : List Bool) (before now : M
           notes =
               subst (NotesTo lists.retired flags table.shape.readers (place + 1) (length before.me.0.marks.polls))
               (sym polls)
-              (notes_more lists.retired flags table.shape.readers place (length before.me.0.marks.polls)
-              now.me.0.marks.polls low free
+              (notes_more here so_far.notes free
               (λ one other a b at_a at_b. search_now.room.apart one other a b
               (there_too search_now.desk lists one a so_far.search.retired at_a)
               (there_too search_now.desk lists other b so_far.search.retired at_b))
-              so_far.notes
               noted.0 noted.2 noted.3 (let few = noted.4 in omega arith) noted.5);
           kept =
               adds_held (PolledTo lists.retired flags place) (PolledTo lists.retired flags (place + 1))
               before.me.0.marks.polls now.me.0.marks.polls next.me.0.marks.polls before.me.0.seen now.me.0.seen
               next.me.0.seen entry.slot noted.0
               (λ slot polled. ⊎_elim (λ r. inl (r, polled.1)) inr
-              (reached_more lists.retired place entry here slot polled.0))
+              (reached_more lists.retired place entry here.is slot polled.0))
               (λ slot polled. (reached_on lists.retired place slot polled.0, polled.1))
-              (reached_here lists.retired place entry here, free)
+              (reached_here lists.retired place entry here.is, free)
               (grows_from (polls_before lists.retired flags place + 1) (token before) [] (token next) grown)
-              (grows_from 1 (token now) [] (token next) (seat_grows now next [] same told.leads.advances)) told.notes
+              (grows_from 1 (token now) [] (token next) (seat_grows now next [] same advances)) told.notes
               polls noted.2 so_far.kept;
           heard = told.heard ∙ so_far.heard;
           marks =
@@ -301,24 +299,32 @@ module _ (table : Table) (lists : SlotLists) (flags : List Bool) (before now : M
               (sym (ap held_polls longer ∙ held_next (unflagged lists.retired flags place) entry));
         }
 
-    pub pass_takes : same_count found entry.arrivals ≡ true → (taken : Taken) → taken.slot ≡ entry.slot
-        → taken.departures ≡ found → (after : SlotLists) → after ≡ record lists { retired = remove lists.retired place }
+    pub pass_takes : same_count found entry.arrivals ≡ true → {taken : Taken} → taken.slot ≡ entry.slot
+        → taken.departures ≡ found → {after : SlotLists} → after ≡ record lists { retired = remove lists.retired place }
         → PassTakes table flags before lists next after taken
-    pass_takes agree taken slot_is departed after is =
-        let agrees : same_count found (retired_at search_now.desk place).arrivals ≡ true
-        = ap (λ (e : Retired). same_count found e.arrivals) (sym entry_is) ∙ agree in
-        let marked
-        = subst (λ (p : Bool × Retired). TryTells p.0 now.me.0.shape p.1.slot now.me.0.marks next.me.0.marks)
-        (λ j. (agrees j, sym entry_is j)) told.marks in
+    pass_takes agree slot_is departed is =
+        let (told, _, marked) = own_told true agree in
         record {
           place = place;
           entry = entry;
-          here = here;
+          here = here.is;
           slot = slot_is;
           no_flag = free;
           after_is = is;
           own = same ∙ so_far.own;
-          writes = λ desk call rows is_desk is_at. writes_so desk call rows (so_far.role ∙ is_desk) is_at;
+          writes = λ desk call rows is_desk is_at.
+              let (mine, goes, _) = told_of desk call rows (so_far.role ∙ is_desk) is_at true agree in
+              let desk_is = goes ∙ ap (taking_retired desk call rows place) (sym departed) in
+              let stays = grown.table ∙ sym so_far.grows.table in record {
+                own = stays ∙ search_now.own;
+                role = mine.leads.role ∙ ap Writer desk_is;
+                room =
+                    subst (λ (p : Shape × Desk). Room p.0 p.1)
+                    (λ j. (ap (λ (t : Table). t.shape) search_now.own j, desk_is j)) mine.leads.room;
+                numbers =
+                    subst (λ (d : Desk). AreNumbers table.shape (map_seen (token next)) d.numbers) desk_is
+                    (numbers_seat table now next same search_now.own _ stays mine.leads.numbers);
+              };
           grows = grown;
           few =
               notes_few lists.retired flags table.shape.readers place (length before.me.0.marks.polls)
@@ -329,28 +335,3 @@ module _ (table : Table) (lists : SlotLists) (flags : List Bool) (before now : M
               (marked
               ∙ ap (λ (m : Marks). with_polls (with_poll now.me.0.marks entry.slot true) m.polls) (sym marked));
         }
-      where
-        writes_so : (desk : Desk) (call : WriterCall) (rows : List Row) → now.me.0.role ≡ Writer desk
-            → desk.place ≡ Searching call rows 0
-            → WritesAt table (taking_retired desk call rows place taken.departures) next
-        writes_so desk call rows is_desk is_at =
-            let one = same_desk now.me.0.role search_now.desk desk search_now.role is_desk in
-            let there : get_elem? desk.retired place ≡ some entry
-            = ap (λ (d : Desk). get_elem? d.retired place) (sym one) ∙ here_now in
-            let mine = tells desk call rows place is_desk is_at there in
-            let agrees : same_count found (retired_at desk place).arrivals ≡ true
-            = ap (λ (e : Retired). same_count found e.arrivals) (sym (there_is desk.retired place entry there))
-            ∙ agree in
-            let goes : tried desk call rows place found ≡ taking_retired desk call rows place taken.departures
-            = ap (λ (b : Bool). cond {A = Desk} b (taking_retired desk call rows place found) desk) agrees
-            ∙ ap (taking_retired desk call rows place) (sym departed) in
-            let stays = grown.table ∙ sym so_far.grows.table in record {
-              own = stays ∙ search_now.own;
-              role = mine.leads.role ∙ ap Writer goes;
-              room =
-                  subst (λ (p : Shape × Desk). Room p.0 p.1)
-                  (λ j. (ap (λ (t : Table). t.shape) search_now.own j, goes j)) mine.leads.room;
-              numbers =
-                  subst (λ (d : Desk). AreNumbers table.shape (map_seen (token next)) d.numbers) goes
-                  (numbers_seat table now next same search_now.own _ stays mine.leads.numbers);
-            }

@@ -9,12 +9,32 @@ use Rattle.nr_core.proofs.ListPlaces.{inside}
 use Rattle.nr_core.proofs.Sums.{got_at, only-is, only-same, some_term}
 use Rattle.nr_core.specs.Roles.{retirements}
 use Rattle.nr_core.specs.Sums.{only}
+use Rattle.nr_core.specs.SlotLists.{SlotLists}
 use Rattle.nr_core.specs.States.{no_retired}
 use Rattle.nr_core.specs.declared.places.Retired.{Retired}
 use Rattle.nr_board.specs.Noting.{Reached}
 
 pub at_get : (l : List Retired) (place : ℕ) → place < length l → get_elem? l place ≡ some (get_or l place no_retired)
 at_get l place low = got_at l place no_retired low
+
+-- an entry that stands at a place of the list is the one there
+pub there_is : (retired : List Retired) (place : ℕ) (entry : Retired) → get_elem? retired place ≡ some entry
+    → entry ≡ get_or retired place no_retired
+there_is retired place entry here =
+    some-injective entry (get_or retired place no_retired)
+    (sym here ∙ at_get retired place (inside retired place entry here))
+
+pub record StandsAt (retired : List Retired) (place : ℕ) (entry : Retired) : Type 0 where
+  pub is : get_elem? retired place ≡ some entry
+
+-- what a search finds at a place of the list, which it leaves as it was
+pub stands_at : {lists before : SlotLists} {place : ℕ} {entry : Retired} → lists ≡ before
+    → entry ≡ get_or lists.retired place no_retired → place < length before.retired
+    → StandsAt before.retired place entry
+stands_at {lists = lists} {before = before} {place = place} same is low = record {
+  is = at_get before.retired place low
+      ∙ ap some (ap (λ (s : SlotLists). get_or s.retired place no_retired) (sym same) ∙ sym is);
+}
 
 -- what is in the list is retired
 pub is_retired : (retired : List Retired) (at : ℕ) (entry : Retired) → get_elem? retired at ≡ some entry

@@ -1,6 +1,6 @@
 -- A set is put word by word, and published.
-use Rattle.std.proofs.Common.{◌≡◌, ℕ, ◌+◌, ◌*◌, ◌≤◌, List, [], ◌++◌, Bool, cond, false, true, get_or, length, set, refl, sym}
-use Rattle.std.proofs.Common.{ap, ◌∙◌, subst, arith}
+use Rattle.std.proofs.Common.{◌≡◌, ℕ, ◌+◌, ◌*◌, ◌≤◌, List, [], ◌++◌, Bool, cond, false, true, get_or, length, set, refl}
+use Rattle.std.proofs.Common.{sym, ap, ◌∙◌, subst, arith}
 use Rattle.std.specs.Prelude.{slice_set}
 use Rattle.std.proofs.lemmas.Bool.{lt-leb}
 use Rattle.std.proofs.lemmas.List.{set-set}
@@ -102,7 +102,8 @@ module
     }) where
   writes : WritesAt table (desk_with mid_lists (Putting call rows slot departed (2 * length rows + 1))) mid
   writes =
-      subst (λ (desk : Desk). WritesAt table (moved_to desk (Putting call rows slot departed (2 * length rows + 1))) mid)
+      subst
+      (λ (desk : Desk). WritesAt table (moved_to desk (Putting call rows slot departed (2 * length rows + 1))) mid)
       (ap desk_of took.writes.role) writes_at
 
   -- the swap publishes the set

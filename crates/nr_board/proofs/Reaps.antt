@@ -1,5 +1,6 @@
 -- A reap: its sweeps and the scan between them, put together.
-use Rattle.std.proofs.Common.{◌≡◌, ℕ, ◌+◌, ◌*◌, ◌<◌, ⊎_elim, inl, inr, true, List, [], ◌∷◌, ◌++◌, ap, append-nil, append_assoc}
+use Rattle.std.proofs.Common.{◌≡◌, ℕ, ◌+◌, ◌*◌, ◌<◌, ⊎_elim, inl, inr, true, List, [], ◌∷◌, ◌++◌, ap, append-nil}
+use Rattle.std.proofs.Common.{append_assoc}
 use Rattle.std.proofs.Common.{arith, length, length-append, refl, set, subst, sym, ◌∙◌}
 use Rattle.nr_core.specs.SlotLists.{SlotLists}
 use Rattle.nr_core.specs.declared.places.Place.TheVariants.{Idle}
@@ -114,7 +115,8 @@ module _ {table : Table} {lists : SlotLists} {before : MapSeat} (rests : RestsAt
 
     -- after its polls
     after_sweep : (notes : List Past) (polls : List LoggedLoad)
-        → probed notes polls made.last.me.0 ≡ swept (made.earlier ++ notes) (made.loads ++ polls) 0 heard_then before.me.0
+        → probed notes polls made.last.me.0
+        ≡ swept (made.earlier ++ notes) (made.loads ++ polls) 0 heard_then before.me.0
     after_sweep notes polls = let view = before.me.0 in let both = length-append made.loads polls in
         let steps : view.steps + (length made.loads + 0) + length polls
         ≡ view.steps + (length (made.loads ++ polls) + 0) = omega arith in
@@ -177,7 +179,8 @@ module _ {table : Table} {lists : SlotLists} {before : MapSeat} (rests : RestsAt
     untouched = tt;
   }
 
-  module _ {now : MapSeat} {slot : ℕ} (last : MapSeat) (rows : ℕ) (same : now.table_id ≡ before.table_id) (found : FoundSet now slot)
+  module _ {now : MapSeat} {slot : ℕ} (last : MapSeat) (rows : ℕ) (same : now.table_id ≡ before.table_id)
+      (found : FoundSet now slot)
       (last_same : last.table_id ≡ now.table_id) (waits : last.me.0 ≡ waited (2 * rows + 1) now.me.0) where
     abbrev all_notes : List Past
     all_notes = found.earlier ++ found.notes

@@ -1,13 +1,12 @@
 -- The steps of a scan and of a search in any order as the writer's seat makes them, whatever its desk, its call and its
 -- rows.
 use Rattle.std.proofs.Common.{◌≡◌, ℕ, ◌<◌, ◌≤◌, List, [], length, get_or, sym, ap, ◌∙◌, subst}
-use mathlib.Core.Option.{none, some, some-injective}
+use mathlib.Core.Option.{none, some}
 use lib.ListN.{get_elem?}
 use Rattle.atomic_table.specs.Table.{Allows, Me, State, step}
 use Rattle.nr_model.specs.declared.rows.Row.{Row}
-use Rattle.nr_core.proofs.ListPlaces.{inside}
 use Rattle.nr_core.specs.Slots.{departures}
-use Rattle.nr_core.specs.States.{no_retired, retired_at}
+use Rattle.nr_core.specs.States.{retired_at}
 use Rattle.nr_core.specs.declared.calls.WriterCall.{WriterCall}
 use Rattle.nr_core.specs.declared.calls.WriterCall.TheVariants.{Evict}
 use Rattle.nr_core.specs.declared.places.Place.{Place}
@@ -34,13 +33,6 @@ allows_more : (holds : State (Unit {0}) View → Type 0) (slots id : ℕ) (me : 
 allows_more holds slots id me at becomes then more gives can state kept homes there bounded =
     let made = can state kept homes there bounded in
     (made.0, made.1, made.2, made.3, gives _ _ made.4)
-
--- an entry that stands at a place of the list is the one there
-pub there_is : (retired : List Retired) (place : ℕ) (entry : Retired) → get_elem? retired place ≡ some entry
-    → entry ≡ get_or retired place no_retired
-there_is retired place entry here =
-    some-injective entry (get_or retired place no_retired)
-    (sym here ∙ at_get retired place (inside retired place entry here))
 
 -- the call and the rows of a search
 abbrev call_in : Place → WriterCall

@@ -34,7 +34,7 @@ use Rattle.nr_board.proofs.HeldPolls.{held_next, polled_reached, split_here, up_
 use Rattle.nr_board.proofs.Keepers.{at_behind, at_end, once_more}
 use Rattle.nr_board.proofs.Lift.{knows_pasts, lends_on, lifts, sees_alone}
 use Rattle.nr_board.proofs.Moves.{ActsGo, waited, waiting as learns_nothing}
-use Rattle.nr_board.proofs.PollNotes.{at_get}
+use Rattle.nr_board.proofs.PollNotes.{StandsAt, at_get}
 use Rattle.nr_board.specs.Callers.{Caller, Table, caller_of, map_seen, token}
 use Rattle.nr_board.specs.Entries.{AreCallers}
 use Rattle.nr_board.specs.Plays.{Room}
@@ -157,6 +157,12 @@ module _ (readers : ℕ) (slots : List Retired) (notes : List Past) (entry : Ret
 
 -- THE SWEEP
 
+-- a retired slot is one of the map's
+pub retired_near : {table : Table} {lists : SlotLists} {seat : MapSeat} {place : ℕ} {entry : Retired}
+    → RestsAt table lists seat → StandsAt lists.retired place entry → entry.slot < lists.slots
+retired_near {place = place} {entry = entry} rests here =
+    omega (arith, rests.writes.room.inside place entry here.is, rests.slots)
+
 -- one load more
 probed_more : (notes : List Past) (polls : List LoggedLoad) (load : LoggedLoad) (view : View)
     → record (probed notes polls view) {
@@ -176,7 +182,13 @@ probed_more notes polls load
 
 pub swept_none : (lists : SlotLists) (seat : MapSeat) → SweptTo lists seat seat 0 false
 swept_none lists seat =
-    record { notes = []; each = none_held seat.me.0.shape.readers; own = refl; view = none_yet; some_wait = (refl, refl) }
+    record {
+      notes = [];
+      each = none_held seat.me.0.shape.readers;
+      own = refl;
+      view = none_yet;
+      some_wait = (refl, refl);
+    }
   where
     none_yet : seat.me.0 ≡ probed [] [] seat.me.0
     none_yet = let view = seat.me.0 in let steps : view.steps ≡ view.steps + 0 = omega arith in
@@ -186,11 +198,9 @@ swept_none lists seat =
           marks = with_scan view.marks (sym (append-nil view.marks.polls) j) (sym (append-nil view.marks.loads) j);
         }
 
-module _ (lists : SlotLists) (before mid : MapSeat) (place : ℕ) (waits : Bool)
-    (so_far : SweptTo lists before mid place waits) (low : place < length lists.retired) where
-  abbrev this : Retired
-  this = get_or lists.retired place no_retired
-
+module
+    _ {lists : SlotLists} {before mid : MapSeat} {place : ℕ} {waits : Bool} {this : Retired}
+    (so_far : SweptTo lists before mid place waits) (here : StandsAt lists.retired place this) where
   -- a slot is passed by whose set was reaped, or which is not heard
   abbrev reaped : ℕ → Bool
   reaped slot = get_or lists.reaped slot false
@@ -209,7 +219,7 @@ module _ (lists : SlotLists) (before mid : MapSeat) (place : ℕ) (waits : Bool)
 
   passed : (now : Bool) → SomeWait waiting_then before.me.0 mid.me.0 now → passes this.slot ≡ true
       → SweptTo lists before mid (place + 1) now
-  passed now some_wait gone = let same = sym (up_to_passed passes lists.retired place low gone) in record {
+  passed now some_wait gone = let same = sym (up_to_passed passes here gone) in record {
     notes = so_far.notes;
     each = subst (λ (l : List Retired). HeldEach before.me.0.shape.readers l so_far.notes) same so_far.each;
     own = so_far.own;
@@ -221,37 +231,40 @@ module _ (lists : SlotLists) (before mid : MapSeat) (place : ℕ) (waits : Bool)
   swept_past gone =
       passed waits
       (subst (λ (l : List Retired). SomeWait l before.me.0 mid.me.0 waits)
-      (sym (up_to_passed reaped lists.retired place low gone)) so_far.some_wait)
+      (sym (up_to_passed reaped here gone)) so_far.some_wait)
       (ap (λ (b : Bool). b || unheard this.slot) gone)
 
   this_waits : reaped this.slot ≡ false → 0 < length waiting_then
   this_waits stays =
       omega (
         arith,
-        ap length (up_to_polled reaped lists.retired place low stays),
+        ap length (up_to_polled reaped here stays),
         length-append (waiting lists.reaped (take place lists.retired)) (this ∷ []),
       )
 
   pub swept_unheard : reaped this.slot ≡ false → unheard this.slot ≡ true → SweptTo lists before mid (place + 1) true
   swept_unheard stays far = passed true (this_waits stays) (λ j. stays j || far j)
 
-  module _ (shape : Shape) (found : ℕ) (after : MapSeat) (own : after.table_id ≡ mid.table_id)
-      (tells : ProbesTo shape this found mid.me.0 after.me.0) (stays : reaped this.slot ≡ false)
-      (near : unheard this.slot ≡ false) where
+  module _ {table : Table} (rests : RestsAt table lists before) (stays : reaped this.slot ≡ false)
+      (near : unheard this.slot ≡ false) (found : ℕ) (after : MapSeat) (own : after.table_id ≡ mid.table_id)
+      (tells : ProbesTo table.shape this found mid.me.0 after.me.0) where
     polled : passes this.slot ≡ false
     polled = λ j. stays j || near j
 
-    pub swept_more : (table : Table) → shape ≡ table.shape → RestsAt table lists before
-        → same_count found this.arrivals ≡ false → SweptTo lists before after (place + 1) true
-    swept_more table sized rests apart =
-        let told = subst (λ (b : Bool). ProbeTells b shape this.slot mid.me.0.marks after.me.0.marks) apart tells.1 in
+    told_of : (answer : Bool) → same_count found this.arrivals ≡ answer
+        → ProbeTells answer table.shape this.slot mid.me.0.marks after.me.0.marks
+    told_of answer agree =
+        subst (λ (b : Bool). ProbeTells b table.shape this.slot mid.me.0.marks after.me.0.marks) agree tells.1
+
+    pub swept_more : same_count found this.arrivals ≡ false → SweptTo lists before after (place + 1) true
+    swept_more apart = let told = told_of false apart in
         let note : Past = told.0 in
         let notes = so_far.notes ++ note ∷ [] in
-        let more = up_to_polled passes lists.retired place low polled in
+        let more = up_to_polled passes here polled in
         let polls_are : mid.me.0.marks.polls ≡ before.me.0.marks.polls ++ so_far.notes
         = ap (λ (v : View). v.marks.polls) so_far.view in
-        let readers : shape.readers ≡ before.me.0.shape.readers
-        = ap (λ (s : Shape). s.readers) sized ∙ sym (ap (λ (t : Table). t.shape.readers) rests.writes.own) in
+        let readers : table.shape.readers ≡ before.me.0.shape.readers
+        = sym (ap (λ (t : Table). t.shape.readers) rests.writes.own) in
         let another : (at : ℕ) (old : Past) → get_elem? so_far.notes at ≡ some old → old.reader ≢ note.reader
         = λ at old there same.
         let entry = before_at held at (omega (arith, inside so_far.notes at old there, so_far.each.held.many)) in
@@ -265,8 +278,7 @@ module _ (lists : SlotLists) (before mid : MapSeat) (place : ℕ) (waits : Bool)
         let one_slot : entry.0.slot ≡ this.slot = some_is entry.0.slot this.slot (sym its_slot ∙ as_here ∙ told.2) in
         let earlier = polled_reached passes lists.retired place at entry.0 entry.1 in
         let one_place
-        = rests.writes.room.apart earlier.0 place earlier.1 this earlier.3 (at_get lists.retired place low)
-        (earlier.4 ∙ one_slot) in
+        = rests.writes.room.apart earlier.0 place earlier.1 this earlier.3 here.is (earlier.4 ∙ one_slot) in
         absurd (omega (arith, earlier.2)) in
         record {
           notes = notes;
@@ -295,18 +307,17 @@ module _ (lists : SlotLists) (before mid : MapSeat) (place : ℕ) (waits : Bool)
           some_wait = this_waits stays;
         }
 
-    pub sweeps_free : same_count found this.arrivals ≡ true → this.slot < lists.slots
-        → SweepsFor lists before after (sweep.Free this.slot)
-    sweeps_free agree inside_it =
-        let told = subst (λ (b : Bool). ProbeTells b shape this.slot mid.me.0.marks after.me.0.marks) agree tells.1 in (
+    pub sweeps_free : same_count found this.arrivals ≡ true → SweepsFor lists before after (sweep.Free this.slot)
+    sweeps_free agree =
+        let told = told_of true agree in (
           held,
           not_passed passes (drop (place + 1) lists.retired),
           this,
           so_far.notes,
-          split_here passes lists.retired place low polled,
+          split_here passes here polled,
           so_far.each,
           refl,
-          inside_it,
+          retired_near rests here,
           tells.0 ∙ (λ j. record mid.me.0 { steps = mid.me.0.steps + 1; marks = told j })
               ∙ ap
               (λ (v : View).
@@ -325,7 +336,9 @@ pub swept_first : (lists : SlotLists) (seat : MapSeat) (count : ℕ) → AreReap
 swept_first lists seat zero known = swept_none lists seat
 swept_first lists seat (suc count) known =
     let earlier = swept_first lists seat count (omega (arith, known.0), λ place first. known.1 place (omega arith)) in
-    let next = swept_past lists seat seat count false earlier (omega (arith, known.0)) (known.1 count (omega arith)) in
+    let here : StandsAt lists.retired count (get_or lists.retired count no_retired)
+    = record { is = at_get lists.retired count (omega (arith, known.0)) } in
+    let next = swept_past earlier here (known.1 count (omega arith)) in
     subst (λ place. SweptTo lists seat seat place false) (omega arith) next
 
 -- THE SEAT
@@ -354,13 +367,10 @@ module _ (table : Table) (lists : SlotLists) (before after : MapSeat) (steps : �
   })
 
 -- a retired slot can be polled
-pub probes_at : (table : Table) (lists : SlotLists) (before now : MapSeat) (place : ℕ) (waits : Bool)
-    → RestsAt table lists before
-    → SweptTo lists before now place waits → (low : place < length lists.retired)
-    → nat_lt (get_or before.me.0.heard (get_or lists.retired place no_retired).slot 0) before.me.0.announcers
-    ≡ false
-    → ProbesAt table (get_or lists.retired place no_retired) now
-probes_at table lists before now place waits rests so_far low near = record {
+pub probes_at : {table : Table} {lists : SlotLists} {before now : MapSeat} {place : ℕ} {waits : Bool} {entry : Retired}
+    → RestsAt table lists before → SweptTo lists before now place waits → StandsAt lists.retired place entry
+    → nat_lt (get_or before.me.0.heard entry.slot 0) before.me.0.announcers ≡ false → ProbesAt table entry now
+probes_at {lists = lists} {place = place} {entry = entry} rests so_far here near = record {
   own =
       (λ j. record { id = so_far.own j; shape = (so_far.view j).shape; announcers = (so_far.view j).announcers })
       ∙ rests.writes.own;
@@ -369,18 +379,10 @@ probes_at table lists before now place waits rests so_far low near = record {
   idle = refl;
   room = rests.writes.room;
   poll = place;
-  here = at_get lists.retired place low;
+  here = here.is;
   heard =
       let heard = ltb-false _ _ near in
-      let is = ap (λ (v : View). get_or v.heard (get_or lists.retired place no_retired).slot 0) so_far.view in
+      let is = ap (λ (v : View). get_or v.heard entry.slot 0) so_far.view in
       let same = ap (λ (t : Table). t.announcers) rests.writes.own in
       omega arith;
 }
-
--- and is one of the map's
-pub retired_near : (table : Table) (lists : SlotLists) (seat : MapSeat) (place : ℕ) → RestsAt table lists seat
-    → place < length lists.retired → (get_or lists.retired place no_retired).slot < lists.slots
-retired_near table lists seat place rests low =
-    let near
-    = rests.writes.room.inside place (get_or lists.retired place no_retired) (at_get lists.retired place low) in
-    omega (arith, near, rests.slots)

@@ -10,7 +10,7 @@ use Rattle.nr_core.specs.Roles.{retirements}
 use Rattle.nr_core.specs.declared.places.Retired.{Retired}
 use Rattle.nr_core.specs.declared.roles.Desk.{Desk}
 use Rattle.nr_core.specs.declared.roles.Role.{Role}
-use Rattle.nr_board.proofs.SearchSeats.{there_is}
+use Rattle.nr_board.proofs.PollNotes.{there_is}
 use Rattle.nr_board.proofs.Searching.{lacks_slot, searched_none, searching_at}
 use Rattle.nr_board.proofs.WholeScans.{retired_once}
 use Rattle.nr_board.specs.declared.publish.Taken.{Taken}

@@ -12,7 +12,8 @@ load-requires c =
     let seat = c.args.seat.now in (
       ap (λ (t : Table). t.id) (c.requires.own ∙ sym c.self.view_is),
       key_in board board.some_key,
-      learns_so shared.key.shape seat.id seat.me 0 (key_near board board.some_key) c.requires.caller shared.table_id.slots,
+      learns_so shared.key.shape seat.id seat.me 0 (key_near board board.some_key) c.requires.caller
+          shared.table_id.slots,
     )
 
 pub returns : goal.returns

@@ -12,7 +12,8 @@ load-requires c =
     let seat = c.args.seat.now in (
       ap (λ (t : Table). t.id) (c.requires.own ∙ sym c.self.view_is),
       key_in board c.requires.key,
-      learns_so shared.key.shape seat.id seat.me c.args.key (key_near board c.requires.key) c.requires.caller shared.table_id.slots,
+      learns_so shared.key.shape seat.id seat.me c.args.key (key_near board c.requires.key) c.requires.caller
+          shared.table_id.slots,
     )
 
 pub returns : goal.returns

@@ -6,10 +6,12 @@ use Rattle.nr_board.proofs.board.Board.put_rows.Goals as goal
 
 pub put-requires : goal.put-requires
 put-requires g c =
-    puts_next (put_none (desk_of c.args.seat.now.me.0.role) c.requires.writer c.requires.knows) c.content-begin.ensures (omega arith) refl
+    puts_next (put_none (desk_of c.args.seat.now.me.0.role) c.requires.writer c.requires.knows) c.content-begin.ensures
+    (omega arith) refl
 
 pub loop-i-init : goal.loop-i-init
-loop-i-init g c = put_more (put_none (desk_of c.args.seat.now.me.0.role) c.requires.writer c.requires.knows) c.put.ensures
+loop-i-init g c =
+    put_more (put_none (desk_of c.args.seat.now.me.0.role) c.requires.writer c.requires.knows) c.put.ensures
 
 pub put-requires-in-loop-i : goal.put-requires-in-loop-i
 put-requires-in-loop-i g c =

@@ -6,7 +6,8 @@ use Rattle.nr_words.specs.Places.{Departures, place_of}
 use Rattle.nr_core.specs.declared.places.Retired.{Retired}
 use Rattle.nr_core.specs.declared.shape.Shape.{Shape}
 use Rattle.nr_board.proofs.BoardPlaces.{departures_at, departures_in, stands}
-use Rattle.nr_board.proofs.SearchSeats.{has_tried_so, there_is}
+use Rattle.nr_board.proofs.PollNotes.{there_is}
+use Rattle.nr_board.proofs.SearchSeats.{has_tried_so}
 use Rattle.nr_board.specs.Callers.{Table}
 use Rattle.nr_board.specs.Plays.{Room}
 use Rattle.nr_board.specs.SearchSeats.{TriesAt}
