@@ -1,9 +1,10 @@
 -- The search for a slot: each retired one is polled in order, until one is not held.
 use Rattle.std.proofs.Common.{◌≡◌, ℕ, ◌+◌, ◌-◌, ◌<◌, ◌≤◌, List, [], ◌∷◌, ◌++◌, length-append, Bool, true, false, cond}
 use Rattle.std.proofs.Common.{length, nat_eq, refl, sym, ap, ◌∙◌, subst, arith, append-nil, append_assoc, ◌⊎◌, inl, suc}
-use Rattle.std.proofs.Common.{take, take_all, take-suc}
+use Rattle.std.proofs.Common.{get_or, inr, length-take-le, take, take_all, take-suc}
+use Rattle.nr_core.proofs.ListPlaces.{inside}
 use Rattle.std.proofs.lemmas.Bool.{eq-eqb, lt-ltb, le-ltb, ne_eqb}
-use Rattle.std.specs.Prelude.{nat_lt}
+use Rattle.std.specs.Prelude.{nat_lt, remove}
 use mathlib.Core.Logic.{dite}
 use native.Mathlib.Decide.{ℕ_discrete}
 use Rattle.nr_words.specs.KeyWords.{same_count}
@@ -22,9 +23,9 @@ use Rattle.nr_core.specs.declared.places.Place.TheVariants.{Idle, Putting, Searc
 use Rattle.nr_core.specs.declared.places.Retired.{Retired}
 use Rattle.nr_core.specs.declared.roles.Desk.{Desk}
 use Rattle.nr_core.specs.declared.shape.Shape.{Shape}
-use Rattle.nr_board.proofs.HeldPolls.{held_many, held_next}
+use Rattle.nr_board.proofs.HeldPolls.{held_many, held_next, none_passed}
 use Rattle.nr_board.proofs.Keepers.{adds_held, adds_none, kept_back}
-use Rattle.nr_board.proofs.PollNotes.{at_get, reached_all, reached_here, reached_more, reached_none, reached_on}
+use Rattle.nr_board.proofs.PollNotes.{StandsAt, at_get, there_is, reached_all, reached_here, reached_more, reached_none, reached_on}
 use Rattle.nr_board.proofs.PollNotes.{reached_waits}
 use Rattle.nr_board.proofs.WordLoads.{no_loads}
 use Rattle.nr_board.proofs.Tokens.{grows_both}
@@ -33,7 +34,7 @@ use Rattle.nr_board.specs.Noting.{Adds, Reached}
 use Rattle.nr_board.specs.Polls.{HeldThen}
 use Rattle.nr_board.specs.Rule.{StartsWith}
 use Rattle.nr_core.specs.SlotLists.{SlotLists, all_taken}
-use Rattle.nr_board.specs.SlotLists.{desk_with, held_polls}
+use Rattle.nr_board.specs.SlotLists.{desk_with, heard_all, held_polls, polls_to}
 use Rattle.nr_core.proofs.ExactPlace.{noted_more, noted_none}
 use Rattle.nr_core.specs.MarkSteps.{PollTells}
 use Rattle.nr_core.specs.Marks.{Marks, OfSlot, LoggedLoad, with_poll, with_polls, with_scan}
@@ -98,9 +99,9 @@ module _ (shape : Shape) (desk : Desk) (call : WriterCall) (rows : List Row) whe
       (λ some_there. rw (ne_eqb (length desk.retired) 0 some_there) (sym (swept_more 0 (omega arith)))))
 
 -- the search begins
-pub searched_none : (table : Table) (call : WriterCall) (rows : List Row) (lists : SlotLists) (seat : MapSeat)
+pub searched_none : {table : Table} {call : WriterCall} {rows : List Row} {lists : SlotLists} {seat : MapSeat}
     → Settles table call rows lists seat → lists.slots ≤ lists.fresh → Searched table call rows lists seat seat 0
-searched_none table call rows lists seat settles full =
+searched_none {table = table} {call = call} {rows = rows} {lists = lists} {seat = seat} settles full =
     let shape = table.shape in let desk = desk_with lists Idle in let size = settles.slots in
     let is = settled_swept shape desk call rows (omega arith) in record {
       slots = settles.slots;
@@ -127,13 +128,14 @@ pub grows_from : (steps : ℕ) (old : Caller) (entries : List Entry) (new : Call
 grows_from steps old entries new grows =
     record { rest = grows.between ++ entries; is = grows.seen ∙ append_assoc old.seen grows.between entries }
 
-module _ (table : Table) (call : WriterCall) (rows : List Row) (lists : SlotLists) (before mid : MapSeat) (polls : ℕ)
-    (so_far : Searched table call rows lists before mid polls) (low : polls < length lists.retired) where
+module
+    _ {table : Table} {call : WriterCall} {rows : List Row} {lists : SlotLists} {before mid : MapSeat} {polls : ℕ}
+    (so_far : Searched table call rows lists before mid polls) where
   abbrev desk_now : Desk
   desk_now = desk_with lists (Searching call rows polls)
 
-  pub searching_at : WritesAt table desk_now mid
-  searching_at =
+  pub searching_at : polls < length lists.retired → WritesAt table desk_now mid
+  searching_at low =
       subst (λ (o : Desk × Step). WritesAt table o.0 mid)
       (swept_more table.shape (desk_with lists Idle) call rows polls low) so_far.leads.writes
 
@@ -141,9 +143,38 @@ module _ (table : Table) (call : WriterCall) (rows : List Row) (lists : SlotList
   so_far_quiet =
       rw (sym (swept_quiet table.shape (desk_with lists Idle) call rows (call_of call) polls)) so_far.leads.grows
 
-  module _ (found : ℕ) (after : MapSeat) (goes : GoesOn table found mid after) where
+  module _ {entry : Retired} (here : StandsAt lists.retired polls entry) {found : ℕ} {after : MapSeat}
+      (goes : GoesOn table found mid after) where
+    low : polls < length lists.retired
+    low = inside lists.retired polls entry here.is
+
     told : GoesTo table desk_now found mid after
-    told = goes desk_now searching_at.role
+    told = goes desk_now (searching_at low).role
+
+    entry_is : entry ≡ retired_at desk_now polls
+    entry_is = there_is lists.retired polls entry here.is
+
+    -- where the poll leads by its answer
+    abbrev Outcome : Bool → Desk × Step
+    Outcome answer =
+        cond {A = Desk × Step} answer (taking_retired desk_now call rows polls found, Going)
+        (polls_on table.shape desk_now call rows polls)
+
+    told_of : (answer : Bool) → same_count found entry.arrivals ≡ answer
+        → (polled table.shape desk_now call rows polls found ≡ Outcome answer)
+        × LeadsIn 1 table (call_of call) (Outcome answer) mid after
+        × PollTells answer table.shape mid.me.0.pasts desk_now call polls after.me.0.seen mid.me.0.marks
+        after.me.0.marks
+    told_of answer agree =
+        let agrees = ap (λ (e : Retired). same_count found e.arrivals) (sym entry_is) ∙ agree in
+        let outcome = ap Outcome agrees in (
+          outcome,
+          subst (λ (o : Desk × Step). LeadsIn 1 table (call_of call) o mid after) outcome told.leads,
+          subst
+              (λ (b : Bool). PollTells b table.shape mid.me.0.pasts desk_now call polls after.me.0.seen
+              mid.me.0.marks after.me.0.marks)
+              agrees told.marks.1,
+        )
 
     -- the loads with this poll
     polled_marks : (free : Bool) (marks : Marks)
@@ -166,48 +197,66 @@ module _ (table : Table) (call : WriterCall) (rows : List Row) (lists : SlotList
         ∙ ap held_polls (take-suc lists.retired polls no_retired low)
         ∙ held_next (take polls lists.retired) (retired_at desk_now polls)
 
+    -- where no reader has a word all were heard
+    all_heard : table.announcers ≡ 0
+        → heard_all table.announcers before.me.0.heard (take polls lists.retired) ≡ take polls lists.retired
+    all_heard counted =
+        none_passed (λ slot. nat_lt (get_or before.me.0.heard slot 0) table.announcers) (take polls lists.retired)
+        (λ slot. le-ltb (get_or before.me.0.heard slot 0) table.announcers (omega arith))
+
     -- the slot is not held: it is taken
-    pub takes_it : same_count found (retired_at desk_now polls).arrivals ≡ true
-        → WritesAt table (taking_retired desk_now call rows polls found) after
-        × Grows (polls + 1) [] (token before) (token after)
-        × (after.me.0.marks
-        ≡ with_scan before.me.0.marks after.me.0.marks.polls
-        (before.me.0.marks.loads
-        ++ (held_polls (take polls lists.retired) ++ OfSlot (retired_at desk_now polls).slot true ∷
-        [])))
-        × (after.me.0.heard ≡ before.me.0.heard)
-    takes_it agree =
-        let outcome : polled table.shape desk_now call rows polls found
-        ≡ (taking_retired desk_now call rows polls found, Going)
-        = ap (λ
-        (b : Bool). cond {A = Desk × Step} b (taking_retired desk_now call rows polls found, Going)
-        (polls_on table.shape desk_now call rows polls)) agree in
-        let leads = subst (λ (o : Desk × Step). LeadsIn 1 table (call_of call) o mid after) outcome told.leads in
-        let same
-        = subst
-        (λ (b : Bool). PollTells b table.shape mid.me.0.pasts desk_now call polls after.me.0.seen mid.me.0.marks
-        after.me.0.marks)
-        agree told.marks.1 in (
-          leads.writes,
-          grows_both polls 1 (polls + 1) (token before) (token mid) [] (token after) refl so_far_quiet leads.grows,
-          polled_marks true after.me.0.marks
-              (same
+    pub takes_at : table.announcers ≡ 0 → lists.slots ≤ lists.fresh → same_count found entry.arrivals ≡ true
+        → TakesSlot table call rows before lists after (record lists { retired = remove lists.retired polls }) entry.slot
+        found
+    takes_at counted full agree =
+        let (_, leads, same) = told_of true agree in
+        let this = retired_at desk_now polls in
+        let heard = before.me.0.heard in
+        let loads = polls_to table.announcers heard lists.retired polls this.slot in
+        let all = all_heard counted in
+        let many : length loads ≡ polls + 1
+        = length-append (held_polls (heard_all table.announcers heard (take polls lists.retired)))
+        (OfSlot this.slot true ∷ [])
+        ∙ ap (λ (n : ℕ). n + 1)
+        (held_many (heard_all table.announcers heard (take polls lists.retired)) ∙ ap length all
+        ∙ length-take-le polls lists.retired (let few = low in omega arith)) in
+        rw entry_is (record {
+          steps = polls + 1;
+          loads = loads;
+          took =
+              inr (
+                full,
+                polls,
+                this,
+                at_get lists.retired polls low,
+                refl,
+                (omega arith, inl (told.heard ∙ so_far.heard, refl)),
+                refl,
+                refl,
+                sym many,
+              );
+          few = let few = so_far.few in (omega arith, λ _. omega arith);
+          slots = refl;
+          numbers = refl;
+          reaped = refl;
+          writes = leads.writes;
+          grows =
+              grows_both polls 1 (polls + 1) (token before) (token mid)
+              [] (token after) refl so_far_quiet leads.grows;
+          marks =
+              polled_marks true after.me.0.marks
+              (same ∙ ap (λ (m : Marks). with_polls (with_poll mid.me.0.marks this.slot true) m.polls) (sym same))
               ∙ ap
-              (λ (m : Marks). with_polls (with_poll mid.me.0.marks (retired_at desk_now polls).slot true)
-              m.polls)
-              (sym same)),
-          told.heard ∙ so_far.heard,
-        )
+              (λ (l : List Retired). with_scan before.me.0.marks after.me.0.marks.polls
+              (before.me.0.marks.loads ++ (held_polls l ++ OfSlot this.slot true ∷ [])))
+              (sym all);
+        })
 
     -- the slot is held: the search goes on, or there is none
-    pub searched_more : same_count found (retired_at desk_now polls).arrivals ≡ false
+    pub searched_more : same_count found entry.arrivals ≡ false
         → Searched table call rows lists before after (polls + 1)
     searched_more apart =
-        let outcome : polled table.shape desk_now call rows polls found
-        ≡ swept table.shape (desk_with lists Idle) call rows
-        (polls + 1) = ap (λ (b : Bool). cond {A = Desk × Step} b (taking_retired desk_now call rows polls found, Going)
-        (polls_on table.shape desk_now call rows polls)) apart in
-        let leads = subst (λ (o : Desk × Step). LeadsIn 1 table (call_of call) o mid after) outcome told.leads in
+        let (outcome, leads, polled_so) = told_of false apart in
         let quiet : ending (call_of call) (polled table.shape desk_now call rows polls found).1 ≡ []
         = ap (λ (o : Desk × Step). ending
         (call_of call) o.1) outcome
@@ -216,11 +265,6 @@ module _ (table : Table) (call : WriterCall) (rows : List Row) (lists : SlotList
         = told.seen ∙ ap (λ (l : List Entry). told.log ++ l) quiet ∙ append-nil told.log in
         let now_grown
         = grows_both polls 1 (polls + 1) (token before) (token mid) _ (token after) refl so_far_quiet leads.grows in
-        let polled_so
-        = subst
-        (λ (b : Bool). PollTells b table.shape mid.me.0.pasts desk_now call polls after.me.0.seen mid.me.0.marks
-        after.me.0.marks)
-        apart told.marks.1 in
         record {
           slots = so_far.slots;
           leads = record { writes = leads.writes; grows = now_grown; short = leads.short };
@@ -256,12 +300,13 @@ module _ (table : Table) (call : WriterCall) (rows : List Row) (lists : SlotList
         }
 
 -- every retired slot was found held
-pub lacks_slot : (table : Table) (call : WriterCall) (rows : List Row) (lists : SlotLists) (before after : MapSeat)
-    (polls : ℕ)
+pub lacks_slot : {table : Table} {call : WriterCall} {rows : List Row} {lists : SlotLists} {before after : MapSeat}
+    {polls : ℕ}
     → Searched table call rows lists before after polls → (table.announcers ≡ 0) ⊎ (lists.retired ≡ [])
     → polls ≡ length lists.retired → LacksSlot table call before lists after lists
     (all_taken lists)
-lacks_slot table call rows lists before after polls so_far counted all =
+lacks_slot {table = table} {call = call} {rows = rows} {lists = lists} {before = before} {after = after} {polls = polls}
+    so_far counted all =
     let desk = desk_with lists Idle in
     let is = swept_all table.shape desk call rows polls (omega arith) in
     let leads = so_far.leads in

@@ -27,8 +27,7 @@ module _ (table : Table) (call : WriterCall) (rows : List Row) (lists : SlotList
   -- where no slot is retired the look was the call's last step
   pub lacks_none : lists.retired ≡ [] → LacksSlot table call before lists before lists (all_taken lists)
   lacks_none none =
-      lacks_slot table call rows lists before before 0 (searched_none table call rows lists before settles full)
-      (inr none) (sym (ap length none))
+      lacks_slot (searched_none settles full) (inr none) (sym (ap length none))
 
   module _ (waits : 0 < length lists.retired) where
     abbrev desk : Desk
@@ -36,8 +35,7 @@ module _ (table : Table) (call : WriterCall) (rows : List Row) (lists : SlotList
 
     begun : WritesAt table desk before
     begun =
-        searching_at table call rows lists before before 0 (searched_none table call rows lists before settles full)
-        waits
+        searching_at (searched_none settles full) waits
 
     pub searches_in : SearchesIn table lists before
     searches_in =
