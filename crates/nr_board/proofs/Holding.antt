@@ -15,6 +15,7 @@ use Rattle.nr_core.specs.declared.shape.Shape.{Shape}
 use Rattle.std.proofs.lemmas.Bool.{lt-ltb}
 use Rattle.nr_core.specs.Marks.{Marks, OfKey, acted, with_loads, with_look}
 use Rattle.nr_core.specs.Puts.{put_number}
+use Rattle.nr_board.proofs.ReaderSeats.{filled_name}
 use Rattle.nr_board.proofs.Tokens.{MapSeat, grows_both}
 use Rattle.nr_board.specs.declared.holds.Held.{Held}
 use Rattle.nr_board.specs.Callers.{Caller, Gains, Grows, Rests, Table, map_at_opening, token}
@@ -23,7 +24,7 @@ use Rattle.nr_board.specs.Holds.{HoldsAfter, HoldsOn, IsAnswered, MovesTo, Names
 use Rattle.nr_board.specs.Holds.{finds_by_word, last_named, looked, looks_at}
 use Rattle.nr_board.specs.Plays.{Holds, IsIdle}
 use Rattle.nr_board.specs.Seats.{IdlesAt}
-use Rattle.nr_board.specs.Views.{caller_number, grip_of, rows_held}
+use Rattle.nr_board.specs.Views.{caller_number, grip_of}
 use Rattle.nr_board.specs.WordPlays.{HasWord, let_go}
 
 -- steps that add nothing, and then others
@@ -56,37 +57,23 @@ module _ (m n sum : ℕ) (a b c : Caller) (call : Call) (answer : Reply) (is : s
 
 -- an answer comes after steps that were no entry
 module _ (table : Table) (key m n sum : ℕ) (marks : Marks) (old mid new : MapSeat) (is : sum ≡ m + n) where
+  answered_so : ((answer : Reply) → Gains n (model.Find key) (token mid) (token new) answer
+      → Gains sum (model.Find key) (token old) (token new) answer)
+      → (answer : Option Held) → IsAnswered table key n marks mid new answer
+      → IsAnswered table key sum marks old new answer
+  answered_so gains (Some held) so =
+      record { held_as = so.held_as; gains = gains _ so.gains; marks_are = so.marks_are }
+  answered_so gains None so = record { idles = so.idles; gains = gains _ so.gains; marks_are = so.marks_are }
+
   pub answered_later : (answer : Option Held) → Grows m [] (token old) (token mid)
       → IsAnswered table key n marks mid new answer → IsAnswered table key sum marks old new answer
-  answered_later (Some held) grows so =
-      record {
-        held_as = so.held_as;
-        gains = grows_gains m n sum (token old) (token mid) (token new) (model.Find key)
-            (reply.Rows (rows_held new.me.0.role)) is grows so.gains;
-        marks_are = so.marks_are;
-      }
-  answered_later None grows so =
-      record {
-        idles = so.idles;
-        gains = grows_gains m n sum (token old) (token mid) (token new) (model.Find key) reply.Hole is grows so.gains;
-        marks_are = so.marks_are;
-      }
+  answered_later answer grows =
+      answered_so (λ a. grows_gains m n sum (token old) (token mid) (token new) (model.Find key) a is grows) answer
 
   pub answered_rested : (answer : Option Held) → Rests m (token old) (token mid)
       → IsAnswered table key n marks mid new answer → IsAnswered table key sum marks old new answer
-  answered_rested (Some held) rests so =
-      record {
-        held_as = so.held_as;
-        gains = rests_gains m n sum (token old) (token mid) (token new) (model.Find key)
-            (reply.Rows (rows_held new.me.0.role)) is rests so.gains;
-        marks_are = so.marks_are;
-      }
-  answered_rested None rests so =
-      record {
-        idles = so.idles;
-        gains = rests_gains m n sum (token old) (token mid) (token new) (model.Find key) reply.Hole is rests so.gains;
-        marks_are = so.marks_are;
-      }
+  answered_rested answer rests =
+      answered_so (λ a. rests_gains m n sum (token old) (token mid) (token new) (model.Find key) a is rests) answer
 
 -- who holds nothing lets nothing go
 pub idle_marks : (role : Role) (marks : Marks) → IsIdle role → let_go (grip_of role) marks ≡ marks
@@ -135,9 +122,7 @@ module _ (table : Table) (key word newer : ℕ) (before mid : MapSeat)
   marks = let_go (grip_of before.me.0.role) before.me.0.marks
 
   named_is : name_number newer ≡ suc (slot_of newer)
-  named_is =
-      let one : name_number newer ≡ slot_of newer + 1 = ap (λ (b : Bool). cond b (slot_of newer + 1) 0) first.filled in
-      omega arith
+  named_is = filled_name newer first.filled
 
   apart : slot_of word ≢ slot_of newer
   apart same =
@@ -229,9 +214,7 @@ pub moves_on : (table : Table) (key word : ℕ) → is_filled word ≡ true → 
     → Holds table.shape before.me.0.role → HoldsOn 1 (suc (slot_of word) ∷ []) table key before after answer
     → MovesTo table key word before after answer
 moves_on table key word full before after answer holds told = let n : ℕ = told.steps in let named = told.named in
-    let named_is : name_number word ≡ suc (slot_of word)
-    = (let one : name_number word ≡ slot_of word + 1 = ap (λ (b : Bool). cond b (slot_of word + 1) 0) full in
-    omega arith) in
+    let named_is = filled_name word full in
     record {
       steps = 1 + n;
       named = named;
@@ -256,9 +239,7 @@ pub holds_first : (table : Table) (key word : ℕ) → is_filled word ≡ true
 holds_first table key word full before mid after answer idle grows marks told =
     let n : ℕ = told.steps in
     let named = suc (slot_of word) ∷ told.named in
-    let named_is : name_number word ≡ suc (slot_of word)
-    = (let one : name_number word ≡ slot_of word + 1 = ap (λ (b : Bool). cond b (slot_of word + 1) 0) full in
-    omega arith) in
+    let named_is = filled_name word full in
     let marks_mid
     = idle_marks mid.me.0.role mid.me.0.marks idle ∙ marks ∙ ap (with_look before.me.0.marks key) named_is in
     record {

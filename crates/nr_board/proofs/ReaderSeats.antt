@@ -146,7 +146,7 @@ names_filled held word full =
     (λ e. eq-eqb (name_number word) (suc held) (omega arith) ∙ sym (eq-eqb found held e))
     (λ ne. ne_eqb (name_number word) (suc held) (λ e. ne (omega arith)) ∙ sym (ne_eqb found held ne))
 
-names_empty : (held word : ℕ) → is_filled word ≡ false → names_slot held word ≡ false
+pub names_empty : (held word : ℕ) → is_filled word ≡ false → names_slot held word ≡ false
 names_empty held word empty =
     let none : name_number word ≡ 0 = ap (λ (b : Bool). cond {A = ℕ} b (slot_of word + 1) 0) empty in
     ne_eqb (name_number word) (suc held) (λ e. absurd (omega arith))
@@ -163,7 +163,7 @@ names_held held word =
 rows_shown : (word : ℕ) → is_filled word ≡ true → kind_shown word ≡ kind.Rows
 rows_shown word full = rw full refl
 
-shown_filled : (word : ℕ) → kind_shown word ≡ kind.Rows → is_filled word ≡ true
+pub shown_filled : (word : ℕ) → kind_shown word ≡ kind.Rows → is_filled word ≡ true
 shown_filled word is =
     let Full : KeyKind → Type 0 = λ k. k ≡ kind.Rows → is_filled word ≡ true in
     on_test Full (is_filled word) (λ full _. full)

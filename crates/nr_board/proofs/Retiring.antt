@@ -1,5 +1,5 @@
 -- What a call that swapped in another word retires, by the word that its key had.
-use Rattle.std.proofs.Common.{◌≡◌, ℕ, suc, ◌+◌, List, [], ◌∷◌, ◌++◌, Bool, true, false, cond, refl, ap, ◌∙◌, arith}
+use Rattle.std.proofs.Common.{◌≡◌, ℕ, ◌+◌, List, [], ◌∷◌, ◌++◌, Bool, false, cond, refl, ap, ◌∙◌}
 use Rattle.std.proofs.Common.{append-nil, get_or}
 use Rattle.nr_model.specs.declared.batches.Delta.{Delta}
 use Rattle.nr_model.specs.declared.calls.Reply.TheVariants as reply
@@ -7,7 +7,7 @@ use Rattle.nr_model.specs.declared.states.KeyState.{KeyState}
 use Rattle.nr_model.specs.declared.states.KeyState.TheVariants as states
 use Rattle.nr_model.specs.Maps.{PartialMap, cancel_reply, evict_reply, fill_reply, find_reply, last_number}
 use Rattle.nr_model.specs.Maps.{replace_reply, reply_to, state_of, update_reply}
-use Rattle.nr_words.specs.KeyWords.{arrivals_of, has_ask, is_filled, slot_of}
+use Rattle.nr_words.specs.KeyWords.{arrivals_of, is_filled, slot_of}
 use Rattle.nr_core.proofs.Choices.{on_test}
 use Rattle.nr_core.specs.declared.calls.WriterCall.{WriterCall}
 use Rattle.nr_core.specs.declared.calls.WriterCall.TheVariants.{Cancel, Evict, Fill, Find, Replace, Update}
@@ -16,6 +16,7 @@ use Rattle.nr_core.specs.Slots.{name_number}
 use Rattle.nr_core.specs.States.{key_of}
 use Rattle.nr_core.specs.Story.{call_of}
 use Rattle.nr_core.specs.Writer.{unnamed}
+use Rattle.nr_board.proofs.ReaderSeats.{filled_name, shown_filled}
 use Rattle.nr_board.specs.WriterAnswers.{Retires, RetiresOne}
 use Rattle.nr_board.specs.Callers.{Caller}
 use Rattle.nr_board.specs.Kinds.{kind_of, kind_shown}
@@ -64,13 +65,6 @@ no_cancel (states.Asked n) P is =
 no_cancel (states.Rows n rows) P is = absurd (cc)
 
 -- the word that shows that state
-full_word : (word : ℕ) → kind_shown word ≡ kind.Rows → is_filled word ≡ true
-full_word word shows =
-    on_test (λ (k : KeyKind). k ≡ kind.Rows → is_filled word ≡ true) (is_filled word) (λ full _. full)
-    (λ _. on_test (λ (k : KeyKind). k ≡ kind.Rows → is_filled word ≡ true) (has_ask word) (λ _ is. absurd (cc))
-    (λ _ is. absurd (cc)))
-    shows
-
 asked_word : (word : ℕ) → kind_shown word ≡ kind.Asked → is_filled word ≡ false
 asked_word word shows =
     on_test (λ (k : KeyKind). k ≡ kind.Asked → is_filled word ≡ false) (is_filled word) (λ _ is. absurd (cc))
@@ -79,12 +73,10 @@ asked_word word shows =
 module _ (word : ℕ) (old : Caller) (before after : List Retired) (retires : after ≡ before ++ unnamed word) where
   pub one_retired : (key : ℕ) → get_or old.marks.names key 0 ≡ name_number word → kind_shown word ≡ kind.Rows
       → RetiresOne key old before after
-  one_retired key named shows = let full = full_word word shows in record {
+  one_retired key named shows = let full = shown_filled word shows in record {
     slot = slot_of word;
     arrivals = arrivals_of word;
-    named =
-        named ∙ ap (λ (b : Bool). cond {A = ℕ} b (slot_of word + 1) 0) full
-        ∙ (let next : slot_of word + 1 ≡ suc (slot_of word) = omega arith in next);
+    named = named ∙ filled_name word full;
     retires =
         retires
         ∙ ap

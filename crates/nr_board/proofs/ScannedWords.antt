@@ -9,6 +9,7 @@ use mathlib.Core.Option.{some, some-injective}
 use native.Mathlib.Decide.{ℕ_discrete}
 use lib.ListN.{get_elem?}
 use Rattle.nr_core.proofs.Choices.{by_cases, on_test}
+use Rattle.nr_core.proofs.Guards.{both}
 use Rattle.nr_core.proofs.Sums.{at_snoc, only-is, only-other, only-same, some_term}
 use Rattle.nr_core.specs.Roles.{retirements}
 use Rattle.nr_core.specs.Sums.{only, total}
@@ -317,10 +318,6 @@ module _ (desk : Desk) (before now next : View) (flags : List Bool) (own found :
 
   abbrev keeps_it : Bool
   keeps_it = keeps_unheard desk own found now.heard
-
-  both : (a b : Bool) → (a && b) ≡ true → (a ≡ true) × (b ≡ true)
-  both true b e = (refl, e)
-  both false b e = absurd (false≢true e)
 
   -- a word that keeps no slot from being heard says none that is retired, or one that has a flag
   kept_by_none : found ≢ 0 → keeps_it ≡ false

@@ -3,7 +3,7 @@
 use Rattle.std.proofs.Common.{◌≡◌, ℕ, ◌<◌, ◌≤◌, List, [], length, get_or, sym, ap, ◌∙◌, subst}
 use mathlib.Core.Option.{none, some}
 use lib.ListN.{get_elem?}
-use Rattle.atomic_table.specs.Table.{Allows, Me, State, step}
+use Rattle.atomic_table.specs.Table.{Allows, Me, step}
 use Rattle.nr_model.specs.declared.rows.Row.{Row}
 use Rattle.nr_core.specs.Slots.{departures}
 use Rattle.nr_core.specs.States.{retired_at}
@@ -19,20 +19,11 @@ use Rattle.nr_board.proofs.PollNotes.{at_get}
 use Rattle.nr_board.proofs.Scanning.{says_apart}
 use Rattle.nr_board.proofs.SearchSteps.{gives_up_so, searches_so, tries_so}
 use Rattle.nr_core.proofs.WordPlaces.{same_departures}
-use Rattle.nr_board.proofs.WriterSteps.{same_desk}
+use Rattle.nr_board.proofs.WriterSteps.{same_desk, tells_also}
 use Rattle.nr_board.specs.Announcing.{says_at}
 use Rattle.nr_board.specs.Rule.{Kept}
 use Rattle.nr_board.specs.SearchPlays.{GaveUp, Scanned, Tried, has_given_up, has_searched, has_tried}
 use Rattle.nr_board.specs.Views.{View}
-
--- what a step tells is more than what it is shown to tell
-allows_more : (holds : State (Unit {0}) View → Type 0) (slots id : ℕ) (me : Me (Unit {0}) View) (at : ℕ)
-    (becomes : ℕ → ℕ) (then more : ℕ → Me (Unit {0}) View → Type 0)
-    → ((found : ℕ) (after : Me (Unit {0}) View) → then found after → more found after)
-    → Allows holds slots id me at becomes then → Allows holds slots id me at becomes more
-allows_more holds slots id me at becomes then more gives can state kept homes there bounded =
-    let made = can state kept homes there bounded in
-    (made.0, made.1, made.2, made.3, gives _ _ made.4)
 
 -- the call and the rows of a search
 abbrev call_in : Place → WriterCall
@@ -70,7 +61,7 @@ module _ (shape : Shape) (slots id : ℕ) (me : Me (Unit {0}) View) (desk : Desk
       → Allows (Kept shape) slots id me (says_at shape own) (λ word. word)
       (has_searched (step slots (says_at shape own) 0 0 none) me)
   has_searched_so own within =
-      allows_more (Kept shape) slots id me (says_at shape own) (λ word. word)
+      tells_also (Kept shape) slots id me (says_at shape own) (λ word. word)
       (λ found after. Scanned desk own found me.0 after.0)
       (has_searched (step slots (says_at shape own) 0 0 none) me)
       (λ found after told other other_call other_rows mine also also_at low place_is.
@@ -83,7 +74,7 @@ module _ (shape : Shape) (slots id : ℕ) (me : Me (Unit {0}) View) (desk : Desk
       → Allows (Kept shape) slots id me (departures shape entry.slot) (λ word. word)
       (has_tried (step slots (departures shape entry.slot) 0 0 none) me)
   has_tried_so poll entry here low entry_is heard =
-      allows_more (Kept shape) slots id me (departures shape entry.slot) (λ word. word)
+      tells_also (Kept shape) slots id me (departures shape entry.slot) (λ word. word)
       (λ found after. Tried desk call rows poll found me.0 after.0)
       (has_tried (step slots (departures shape entry.slot) 0 0 none) me)
       (λ found after told other other_call other_rows place also also_at room near place_is.
@@ -109,7 +100,7 @@ module _ (shape : Shape) (slots id : ℕ) (me : Me (Unit {0}) View) (desk : Desk
   pub has_given_up_so : (key : ℕ) → key < shape.keys
       → Allows (Kept shape) slots id me key (λ word. word) (has_given_up (step slots key 0 0 none) me)
   has_given_up_so key near =
-      allows_more (Kept shape) slots id me key (λ word. word) (λ found after. GaveUp desk call me.0 after.0)
+      tells_also (Kept shape) slots id me key (λ word. word) (λ found after. GaveUp desk call me.0 after.0)
       (has_given_up (step slots key 0 0 none) me)
       (λ found after told other other_call other_rows also also_at.
       subst (λ (p : Desk × WriterCall). GaveUp p.0 p.1 me.0 after.0)

@@ -25,7 +25,8 @@ use Rattle.nr_core.specs.declared.roles.Desk.{Desk}
 use Rattle.nr_core.specs.declared.shape.Shape.{Shape}
 use Rattle.nr_board.proofs.HeldPolls.{held_many, held_next, none_passed}
 use Rattle.nr_board.proofs.Keepers.{adds_held, adds_none, kept_back}
-use Rattle.nr_board.proofs.PollNotes.{StandsAt, at_get, there_is, reached_all, reached_here, reached_more, reached_none, reached_on}
+use Rattle.nr_board.proofs.PollNotes.{StandsAt, at_get, reached_all, reached_here, reached_more, reached_none}
+use Rattle.nr_board.proofs.PollNotes.{reached_on, there_is}
 use Rattle.nr_board.proofs.PollNotes.{reached_waits}
 use Rattle.nr_board.proofs.WordLoads.{no_loads}
 use Rattle.nr_board.proofs.Tokens.{grows_both}
@@ -206,8 +207,8 @@ module
 
     -- the slot is not held: it is taken
     pub takes_at : table.announcers ≡ 0 → lists.slots ≤ lists.fresh → same_count found entry.arrivals ≡ true
-        → TakesSlot table call rows before lists after (record lists { retired = remove lists.retired polls }) entry.slot
-        found
+        → TakesSlot table call rows before lists after (record lists { retired = remove lists.retired polls })
+        entry.slot found
     takes_at counted full agree =
         let (_, leads, same) = told_of true agree in
         let this = retired_at desk_now polls in

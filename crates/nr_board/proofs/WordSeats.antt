@@ -1,9 +1,9 @@
 -- What the steps by a reader's own word tell of its seat.
-use Rattle.std.proofs.Common.{◌≡◌, ◌⊎◌, ⊎_elim, ℕ, suc, ◌+◌, ◌<◌, Bool, true, false, [], ap, cond, ne_eqb, sym, subst}
+use Rattle.std.proofs.Common.{◌≡◌, ◌⊎◌, ⊎_elim, ℕ, suc, ◌<◌, Bool, true, false, [], ap, cond, sym, subst}
 use Rattle.std.proofs.Common.{arith, ◌∙◌}
 use Rattle.nr_model.specs.declared.calls.Call.TheVariants as model
 use Rattle.nr_model.specs.declared.calls.Reply.TheVariants as reply
-use Rattle.nr_words.specs.KeyWords.{is_filled, slot_of}
+use Rattle.nr_words.specs.KeyWords.{is_filled}
 use Rattle.nr_core.specs.Slots.{content, name_number, names_slot}
 use Rattle.nr_core.specs.declared.roles.Grip.TheVariants.{Nothing}
 use Rattle.nr_core.specs.declared.roles.Role.TheVariants.{Reader}
@@ -17,13 +17,8 @@ use Rattle.nr_core.specs.Puts.{put_number}
 use Rattle.nr_board.specs.Plays.{Holds, IsIdle}
 use Rattle.nr_board.specs.Seats.{AnnouncesAt, HoldsAt, IdlesAt}
 use Rattle.nr_board.specs.Views.{caller_number, rows_held}
+use Rattle.nr_board.proofs.ReaderSeats.{names_empty}
 use Rattle.nr_board.specs.WordPlays.{Confirmed, HasWord, LookedUp, Said, slot_said}
-
--- a word that names nothing names no slot
-pub names_empty_not : (slot found : ℕ) → is_filled found ≡ false → names_slot slot found ≡ false
-names_empty_not slot found empty =
-    let none : name_number found ≡ 0 = ap (λ (b : Bool). cond b (slot_of found + 1) 0) empty in
-    ne_eqb (name_number found) (suc slot) (λ e. absurd (omega arith))
 
 module _ (table : Table) (before after : MapSeat) (same : after.table_id ≡ before.table_id) where
   -- a first look leaves the table that the token is of
@@ -137,7 +132,7 @@ module _ (table : Table) (before after : MapSeat) (same : after.table_id ≡ bef
         (λ yes. (told.same (names_said true yes)).marks
         ∙ ap (λ (n : ℕ). acted (with_look before.me.0.marks key n) (put_number after.me.0.seen key))
         (ap suc slot_is ∙ sym (eqb-true (name_number found) (suc slot) yes)))
-        (λ empty. (confirmed_other (names_empty_not slot found empty)).marks
+        (λ empty. (confirmed_other (names_empty slot found empty)).marks
         ∙ ap (λ (b : Bool). cond b looked (acted looked (put_number after.me.0.seen key))) empty)
         answers
 

@@ -3,7 +3,7 @@ use Rattle.nr_core.specs.declared.shape.Shape.{Shape}
 use Rattle.nr_board.proofs.BoardPlaces.{key_in, stands}
 use Rattle.nr_board.proofs.WordSeats.{confirmed_held, confirmed_marks, confirmed_not_yet, confirmed_other}
 use Rattle.nr_board.proofs.WordSeats.{confirmed_says, confirmed_word, looked_announces, looked_hole, looked_named}
-use Rattle.nr_board.proofs.WordSeats.{names_empty_not}
+use Rattle.nr_board.proofs.ReaderSeats.{names_empty}
 use Rattle.nr_board.proofs.WordSteps.{confirms_so}
 use Rattle.nr_board.specs.Callers.{Table}
 use Rattle.nr_board.proofs.board.Board.confirm.Goals as goal
@@ -36,7 +36,7 @@ returns c =
       held = confirmed_held map before after same slot key found at told;
       hole = λ empty.
           let looked
-          = confirmed_other map before after same slot key found at told (names_empty_not slot found empty) in (
+          = confirmed_other map before after same slot key found at told (names_empty slot found empty) in (
             looked_announces map before after same slot key found at looked,
             looked_hole map before after same key found looked empty,
           );
