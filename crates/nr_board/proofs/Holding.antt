@@ -28,9 +28,9 @@ use Rattle.nr_board.specs.Views.{caller_number, grip_of}
 use Rattle.nr_board.specs.WordPlays.{HasWord, let_go}
 
 -- steps that add nothing, and then others
-pub rests_grows : (m n sum : ℕ) (a b : Caller) (entries : List Entry) (c : Caller) → sum ≡ m + n → Rests m a b
+pub rests_grows : {m n sum : ℕ} {a b : Caller} {entries : List Entry} {c : Caller} → sum ≡ m + n → Rests m a b
     → Grows n entries b c → Grows sum entries a c
-rests_grows m n sum a b entries c is first then = record {
+rests_grows {entries = entries} {c = c} is first then = record {
   table = then.table ∙ first.table;
   number = then.number ∙ first.number;
   between = then.between;
@@ -47,12 +47,12 @@ rests_grows m n sum a b entries c is first then = record {
 module _ (m n sum : ℕ) (a b c : Caller) (call : Call) (answer : Reply) (is : sum ≡ m + n) where
   pub rests_gains : Rests m a b → Gains n call b c answer → Gains sum call a c answer
   rests_gains first then =
-      rests_grows m n sum a b (entry a.number call answer ∷ []) c is first
+      rests_grows {sum = sum} is first
       (subst (λ (caller : ℕ). Grows n (entry caller call answer ∷ []) b c) first.number then)
 
   pub grows_gains : Grows m [] a b → Gains n call b c answer → Gains sum call a c answer
   grows_gains first then =
-      grows_both m n sum a b (entry a.number call answer ∷ []) c is first
+      grows_both {sum = sum} is first
       (subst (λ (caller : ℕ). Grows n (entry caller call answer ∷ []) b c) first.number then)
 
 -- an answer comes after steps that were no entry

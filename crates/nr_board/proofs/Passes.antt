@@ -133,7 +133,7 @@ passed_none {lists = lists} {flags = flags} {seat = seat} search knows notes =
       own = refl;
       role = refl;
       search = search;
-      grows = grows_none (token seat) knows;
+      grows = grows_none knows;
       notes = notes;
       kept =
           adds_none (PolledTo lists.retired flags 0) (HeldThen seat.me.0.seen seat.me.0.seen) seat.me.0.marks.polls
@@ -229,9 +229,7 @@ module
 
     grown : Grows (polls_before lists.retired flags place + 1) [] (token before) (token next)
     grown =
-        grows_both (polls_before lists.retired flags place) 1 (polls_before lists.retired flags place + 1)
-        (token before) (token now)
-        [] (token next) refl so_far.grows (seat_grows now next [] same advances)
+        grows_both refl so_far.grows (seat_grows now next [] same advances)
 
     -- the loads with this poll
     marks_are : (marks : Marks) (held : Bool)
@@ -286,8 +284,8 @@ module
               (reached_more lists.retired place entry here.is slot polled.0))
               (λ slot polled. (reached_on lists.retired place slot polled.0, polled.1))
               (reached_here lists.retired place entry here.is, free)
-              (grows_from (polls_before lists.retired flags place + 1) (token before) [] (token next) grown)
-              (grows_from 1 (token now) [] (token next) (seat_grows now next [] same advances)) told.notes
+              (grows_from grown)
+              (grows_from (seat_grows now next [] same advances)) told.notes
               polls noted.2 so_far.kept;
           heard = told.heard ∙ so_far.heard;
           marks =

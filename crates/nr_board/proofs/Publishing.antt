@@ -76,7 +76,7 @@ module
       → PutSoFar table desk call rows slot departed before after (index + 1)
   put_more {after = after} puts = let told = puts _ so_far.writes.role in record {
     writes = told.writes;
-    grows = grows_both index 1 (index + 1) (token before) (token mid) [] (token after) refl so_far.grows told.grows;
+    grows = grows_both refl so_far.grows told.grows;
     marks = told.marks ∙ so_far.marks;
     heard = ap (λ (l : List ℕ). set l slot 0) told.heard ∙ set-set mid.me.0.heard slot 0 0 ∙ so_far.heard;
   }
@@ -85,7 +85,7 @@ pub put_none : {table : Table} {call : WriterCall} {rows : List Row} {slot depar
     → WritesAt table (moved_to desk (Putting call rows slot departed 0)) seat → IsSound (token seat)
     → PutSoFar table desk call rows slot departed seat seat 0
 put_none {seat = seat} desk writes knows =
-    record { writes = writes; grows = grows_none (token seat) knows; marks = refl; heard = refl }
+    record { writes = writes; grows = grows_none knows; marks = refl; heard = refl }
 
 -- the slot was taken, and the words of the set were put there
 module
@@ -163,9 +163,8 @@ module
           numbers = ap (λ (s : SlotLists). s.numbers) retires ∙ took.numbers;
           writes = subst (λ (s : SlotLists). WritesAt table (desk_with s Idle) after) (sym retires) leads.writes;
           grows =
-              grows_both (took.steps + last) 1 (2 * length rows + 2 + took.steps) (token before) (token mid) _
-              (token after) (omega arith)
-              (grows_both took.steps last (took.steps + last) (token before) (token at) [] (token mid) refl took.grows
+              grows_both {sum = 2 * length rows + 2 + took.steps} (omega arith)
+              (grows_both refl took.grows
               puts)
               leads.grows;
         },

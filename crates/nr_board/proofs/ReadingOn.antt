@@ -248,7 +248,7 @@ module _ (table : Table) (call : WriterCall) (begin : ℕ) (before : MapSeat) wh
         words_are told.leads in
         record {
           writes = leads.writes;
-          grows = grows_both words 1 (words + 1) (token before) (token mid) _ (token after) refl leads_here.grows
+          grows = grows_both refl leads_here.grows
               leads.grows;
           short = leads.short;
         })

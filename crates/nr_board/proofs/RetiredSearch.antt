@@ -235,9 +235,7 @@ module _ (table : Table) (lists : SlotLists) (flags scanned : List Bool) (before
           ),
         );
         grows =
-            grows_both (polls + table.announcers) (polls_before lists.retired scanned takes.place + 1)
-            (length (all_loads more)) (token before) (token swept)
-            [] (token now) (omega (arith, count, all_many more)) up_to takes.grows;
+            grows_both {sum = length (all_loads more)} (omega (arith, count, all_many more)) up_to takes.grows;
         few = let one = polls_few in let other = takes.few in omega (arith, count, all_many more);
         marks = marks_on now.me.0.marks more takes.marks;
       }
@@ -259,9 +257,7 @@ module _ (table : Table) (lists : SlotLists) (flags scanned : List Bool) (before
       = ap length polls_now ∙ omega (arith, length_is, missed, all) in
       let second_count : ℕ = polls_before lists.retired scanned (length lists.retired) in
       let last_grows
-      = grows_both (polls + table.announcers) second_count (polls + table.announcers + second_count) (token before)
-      (token swept)
-      [] (token last) refl up_to second.grows in
+      = grows_both refl up_to second.grows in
       let heard_now = gave.heard ∙ second.heard in
       let more : List LoggedLoad = held_polls (unflagged lists.retired scanned (length lists.retired)) in
       let kept_then = KeptThen before.me.0.seen now.me.0.seen (all_loads more) in
@@ -298,9 +294,7 @@ module _ (table : Table) (lists : SlotLists) (flags scanned : List Bool) (before
                   ∙ gave_so.slots ∙ ap (λ (s : Shape). s.slots) shape_is,
             );
         grows = subst (λ (n : ℕ). Grows n [] (token before) (token now)) steps
-            (grows_both (polls + table.announcers + second_count) 1 (polls + table.announcers + second_count + 1)
-            (token before) (token last)
-            [] (token now) refl last_grows one);
+            (grows_both refl last_grows one);
         many = many;
         apart = λ reader. rw polls_now (second.notes.apart reader);
         few =
@@ -329,8 +323,8 @@ module _ (table : Table) (lists : SlotLists) (flags scanned : List Bool) (before
             (λ slot polled. reached_waits lists.retired slot (length lists.retired) polled.0)
             (λ slot note said. inr (said_among slot note said))
             (λ slot note held. inl
-            (held_within (grows_from (polls + table.announcers) (token before) [] (token swept) up_to)
-            (grows_from 1 (token last) [] (token now) one) held))
+            (held_within (grows_from up_to)
+            (grows_from one) held))
             (subst
             (Adds (FlaggedIn lists.retired scanned) (SaidBehind mid.me.0.marks.loads swept.me.0.marks.loads) [])
             (base_is table lists scanned mid swept same sized some_words scan) scan.said)

@@ -43,8 +43,8 @@ use Rattle.nr_core.specs.PollNotes.{Noted}
 use Rattle.nr_board.specs.WriterSeats.{GoesOn, GoesTo, LacksSlot, LeadsIn, MapSeat, Settles, swept, TakesSlot, WritesAt}
 
 -- no step, where what is known is legal
-pub grows_none : (caller : Caller) → IsSound caller → Grows 0 [] caller caller
-grows_none caller knows = record {
+pub grows_none : {caller : Caller} → IsSound caller → Grows 0 [] caller caller
+grows_none {caller = caller} knows = record {
   table = refl;
   number = refl;
   between = [];
@@ -109,7 +109,7 @@ searched_none {table = table} {call = call} {rows = rows} {lists = lists} {seat 
       leads = record {
         writes = subst (λ (o : Desk × Step). WritesAt table o.0 seat) is settles.writes;
         grows =
-            rw (swept_quiet shape desk call rows (call_of call) 0) (grows_none (token seat) settles.knows);
+            rw (swept_quiet shape desk call rows (call_of call) 0) (grows_none settles.knows);
         short = λ counts without. settles.short counts (ap (λ (o : Desk × Step). o.1) is ∙ without);
       };
       noted = subst (Noted table.shape seat.me.0.pasts) (sym settles.polls) (noted_none table.shape seat.me.0.pasts);
@@ -124,9 +124,9 @@ searched_none {table = table} {call = call} {rows = rows} {lists = lists} {seat 
     }
 
 -- what grew begins with what it was
-pub grows_from : (steps : ℕ) (old : Caller) (entries : List Entry) (new : Caller) → Grows steps entries old new
+pub grows_from : {steps : ℕ} {old : Caller} {entries : List Entry} {new : Caller} → Grows steps entries old new
     → StartsWith new.seen old.seen
-grows_from steps old entries new grows =
+grows_from {old = old} {entries = entries} grows =
     record { rest = grows.between ++ entries; is = grows.seen ∙ append_assoc old.seen grows.between entries }
 
 module
@@ -242,8 +242,7 @@ module
           reaped = refl;
           writes = leads.writes;
           grows =
-              grows_both polls 1 (polls + 1) (token before) (token mid)
-              [] (token after) refl so_far_quiet leads.grows;
+              grows_both refl so_far_quiet leads.grows;
           marks =
               polled_marks true after.me.0.marks
               (same ∙ ap (λ (m : Marks). with_polls (with_poll mid.me.0.marks this.slot true) m.polls) (sym same))
@@ -265,7 +264,7 @@ module
         let seen_is : after.me.0.seen ≡ told.log
         = told.seen ∙ ap (λ (l : List Entry). told.log ++ l) quiet ∙ append-nil told.log in
         let now_grown
-        = grows_both polls 1 (polls + 1) (token before) (token mid) _ (token after) refl so_far_quiet leads.grows in
+        = grows_both refl so_far_quiet leads.grows in
         record {
           slots = so_far.slots;
           leads = record { writes = leads.writes; grows = now_grown; short = leads.short };
@@ -287,8 +286,8 @@ module
               after.me.0.marks.polls before.me.0.seen mid.me.0.seen after.me.0.seen entry.slot polled_so.1.note
               (reached_more lists.retired polls entry here) (reached_on lists.retired polls)
               (reached_here lists.retired polls entry here)
-              (grows_from (polls + 1) (token before) _ (token after) now_grown)
-              (grows_from 1 (token mid) _ (token after) leads.grows)
+              (grows_from now_grown)
+              (grows_from leads.grows)
               (rw seen_is told.notes)
               polled_so.1.more polled_so.1.holds so_far.kept;
           marks =
@@ -378,6 +377,6 @@ takes_fresh table call rows lists after seat slot settles low slot_is after_is =
           subst (λ (p : ℕ × SlotLists). WritesAt table (desk_with p.1 (Putting call rows p.0 shape.first_count 0)) seat)
           (λ j. (sym slot_is j, sym after_is j))
           (subst (λ (o : Desk × Step). WritesAt table o.0 seat) outcome settles.writes);
-      grows = grows_none (token seat) settles.knows;
+      grows = grows_none settles.knows;
       marks = no_loads seat.me.0.marks seat.me.0.marks.polls;
     }

@@ -61,9 +61,9 @@ grows_rests m n sum a entries b c is first then = record {
   loaded_ahead = then.loaded_ahead ∙ first.loaded_ahead;
 }
 
-pub grows_both : (m n sum : ℕ) (a b : Caller) (entries : List Entry) (c : Caller) → sum ≡ m + n → Grows m [] a b
+pub grows_both : {m n sum : ℕ} {a b : Caller} {entries : List Entry} {c : Caller} → sum ≡ m + n → Grows m [] a b
     → Grows n entries b c → Grows sum entries a c
-grows_both m n sum a b entries c is first then = record {
+grows_both {a = a} {entries = entries} {c = c} is first then = record {
   table = then.table ∙ first.table;
   number = then.number ∙ first.number;
   between = first.between ++ then.between;

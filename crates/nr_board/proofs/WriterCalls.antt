@@ -110,9 +110,7 @@ module _ (table : Table) (lists : SlotLists) (before : MapSeat) (rests : RestsAt
         × (put.slot ≡ published.slot)
     publishes_so published =
         let all
-        = grows_both steps (2 * length rows + 2 + published.steps) (steps + 2 * length rows + 2 + published.steps)
-        (token before) (token mid)
-        (entry 0 (call_of call) reply.Done ∷ []) (token after) (omega arith) grows published.grows in
+        = grows_both {sum = steps + 2 * length rows + 2 + published.steps} (omega arith) grows published.grows in
         let reaped_after : after_lists.reaped ≡ after.me.0.marks.reaped =
         ap (λ (s : SlotLists). s.reaped) published.retires
         ∙ ap (λ (l : List Bool). slice_set l published.slot false)
@@ -183,8 +181,7 @@ module _ (table : Table) (lists : SlotLists) (before : MapSeat) (rests : RestsAt
         let counts_so : (token before).table.announcers ≡ 0 → table.announcers ≡ 0
         = λ counted. ap (λ (t : Table). t.announcers) (sym rests.writes.own) ∙ counted in
         let all
-        = grows_both steps lacking.steps (steps + lacking.steps) (token before) (token mid)
-        [] (token after) refl grows lacking.grows in
+        = grows_both refl grows lacking.grows in
         let rests_lists : RestsAt table lists after = record {
           writes = lacking.writes;
           slots = rests.slots;
@@ -212,7 +209,7 @@ module _ (table : Table) (lists : SlotLists) (before : MapSeat) (rests : RestsAt
                 lacking.loads p.1
                 after.me.0.marks.polls)
                 (λ j. (sym rests.writes.own j, sym retired_is j))
-                (kept_since (grows_from steps (token before) [] (token mid) grows) lacking.kept);
+                (kept_since (grows_from grows) lacking.kept);
             slots = same_slots after rests_lists;
             marks =
                 lacking.marks
@@ -308,7 +305,7 @@ module
       = record {
         writes = subst (λ (s : SlotLists). WritesAt table (desk_with s Idle) after) (sym retires) told.writes;
         grows =
-            grows_both 1 1 2 (token before) (token mid) _ (token after) (omega arith) about_to_leave.grows told.grows;
+            grows_both {sum = 2} (omega arith) about_to_leave.grows told.grows;
         short = λ counts without. absurd (not_reply counts reply.Evicted without);
       } in
       let ended_so
@@ -365,7 +362,7 @@ module
       = record {
         writes = subst (λ (s : SlotLists). WritesAt table (desk_with s Idle) after) (sym renumbers) told.writes;
         grows =
-            grows_both 1 1 2 (token before) (token mid) _ (token after) (omega arith) about_to_withdraw.grows
+            grows_both {sum = 2} (omega arith) about_to_withdraw.grows
             told.grows;
         short = λ counts without. absurd (not_reply counts reply.Cancelled without);
       } in
@@ -416,8 +413,7 @@ module _ {table : Table} {lists : SlotLists} {call given : WriterCall} {found : 
         leads =
             record {
               writes = then.writes;
-              grows = grows_both 1 (2 * length rows + 1) (2 * length rows + 2) (token before) (token mid) _
-                  (token after) (omega arith) leads_there.grows then.grows;
+              grows = grows_both {sum = 2 * length rows + 2} (omega arith) leads_there.grows then.grows;
               short = then.short;
             };
         had =
