@@ -284,8 +284,7 @@ module
               (reached_more lists.retired place entry here.is slot polled.0))
               (λ slot polled. (reached_on lists.retired place slot polled.0, polled.1))
               (reached_here lists.retired place entry here.is, free)
-              (grows_from grown)
-              (grows_from (seat_grows now next [] same advances)) told.notes
+              (grows_from grown) (grows_from (seat_grows now next [] same advances)) told.notes
               polls noted.2 so_far.kept;
           heard = told.heard ∙ so_far.heard;
           marks =

@@ -164,8 +164,7 @@ module
           writes = subst (λ (s : SlotLists). WritesAt table (desk_with s Idle) after) (sym retires) leads.writes;
           grows =
               grows_both {sum = 2 * length rows + 2 + took.steps} (omega arith)
-              (grows_both refl took.grows
-              puts)
+              (grows_both refl took.grows puts)
               leads.grows;
         },
         refl,

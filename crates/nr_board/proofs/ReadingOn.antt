@@ -248,8 +248,7 @@ module _ (table : Table) (call : WriterCall) (begin : ℕ) (before : MapSeat) wh
         words_are told.leads in
         record {
           writes = leads.writes;
-          grows = grows_both refl leads_here.grows
-              leads.grows;
+          grows = grows_both refl leads_here.grows leads.grows;
           short = leads.short;
         })
         (record {

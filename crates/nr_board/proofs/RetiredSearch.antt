@@ -234,8 +234,7 @@ module _ (table : Table) (lists : SlotLists) (flags scanned : List Bool) (before
                 ++ (scan_loads ++ (second_are now takes.place takes.heard j ++ OfSlot (sym takes.slot j) true ∷ [])),
           ),
         );
-        grows =
-            grows_both {sum = length (all_loads more)} (omega (arith, count, all_many more)) up_to takes.grows;
+        grows = grows_both {sum = length (all_loads more)} (omega (arith, count, all_many more)) up_to takes.grows;
         few = let one = polls_few in let other = takes.few in omega (arith, count, all_many more);
         marks = marks_on now.me.0.marks more takes.marks;
       }
@@ -323,8 +322,7 @@ module _ (table : Table) (lists : SlotLists) (flags scanned : List Bool) (before
             (λ slot polled. reached_waits lists.retired slot (length lists.retired) polled.0)
             (λ slot note said. inr (said_among slot note said))
             (λ slot note held. inl
-            (held_within (grows_from up_to)
-            (grows_from one) held))
+            (held_within (grows_from up_to) (grows_from one) held))
             (subst
             (Adds (FlaggedIn lists.retired scanned) (SaidBehind mid.me.0.marks.loads swept.me.0.marks.loads) [])
             (base_is table lists scanned mid swept same sized some_words scan) scan.said)

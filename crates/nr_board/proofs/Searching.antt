@@ -241,8 +241,7 @@ module
           numbers = refl;
           reaped = refl;
           writes = leads.writes;
-          grows =
-              grows_both refl so_far_quiet leads.grows;
+          grows = grows_both refl so_far_quiet leads.grows;
           marks =
               polled_marks true after.me.0.marks
               (same ∙ ap (λ (m : Marks). with_polls (with_poll mid.me.0.marks this.slot true) m.polls) (sym same))
@@ -286,8 +285,7 @@ module
               after.me.0.marks.polls before.me.0.seen mid.me.0.seen after.me.0.seen entry.slot polled_so.1.note
               (reached_more lists.retired polls entry here) (reached_on lists.retired polls)
               (reached_here lists.retired polls entry here)
-              (grows_from now_grown)
-              (grows_from leads.grows)
+              (grows_from now_grown) (grows_from leads.grows)
               (rw seen_is told.notes)
               polled_so.1.more polled_so.1.holds so_far.kept;
           marks =

@@ -304,8 +304,7 @@ module
       let all : LeadsIn 2 table (model.Evict key) (desk_with after_lists Idle, ended reply.Evicted) before after
       = record {
         writes = subst (λ (s : SlotLists). WritesAt table (desk_with s Idle) after) (sym retires) told.writes;
-        grows =
-            grows_both {sum = 2} (omega arith) about_to_leave.grows told.grows;
+        grows = grows_both {sum = 2} (omega arith) about_to_leave.grows told.grows;
         short = λ counts without. absurd (not_reply counts reply.Evicted without);
       } in
       let ended_so
@@ -362,8 +361,7 @@ module
       = record {
         writes = subst (λ (s : SlotLists). WritesAt table (desk_with s Idle) after) (sym renumbers) told.writes;
         grows =
-            grows_both {sum = 2} (omega arith) about_to_withdraw.grows
-            told.grows;
+            grows_both {sum = 2} (omega arith) about_to_withdraw.grows told.grows;
         short = λ counts without. absurd (not_reply counts reply.Cancelled without);
       } in
       let ended_so = ends table lists before looks.rests 2 (model.Cancel key) reply.Cancelled after_lists after

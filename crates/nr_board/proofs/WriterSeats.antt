@@ -14,7 +14,7 @@ use Rattle.nr_core.specs.declared.shape.Shape.{Shape}
 use Rattle.nr_board.proofs.Tokens.{seat_grows}
 use Rattle.nr_board.specs.Callers.{Table, map_seen, token}
 use Rattle.nr_board.specs.Plays.{Finds, Leads, Looked, Put, Room, Went, call_at, next_put}
-use Rattle.nr_board.specs.WriterSeats.{GoesTo, LeadsTo, MapSeat, PutsTo}
+use Rattle.nr_board.specs.WriterSeats.{GoesOn, GoesTo, LeadsTo, MapSeat, PutsTo}
 
 -- the desk with its place as it is
 pub desk_at : (role : Role) (desk : Desk) (place : Place) → role ≡ Writer desk → desk.place ≡ place
@@ -83,3 +83,11 @@ module _ (table : Table) (before after : MapSeat) (same : after.table_id ≡ bef
     marks = told.marks;
     heard = told.heard;
   }
+
+-- a later step of a call, whatever the desk
+pub goes_on : {table : Table} {found : ℕ} {before after : MapSeat} → after.table_id ≡ before.table_id
+    → (token before).table ≡ table
+    → ((desk : Desk) → before.me.0.role ≡ Writer desk → Went desk found before.me.0 after.me.0)
+    → GoesOn table found before after
+goes_on {table = table} {found = found} {before = before} {after = after} same own
+    told = λ desk is. gone_seat table before after same own desk found (told desk is)

@@ -531,7 +531,8 @@ goes_so shape slots id me desk is busy heard in_order =
     })))
 
 -- what a step told, told otherwise
-pub tells_also : (holds : State (Unit {0}) View → Type 0) (slots id : ℕ) (me : Me (Unit {0}) View) (place : ℕ) (f : ℕ → ℕ)
+pub tells_also : (holds : State (Unit {0}) View → Type 0) (slots id : ℕ) (me : Me (Unit {0}) View) (place : ℕ)
+    (f : ℕ → ℕ)
     (then also : ℕ → Me (Unit {0}) View → Type 0)
     → ((found : ℕ) (after : Me (Unit {0}) View) → then found after → also found after)
     → Allows holds slots id me place f then → Allows holds slots id me place f also

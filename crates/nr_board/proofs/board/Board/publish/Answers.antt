@@ -11,7 +11,7 @@ use Rattle.nr_core.specs.States.{key_of}
 use Rattle.nr_core.specs.declared.places.Place.TheVariants.{Putting}
 use Rattle.nr_core.specs.declared.roles.Desk.{Desk}
 use Rattle.nr_core.specs.declared.roles.Role.TheVariants.{Writer}
-use Rattle.nr_board.proofs.WriterSeats.{desk_at, gone_seat}
+use Rattle.nr_board.proofs.WriterSeats.{desk_at, goes_on}
 use Rattle.nr_board.proofs.BoardPlaces.{key_in, stands}
 use Rattle.nr_board.proofs.WriterSteps.{goes_so}
 use Rattle.nr_board.specs.Callers.{Table}
@@ -62,6 +62,4 @@ swap-requires c =
     )
 
 pub returns : goal.returns
-returns
-    c = λ desk is. gone_seat c.args.self.now c.args.seat.now c.swap.new.seat c.swap.ensures.0
-    c.requires.writer.writes.own desk c.swap.result (c.swap.ensures.2 desk is)
+returns c = goes_on c.swap.ensures.0 c.requires.writer.writes.own c.swap.ensures.2

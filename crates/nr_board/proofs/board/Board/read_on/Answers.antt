@@ -2,7 +2,7 @@ use Rattle.std.proofs.Common.{ap, arith, refl, subst, sym, ℕ, ◌∙◌}
 use Rattle.nr_core.specs.Slots.{content}
 use Rattle.nr_core.specs.declared.places.Place.TheVariants.{Reading}
 use Rattle.nr_board.proofs.BoardPlaces.{content_at, content_fits, content_in, stands}
-use Rattle.nr_board.proofs.WriterSeats.{desk_at, gone_seat}
+use Rattle.nr_board.proofs.WriterSeats.{desk_at, goes_on}
 use Rattle.nr_board.proofs.WriterSteps.{goes_so}
 use Rattle.nr_board.specs.Callers.{Table}
 use Rattle.nr_board.specs.Plays.{RoomAt}
@@ -40,6 +40,4 @@ load-requires c =
     )
 
 pub returns : goal.returns
-returns
-    c = λ desk is. gone_seat c.args.self.now c.args.seat.now c.load.new.seat c.load.ensures.0 c.requires.writes.own desk
-    c.load.result (c.load.ensures.2 desk is)
+returns c = goes_on c.load.ensures.0 c.requires.writes.own c.load.ensures.2

@@ -2,7 +2,7 @@ use Rattle.std.proofs.Common.{ap, false, refl, subst, sym, ℕ, ◌∙◌, ◌�
 use Rattle.nr_words.specs.KeyWords.{hole_word}
 use Rattle.nr_core.specs.States.{number_at}
 use Rattle.nr_core.specs.declared.places.Place.TheVariants.{Leaving}
-use Rattle.nr_board.proofs.WriterSeats.{desk_at, gone_seat}
+use Rattle.nr_board.proofs.WriterSeats.{desk_at, goes_on}
 use Rattle.nr_board.proofs.BoardPlaces.{key_in, stands}
 use Rattle.nr_board.proofs.WriterSteps.{goes_so}
 use Rattle.nr_board.specs.Callers.{Table}
@@ -26,6 +26,4 @@ swap-requires c =
     )
 
 pub returns : goal.returns
-returns
-    c = λ desk is. gone_seat c.args.self.now c.args.seat.now c.swap.new.seat c.swap.ensures.0 c.requires.writes.own desk
-    c.swap.result (c.swap.ensures.2 desk is)
+returns c = goes_on c.swap.ensures.0 c.requires.writes.own c.swap.ensures.2
