@@ -2,7 +2,7 @@
 use Rattle.std.proofs.Common.{get_or-set_other, inr, ◌≡◌, ℕ, suc, ◌+◌, ◌-◌, ◌%◌, ◌^◌, ◌<◌, ◌≤◌, List, [], ◌∷◌, ◌++◌}
 use Rattle.std.proofs.Common.{Bool, true, false, cond, length, get_or, set, ⊎_elim, refl, sym, ap, ◌∙◌, subst, arith}
 use Rattle.std.proofs.Common.{eq-eqb}
-use Rattle.std.specs.Prelude.{None, Option, Some, bit_or}
+use Rattle.std.specs.Prelude.{bit_or}
 use mathlib.Core.Option.{none, some}
 use Rattle.atomic_table.specs.Table.{Allows, Me, State, step}
 use Rattle.nr_model.specs.Histories.{Entry}
@@ -55,9 +55,9 @@ use Rattle.nr_board.specs.Rule.{Fits, Kept, marks_of, role_of}
 use Rattle.nr_board.specs.Views.{View, grip_of, is_sized, caller_number, rows_held, slot_held}
 
 -- a reader's own entries are told by its number
-pub reader_is : (role : Role) (grip : Grip) → role ≡ Reader (caller_number role) grip
+pub reader_is : {role : Role} {grip : Grip} → role ≡ Reader (caller_number role) grip
     → is_by (caller_number role) role ≡ true
-reader_is role grip is = ap (is_by (caller_number role)) is ∙ eq-eqb (caller_number role) (caller_number role) refl
+reader_is {role = role} is = ap (is_by (caller_number role)) is ∙ eq-eqb (caller_number role) (caller_number role) refl
 
 -- a reader has its map's shape
 reader_shape : (shape : Shape) (log : List Entry) (view : View) (grip : Grip)
@@ -82,15 +82,15 @@ reader_entry shape reader call answer entries is near low reads =
     subst (AreCallers shape) (sym is) ((near, inr (low, reads)), tt)
 
 -- the reader's count, by its hold before and after
-pub acts_so : (view : View) (after : Role) (entries : List Entry) (marks : Marks) (before now : Option ℕ)
-    (told : List Entry)
-    → gripped (grip_of view.role) ≡ before → gripped (grip_of after) ≡ now → entries ≡ told
-    → marks.acts + to_depart now ≡ view.marks.acts + to_depart
-    before + acts_told told → ActsGo view after entries marks
-acts_so view after entries marks before now told held holds is count reads =
-    let b = ap to_depart held in
-    let n = ap to_depart holds in
-    let t : acts_told entries ≡ acts_told told = ap acts_told is in
+pub acts_so : (view : View) (marks : Marks) {after : Role} {entries told : List Entry} {number other : ℕ}
+    {before now : Grip}
+    → view.role ≡ Reader number before → after ≡ Reader other now → entries ≡ told
+    → marks.acts + to_depart (gripped now) ≡ view.marks.acts + to_depart (gripped before) + acts_told told
+    → ActsGo view after entries marks
+acts_so view marks held holds is count reads =
+    let b = ap (λ r. to_depart (gripped (grip_of r))) held in
+    let n = ap (λ r. to_depart (gripped (grip_of r))) holds in
+    let t = ap acts_told is in
     omega arith
 
 pub asks_so : (shape : Shape) (slots id : ℕ) (me : Me (Unit {0}) View) (key : ℕ) → key < shape.keys → IsIdle me.0.role
@@ -110,11 +110,10 @@ asks_so shape slots id me key near idle =
     (reader_shape shape kept.log view Nothing idle (kept.fits id view at))
     (reader_entry shape reader (model.Ask key) _ step.entries step.told.1 near
     (reader_within shape id view Nothing state kept at idle) refl)
-    (acts_so view step.after step.entries marked.now None None _ (ap (λ r. gripped (grip_of r)) idle)
-    (ap (λ r. gripped (grip_of r)) step.told.0) step.told.1
+    (acts_so view marked.now idle step.told.0 step.told.1
     (let same = ap (λ (m : Marks). m.acts) marked.told.0 in omega arith))
     (names_go view marked.now (reads_only view marked.now (ap is_writer idle)))
-    (λ next. Asked key (get_or kept.counted key 0) view next) (reader_is view.role Nothing idle) marked.told.1
+    (λ next. Asked key (get_or kept.counted key 0) view next) (reader_is idle) marked.told.1
     (entry reader (model.Ask key) (ask_word (get_or kept.counted key 0)) ∷ []) step.told.1
     (λ advances. record { role = role; gains = advances; marks = marked.told.0; says = refl }))
 
@@ -149,7 +148,7 @@ arrives_so shape slots id me key near idle silent =
     = λ same told callers acts. learning shape id view (Add key ARRIVE) tells (ArrivesMarks view.marks key) state kept
     at step marked same sized
     callers acts (names_go view marked.now (reads_only view marked.now (ap is_writer idle)))
-    (λ next. Arrived key found view next) (reader_is view.role Nothing idle) marked.told.1 told in
+    (λ next. Arrived key found view next) (reader_is idle) marked.told.1 told in
     let within = reader_within shape id view Nothing state kept at idle in
     let acts_are = ap (λ (m : Marks). m.acts) marked.told.0 in
     ⊎_elim
@@ -163,8 +162,7 @@ arrives_so shape slots id me key near idle silent =
     let slot_so : slot_held step.after ≡ t.0 = ap slot_held t.5 in
     choose same (entry reader (model.Find key) (reply.Rows (rows_held step.after)) ∷ [])
     (reader_entry shape reader (model.Find key) _ step.entries t.6 near within refl)
-    (acts_so view step.after step.entries marked.now None (Some t.0) _ (ap (λ r. gripped (grip_of r)) idle)
-    (ap (λ r. gripped (grip_of r)) t.5) t.6
+    (acts_so view marked.now idle t.5 t.6
     (omega arith)) (t.6 ∙ ap (λ (rows : List Row). entry reader (model.Find key) (reply.Rows rows) ∷ []) (sym rows_so))
     (λ advances. record {
       number = same;
@@ -189,8 +187,7 @@ arrives_so shape slots id me key near idle silent =
     × (step.entries ≡ entry reader (model.Find key) reply.Hole ∷ [])).
     choose (ap caller_number t.1) (entry reader (model.Find key) reply.Hole ∷ [])
     (reader_entry shape reader (model.Find key) _ step.entries t.2 near within refl)
-    (acts_so view step.after step.entries marked.now None None _ (ap (λ r. gripped (grip_of r)) idle)
-    (ap (λ r. gripped (grip_of r)) t.1) t.2 (omega arith))
+    (acts_so view marked.now idle t.1 t.2 (omega arith))
     t.2 (λ advances. record {
       number = ap caller_number t.1;
       held = λ full. differ (is_filled found) _ full (names_none found t.0);
@@ -223,8 +220,7 @@ reads_so shape slots id me index is near short low sized =
     (λ state kept at step marked. let same : caller_number step.after ≡ reader = ap caller_number step.told.1 in
     waiting shape id view (Load place) tells (KeepsMarks view.marks) state kept at step marked same sized
     (subst (AreCallers shape) (sym step.told.2) tt)
-    (acts_so view step.after step.entries marked.now (Some slot) (Some slot) [] (ap (λ r. gripped (grip_of r)) is)
-    (ap (λ r. gripped (grip_of r)) step.told.1) step.told.2
+    (acts_so view marked.now is step.told.1 step.told.2
     (let same = ap (λ (m : Marks). m.acts) marked.told.0 in omega arith))
     (reads_only view marked.now (ap is_writer is)) (λ next. Read place (get_or kept.counted place 0) view next)
     marked.told.1 step.told.2
@@ -270,7 +266,6 @@ finds_again_so shape slots id me key near is sized =
     ∙ shows_kind shape (set kept.counted key found) (get_or (set kept.counted key found) key 0)
     (state_of (map_after shape log) key) (step.core.shows key near)
     ∙ ap (λ (s : Shape). kind_of (state_of (map_after s log) key)) (sym sized) in
-    let holds = ap (λ r. gripped (grip_of r)) is in let held = ap (λ r. gripped (grip_of r)) step.told.0 in
     let after = learned view step.after log step.entries marked.now marked.news in
     let choose : (told : List Entry) → AreCallers shape step.entries → step.entries ≡ told
     → marked.now.acts ≡ view.marks.acts + acts_told told
@@ -278,9 +273,9 @@ finds_again_so shape slots id me key near is sized =
     → Choice shape id view (Load key) tells notes state kept step marked (λ next. FoundAgain key found view next)
     = λ told callers is_told count tell. learning shape id view (Load key) tells notes state kept at step marked
     (ap caller_number role) sized callers
-    (acts_so view step.after step.entries marked.now (Some slot) (Some slot) told holds held is_told (omega arith))
+    (acts_so view marked.now is step.told.0 is_told (omega arith))
     (names_go view marked.now (reads_only view marked.now (ap is_writer is))) (λ next. FoundAgain key found view next)
-    (reader_is view.role _ is) marked.told.1 told is_told tell in
+    (reader_is is) marked.told.1 told is_told tell in
     by_cases
     (λ _. Choice shape id view (Load key) tells notes state kept step marked
     (λ next. FoundAgain key found view next))
@@ -348,8 +343,7 @@ departs_so shape slots id me is near sized silent =
     ))
     (λ state kept at step marked. waiting shape id view (Add place 1) tells (DepartsMarks view.marks) state kept at step
     marked (ap caller_number step.told.0) sized (subst (AreCallers shape) (sym step.told.1) tt)
-    (acts_so view step.after step.entries marked.now (Some slot) None [] (ap (λ r. gripped (grip_of r)) is)
-    (ap (λ r. gripped (grip_of r)) step.told.0) step.told.1
+    (acts_so view marked.now is step.told.0 step.told.1
     (let same = ap (λ (m : Marks). m.acts) marked.told.0 in omega arith))
     (reads_only view marked.now (ap is_writer is)) (λ next. Departed view next) marked.told.1 step.told.1
     (λ waits. record { role = step.told.0; waits = waits; marks = marked.told.0; says = refl }))

@@ -2,7 +2,7 @@
 use Rattle.std.proofs.Common.{◌≡◌, ◌≢◌, ℕ, suc, ◌+◌, ◌-◌, ◌%◌, ◌^◌, ◌<◌, ◌⊎◌, ⊎_elim, List, [], ◌∷◌, ◌++◌, Bool, true}
 use Rattle.std.proofs.Common.{cond, length-set, map, get_or, get_or-set_same, set, refl, sym, ap, ◌∙◌, subst, arith}
 use Rattle.std.proofs.Common.{lt-ltb}
-use Rattle.std.specs.Prelude.{None, Some, nat_lt}
+use Rattle.std.specs.Prelude.{nat_lt}
 use Rattle.std.proofs.lemmas.Bool.{eqb-true}
 use mathlib.Core.Option.{none, some}
 use lib.ListN.{get_elem?}
@@ -37,7 +37,7 @@ use Rattle.nr_core.proofs.ListPlaces.{no_places}
 use Rattle.nr_core.proofs.ReaderMarks.{departs_marked}
 use Rattle.nr_core.specs.Marked.{KnowsMarks, MarkTelling, Remarked, Since}
 use Rattle.nr_core.specs.MarkSteps.{DepartsMarks, HoldsNamedMarks, LooksUpMarks, ReaderLearns}
-use Rattle.nr_core.specs.Marks.{Marks, acted, gripped, with_look}
+use Rattle.nr_core.specs.Marks.{Marks, acted, with_look}
 use Rattle.nr_core.specs.Puts.{put_number}
 use Rattle.nr_board.proofs.Counting.{counted_same}
 use Rattle.nr_board.proofs.Lift.{Choice, Follows, Makes, allowed, apart, key_inside, key_no_count, keeps_core}
@@ -84,8 +84,7 @@ look_up_makes shape id me key near idle sized =
     (ap caller_number role) sized callers acts
     (names_go view marked.now (reads_only view marked.now (ap is_writer idle)))
     (λ next. LookedUp key found view next)
-    (reader_is view.role Nothing idle) marked.told.1 told is (λ advances. tell _ refl role refl refl advances) in
-    let holds_none = ap (λ r. gripped (grip_of r)) idle in let still_none = ap (λ r. gripped (grip_of r)) step.told.0 in
+    (reader_is idle) marked.told.1 told is (λ advances. tell _ refl role refl refl advances) in
     by_cases
     (λ (_ : Bool). Choice shape id view (Load key) tells notes state kept step marked
     (λ next. LookedUp key found view next))
@@ -100,7 +99,7 @@ look_up_makes shape id me key near idle sized =
     let same_acts = ap (λ (m : Marks). m.acts) same in
     choose
     [] (subst (AreCallers shape) (sym is) tt) is
-    (acts_so view step.after step.entries marked.now None None [] holds_none still_none is (omega arith))
+    (acts_so view marked.now idle step.told.0 is (omega arith))
     (λ next says role_is marks_are seen advances. record {
       role = role_is;
       says = says;
@@ -126,7 +125,7 @@ look_up_makes shape id me key near idle sized =
     (reader_entry shape reader (model.Find key) _ step.entries is near
     (reader_within shape id view Nothing state kept at idle) refl)
     is
-    (acts_so view step.after step.entries marked.now None None (e ∷ []) holds_none still_none is (omega arith))
+    (acts_so view marked.now idle step.told.0 is (omega arith))
     (λ next says role_is marks_are seen advances. record {
       role = role_is;
       says = says;
@@ -367,11 +366,10 @@ module _ (shape : Shape) (slots id own says : ℕ) (me : Me (Unit {0}) View) (ha
       = learns_reader role_of marks_of shape id view
       [] 0 reader Nothing idle kept.counted state.views kept.log kept.core kept.marked kept.once at
       (no_places (Since role_of marks_of state.views)) step.after step.entries step.told in
-      says_after (reader_is view.role Nothing idle) (Load 0) (LoadsWord view.role) notes step marked
+      says_after (reader_is idle) (Load 0) (LoadsWord view.role) notes step marked
       (step.told.0 ∙ idle) step.told.1 marked.told.1
       (marked.told.0 ∙ sym (ap (λ r. let_go (grip_of r) view.marks) idle))
-      (acts_so view step.after step.entries marked.now None None
-      [] (ap (λ r. gripped (grip_of r)) idle) (ap (λ r. gripped (grip_of r)) (step.told.0 ∙ idle)) step.told.1
+      (acts_so view marked.now idle (step.told.0 ∙ idle) step.told.1
       (let same = ap (λ (m : Marks). m.acts) marked.told.0 in omega arith))
       (λ next lends_none. subst (Counted shape (lent (set state.views id next)) state.words)
       (sym (set-get_or kept.counted 0 0))
@@ -405,10 +403,9 @@ module _ (shape : Shape) (slots id own says : ℕ) (me : Me (Unit {0}) View) (ha
       = departs_marked role_of marks_of shape id view
       [] reader slot rows sized_so is kept.counted state.views kept.log kept.core kept.marked kept.once at
       (no_places (Since role_of marks_of state.views)) step.after step.entries step.told in
-      says_after (reader_is view.role (On slot rows sized_so) is) operation tells (DepartsMarks view.marks) step marked
+      says_after (reader_is is) operation tells (DepartsMarks view.marks) step marked
       step.told.0 step.told.1 marked.told.1 (marked.told.0 ∙ sym (ap (λ r. let_go (grip_of r) view.marks) is))
-      (acts_so view step.after step.entries marked.now (Some slot) None
-      [] (ap (λ r. gripped (grip_of r)) is) (ap (λ r. gripped (grip_of r)) step.told.0) step.told.1
+      (acts_so view marked.now is step.told.0 step.told.1
       (let same = ap (λ (m : Marks). m.acts) marked.told.0 in omega arith))
       (λ next lends_none.
       let near = held.0.inside in let wide = kept.core.wide in let few = lent_small shape state kept slot in
@@ -468,7 +465,7 @@ confirms_named shape slots id own me key near has sized idle loud state kept at 
     let place : ℕ = departures shape slot in
     let operation = Add place (2 ^ 64 - 1) in
     let tells = HoldsNamed shape reader slot key in
-    let notes = HoldsNamedMarks view.marks key slot in let mine = reader_is view.role Nothing idle in
+    let notes = HoldsNamedMarks view.marks key slot in let mine = reader_is idle in
     let names_seen : name_number (get_or kept.counted key 0) ≡ suc slot
     = ap name_number (kept.counts_words.same key (key_inside shape key near) (key_no_count shape key near))
     ∙ names in
@@ -490,8 +487,7 @@ confirms_named shape slots id own me key near has sized idle loud state kept at 
     = reader_entry shape reader (model.Find key) _ step.entries step.told.4 near
     (reader_within shape id view Nothing state kept at idle) refl in
     let acts
-    = acts_so view step.after step.entries marked.now None (Some slot) _ (ap (λ r. gripped (grip_of r)) idle)
-    (ap (λ r. gripped (grip_of r)) after) step.told.4
+    = acts_so view marked.now idle after step.told.4
     (let count = ap (λ (m : Marks). m.acts) marked.told.0 in omega arith) in
     let next = learned_next shape id view operation tells notes state kept at step marked same sized callers acts in
     let grips : (s : ℕ) → lends s next ≡ only s slot = λ s. loud_lends next s loud ∙ ap (holds s) after in
