@@ -112,7 +112,7 @@ module _ (shape : Shape) (id : ℕ) (me : Me (Unit {0}) View) (at : ℕ) (near :
       let hold = ap (λ r. to_depart (gripped (grip_of r))) step.told.0 in
       let none : acts_told step.entries ≡ 0 = ap acts_told step.told.1 in
       omega arith in
-      still_chosen shape id view (Load at) tells notes state kept there step marked (ap caller_number step.told.0) sized
+      still_chosen kept there step marked (ap caller_number step.told.0) sized
       callers acts (λ _. ap (λ (m : Marks). m.names) grown.0) (λ after. Learned at found view after) (record {
         role = step.told.0;
         learns = λ table. record {

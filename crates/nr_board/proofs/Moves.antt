@@ -167,8 +167,9 @@ module _ (shape : Shape) (log : List Entry) (view : View) (fits : Fits shape log
         }
 
 -- The two ways in which a step of the core becomes one of the token.
-module _ (shape : Shape) (id : ℕ) (view : View) (operation : Operation) (tells : Telling) (notes : MarkTelling)
-    (state : State (Unit {0}) View) (kept : Kept shape state) (at : get_elem? state.views id ≡ some view)
+module
+    _ {shape : Shape} {id : ℕ} {view : View} {operation : Operation} {tells : Telling} {notes : MarkTelling}
+    {state : State (Unit {0}) View} (kept : Kept shape state) (at : get_elem? state.views id ≡ some view)
     (step : Stepped shape kept.counted (map role_of state.views) kept.log id view.role operation tells)
     (marked : Remarked role_of marks_of shape kept.counted state.views kept.log id operation view step.after
     step.entries notes)

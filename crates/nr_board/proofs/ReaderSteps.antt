@@ -106,7 +106,7 @@ asks_so shape slots id me key near idle =
     (key_inside shape key near) (key_no_count shape key near)
     (λ state kept at step. lends_on view step.after (λ slot. ap (holds slot) (step.told.0 ∙ sym idle))))
     (λ state kept at step marked. let role : step.after ≡ view.role = step.told.0 ∙ sym idle in
-    learning shape id view (Or key 1) tells (KeepsMarks view.marks) state kept at step marked (ap caller_number role)
+    learning kept at step marked (ap caller_number role)
     (reader_shape shape kept.log view Nothing idle (kept.fits id view at))
     (reader_entry shape reader (model.Ask key) _ step.entries step.told.1 near
     (reader_within shape id view Nothing state kept at idle) refl)
@@ -145,8 +145,7 @@ arrives_so shape slots id me key near idle silent =
     → (Advances told view next → Arrived key found view next)
     → Choice shape id view (Add key ARRIVE) tells (ArrivesMarks view.marks key) state kept step marked
     (λ next. Arrived key found view next)
-    = λ same told callers acts. learning shape id view (Add key ARRIVE) tells (ArrivesMarks view.marks key) state kept
-    at step marked same sized
+    = λ same told callers acts. learning kept at step marked same sized
     callers acts (names_go view marked.now (reads_only view marked.now (ap is_writer idle)))
     (λ next. Arrived key found view next) (reader_is idle) marked.told.1 told in
     let within = reader_within shape id view Nothing state kept at idle in
@@ -218,8 +217,7 @@ reads_so shape slots id me index is near short low sized =
     (content_inside shape slot index near short) (content_no_count shape slot index short)
     (λ state kept at step. lends_on view step.after (λ s. ap (holds s) step.told.1 ∙ sym (ap (holds s) is))))
     (λ state kept at step marked. let same : caller_number step.after ≡ reader = ap caller_number step.told.1 in
-    waiting shape id view (Load place) tells (KeepsMarks view.marks) state kept at step marked same sized
-    (subst (AreCallers shape) (sym step.told.2) tt)
+    waiting kept at step marked same sized (subst (AreCallers shape) (sym step.told.2) tt)
     (acts_so view marked.now is step.told.1 step.told.2
     (let same = ap (λ (m : Marks). m.acts) marked.told.0 in omega arith))
     (reads_only view marked.now (ap is_writer is)) (λ next. Read place (get_or kept.counted place 0) view next)
@@ -271,8 +269,7 @@ finds_again_so shape slots id me key near is sized =
     → marked.now.acts ≡ view.marks.acts + acts_told told
     → (Advances told view after → FoundAgain key found view after)
     → Choice shape id view (Load key) tells notes state kept step marked (λ next. FoundAgain key found view next)
-    = λ told callers is_told count tell. learning shape id view (Load key) tells notes state kept at step marked
-    (ap caller_number role) sized callers
+    = λ told callers is_told count tell. learning kept at step marked (ap caller_number role) sized callers
     (acts_so view marked.now is step.told.0 is_told (omega arith))
     (names_go view marked.now (reads_only view marked.now (ap is_writer is))) (λ next. FoundAgain key found view next)
     (reader_is is) marked.told.1 told is_told tell in
@@ -341,7 +338,7 @@ departs_so shape slots id me is near sized silent =
       silent_lends view step.after silent,
       λ next told. told,
     ))
-    (λ state kept at step marked. waiting shape id view (Add place 1) tells (DepartsMarks view.marks) state kept at step
+    (λ state kept at step marked. waiting kept at step
     marked (ap caller_number step.told.0) sized (subst (AreCallers shape) (sym step.told.1) tt)
     (acts_so view marked.now is step.told.0 step.told.1
     (let same = ap (λ (m : Marks). m.acts) marked.told.0 in omega arith))

@@ -97,11 +97,10 @@ tries_so shape slots id me desk call rows poll is is_at low heard =
     marked.told.1) in
     let seen : kept.log ≡ kept.log ++ step.entries
     = sym (append-nil kept.log) ∙ ap (λ (l : List Entry). kept.log ++ l) (sym step.told.1) in
-    writes shape id view desk is operation tells notes state kept at step marked marked.told.0 c outcome step.told.0
-    step.told.1 tt names (then found)
+    writes is kept at step marked marked.told.0 c outcome step.told.0 step.told.1 tt names (then found)
     (λ advances. record {
       leads =
-          leads_so shape id view desk is operation tells notes state kept at step marked marked.told.0 c outcome
+          leads_so is kept at step marked marked.told.0 c outcome
           step.told.0 step.told.1 tt names (λ counts without. absurd (cc)) advances;
       notes =
           rw (sym seen) (notes_so shape state kept view.marks.polls marked.now.polls marked.noted);
@@ -137,11 +136,11 @@ gives_up_so shape slots id me desk call rows key near is is_at = let view = me.0
     is_at (kept.core.knows id (Writer desk) there).place in
     let seen : kept.log ≡ kept.log ++ step.entries
     = sym (append-nil kept.log) ∙ ap (λ (l : List Entry). kept.log ++ l) (sym step.told.1) in
-    writes shape id view desk is operation tells notes state kept at step marked marked.told.1 c outcome step.told.0
+    writes is kept at step marked marked.told.1 c outcome step.told.0
     step.told.1 tt names (then (get_or kept.counted key 0))
     (λ advances. record {
       leads =
-          leads_so shape id view desk is operation tells notes state kept at step marked marked.told.1 c outcome
+          leads_so is kept at step marked marked.told.1 c outcome
           step.told.0 step.told.1 tt names (λ counts without. absurd (cc)) advances;
       would_be_done =
           subst (λ (p : Shape × List Entry). reply_to (map_after p.0 p.1) c ≡ reply.Done) (λ j. (sym size j, seen j))

@@ -91,8 +91,7 @@ probes_so shape slots id me desk poll entry is idle here heard =
     let acts : ActsGo view step.after step.entries marked.now
     = λ reads. absurd (let none : is_reader step.after ≡ 0 = ap is_reader (step.told.0 ∙ is) in omega arith) in
     let next = waited view step.after marked.now marked.news in
-    learns_nothing shape id view (Load at_word) tells notes state kept there step marked (ap caller_number step.told.0)
-    sized callers acts
+    learns_nothing kept there step marked (ap caller_number step.told.0) sized callers acts
     (λ _. probe_names (same_count found entry.arrivals) shape view.marks entry.slot marked.now marked.told.1)
     (λ next. (other : Desk) (place : ℕ) (named : Retired) → view.role ≡ Writer other → other.place ≡ Idle
     → Room view.shape other

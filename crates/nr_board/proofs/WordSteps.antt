@@ -80,8 +80,7 @@ look_up_makes shape id me key near idle sized =
     → ((next : View) → next.says ≡ view.says → next.role ≡ view.role → next.marks ≡ marked.now
     → next.seen ≡ kept.log ++ step.entries → Advances told view next → LookedUp key found view next)
     → Choice shape id view (Load key) tells notes state kept step marked (λ next. LookedUp key found view next)
-    = λ told callers is acts tell. learning shape id view (Load key) tells notes state kept at step marked
-    (ap caller_number role) sized callers acts
+    = λ told callers is acts tell. learning kept at step marked (ap caller_number role) sized callers acts
     (names_go view marked.now (reads_only view marked.now (ap is_writer idle)))
     (λ next. LookedUp key found view next)
     (reader_is idle) marked.told.1 told is (λ advances. tell _ refl role refl refl advances) in
@@ -328,22 +327,20 @@ module _ (shape : Shape) (slots id own says : ℕ) (me : Me (Unit {0}) View) (ha
   says_after mine operation tells notes step marked after no_entries no_news lets_go acts seen =
       let same : caller_number step.after ≡ reader = ap caller_number after in
       let callers : AreCallers shape step.entries = subst (AreCallers shape) (sym no_entries) tt in
-      let quiet = waited_next shape id view operation tells notes state kept at step marked same sized callers acts in
+      let quiet = waited_next kept at step marked same sized callers acts in
       let next = saying says quiet in
       let holds_none : (slot : ℕ) → holds slot next.role ≡ 0 = λ slot. ap (holds slot) after in (
         next,
         says_kept shape id own view has state kept at mine operation tells notes step marked next
             (saying_follows shape id view operation tells notes state kept step marked quiet says
-            (waited_follows shape id view operation tells notes state kept at step marked same sized callers acts
-            no_entries))
+            (waited_follows kept at step marked same sized callers acts no_entries))
             (λ slot _ grips. absurd (omega (arith, holds_none slot)))
             (λ _ slot _ _ _ _. idle_lends next holds_none slot) (seen next (idle_lends next holds_none)),
         record {
           role = after;
           says_it = refl;
           waits = saying_waits view quiet says
-              (waited_rests shape id view operation tells notes state kept at step marked same sized callers acts
-              no_news);
+              (waited_rests kept at step marked same sized callers acts no_news);
           marks = lets_go;
         },
       )
@@ -489,7 +486,7 @@ confirms_named shape slots id own me key near has sized idle loud state kept at 
     let acts
     = acts_so view marked.now idle after step.told.4
     (let count = ap (λ (m : Marks). m.acts) marked.told.0 in omega arith) in
-    let next = learned_next shape id view operation tells notes state kept at step marked same sized callers acts in
+    let next = learned_next kept at step marked same sized callers acts in
     let grips : (s : ℕ) → lends s next ≡ only s slot = λ s. loud_lends next s loud ∙ ap (holds s) after in
     let change : (s : ℕ) → lent (set state.views id next) s ≡ lent state.views s + only s slot
     = λ s.
@@ -500,8 +497,7 @@ confirms_named shape slots id own me key near has sized idle loud state kept at 
     let few = lent_small shape state kept slot in (
       next,
       says_still shape id own view has state kept at mine operation tells notes step marked next
-          (learned_follows shape id view operation tells notes state kept at step marked same sized callers acts) refl
-          (λ s _ grip.
+          (learned_follows kept at step marked same sized callers acts) refl (λ s _ grip.
           let held : 0 < only s slot = subst (λ (n : ℕ). 0 < n) (ap (holds s) after) grip in
           let found = only-is s slot held in
           omega arith)
@@ -531,7 +527,7 @@ confirms_named shape slots id own me key near has sized idle loud state kept at 
         };
         slot = slot_so;
         gains =
-            learned_gains shape id view operation tells notes state kept at step marked same sized callers acts mine
+            learned_gains kept at step marked same sized callers acts mine
             marked.told.1 (entry reader (model.Find key) (reply.Rows (rows_held step.after)) ∷ [])
             (step.told.4 ∙ ap (λ (r : List Row). entry reader (model.Find key) (reply.Rows r) ∷ []) (sym rows_so));
         marks = marked.told.0;

@@ -86,9 +86,9 @@ writer_shape shape log view desk is fits =
 pub same_desk : (role : Role) (desk other : Desk) → role ≡ Writer desk → role ≡ Writer other → desk ≡ other
 same_desk role desk other is also = sym (ap desk_of is) ∙ ap desk_of also
 
-module _ (shape : Shape) (id : ℕ) (view : View) (desk : Desk) (is : view.role ≡ Writer desk) (operation : Operation)
-    (tells : Telling)
-    (notes : MarkTelling) (state : State (Unit {0}) View) (kept : Kept shape state)
+module
+    _ {shape : Shape} {id : ℕ} {view : View} {desk : Desk} (is : view.role ≡ Writer desk) {operation : Operation}
+    {tells : Telling} {notes : MarkTelling} {state : State (Unit {0}) View} (kept : Kept shape state)
     (at : get_elem? state.views id ≡ some view)
     (step : Stepped shape kept.counted (map role_of state.views) kept.log id view.role operation tells)
     (marked : Remarked role_of marks_of shape kept.counted state.views kept.log id operation view step.after
@@ -161,8 +161,7 @@ module _ (shape : Shape) (id : ℕ) (view : View) (desk : Desk) (is : view.role 
   pub writes : (then : View → Type 0) → (Advances (ending call outcome.1) view next_view → then next_view)
       → Choice shape id view operation tells notes state kept step marked then
   writes then tell =
-      learning shape id view operation tells notes state kept at step marked
-      (ap caller_number role_told ∙ sym (ap caller_number is))
+      learning kept at step marked (ap caller_number role_told ∙ sym (ap caller_number is))
       sized callers_told acts_told_so names then (writer_is view.role desk is) no_news (ending call outcome.1)
       entries_told tell
 
@@ -202,15 +201,13 @@ looks_so shape slots id me desk call is idle given near =
     = writer_entries shape c outcome.1 (subst (λ (k : ℕ). k < shape.keys) (sym (key_same call)) near)
     (given_brings (bound_of shape) call given) in
     let names = names_go view marked.now (λ _. ap (λ (m : Marks). m.names) marked.told.0) in
-    writes shape id view desk is operation tells notes state kept at step marked marked.told.1 c outcome step.told.0
-    step.told.1 callers names
+    writes is kept at step marked marked.told.1 c outcome step.told.0 step.told.1 callers names
     (λ next. (other : Desk) → view.role ≡ Writer other → Looked other call found view next)
     (λ advances other also.
     let next = learned view step.after (kept.log ++ step.entries) step.entries marked.now marked.news in
     subst (λ (d : Desk). Looked d call found view next) (same_desk view.role desk other is also) (record {
       leads = subst (λ (s : Shape). Leads c (looked s desk call found) view next) (sym size)
-          (leads_so shape id view desk is operation tells notes state kept at step marked marked.told.1 c outcome
-          step.told.0 step.told.1 callers names
+          (leads_so is kept at step marked marked.told.1 c outcome step.told.0 step.told.1 callers names
           short advances);
       marks =
           subst
@@ -505,15 +502,14 @@ goes_so shape slots id me desk is busy heard in_order =
     = λ _ key slot after. rw is
     (went_names shape view.marks view.pasts desk desk.place found step.after (kept.log ++ step.entries) marked.now
     marked.news view.heard marked.told key slot after) in
-    writes shape id view desk is operation tells notes state kept at step marked no_news c outcome step.told.0 entries
+    writes is kept at step marked no_news c outcome step.told.0 entries
     callers names (λ next. (other : Desk) → view.role ≡ Writer other → Went other found view next)
     (λ advances other also.
     let next = learned view step.after (kept.log ++ step.entries) step.entries marked.now marked.news in
     subst (λ (d : Desk). Went d found view next) (same_desk view.role desk other is also) (record {
       leads =
           subst (λ (s : Shape). Leads c (went s desk desk.place found) view next) (sym size)
-          (leads_so shape id view desk is operation tells notes state kept at step marked no_news c outcome
-          step.told.0 entries callers names short advances);
+          (leads_so is kept at step marked no_news c outcome step.told.0 entries callers names short advances);
       log = kept.log;
       seen =
           ap (λ (l : List Entry). kept.log ++ l)
