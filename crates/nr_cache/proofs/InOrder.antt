@@ -1,16 +1,18 @@
 -- One event after another: of each id one flight at most is under way, each began once, and those whose values are to
 -- be held are fresh.
-use Rattle.std.proofs.Common.{◌≡◌, ◌≢◌, ◌<◌, ◌≤◌, ◌+◌, ℕ, inl, inr, Bool, true, false, cond, List, [], ◌∷◌, Option}
+use Rattle.std.proofs.Common.{◌≡◌, ◌≢◌, ◌<◌, ◌≤◌, ◌+◌, ℕ, inl, inr, Bool, true, cond, List, [], ◌∷◌, ◌++◌, Option}
 use Rattle.std.proofs.Common.{Some, None}
 use Rattle.std.proofs.Common.{arith, length, get_or, map, set, refl, sym, ap, ◌∙◌, subst}
 use Rattle.std.specs.Option.{is_some}
 use Rattle.std.specs.List.{AllPairs, Contains, count_by, position}
 use Rattle.std.proofs.lemmas.Bool.{cases_eq, cases_order, eqb-false, eqb-true, eq-eqb, ne_eqb}
-use Rattle.std.proofs.lemmas.List.{get_or-map, get_or-set_other, get_or_default, length-map, length-set}
+use Rattle.std.proofs.lemmas.List.{get_or-map, get_or_default, length-map}
 use Rattle.std.proofs.lemmas.List.Elements.{Contains-append_cases}
 use Rattle.std.proofs.lemmas.List.Quantifiers.{all_pairs_push, all_pairs_remove, position-Some}
-use Rattle.std.proofs.lemmas.List.Sums.{sum_by-cons, sum_by-le, sum_by-remove, sum_by-set, sum_by_push}
-use Rattle.std.proofs.lemmas.Grind.{get_or-set_at, get_or_head}
+use Rattle.std.proofs.lemmas.List.Sums.{sum_by-cons, sum_by-le, sum_by-remove, sum_by_push}
+use Rattle.std.proofs.lemmas.Grind.{get_or_head}
+use Rattle.std.proofs.lemmas.Simd.{map-map}
+use Rattle.std.proofs.Math.Seq.{map-set_same}
 use Rattle.nr_cache.specs.declared.flights.Flight.{Flight}
 use Rattle.nr_cache.specs.declared.flights.Fate.TheVariants.{Hold, Outdated}
 use Rattle.nr_cache.specs.Flights.{Underway}
@@ -25,8 +27,7 @@ use Rattle.nr_cache.proofs.Lists.{contains_removed, contains_written, none_passe
 -- what holds after any calls
 record Stays (history : List Event) (now : Underway) : Type 0 where
   pub one : AllPairs Differ now.flights
-  pub once : (number : ℕ) → times_begun number history ≤ 1
-  pub later : (number : ℕ) → now.begun < number → times_begun number history ≡ 0
+  pub once : (number : ℕ) → (times_begun number history ≤ 1) × (now.begun < number → times_begun number history ≡ 0)
   pub each : (number : ℕ) → times_begun number history
       ≡ times_ended number history + count_by (has_number number) now.flights
   pub changes : (id : ℕ) → count_by (is_id id) now.changing ≡ changes_of id history
@@ -36,13 +37,9 @@ hold≢outdated : Hold ≡ Outdated → ⊥
 hold≢outdated e = cc (e)
 
 -- A FLIGHT BEGINS
-held_means_quiet : (changing : Bool) → fate_of changing ≡ Hold → changing ≡ false
-held_means_quiet true e = absurd (cc (e))
-held_means_quiet false e = refl
-
-none_of_none : {X : Type 0} → (o : Option X) → is_some o ≡ false → o ≡ None
-none_of_none None e = refl
-none_of_none (Some x) e = absurd (cc (e))
+held_means_none : {X : Type 0} → (o : Option X) → fate_of (is_some o) ≡ Hold → o ≡ None
+held_means_none None e = refl
+held_means_none (Some x) e = absurd (cc (e))
 
 -- an id that isn't among them is counted never
 count_none : (id : ℕ) (ids : List ℕ) → position (is_id id) ids ≡ None → count_by (is_id id) ids ≡ 0
@@ -62,36 +59,32 @@ begins_quiet : (history : List Event) (old : Underway) (flight : Flight) (id mar
     → flight ≡ record { id = id; number = old.begun + 1; mark = mark; fate = fate_of (is_changing id old) }
     → flight.fate ≡ Hold → changes_of flight.id history ≡ 0
 begins_quiet history old flight id mark stays is held =
-    let quiet = held_means_quiet (is_changing id old) (sym (ap (λ (f : Flight). f.fate) is) ∙ held) in
-    let none = none_of_none (position (is_id id) old.changing) quiet in
-    ap (λ (i : ℕ). changes_of i history) (ap (λ (f : Flight). f.id) is)
-    ∙ sym (stays.changes id) ∙ count_none id old.changing none
+    let none =
+    held_means_none (position (is_id id) old.changing) (sym (ap (λ (f : Flight). f.fate) is) ∙ held) in
+    ap (λ (f : Flight). changes_of f.id history) is ∙ sym (stays.changes id) ∙ count_none id old.changing none
 
 begin : (history : List Event) (old new : Underway) (flight : Flight) (id mark : ℕ) → Stays history old
     → IsFree id old → Begins id mark old new (Some flight) → Stays (Began flight ∷ history) new
 begin history old new flight id mark stays free does =
+    let its = ap (λ (f : Flight). f.number) does.0 in
     subst (λ (b : Underway). Stays (Began flight ∷ history) b) (sym does.2) record {
       one = all_pairs_push Differ old.flights flight stays.one (λ k d within e.
           eqb-false (get_or old.flights k d).id id (none_passes (is_of id) old.flights k d free within)
           (e ∙ ap (λ (f : Flight). f.id) does.0));
-      once = λ number. elim (cases_eq flight.number number) [
-        | inl same ↦ let none = stays.later number (omega (arith, ap (λ (f : Flight). f.number) does.0, same)) in
-            rw (eq-eqb flight.number number same) (omega (arith, none))
-        | inr other ↦ let had = stays.once number in rw (ne_eqb flight.number number other) (omega (arith, had))
-      ];
-      later = λ number above.
-          let other : flight.number ≢ number = λ same. omega (
-            arith,
-            ap (λ (f : Flight). f.number) does.0,
-            same,
-            above,
-          ) in
-          let had = stays.later number (omega (arith, above)) in
-          rw (ne_eqb flight.number number other) (omega (arith, had));
+      once = λ number.
+          let had = stays.once number in
+          elim (cases_eq flight.number number) [
+            | inl same ↦
+                let none = had.1 (omega (arith, its, same)) in
+                rw (eq-eqb flight.number number same)
+                (omega (arith, none), λ above. absurd (omega (arith, its, same, above)))
+            | inr other ↦
+                rw (ne_eqb flight.number number other)
+                (omega (arith, had.0), λ above. omega (arith, had.1 (omega (arith, above))))
+          ];
       each = λ number.
-          let had = stays.each number in
           let more = sum_by_push (λ (f : Flight). cond (has_number number f) 1 0) old.flights flight in
-          omega (arith, had, more);
+          omega (arith, stays.each number, more);
       changes = stays.changes;
       fresh = λ f there held. elim (Contains-append_cases old.flights (flight ∷ []) f there) [
         | inl before ↦ inr (stays.fresh f before held)
@@ -113,39 +106,51 @@ end history old new flight number stays does =
     subst (λ (b : Underway). Stays (Ended flight ∷ history) b) (sym does.2) record {
       one = all_pairs_remove Differ old.flights place low stays.one;
       once = stays.once;
-      later = stays.later;
       each = λ n.
-          let had = stays.each n in
           let less = sum_by-remove (λ (f : Flight). cond (has_number n f) 1 0) old.flights place flight low in
           let its = ap {B = ℕ} (λ (f : Flight). cond (has_number n f) 1 0) does.1.2 in
-          omega (arith, had, less, its);
+          omega (arith, stays.each n, less, its);
       changes = stays.changes;
       fresh = λ f there held. stays.fresh f (contains_removed old.flights place f there) held;
     }
 
--- A FLIGHT IS OUTDATED
--- a write of the same id leaves the ids as they are
-same_ids : (flights : List Flight) (place : ℕ) (flight : Flight) → place < length flights
-    → get_or flights place flight ≡ flight → (k : ℕ) (d : Flight) → k < length flights
-    → (get_or (set flights place (outdated flight)) k d).id ≡ (get_or flights k d).id
-same_ids flights place flight low is k d within = elim (cases_eq k place) [
-  | inl same ↦
-      ap (λ (f : Flight). f.id) (get_or-set_at flights place k (outdated flight) d same low)
-      ∙ ap (λ (f : Flight). f.id) (sym is)
-      ∙ ap (λ (n : ℕ). (get_or flights n flight).id) (sym same)
-      ∙ ap (λ (f : Flight). f.id) (get_or_default flights k flight d within)
-  | inr other ↦ ap (λ (f : Flight). f.id) (get_or-set_other flights place k (outdated flight) d other)
-]
-
-pairs_written : (flights : List Flight) (place : ℕ) (flight : Flight) → place < length flights
-    → get_or flights place flight ≡ flight → AllPairs Differ flights
-    → AllPairs Differ (set flights place (outdated flight))
-pairs_written flights place flight low is pairs i j d before within e =
-    let n = length-set flights place (outdated flight) in
-    let here : j < length flights = omega (arith, n, within) in
-    let there : i < length flights = omega (arith, here, before) in
+-- FLIGHTS ARE OUTDATED
+-- where the ids are the same two differ still
+pairs_same : (old new : List Flight) → map (λ (f : Flight). f.id) new ≡ map (λ (f : Flight). f.id) old
+    → AllPairs Differ old → AllPairs Differ new
+pairs_same old new same pairs i j d before within e =
+    let here : j < length old =
+    omega (
+      arith,
+      ap length same,
+      length-map old (λ (f : Flight). f.id),
+      length-map new (λ (f : Flight). f.id),
+      within,
+    ) in
     pairs i j d before here
-    (sym (same_ids flights place flight low is i d there) ∙ e ∙ same_ids flights place flight low is j d here)
+    (sym (at i (omega (arith, before, here)) (omega (arith, before, within))) ∙ e ∙ at j here within)
+  where
+    at : (k : ℕ) → k < length old → k < length new → (get_or new k d).id ≡ (get_or old k d).id
+    at k low high =
+        sym (get_or-map (λ (f : Flight). f.id) new k d d.id high) ∙ ap (λ (ids : List ℕ). get_or ids k d.id) same
+        ∙ get_or-map (λ (f : Flight). f.id) old k d d.id low
+
+-- where the numbers are, as many have each
+counts_by : (number : ℕ) (flights : List Flight)
+    → count_by (has_number number) flights ≡ count_by (is_id number) (map (λ (f : Flight). f.number) flights)
+counts_by number [] = refl
+counts_by number (flight ∷ flights) =
+    omega (
+      arith,
+      sum_by-cons (λ (f : Flight). cond (has_number number f) 1 0) flight flights,
+      sum_by-cons (λ (n : ℕ). cond (is_id number n) 1 0) flight.number (map (λ (f : Flight). f.number) flights),
+      counts_by number flights,
+    )
+
+counts_same : (old new : List Flight) → map (λ (f : Flight). f.number) new ≡ map (λ (f : Flight). f.number) old
+    → (number : ℕ) → count_by (has_number number) new ≡ count_by (has_number number) old
+counts_same old new same number =
+    counts_by number new ∙ ap (count_by (is_id number)) same ∙ sym (counts_by number old)
 
 -- two places of which the ids differ
 apart : (flights : List Flight) → AllPairs Differ flights → (i j : ℕ) (d : Flight) → i < length flights
@@ -158,29 +163,26 @@ apart flights pairs i j d low high ne e = elim (cases_order i j) [
 
 -- those of another id stay fresh, and that of the id isn't held any more
 record Lets (history : List Event) (id : ℕ) (old new : Underway) : Type 0 where
-  pub one : AllPairs Differ new.flights
-  pub same : (number : ℕ)
-      → count_by (has_number number) new.flights ≡ count_by (has_number number) old.flights
-  pub begun : new.begun ≡ old.begun
-  pub changing : new.changing ≡ old.changing
-  pub fresh : (flight : Flight) → Contains new.flights flight → flight.fate ≡ Hold
+  pub flights : List Flight
+  pub is : new ≡ record old { flights = flights }
+  pub one : AllPairs Differ flights
+  pub same : (number : ℕ) → count_by (has_number number) flights ≡ count_by (has_number number) old.flights
+  pub fresh : (flight : Flight) → Contains flights flight → flight.fate ≡ Hold
       → (id ≢ flight.id) × IsFresh flight history
 
 outdate : (history : List Event) (old mid : Underway) (found : Option Flight) (id : ℕ) → Stays history old
     → Outdates id old mid found → Lets history id old mid
-outdate history old mid None id stays does =
-    subst (λ (b : Underway). Lets history id old b) (sym does.1) record {
-      one = stays.one;
-      same = λ number. refl;
-      begun = refl;
-      changing = refl;
-      fresh = λ f there held. (
-        (λ e. eqb-false (get_or old.flights there.0 f).id id
-            (none_passes (is_of id) old.flights there.0 f does.0 there.1)
-            (ap (λ (f : Flight). f.id) there.2 ∙ sym e)),
-        stays.fresh f there held,
-      );
-    }
+outdate history old mid None id stays does = record {
+  flights = old.flights;
+  is = does.1;
+  one = stays.one;
+  same = λ number. refl;
+  fresh = λ f there held. (
+    (λ e. eqb-false (get_or old.flights there.0 f).id id
+        (none_passes (is_of id) old.flights there.0 f does.0 there.1) (ap (λ (f : Flight). f.id) there.2 ∙ sym e)),
+    stays.fresh f there held,
+  );
+}
 outdate history old mid (Some flight) id stays does =
     let place = does.0 in
     let low : place < length old.flights = does.1.1 in
@@ -188,15 +190,16 @@ outdate history old mid (Some flight) id stays does =
     let first = position-Some (is_of id) old.flights place flight does.1.0 in
     let its : flight.id ≡ id = sym (ap (λ (f : Flight). f.id) at) ∙ eqb-true (get_or old.flights place flight).id id
     first.1 in
-    subst (λ (b : Underway). Lets history id old b) (sym does.2) record {
-      one = pairs_written old.flights place flight low at stays.one;
-      same = λ number.
-          let swapped = sum_by-set (λ (f : Flight). cond (has_number number f) 1 0) old.flights place (outdated
-          flight) flight low in
-          let was = ap {B = ℕ} (λ (f : Flight). cond (has_number number f) 1 0) at in
-          omega (arith, swapped, was);
-      begun = refl;
-      changing = refl;
+    let written = set old.flights place (outdated flight) in
+    record {
+      flights = written;
+      is = does.2;
+      one = pairs_same old.flights written
+          (map-set_same (λ (f : Flight). f.id) old.flights place (outdated flight) flight
+          (ap (λ (f : Flight). f.id) (sym at))) stays.one;
+      same = counts_same old.flights written
+          (map-set_same (λ (f : Flight). f.number) old.flights place (outdated flight) flight
+          (ap (λ (f : Flight). f.number) (sym at)));
       fresh = λ f there held. elim (contains_written old.flights place (outdated flight) f low there) [
         | inl written ↦ absurd (hold≢outdated (sym held ∙ ap (λ (f : Flight). f.fate) written))
         | inr (k, other, within, is) ↦ (
@@ -211,32 +214,46 @@ outdate history old mid (Some flight) id stays does =
 invalidate : (history : List Event) (old new : Underway) (found : Option Flight) (id : ℕ) → Stays history old
     → Outdates id old new found → Stays (Invalidated id ∷ history) new
 invalidate history old new found id stays does =
-    let o = outdate history old new found id stays does in
-    record {
-      one = o.one;
+    let lets = outdate history old new found id stays does in
+    subst (λ (b : Underway). Stays (Invalidated id ∷ history) b) (sym lets.is) record {
+      one = lets.one;
       once = stays.once;
-      later = λ number above. stays.later number (let b = o.begun in omega (arith, above, b));
-      each = λ number. let had = stays.each number in let same = o.same number in omega (arith, had, same);
-      changes = λ other. ap (λ (l : List ℕ). count_by (is_id other) l) o.changing ∙ stays.changes other;
-      fresh = o.fresh;
+      each = λ number. omega (arith, stays.each number, lets.same number);
+      changes = stays.changes;
+      fresh = lets.fresh;
+    }
+
+invalidate_all : (history : List Event) (old new : Underway) → Stays history old → OutdatesAll old new
+    → Stays (AllInvalidated ∷ history) new
+invalidate_all history old new stays does =
+    let same = counts_same old.flights (map outdated old.flights)
+    (map-map (λ (f : Flight). f.number) outdated old.flights) in
+    subst (λ (b : Underway). Stays (AllInvalidated ∷ history) b) (sym does) record {
+      one = pairs_same old.flights (map outdated old.flights) (map-map (λ (f : Flight). f.id) outdated old.flights)
+          stays.one;
+      once = stays.once;
+      each = λ number. omega (arith, stays.each number, same number);
+      changes = stays.changes;
+      fresh = λ flight there held.
+          let low : there.0 < length old.flights = omega (arith, length-map old.flights outdated, there.1) in
+          let is = get_or-map outdated old.flights there.0 flight flight low in
+          absurd (hold≢outdated (sym held ∙ ap (λ (f : Flight). f.fate) (sym there.2 ∙ is)));
     }
 
 -- A CHANGE BEGINS AND ENDS
 change : (history : List Event) (old mid new : Underway) (found : Option Flight) (id : ℕ) → Stays history old
     → Outdates id old mid found → BeginsChange id mid new true → Stays (ChangeBegan id ∷ history) new
 change history old mid new found id stays does begins =
-    let o = outdate history old mid found id stays does in
-    subst (λ (b : Underway). Stays (ChangeBegan id ∷ history) b) (sym begins.1) record {
-      one = o.one;
+    let lets = outdate history old mid found id stays does in
+    let is = begins.1 ∙ ap (λ (u : Underway). record u { changing = u.changing ++ id ∷ [] }) lets.is in
+    subst (λ (b : Underway). Stays (ChangeBegan id ∷ history) b) (sym is) record {
+      one = lets.one;
       once = stays.once;
-      later = λ number above. stays.later number (let b = o.begun in omega (arith, above, b));
-      each = λ number. let had = stays.each number in let same = o.same number in omega (arith, had, same);
+      each = λ number. omega (arith, stays.each number, lets.same number);
       changes = λ other.
-          let more = sum_by_push (λ (i : ℕ). cond (is_id other i) 1 0) mid.changing id in
-          let had = ap (λ (l : List ℕ). count_by (is_id other) l) o.changing in
-          let same = stays.changes other in
-          omega (arith, more, had, same);
-      fresh = o.fresh;
+          let more = sum_by_push (λ (i : ℕ). cond (is_id other i) 1 0) old.changing id in
+          omega (arith, more, stays.changes other);
+      fresh = lets.fresh;
     }
 
 unchange : (history : List Event) (old new : Underway) (id : ℕ) → Stays history old → EndsChange id old new true
@@ -246,85 +263,41 @@ unchange history old new id stays does =
     subst (λ (b : Underway). Stays (ChangeEnded id ∷ history) b) (sym does.2) record {
       one = stays.one;
       once = stays.once;
-      later = stays.later;
       each = stays.each;
       changes = λ other.
           let less = sum_by-remove (λ (i : ℕ). cond (is_id other i) 1 0) old.changing does.0 id first.0 in
           let its = eqb-true (get_or old.changing does.0 id) id first.1 in
           let at = ap {B = ℕ} (λ (i : ℕ). cond (is_id other i) 1 0) its in
-          let same = stays.changes other in
-          omega (arith, less, at, same);
+          omega (arith, less, at, stays.changes other);
       fresh = stays.fresh;
     }
 
--- ALL ARE OUTDATED
-same_counts : (number : ℕ) (flights : List Flight)
-    → count_by (has_number number) (map outdated flights) ≡ count_by (has_number number) flights
-same_counts number [] = refl
-same_counts number (flight ∷ flights) =
-    let left = sum_by-cons (λ (f : Flight). cond (has_number number f) 1 0) (outdated flight) (map outdated flights) in
-    let right = sum_by-cons (λ (f : Flight). cond (has_number number f) 1 0) flight flights in
-    let rest = same_counts number flights in
-    omega (arith, left, right, rest)
-
--- the flight at a place, but for its fate
-at_place : (flights : List Flight) (place : ℕ) (d : Flight) → place < length (map outdated flights)
-    → (place < length flights) × (get_or (map outdated flights) place d ≡ outdated (get_or flights place d))
-at_place flights place d within =
-    let low : place < length flights = let n = length-map flights outdated in omega (arith, n, within) in
-    (low, get_or-map outdated flights place d d low)
-
-all_pairs_outdated : (flights : List Flight) → AllPairs Differ flights → AllPairs Differ (map outdated flights)
-all_pairs_outdated flights pairs i j d before within e =
-    let later = at_place flights j d within in
-    let earlier = at_place flights i d (omega (arith, before, within)) in
-    pairs i j d before later.0
-    (ap (λ (f : Flight). f.id) (sym earlier.1) ∙ e ∙ ap (λ (f : Flight). f.id) later.1)
-
-invalidate_all : (history : List Event) (old new : Underway) → Stays history old → OutdatesAll old new
-    → Stays (AllInvalidated ∷ history) new
-invalidate_all history old new stays does =
-    subst (λ (b : Underway). Stays (AllInvalidated ∷ history) b) (sym does) record {
-      one = all_pairs_outdated old.flights stays.one;
-      once = stays.once;
-      later = stays.later;
-      each = λ number.
-          let had = stays.each number in
-          let same = same_counts number old.flights in
-          omega (arith, had, same);
-      changes = stays.changes;
-      fresh = λ flight there held.
-          let at = at_place old.flights there.0 flight there.1 in
-          absurd (hold≢outdated (sym held ∙ ap (λ (f : Flight). f.fate) (sym there.2 ∙ at.1)));
-    }
-
-event_stays : (history : List Event) (event : Event) (old new : Underway) → Stays history old → Does event old new
-    → Stays (event ∷ history) new
-event_stays history (Began flight) old new stays does = begin history old new flight does.0 does.1 stays does.2 does.3
-event_stays history (Ended flight) old new stays does = end history old new flight does.0 stays does.1
-event_stays history (Invalidated id) old new stays does = invalidate history old new does.0 id stays does.1
-event_stays history AllInvalidated old new stays does = invalidate_all history old new stays does
-event_stays history (ChangeBegan id) old new stays does = change history old does.1 new does.0 id stays does.2 does.3
-event_stays history (ChangeEnded id) old new stays does = unchange history old new id stays does
-
+-- ANY EVENTS
 stays_in : {history : List Event} {now : Underway} → Run history now → Stays history now
 stays_in (Opens room changes) = record {
   one = λ i j d before within. absurd (omega (arith, within));
-  once = λ number. omega arith;
-  later = λ number above. refl;
+  once = λ number. (omega arith, λ above. refl);
   each = λ number. refl;
   changes = λ id. refl;
   fresh = λ flight there held. absurd (let w = there.1 in omega (arith, w));
 }
 stays_in (Goes history event old new run does) = event_stays history event old new (stays_in run) does
+  where
+    event_stays : (history : List Event) (event : Event) (old new : Underway) → Stays history old → Does event old new
+        → Stays (event ∷ history) new
+    event_stays history (Began flight) old new stays does =
+        begin history old new flight does.0 does.1 stays does.2 does.3
+    event_stays history (Ended flight) old new stays does = end history old new flight does.0 stays does.1
+    event_stays history (Invalidated id) old new stays does = invalidate history old new does.0 id stays does.1
+    event_stays history AllInvalidated old new stays does = invalidate_all history old new stays does
+    event_stays history (ChangeBegan id) old new stays does =
+        change history old does.1 new does.0 id stays does.2 does.3
+    event_stays history (ChangeEnded id) old new stays does = unchange history old new id stays does
 
 pub each_flight_ends_once_lem : EachFlightEndsOnce
-each_flight_ends_once_lem history now run = let stays = stays_in run in record {
-  one = stays.one;
-  once = stays.once;
-  each = stays.each;
-  fresh = stays.fresh;
-}
+each_flight_ends_once_lem history now run =
+    let stays = stays_in run in
+    record { one = stays.one; once = λ number. (stays.once number).0; each = stays.each; fresh = stays.fresh }
 
 pub held_is_fresh_lem : HeldIsFresh
 held_is_fresh_lem history old new flight run does held =

@@ -1,11 +1,5 @@
--- A call's entry is the last that its caller knows, and tells the state of its key.
-use Rattle.std.proofs.Common.{◌≡◌, ◌≢◌, ◌<◌, ℕ, zero, suc, Bool, List, [], ◌∷◌, ◌++◌, length, refl, sym, ap}
-use Rattle.std.proofs.Common.{◌∙◌, subst, arith, ⊎_elim, None}
-use Rattle.std.specs.Prelude.{if◌then◌else◌}
-use Rattle.std.proofs.lemmas.Bool.{cases_eq, ne_eqb, eq-eqb}
-use Rattle.std.proofs.lemmas.List.{length-replicate}
-use Rattle.nr_core.proofs.Histories.{length-after}
-use Rattle.nr_core.specs.Story.{entry}
+-- What a call's answer tells of its key: it has the rows that were put or found, and a key with rows isn't passed over.
+use Rattle.std.proofs.Common.{◌≡◌, ◌<◌, ◌==◌, ℕ, zero, suc, Bool, cond, List, refl, sym, ap, ◌∙◌, subst, arith, None}
 use Rattle.nr_model.specs.declared.rows.Row.{Row}
 use Rattle.nr_model.specs.declared.calls.Call.{Call}
 use Rattle.nr_model.specs.declared.calls.Call.TheVariants.{Evict, Fill, Find, Replace}
@@ -13,134 +7,87 @@ use Rattle.nr_model.specs.declared.calls.Reply.{Reply}
 use Rattle.nr_model.specs.declared.calls.Reply.TheVariants as reply
 use Rattle.nr_model.specs.declared.states.KeyState.{KeyState}
 use Rattle.nr_model.specs.declared.states.KeyState.TheVariants.{Hole, Asked, Rows}
-use Rattle.nr_model.specs.Histories.{IsLegal, after}
-use Rattle.nr_model.specs.Maps.{PartialMap, call_key, evict_reply, fill_reply, filled, find_reply, replace_reply}
-use Rattle.nr_model.specs.Maps.{replaced}
+use Rattle.nr_model.specs.Maps.{call_key, evict_reply, evicted, fill_reply, filled, find_reply, replace_reply, replaced}
 use Rattle.nr_model.specs.Maps.{reply_at, state_after, state_of}
-use Rattle.nr_model.proofs.HistoryLemmas.{state_of-next_same}
-use Rattle.nr_model.proofs.LawLemmas.{legal_goes_on_lem}
-use Rattle.nr_board.specs.Callers.{Caller, Gains, Table, map_at_opening, map_seen}
-use Rattle.nr_idmap.specs.Keepers.{Agrees, owed_for}
-
--- the call was answered by its key's state, which is now what the call left of it
-pub record LastCall (call : Call) (answer : Reply) (new : Caller) : Type 0 where
-  pub bound : ℕ
-  pub before : KeyState
-  pub answered : answer ≡ reply_at bound call before
-  pub now : state_of (map_seen new) (call_key call) ≡ state_after bound call before
-
-pub last_call : {steps : ℕ} {call : Call} {answer : Reply} {old new : Caller} → call_key call < old.table.shape.keys
-    → Gains steps call old new answer → LastCall call answer new
-last_call {steps} {call} {answer} {old} {new} near gains =
-    let opening = map_at_opening old.table in
-    let log = old.seen ++ gains.between in
-    let last = entry old.number call answer in
-    let goes = legal_goes_on_lem opening log last in
-    let legal = goes.1.1 (subst (IsLegal opening) gains.seen gains.legal) in
-    let here : call_key call < length (after opening log).states =
-    omega (
-      arith,
-      near,
-      length-after log opening,
-      length-replicate old.table.shape.keys (Hole
-          old.table.shape.first_number),
-    ) in
-    let seen_is : map_seen new ≡ after opening (log ++ last ∷ []) =
-    ap (λ (t : Table). after (map_at_opening t) new.seen) gains.table ∙ ap (after opening) gains.seen in
-    record {
-      bound = (after opening log).bound;
-      before = state_of (after opening log) (call_key call);
-      answered = legal.1;
-      now = ap (λ (m : PartialMap). state_of m (call_key call)) (seen_is ∙ goes.0)
-          ∙ state_of-next_same (after opening log) call here;
-    }
+use Rattle.nr_core.proofs.Choices.{by_cases}
+use Rattle.nr_board.specs.Callers.{Caller, map_seen}
+use Rattle.nr_idmap.specs.Keepers.{Agrees, IsTied, Keeper, name_at, owed_at, owed_for, state_at}
+use Rattle.nr_idmap.specs.Tags.{id_set_of, set_at}
+use Rattle.nr_cache.proofs.WriterCalls.{Called, at_key}
 
 -- A WAY THAT IS NAMED HAS ROWS, WHERE NO UPQUERY IS OPEN
+abbrev pub HasRows : List Row → KeyState → Type 0
+HasRows rows state = (n : ℕ) × (state ≡ Rows n rows)
+
 pub named_has_rows : (way name : ℕ) (state : KeyState) → 0 < name → Agrees name state → owed_for way name state ≡ None
-    → (n : ℕ) × (rows : List Row) × (state ≡ Rows n rows)
+    → (rows : List Row) × HasRows rows state
 named_has_rows way name (Hole n) real agrees none = absurd (omega (arith, real, agrees))
 named_has_rows way zero (Asked n) real agrees none = absurd (omega (arith, real))
 named_has_rows way (suc name) (Asked n) real agrees none = absurd (cc (none))
-named_has_rows way name (Rows n rows) real agrees none = (n, rows, refl)
+named_has_rows way name (Rows n rows) real agrees none = (rows, (n, refl))
 
--- and was passed over neither by an eviction nor by a find nor by a replacement
-no_eviction : (n : ℕ) (rows : List Row) (state : KeyState) → reply.Nothing ≡ evict_reply state
-    → state_after 0 (Evict 0) state ≡ Rows n rows → ⊥
-no_eviction n rows (Hole m) answered is = cc (is)
-no_eviction n rows (Asked m) answered is = cc (is)
-no_eviction n rows (Rows m had) answered is = cc (answered)
+-- an eviction, a find or a replacement that tells of no rows
+abbrev pub PassesOver : Call → Reply → Type 0
+PassesOver (Evict key) answer = answer ≡ reply.Nothing
+PassesOver (Find key) answer = answer ≡ reply.Hole
+PassesOver (Replace key rows) answer = answer ≡ reply.Dropped
+PassesOver _ answer = ⊥
 
-no_hole : (n : ℕ) (rows : List Row) (state : KeyState) → reply.Hole ≡ find_reply state → state ≡ Rows n rows → ⊥
-no_hole n rows (Hole m) answered is = cc (is)
-no_hole n rows (Asked m) answered is = cc (is)
-no_hole n rows (Rows m had) answered is = cc (answered)
+-- leaves none
+leaves_none : (bound : ℕ) (call : Call) (state : KeyState) (rows : List Row)
+    → PassesOver call (reply_at bound call state) → HasRows rows (state_after bound call state) → ⊥
+leaves_none bound (Evict key) (Rows n had) rows passes has = cc (passes)
+leaves_none bound (Find key) (Rows n had) rows passes has = cc (passes)
+leaves_none bound (Replace key new) (Rows n had) rows passes has = cc (passes)
+leaves_none bound (Evict key) state rows passes has = cc (has.1)
+leaves_none bound (Find key) state rows passes has = cc (has.1)
+leaves_none bound (Replace key new) state rows passes has = cc (has.1)
+leaves_none bound call state rows passes has = absurd passes
 
-no_replacement : (n : ℕ) (rows new : List Row) (state : KeyState) → reply.Dropped ≡ replace_reply state
-    → replaced new state ≡ Rows n rows → ⊥
-no_replacement n rows new (Hole m) answered is = cc (is)
-no_replacement n rows new (Asked m) answered is = cc (is)
-no_replacement n rows new (Rows m had) answered is = cc (answered)
+pub not_passed_over : {call : Call} {answer : Reply} {old : Caller} {id : ℕ} (keeper : Keeper) → IsTied keeper
+    → Called call answer old keeper.writer → PassesOver call answer → 0 < id → name_at keeper (call_key call) ≡ id
+    → owed_at keeper (call_key call) ≡ None → ⊥
+not_passed_over {call} keeper tied calls passes real named none =
+    let way = call_key call in
+    let had = named_has_rows way (name_at keeper way) (state_at keeper way) (omega (arith, real, named))
+    (tied.agrees way) none in
+    leaves_none calls.map.bound call (state_of calls.map way) had.0 (subst (PassesOver call) calls.answered passes)
+    (subst (HasRows had.0) (at_key calls) had.1)
 
-module _ (way name : ℕ) (new : Caller) (real : 0 < name) (agrees : Agrees name (state_of (map_seen new) way))
-    (none : owed_for way name (state_of (map_seen new) way) ≡ None)
-  where
-    pub evicts_it : LastCall (Evict way) reply.Nothing new → ⊥
-    evicts_it last =
-        let had = named_has_rows way name (state_of (map_seen new) way) real agrees none in
-        no_eviction had.0 had.1 last.before last.answered (sym last.now ∙ had.2)
-
-    pub finds_it : LastCall (Find way) reply.Hole new → ⊥
-    finds_it last =
-        let had = named_has_rows way name (state_of (map_seen new) way) real agrees none in
-        no_hole had.0 had.1 last.before last.answered (sym last.now ∙ had.2)
-
-    pub replaces_it : (rows : List Row) → LastCall (Replace way rows) reply.Dropped new → ⊥
-    replaces_it rows last =
-        let had = named_has_rows way name (state_of (map_seen new) way) real agrees none in
-        no_replacement had.0 had.1 rows last.before last.answered (sym last.now ∙ had.2)
-
--- WHAT WAS PUT IS THERE
-abbrev HasRows : List Row → KeyState → Type 0
-HasRows rows state = (n : ℕ) × (state ≡ Rows n rows)
-
-fill_asked : (n number : ℕ) (rows : List Row) → reply.Done ≡ fill_reply number (Asked n)
-    → HasRows rows (filled number rows (Asked n))
-fill_asked n number rows done = ⊎_elim
-    (λ (same : n ≡ number).
-    (n, ap (λ (b : Bool). if b then Rows n rows else Asked n) (eq-eqb n number same)))
-    (λ (other : n ≢ number). let e : reply.Done ≡ reply.Stale = done
-    ∙ ap (λ (b : Bool). if b then reply.Done else reply.Stale) (ne_eqb n number other) in absurd (cc (e)))
-    (cases_eq n number)
-
+-- WHAT WAS PUT OR FOUND IS THERE
 fill_has : (number : ℕ) (rows : List Row) (state : KeyState) → reply.Done ≡ fill_reply number state
     → HasRows rows (filled number rows state)
-fill_has number rows (Hole n) done = absurd (cc (done))
-fill_has number rows (Asked n) done = fill_asked n number rows done
-fill_has number rows (Rows n old) done = absurd (cc (done))
+fill_has number rows (Asked n) done =
+    by_cases
+    (λ (b : Bool). reply.Done ≡ cond b reply.Done reply.Stale → HasRows rows (cond b (Rows n rows) (Asked n)))
+    (n == number) (λ same done. (n, refl)) (λ other stale. absurd (cc (stale))) done
+fill_has number rows state done = absurd (cc (done))
 
 replace_has : (rows : List Row) (state : KeyState) → reply.Done ≡ replace_reply state
     → HasRows rows (replaced rows state)
-replace_has rows (Hole n) done = absurd (cc (done))
-replace_has rows (Asked n) done = absurd (cc (done))
 replace_has rows (Rows n old) done = (n, refl)
+replace_has rows state done = absurd (cc (done))
 
-pub filled_has : (way number : ℕ) (rows : List Row) (new : Caller) → LastCall (Fill way number rows) reply.Done new
-    → (n : ℕ) × (state_of (map_seen new) way ≡ Rows n rows)
-filled_has way number rows new last =
-    let has = fill_has number rows last.before last.answered in (has.0, last.now ∙ has.1)
-
-pub replaced_has : (way : ℕ) (rows : List Row) (new : Caller) → LastCall (Replace way rows) reply.Done new
-    → (n : ℕ) × (state_of (map_seen new) way ≡ Rows n rows)
-replaced_has way rows new last =
-    let has = replace_has rows last.before last.answered in (has.0, last.now ∙ has.1)
-
--- WHAT WAS FOUND IS THERE
 find_has : (rows : List Row) (state : KeyState) → reply.Rows rows ≡ find_reply state → HasRows rows state
-find_has rows (Hole n) found = absurd (cc (found))
-find_has rows (Asked n) found = absurd (cc (found))
 find_has rows (Rows n had) found = let same : had ≡ rows = cc (found) in (n, ap (Rows n) same)
+find_has rows state found = absurd (cc (found))
 
-pub found_has : (way : ℕ) (rows : List Row) (new : Caller) → LastCall (Find way) (reply.Rows rows) new
-    → (n : ℕ) × (state_of (map_seen new) way ≡ Rows n rows)
-found_has way rows new last =
-    let has = find_has rows last.before last.answered in (has.0, last.now ∙ has.1)
+module _ {way : ℕ} {rows : List Row} {old new : Caller} where
+  pub filled_has : {number : ℕ} → Called (Fill way number rows) reply.Done old new
+      → HasRows rows (state_of (map_seen new) way)
+  filled_has {number} calls = subst (HasRows rows) (sym (at_key calls)) (fill_has number rows _ calls.answered)
+
+  pub replaced_has : Called (Replace way rows) reply.Done old new → HasRows rows (state_of (map_seen new) way)
+  replaced_has calls = subst (HasRows rows) (sym (at_key calls)) (replace_has rows _ calls.answered)
+
+  pub found_has : Called (Find way) (reply.Rows rows) old new → HasRows rows (state_of (map_seen new) way)
+  found_has calls = subst (HasRows rows) (sym (at_key calls)) (find_has rows _ calls.answered)
+
+-- WHAT WAS EVICTED IS NOT
+evicted_value : (state : KeyState) → reply.Evicted ≡ evict_reply state → id_set_of (evicted state) ≡ None
+evicted_value (Rows n rows) answered = refl
+evicted_value state answered = absurd (cc (answered))
+
+pub evicted_none : {way : ℕ} {old new : Caller} → Called (Evict way) reply.Evicted old new
+    → set_at (map_seen new) way ≡ None
+evicted_none calls = ap id_set_of (at_key calls) ∙ evicted_value _ calls.answered

@@ -1,11 +1,12 @@
 -- This crate's own.
 mod Lists
-mod Brought
-mod Filled
 mod InOrder
-mod Quiets
+mod WriterCalls
 mod LastCalls
 mod Ways
+mod Brought
+mod Filled
+mod Quiets
 mod Shown
 mod Gone
 mod Weighing

@@ -3,7 +3,7 @@ use Rattle.nr_board.specs.Callers.{Table}
 use Rattle.nr_idmap.specs.Keepers.{IdTable, name_at}
 use Rattle.nr_cache.specs.Places as places
 use Rattle.nr_cache.proofs.AllGone.{all_gone, each_quiet}
-use Rattle.nr_cache.proofs.Filled.{quiet_fewer}
+use Rattle.nr_cache.proofs.Quiets.{quiet_fewer}
 use Rattle.nr_cache.proofs.Weighing.{lightens_same, lightens_then}
 use Rattle.nr_cache.proofs.clearing.take_all.Goals as goal
 
@@ -13,24 +13,27 @@ loop-way-init c = record {
   owes = c.requires.owes;
   values = c.requires.values;
   only = c.requires.only;
-  lightens = lightens_same c.args.writer.now c.args.writer.now c.args.weights.now (λ way. refl);
+  lightens = lightens_same c.args.writer.now c.args.writer.now (λ way. refl);
   takes = places.NoneTaken c.args.writer.now;
   none = λ other low. absurd (omega arith);
 }
 
 -- one way more
 pub loop-way-preserved : goal.loop-way-preserved
-loop-way-preserved c = record {
-  own = c.take_at.ensures.own;
-  owes = c.take_at.ensures.owes;
-  values = c.take_at.ensures.values;
-  only = c.take_at.ensures.only;
-  lightens = lightens_then c.loop-way.invariant.lightens c.take_at.ensures.lightens;
-  takes = places.OneMoreTaken c.loop-way.way c.args.writer.now c.loop-way.writer c.take_at.new.writer
-      c.loop-way.invariant.takes c.take_at.ensures.takes;
-  none = below_more (λ (other : ℕ). name_at c.take_at.new.writer other ≡ 0) c.loop-way.way
-      (λ other low. c.take_at.ensures.others other (c.loop-way.invariant.none other low)) c.take_at.ensures.none;
-}
+loop-way-preserved c =
+    let before = c.loop-way.invariant in
+    let step = c.take_at.ensures in
+    record {
+      own = step.own;
+      owes = step.owes;
+      values = step.values;
+      only = step.only;
+      lightens = lightens_then before.lightens step.lightens;
+      takes = places.OneMoreTaken c.loop-way.way c.args.writer.now c.loop-way.writer c.take_at.new.writer before.takes
+          step.takes;
+      none = below_more (λ (other : ℕ). name_at c.take_at.new.writer other ≡ 0) c.loop-way.way
+          (λ other low. step.others other (before.none other low)) step.none;
+    }
 
 pub returns-clause-gone : goal.returns-clause-gone
 returns-clause-gone c =
@@ -38,8 +41,7 @@ returns-clause-gone c =
     ap (λ (t : Table). t.shape.keys)
     (c.is_tied-2.ensures.writes.0 ∙ ap (λ (t : IdTable). t.map) c.loop-way.invariant.own) in
     let all : c.loop-way.writer.writer.table.shape.keys ≤ c.loop-way.way = omega (arith, keys) in
-    all_gone c.loop-way.writer c.loop-way.way c.is_tied-2.ensures all c.loop-way.invariant.none
+    all_gone c.loop-way.way c.is_tied-2.ensures all c.loop-way.invariant.none
 
 pub returns-clause-fewer : goal.returns-clause-fewer
-returns-clause-fewer c =
-    quiet_fewer c.args.writer.now c.loop-way.writer c.is_tied.ensures (each_quiet c.loop-way.invariant.takes)
+returns-clause-fewer c = quiet_fewer c.loop-way.writer c.is_tied.ensures (each_quiet c.loop-way.invariant.takes)

@@ -1,22 +1,16 @@
-use Rattle.std.proofs.Common.{◌≢◌, ℕ, arith, inl, inr, refl, subst}
+use Rattle.std.proofs.Common.{◌≢◌, ℕ, arith, inl, inr, subst}
 use Rattle.std.proofs.lemmas.Bool.{cases_eq}
-use Rattle.nr_cache.specs.Stamps as stamps
 use Rattle.nr_cache.specs.Stamps.{IsStale, stamp_at}
-use Rattle.nr_cache.proofs.Stale.{then_around}
+use Rattle.nr_cache.proofs.Stale.{no_look, then_around}
 use Rattle.nr_cache.proofs.stamps.stale_way.Goals as goal
 
 pub returns-then-bound-eq0-clause-looks : goal.returns-then-bound-eq0-clause-looks
-returns-then-bound-eq0-clause-looks c =
-    stamps.Stays c.args.writer.now c.args.writer.now (record { writer = refl; asker = refl; owes = λ way. refl })
+returns-then-bound-eq0-clause-looks c = no_look c.args.writer.now
 
 pub loop-way-init : goal.loop-way-init
 loop-way-init c = record {
   own = c.requires.own;
-  looks = stamps.Stays c.args.writer.now c.args.writer.now (record {
-    writer = refl;
-    asker = refl;
-    owes = λ way. refl;
-  });
+  looks = no_look c.args.writer.now;
   none = λ other low high differs stale. absurd (omega (arith, low, high));
 }
 

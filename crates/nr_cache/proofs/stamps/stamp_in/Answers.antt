@@ -1,7 +1,7 @@
 use Rattle.std.proofs.Common.{◌∙◌, ap, refl, sym}
 use Rattle.nr_cache.specs.Stamps as stamps
 use Rattle.nr_cache.specs.Stamps.{first_stamp}
-use Rattle.nr_cache.proofs.Stale.{looks_leave, missed_stamp, seen_stamp}
+use Rattle.nr_cache.proofs.Stale.{looks_leave, missed_stamp, seen_stamp, stamps_same}
 use Rattle.nr_cache.proofs.stamps.stamp_in.Goals as goal
 
 pub returns-in_default-clause-looks : goal.returns-in_default-clause-looks
@@ -17,15 +17,15 @@ returns-in-Rows-clause-looks c =
 
 pub returns-in-Rows-clause-same : goal.returns-in-Rows-clause-same
 returns-in-Rows-clause-same c =
-    (looks_leave c.args.writer.now c.look-looked.new.writer c.is_tied.ensures (returns-in-Rows-clause-looks c)).stamps
+    stamps_same c.args.writer.now c.look-looked.new.writer
+    (looks_leave c.is_tied.ensures (returns-in-Rows-clause-looks c)).keeps.sets
 
 pub returns-in-Rows-clause-stamp : goal.returns-in-Rows-clause-stamp
 returns-in-Rows-clause-stamp c =
     let looks = c.in-Rows.ensures.looks in
     let names = c.in-Some.ensures.names in
     c.stamp_of.ensures ∙ ap first_stamp (c.as_slice.ensures.value ∙ looks.3)
-    ∙ sym (seen_stamp c.in-Some.id c.args.way c.id_at-named.new.writer c.look-looked.new.writer c.is_tied-2.ensures
-    names.1.has names.2 looks.0 looks.1 looks.2)
+    ∙ sym (seen_stamp c.args.way c.look-looked.new.writer c.is_tied-2.ensures names.2 names.1.has looks.2)
 
 pub returns-in-Pending-clause-looks : goal.returns-in-Pending-clause-looks
 returns-in-Pending-clause-looks c =
@@ -36,12 +36,11 @@ returns-in-Pending-clause-looks c =
 
 pub returns-in-Pending-clause-same : goal.returns-in-Pending-clause-same
 returns-in-Pending-clause-same c =
-    (looks_leave c.args.writer.now c.look-looked.new.writer c.is_tied.ensures
-    (returns-in-Pending-clause-looks c)).stamps
+    stamps_same c.args.writer.now c.look-looked.new.writer
+    (looks_leave c.is_tied.ensures (returns-in-Pending-clause-looks c)).keeps.sets
 
 pub returns-in-Pending-clause-stamp : goal.returns-in-Pending-clause-stamp
 returns-in-Pending-clause-stamp c =
     let looks = c.in-Pending.ensures.looks in
     let names = c.in-Some.ensures.names in
-    sym (missed_stamp c.in-Some.id c.args.way c.id_at-named.new.writer c.look-looked.new.writer c.is_tied-2.ensures
-    names.1.has names.2 looks.0 looks.1 looks.2)
+    sym (missed_stamp c.args.way c.look-looked.new.writer c.is_tied-2.ensures names.2 names.1.has looks.1 looks.2)

@@ -1,9 +1,9 @@
-use Rattle.std.proofs.Common.{◌∙◌, ℕ, Some, None, ap, arith, inl, inr, refl, sym, subst}
-use Rattle.nr_cache.specs.Weights.{Load, OnlyValuesWeigh, stock_of, weighs_at}
-use Rattle.nr_cache.proofs.Comes.{filled_is, filled_only}
-use Rattle.nr_cache.proofs.Filled.{quiet_fewer}
+use Rattle.std.proofs.Common.{◌∙◌, ℕ, Some, None, ap, arith, inl, inr, refl}
+use Rattle.nr_cache.specs.Weights.{stock_of, weighs_at}
+use Rattle.nr_cache.proofs.Comes.{comes_is, comes_only, filled_comes}
 use Rattle.nr_cache.proofs.Gone.{is_gone}
 use Rattle.nr_cache.proofs.Placing.{admits_quiet, admitted_id}
+use Rattle.nr_cache.proofs.Quiets.{quiet_fewer}
 use Rattle.nr_cache.proofs.Weighing.{lightens_same}
 use Rattle.nr_cache.proofs.values.enter.Goals as goal
 
@@ -11,8 +11,8 @@ pub returns-then-not-claim-clause-enters : goal.returns-then-not-claim-clause-en
 returns-then-not-claim-clause-enters g c = (
   record {
     why = inl (c.if-not-claim.ensures.claims, refl);
-    gone = is_gone c.unnamed_is_absent.ensures c.args.id c.args.writer.now c.is_tied.ensures c.requires.absent;
-    lightens = lightens_same c.args.writer.now c.args.writer.now c.args.limit.now.weights (λ way. refl);
+    gone = is_gone c.unnamed_is_absent.ensures c.is_tied.ensures c.requires.absent;
+    lightens = lightens_same c.args.writer.now c.args.writer.now (λ way. refl);
     hand = refl;
   },
   refl,
@@ -20,25 +20,21 @@ returns-then-not-claim-clause-enters g c = (
 
 pub keep-requires-clause-within : goal.keep-requires-clause-within
 keep-requires-clause-within g c =
-    let fewer =
-    quiet_fewer c.args.writer.now c.admit-admitted.new.writer c.is_tied.ensures
-    (admits_quiet c.args.id c.args.writer.now c.admit-admitted.new.writer (Some c.in-Some.upquery)
-    c.in-Some.ensures.admits) in
-    omega (arith, fewer, c.requires.within)
+    let late = c.admit-admitted.new.writer in
+    let admits = admits_quiet c.args.id c.args.writer.now late (Some c.in-Some.upquery) c.in-Some.ensures.admits in
+    omega (arith, quiet_fewer late c.is_tied.ensures admits, c.requires.within)
 
 pub returns-in_default-clause-within : goal.returns-in_default-clause-within
 returns-in_default-clause-within g c =
-    let fewer =
-    quiet_fewer c.args.writer.now c.admit-admitted.new.writer c.is_tied.ensures
-    (admits_quiet c.args.id c.args.writer.now c.admit-admitted.new.writer None c.in_default.ensures.admits) in
-    omega (arith, fewer, c.requires.within)
+    let late = c.admit-admitted.new.writer in
+    let admits = admits_quiet c.args.id c.args.writer.now late None c.in_default.ensures.admits in
+    omega (arith, quiet_fewer late c.is_tied.ensures admits, c.requires.within)
 
 pub returns-in_default-clause-enters : goal.returns-in_default-clause-enters
 returns-in_default-clause-enters g c = (
   record {
     why = inr (c.if-not-claim.ensures.claims, c.in_default.ensures.admits);
-    gone = is_gone c.unnamed_is_absent.ensures c.args.id c.admit-admitted.new.writer c.is_tied-2.ensures
-        c.in_default.ensures.none.1;
+    gone = is_gone c.unnamed_is_absent.ensures c.is_tied-2.ensures c.in_default.ensures.none.1;
     lightens = c.admit-admitted.ensures.lightens;
     hand = refl;
   },
@@ -47,27 +43,29 @@ returns-in_default-clause-enters g c = (
 
 pub returns-clause-enters : goal.returns-clause-enters
 returns-clause-enters g c =
+    let late = c.admit-admitted.new.writer in
+    let roomy = c.keep.new.self in
+    let admits = c.in-Some.ensures.admits in
+    let its = admitted_id c.args.id c.args.writer.now late c.in-Some.upquery admits in
     record {
       claims = c.if-not-claim.ensures.claims;
-      late = stock_of c.admit-admitted.new.writer c.admit-admitted.new.weights c.args.limit.now.hand;
+      late = stock_of late c.admit-admitted.new.weights c.args.limit.now.hand;
       sent = c.in-Some.upquery;
-      admits = c.in-Some.ensures.admits;
+      admits = admits;
       lightens = c.admit-admitted.ensures.lightens;
-      roomy = stock_of c.keep.new.writer c.keep.new.self.weights c.keep.new.self.hand;
+      roomy = stock_of c.keep.new.writer roomy.weights roomy.hand;
       keeps = c.keep.ensures.keeps;
       fills = c.fill-given.ensures.fills;
-      has = filled_is g.R.RowRoom.shows c.in-Some.upquery.owed c.args.row c.keep.new.writer c.args.had.now
-          c.fill-given.new.writer c.fill-given.new.had c.fill-given.result c.is_tied-3.ensures
-          c.fill-given.ensures.fills c.args.id
-          (admitted_id c.args.id c.args.writer.now c.admit-admitted.new.writer c.in-Some.upquery
-          c.in-Some.ensures.admits);
-      weighs = c.set.ensures ∙ ap (λ (w : ℕ). weighs_at w c.args.weight c.keep.new.self.weights) c.way-way.ensures;
+      has = comes_is (filled_comes c.keep.new.writer c.fill-given.new.writer c.is_tied-3.ensures its
+          c.fill-given.ensures.fills.fills.published.gains);
+      weighs = c.set.ensures ∙ ap (λ (w : ℕ). weighs_at w c.args.weight roomy.weights) c.way-way.ensures;
       stays = (c.fill-given.ensures.asker, refl, refl);
     }
 
 pub returns-clause-only : goal.returns-clause-only
 returns-clause-only g c =
-    subst (λ (l : Load). OnlyValuesWeigh l c.fill-given.new.writer) (sym c.set.ensures)
-    (filled_only g.R.RowRoom.shows c.in-Some.upquery.owed c.args.row c.keep.new.writer c.args.had.now
-    c.fill-given.new.writer c.fill-given.new.had c.fill-given.result c.is_tied-3.ensures c.fill-given.ensures.fills
-    c.way-way.result c.args.weight c.keep.new.self.weights c.way-way.ensures c.keep.ensures.only)
+    rw (c.set.ensures, c.way-way.ensures)
+    (comes_only c.args.weight c.keep.new.self.weights
+    (filled_comes c.keep.new.writer c.fill-given.new.writer c.is_tied-3.ensures refl
+    c.fill-given.ensures.fills.fills.published.gains)
+    c.keep.ensures.only)

@@ -7,8 +7,6 @@ pub let_one_go-requires-clause-some : goal.let_one_go-requires-clause-some
 let_one_go-requires-clause-some c none =
     let counts = c.count_values-count.ensures.counts in
     let empty =
-    no_values c.args.upquery.now.owed c.count_values-count.new.writer c.is_tied.ensures
-    (owes_still c.args.upquery.now.owed c.args.writer.now c.count_values-count.new.writer counts.rest.2
-    c.requires.owes)
+    no_values c.is_tied.ensures (owes_still c.count_values-count.new.writer counts.rest.2 c.requires.owes)
     (subst (λ (way : ℕ). HoldsNoOther way c.count_values-count.new.writer) c.way-way.ensures none) in
     absurd (omega (arith, empty, counts.is, c.if-count-self.true, c.requires.some))

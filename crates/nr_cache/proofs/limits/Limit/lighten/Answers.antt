@@ -1,4 +1,4 @@
-use Rattle.std.proofs.Common.{◌≤◌, ℕ, arith, refl, sym, subst, ◌∙◌}
+use Rattle.std.proofs.Common.{arith, refl, ◌∙◌}
 use Rattle.nr_cache.specs.Places as places
 use Rattle.nr_cache.specs.Weights.{stock_of}
 use Rattle.nr_cache.proofs.Weighing.{fits_alone}
@@ -21,29 +21,31 @@ too_heavy-init c = record {
 
 pub let_one_go-requires-clause-some : goal.let_one_go-requires-clause-some
 let_one_go-requires-clause-some c none =
+    let so_far = c.too_heavy.invariant in
     let is =
     c.fits.ensures.1
-    (fits_alone c.args.way c.args.weight c.too_heavy.self.weights c.too_heavy.writer c.too_heavy.invariant.only
-    (subst (λ (most : ℕ). c.args.weight ≤ most) (sym c.too_heavy.invariant.most) c.requires.light) none) in
+    (fits_alone c.args.way c.args.weight c.too_heavy.self.weights c.too_heavy.writer so_far.only
+    (omega (arith, so_far.most, c.requires.light)) none) in
     absurd (cc (is, c.too_heavy-test.true))
 
 pub too_heavy-preserved : goal.too_heavy-preserved
-too_heavy-preserved c = record {
-  own = c.let_one_go.ensures.own;
-  owes = λ way. c.let_one_go.ensures.owes way ∙ c.too_heavy.invariant.owes way;
-  values = c.let_one_go.ensures.values;
-  only = c.let_one_go.ensures.only;
-  hand = c.let_one_go.ensures.hand;
-  most = c.let_one_go.ensures.goes.lightens.most ∙ c.too_heavy.invariant.most;
-  lightens = places.OneMoreGoes
-      (stock_of c.args.writer.now c.args.self.now.weights c.args.self.now.hand)
-      (stock_of c.too_heavy.writer c.too_heavy.self.weights c.too_heavy.self.hand)
-      (stock_of c.let_one_go.new.writer c.let_one_go.new.self.weights c.let_one_go.new.self.hand)
-      c.too_heavy.invariant.lightens
-      (λ fits. let is = c.fits.ensures.1 fits in absurd (cc (is, c.too_heavy-test.true)))
-      c.let_one_go.ensures.goes;
-  mine = c.let_one_go.ensures.mine ∙ c.too_heavy.invariant.mine;
-  fewer = omega (arith, c.let_one_go.ensures.fewer, c.too_heavy.invariant.fewer);
-  asker = c.let_one_go.ensures.asker ∙ c.too_heavy.invariant.asker;
-  same = c.let_one_go.ensures.same ∙ c.too_heavy.invariant.same;
-}
+too_heavy-preserved c =
+    let so_far = c.too_heavy.invariant in
+    let step = c.let_one_go.ensures in
+    record {
+      own = step.own;
+      owes = λ way. step.owes way ∙ so_far.owes way;
+      values = step.values;
+      only = step.only;
+      hand = step.hand;
+      most = step.goes.lightens.most ∙ so_far.most;
+      lightens = places.OneMoreGoes
+          (stock_of c.args.writer.now c.args.self.now.weights c.args.self.now.hand)
+          (stock_of c.too_heavy.writer c.too_heavy.self.weights c.too_heavy.self.hand)
+          (stock_of c.let_one_go.new.writer c.let_one_go.new.self.weights c.let_one_go.new.self.hand) so_far.lightens
+          (λ fits. let is = c.fits.ensures.1 fits in absurd (cc (is, c.too_heavy-test.true))) step.goes;
+      mine = step.mine ∙ so_far.mine;
+      fewer = omega (arith, step.fewer, so_far.fewer);
+      asker = step.asker ∙ so_far.asker;
+      same = step.same ∙ so_far.same;
+    }

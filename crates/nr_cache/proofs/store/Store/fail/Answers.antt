@@ -1,25 +1,5 @@
 use Rattle.std.proofs.Common.{refl}
-use Rattle.nr_cache.proofs.Seen.{fails_from}
 use Rattle.nr_cache.proofs.store.Store.fail.Goals as goal
 
 pub returns : goal.returns
-returns c =
-    fails_from c.args.number
-    (record {
-      keeper = c.self.inside.writer;
-      asker = c.self.inside.asker;
-      underway = c.self.inside.flights;
-      capacity = c.self.inside.limit.capacity;
-      hand = c.self.inside.limit.hand;
-      load = c.self.inside.limit.weights;
-    })
-    c.args.self.now
-    (record {
-      keeper = c.self.inside.writer;
-      asker = c.self.inside.asker;
-      underway = c.end.new.self;
-      capacity = c.self.inside.limit.capacity;
-      hand = c.self.inside.limit.hand;
-      load = c.self.inside.limit.weights;
-    })
-    c.end.result c.self.view_is c.end.ensures.ends refl
+returns c = rw (← c.self.view_is) (record { ends = c.end.ensures.ends; rest = refl })

@@ -1,26 +1,14 @@
 use Rattle.std.proofs.Common.{refl}
-use Rattle.nr_cache.proofs.Seen.{invalidates_from}
 use Rattle.nr_cache.proofs.store.Store.invalidate.Goals as goal
 
 pub returns-clause-invalidates : goal.returns-clause-invalidates
 returns-clause-invalidates c =
-    invalidates_from c.args.id
+    rw (← c.self.view_is)
     (record {
-      keeper = c.self.inside.writer;
-      asker = c.self.inside.asker;
-      underway = c.self.inside.flights;
-      capacity = c.self.inside.limit.capacity;
-      hand = c.self.inside.limit.hand;
-      load = c.self.inside.limit.weights;
+      found = c.outdate.result;
+      outdates = c.outdate.ensures;
+      takes = c.let_go.ensures.loses;
+      gone = c.let_go.ensures.gone;
+      rest = refl;
+      weighs = (refl, refl, c.let_go.ensures.lightens);
     })
-    c.args.self.now
-    (record {
-      keeper = c.let_go.new.writer;
-      asker = c.self.inside.asker;
-      underway = c.outdate.new.self;
-      capacity = c.self.inside.limit.capacity;
-      hand = c.self.inside.limit.hand;
-      load = c.let_go.new.weights;
-    })
-    c.outdate.result c.let_go.result c.self.view_is c.outdate.ensures c.let_go.ensures.loses
-    c.let_go.ensures.gone refl (refl, refl, c.let_go.ensures.lightens)

@@ -1,26 +1,17 @@
 use Rattle.std.proofs.Common.{refl}
-use Rattle.nr_cache.proofs.Seen.{reaps_from}
+use Rattle.nr_cache.proofs.Quiets.{reap_moves}
 use Rattle.nr_cache.proofs.store.Store.reap.Goals as goal
 
 pub returns-clause-reaps : goal.returns-clause-reaps
 returns-clause-reaps g c =
-    reaps_from g.R.RowRoom.shows
+    let gives =
+    reap_moves g.R.RowRoom.shows c.self.inside.writer.writer c.reap.new.writer.writer c.args.had.now c.reap.new.had
+    c.reap.result c.reap.ensures.reaps in
+    rw (← c.self.view_is)
     (record {
-      keeper = c.self.inside.writer;
-      asker = c.self.inside.asker;
-      underway = c.self.inside.flights;
-      capacity = c.self.inside.limit.capacity;
-      hand = c.self.inside.limit.hand;
-      load = c.self.inside.limit.weights;
+      reaps = c.reap.ensures.reaps;
+      out = gives.0;
+      moves = gives.1;
+      gives = gives.2;
+      rest = (refl, refl, c.reap.ensures.clerk, c.reap.ensures.asker, (refl, refl, refl));
     })
-    c.args.self.now c.args.had.now
-    (record {
-      keeper = c.reap.new.writer;
-      asker = c.self.inside.asker;
-      underway = c.self.inside.flights;
-      capacity = c.self.inside.limit.capacity;
-      hand = c.self.inside.limit.hand;
-      load = c.self.inside.limit.weights;
-    })
-    c.reap.new.had c.reap.result c.self.view_is c.reap.ensures.reaps refl refl
-    c.reap.ensures.clerk c.reap.ensures.asker (refl, refl, refl)

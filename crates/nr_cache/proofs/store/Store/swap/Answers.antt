@@ -6,7 +6,6 @@ use Rattle.nr_cache.proofs.store.Store.swap.Goals as goal
 
 pub returns-in-Own-clause-swaps : goal.returns-in-Own-clause-swaps
 returns-in-Own-clause-swaps g c =
-    swaps_own g.R.RowRoom.shows c.args.id c.args.old c.args.weight c.args.self.now c.look.new.self c.args.had.now
-    c.put.new.self c.put.new.had c.unnamed_is_absent.ensures
+    swaps_own g.R.RowRoom.shows c.unnamed_is_absent.ensures
     (subst (λ (s : StoreSeen). IsTied s.keeper) c.self.view_is c.is_tied.ensures)
     (record { found = c.in-Some.found; looks = c.in-Some.ensures.looks; same = search rules }) c.in-Own.ensures.puts
