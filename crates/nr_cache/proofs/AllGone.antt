@@ -1,28 +1,14 @@
 -- Where no way has a value no id has one; so it is where the value of each way's id was taken.
-use Rattle.std.proofs.Common.{◌≡◌, ◌≤◌, ◌<◌, ℕ, inl, inr, true, Option, Some, None, refl, sym, ap, ◌∙◌, arith}
+use Rattle.std.proofs.Common.{◌≡◌, ◌≤◌, ◌<◌, ℕ, inl, inr, Option, Some, None, sym, ap, ◌∙◌, arith}
 use Rattle.std.proofs.lemmas.Bool.{cases_eq}
 use Rattle.nr_board.specs.Callers.{Table}
 use Rattle.nr_ids.specs.Answers.{FindsId}
 use Rattle.nr_ids.proofs.Calls.{clerk_looks}
 use Rattle.nr_idmap.specs.Keepers.{IsTied, Keeper, name_at}
 use Rattle.nr_idmap.specs.Tags.{id_set_of}
-use Rattle.nr_cache.specs.Places.{HasNoOther, HoldsNoOther, IsGone, TakesEach, TakesFrom}
-use Rattle.nr_cache.specs.Places as places
+use Rattle.nr_cache.specs.Places.{HasNoOther, HoldsNoOther, IsGone}
 use Rattle.nr_cache.specs.Weights.{value_at}
-use Rattle.nr_cache.proofs.Placing.{stays_quiet, takes_quiet}
-use Rattle.nr_cache.proofs.Quiets.{IsQuiet, quiet_same, quiet_then}
 use Rattle.nr_cache.proofs.Ways.{below_or_past, past_is_empty, unnamed_is_empty}
-
--- QUIET CALLS
-from_quiet : (named : Option ℕ) (old new : Keeper) → TakesFrom named old new → IsQuiet old.writer new.writer
-from_quiet None old new same = quiet_same (ap (λ (k : Keeper). k.writer) same)
-from_quiet (Some id) old new takes = takes_quiet id old new true takes
-
-pub each_quiet : {ways : ℕ} {old new : Keeper} → TakesEach ways old new → IsQuiet old.writer new.writer
-each_quiet (places.NoneTaken keeper) = quiet_same refl
-each_quiet (places.OneMoreTaken ways old mid new before takes) =
-    quiet_then (each_quiet before)
-    (quiet_then (stays_quiet takes.stays) (from_quiet takes.named takes.mid new takes.takes))
 
 -- NAMES
 -- a look at a way changes no name

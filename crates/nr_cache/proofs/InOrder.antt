@@ -7,10 +7,9 @@ use Rattle.std.specs.Option.{is_some}
 use Rattle.std.specs.List.{AllPairs, Contains, count_by, position}
 use Rattle.std.proofs.lemmas.Bool.{cases_eq, cases_order, eqb-false, eqb-true, eq-eqb, ne_eqb}
 use Rattle.std.proofs.lemmas.List.{get_or-map, get_or_default, length-map}
-use Rattle.std.proofs.lemmas.List.Elements.{Contains-append_cases}
+use Rattle.std.proofs.lemmas.List.Elements.{Contains-push_cases}
 use Rattle.std.proofs.lemmas.List.Quantifiers.{all_pairs_push, all_pairs_remove, position-Some}
 use Rattle.std.proofs.lemmas.List.Sums.{sum_by-cons, sum_by-le, sum_by-remove, sum_by_push}
-use Rattle.std.proofs.lemmas.Grind.{get_or_head}
 use Rattle.std.proofs.lemmas.Simd.{map-map}
 use Rattle.std.proofs.Math.Seq.{map-set_same}
 use Rattle.nr_cache.specs.declared.flights.Flight.{Flight}
@@ -49,11 +48,6 @@ count_none id ids none =
     omega (arith, fails)) in
     omega (arith, most)
 
-only_one : (flight other : Flight) → Contains (flight ∷ []) other → flight ≡ other
-only_one flight other h =
-    let first : h.0 ≡ 0 = let within = h.1 in omega (arith, within) in
-    sym (get_or_head flight [] h.0 other first) ∙ h.2
-
 -- a flight whose value is to be held began while its id wasn't being changed
 begins_quiet : (history : List Event) (old : Underway) (flight : Flight) (id mark : ℕ) → Stays history old
     → flight ≡ record { id = id; number = old.begun + 1; mark = mark; fate = fate_of (is_changing id old) }
@@ -86,9 +80,9 @@ begin history old new flight id mark stays free does =
           let more = sum_by_push (λ (f : Flight). cond (has_number number f) 1 0) old.flights flight in
           omega (arith, stays.each number, more);
       changes = stays.changes;
-      fresh = λ f there held. elim (Contains-append_cases old.flights (flight ∷ []) f there) [
+      fresh = λ f there held. elim (Contains-push_cases old.flights flight f there) [
         | inl before ↦ inr (stays.fresh f before held)
-        | inr last ↦ let same = only_one flight f last in
+        | inr same ↦
             inl (
               same,
               subst (λ (f : Flight). f.fate ≡ Hold → changes_of f.id history ≡ 0) same

@@ -7,6 +7,7 @@ mod Ways
 mod Brought
 mod Filled
 mod Quiets
+mod QuietSteps
 mod Shown
 mod Gone
 mod Weighing
@@ -17,7 +18,6 @@ mod Placing
 mod Comes
 mod AllGone
 mod LookingAt
-mod GoingFirst
 mod Older
 mod Seen
 mod Opening

@@ -1,28 +1,22 @@
 -- What the store's own look at an id's way tells.
-use Rattle.std.proofs.Common.{◌≡◌, ◌<◌, ℕ, inl, inr, List, [], ◌∷◌, drop, Option, Some, None, refl, sym, ap, ◌∙◌, subst}
+use Rattle.std.proofs.Common.{◌≡◌, ◌<◌, ℕ, inl, inr, List, [], ◌∷◌, drop, sym, ap, ◌∙◌, subst}
 use Rattle.nr_model.specs.declared.rows.Row.{Row}
-use Rattle.nr_model.specs.declared.calls.Call.TheVariants.{Find}
-use Rattle.nr_model.specs.declared.calls.Reply.TheVariants as reply
 use Rattle.nr_board.specs.Callers.{map_seen}
 use Rattle.nr_idmap.specs.IdLaws.{UnnamedIsAbsent}
 use Rattle.nr_idmap.specs.IdLooks.{LooksInWay}
 use Rattle.nr_idmap.specs.Keepers.{IsTied, Keeper}
 use Rattle.nr_idmap.specs.Tags.{IsResident, tag_of}
-use Rattle.nr_map.specs.GivenBack as back
-use Rattle.nr_cache.specs.declared.finds.FoundValue.{FoundValue}
 use Rattle.nr_cache.specs.Finds.{tells_value}
 use Rattle.nr_cache.specs.Flights.{Underway, is_changing}
 use Rattle.nr_cache.specs.Places.{LooksAtValue}
 use Rattle.nr_cache.specs.StoreSeen.{StoreSeen}
 use Rattle.nr_cache.specs.Stores.{PutsOwn}
 use Rattle.nr_cache.specs.Swaps.{FindsOld, SwapsOwn}
-use Rattle.nr_cache.specs.Values.{BringsValues, row_of, set_of}
+use Rattle.nr_cache.specs.Values.{BringsValues, row_of}
 use Rattle.nr_cache.specs.Weights.{Load}
 use Rattle.nr_cache.proofs.Brought.{is_value}
 use Rattle.nr_cache.proofs.Gone.{found_none, is_gone}
 use Rattle.nr_cache.proofs.LastCalls.{found_has}
-use Rattle.nr_cache.proofs.Placing.{stays_quiet}
-use Rattle.nr_cache.proofs.Quiets.{IsQuiet, quiet_undone}
 use Rattle.nr_cache.proofs.WriterCalls.{called, writes}
 
 -- the rows behind the tag are a value's
@@ -38,14 +32,6 @@ looked_at id way rows old new tied later stays brings looks =
       stays,
       subst (λ (r : List Row). IsResident (map_seen new.writer) id r) same (way, has),
     )
-
-pub look_quiet : (id : ℕ) (old new : Keeper) (found : Option FoundValue) → LooksAtValue id old new found
-    → IsQuiet old.writer new.writer
-look_quiet id old new (Some found) (way, looks, stays, has) =
-    let set = set_of id found.stamp found.value in
-    quiet_undone refl looks.1
-    (λ Room shows. back.Quiet _ (Find way) (reply.Rows set) old.writer new.writer refl looks.1 looks.2)
-look_quiet id old new None looks = stays_quiet looks.0.1
 
 -- A SWAP
 -- an id that has a value has a place, so a put that is refused finds the id being changed

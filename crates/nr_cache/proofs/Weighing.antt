@@ -1,11 +1,11 @@
 -- What ways weigh after a step: a way that lost its value weighs nothing, one that got a value weighs that, and each
 -- other what it did.
-use Rattle.std.proofs.Common.{◌≡◌, ◌≢◌, ◌<◌, ◌≤◌, ℕ, suc, List, [], ◌∷◌, inl, inr, None}
+use Rattle.std.proofs.Common.{◌≡◌, ◌≢◌, ◌<◌, ◌≤◌, ℕ, zero, suc, List, [], ◌∷◌, inl, inr, None}
 use Rattle.std.proofs.Common.{refl, sym, ap, ◌∙◌, arith, length, get_or, set}
 use Rattle.std.specs.List.{sum}
 use Rattle.std.proofs.lemmas.Bool.{cases_eq}
 use Rattle.std.proofs.lemmas.List.{get_or_past, get_or-set_other, get_or-set_same, length-set}
-use Rattle.std.proofs.lemmas.List.Sums.{sum_by-cons, sum_by-set}
+use Rattle.std.proofs.lemmas.List.Sums.{sum_by-cons}
 use Rattle.nr_board.specs.Callers.{Caller, map_seen}
 use Rattle.nr_board.specs.Meetings.{with_step}
 use Rattle.nr_ids.specs.declared.admissions.Refused.{Refused}
@@ -35,23 +35,14 @@ all_zero (weight ∷ each) none =
 
 -- where no other way weighs anything all do what this one does
 alone : (each : List ℕ) (way : ℕ) → ((other : ℕ) → other ≢ way → get_or each other 0 ≡ 0) → sum each ≡ get_or each way 0
-alone each way none = elim (below_or_past way (length each)) [
-  | inl near ↦
-      omega (arith, all_zero (set each way 0) without, sum_by-set (λ (x : ℕ). x) each way 0 0 near)
-  | inr past ↦
-      let here = get_or_past each way 0 past in
-      all_zero each (λ other. elim (cases_eq other way) [
-        | inl same ↦ rw same here
-        | inr differs ↦ none other differs
-      ])
-      ∙ sym here
-]
-  where
-    without : (other : ℕ) → get_or (set each way 0) other 0 ≡ 0
-    without other = elim (cases_eq other way) [
-      | inl same ↦ rw same (zero_there each way)
-      | inr differs ↦ get_or-set_other each way other 0 0 differs ∙ none other differs
-    ]
+alone [] way none = refl
+alone (weight ∷ each) zero none =
+    let rest = all_zero each (λ way. none (suc way) (λ same. absurd (omega (arith, same)))) in
+    omega (arith, sum_by-cons (λ (x : ℕ). x) weight each, rest)
+alone (weight ∷ each) (suc way) none =
+    let first : weight ≡ 0 = none 0 (λ same. absurd (omega (arith, same))) in
+    let rest = alone each way (λ other differs. none (suc other) (λ same. differs (omega (arith, same)))) in
+    omega (arith, sum_by-cons (λ (x : ℕ). x) weight each, first, rest)
 
 -- LIGHTER
 pub lightens_same : (old new : Keeper) {load : Load} → ((way : ℕ) → value_at new way ≡ value_at old way)
