@@ -41,6 +41,19 @@ pub returns-clause-owes : goal.returns-clause-owes
 returns-clause-owes g c way =
     c.replace_reclaiming.ensures.owes way ∙ c.lighten.ensures.owes way ∙ c.requires.owes way
 
+pub returns-clause-only : goal.returns-clause-only
+returns-clause-only g c =
+    let (real, was) = c.requires.named in
+    let replaces = c.in-Ok.ensures.replaces in
+    let named =
+    named_still c.args.way c.args.id c.is_tied.ensures c.is_tied-2.ensures (c.requires.owes c.args.way) real was
+    c.lighten.ensures.mine in
+    rw c.set.ensures
+    (comes_only c.args.weight c.lighten.new.self.weights
+    (replaced_comes c.args.way c.lighten.new.writer c.replace_reclaiming.new.writer c.is_tied-2.ensures real named
+    replaces.1 replaces.2.published.gains)
+    c.lighten.ensures.only)
+
 pub returns-clause-replaces : goal.returns-clause-replaces
 returns-clause-replaces g c =
     let (real, was) = c.requires.named in
@@ -61,19 +74,6 @@ returns-clause-replaces g c =
       weighs = c.set.ensures;
       still = (c.replace_reclaiming.ensures.asker ∙ lighter.asker, refl);
     }
-
-pub returns-clause-only : goal.returns-clause-only
-returns-clause-only g c =
-    let (real, was) = c.requires.named in
-    let replaces = c.in-Ok.ensures.replaces in
-    let named =
-    named_still c.args.way c.args.id c.is_tied.ensures c.is_tied-2.ensures (c.requires.owes c.args.way) real was
-    c.lighten.ensures.mine in
-    rw c.set.ensures
-    (comes_only c.args.weight c.lighten.new.self.weights
-    (replaced_comes c.args.way c.lighten.new.writer c.replace_reclaiming.new.writer c.is_tied-2.ensures real named
-    replaces.1 replaces.2.published.gains)
-    c.lighten.ensures.only)
 
 pub returns-clause-within : goal.returns-clause-within
 returns-clause-within g c =
