@@ -1,5 +1,5 @@
 -- Each call is one entry, by the words of its contract; a write without a slot is none.
-use Rattle.std.proofs.Common.{◌≡◌, ℕ, ◌+◌, ◌*◌, ◌⊎◌, ◌∙◌, List, [], ◌∷◌, ◌++◌, length, append_assoc, ap, arith, subst}
+use Rattle.std.proofs.Common.{◌≡◌, ℕ, ◌+◌, ◌*◌, ◌∙◌, List, [], ◌∷◌, ◌++◌, length, append_assoc, ap, arith, subst}
 use Rattle.std.proofs.Common.{Some, Result, Ok, Err, ⊎_elim, sym}
 use Rattle.std.proofs.lemmas.List.Sums.{count_by-le-length}
 use Rattle.nr_model.specs.declared.batches.Delta.{Delta}

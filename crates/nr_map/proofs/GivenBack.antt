@@ -5,55 +5,37 @@ use Rattle.std.proofs.Common.{get_or-set_same, inl, inr, length, length-append, 
 use Rattle.std.proofs.Common.{sym, true, zero, ℕ, ⊎_elim, ◌++◌, ◌+◌, ◌<◌, ◌∙◌, ◌∷◌, ◌≡◌, ◌≢◌, ◌⊎◌, ◌*◌}
 use Rattle.std.proofs.lemmas.Bool.{le-ltb, lt-ltb}
 use Rattle.std.proofs.lemmas.List.{length-replicate}
-use Rattle.std.specs.Prelude.{Err, nat_lt}
+use Rattle.std.specs.Prelude.{nat_lt}
 use lib.ListN.{get_elem?}
 use mathlib.Core.Logic.{dite}
 use mathlib.Core.Option.{some, some-injective, some-ne-none}
 use native.Mathlib.Decide.{ℕ_discrete}
 use Rattle.nr_core.proofs.Choices.{by_cases}
-use Rattle.nr_core.specs.SlotLists.{SlotLists}
-use Rattle.nr_core.specs.declared.calls.NoSlot.{NoSlot}
-use Rattle.nr_core.specs.declared.places.Retired.{Retired}
 use Rattle.nr_core.specs.declared.shape.Shape.{Shape}
-use Rattle.nr_model.specs.Histories.{is_done}
 use Rattle.nr_model.specs.Strays.{count_of_put}
-use Rattle.nr_model.specs.declared.batches.Delta.{Delta}
 use Rattle.nr_model.specs.declared.calls.Call.{Call}
 use Rattle.nr_model.specs.declared.calls.Call.TheVariants as model
-use Rattle.nr_model.specs.declared.calls.Reply.{Reply}
-use Rattle.nr_model.specs.declared.calls.Reply.TheVariants as reply
 use Rattle.nr_model.specs.declared.rows.Row.{Row}
-use Rattle.nr_core.specs.Marks.{Marks, Past, LoggedLoad, is_reaped, set_in, with_scan}
-use Rattle.nr_core.specs.Pasts.{Living}
+use Rattle.nr_core.specs.Marks.{Marks, is_reaped, set_in}
 use Rattle.nr_core.specs.Puts.{put_count}
-use Rattle.nr_board.specs.declared.answers.Cancel.{Cancel}
-use Rattle.nr_board.specs.declared.answers.Cancel.TheVariants as cancel
-use Rattle.nr_board.specs.declared.answers.Evict.{Evict}
-use Rattle.nr_board.specs.declared.answers.Evict.TheVariants as evict
-use Rattle.nr_board.specs.declared.answers.FillFault.{FillFault}
-use Rattle.nr_board.specs.declared.answers.FillFault.TheVariants as fill
 use Rattle.nr_board.specs.declared.answers.Reaped.TheVariants as reaped
 use Rattle.nr_board.specs.declared.answers.Reclaimed.{Reclaimed}
 use Rattle.nr_board.specs.declared.answers.Reclaimed.TheVariants as reclaimed
-use Rattle.nr_board.specs.declared.answers.ReplaceFault.{ReplaceFault}
-use Rattle.nr_board.specs.declared.answers.ReplaceFault.TheVariants as replace
-use Rattle.nr_board.specs.declared.answers.UpdateFault.{UpdateFault}
-use Rattle.nr_board.specs.declared.answers.UpdateFault.TheVariants as update
-use Rattle.nr_board.specs.Callers.{Caller, Gains, Table}
-use Rattle.nr_board.specs.Meetings.{Learns}
+use Rattle.nr_board.specs.Callers.{Caller, Table}
 use Rattle.nr_board.specs.Reaping.{ReapsIn}
 use Rattle.nr_board.specs.Reclaiming.{HandsOutAt}
 use Rattle.nr_board.specs.SlotLists.{lists_of}
-use Rattle.nr_board.specs.WriterAnswers.{CancelsKey, EvictsKey, FillsKey, HasNoSlot, Publishes, ReplacesKey, SlotsStay}
-use Rattle.nr_board.specs.WriterAnswers.{UpdatesKey}
+use Rattle.nr_board.specs.WriterAnswers.{Publishes}
 use Rattle.nr_map.specs.GivenBack.{Cancels, Deals, EachSetComesOutOnce, Evicts, FillRefused, Fills, Goes, Lacks}
 use Rattle.nr_map.specs.GivenBack.{LearnsMore, Opens, Quiet, ReapHeld, ReapNothing, Reaps, ReplaceRefused, Replaces}
 use Rattle.nr_map.specs.GivenBack.{Rests, Run, UpdateRefused, Updates, given_by, rows_put}
 use Rattle.nr_map.specs.Reclaims.{Ledger, had_number}
 use Rattle.nr_map.specs.Remains.{Given, given_at, numbers}
-use Rattle.nr_map.proofs.Ledgers.{cancel_leaves_lem, count_both, eviction_leaves_lem, flags_are, ledger_goes_on}
-use Rattle.nr_map.proofs.Ledgers.{ledger_stays_lem, no_slot_leaves_lem, number_is, opening_begins_lem, put_now}
-use Rattle.nr_map.proofs.Ledgers.{puts_are, quiet_leaves_lem, quiet_puts, reaped_once_lem, stands_once, ready_there}
+use Rattle.nr_map.proofs.Keeping.{KeepsSets, cancel_keeps, evict_keeps, fill_keeps, kept_ledger, lacks_keeps}
+use Rattle.nr_map.proofs.Keeping.{learns_keeps, quiet_keeps, replace_keeps, rests_keeps, update_keeps}
+use Rattle.nr_map.proofs.Ledgers.{flags_are, ledger_goes_on, number_is, opening_begins_lem, put_now, puts_are}
+use Rattle.nr_map.proofs.Ledgers.{reaped_once_lem, ready_there, stands_once}
+use Rattle.nr_map.proofs.Standing.{count_both}
 use Rattle.nr_map.proofs.Remainders.{StandsIn, rest_comes_out_once_lem, rest_stands}
 
 -- LISTS
@@ -279,111 +261,21 @@ module _ {Room : Type 0} (shows : Room → List Row → Type 0) (old new : Calle
 
 -- CALLS THAT LEAVE THE SETS
 
-module _ (old new : Caller) (put : List (List Row)) (given : List Given) (books : Books old put given) where
-  books_stay : Ledger new (numbers given) → new.number ≡ old.number → new.table ≡ old.table → new.fresh ≡ old.fresh
-      → new.marks.puts ≡ old.marks.puts → new.marks.sets ≡ old.marks.sets
-      → new.marks.reaped ≡ old.marks.reaped → put_count new.mine ≡ put_count old.mine
-      → Books new (put ++ []) (given ++ [])
-  books_stay ledger number table fresh puts sets flags many =
-      subst (λ (b : List (List Row) × List Given). Books new b.0 b.1)
-      (λ j. (sym (append-nil put) j, sym (append-nil given) j)) (record {
-        writes = number ∙ books.writes;
-        ledger = ledger;
-        count = books.count ∙ sym many;
-        many = ap length sets ∙ books.many ∙ sym (ap (λ (t : Table). t.shape.slots) table);
-        stand = λ slot low kept. ap (λ (l : List (List Row)). get_or l slot []) sets
-            ∙ books.stand slot (omega (arith, low, fresh))
-            (sym (ap (λ (l : List Bool). get_or l slot false) flags) ∙ kept)
-            ∙ ap (λ (l : List ℕ). rows_put put (get_or l slot 0)) (sym puts);
-        gave = books.gave;
-      })
-
-  quiet_goes_on : (steps : ℕ) (call : Call) (answer : Reply) → is_done answer ≡ false → Gains steps call old new answer
-      → SlotsStay old new → Books new (put ++ []) (given ++ [])
-  quiet_goes_on steps call answer quiet gains stays =
-      books_stay (quiet_leaves_lem steps call answer old new (numbers given) quiet gains stays books.ledger)
-      gains.number gains.table
-      (ap (λ (s : SlotLists). s.fresh) stays.0) (ap (λ (m : Marks). m.puts) stays.1)
-      (ap (λ (m : Marks). m.sets) stays.1)
-      (ap (λ (m : Marks). m.reaped) stays.1) (quiet_puts steps call answer old new quiet gains)
-
-  without_goes_on : (steps : ℕ) (call : Call) (counts : NoSlot) → HasNoSlot steps call old new counts
-      → Books new (put ++ []) (given ++ [])
-  without_goes_on steps call counts without =
-      books_stay (no_slot_leaves_lem steps call counts old new (numbers given) without books.ledger)
-      without.grows.number without.grows.table
-      (ap (λ (s : SlotLists). s.fresh) without.slots) (ap (λ (m : Marks). m.puts) without.marks)
-      (ap (λ (m : Marks). m.sets) without.marks) (ap (λ (m : Marks). m.reaped) without.marks)
-      (ap put_count (without.grows.mine ∙ append-nil old.mine))
-
-  learning_goes_on : (steps : ℕ) → Learns steps old new → Books new (put ++ []) (given ++ [])
-  learning_goes_on steps learns = let many = ap put_count learns.mine in
-      books_stay
-      (ledger_stays_lem old new (numbers given) learns.table learns.fresh (ap (λ (m : Marks). m.puts) learns.marks)
-      (ap (λ (m : Marks). m.reaped) learns.marks)
-      (λ slot lives. subst (λ (p : List Retired × Marks). Living p.0 p.1 slot) (λ j. (learns.retired j, learns.marks j))
-      lives)
-      many books.ledger)
-      learns.number learns.table learns.fresh (ap (λ (m : Marks). m.puts) learns.marks)
-      (ap (λ (m : Marks). m.sets) learns.marks) (ap (λ (m : Marks). m.reaped) learns.marks) many
-
-  fill_refused : (key number : ℕ) (rows : List Row) (fault : FillFault) → FillsKey key number rows old new (Err fault)
-      → Books new (put ++ []) (given ++ [])
-  fill_refused key number rows fill.NotAsked says =
-      quiet_goes_on 1 (model.Fill key number rows) reply.NotAsked refl says.0 says.1
-  fill_refused key number rows fill.Already says =
-      quiet_goes_on 1 (model.Fill key number rows) reply.Already refl says.0 says.1
-  fill_refused key number rows fill.Stale says =
-      quiet_goes_on 1 (model.Fill key number rows) reply.Stale refl says.0 says.1
-  fill_refused key number rows (fill.NoSlot counts) says = without_goes_on 1 (model.Fill key number rows) counts says
-
-  replace_refused : (key : ℕ) (rows : List Row) (fault : ReplaceFault) → ReplacesKey key rows old new (Err fault)
-      → Books new (put ++ []) (given ++ [])
-  replace_refused key rows replace.Dropped says =
-      quiet_goes_on 1 (model.Replace key rows) reply.Dropped refl says.0 says.1
-  replace_refused key rows (replace.NoSlot counts) says = without_goes_on 1 (model.Replace key rows) counts says
-
-  update_refused : (bound key : ℕ) (batch : List Delta) (fault : UpdateFault)
-      → UpdatesKey bound key batch old new (Err fault) → Books new (put ++ []) (given ++ [])
-  update_refused bound key batch update.Dropped says =
-      quiet_goes_on 1 (model.Update key batch) reply.Dropped refl says.0 says.1
-  update_refused bound key batch update.NoRow says =
-      quiet_goes_on (2 * length says.0 + 2) (model.Update key batch) reply.NoRow refl says.2 says.4
-  update_refused bound key batch update.TooMany says =
-      quiet_goes_on (2 * length says.0 + 2) (model.Update key batch) reply.TooMany refl says.2 says.4
-  update_refused bound key batch (update.NoSlot counts) says =
-      without_goes_on (2 * length says.0 + 2) (model.Update key batch) counts says.3
-
-  evict_goes_on : (key : ℕ) (answer : Evict) → EvictsKey key old new answer → Books new (put ++ []) (given ++ [])
-  evict_goes_on key evict.Nothing says = quiet_goes_on 1 (model.Evict key) reply.Nothing refl says.0 says.1
-  evict_goes_on key evict.Evicted says =
-      books_stay (eviction_leaves_lem key old new evict.Evicted (numbers given) says books.ledger) says.0.number
-      says.0.table says.1
-      (ap (λ (m : Marks). m.puts) says.4) (ap (λ (m : Marks). m.sets) says.4) (ap (λ (m : Marks). m.reaped) says.4)
-      (quiet_puts 2 (model.Evict key) reply.Evicted old new refl says.0)
-
-  cancel_goes_on : (key : ℕ) (answer : Cancel) → CancelsKey key old new answer → Books new (put ++ []) (given ++ [])
-  cancel_goes_on key cancel.Cancelled says =
-      books_stay (cancel_leaves_lem key old new cancel.Cancelled (numbers given) says books.ledger) says.0.number
-      says.0.table
-      (ap (λ (s : SlotLists). s.fresh) says.1) (ap (λ (m : Marks). m.puts) says.2) (ap (λ (m : Marks). m.sets) says.2)
-      (ap (λ (m : Marks). m.reaped) says.2) (quiet_puts 2 (model.Cancel key) reply.Cancelled old new refl says.0)
-  cancel_goes_on key cancel.Nothing says = quiet_goes_on 1 (model.Cancel key) reply.Nothing refl says.0 says.1
-  cancel_goes_on key cancel.Worn says = quiet_goes_on 1 (model.Cancel key) reply.Worn refl says.0 says.1
-
-  -- only its steps, polls and loads and what it heard are others
-  same_goes_on : (steps : ℕ) (polls : List Past) (loads : List LoggedLoad) (heard : List ℕ)
-      → new ≡ record old { steps = steps; marks = with_scan old.marks polls loads; heard = heard }
-      → Books new (put ++ []) (given ++ [])
-  same_goes_on steps polls loads heard is =
-      let table = ap (λ (c : Caller). c.table) is in
-      let fresh = ap (λ (c : Caller). c.fresh) is in
-      let many = ap (λ (c : Caller). put_count c.mine) is in
-      let puts = ap (λ (c : Caller). c.marks.puts) is in let flags = ap (λ (c : Caller). c.marks.reaped) is in
-      books_stay
-      (ledger_stays_lem old new (numbers given) table fresh puts flags
-      (λ slot lives. subst (λ (c : Caller). Living c.retired c.marks slot) is lives) many books.ledger)
-      (ap (λ (c : Caller). c.number) is) table fresh puts (ap (λ (c : Caller). c.marks.sets) is) flags many
+books_stay : (old new : Caller) (put : List (List Row)) (given : List Given) → KeepsSets old new → Books old put given
+    → Books new (put ++ []) (given ++ [])
+books_stay old new put given kept books =
+    subst (λ (b : List (List Row) × List Given). Books new b.0 b.1)
+    (λ j. (sym (append-nil put) j, sym (append-nil given) j)) (record {
+      writes = kept.number ∙ books.writes;
+      ledger = kept_ledger old new (numbers given) kept books.ledger;
+      count = books.count ∙ sym kept.many;
+      many = ap length kept.sets ∙ books.many ∙ sym (ap (λ (t : Table). t.shape.slots) kept.table);
+      stand = λ slot low flag. ap (λ (l : List (List Row)). get_or l slot []) kept.sets
+          ∙ books.stand slot (omega (arith, low, kept.fresh))
+          (sym (ap (λ (l : List Bool). get_or l slot false) kept.reaped) ∙ flag)
+          ∙ ap (λ (l : List ℕ). rows_put put (get_or l slot 0)) (sym kept.puts);
+      gave = books.gave;
+    })
 
 -- EVERY RUN
 
@@ -395,33 +287,36 @@ module _ {Room : Type 0} (shows : Room → List Row → Type 0) where
       gave_back shows 1 (model.Fill key number rows) rows old new before after put given books done.steps done.published
       back done.gives
   deal_goes_on put given (FillRefused key number rows old new before after fault says) books =
-      fill_refused old new put given books key number rows fault says.0
+      books_stay old new put given (fill_keeps old new key number rows fault says.0) books
   deal_goes_on put given (Updates bound key batch old new before after back done) books =
       gave_back shows (2 * length done.set + 2) (model.Update key batch) done.left old new before after put given books
       done.steps done.published back done.gives
   deal_goes_on put given (UpdateRefused bound key batch old new before after fault says) books =
-      update_refused old new put given books bound key batch fault says.0
+      books_stay old new put given (update_keeps old new bound key batch fault says.0) books
   deal_goes_on put given (Replaces key rows old new before after back done) books =
       gave_back shows 1 (model.Replace key rows) rows old new before after put given books done.steps done.published
       back done.gives
   deal_goes_on put given (ReplaceRefused key rows old new before after fault says) books =
-      replace_refused old new put given books key rows fault says.0
+      books_stay old new put given (replace_keeps old new key rows fault says.0) books
   deal_goes_on put given (Reaps old new before after done) books =
       reap_goes_on shows old new before after put given books done
   deal_goes_on put given (ReapHeld old new before after says) books =
-      same_goes_on old new put given books _ _ _ _ says.8
+      books_stay old new put given (rests_keeps old new _ _ _ _ says.8) books
   deal_goes_on put given (ReapNothing old new before after says) books =
-      same_goes_on old new put given books old.steps old.marks.polls old.marks.loads old.heard says.1
-  deal_goes_on put given (Evicts key old new answer says) books = evict_goes_on old new put given books key answer says
+      books_stay old new put given (rests_keeps old new old.steps old.marks.polls old.marks.loads old.heard says.1) books
+  deal_goes_on put given (Evicts key old new answer says) books =
+      books_stay old new put given (evict_keeps old new key answer says) books
   deal_goes_on put given (Cancels key old new answer says) books =
-      cancel_goes_on old new put given books key answer says
+      books_stay old new put given (cancel_keeps old new key answer says) books
   deal_goes_on put given (Quiet steps call answer old new quiet gains stays) books =
-      quiet_goes_on old new put given books steps call answer quiet gains stays
+      books_stay old new put given (quiet_keeps old new steps call answer quiet gains stays) books
   deal_goes_on put given (Lacks steps call counts old new without) books =
-      without_goes_on old new put given books steps call counts without
-  deal_goes_on put given (LearnsMore steps old new says) books = learning_goes_on old new put given books steps says
+      books_stay old new put given (lacks_keeps old new steps call counts without) books
+  deal_goes_on put given (LearnsMore steps old new says) books =
+      books_stay old new put given (learns_keeps old new steps says) books
   deal_goes_on put given (Rests steps old new says) books =
-      same_goes_on old new put given books (old.steps + steps) old.marks.polls old.marks.loads old.heard says
+      books_stay old new put given
+      (rests_keeps old new (old.steps + steps) old.marks.polls old.marks.loads old.heard says) books
 
   run_books : {writer : Caller} {put : List (List Row)} {given : List Given} → Run shows writer put given
       → Books writer put given

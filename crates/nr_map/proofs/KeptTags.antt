@@ -1,5 +1,5 @@
 -- What a hand that keeps its hold read of a set that may begin with a tag.
-use Rattle.std.proofs.Common.{◌≡◌, ℕ, suc, ◌+◌, ◌-◌, ◌*◌, List, [], ◌∷◌, length, drop, ap, ◌∙◌, sym, subst, arith, true}
+use Rattle.std.proofs.Common.{◌≡◌, ℕ, suc, ◌-◌, ◌*◌, List, ◌∷◌, length, drop, ap, ◌∙◌, sym, subst, arith, true}
 use Rattle.std.specs.Prelude.{min}
 use Rattle.nr_model.specs.declared.rows.Row.{Row}
 use Rattle.nr_map.specs.Hands.{CopiesHeld, FindsAndReads, Handed, KeepsByHand}

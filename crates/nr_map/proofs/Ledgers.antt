@@ -1,45 +1,44 @@
 -- The sets that stand in slots and those that were let go, call by call: a call that puts a set lets go of the one that
 -- its slot had, and a reap of the one that it gives out.
-use Rattle.std.proofs.Common.{Bool, List, [], ap, arith, cond, drop, eq-eqb, false, get_or, get_or-set_other}
+use Rattle.std.proofs.Common.{Bool, List, [], ap, arith, cond, drop, false, get_or, get_or-set_other}
 use Rattle.std.proofs.Common.{get_or-set_same, inl, inr, length, length-append, length-set, nat_eq, refl, set, subst}
 use Rattle.std.proofs.Common.{suc, sym, take, true, zero, ℕ, ⊎_elim, ◌++◌, ◌+◌, ◌<◌, ◌∙◌, ◌∷◌, ◌≡◌, ◌≤◌, ◌≢◌, ◌⊎◌}
-use Rattle.std.specs.Prelude.{◌||◌, Some, replicate}
-use Rattle.std.proofs.lemmas.Bool.{eqb-false, le-ltb, lt-ltb, ne_eqb}
-use Rattle.std.proofs.lemmas.List.{get_or-take, length-replicate, length-take-le, take_all}
+use Rattle.std.specs.Prelude.{◌||◌, Some, nat_lt, replicate}
+use Rattle.std.proofs.lemmas.Bool.{eqb-false, le-ltb, lt-ltb}
+use Rattle.std.proofs.lemmas.List.{length-replicate}
 use lib.ListN.{get_elem?}
 use mathlib.Core.Logic.{dite}
 use mathlib.Core.Option.{some, some-injective, some-ne-none}
 use native.Mathlib.Decide.{dec_le, ℕ_discrete}
 use Rattle.nr_core.proofs.Choices.{by_cases}
-use Rattle.nr_core.proofs.Sums.{at_remove, at_snoc, total-append}
+use Rattle.nr_core.proofs.Sums.{at_remove, at_snoc, below-change, below-same, below-term, only-other, only-same}
+use Rattle.nr_core.proofs.Sums.{total-append}
+use Rattle.nr_core.specs.Sums.{below, only}
 use Rattle.nr_core.specs.declared.places.Retired.{Retired}
 use Rattle.nr_core.specs.declared.shape.Shape.{Shape}
-use Rattle.nr_model.proofs.HistoryLemmas.{count_by-cons}
 use Rattle.nr_model.specs.Histories.{Entry, IsLegal, entries_of, is_done}
 use Rattle.nr_model.specs.Maps.{PartialMap, ask_reply, call_key, find_reply, next, reply_to, state_of}
 use Rattle.nr_model.specs.Strays.{count_of_put}
 use Rattle.nr_model.specs.declared.calls.Call.{Call}
 use Rattle.nr_model.specs.declared.calls.Call.TheVariants as model
-use Rattle.nr_model.specs.declared.calls.Reply.{Reply}
 use Rattle.nr_model.specs.declared.calls.Reply.TheVariants as reply
 use Rattle.nr_model.specs.declared.rows.Row.{Row}
 use Rattle.nr_model.specs.declared.states.KeyState.{KeyState}
 use Rattle.nr_model.specs.declared.states.KeyState.TheVariants.{Asked, Hole, Rows}
 use Rattle.nr_core.specs.Story.{entry}
-use Rattle.nr_core.specs.Marks.{Marks, Past, LoggedLoad, with_scan}
+use Rattle.nr_core.specs.Marks.{Marks}
 use Rattle.nr_core.specs.Pasts.{Living}
 use Rattle.nr_core.specs.Puts.{put_count, puts_set}
-use Rattle.nr_board.specs.declared.answers.Cancel.TheVariants as cancel
-use Rattle.nr_board.specs.declared.answers.Evict.TheVariants as evict
-use Rattle.nr_board.specs.Callers.{Caller, Gains, Table, map_at_opening}
+use Rattle.nr_board.specs.Callers.{Caller, Table, map_at_opening}
 use Rattle.nr_board.specs.Entries.{AreCallers, is_reading}
-use Rattle.nr_core.specs.SlotLists.{SlotLists}
 use Rattle.nr_board.specs.Reaping.{ready_to}
 use Rattle.nr_board.specs.SlotLists.{not_passed}
 use Rattle.nr_board.specs.WriterAnswers.{Publishes, Retires, RetiresOne}
-use Rattle.nr_map.specs.Reclaims.{CancelLeaves, EvictionLeaves, GatheredStands, HandedOutOnce, Ledger, LedgerStays}
-use Rattle.nr_map.specs.Reclaims.{NobodyHoldsIt, NoSlotLeaves, OpeningBegins, QuietLeaves, ReapedOnce, StandsAfterReap}
+use Rattle.nr_map.specs.Reclaims.{GatheredStands, HandedOutOnce, Ledger, LedgerStays}
+use Rattle.nr_map.specs.Reclaims.{NobodyHoldsIt, OpeningBegins, ReapedOnce, StandsAfterReap}
 use Rattle.nr_map.specs.Reclaims.{StandsYet, had_number, standing, unreaped}
+use Rattle.nr_map.proofs.Standing.{count_both, count_cons, count_had, count_standing, stands_at, stands_nowhere}
+use Rattle.nr_map.proofs.Standing.{stands_there}
 
 -- THE WRITER'S PUTS ARE ITS OWN ENTRIES'
 
@@ -78,112 +77,6 @@ own_puts shape map (e ∷ log) legal callers =
     (λ reads. ap is_done legal.0 ∙ reading_puts_none map e.call reads.1) callers.0.1 in
     let none : puts_set e ≡ 0 = ap (λ (b : Bool). cond {A = ℕ} b 1 0) quiet in omega (arith, rest))
 
--- COUNTS IN LISTS
-
--- 1 where they are the same
-abbrev one_if : ℕ → ℕ → ℕ
-one_if number other = cond (nat_eq other number) 1 0
-
-one_if_same : (number other : ℕ) → other ≡ number → one_if number other ≡ 1
-one_if_same number other same = ap (λ (b : Bool). cond {A = ℕ} b 1 0) (eq-eqb other number same)
-
-one_if_other : (number other : ℕ) → other ≢ number → one_if number other ≡ 0
-one_if_other number other apart = ap (λ (b : Bool). cond {A = ℕ} b 1 0) (ne_eqb other number apart)
-
-count_cons : (number x : ℕ) (l : List ℕ) → count_of_put (x ∷ l) number ≡ one_if number x + count_of_put l number
-count_cons number x l = count_by-cons (λ other. nat_eq other number) x l
-
-pub count_both : (number : ℕ) (l m : List ℕ)
-    → count_of_put (l ++ m) number ≡ count_of_put l number + count_of_put m number
-count_both number [] m = omega arith
-count_both number (x ∷ l) m = omega (arith, count_cons number x (l ++ m), count_cons number x l, count_both number l m)
-
-take_put : (l : List ℕ) (n x : ℕ) → n < length l → take (suc n) (set l n x) ≡ take n l ++ x ∷ []
-take_put [] n x low = absurd (omega arith)
-take_put (y ∷ l) zero x low = refl
-take_put (y ∷ l) (suc n) x low = ap (λ (t : List ℕ). y ∷ t) (take_put l n x (omega arith))
-
-take_zero : (l : List ℕ) → take 0 l ≡ []
-take_zero [] = refl
-take_zero (y ∷ l) = refl
-
--- COUNTS OF WHAT WAS NOT REAPED
-
--- a slot that was not reaped counts
-count_at : (number : ℕ) (l : List ℕ) (flags : List Bool) (i : ℕ) → i < length l → get_or l i 0 ≡ number
-    → get_or flags i false ≡ false → 0 < count_of_put (unreaped l flags) number
-count_at number [] flags i short is kept = absurd (omega arith)
-count_at number (y ∷ l) [] zero short is kept =
-    omega (arith, one_if_same number y is, count_cons number y (unreaped l []))
-count_at number (y ∷ l) [] (suc i) short is kept =
-    omega (arith, count_cons number y (unreaped l []), count_at number l [] i (omega arith) is refl)
-count_at number (y ∷ l) (true ∷ flags) zero short is kept = absurd (cc)
-count_at number (y ∷ l) (false ∷ flags) zero short is kept =
-    omega (arith, one_if_same number y is, count_cons number y (unreaped l flags))
-count_at number (y ∷ l) (true ∷ flags) (suc i) short is kept = count_at number l flags i (omega arith) is kept
-count_at number (y ∷ l) (false ∷ flags) (suc i) short is kept =
-    omega (arith, count_cons number y (unreaped l flags), count_at number l flags i (omega arith) is kept)
-
--- a set put into a slot takes the place of the one that stood there, if it was not reaped
-count_put : (number : ℕ) (l : List ℕ) (flags : List Bool) (i x : ℕ) → i < length l
-    → count_of_put (unreaped (set l i x) (set flags i false))
-    number + cond (get_or flags i false) 0 (one_if number (get_or l i 0))
-    ≡ count_of_put (unreaped l flags) number + one_if number x
-count_put number [] flags i x low = absurd (omega arith)
-count_put number (y ∷ l) [] zero x low =
-    omega (arith, count_cons number y (unreaped l []), count_cons number x (unreaped l []))
-count_put number (y ∷ l) [] (suc i) x low =
-    omega (
-      arith,
-      count_cons number y (unreaped l []),
-      count_cons number y (unreaped (set l i x) []),
-      count_put number l [] i x (omega arith),
-    )
-count_put number (y ∷ l) (true ∷ flags) zero x low = omega (arith, count_cons number x (unreaped l flags))
-count_put number (y ∷ l) (false ∷ flags) zero x low =
-    omega (arith, count_cons number y (unreaped l flags), count_cons number x (unreaped l flags))
-count_put number (y ∷ l) (true ∷ flags) (suc i) x low = count_put number l flags i x (omega arith)
-count_put number (y ∷ l) (false ∷ flags) (suc i) x low =
-    omega (
-      arith,
-      count_cons number y (unreaped l flags),
-      count_cons number y (unreaped (set l i x) (set flags i false)),
-      count_put number l flags i x (omega arith),
-    )
-
--- a slot more
-unreaped_more : (l : List ℕ) (flags : List Bool) (x : ℕ)
-    → unreaped (l ++ x ∷ []) (set flags (length l) false) ≡ unreaped l flags ++ x ∷ []
-unreaped_more [] [] x = refl
-unreaped_more [] (b ∷ flags) x = refl
-unreaped_more (y ∷ l) [] x = ap (λ (t : List ℕ). y ∷ t) (unreaped_more l [] x)
-unreaped_more (y ∷ l) (true ∷ flags) x = unreaped_more l flags x
-unreaped_more (y ∷ l) (false ∷ flags) x = ap (λ (t : List ℕ). y ∷ t) (unreaped_more l flags x)
-
--- a reap takes one away
-count_reaped : (number : ℕ) (l : List ℕ) (flags : List Bool) (i : ℕ) → i < length l → i < length flags
-    → get_or flags i false ≡ false
-    → count_of_put (unreaped l (set flags i true)) number + one_if number (get_or l i 0)
-    ≡ count_of_put (unreaped l flags) number
-count_reaped number [] flags i low short kept = absurd (omega arith)
-count_reaped number (y ∷ l) [] i low short kept = absurd (omega arith)
-count_reaped number (y ∷ l) (true ∷ flags) zero low short kept = absurd (cc)
-count_reaped number (y ∷ l) (false ∷ flags) zero low short kept = omega (arith, count_cons number y (unreaped l flags))
-count_reaped number (y ∷ l) (true ∷ flags) (suc i) low short kept =
-    count_reaped number l flags i (omega arith) (omega arith) kept
-count_reaped number (y ∷ l) (false ∷ flags) (suc i) low short kept =
-    omega (
-      arith,
-      count_cons number y (unreaped l flags),
-      count_cons number y (unreaped l (set flags i true)),
-      count_reaped number l flags i (omega arith) (omega arith) kept,
-    )
-
-count_had : (number x : ℕ) (reaped : Bool)
-    → count_of_put (cond {A = List ℕ} reaped [] (x ∷ [])) number ≡ cond {A = ℕ} reaped 0 (one_if number x)
-count_had number x true = refl
-count_had number x false = omega (arith, count_cons number x [])
-
 some_inside : (l : List ℕ) (i x : ℕ) → get_or l i 0 ≡ suc x → i < length l
 some_inside [] i x is = absurd (omega arith)
 some_inside (y ∷ l) zero x is = omega arith
@@ -192,29 +85,44 @@ some_inside (y ∷ l) (suc i) x is = omega (arith, some_inside l i x is)
 -- LIVING SLOTS WERE TAKEN
 
 -- a retired slot was retired before, or a key named it
-abbrev WasRetired : Caller → List Retired → Retired → Type 0
-WasRetired old mid e =
-    ((j : ℕ) × (get_elem? mid j ≡ some e)) ⊎ ((key : ℕ) × (get_or old.marks.names key 0 ≡ suc e.slot))
-
-one_retired : (key : ℕ) (old : Caller) (mid after : List Retired) → RetiresOne key old mid after
-    → (at : ℕ) (e : Retired) → get_elem? after at ≡ some e → WasRetired old mid e
-one_retired key old mid after one at e there =
-    ⊎_elim (λ before. inl (at, before)) (λ now. inr (key, one.named ∙ ap (λ (x : Retired). suc x.slot) now))
+pub one_retired : (key : ℕ) (old : Caller) (mid after : List Retired) → RetiresOne key old mid after
+    → (at : ℕ) (e : Retired) → get_elem? after at ≡ some e → Living mid old.marks e.slot
+one_retired key old mid after one at e there = ⊎_elim (λ before. inr (at, e, before, refl))
+    (λ now.
+    let named = one.named ∙ ap (λ (x : Retired). suc x.slot) now in
+    inl (key, some_inside old.marks.names key e.slot named, named))
     (at_snoc mid _ e at (ap (λ (l : List Retired). get_elem? l at) (sym one.retires) ∙ there))
 
 same_retired : (old : Caller) (mid after : List Retired) → after ≡ mid → (at : ℕ) (e : Retired)
-    → get_elem? after at ≡ some e → WasRetired old mid e
-same_retired old mid after same at e there = inl (at, ap (λ (l : List Retired). get_elem? l at) (sym same) ∙ there)
+    → get_elem? after at ≡ some e → Living mid old.marks e.slot
+same_retired old mid after same at e there =
+    inr (at, e, ap (λ (l : List Retired). get_elem? l at) (sym same) ∙ there, refl)
 
 was_retired : (call : Call) (old : Caller) (mid after : List Retired) → Retires call old mid after
-    → (at : ℕ) (e : Retired) → get_elem? after at ≡ some e → WasRetired old mid e
+    → (at : ℕ) (e : Retired) → get_elem? after at ≡ some e → Living mid old.marks e.slot
 was_retired (model.Find key) old mid after retires = same_retired old mid after retires
 was_retired (model.Ask key) old mid after retires = same_retired old mid after retires
 was_retired (model.Fill key number rows) old mid after retires = same_retired old mid after retires.1
-was_retired (model.Update key batch) old mid after retires = one_retired key old mid after retires
-was_retired (model.Replace key rows) old mid after retires = one_retired key old mid after retires
-was_retired (model.Evict key) old mid after retires = one_retired key old mid after retires
 was_retired (model.Cancel key) old mid after retires = same_retired old mid after retires
+was_retired call old mid after retires = one_retired (call_key call) old mid after retires
+
+-- a slot lived before the call that named another at a key, or it is that one
+pub lived : (old new : Caller) (mid : List Retired) (key name slot : ℕ)
+    → new.marks.names ≡ set old.marks.names key name
+    → ((at : ℕ) (e : Retired) → get_elem? new.retired at ≡ some e → Living mid old.marks e.slot)
+    → Living new.retired new.marks slot → Living mid old.marks slot ⊎ (name ≡ suc slot)
+lived old new mid key name slot names_are was = ⊎_elim
+    (λ named.
+    let names = old.marks.names in
+    let near : named.0 < length names = omega (arith, named.1, ap length names_are, length-set names key name) in
+    let is : get_or (set names key name) named.0 0 ≡ suc slot
+    = ap (λ (l : List ℕ). get_or l named.0 0) (sym names_are) ∙ named.2 in
+    dite (ℕ_discrete named.0 key)
+    (λ same. inr
+    (sym (get_or-set_same names key name 0 (omega arith))
+    ∙ ap (λ (i : ℕ). get_or (set names key name) i 0) (sym same) ∙ is))
+    (λ other. inl (inl (named.0, near, sym (get_or-set_other names key named.0 name 0 other) ∙ is))))
+    (λ retired. inl (subst (Living mid old.marks) retired.3 (was retired.0 retired.1 retired.2)))
 
 -- THE LAWS
 
@@ -234,16 +142,27 @@ ledger_stays_lem old new gone table fresh puts reaped living many ledger =
       later = λ number high. let none = ledger.later number (omega arith) in omega (arith, counts number);
     }
 
+-- what stands, slot by slot
+count_stands : (writer : Caller) (gone : List ℕ) (number : ℕ) → Ledger writer gone
+    → count_of_put (standing writer) number
+    ≡ below (stands_at number writer.marks.puts writer.marks.reaped) writer.fresh
+count_stands writer gone number ledger =
+    count_standing number writer.marks.puts writer.marks.reaped writer.fresh
+    (omega (arith, ledger.slots.0, ledger.slots.1))
+
 -- the put number of a set that stands
 pub stands_once : (writer : Caller) (gone : List ℕ) (slot number : ℕ) → Ledger writer gone → slot < writer.fresh
     → get_or writer.marks.puts slot 0 ≡ number
     → get_or writer.marks.reaped slot false ≡ false → (number < put_count writer.mine) × (count_of_put gone number ≡ 0)
 stands_once writer gone slot number ledger low is kept =
-    let stands = count_at number (take writer.fresh writer.marks.puts) writer.marks.reaped slot
-    (omega (arith, length-take-le writer.fresh writer.marks.puts (omega (arith, ledger.slots.0, ledger.slots.1))))
-    (get_or-take writer.fresh writer.marks.puts slot 0 low ∙ is) kept in
+    let puts = writer.marks.puts in
+    let flags = writer.marks.reaped in
+    let here : only number (get_or puts slot 0) ≡ 1 = ap (only number) is ∙ only-same number in
+    let one = stands_there number puts flags slot kept in
+    let some = below-term (stands_at number puts flags) writer.fresh slot low in
+    let stands = count_stands writer gone number ledger in
     dite (dec_le (put_count writer.mine) number) (λ high. absurd (let none = ledger.later number high in omega arith))
-    (λ low'. let one = ledger.put number (omega arith) in (omega arith, omega arith))
+    (λ low'. let all = ledger.put number (omega arith) in (omega arith, omega arith))
 
 pub nobody_holds_it_lem : NobodyHoldsIt
 nobody_holds_it_lem writer gone reader slot number ledger stands holds let_go same =
@@ -290,148 +209,142 @@ module _ (steps : ℕ) (call : Call) (rows : List Row) (old new : Caller) (gone 
   pub flags_are : new.marks.reaped ≡ set old.marks.reaped published.slot false
   flags_are = ap (λ (m : Marks). m.reaped) published.marks
 
-  names_are : new.marks.names ≡ set old.marks.names (call_key call) (suc published.slot)
-  names_are = ap (λ (m : Marks). m.names) published.marks
-
   -- what the call changed: where its slot stood, and that nothing but its number came
   record Moved : Type 0 where
     more : old.fresh ≤ new.fresh
     room : new.fresh ≤ old.table.shape.slots
     low : published.slot < new.fresh
-    was : (at : ℕ) (e : Retired) → get_elem? published.mid.retired at ≡ some e
-        → (j : ℕ) × (get_elem? old.retired j ≡ some e)
+    living : (slot : ℕ) → Living published.mid.retired old.marks slot → Living old.retired old.marks slot
     counts : (number : ℕ)
-        → count_of_put (standing new) number + count_of_put (gone ++ had_number old published.slot) number
-        ≡ count_of_put (standing old) number + count_of_put gone number + one_if number published.number
+        → below (stands_at number new.marks.puts new.marks.reaped) new.fresh
+        + count_of_put (had_number old published.slot) number
+        ≡ below (stands_at number old.marks.puts old.marks.reaped) old.fresh + only number published.number
 
   moved : Moved
   moved = ⊎_elim
-      (λ fresh. let grown : new.fresh ≡ suc old.fresh = omega (arith, published.fresh, fresh.3) in
-      let flags = old.marks.reaped in
-      let n : ℕ = published.number in
-      let size : length (take old.fresh old.marks.puts) ≡ old.fresh
-      = length-take-le old.fresh old.marks.puts (omega (arith, ledger.slots.0, fresh.0)) in
-      let stands : standing new ≡ standing old ++ n ∷ []
-      = (λ j. unreaped (take (grown j) (puts_are j)) (flags_are j))
-      ∙ ap (λ (i : ℕ). unreaped (take (suc old.fresh) (set old.marks.puts i n)) (set flags i false)) fresh.1
-      ∙ ap (λ (l : List ℕ). unreaped l (set flags old.fresh false))
-      (take_put old.marks.puts old.fresh n (omega (arith, ledger.slots.0, fresh.0)))
-      ∙ ap (λ (i : ℕ). unreaped (take old.fresh old.marks.puts ++ n ∷ []) (set flags i false)) (sym size)
-      ∙ unreaped_more (take old.fresh old.marks.puts) flags n in
-      let had : had_number old published.slot ≡ [] = ap (λ (b : Bool). cond {A = List ℕ} b
-      (cond {A = List ℕ} (get_or flags published.slot false) [] (get_or old.marks.puts published.slot 0 ∷ [])) [])
-      (le-ltb published.slot old.fresh (omega (arith, fresh.1))) in record {
+      (λ fresh.
+      let grown : new.fresh ≡ suc old.fresh = omega (arith, published.fresh, fresh.3) in
+      let first : nat_lt slot old.fresh ≡ false = le-ltb slot old.fresh (omega (arith, fresh.1)) in record {
         more = omega arith;
         room = omega (arith, fresh.0);
         low = omega (arith, fresh.1);
-        was = λ at e there. (at, ap (λ (l : List Retired). get_elem? l at) (sym fresh.4) ∙ there);
+        living = λ at lives. subst (λ (l : List Retired). Living l old.marks at) fresh.4 lives;
         counts = λ number. omega (
           arith,
-          ap (λ (l : List ℕ). count_of_put l number) stands,
-          count_both number (standing old) (published.number ∷ []),
-          count_cons number published.number [],
-          count_both number gone (had_number old published.slot),
-          ap (λ (l : List ℕ). count_of_put l number)
-              had,
+          ap (below (after number)) grown,
+          below-same (before number) (after number) old.fresh (λ k low. others number k (omega (arith, low, fresh.1))),
+          ap (after number) (sym fresh.1),
+          here number,
+          had number,
+          ap (λ (b : Bool). cond {A = ℕ} b (before number slot) 0) first,
         );
       })
       (λ taken.
       let grown : new.fresh ≡ old.fresh = published.fresh ∙ taken.6 in
-      let puts = old.marks.puts in
-      let x : ℕ = get_or puts published.slot 0 in
-      let near = published.inside in let size = ledger.slots.0 in let wide = taken.0 in
-      let flags = old.marks.reaped in
-      let before : standing old ≡ unreaped puts flags
-      = ap (λ (l : List ℕ). unreaped l flags) (take_all old.fresh puts (omega arith)) in
-      let stands : standing new ≡ unreaped (set puts published.slot published.number) (set flags published.slot false)
-      = (λ j. unreaped (take (grown j) (puts_are j)) (flags_are j))
-      ∙ ap (λ (l : List ℕ). unreaped l (set flags published.slot false))
-      (take_all old.fresh (set puts published.slot published.number)
-      (omega (arith, length-set puts published.slot published.number))) in
-      let one : List ℕ = cond {A = List ℕ} (get_or flags published.slot false) [] (x ∷ []) in
-      let had : had_number old published.slot ≡ one = ap (λ (b : Bool). cond {A = List ℕ} b one [])
-      (lt-ltb published.slot old.fresh (omega arith)) in record {
+      let low : slot < old.fresh = omega (arith, published.inside, taken.0) in
+      let again : nat_lt slot old.fresh ≡ true = lt-ltb slot old.fresh low in record {
         more = omega arith;
         room = omega (arith, ledger.slots.1);
         low = omega arith;
-        was = λ at e there. at_remove old.retired taken.1 at e
-            (ap (λ (l : List Retired). get_elem? l at) (sym taken.7) ∙ there);
+        living = λ at lives. ⊎_elim inl
+            (λ retired.
+            let was
+            = at_remove old.retired taken.1 retired.0 retired.1
+            (ap (λ (l : List Retired). get_elem? l retired.0) (sym taken.7) ∙ retired.2) in
+            inr (was.0, retired.1, was.1, retired.3))
+            lives;
         counts = λ number. omega (
           arith,
-          ap (λ (l : List ℕ). count_of_put l number) stands,
-          ap (λ (l : List ℕ). count_of_put l number) before,
-          count_put number puts flags published.slot published.number (omega arith),
-          count_both number gone (had_number old published.slot),
-          ap (λ (l : List ℕ). count_of_put l number) had,
-          count_had number x (get_or flags published.slot false),
+          ap (below (after number)) grown,
+          below-change (before number) (after number) old.fresh slot low (others number),
+          here number,
+          had number,
+          ap (λ (b : Bool). cond {A = ℕ} b (before number slot) 0) again,
         );
       })
       published.took
+    where
+      slot : ℕ
+      slot = published.slot
+
+      before : ℕ → ℕ → ℕ
+      before number = stands_at number old.marks.puts old.marks.reaped
+
+      after : ℕ → ℕ → ℕ
+      after number = stands_at number new.marks.puts new.marks.reaped
+
+      others : (number k : ℕ) → k ≢ slot → before number k ≡ after number k
+      others number k other =
+          let put = get_or-set_other old.marks.puts slot k published.number 0 other in
+          let flag = get_or-set_other old.marks.reaped slot k false false other in
+          sym
+          ((λ j. stands_at number (puts_are j) (flags_are j) k)
+          ∙ (λ j. cond {A = ℕ} (flag j) 0 (only number (put j))))
+
+      here : (number : ℕ) → after number slot ≡ only number published.number
+      here number =
+          stands_there number new.marks.puts new.marks.reaped slot
+          (ap (λ (l : List Bool). get_or l slot false) flags_are
+          ∙ get_or-set_same old.marks.reaped slot false false (omega (arith, published.inside, ledger.slots.2)))
+          ∙ ap (only number) published.put
+
+      had : (number : ℕ)
+          → count_of_put (had_number old slot) number ≡ cond {A = ℕ} (nat_lt slot old.fresh) (before number slot) 0
+      had number =
+          count_had number (get_or old.marks.puts slot 0) (nat_lt slot old.fresh) (get_or old.marks.reaped slot false)
 
   still_taken : (slot : ℕ) → Living new.retired new.marks slot → slot < new.fresh
   still_taken slot lives = let more = moved.more in ⊎_elim
-      (λ named.
-      let near : named.0 < length old.marks.names
-      = omega (
-        arith,
-        named.1,
-        ap length names_are,
-        length-set old.marks.names (call_key call) (suc published.slot),
-      ) in
-      let is : get_or (set old.marks.names (call_key call) (suc published.slot)) named.0 0 ≡ suc slot
-      = ap (λ (l : List ℕ). get_or l named.0 0) (sym names_are) ∙ named.2 in
-      dite (ℕ_discrete named.0 (call_key call))
-      (λ same.
-      let here : suc published.slot ≡ suc slot
-      = sym (get_or-set_same old.marks.names (call_key call) (suc published.slot) 0 (omega arith))
-      ∙ ap (λ (i : ℕ). get_or (set old.marks.names (call_key call) (suc published.slot)) i 0) (sym same) ∙ is in
-      omega (arith, moved.low))
-      (λ other.
-      let low
-      = ledger.taken slot
-      (inl (
-        named.0,
-        near,
-        sym (get_or-set_other old.marks.names (call_key call) named.0 (suc published.slot) 0 other)
-            ∙ is,
-      )) in
-      omega arith))
-      (λ retired. ⊎_elim
-      (λ before.
-      let was = moved.was before.0 retired.1 before.1 in
-      let low = ledger.taken slot (inr (was.0, retired.1, was.1, retired.3)) in
-      omega arith)
-      (λ named.
-      let low
-      = ledger.taken retired.1.slot
-      (inl (named.0, some_inside old.marks.names named.0 retired.1.slot named.1, named.1)) in
-      omega (arith, retired.3))
-      (was_retired call old published.mid.retired new.retired published.retires retired.0 retired.1 retired.2))
-      lives
+      (λ before. let low = ledger.taken slot (moved.living slot before) in omega arith)
+      (λ here. omega (arith, moved.low))
+      (lived old new published.mid.retired (call_key call) (suc published.slot) slot
+      (ap (λ (m : Marks). m.names) published.marks)
+      (was_retired call old published.mid.retired new.retired published.retires) lives)
 
   pub ledger_goes_on : Ledger new (gone ++ had_number old published.slot)
   ledger_goes_on = let size = ap (λ (t : Table). t.shape.slots) published.gains.table in record {
     slots = (
-      ap length puts_are ∙ length-set old.marks.puts published.slot published.number ∙ ledger.slots.0
-          ∙ sym size,
+      long,
       omega (arith, moved.room),
       ap length flags_are ∙ length-set old.marks.reaped published.slot false ∙ ledger.slots.2 ∙ sym size,
     );
     taken = still_taken;
     put = λ number low. dite (ℕ_discrete published.number number)
         (λ same.
-        let one = one_if_same number published.number same in
+        let one = ap (only number) same ∙ only-same number in
         let none = ledger.later number (omega (arith, number_is)) in
-        omega (arith, moved.counts number))
+        omega (arith, counts number))
         (λ other.
-        let none = one_if_other number published.number other in
+        let none = only-other number published.number other in
         let one = ledger.put number (omega (arith, number_is, put_now)) in
-        omega (arith, moved.counts number));
+        omega (arith, counts number));
     later = λ number high.
-        let none = one_if_other number published.number (λ same. omega (arith, number_is, put_now)) in
+        let none = only-other number published.number (λ same. omega (arith, number_is, put_now)) in
         let before = ledger.later number (omega (arith, put_now)) in
-        omega (arith, moved.counts number);
+        omega (arith, counts number);
   }
+    where
+      long : length new.marks.puts ≡ new.table.shape.slots
+      long =
+          ap length puts_are ∙ length-set old.marks.puts published.slot published.number ∙ ledger.slots.0
+          ∙ sym (ap (λ (t : Table). t.shape.slots) published.gains.table)
+
+      counts : (number : ℕ)
+          → count_of_put (standing new) number + count_of_put (gone ++ had_number old published.slot) number
+          ≡ count_of_put (standing old) number + count_of_put gone number + only number published.number
+      counts number =
+          omega (
+            arith,
+            count_standing number new.marks.puts new.marks.reaped new.fresh (omega (
+              arith,
+              long,
+              moved.room,
+              ap (λ (t : Table). t.shape.slots) published.gains.table,
+            )),
+            count_stands old gone number ledger,
+            moved.counts number,
+            count_both number gone (had_number old published.slot),
+          )
 
 pub handed_out_once_lem : HandedOutOnce
 handed_out_once_lem = ledger_goes_on
@@ -484,24 +397,28 @@ reaped_once_lem held later entry notes steps scanned loads old new gone waits is
     let there = ready_there old scanned held later entry waits in
     let slot : ℕ = entry.slot in
     let puts = old.marks.puts in
+    let flags = old.marks.reaped in
     let n : ℕ = get_or puts slot 0 in
     let low = ledger.taken slot (inr (there.0, entry, there.1, refl)) in
-    let size = length-take-le old.fresh puts (omega (arith, ledger.slots.0, ledger.slots.1)) in
+    let fits : old.fresh ≤ length puts = omega (arith, ledger.slots.0, ledger.slots.1) in
     let counts : (number : ℕ)
-    → count_of_put (unreaped (take old.fresh puts) (set old.marks.reaped slot true)) number
-    + count_of_put (gone ++ n ∷ []) number
+    → count_of_put (unreaped (take old.fresh puts) (set flags slot true)) number + count_of_put (gone ++ n ∷ []) number
     ≡ count_of_put (standing old) number + count_of_put gone number
     = λ number. omega (
       arith,
-      count_reaped number (take old.fresh puts) old.marks.reaped slot (omega arith)
-          (omega (arith, ledger.slots.1, ledger.slots.2)) there.2,
-      ap (one_if number) (get_or-take old.fresh puts slot 0 low),
-      count_both number gone
-          (n ∷ []),
+      count_standing number puts flags old.fresh fits,
+      count_standing number puts (set flags slot true) old.fresh fits,
+      below-change (stands_at number puts flags) (stands_at number puts (set flags slot true)) old.fresh slot low
+          (λ k other. ap (λ (b : Bool). cond {A = ℕ} b 0 (only number (get_or puts k 0)))
+          (sym (get_or-set_other flags slot k true false other))),
+      stands_there number puts flags slot there.2,
+      stands_nowhere number puts (set flags slot true) slot
+          (get_or-set_same flags slot true false (omega (arith, low, ledger.slots.1, ledger.slots.2))),
+      count_both number gone (n ∷ []),
       count_cons number n [],
     ) in
     subst (λ (c : Caller). Ledger c (gone ++ n ∷ [])) (sym is) (record {
-      slots = (ledger.slots.0, ledger.slots.1, length-set old.marks.reaped slot true ∙ ledger.slots.2);
+      slots = (ledger.slots.0, ledger.slots.1, length-set flags slot true ∙ ledger.slots.2);
       taken = ledger.taken;
       put = λ number near. counts number ∙ ledger.put number near;
       later = λ number far. counts number ∙ ledger.later number far;
@@ -526,72 +443,7 @@ opening_begins_lem shape words map writer readers opened =
           (λ named. absurd (let none = zeros shape.keys named.0 in let is = named.2 in omega arith))
           (λ retired. absurd (some-ne-none retired.1 (sym retired.2))) lives;
       put = λ number low. absurd (omega arith);
-      later = λ number high. ap (λ (l : List ℕ). count_of_put (unreaped l (replicate shape.slots false)) number + 0)
-          (take_zero (replicate shape.slots 0));
+      later = λ number high.
+          let none = count_standing number (replicate shape.slots 0) (replicate shape.slots false) 0 (omega arith) in
+          omega arith;
     })
-
--- CALLS THAT PUT NOTHING
-
-pub quiet_puts : (steps : ℕ) (call : Call) (answer : Reply) (old new : Caller) → is_done answer ≡ false
-    → Gains steps call old new answer → put_count new.mine ≡ put_count old.mine
-quiet_puts steps call answer old new quiet gains =
-    let none : puts_set (entry old.number call answer) ≡ 0 = ap (λ (b : Bool). cond {A = ℕ} b 1 0) quiet in
-    omega (arith, ap put_count gains.mine, total-append puts_set old.mine (entry old.number call answer ∷ []), none)
-
--- the slots stay, and of the marks all but the polls and the loads
-same_slots : (old new : Caller) (gone : List ℕ) (polls : List Past) (loads : List LoggedLoad) → new.table ≡ old.table
-    → new.fresh ≡ old.fresh → new.retired ≡ old.retired
-    → new.marks ≡ with_scan old.marks polls loads → put_count new.mine ≡ put_count old.mine → Ledger old gone
-    → Ledger new gone
-same_slots old new gone polls loads table fresh retired marks many =
-    ledger_stays_lem old new gone table fresh (ap (λ (m : Marks). m.puts) marks) (ap (λ (m : Marks). m.reaped) marks)
-    (λ slot lives. subst (λ (p : List Retired × Marks). Living p.0 p.1 slot) (λ j. (retired j, marks j)) lives) many
-
-pub quiet_leaves_lem : QuietLeaves
-quiet_leaves_lem steps call answer old new gone quiet gains stays =
-    same_slots old new gone [] old.marks.loads gains.table (ap (λ (s : SlotLists). s.fresh) stays.0)
-    (ap (λ (s : SlotLists). s.retired) stays.0) stays.1 (quiet_puts steps call answer old new quiet gains)
-
-pub no_slot_leaves_lem : NoSlotLeaves
-no_slot_leaves_lem steps call counts old new gone without =
-    same_slots old new gone new.marks.polls _ without.grows.table (ap (λ (s : SlotLists). s.fresh) without.slots)
-    (ap (λ (s : SlotLists). s.retired) without.slots) without.marks
-    (ap put_count without.grows.mine ∙ total-append puts_set old.mine [] ∙ omega arith)
-
-pub cancel_leaves_lem : CancelLeaves
-cancel_leaves_lem key old new cancel.Cancelled gone cancels =
-    same_slots old new gone [] old.marks.loads cancels.0.table (ap (λ (s : SlotLists). s.fresh) cancels.1)
-    (ap (λ (s : SlotLists). s.retired) cancels.1) cancels.2
-    (quiet_puts 2 (model.Cancel key) reply.Cancelled old new refl cancels.0)
-cancel_leaves_lem key old new cancel.Nothing gone cancels =
-    quiet_leaves_lem 1 (model.Cancel key) reply.Nothing old new gone refl cancels.0 cancels.1
-cancel_leaves_lem key old new cancel.Worn gone cancels =
-    quiet_leaves_lem 1 (model.Cancel key) reply.Worn old new gone refl cancels.0 cancels.1
-
-pub eviction_leaves_lem : EvictionLeaves
-eviction_leaves_lem key old new evict.Nothing gone evicts =
-    quiet_leaves_lem 1 (model.Evict key) reply.Nothing old new gone refl evicts.0 evicts.1
-eviction_leaves_lem key old new evict.Evicted gone evicts =
-    let marks = evicts.4 in
-    let names_are : new.marks.names ≡ set old.marks.names key 0 = ap (λ (m : Marks). m.names) marks in
-    ledger_stays_lem old new gone evicts.0.table evicts.1 (ap (λ (m : Marks). m.puts) marks)
-    (ap (λ (m : Marks). m.reaped) marks)
-    (λ slot lives. ⊎_elim
-    (λ named.
-    let near : named.0 < length old.marks.names
-    = omega (arith, named.1, ap length names_are, length-set old.marks.names key 0) in
-    let is : get_or (set old.marks.names key 0) named.0 0 ≡ suc slot
-    = ap (λ (l : List ℕ). get_or l named.0 0) (sym names_are) ∙ named.2 in
-    dite (ℕ_discrete named.0 key)
-    (λ same. absurd
-    (let here : 0 ≡ suc slot
-    = sym (get_or-set_same old.marks.names key 0 0 (omega arith))
-    ∙ ap (λ (i : ℕ). get_or (set old.marks.names key 0) i 0) (sym same) ∙ is in
-    omega arith))
-    (λ other. inl (named.0, near, sym (get_or-set_other old.marks.names key named.0 0 0 other) ∙ is)))
-    (λ retired. ⊎_elim
-    (λ before. inr (before.0, retired.1, before.1, retired.3))
-    (λ named. inl (named.0, some_inside old.marks.names named.0 retired.1.slot named.1, named.1 ∙ ap suc retired.3))
-    (one_retired key old old.retired new.retired evicts.3 retired.0 retired.1 retired.2))
-    lives)
-    (quiet_puts 2 (model.Evict key) reply.Evicted old new refl evicts.0)

@@ -15,7 +15,9 @@ pub mod Loading
 pub mod FindsEach
 pub mod FindsGroups
 pub mod RowBounds
+pub mod Standing
 pub mod Ledgers
+pub mod Keeping
 pub mod Remainders
 pub mod GivenBack
 pub mod SlotCounting

@@ -14,6 +14,7 @@ use Rattle.nr_board.specs.Meetings.{Known}
 use Rattle.nr_board.specs.Rule.{StartsWith}
 use Rattle.nr_model.specs.declared.rows.Row.{Row}
 use Rattle.nr_model.specs.declared.batches.ApplyFault.{ApplyFault}
+use Rattle.nr_model.specs.declared.batches.ApplyFault.TheVariants as fault
 use Rattle.nr_model.specs.declared.calls.Call.{Call}
 use Rattle.nr_model.specs.declared.calls.Call.TheVariants.{Find, Ask, Fill, Update, Replace, Evict, Cancel}
 use Rattle.nr_model.specs.declared.calls.Reply.{Reply}
@@ -28,139 +29,87 @@ use Rattle.nr_model.proofs.HistoryLemmas.{count_by-cons, one, state_of-next_othe
 use Rattle.nr_map.specs.Written.{FindsPut, FindsWhatItHeard, FindsWritten, HeardBefore, LastPut, NonePut, ReadsNoOlder}
 use Rattle.nr_map.specs.Written.{evicts_at, is_evicted}
 
--- a call that put no set left the rows that were there
-update_stays : (r : Result (List Row) ApplyFault) (n m : ℕ) (old rows : List Row) → is_done (applied_reply r) ≡ false
-    → Rows n (rows_or r old) ≡ Rows m rows → Rows n old ≡ Rows m rows
-update_stays (Ok left) n m old rows none is = absurd (cc)
-update_stays (Err e) n m old rows none is = is
+-- What a call leaves of a key's state: where it put a set, the key is filled; where it put none, a set that stands there
+-- stood there before; and where it evicted none, a filled key stays filled.
+record Leaves (puts evicts : Bool) (old new : KeyState) : Type 0 where
+  filled : puts ≡ true → is_filled_key new ≡ true
+  stood : puts ≡ false → is_filled_key new ≡ true → new ≡ old
+  stays : evicts ≡ false → is_filled_key old ≡ true → is_filled_key new ≡ true
 
-fill_stays : (b : Bool) (n m : ℕ) (new rows : List Row) → is_done (if b then reply.Done else reply.Stale) ≡ false
-    → (if b then Rows n new else Asked n) ≡ Rows m rows → Asked n ≡ Rows m rows
-fill_stays true n m new rows none is = absurd (cc)
-fill_stays false n m new rows none is = is
+leaves_it : (evicts : Bool) (state : KeyState) → Leaves false evicts state state
+leaves_it evicts state = record { filled = λ put. absurd (cc); stood = λ _ _. refl; stays = λ _ full. full }
 
-cancel_stays : (b : Bool) (n m : ℕ) (rows : List Row) → (if b then Hole (n + 1) else Asked n) ≡ Rows m rows
-    → Asked n ≡ Rows m rows
-cancel_stays true n m rows is = absurd (cc)
-cancel_stays false n m rows is = is
+leaves_one : (old new : KeyState) → is_filled_key new ≡ true → Leaves true false old new
+leaves_one old new full = record { filled = λ _. full; stood = λ none. absurd (cc); stays = λ _ _. full }
 
-stays : (bound : ℕ) (call : Call) (state : KeyState) (m : ℕ) (rows : List Row)
-    → is_done (reply_at bound call state) ≡ false → state_after bound call state ≡ Rows m rows → state ≡ Rows m rows
-stays bound (Find k) state m rows none is = is
-stays bound (Ask k) (Hole n) m rows none is = absurd (cc)
-stays bound (Ask k) (Asked n) m rows none is = is
-stays bound (Ask k) (Rows n old) m rows none is = is
-stays bound (Fill k number new) (Hole n) m rows none is = is
-stays bound (Fill k number new) (Asked n) m rows none is = fill_stays (n == number) n m new rows none is
-stays bound (Fill k number new) (Rows n old) m rows none is = is
-stays bound (Update k batch) (Hole n) m rows none is = is
-stays bound (Update k batch) (Asked n) m rows none is = is
-stays bound (Update k batch) (Rows n old) m rows none is = update_stays (applied bound old batch) n m old rows none is
-stays bound (Replace k new) (Hole n) m rows none is = is
-stays bound (Replace k new) (Asked n) m rows none is = is
-stays bound (Replace k new) (Rows n old) m rows none is = absurd (cc)
-stays bound (Evict k) (Hole n) m rows none is = is
-stays bound (Evict k) (Asked n) m rows none is = is
-stays bound (Evict k) (Rows n old) m rows none is = absurd (cc)
-stays bound (Cancel k) (Hole n) m rows none is = is
-stays bound (Cancel k) (Asked n) m rows none is = cancel_stays _ n m rows is
-stays bound (Cancel k) (Rows n old) m rows none is = is
+leaves_none : (evicts : Bool) (old new : KeyState) → is_filled_key new ≡ false
+    → (evicts ≡ false → is_filled_key old ≡ false) → Leaves false evicts old new
+leaves_none evicts old new none before = record {
+  filled = λ put. absurd (cc);
+  stood = λ _ full. absurd (cc);
+  stays = λ kept full. absurd (let was = before kept in cc);
+}
 
--- a call that evicts nothing leaves a filled key filled
-stays_filled : (bound : ℕ) (call : Call) (state : KeyState) → is_evicted (reply_at bound call state) ≡ false
-    → is_filled_key state ≡ true → is_filled_key (state_after bound call state) ≡ true
-stays_filled bound call (Hole n) none filled = absurd (cc)
-stays_filled bound call (Asked n) none filled = absurd (cc)
-stays_filled bound (Find k) (Rows n old) none filled = refl
-stays_filled bound (Ask k) (Rows n old) none filled = refl
-stays_filled bound (Fill k number new) (Rows n old) none filled = refl
-stays_filled bound (Update k batch) (Rows n old) none filled = refl
-stays_filled bound (Replace k new) (Rows n old) none filled = refl
-stays_filled bound (Evict k) (Rows n old) none filled = absurd (cc)
-stays_filled bound (Cancel k) (Rows n old) none filled = refl
+fill_leaves : (here : Bool) (n : ℕ) (new : List Row)
+    → Leaves (is_done (if here then reply.Done else reply.Stale)) (is_evicted (if here then reply.Done else reply.Stale))
+    (Asked n) (if here then Rows n new else Asked n)
+fill_leaves true n new = leaves_one (Asked n) (Rows n new) refl
+fill_leaves false n new = leaves_it false (Asked n)
 
--- a call that put a set left the key filled
-fill_puts : (b : Bool) (n : ℕ) (new : List Row) → is_done (if b then reply.Done else reply.Stale) ≡ true
-    → is_filled_key (if b then Rows n new else Asked n) ≡ true
-fill_puts true n new done = refl
-fill_puts false n new done = absurd (cc)
+cancel_leaves : (below : Bool) (n : ℕ)
+    → Leaves (is_done (if below then reply.Cancelled else reply.Worn))
+    (is_evicted (if below then reply.Cancelled else reply.Worn)) (Asked n) (if below then Hole (n + 1) else Asked n)
+cancel_leaves true n = leaves_none false (Asked n) (Hole (n + 1)) refl (λ _. refl)
+cancel_leaves false n = leaves_it false (Asked n)
 
-cancel_puts : (b : Bool) (n : ℕ) → is_done (if b then reply.Cancelled else reply.Worn) ≡ true
-    → is_filled_key (if b then Hole (n + 1) else Asked n) ≡ true
-cancel_puts true n done = absurd (cc)
-cancel_puts false n done = absurd (cc)
+update_leaves : (r : Result (List Row) ApplyFault) (n : ℕ) (old : List Row)
+    → Leaves (is_done (applied_reply r)) (is_evicted (applied_reply r)) (Rows n old) (Rows n (rows_or r old))
+update_leaves (Ok left) n old = leaves_one (Rows n old) (Rows n left) refl
+update_leaves (Err fault.NoRow) n old = leaves_it false (Rows n old)
+update_leaves (Err fault.TooMany) n old = leaves_it false (Rows n old)
 
-puts : (bound : ℕ) (call : Call) (state : KeyState) → is_done (reply_at bound call state) ≡ true
-    → is_filled_key (state_after bound call state) ≡ true
-puts bound (Find k) (Hole n) done = absurd (cc)
-puts bound (Find k) (Asked n) done = absurd (cc)
-puts bound (Find k) (Rows n old) done = refl
-puts bound (Ask k) (Hole n) done = absurd (cc)
-puts bound (Ask k) (Asked n) done = absurd (cc)
-puts bound (Ask k) (Rows n old) done = refl
-puts bound (Fill k number new) (Hole n) done = absurd (cc)
-puts bound (Fill k number new) (Asked n) done = fill_puts (n == number) n new done
-puts bound (Fill k number new) (Rows n old) done = refl
-puts bound (Update k batch) (Hole n) done = absurd (cc)
-puts bound (Update k batch) (Asked n) done = absurd (cc)
-puts bound (Update k batch) (Rows n old) done = refl
-puts bound (Replace k new) (Hole n) done = absurd (cc)
-puts bound (Replace k new) (Asked n) done = absurd (cc)
-puts bound (Replace k new) (Rows n old) done = refl
-puts bound (Evict k) (Hole n) done = absurd (cc)
-puts bound (Evict k) (Asked n) done = absurd (cc)
-puts bound (Evict k) (Rows n old) done = absurd (cc)
-puts bound (Cancel k) (Hole n) done = absurd (cc)
-puts bound (Cancel k) (Asked n) done = cancel_puts _ n done
-puts bound (Cancel k) (Rows n old) done = refl
+leaves : (bound : ℕ) (call : Call) (state : KeyState)
+    → Leaves (is_done (reply_at bound call state)) (is_evicted (reply_at bound call state)) state
+    (state_after bound call state)
+leaves bound (Find k) (Rows n old) = leaves_it false (Rows n old)
+leaves bound (Ask k) (Hole n) = leaves_none false (Hole n) (Asked n) refl (λ _. refl)
+leaves bound (Fill k number new) (Asked n) = fill_leaves (n == number) n new
+leaves bound (Update k batch) (Rows n old) = update_leaves (applied bound old batch) n old
+leaves bound (Replace k new) (Rows n old) = leaves_one (Rows n old) (Rows n new) refl
+leaves bound (Evict k) (Rows n old) = leaves_none true (Rows n old) (Hole n) refl (λ none. absurd (cc))
+leaves bound (Cancel k) (Asked n) = cancel_leaves _ n
+leaves bound call state = leaves_it _ state
 
--- a test of an entry of the key
-of_key : (b : Bool) (k key : ℕ) → k ≡ key → (b && (k == key)) ≡ b
-of_key true k key same = eq-eqb k key same
-of_key false k key same = refl
-
-both_true : (b c : Bool) → (b && c) ≡ true → (b ≡ true) × (c ≡ true)
-both_true true c is = (refl, is)
-both_true false c is = absurd (cc)
-
-is_key : (k key : ℕ) → (k == key) ≡ true → k ≡ key
-is_key k key is =
-    ⊎_elim (λ (same : k ≡ key). same)
-    (λ (other : k ≢ key). absurd (let no : true ≡ false = sym is ∙ ne_eqb k key other in cc)) (cases_eq k key)
+-- a test of an entry, and of its key
+at_key : (b : Bool) (k key : ℕ) → (k ≡ key → (b && (k == key)) ≡ b) × (k ≢ key → (b && (k == key)) ≡ false)
+at_key true k key = (eq-eqb k key, ne_eqb k key)
+at_key false k key = ((λ _. refl), λ _. refl)
 
 -- what one entry leaves of a key
-step_stays : (map : PartialMap) (key : ℕ) (e : Entry) (n : ℕ) (rows : List Row) → key < length map.states
-    → e.reply ≡ reply_to map e.call
-    → puts_at key e ≡ false → state_of (next map e.call) key ≡ Rows n rows → state_of map key ≡ Rows n rows
-step_stays map key e n rows near legal none is = ⊎_elim
-    (λ (same : call_key e.call ≡ key). subst (λ (k : ℕ). state_of map k ≡ Rows n rows) same
-    (stays map.bound e.call (state_of map (call_key e.call)) n rows
-    (ap is_done (sym legal) ∙ sym (of_key (is_done e.reply) (call_key e.call) key same) ∙ none)
-    (sym (state_of-next_same map e.call (omega (arith, same))) ∙ ap (state_of (next map e.call)) same ∙ is)))
-    (λ (elsewhere : call_key e.call ≢ key). sym (state_of-next_other map key e.call elsewhere) ∙ is)
-    (cases_eq (call_key e.call) key)
-
-step_filled : (map : PartialMap) (key : ℕ) (e : Entry) → key < length map.states → e.reply ≡ reply_to map e.call
-    → evicts_at key e ≡ false → is_filled_key (state_of map key) ≡ true
-    → is_filled_key (state_of (next map e.call) key) ≡ true
-step_filled map key e near legal none filled = ⊎_elim
-    (λ (same : call_key e.call ≡ key). subst (λ (k : ℕ). is_filled_key (state_of (next map e.call) k) ≡ true) same
-    (ap is_filled_key (state_of-next_same map e.call (omega (arith, same)))
-    ∙ stays_filled map.bound e.call (state_of map (call_key e.call))
-    (ap is_evicted (sym legal) ∙ sym (of_key (is_evicted e.reply) (call_key e.call) key same) ∙ none)
-    (ap (λ (k : ℕ). is_filled_key (state_of map k)) same ∙ filled)))
-    (λ (elsewhere : call_key e.call ≢ key). ap is_filled_key (state_of-next_other map key e.call elsewhere) ∙ filled)
-    (cases_eq (call_key e.call) key)
-
-step_puts : (map : PartialMap) (key : ℕ) (e : Entry) → key < length map.states → e.reply ≡ reply_to map e.call
-    → puts_at key e ≡ true → is_filled_key (state_of (next map e.call) key) ≡ true
-step_puts map key e near legal put =
-    let parts = both_true (is_done e.reply) (call_key e.call == key) put in
-    let same = is_key (call_key e.call) key parts.1 in
-    subst (λ (k : ℕ). is_filled_key (state_of (next map e.call) k) ≡ true) same
-    (ap is_filled_key (state_of-next_same map e.call (omega (arith, same)))
-    ∙ puts map.bound e.call (state_of map (call_key e.call))
-    (ap is_done (sym legal) ∙ parts.0))
+step_leaves : (map : PartialMap) (key : ℕ) (e : Entry) → key < length map.states → e.reply ≡ reply_to map e.call
+    → Leaves (puts_at key e) (evicts_at key e) (state_of map key) (state_of (next map e.call) key)
+step_leaves map key e near legal =
+    let own : ℕ = call_key e.call in
+    let done = at_key (is_done e.reply) own key in let evicted = at_key (is_evicted e.reply) own key in
+    let Whole : Bool × Bool × KeyState × KeyState → Type 0 = λ (p : Bool × Bool × KeyState × KeyState). Leaves p.0 p.1 p.2 p.3 in
+    ⊎_elim
+    (λ (same : own ≡ key). subst Whole
+    (λ j. (
+      (ap is_done (sym legal) ∙ sym (done.0 same)) j,
+      (ap is_evicted (sym legal) ∙ sym (evicted.0 same)) j,
+      ap (state_of map) same j,
+      (sym (state_of-next_same map e.call (omega (arith, same))) ∙ ap (state_of (next map e.call)) same) j,
+    ))
+    (leaves map.bound e.call (state_of map own)))
+    (λ (other : own ≢ key). subst Whole
+    (λ j. (
+      sym (done.1 other) j,
+      sym (evicted.1 other) j,
+      state_of map key,
+      sym (state_of-next_other map key e.call other) j,
+    ))
+    (leaves_it false (state_of map key)))
+    (cases_eq own key)
 
 -- as many keys after an entry
 pub near_next : (map : PartialMap) (key : ℕ) (call : Call) → key < length map.states
@@ -188,7 +137,9 @@ last_put (e ∷ log) map key n rows near legal is = ⊎_elim
     (record {
       none = omega (arith, count_by-cons (puts_at key) e log, ap one isnt, no.none);
       number = no.number;
-      rows_had = step_stays map key e no.number rows near legal.0 isnt no.rows_had;
+      rows_had =
+          let had = no.rows_had in
+          sym ((step_leaves map key e near legal.0).stood isnt (ap is_filled_key had)) ∙ had;
     }))
     (cases_Bool (puts_at key e)))
     (λ (last : LastPut (next map e.call) key log rows). inr (record {
@@ -211,7 +162,7 @@ filled_on (e ∷ log) map key near legal none filled = ⊎_elim
     (λ (evicts : evicts_at key e ≡ true). absurd
     (omega (arith, count_by-cons (evicts_at key) e log, ap one evicts, none)))
     (λ (isnt : evicts_at key e ≡ false). filled_on log (next map e.call) key (near_next map key e.call near) legal.1
-    (omega (arith, count_by-cons (evicts_at key) e log, none)) (step_filled map key e near legal.0 isnt filled))
+    (omega (arith, count_by-cons (evicts_at key) e log, none)) ((step_leaves map key e near legal.0).stays isnt filled))
     (cases_Bool (evicts_at key e))
 
 pub after_both : (log later : List Entry) (map : PartialMap) → after map (log ++ later) ≡ after (after map log) later
@@ -248,7 +199,7 @@ finds_written_lem map before later put key caller found near puts_it legal =
     let near_last : key < length last.states = omega (arith, length-after written map) in
     let filled : is_filled_key (state_of last key) ≡ true
     = ap (λ (m : PartialMap). is_filled_key (state_of m key)) wrote.0
-    ∙ step_puts (after map before) key put near_put legal_put.1 puts_it in
+    ∙ (step_leaves (after map before) key put near_put legal_put.1).filled puts_it in
     record {
       hole = λ is. ⊎_elim
           (λ (some : 0 < count_by (evicts_at key) later). some)

@@ -1,4 +1,4 @@
-use Rattle.nr_map.proofs.Ledgers.{cancel_leaves_lem}
+use Rattle.nr_map.proofs.Keeping.{cancel_leaves_lem}
 use Rattle.nr_map.proofs.laws.cancel_leaves.Goals as goal
 
 pub returns : goal.returns

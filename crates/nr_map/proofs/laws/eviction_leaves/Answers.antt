@@ -1,4 +1,4 @@
-use Rattle.nr_map.proofs.Ledgers.{eviction_leaves_lem}
+use Rattle.nr_map.proofs.Keeping.{eviction_leaves_lem}
 use Rattle.nr_map.proofs.laws.eviction_leaves.Goals as goal
 
 pub returns : goal.returns

@@ -1,7 +1,7 @@
 use Rattle.std.proofs.Common.{◌+◌, arith}
-use Rattle.std.specs.Prelude.{ℕ, drop, length, min}
+use Rattle.std.specs.Prelude.{ℕ, drop, min}
 use Rattle.std.proofs.lemmas.List.{length-drop}
-use Rattle.nr_map.proofs.FirstRows.{CopiedSoFar, copied_none, copied_on, put_whole}
+use Rattle.nr_map.proofs.FirstRows.{copied_none, copied_on, put_whole}
 use Rattle.nr_map.proofs.hand.Hand.copy_first.Goals as goal
 
 pub loop-place-init : goal.loop-place-init

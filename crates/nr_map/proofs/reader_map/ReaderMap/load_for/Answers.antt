@@ -1,4 +1,4 @@
-use Rattle.std.proofs.Common.{◌≡◌, List, ℕ, length, subst, sym, take}
+use Rattle.std.proofs.Common.{List, ℕ, length, subst, sym, take}
 use Rattle.nr_core.specs.Slots.{layout}
 use Rattle.nr_board.specs.Callers.{Table, token}
 use Rattle.nr_map.specs.LoadsAhead.{LoadsOfSets}

@@ -1,7 +1,7 @@
 use Rattle.std.proofs.Common.{◌≡◌, ◌-◌, ◌*◌, ◌<◌, ◌∙◌, ℕ, List, arith, get_or, length, min, subst, sym, take}
 use Rattle.std.proofs.lemmas.List.{length-take-le, take_more}
 use Rattle.nr_board.specs.Callers.{token}
-use Rattle.nr_map.specs.LoadsAhead.{LoadsLines, LoadsPlaces, begin_of, line_places, more_lines, more_of}
+use Rattle.nr_map.specs.LoadsAhead.{LoadsLines, LoadsPlaces, line_places, more_lines, more_of}
 use Rattle.nr_map.proofs.Loading.{lines_more}
 use Rattle.nr_map.proofs.reader_map.ReaderMap.load_lines.Goals as goal
 
