@@ -303,7 +303,8 @@ module _ {Room : Type 0} (shows : Room → List Row → Type 0) where
   deal_goes_on put given (ReapHeld old new before after says) books =
       books_stay old new put given (rests_keeps old new _ _ _ _ says.8) books
   deal_goes_on put given (ReapNothing old new before after says) books =
-      books_stay old new put given (rests_keeps old new old.steps old.marks.polls old.marks.loads old.heard says.1) books
+      books_stay old new put given
+      (rests_keeps old new old.steps old.marks.polls old.marks.loads old.heard says.1) books
   deal_goes_on put given (Evicts key old new answer says) books =
       books_stay old new put given (evict_keeps old new key answer says) books
   deal_goes_on put given (Cancels key old new answer says) books =

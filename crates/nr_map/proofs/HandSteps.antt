@@ -11,6 +11,7 @@ use Rattle.nr_model.specs.Histories.{Entry}
 use Rattle.nr_model.specs.declared.calls.Call.TheVariants as model
 use Rattle.nr_model.specs.declared.calls.Reply.{Reply}
 use Rattle.nr_model.specs.declared.calls.Reply.TheVariants as reply
+use Rattle.nr_model.specs.declared.rows.Row.{Row}
 use Rattle.nr_model.specs.Rows.{IsRowSet}
 use Rattle.nr_core.specs.Slots.{name_number, names_slot}
 use Rattle.nr_core.specs.declared.roles.Grip.{Grip}
@@ -25,7 +26,8 @@ use Rattle.nr_board.proofs.ReaderSeats.{held_says}
 use Rattle.nr_board.proofs.Tokens.{MapSeat}
 use Rattle.nr_board.specs.Ahead.{after_look}
 use Rattle.nr_board.specs.Callers.{Caller, Gains, Grows, Rests, Table, token}
-use Rattle.nr_board.specs.Holds.{HeldAs, HeldIn, HoleIn, HoldsWhatItSays, finds_by_word, looks_at, slot_in}
+use Rattle.nr_board.specs.Holds.{FindsHoleAfter, FindsRowsAfter, HeldAs, HeldIn, HoldsWhatItSays, HoleIn, finds_by_word}
+use Rattle.nr_board.specs.Holds.{looks_at, slot_in}
 use Rattle.nr_board.specs.declared.board.Own.{Own}
 use Rattle.nr_board.specs.declared.holds.Held.{Held}
 use Rattle.nr_board.specs.Meetings.{HasPut}
@@ -33,24 +35,94 @@ use Rattle.nr_board.specs.Plays.{holding}
 use Rattle.nr_board.specs.Views.{caller_number, grip_of, is_sized, rows_held, slot_held}
 use Rattle.nr_map.specs.declared.hand.Kept.{Kept}
 use Rattle.nr_map.specs.Pins.{HoldsSlot, Pins}
-use Rattle.nr_map.specs.Hands.{AskedBefore, AsksInVain, FindsNone, Handed, HoldsAnew, HoldsKey, HoldsNothing, IsHand}
+use Rattle.nr_map.specs.Hands.{AskedBefore, AsksInVain, BegunIn, Handed, HoldsKey, HoldsNothing, IsHand, first_by}
 use Rattle.nr_map.specs.Hands.{KeepsAnew, KeepsByHand, MovesByHand, PinsByHand, departed, goes_on, handed, late_by}
 use Rattle.nr_map.specs.Hands.{looks_first, steps_to_depart}
 
+-- what a find's answer stands for: its reply, the steps of its hold, and what the hand holds then
+abbrev reply_of : Bool → List Row → Reply
+reply_of true rows = reply.Rows rows
+reply_of false rows = reply.Hole
+
+abbrev TakesIn : Bool → Bool → List ℕ → ℕ → ℕ → Type 0
+TakesIn true by_word named says steps = HeldIn by_word named says steps
+TakesIn false by_word named says steps = HoleIn by_word named steps
+
+abbrev HoldsThen : Bool → ℕ → Handed → Handed → Type 0
+HoldsThen true key old new = HoldsKey key old new
+HoldsThen false key old new = HoldsNothing key old new
+
 -- a hold takes a step at least
-some_held : (by_word : Bool) (named : List ℕ) (says steps : ℕ) → HeldIn by_word named says steps → 0 < steps
-some_held false named says steps is = omega (arith, is.2)
-some_held true named says steps takes =
+some_takes : (answer by_word : Bool) (named : List ℕ) (says steps : ℕ) → TakesIn answer by_word named says steps
+    → 0 < steps
+some_takes true false named says steps takes = omega (arith, takes.2)
+some_takes true true named says steps takes =
     ⊎_elim (λ four. omega (arith, four.3))
     (λ more. ⊎_elim (λ six. omega (arith, six.5)) (λ eight. omega (arith, eight.7)) more) takes
-
-some_hole : (by_word : Bool) (named : List ℕ) (steps : ℕ) → HoleIn by_word named steps → 0 < steps
-some_hole false named steps is = omega (arith, is.1)
-some_hole true named steps takes =
+some_takes false false named says steps takes = omega (arith, takes.1)
+some_takes false true named says steps takes =
     ⊎_elim (λ one. omega (arith, one.1))
     (λ more. ⊎_elim (λ four. omega (arith, four.2))
     (λ last. ⊎_elim (λ six. omega (arith, six.4)) (λ seven. omega (arith, seven.6)) last) more)
     takes
+
+-- a find by a hand, by its answer: the looks at the key that named those came before
+record Finds (answer : Bool) (before : List ℕ) (more key : ℕ) (old new : Handed) : Type 0 where
+  steps : ℕ
+  named : List ℕ
+  takes : TakesIn answer (finds_by_word old.reader) named new.reader.says steps
+  looks : new.reader.marks.loads ≡ old.reader.marks.loads ++ looks_at key (before ++ named)
+  gains : Gains (steps + more) (model.Find key) old.reader new.reader (reply_of answer new.rows)
+  holds : HoldsThen answer key old new
+
+module _ (key : ℕ) (old new : Handed) where
+  keeps_anew : (answer : Bool) (begun : ℕ) (before : List ℕ) (finds : Finds answer before begun key old new)
+      → BegunIn key old finds.named begun before
+      → (old.key ≡ Some key → AskedBefore key old new) → KeepsAnew key old new answer
+  keeps_anew true begun before so begins own =
+      let none : begun ≡ begun + 0 = omega arith in
+      let finds : FindsRowsAfter before (begun + 0) key new.rows old.reader new.reader
+      = record {
+        steps = so.steps;
+        named = so.named;
+        says = new.reader.says;
+        holds_in = so.takes;
+        looks = so.looks;
+        gains =
+            subst (λ (n : ℕ). Gains (so.steps + n) (model.Find key) old.reader new.reader (reply.Rows new.rows)) none
+            so.gains;
+      } in
+      (own, (begun, before, finds, begins, so.holds, refl))
+  keeps_anew false begun before so begins own =
+      let finds : FindsHoleAfter before begun key old.reader new.reader
+      = record { steps = so.steps; named = so.named; finds_in = so.takes; looks = so.looks; gains = so.gains } in
+      (own, (begun, before, finds, begins, so.holds))
+
+  pinned : (answer : Bool) → PinsByHand key old new answer → Finds answer [] (steps_to_depart old.key) key old new
+  pinned true (so, holds, says) =
+      let takes = subst (λ (n : ℕ). HeldIn (finds_by_word old.reader) so.named n so.steps) (sym says) so.holds_in in
+      record { steps = so.steps; named = so.named; takes = takes; looks = so.looks; gains = so.gains; holds = holds }
+  pinned false (so, holds) =
+      let takes = so.finds_in in
+      record { steps = so.steps; named = so.named; takes = takes; looks = so.looks; gains = so.gains; holds = holds }
+
+-- a hand's find after a look, whatever its answer
+abbrev Moves : ℕ → ℕ → Handed → Handed → Bool → Type 0
+Moves key word old new answer =
+    (steps : ℕ) × (named : List ℕ)
+    × TakesIn answer (finds_by_word old.reader) (first_by old.reader.says word ++ named) new.reader.says steps
+    × Gains (steps + late_by old.reader.says word - 1) (model.Find key) old.reader new.reader (reply_of answer new.rows)
+    × HoldsThen answer key old new × (new.reader.marks.loads ≡ old.reader.marks.loads ++ looks_at key named)
+
+moves_so : (key word : ℕ) (old new : Handed) (answer : Bool) → MovesByHand key word old new answer
+    → Moves key word old new answer
+moves_so key word old new true moves = moves
+moves_so key word old new false moves = moves
+
+moves_by : (key word : ℕ) (old new : Handed) (answer : Bool) → Moves key word old new answer
+    → MovesByHand key word old new answer
+moves_by key word old new true moves = moves
+moves_by key word old new false moves = moves
 
 some_is : (one other : ℕ) → Some one ≡ Some other → one ≡ other
 some_is one other same = ap (λ (o : Option ℕ). value o) same
@@ -99,31 +171,31 @@ module _ (key word : ℕ) (old asked new : Handed) (looks : looks_first key old.
   same_words : finds_by_word asked.reader ≡ finds_by_word old.reader
   same_words = λ j. nat_lt (number j - 1) (table j).announcers
 
-  key_still : HoldsKey key asked new → HoldsKey key old new
-  key_still so = record {
+  marks_still : new.reader.marks
+      ≡ acted (with_loads (departed asked.key asked.reader.marks) new.reader.marks.loads)
+      (put_number new.reader.seen key)
+      → new.reader.marks
+      ≡ acted (with_loads (departed old.key old.reader.marks) new.reader.marks.loads) (put_number new.reader.seen key)
+  marks_still so =
+      so
+      ∙ (λ j. acted (with_loads (departed (key_is j) (marks j)) new.reader.marks.loads)
+      (put_number new.reader.seen key))
+      ∙ loads_over old.key old.reader.marks (with_look old.reader.marks key (name_number word)).loads
+      new.reader.marks.loads (put_number new.reader.seen key)
+
+  still : (answer : Bool) → HoldsThen answer key asked new → HoldsThen answer key old new
+  still true so = record {
     key_is = so.key_is;
     row_set = subst (λ (t : Table). IsRowSet t.shape.rows new.rows) table so.row_set;
     holds = so.holds;
-    marks =
-        so.marks
-        ∙ (λ j. acted (with_loads (departed (key_is j) (marks j)) new.reader.marks.loads)
-        (put_number new.reader.seen key))
-        ∙ loads_over old.key old.reader.marks (with_look old.reader.marks key (name_number word)).loads
-        new.reader.marks.loads (put_number new.reader.seen key);
+    marks = marks_still so.marks;
   }
-
-  nothing_still : HoldsNothing key asked new → HoldsNothing key old new
-  nothing_still so = record {
+  still false so = record {
     key_is = so.key_is;
     rows = so.rows;
     holds = so.holds;
     silent = so.silent;
-    marks =
-        so.marks
-        ∙ (λ j. acted (with_loads (departed (key_is j) (marks j)) new.reader.marks.loads)
-        (put_number new.reader.seen key))
-        ∙ loads_over old.key old.reader.marks (with_look old.reader.marks key (name_number word)).loads
-        new.reader.marks.loads (put_number new.reader.seen key);
+    marks = marks_still so.marks;
   }
 
   loads_on : (named : List ℕ) → new.reader.marks.loads ≡ asked.reader.marks.loads ++ looks_at key named
@@ -148,107 +220,49 @@ module _ (key word : ℕ) (old asked new : Handed) (looks : looks_first key old.
       (let goes : goes_on asked.reader.says word ≡ true = (λ j. lt j && full j) in let clash = stays in cc))
       (λ _ empty. ap (λ (b : Bool). cond b (slot_of word + 1) 0) empty) refl
 
-  pub moved_anew : MovesByHand key word asked new true → HoldsAnew 0 key old new
-  moved_anew (steps, named, takes, gains, holds, loads) =
-      by_cases (λ (b : Bool). goes_on asked.reader.says word ≡ b → HoldsAnew 0 key old new)
-      (goes_on asked.reader.says word)
-      (λ _ goes. let so = goes_so goes in
-      let takes' : HeldIn (finds_by_word old.reader) (name_number word ∷ named) new.reader.says steps
-      = subst
-      (λ (p : Bool × Bool). HeldIn p.0 (cond {A = List ℕ} p.1 (name_number word ∷ []) [] ++ named)
-      new.reader.says steps)
-      (λ j. (same_words j, goes j)) takes in
-      let some = some_held (finds_by_word old.reader) (name_number word ∷ named) new.reader.says steps takes' in
-      let gains'
-      = subst
-      (λ (b : Bool). Gains (steps + cond {A = ℕ} b 0 2 - 1) (model.Find key) asked.reader new.reader
-      (reply.Rows new.rows))
-      goes gains in (
-        0,
-        [],
-        record {
-          steps = steps;
-          named = name_number word ∷ named;
-          says = new.reader.says;
-          holds_in = takes';
-          looks = loads_on named loads;
-          gains = grown (reply.Rows new.rows) (steps + 0 - 1) (steps + (0 + 0)) (omega (arith, some)) gains';
-        },
-        inr (inr (looks, so.0, slot_of word, named, ap (λ (n : ℕ). n ∷ named) so.1, refl, refl)),
-        key_still holds,
-        refl,
-      ))
-      (λ _ stays.
-      let takes' : HeldIn (finds_by_word old.reader) named new.reader.says steps
-      = subst
-      (λ (p : Bool × Bool). HeldIn p.0 (cond {A = List ℕ} p.1 (name_number word ∷ []) [] ++ named)
-      new.reader.says steps)
-      (λ j. (same_words j, stays j)) takes in
-      let gains'
-      = subst
-      (λ (b : Bool). Gains (steps + cond {A = ℕ} b 0 2 - 1) (model.Find key) asked.reader new.reader
-      (reply.Rows new.rows))
-      stays gains in (
-        2,
-        name_number word ∷ [],
-        record {
-          steps = steps;
-          named = named;
-          says = new.reader.says;
-          holds_in = takes';
-          looks = loads_on named loads;
-          gains = grown (reply.Rows new.rows) (steps + 2 - 1) (steps + (2 + 0)) (omega arith) gains';
-        },
-        inr (inl (looks, name_number word, stays_so stays, refl, refl)),
-        key_still holds,
-        refl,
-      )) refl
+  module _ (answer : Bool) (moves : Moves key word asked new answer) where
+    -- the look is the find's first where the hand goes on
+    first_look : (goes : Bool) → cond {A = List ℕ} goes [] (name_number word ∷ [])
+        ++ (cond {A = List ℕ} goes (name_number word ∷ []) [] ++ moves.1)
+        ≡ name_number word ∷ moves.1
+    first_look true = refl
+    first_look false = refl
 
-  pub moved_none : MovesByHand key word asked new false → FindsNone key old new
-  moved_none (steps, named, takes, gains, holds, loads) =
-      by_cases (λ (b : Bool). goes_on asked.reader.says word ≡ b → FindsNone key old new)
-      (goes_on asked.reader.says word)
-      (λ _ goes. let so = goes_so goes in
-      let takes' : HoleIn (finds_by_word old.reader) (name_number word ∷ named) steps
-      = subst (λ (p : Bool × Bool). HoleIn p.0 (cond {A = List ℕ} p.1 (name_number word ∷ []) [] ++ named) steps)
-      (λ j. (same_words j, goes j)) takes in
-      let some = some_hole (finds_by_word old.reader) (name_number word ∷ named) steps takes' in
-      let gains'
-      = subst
-      (λ (b : Bool). Gains (steps + cond {A = ℕ} b 0 2 - 1) (model.Find key) asked.reader new.reader reply.Hole)
-      goes gains in (
-        0,
-        [],
-        record {
-          steps = steps;
-          named = name_number word ∷ named;
-          finds_in = takes';
-          looks = loads_on named loads;
-          gains = grown reply.Hole (steps + 0 - 1) (steps + 0) (omega (arith, some)) gains';
-        },
-        inr (inr (looks, so.0, slot_of word, named, ap (λ (n : ℕ). n ∷ named) so.1, refl, refl)),
-        nothing_still holds,
-      ))
-      (λ _ stays.
-      let takes' : HoleIn (finds_by_word old.reader) named steps
-      = subst (λ (p : Bool × Bool). HoleIn p.0 (cond {A = List ℕ} p.1 (name_number word ∷ []) [] ++ named) steps)
-      (λ j. (same_words j, stays j)) takes in
-      let gains'
-      = subst
-      (λ (b : Bool). Gains (steps + cond {A = ℕ} b 0 2 - 1) (model.Find key) asked.reader new.reader reply.Hole)
-      stays gains in (
-        2,
-        name_number word ∷ [],
-        record {
-          steps = steps;
-          named = named;
-          finds_in = takes';
-          looks = loads_on named loads;
-          gains = grown reply.Hole (steps + 2 - 1) (steps + 2) (omega arith) gains';
-        },
-        inr (inl (looks, name_number word, stays_so stays, refl, refl)),
-        nothing_still holds,
-      )) refl
+    found : (goes : Bool) → goes_on asked.reader.says word ≡ goes
+        → Finds answer (cond goes [] (name_number word ∷ [])) (cond goes 0 2) key old new
+    found goes is = record {
+      steps = moves.0;
+      named = cond goes (name_number word ∷ []) [] ++ moves.1;
+      takes =
+          subst
+          (λ (p : Bool × Bool). TakesIn answer p.0 (cond {A = List ℕ} p.1 (name_number word ∷ []) [] ++ moves.1)
+          new.reader.says moves.0)
+          (λ j. (same_words j, is j)) moves.2;
+      looks =
+          loads_on moves.1 moves.5
+          ∙ ap (λ (named : List ℕ). old.reader.marks.loads ++ looks_at key named) (sym (first_look goes));
+      gains =
+          grown (reply_of answer new.rows) (moves.0 + late_by asked.reader.says word - 1) (moves.0 + cond goes 0 2)
+          (omega (
+            arith,
+            some_takes answer _ _ _ moves.0 moves.2,
+            ap (λ (b : Bool). cond {A = ℕ} b 0 2) is,
+          )) moves.3;
+      holds = still answer moves.4;
+    }
+
+    pub moved_anew : (old.key ≡ Some key → AskedBefore key old new) → KeepsAnew key old new answer
+    unfolding found
+    moved_anew own =
+        by_cases (λ (b : Bool). goes_on asked.reader.says word ≡ b → KeepsAnew key old new answer)
+        (goes_on asked.reader.says word)
+        (λ _ goes. let so = goes_so goes in
+        keeps_anew key old new answer 0 [] (found true goes)
+        (inr (inr (looks, so.0, slot_of word, moves.1, ap (λ (n : ℕ). n ∷ moves.1) so.1, refl, refl))) own)
+        (λ _ stays.
+        keeps_anew key old new answer 2 (name_number word ∷ []) (found false stays)
+        (inr (inl (looks, name_number word, stays_so stays, refl, refl))) own)
+        refl
 
 -- a hand that asked in vain goes on
 module _ (key word : ℕ) (old asked new : Handed) (vain : AsksInVain key old asked) (held : old.key ≡ Some key)
@@ -271,16 +285,9 @@ module _ (key word : ℕ) (old asked new : Handed) (vain : AsksInVain key old as
       grows_gains 1 m sum old.reader asked.reader new.reader (model.Find key) answer is vain.grows gains
 
   pub asked_anew : (answer : Bool) → MovesByHand key word asked new answer → KeepsAnew key old new answer
-  asked_anew true moves = (
-    (λ _. asked_before _ _ moves.1 moves.3 moves.5),
-    moved_anew key word old asked new (looks_own key old.key old.reader.says held) vain.grows.table
-        vain.grows.number vain.says vain.key_is marks went_on moves,
-  )
-  asked_anew false moves = (
-    (λ _. asked_before _ _ moves.1 moves.3 moves.5),
-    moved_none key word old asked new (looks_own key old.key old.reader.says held) vain.grows.table
-        vain.grows.number vain.says vain.key_is marks went_on moves,
-  )
+  asked_anew answer moves = let so = moves_so key word asked new answer moves in
+      moved_anew key word old asked new (looks_own key old.key old.reader.says held) vain.grows.table vain.grows.number
+      vain.says vain.key_is marks went_on answer so (λ _. asked_before _ _ so.1 so.3 so.5)
 
 -- so does one that holds by its word another key's set, and looked ahead
 module _ (key word other : ℕ) (old ahead new : Handed) (held : old.key ≡ Some other) (apart : other ≢ key)
@@ -305,46 +312,18 @@ module _ (key word other : ℕ) (old ahead new : Handed) (held : old.key ≡ Som
       rests_gains 1 m sum old.reader ahead.reader new.reader (model.Find key) answer is rests gains
 
   pub looked_anew : (answer : Bool) → MovesByHand key word ahead new answer → KeepsAnew key old new answer
-  looked_anew true moves = (
-    (λ own. absurd (apart (some_is other key (sym held ∙ own)))),
-    moved_anew key word old ahead new (looks_loud key other old.key old.reader.says held loud) rests.table
-        rests.number (ap (λ (c : Caller). c.says) look) key_is (ap (λ (c : Caller). c.marks) look) gains_on moves,
-  )
-  looked_anew false moves = (
-    (λ own. absurd (apart (some_is other key (sym held ∙ own)))),
-    moved_none key word old ahead new (looks_loud key other old.key old.reader.says held loud) rests.table
-        rests.number (ap (λ (c : Caller). c.says) look) key_is (ap (λ (c : Caller). c.marks) look) gains_on moves,
-  )
+  looked_anew answer moves =
+      moved_anew key word old ahead new (looks_loud key other old.key old.reader.says held loud) rests.table
+      rests.number (ap (λ (c : Caller). c.says) look) key_is (ap (λ (c : Caller). c.marks) look) gains_on answer
+      (moves_so key word ahead new answer moves) (λ own. absurd (apart (some_is other key (sym held ∙ own))))
 
 -- a hand that holds nothing, or another key's set by the count, pins the key without a look
 module _ (key : ℕ) (old new : Handed) (apart : old.key ≢ Some key)
     (looks : looks_first key old.key old.reader.says ≡ false) where
-  no_more : (n : ℕ) → n ≡ n + 0
-  no_more n = omega arith
-
   pub pinned_anew : (answer : Bool) → PinsByHand key old new answer → KeepsAnew key old new answer
-  pinned_anew true (finds, holds, says) = (
-    (λ own. absurd (apart own)),
-    (
-      steps_to_depart old.key,
-      [],
-      record {
-        steps = finds.steps;
-        named = finds.named;
-        says = finds.says;
-        holds_in = finds.holds_in;
-        looks = finds.looks;
-        gains = subst
-            (λ (n : ℕ). Gains (finds.steps + n) (model.Find key) old.reader new.reader (reply.Rows new.rows))
-            (no_more (steps_to_depart old.key)) finds.gains;
-      },
-      inl (looks, refl, refl),
-      holds,
-      says,
-    ),
-  )
-  pinned_anew false (finds, holds) =
-      ((λ own. absurd (apart own)), (steps_to_depart old.key, [], finds, inl (looks, refl, refl), holds))
+  pinned_anew answer pins =
+      keeps_anew key old new answer (steps_to_depart old.key) [] (pinned key old new answer pins)
+      (inl (looks, refl, refl)) (λ own. absurd (apart own))
 
 pub pinned_none : (key : ℕ) (old new : Handed) (answer : Bool) → old.key ≡ None → PinsByHand key old new answer
     → KeepsAnew key old new answer
@@ -361,8 +340,22 @@ pinned_other key other old new answer held apart silent =
 -- what it held by the count it lets go, after the look
 pub pinned_late : (key word : ℕ) (old new : Handed) (answer : Bool) → IsSome old.key → old.reader.says ≡ 0
     → PinsByHand key old new answer → MovesByHand key word old new answer
-pinned_late key word old new answer held silent pins = late answer pins
+pinned_late key word old new answer held silent pins =
+    moves_by key word old new answer (
+      finds.steps,
+      finds.named,
+      subst
+          (λ (b : Bool). TakesIn answer (finds_by_word old.reader)
+          (cond {A = List ℕ} b (name_number word ∷ []) [] ++ finds.named) new.reader.says finds.steps)
+          (sym stays) finds.takes,
+      subst (λ (n : ℕ). Gains n (model.Find key) old.reader new.reader (reply_of answer new.rows)) steps_so finds.gains,
+      finds.holds,
+      finds.looks,
+    )
   where
+    finds : Finds answer [] (steps_to_depart old.key) key old new
+    finds = pinned key old new answer pins
+
     one_step : (o : Option ℕ) → IsSome o → steps_to_depart o ≡ 1
     one_step None none = absurd (cc)
     one_step (Some other) some = refl
@@ -370,35 +363,10 @@ pinned_late key word old new answer held silent pins = late answer pins
     stays : goes_on old.reader.says word ≡ false
     stays = ap (λ (n : ℕ). goes_on n word) silent
 
-    steps_so : (steps : ℕ) → steps + steps_to_depart old.key ≡ steps + late_by old.reader.says word - 1
-    steps_so steps =
+    steps_so : finds.steps + steps_to_depart old.key ≡ finds.steps + late_by old.reader.says word - 1
+    steps_so =
         let two : late_by old.reader.says word ≡ 2 = ap (λ (b : Bool). cond {A = ℕ} b 0 2) stays in
         omega (arith, one_step old.key held)
-
-    late : (answer : Bool) → PinsByHand key old new answer → MovesByHand key word old new answer
-    late true (finds, holds, says) = (
-      finds.steps,
-      finds.named,
-      subst
-          (λ (p : Bool × ℕ). HeldIn (finds_by_word old.reader)
-          (cond {A = List ℕ} p.0 (name_number word ∷ []) [] ++ finds.named) p.1 finds.steps)
-          (λ j. (sym stays j, sym says j)) finds.holds_in,
-      subst (λ (n : ℕ). Gains n (model.Find key) old.reader new.reader (reply.Rows new.rows)) (steps_so finds.steps)
-          finds.gains,
-      holds,
-      finds.looks,
-    )
-    late false (finds, holds) = (
-      finds.steps,
-      finds.named,
-      subst
-          (λ (b : Bool). HoleIn (finds_by_word old.reader)
-          (cond {A = List ℕ} b (name_number word ∷ []) [] ++ finds.named) finds.steps)
-          (sym stays) finds.finds_in,
-      subst (λ (n : ℕ). Gains n (model.Find key) old.reader new.reader reply.Hole) (steps_so finds.steps) finds.gains,
-      holds,
-      finds.looks,
-    )
 
 pub anew_keeps : (key : ℕ) (old new : Handed) (answer : Bool) → KeepsAnew key old new answer
     → KeepsByHand key old new answer

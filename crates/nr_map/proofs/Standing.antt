@@ -1,6 +1,6 @@
 -- How often a put number stands in slots, counted slot by slot.
 use Rattle.std.proofs.Common.{Bool, List, [], ap, arith, cond, false, get_or, length, refl, suc, take, true, zero}
-use Rattle.std.proofs.Common.{ℕ, ◌++◌, ◌+◌, ◌<◌, ◌∷◌, ◌≡◌, ◌≤◌}
+use Rattle.std.proofs.Common.{ℕ, ◌++◌, ◌+◌, ◌∷◌, ◌≡◌, ◌≤◌}
 use Rattle.std.specs.Prelude.{nat_eq}
 use Rattle.nr_core.proofs.Sums.{below-first}
 use Rattle.nr_core.specs.Sums.{below, only}
@@ -60,16 +60,3 @@ pub count_had : (number x : ℕ) (taken reaped : Bool)
 count_had number x false reaped = refl
 count_had number x true true = refl
 count_had number x true false = omega (arith, count_cons number x [])
-
--- slots that add nothing
-pub below_gap : (f : ℕ → ℕ) (n from end : ℕ) → end ≡ from + n → ((k : ℕ) → from ≤ k → k < end → f k ≡ 0)
-    → below f from ≡ below f end
-below_gap f zero from end is none = ap (below f) (omega arith)
-below_gap f (suc n) from end is none =
-    let last : suc (from + n) ≡ end = omega arith in
-    omega (
-      arith,
-      below_gap f n from (from + n) refl (λ k first low. none k first (omega arith)),
-      none (from + n) (omega arith) (omega arith),
-      ap (below f) last,
-    )

@@ -29,8 +29,8 @@ use Rattle.nr_model.proofs.HistoryLemmas.{count_by-cons, one, state_of-next_othe
 use Rattle.nr_map.specs.Written.{FindsPut, FindsWhatItHeard, FindsWritten, HeardBefore, LastPut, NonePut, ReadsNoOlder}
 use Rattle.nr_map.specs.Written.{evicts_at, is_evicted}
 
--- What a call leaves of a key's state: where it put a set, the key is filled; where it put none, a set that stands there
--- stood there before; and where it evicted none, a filled key stays filled.
+-- What a call leaves of a key's state: where it put a set, the key is filled; where it put none, a set that stands
+-- there stood there before; and where it evicted none, a filled key stays filled.
 record Leaves (puts evicts : Bool) (old new : KeyState) : Type 0 where
   filled : puts ≡ true → is_filled_key new ≡ true
   stood : puts ≡ false → is_filled_key new ≡ true → new ≡ old
@@ -51,8 +51,8 @@ leaves_none evicts old new none before = record {
 }
 
 fill_leaves : (here : Bool) (n : ℕ) (new : List Row)
-    → Leaves (is_done (if here then reply.Done else reply.Stale)) (is_evicted (if here then reply.Done else reply.Stale))
-    (Asked n) (if here then Rows n new else Asked n)
+    → Leaves (is_done (if here then reply.Done else reply.Stale))
+    (is_evicted (if here then reply.Done else reply.Stale)) (Asked n) (if here then Rows n new else Asked n)
 fill_leaves true n new = leaves_one (Asked n) (Rows n new) refl
 fill_leaves false n new = leaves_it false (Asked n)
 
@@ -91,9 +91,9 @@ step_leaves : (map : PartialMap) (key : ℕ) (e : Entry) → key < length map.st
 step_leaves map key e near legal =
     let own : ℕ = call_key e.call in
     let done = at_key (is_done e.reply) own key in let evicted = at_key (is_evicted e.reply) own key in
-    let Whole : Bool × Bool × KeyState × KeyState → Type 0 = λ (p : Bool × Bool × KeyState × KeyState). Leaves p.0 p.1 p.2 p.3 in
+    let Of : Bool × Bool × KeyState × KeyState → Type 0 = λ p. Leaves p.0 p.1 p.2 p.3 in
     ⊎_elim
-    (λ (same : own ≡ key). subst Whole
+    (λ (same : own ≡ key). subst Of
     (λ j. (
       (ap is_done (sym legal) ∙ sym (done.0 same)) j,
       (ap is_evicted (sym legal) ∙ sym (evicted.0 same)) j,
@@ -101,7 +101,7 @@ step_leaves map key e near legal =
       (sym (state_of-next_same map e.call (omega (arith, same))) ∙ ap (state_of (next map e.call)) same) j,
     ))
     (leaves map.bound e.call (state_of map own)))
-    (λ (other : own ≢ key). subst Whole
+    (λ (other : own ≢ key). subst Of
     (λ j. (
       sym (done.1 other) j,
       sym (evicted.1 other) j,
