@@ -51,31 +51,16 @@ by_states f (state ∷ l) =
     omega (arith, below-first (λ key. f (get_or (state ∷ l) key (states.Hole 0))) (length l), by_states f l)
 
 asks_other : (key : ℕ) (call : Call) (b : Bool) → key ≢ call_key call → (asks key call && b) ≡ false
-asks_other key (model.Find k) b other = refl
 asks_other key (model.Ask k) b other = ap (λ (a : Bool). a && b) (ne_eqb k key (λ e. other (sym e)))
-asks_other key (model.Fill k number rows) b other = refl
-asks_other key (model.Update k batch) b other = refl
-asks_other key (model.Replace k rows) b other = refl
-asks_other key (model.Evict k) b other = refl
-asks_other key (model.Cancel k) b other = refl
+asks_other key call b other = refl
 
 fills_other : (key : ℕ) (call : Call) (b : Bool) → key ≢ call_key call → (fills_key key call && b) ≡ false
-fills_other key (model.Find k) b other = refl
-fills_other key (model.Ask k) b other = refl
 fills_other key (model.Fill k number rows) b other = ap (λ (a : Bool). a && b) (ne_eqb k key (λ e. other (sym e)))
-fills_other key (model.Update k batch) b other = refl
-fills_other key (model.Replace k rows) b other = refl
-fills_other key (model.Evict k) b other = refl
-fills_other key (model.Cancel k) b other = refl
+fills_other key call b other = refl
 
 cancels_other : (key : ℕ) (call : Call) (b : Bool) → key ≢ call_key call → (cancels_key key call && b) ≡ false
-cancels_other key (model.Find k) b other = refl
-cancels_other key (model.Ask k) b other = refl
-cancels_other key (model.Fill k number rows) b other = refl
-cancels_other key (model.Update k batch) b other = refl
-cancels_other key (model.Replace k rows) b other = refl
-cancels_other key (model.Evict k) b other = refl
 cancels_other key (model.Cancel k) b other = ap (λ (a : Bool). a && b) (ne_eqb k key (λ e. other (sym e)))
+cancels_other key call b other = refl
 
 pub sends_of_all_keys_lem : SendsOfAllKeys
 sends_of_all_keys_lem writer readers knows =

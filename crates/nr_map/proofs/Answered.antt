@@ -117,8 +117,7 @@ kept_so shows key before room answer old new = ⊎_elim
 asked_so : (key : ℕ) (answer : Asked) (old new : Caller) → AsksKey key old new answer
     → IsEntry (model.Ask key) (asked_reply answer) old new
 asked_so key (asked.Send ticket) old new asks = is_entry _ _ _ old new asks.0
-asked_so key asked.Waiting old new asks = is_entry _ _ _ old new asks
-asked_so key asked.Filled old new asks = is_entry _ _ _ old new asks
+asked_so key answer old new asks = is_entry _ _ _ old new asks
 
 looked_so : (key : ℕ) (before rows : List Row) (answer : Found) (old new : Caller)
     → LooksAt key old before new rows answer → IsEntry (model.Find key) (answered answer rows) old new
@@ -128,19 +127,15 @@ looked_so key before rows found.Hole old new looks = is_entry _ _ _ old new look
 filled_so : (key number : ℕ) (rows : List Row) (answer : Result (Unit {0}) FillFault) (old new : Caller)
     → FillsKey key number rows old new answer → IsAnswered (model.Fill key number rows) (fill_reply answer) old new
 filled_so key number rows (Ok done) old new fills = is_entry _ _ _ old new fills.gains
-filled_so key number rows (Err fill.NotAsked) old new fills = is_entry _ _ _ old new fills.0
-filled_so key number rows (Err fill.Already) old new fills = is_entry _ _ _ old new fills.0
-filled_so key number rows (Err fill.Stale) old new fills = is_entry _ _ _ old new fills.0
 filled_so key number rows (Err (fill.NoSlot counts)) old new fills = without_slot _ _ counts old new fills
+filled_so key number rows (Err fault) old new fills = is_entry _ _ _ old new fills.0
 
 updated_so : (bound key : ℕ) (batch : List Delta) (answer : Result (Unit {0}) UpdateFault) (old new : Caller)
     → UpdatesKey bound key batch old new answer → IsAnswered (model.Update key batch) (update_reply answer) old new
 updated_so bound key batch (Ok done) old new updates = is_entry _ _ _ old new updates.3.gains
 updated_so bound key batch (Err update.Dropped) old new updates = is_entry _ _ _ old new updates.0
-updated_so bound key batch (Err update.NoRow) old new updates = is_entry _ _ _ old new updates.2
-updated_so bound key batch (Err update.TooMany) old new updates = is_entry _ _ _ old new updates.2
-updated_so bound key batch (Err (update.NoSlot counts)) old new updates =
-    without_slot _ _ counts old new updates.3
+updated_so bound key batch (Err (update.NoSlot counts)) old new updates = without_slot _ _ counts old new updates.3
+updated_so bound key batch (Err fault) old new updates = is_entry _ _ _ old new updates.2
 
 replaced_so : (key : ℕ) (rows : List Row) (answer : Result (Unit {0}) ReplaceFault) (old new : Caller)
     → ReplacesKey key rows old new answer → IsAnswered (model.Replace key rows) (replace_reply answer) old new
@@ -156,8 +151,7 @@ evicted_so key evict.Nothing old new evicts = is_entry _ _ _ old new evicts.0
 cancelled_so : (key : ℕ) (answer : Cancel) (old new : Caller) → CancelsKey key old new answer
     → IsEntry (model.Cancel key) (cancel_reply answer) old new
 cancelled_so key cancel.Cancelled old new cancels = is_entry _ _ _ old new cancels.0
-cancelled_so key cancel.Nothing old new cancels = is_entry _ _ _ old new cancels.0
-cancelled_so key cancel.Worn old new cancels = is_entry _ _ _ old new cancels.0
+cancelled_so key answer old new cancels = is_entry _ _ _ old new cancels.0
 
 module _ {Room : Type 0} (shows : Room → List Row → Type 0) (before had : Room) (old new : Caller) where
   -- what a refused call answers is what the plain one would, of which nothing is done
@@ -165,20 +159,16 @@ module _ {Room : Type 0} (shows : Room → List Row → Type 0) (before had : Ro
       → FillsReclaiming shows key number rows old before new had answer
       → IsAnswered (model.Fill key number rows) (fill_reply answer) old new
   fills_giving key number rows (Ok given) fills = is_entry _ _ _ old new fills.published.gains
-  fills_giving key number rows (Err fill.NotAsked) fills = is_entry _ _ _ old new fills.0.0
-  fills_giving key number rows (Err fill.Already) fills = is_entry _ _ _ old new fills.0.0
-  fills_giving key number rows (Err fill.Stale) fills = is_entry _ _ _ old new fills.0.0
   fills_giving key number rows (Err (fill.NoSlot counts)) fills = without_slot _ _ counts old new fills.0
+  fills_giving key number rows (Err fault) fills = is_entry _ _ _ old new fills.0.0
 
   updates_giving : (bound key : ℕ) (batch : List Delta) (answer : Result Reclaimed UpdateFault)
       → UpdatesReclaiming shows bound key batch old before new had answer
       → IsAnswered (model.Update key batch) (update_reply answer) old new
   updates_giving bound key batch (Ok given) updates = is_entry _ _ _ old new updates.published.gains
   updates_giving bound key batch (Err update.Dropped) updates = is_entry _ _ _ old new updates.0.0
-  updates_giving bound key batch (Err update.NoRow) updates = is_entry _ _ _ old new updates.0.2
-  updates_giving bound key batch (Err update.TooMany) updates = is_entry _ _ _ old new updates.0.2
-  updates_giving bound key batch (Err (update.NoSlot counts)) updates =
-      without_slot _ _ counts old new updates.0.3
+  updates_giving bound key batch (Err (update.NoSlot counts)) updates = without_slot _ _ counts old new updates.0.3
+  updates_giving bound key batch (Err fault) updates = is_entry _ _ _ old new updates.0.2
 
   replaces_giving : (key : ℕ) (rows : List Row) (answer : Result Reclaimed ReplaceFault)
       → ReplacesReclaiming shows key rows old before new had answer

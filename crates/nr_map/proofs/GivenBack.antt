@@ -1,10 +1,13 @@
 -- A caller that lets no set be overwritten, call by call: each slot's set has the rows of its put number, and so has
 -- each that came out.
 use Rattle.std.proofs.Common.{Bool, List, [], ap, append-nil, arith, cond, false, get_or, get_or-set_other}
-use Rattle.std.proofs.Common.{get_or-set_same, inl, inr, length, length-append, length-set, map, refl, set, subst, suc}
-use Rattle.std.proofs.Common.{sym, true, zero, ℕ, ⊎_elim, ◌++◌, ◌+◌, ◌<◌, ◌∙◌, ◌∷◌, ◌≡◌, ◌≢◌, ◌⊎◌, ◌*◌}
+use Rattle.std.proofs.Common.{get_or-set_same, inr, length, length-append, length-set, map, refl, set, subst, suc}
+use Rattle.std.proofs.Common.{sym, true, zero, ℕ, ⊎_elim, ◌++◌, ◌+◌, ◌<◌, ◌∙◌, ◌∷◌, ◌≡◌, ◌≢◌, ◌*◌}
 use Rattle.std.proofs.lemmas.Bool.{le-ltb, lt-ltb}
-use Rattle.std.proofs.lemmas.List.{length-replicate}
+use Rattle.std.proofs.lemmas.List.{get_or_append_left, length-replicate, map-append}
+use Rattle.std.proofs.lemmas.List.Elements.{All-append, All-head, All-nil, All-push, All-tail, All-weaker}
+use Rattle.std.proofs.Math.Seq.{get_or-append_seam}
+use Rattle.std.specs.List.{All}
 use Rattle.std.specs.Prelude.{nat_lt}
 use lib.ListN.{get_elem?}
 use mathlib.Core.Logic.{dite}
@@ -38,29 +41,10 @@ use Rattle.nr_map.proofs.Ledgers.{reaped_once_lem, ready_there, stands_once}
 use Rattle.nr_map.proofs.Standing.{count_both}
 use Rattle.nr_map.proofs.Remainders.{StandsIn, rest_comes_out_once_lem, rest_stands}
 
--- LISTS
-
-got_low : {A : Type 0} (l : List A) (x d : A) (i : ℕ) → i < length l → get_or (l ++ x ∷ []) i d ≡ get_or l i d
-got_low [] x d i low = absurd (omega arith)
-got_low (y ∷ l) x d zero low = refl
-got_low (y ∷ l) x d (suc i) low = got_low l x d i (omega arith)
-
-got_last : {A : Type 0} (l : List A) (x d : A) (i : ℕ) → i ≡ length l → get_or (l ++ x ∷ []) i d ≡ x
-got_last [] x d zero last = refl
-got_last [] x d (suc i) last = absurd (omega arith)
-got_last (y ∷ l) x d zero last = absurd (omega arith)
-got_last (y ∷ l) x d (suc i) last = got_last l x d i (omega arith)
-
-in_either : {A : Type 0} (l m : List A) (at : ℕ) (x : A) → get_elem? (l ++ m) at ≡ some x
-    → ((i : ℕ) × (get_elem? l i ≡ some x)) ⊎ ((i : ℕ) × (get_elem? m i ≡ some x))
-in_either [] m at x there = inr (at, there)
-in_either (y ∷ l) m zero x there = inl (0, there)
-in_either (y ∷ l) m (suc at) x there =
-    ⊎_elim (λ (was : (i : ℕ) × (get_elem? l i ≡ some x)). inl (suc was.0, was.1)) inr (in_either l m at x there)
-
-numbers_both : (given out : List Given) → numbers (given ++ out) ≡ numbers given ++ numbers out
-numbers_both [] out = refl
-numbers_both (one ∷ given) out = ap (λ (l : List ℕ). one.number ∷ l) (numbers_both given out)
+given_one : (P : Given → Type 0) (l : List Given) → All P l → (at : ℕ) (one : Given) → get_elem? l at ≡ some one → P one
+given_one P [] all at one there = absurd (some-ne-none one (sym there))
+given_one P (x ∷ l) all zero one there = subst P (some-injective x one there) (All-head P x l all)
+given_one P (x ∷ l) all (suc at) one there = given_one P l (All-tail P x l all) at one there
 
 -- THE BOOKS
 
@@ -76,14 +60,16 @@ record Books (writer : Caller) (put : List (List Row)) (given : List Given) : Ty
   many : length writer.marks.sets ≡ writer.table.shape.slots
   stand : (slot : ℕ) → slot < writer.fresh → is_reaped writer.marks slot ≡ false
       → set_in writer.marks slot ≡ rows_put put (get_or writer.marks.puts slot 0)
-  gave : (at : ℕ) (one : Given) → get_elem? given at ≡ some one → HasItsRows put one
+  gave : All (HasItsRows put) given
 
 -- one set more
 more_rows : (put : List (List Row)) (rows : List Row) (one : Given) → HasItsRows put one
     → HasItsRows (put ++ rows ∷ []) one
 more_rows put rows one has =
-    let low = has.0 in
-    (omega (arith, length-append put (rows ∷ [])), has.1 ∙ sym (got_low put rows [] one.number has.0))
+    let low = has.0 in (
+      omega (arith, length-append put (rows ∷ [])),
+      has.1 ∙ sym (get_or_append_left put (rows ∷ []) [] one.number has.0),
+    )
 
 -- the set of a slot has its rows
 stands_so : (writer : Caller) (put : List (List Row)) (given : List Given) (slot : ℕ) → Books writer put given
@@ -126,7 +112,8 @@ module _ (steps : ℕ) (call : Call) (rows : List Row) (old new : Caller) (put :
       ap (λ (l : List (List Row)). get_or l slot []) sets_are
       ∙ ap (λ (i : ℕ). get_or (set old.marks.sets published.slot rows) i []) same
       ∙ get_or-set_same old.marks.sets published.slot rows [] inside
-      ∙ sym (got_last put rows [] published.number its_number)
+      ∙ sym
+      (ap (λ (i : ℕ). get_or (put ++ rows ∷ []) i []) its_number ∙ get_or-append_seam put rows [] [])
       ∙ ap (rows_put (put ++ rows ∷ [])) (sym (ap (λ (l : List ℕ). get_or l slot 0) numbers_are
       ∙ ap (λ (i : ℕ). get_or (set old.marks.puts published.slot published.number) i 0) same
       ∙ get_or-set_same old.marks.puts published.slot published.number 0 wide)))
@@ -147,12 +134,11 @@ module _ (steps : ℕ) (call : Call) (rows : List Row) (old new : Caller) (put :
       ∙ get_or-set_other old.marks.puts published.slot slot published.number 0 other)))
 
   put_goes_on : (out : List Given) → numbers out ≡ had_number old published.slot
-      → ((at : ℕ) (one : Given) → get_elem? out at ≡ some one → HasItsRows put one)
-      → Books new (put ++ rows ∷ []) (given ++ out)
+      → All (HasItsRows put) out → Books new (put ++ rows ∷ []) (given ++ out)
   put_goes_on out had rows_had = record {
     writes = published.gains.number ∙ books.writes;
     ledger =
-        subst (Ledger new) (ap (λ (l : List ℕ). numbers given ++ l) (sym had) ∙ sym (numbers_both given out))
+        subst (Ledger new) (ap (λ (l : List ℕ). numbers given ++ l) (sym had) ∙ sym (map-append (λ (one : Given). one.number) given out))
         (ledger_goes_on steps call rows old new (numbers given) books.writes published books.ledger);
     count =
         omega (
@@ -165,9 +151,9 @@ module _ (steps : ℕ) (call : Call) (rows : List Row) (old new : Caller) (put :
         ap length sets_are ∙ length-set old.marks.sets published.slot rows ∙ books.many
         ∙ sym (ap (λ (t : Table). t.shape.slots) published.gains.table);
     stand = stand_now;
-    gave = λ at one there. more_rows put rows one
-        (⊎_elim (λ was. books.gave was.0 one was.1) (λ now. rows_had now.0 one now.1)
-        (in_either given out at one there));
+    gave =
+        All-weaker (HasItsRows put) (HasItsRows (put ++ rows ∷ [])) (more_rows put rows) (given ++ out)
+        (All-append (HasItsRows put) given out books.gave rows_had);
   }
 
 -- what a reclaiming call gives out is what its slot had
@@ -177,7 +163,7 @@ module _ {Room : Type 0} (shows : Room → List Row → Type 0) (others : ℕ) (
   gives_what_it_had : (steps : ℕ) (published : Publishes (others + steps) call rows old new) (answer : Reclaimed)
       → HandsOutAt shows old.table (lists_of old) old.marks published.slot before after steps answer
       → (numbers (given_by old published.slot answer) ≡ had_number old published.slot)
-      × ((at : ℕ) (one : Given) → get_elem? (given_by old published.slot answer) at ≡ some one → HasItsRows put one)
+      × All (HasItsRows put) (given_by old published.slot answer)
   gives_what_it_had steps published reclaimed.Set hands =
       let low : published.slot < old.fresh = omega (arith, published.inside, hands.0) in
       let slot : ℕ = published.slot in (
@@ -188,13 +174,9 @@ module _ {Room : Type 0} (shows : Room → List Row → Type 0) (others : ℕ) (
             [])
             (lt-ltb slot old.fresh low)
             ∙ ap (λ (b : Bool). cond {A = List ℕ} b [] (get_or old.marks.puts slot 0 ∷ [])) hands.1),
-        λ at one there. subst (HasItsRows put) (only_one at one there) (stands_so old put given slot books low hands.1),
+        All-push (HasItsRows put) [] (given_at old slot) (All-nil (HasItsRows put))
+            (stands_so old put given slot books low hands.1),
       )
-    where
-      only_one : (at : ℕ) (one : Given) → get_elem? (given_at old published.slot ∷ []) at ≡ some one
-          → given_at old published.slot ≡ one
-      only_one zero one there = some-injective (given_at old published.slot) one there
-      only_one (suc at) one there = absurd (some-ne-none one (sym there))
   gives_what_it_had steps published reclaimed.Nothing hands = let slot : ℕ = published.slot in
       let rest : List ℕ = cond {A = List ℕ} (is_reaped old.marks slot) [] (get_or old.marks.puts slot 0 ∷ []) in (
         sym (⊎_elim
@@ -204,7 +186,7 @@ module _ {Room : Type 0} (shows : Room → List Row → Type 0) (others : ℕ) (
             (λ gone. by_cases (λ (b : Bool). cond {A = List ℕ} b rest [] ≡ []) (nat_lt slot old.fresh)
             (λ _. ap (λ (b : Bool). cond {A = List ℕ} b [] (get_or old.marks.puts slot 0 ∷ [])) gone) (λ _. refl))
             hands.0),
-        λ at one there. absurd (some-ne-none one (sym there)),
+        All-nil (HasItsRows put),
       )
 
   gave_back : (steps : ℕ) (published : Publishes (others + steps) call rows old new) (answer : Reclaimed)
@@ -235,7 +217,7 @@ module _ {Room : Type 0} (shows : Room → List Row → Type 0) (old new : Calle
       (sym is)
       (λ goes. record {
         writes = books.writes;
-        ledger = subst (Ledger _) (sym (numbers_both given (one ∷ []))) goes;
+        ledger = subst (Ledger _) (sym (map-append (λ (it : Given). it.number) given (one ∷ []))) goes;
         count = books.count;
         many = books.many;
         stand = λ other near kept. dite (ℕ_discrete other slot)
@@ -246,18 +228,11 @@ module _ {Room : Type 0} (shows : Room → List Row → Type 0) (old new : Calle
             (omega (arith, low, books.ledger.slots.1, books.ledger.slots.2)))))
             (λ apart. books.stand other near
             (sym (get_or-set_other old.marks.reaped slot other true false apart) ∙ kept));
-        gave = λ at which there. ⊎_elim (λ was. books.gave was.0 which was.1) (λ now. only_one now.0 which now.1 has)
-            (in_either given (one ∷ []) at which there);
+        gave = All-push (HasItsRows put) given one books.gave has;
       }) ledger)
     where
       no_flag : (flags : List Bool) (i : ℕ) → get_or flags i false ≡ false → get_or flags i false ≡ true → ⊥
       no_flag flags i kept gone = let clash : false ≡ true = sym kept ∙ gone in absurd (cc)
-
-      only_one : (at : ℕ) (which : Given) → get_elem? (given_at old reaps.entry.slot ∷ []) at ≡ some which
-          → HasItsRows put (given_at old reaps.entry.slot) → HasItsRows put which
-      only_one zero which there has =
-          subst (HasItsRows put) (some-injective (given_at old reaps.entry.slot) which there) has
-      only_one (suc at) which there has = absurd (some-ne-none which (sym there))
 
 -- CALLS THAT LEAVE THE SETS
 
@@ -328,7 +303,7 @@ module _ {Room : Type 0} (shows : Room → List Row → Type 0) where
         count = refl;
         many = length-replicate shape.slots [] ∙ ap (λ (s : Shape). s.slots) (sym opened.sizes);
         stand = λ slot low kept. absurd (omega arith);
-        gave = λ at one there. absurd (some-ne-none one (sym there));
+        gave = All-nil (HasItsRows []);
       }) (opening_begins_lem shape words map writer readers opened)
   run_books (Goes old new put more given out run deal) = deal_goes_on put given deal (run_books run)
 
@@ -338,13 +313,13 @@ module _ {Room : Type 0} (shows : Room → List Row → Type 0) where
       arith,
       rest_comes_out_once_lem shows writer (numbers given) left rest number books.ledger apart out
           (omega (arith, books.count)),
-      ap (λ (l : List ℕ). count_of_put l number) (numbers_both given rest),
+      ap (λ (l : List ℕ). count_of_put l number) (map-append (λ (one : Given). one.number) given rest),
       count_both number (numbers given) (numbers rest),
     );
-    rows = λ at one there. ⊎_elim (λ was. books.gave was.0 one was.1)
-        (λ now.
-        let stands
-        = subst (λ (c : Caller). StandsIn c one) apart.writer_is (rest_stands shows out now.0 one now.1) in
-        subst (HasItsRows put) (sym stands.is) (stands_so writer put given stands.slot books stands.taken stands.kept))
-        (in_either given rest at one there);
+    rows = given_one (HasItsRows put) (given ++ rest)
+        (All-append (HasItsRows put) given rest books.gave
+        (All-weaker (StandsIn writer) (HasItsRows put)
+        (λ one stands. subst (HasItsRows put) (sym stands.3)
+        (stands_so writer put given stands.0 books stands.1 stands.2))
+        rest (subst (λ (c : Caller). All (StandsIn c) rest) apart.writer_is (rest_stands shows out))));
   }

@@ -95,10 +95,8 @@ module _ (old new : Caller) where
 
   pub fill_keeps : (key number : ℕ) (rows : List Row) (fault : FillFault) → FillsKey key number rows old new (Err fault)
       → KeepsSets old new
-  fill_keeps key number rows fill.NotAsked says = quiet_keeps _ _ _ refl says.0 says.1
-  fill_keeps key number rows fill.Already says = quiet_keeps _ _ _ refl says.0 says.1
-  fill_keeps key number rows fill.Stale says = quiet_keeps _ _ _ refl says.0 says.1
   fill_keeps key number rows (fill.NoSlot counts) says = lacks_keeps _ _ counts says
+  fill_keeps key number rows fault says = quiet_keeps _ _ _ refl says.0 says.1
 
   pub replace_keeps : (key : ℕ) (rows : List Row) (fault : ReplaceFault) → ReplacesKey key rows old new (Err fault)
       → KeepsSets old new
@@ -108,16 +106,14 @@ module _ (old new : Caller) where
   pub update_keeps : (bound key : ℕ) (batch : List Delta) (fault : UpdateFault)
       → UpdatesKey bound key batch old new (Err fault) → KeepsSets old new
   update_keeps bound key batch update.Dropped says = quiet_keeps _ _ _ refl says.0 says.1
-  update_keeps bound key batch update.NoRow says = quiet_keeps _ _ _ refl says.2 says.4
-  update_keeps bound key batch update.TooMany says = quiet_keeps _ _ _ refl says.2 says.4
   update_keeps bound key batch (update.NoSlot counts) says = lacks_keeps _ _ counts says.3
+  update_keeps bound key batch fault says = quiet_keeps _ _ _ refl says.2 says.4
 
   pub cancel_keeps : (key : ℕ) (answer : Cancel) → CancelsKey key old new answer → KeepsSets old new
   cancel_keeps key cancel.Cancelled says =
       slots_keep [] old.marks.loads says.0.number says.0.table (ap (λ (s : SlotLists). s.fresh) says.1)
       (ap (λ (s : SlotLists). s.retired) says.1) says.2 (quiet_puts _ _ _ refl says.0)
-  cancel_keeps key cancel.Nothing says = quiet_keeps _ _ _ refl says.0 says.1
-  cancel_keeps key cancel.Worn says = quiet_keeps _ _ _ refl says.0 says.1
+  cancel_keeps key answer says = quiet_keeps _ _ _ refl says.0 says.1
 
   pub evict_keeps : (key : ℕ) (answer : Evict) → EvictsKey key old new answer → KeepsSets old new
   evict_keeps key evict.Nothing says = quiet_keeps _ _ _ refl says.0 says.1

@@ -55,11 +55,7 @@ ask_puts_none (Rows number rows) = refl
 reading_puts_none : (map : PartialMap) (call : Call) → is_reading call ≡ true → is_done (reply_to map call) ≡ false
 reading_puts_none map (model.Find key) reads = find_puts_none (state_of map key)
 reading_puts_none map (model.Ask key) reads = ask_puts_none (state_of map key)
-reading_puts_none map (model.Fill key number rows) reads = absurd (cc)
-reading_puts_none map (model.Update key batch) reads = absurd (cc)
-reading_puts_none map (model.Replace key rows) reads = absurd (cc)
-reading_puts_none map (model.Evict key) reads = absurd (cc)
-reading_puts_none map (model.Cancel key) reads = absurd (cc)
+reading_puts_none map call reads = absurd (cc)
 
 own_puts : (shape : Shape) (map : PartialMap) (log : List Entry) → IsLegal map log → AreCallers shape log
     → put_count log ≡ put_count (entries_of log 0)

@@ -1,7 +1,7 @@
 -- What comes out of a map that was taken apart: one after another the sets that stand in its slots and were not reaped.
-use Rattle.std.proofs.Common.{List, ap, arith, false, get_or, refl, subst, suc, sym, zero, ℕ, ◌+◌, ◌-◌, ◌<◌, ◌≡◌, ◌≤◌}
-use lib.ListN.{get_elem?}
-use mathlib.Core.Option.{some, some-injective, some-ne-none}
+use Rattle.std.proofs.Common.{List, ap, arith, false, get_or, refl, subst, suc, zero, ℕ, ◌+◌, ◌-◌, ◌<◌, ◌≡◌, ◌≤◌}
+use Rattle.std.specs.List.{All}
+use Rattle.std.proofs.lemmas.List.Elements.{All-cons, All-nil}
 use Rattle.nr_model.specs.Strays.{count_of_put}
 use Rattle.nr_model.specs.declared.rows.Row.{Row}
 use Rattle.nr_core.specs.Marks.{Marks, is_reaped}
@@ -12,11 +12,9 @@ use Rattle.nr_map.specs.Remains.{numbers}
 use Rattle.nr_map.proofs.Standing.{count_cons, count_standing, stands_at, stands_nowhere, stands_there}
 
 -- that one stands in that slot
-pub record StandsIn (writer : Caller) (one : Given) : Type 0 where
-  pub slot : ℕ
-  pub taken : slot < writer.fresh
-  pub kept : is_reaped writer.marks slot ≡ false
-  pub is : one ≡ given_at writer slot
+abbrev pub StandsIn : Caller → Given → Type 0
+StandsIn writer one =
+    (slot : ℕ) × (slot < writer.fresh) × (is_reaped writer.marks slot ≡ false) × (one ≡ given_at writer slot)
 
 -- the slots before one add so many to the count of a put number
 abbrev stand_below : ℕ → Marks → ℕ → ℕ
@@ -61,19 +59,11 @@ module _ {Room : Type 0} (shows : Room → List Row → Type 0) where
       let fresh : ℕ = old.writer.fresh in
       let gap = reaped_gap number old.writer.marks (fresh - old.next) old.next fresh (omega arith) none.0 in omega arith
 
-  pub rest_stands : {left : Left} {rest : List Given} → AllComeOut shows left rest → (at : ℕ) (one : Given)
-      → get_elem? rest at ≡ some one → StandsIn left.writer one
-  rest_stands (OneMore old new before after rest next more) zero one there =
-      record {
-        slot = next.slot;
-        taken = next.first.1;
-        kept = next.first.3;
-        is = sym (some-injective (given_at old.writer next.slot) one there);
-      }
-  rest_stands (OneMore old new before after rest next more) (suc at) one there =
-      let stands = subst (λ (left : Left). StandsIn left.writer one) next.is (rest_stands more at one there) in
-      record { slot = stands.slot; taken = stands.taken; kept = stands.kept; is = stands.is }
-  rest_stands (NoMore old new before after none) at one there = absurd (some-ne-none one (sym there))
+  pub rest_stands : {left : Left} {rest : List Given} → AllComeOut shows left rest → All (StandsIn left.writer) rest
+  rest_stands (OneMore old new before after rest next more) =
+      All-cons (StandsIn old.writer) (given_at old.writer next.slot) rest (next.slot, next.first.1, next.first.3, refl)
+      (subst (λ (left : Left). All (StandsIn left.writer) rest) next.is (rest_stands more))
+  rest_stands (NoMore old new before after none) = All-nil (StandsIn old.writer)
 
   pub rest_comes_out_once_lem : RestComesOutOnce shows
   rest_comes_out_once_lem writer gone left rest number ledger apart out low =

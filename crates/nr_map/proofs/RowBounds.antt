@@ -12,13 +12,9 @@ use Rattle.nr_map.specs.RowBounds.{RowsFitTheMap}
 
 -- a find and a request bring none
 reading_brings : (bound : ℕ) (call : Call) → is_reading call ≡ true → BringsRowSet bound call
-reading_brings bound (model.Find key) reads = tt
-reading_brings bound (model.Ask key) reads = tt
 reading_brings bound (model.Fill key number rows) reads = absurd (cc)
-reading_brings bound (model.Update key batch) reads = tt
 reading_brings bound (model.Replace key rows) reads = absurd (cc)
-reading_brings bound (model.Evict key) reads = tt
-reading_brings bound (model.Cancel key) reads = tt
+reading_brings bound call reads = tt
 
 callers_bring : (shape : Shape) (log : List Entry) → AreCallers shape log
     → All (λ entry. BringsRowSet shape.rows entry.call) log
