@@ -1,23 +1,15 @@
 -- Finds of many keys, as a loop makes them group by group.
 use Rattle.std.proofs.Common.{◌≡◌, ℕ, zero, suc, ◌+◌, ◌*◌, ◌%◌, ◌<◌, ◌≤◌, Bool, min, List, [], ◌∷◌, ◌++◌, length, take}
-use Rattle.std.proofs.Common.{drop, refl, sym, ap, ◌∙◌, subst, arith, append_assoc, append-nil, eq-eqb, ne_eqb}
+use Rattle.std.proofs.Common.{drop, refl, sym, ap, ◌∙◌, subst, arith, append_assoc, eq-eqb, ne_eqb}
 use Rattle.std.proofs.Common.{length-append}
-use Rattle.std.proofs.lemmas.List.{length-map, map-append}
-use Rattle.std.proofs.lemmas.List.{drop-drop, drop_all, take_all, take-append-drop, length-take-le}
+use Rattle.std.proofs.lemmas.List.{drop-drop, length-drop, length-map, length-take-le, map-append}
 use Rattle.std.proofs.Math.Seq.{drop-append_seam, take-append_seam}
 use Rattle.nr_model.specs.declared.rows.Row.{Row}
 use Rattle.nr_board.specs.Callers.{Caller}
 use Rattle.nr_map.specs.declared.wanted.Wanted.{Wanted}
 use Rattle.nr_map.specs.FindsEach.{FindsEach, FindsFrom, FindsGroup, FindsList, keys_of}
 use Rattle.nr_map.specs.LoadsAhead.{LoadsAhead, LoadsAt, LoadsIf}
-
--- that many keys were found: finds of the other keys, which stand there as before, make finds of all
-pub record Grouped {Room : Type 0} (shows : Room → List Row → Type 0) (first : Caller) (wanted : List (Wanted Room))
-    (made : ℕ) (now : Caller) (keys : List (Wanted Room)) : Type 0 where
-  pub long : length keys ≡ length wanted
-  pub rest : drop made keys ≡ drop made wanted
-  pub on : (last : Caller) (found : List (Wanted Room)) → FindsFrom shows made now (drop made wanted) last found
-      → FindsEach shows first wanted last (take made keys ++ found)
+use Rattle.nr_map.proofs.FindsEach.{Begun}
 
 module _ {Room : Type 0} (shows : Room → List Row → Type 0) where
   -- a list of finds has as many as there were keys
@@ -101,17 +93,14 @@ module _ {Room : Type 0} (shows : Room → List Row → Type 0) where
       )
 
   module _ (first : Caller) (wanted : List (Wanted Room)) where
-    pub none_grouped : Grouped shows first wanted 0 first wanted
-    none_grouped = record { long = refl; rest = refl; on = λ last found so. so }
-
     -- one group more, up to that end
     pub group_more : (groups end : ℕ) (now : Caller) (keys : List (Wanted Room))
-        → Grouped shows first wanted (groups * 16) now keys → groups * 16 < length keys
+        → Begun (FindsFrom shows) first wanted (groups * 16) now keys → groups * 16 < length keys
         → end ≡ min (groups * 16 + 16) (length keys)
         → (next : Caller) (found : List (Wanted Room)) → (group : List (Wanted Room))
         → group ++ drop end keys ≡ drop (groups * 16) keys → length group + groups * 16 ≡ end
         → FindsGroup shows now group next found
-        → Grouped shows first wanted end next (take (groups * 16) keys ++ (found ++ drop end keys))
+        → Begun (FindsFrom shows) first wanted end next (take (groups * 16) keys ++ (found ++ drop end keys))
     group_more groups end now keys grouped low end_is next found group whole size finds = record {
       long = long_front ∙ grouped.long;
       rest =
@@ -158,15 +147,6 @@ module _ {Room : Type 0} (shows : Room → List Row → Type 0) where
             ∙ subst (λ (n : ℕ). take n (front ++ drop end keys) ≡ front) front_size
             (take-append_seam front (drop end keys))
 
-        left : length (drop begin keys) + begin ≡ length keys
-        left =
-            omega (
-              arith,
-              length-append (take begin keys) (drop begin keys),
-              ap length (take-append-drop begin keys),
-              length-take-le begin keys (omega (arith, low)),
-            )
-
         ends : length (group ++ drop end keys) ≡ length (drop begin keys)
         ends = ap length whole
 
@@ -178,7 +158,7 @@ module _ {Room : Type 0} (shows : Room → List Row → Type 0) where
               length-append found (drop end keys),
               length-append group (drop end keys),
               ends,
-              left,
+              length-drop begin keys,
               many,
               length-take-le begin keys (omega (arith, low)),
             )
@@ -190,13 +170,12 @@ module _ {Room : Type 0} (shows : Room → List Row → Type 0) where
             ∙ drop-drop (length group) begin wanted)
 
         most : min (length (group ++ drop end wanted)) 16 ≡ length group
-        most = omega (arith, ap (λ (l : List (Wanted Room)). length (group ++ l)) same_rest, ends, left, size, end_is)
-
-    pub all_grouped : (made : ℕ) (now : Caller) (keys : List (Wanted Room)) → Grouped shows first wanted made now keys
-        → length keys ≤ made → FindsEach shows first wanted now keys
-    all_grouped made now keys grouped end =
-        subst (λ (l : List (Wanted Room)). FindsEach shows first wanted now l)
-        (append-nil (take made keys) ∙ take_all made keys end)
-        (grouped.on now
-        [] (subst (λ (l : List (Wanted Room)). FindsFrom shows made now l now [])
-        (sym (drop_all made wanted (omega (arith, end, grouped.long)))) refl))
+        most =
+            omega (
+              arith,
+              ap (λ (l : List (Wanted Room)). length (group ++ l)) same_rest,
+              ends,
+              length-drop begin keys,
+              size,
+              end_is,
+            )

@@ -1,11 +1,12 @@
 -- A caller that lets no set be overwritten, call by call: each slot's set has the rows of its put number, and so has
 -- each that came out.
 use Rattle.std.proofs.Common.{Bool, List, [], ap, append-nil, arith, cond, false, get_or, get_or-set_other}
-use Rattle.std.proofs.Common.{get_or-set_same, inr, length, length-append, length-set, map, refl, set, subst, suc}
+use Rattle.std.proofs.Common.{inr, length, length-append, length-set, map, refl, subst, suc}
 use Rattle.std.proofs.Common.{sym, true, zero, ℕ, ⊎_elim, ◌++◌, ◌+◌, ◌<◌, ◌∙◌, ◌∷◌, ◌≡◌, ◌≢◌, ◌*◌}
 use Rattle.std.proofs.lemmas.Bool.{le-ltb, lt-ltb}
 use Rattle.std.proofs.lemmas.List.{get_or_append_left, length-replicate, map-append}
 use Rattle.std.proofs.lemmas.List.Elements.{All-append, All-head, All-nil, All-push, All-tail, All-weaker}
+use Rattle.std.proofs.lemmas.Grind.{get_or-set_at}
 use Rattle.std.proofs.Math.Seq.{get_or-append_seam}
 use Rattle.std.specs.List.{All}
 use Rattle.std.specs.Prelude.{nat_lt}
@@ -36,8 +37,8 @@ use Rattle.nr_map.specs.Reclaims.{Ledger, had_number}
 use Rattle.nr_map.specs.Remains.{Given, given_at, numbers}
 use Rattle.nr_map.proofs.Keeping.{KeepsSets, cancel_keeps, evict_keeps, fill_keeps, kept_ledger, lacks_keeps}
 use Rattle.nr_map.proofs.Keeping.{learns_keeps, quiet_keeps, replace_keeps, rests_keeps, update_keeps}
-use Rattle.nr_map.proofs.Ledgers.{flags_are, ledger_goes_on, number_is, opening_begins_lem, put_now, puts_are}
-use Rattle.nr_map.proofs.Ledgers.{reaped_once_lem, ready_there, stands_once}
+use Rattle.nr_map.proofs.Ledgers.{ledger_goes_on, number_is, opening_begins_lem, put_now, reaped_once_lem}
+use Rattle.nr_map.proofs.Ledgers.{ready_there, stands_once}
 use Rattle.nr_map.proofs.Standing.{count_both}
 use Rattle.nr_map.proofs.Remainders.{StandsIn, rest_comes_out_once_lem, rest_stands}
 
@@ -87,12 +88,6 @@ stands_so writer put given slot books low kept = (
 
 module _ (steps : ℕ) (call : Call) (rows : List Row) (old new : Caller) (put : List (List Row)) (given : List Given)
     (published : Publishes steps call rows old new) (books : Books old put given) where
-  sets_are : new.marks.sets ≡ set old.marks.sets published.slot rows
-  sets_are = ap (λ (m : Marks). m.sets) published.marks
-
-  numbers_are : new.marks.puts ≡ set old.marks.puts published.slot published.number
-  numbers_are = puts_are steps call rows old new (numbers given) books.writes published books.ledger
-
   its_number : published.number ≡ length put
   its_number = number_is steps call rows old new (numbers given) books.writes published books.ledger ∙ sym books.count
 
@@ -108,37 +103,33 @@ module _ (steps : ℕ) (call : Call) (rows : List Row) (old new : Caller) (put :
   stand_now slot low kept = dite (ℕ_discrete slot published.slot)
       (λ same.
       let inside : published.slot < length old.marks.sets = omega (arith, published.inside, books.many) in
-      let wide : published.slot < length old.marks.puts = omega (arith, published.inside, books.ledger.slots.0) in
-      ap (λ (l : List (List Row)). get_or l slot []) sets_are
-      ∙ ap (λ (i : ℕ). get_or (set old.marks.sets published.slot rows) i []) same
-      ∙ get_or-set_same old.marks.sets published.slot rows [] inside
-      ∙ sym
-      (ap (λ (i : ℕ). get_or (put ++ rows ∷ []) i []) its_number ∙ get_or-append_seam put rows [] [])
-      ∙ ap (rows_put (put ++ rows ∷ [])) (sym (ap (λ (l : List ℕ). get_or l slot 0) numbers_are
-      ∙ ap (λ (i : ℕ). get_or (set old.marks.puts published.slot published.number) i 0) same
-      ∙ get_or-set_same old.marks.puts published.slot published.number 0 wide)))
+      let number : get_or new.marks.puts slot 0 ≡ length put
+      = ap (λ (i : ℕ). get_or new.marks.puts i 0) same ∙ published.put ∙ its_number in
+      ap (λ (m : Marks). set_in m slot) published.marks
+      ∙ get_or-set_at old.marks.sets published.slot slot rows [] same inside
+      ∙ sym (ap (rows_put (put ++ rows ∷ [])) number ∙ get_or-append_seam put rows [] []))
       (λ other.
       let before = taken_before slot low other in
       let was : is_reaped old.marks slot ≡ false
-      = sym (get_or-set_other old.marks.reaped published.slot slot false false other)
-      ∙ sym
-      (ap (λ (l : List Bool). get_or l slot false)
-      (flags_are steps call rows old new (numbers given) books.writes published books.ledger))
+      = sym
+      (ap (λ (m : Marks). is_reaped m slot) published.marks
+      ∙ get_or-set_other old.marks.reaped published.slot slot false false other)
       ∙ kept in
-      let has = more_rows put rows (given_at old slot) (stands_so old put given slot books before was) in
-      ap (λ (l : List (List Row)). get_or l slot []) sets_are
-      ∙ get_or-set_other old.marks.sets published.slot slot rows [] other ∙ has.1
-      ∙ ap (rows_put (put ++ rows ∷ []))
-      (sym
-      (ap (λ (l : List ℕ). get_or l slot 0) numbers_are
-      ∙ get_or-set_other old.marks.puts published.slot slot published.number 0 other)))
+      let number : get_or new.marks.puts slot 0 ≡ get_or old.marks.puts slot 0
+      = ap (λ (m : Marks). get_or m.puts slot 0) published.marks
+      ∙ get_or-set_other old.marks.puts published.slot slot published.number 0 other in
+      ap (λ (m : Marks). set_in m slot) published.marks
+      ∙ get_or-set_other old.marks.sets published.slot slot rows [] other
+      ∙ (more_rows put rows (given_at old slot) (stands_so old put given slot books before was)).1
+      ∙ ap (rows_put (put ++ rows ∷ [])) (sym number))
 
   put_goes_on : (out : List Given) → numbers out ≡ had_number old published.slot
       → All (HasItsRows put) out → Books new (put ++ rows ∷ []) (given ++ out)
   put_goes_on out had rows_had = record {
     writes = published.gains.number ∙ books.writes;
     ledger =
-        subst (Ledger new) (ap (λ (l : List ℕ). numbers given ++ l) (sym had) ∙ sym (map-append (λ (one : Given). one.number) given out))
+        subst (Ledger new)
+        (ap (λ (l : List ℕ). numbers given ++ l) (sym had) ∙ sym (map-append (λ (one : Given). one.number) given out))
         (ledger_goes_on steps call rows old new (numbers given) books.writes published books.ledger);
     count =
         omega (
@@ -148,7 +139,7 @@ module _ (steps : ℕ) (call : Call) (rows : List Row) (old new : Caller) (put :
           put_now steps call rows old new (numbers given) books.writes published books.ledger,
         );
     many =
-        ap length sets_are ∙ length-set old.marks.sets published.slot rows ∙ books.many
+        ap (λ (m : Marks). length m.sets) published.marks ∙ length-set old.marks.sets published.slot rows ∙ books.many
         ∙ sym (ap (λ (t : Table). t.shape.slots) published.gains.table);
     stand = stand_now;
     gave =
@@ -167,13 +158,8 @@ module _ {Room : Type 0} (shows : Room → List Row → Type 0) (others : ℕ) (
   gives_what_it_had steps published reclaimed.Set hands =
       let low : published.slot < old.fresh = omega (arith, published.inside, hands.0) in
       let slot : ℕ = published.slot in (
-        sym
-            (ap
-            (λ (b : Bool). cond {A = List ℕ} b
-            (cond {A = List ℕ} (is_reaped old.marks slot) [] (get_or old.marks.puts slot 0 ∷ []))
-            [])
-            (lt-ltb slot old.fresh low)
-            ∙ ap (λ (b : Bool). cond {A = List ℕ} b [] (get_or old.marks.puts slot 0 ∷ [])) hands.1),
+        sym (λ j. cond {A = List ℕ} (lt-ltb slot old.fresh low j)
+            (cond {A = List ℕ} (hands.1 j) [] (get_or old.marks.puts slot 0 ∷ [])) []),
         All-push (HasItsRows put) [] (given_at old slot) (All-nil (HasItsRows put))
             (stands_so old put given slot books low hands.1),
       )
@@ -222,17 +208,13 @@ module _ {Room : Type 0} (shows : Room → List Row → Type 0) (old new : Calle
         many = books.many;
         stand = λ other near kept. dite (ℕ_discrete other slot)
             (λ same. absurd
-            (no_flag (set old.marks.reaped slot true) other kept
-            (ap (λ (i : ℕ). get_or (set old.marks.reaped slot true) i false) same
-            ∙ get_or-set_same old.marks.reaped slot true false
-            (omega (arith, low, books.ledger.slots.1, books.ledger.slots.2)))))
+            (let gone
+            = get_or-set_at old.marks.reaped slot other true false same
+            (omega (arith, low, books.ledger.slots.1, books.ledger.slots.2)) in cc))
             (λ apart. books.stand other near
             (sym (get_or-set_other old.marks.reaped slot other true false apart) ∙ kept));
         gave = All-push (HasItsRows put) given one books.gave has;
       }) ledger)
-    where
-      no_flag : (flags : List Bool) (i : ℕ) → get_or flags i false ≡ false → get_or flags i false ≡ true → ⊥
-      no_flag flags i kept gone = let clash : false ≡ true = sym kept ∙ gone in absurd (cc)
 
 -- CALLS THAT LEAVE THE SETS
 

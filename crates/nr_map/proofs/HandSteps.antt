@@ -36,7 +36,7 @@ use Rattle.nr_board.specs.Views.{caller_number, grip_of, is_sized, rows_held, sl
 use Rattle.nr_map.specs.declared.hand.Kept.{Kept}
 use Rattle.nr_map.specs.Pins.{HoldsSlot, Pins}
 use Rattle.nr_map.specs.Hands.{AskedBefore, AsksInVain, BegunIn, Handed, HoldsKey, HoldsNothing, IsHand, first_by}
-use Rattle.nr_map.specs.Hands.{KeepsAnew, KeepsByHand, MovesByHand, PinsByHand, departed, goes_on, handed, late_by}
+use Rattle.nr_map.specs.Hands.{KeepsByHand, MovesByHand, PinsByHand, departed, goes_on, handed, late_by}
 use Rattle.nr_map.specs.Hands.{looks_first, steps_to_depart}
 
 -- what a find's answer stands for: its reply, the steps of its hold, and what the hand holds then
@@ -78,7 +78,7 @@ record Finds (answer : Bool) (before : List ℕ) (more key : ℕ) (old new : Han
 module _ (key : ℕ) (old new : Handed) where
   keeps_anew : (answer : Bool) (begun : ℕ) (before : List ℕ) (finds : Finds answer before begun key old new)
       → BegunIn key old finds.named begun before
-      → (old.key ≡ Some key → AskedBefore key old new) → KeepsAnew key old new answer
+      → (old.key ≡ Some key → AskedBefore key old new) → KeepsByHand key old new answer
   keeps_anew true begun before so begins own =
       let none : begun ≡ begun + 0 = omega arith in
       let finds : FindsRowsAfter before (begun + 0) key new.rows old.reader new.reader
@@ -92,7 +92,7 @@ module _ (key : ℕ) (old new : Handed) where
             subst (λ (n : ℕ). Gains (so.steps + n) (model.Find key) old.reader new.reader (reply.Rows new.rows)) none
             so.gains;
       } in
-      (own, (begun, before, finds, begins, so.holds, refl))
+      inr (own, (begun, before, finds, begins, so.holds, refl))
   keeps_anew false begun before so begins own =
       let finds : FindsHoleAfter before begun key old.reader new.reader
       = record { steps = so.steps; named = so.named; finds_in = so.takes; looks = so.looks; gains = so.gains } in
@@ -251,10 +251,10 @@ module _ (key word : ℕ) (old asked new : Handed) (looks : looks_first key old.
       holds = still answer moves.4;
     }
 
-    pub moved_anew : (old.key ≡ Some key → AskedBefore key old new) → KeepsAnew key old new answer
+    pub moved_anew : (old.key ≡ Some key → AskedBefore key old new) → KeepsByHand key old new answer
     unfolding found
     moved_anew own =
-        by_cases (λ (b : Bool). goes_on asked.reader.says word ≡ b → KeepsAnew key old new answer)
+        by_cases (λ (b : Bool). goes_on asked.reader.says word ≡ b → KeepsByHand key old new answer)
         (goes_on asked.reader.says word)
         (λ _ goes. let so = goes_so goes in
         keeps_anew key old new answer 0 [] (found true goes)
@@ -284,7 +284,7 @@ module _ (key word : ℕ) (old asked new : Handed) (vain : AsksInVain key old as
   went_on answer m sum is gains =
       grows_gains 1 m sum old.reader asked.reader new.reader (model.Find key) answer is vain.grows gains
 
-  pub asked_anew : (answer : Bool) → MovesByHand key word asked new answer → KeepsAnew key old new answer
+  pub asked_anew : (answer : Bool) → MovesByHand key word asked new answer → KeepsByHand key old new answer
   asked_anew answer moves = let so = moves_so key word asked new answer moves in
       moved_anew key word old asked new (looks_own key old.key old.reader.says held) vain.grows.table vain.grows.number
       vain.says vain.key_is marks went_on answer so (λ _. asked_before _ _ so.1 so.3 so.5)
@@ -311,7 +311,7 @@ module _ (key word other : ℕ) (old ahead new : Handed) (held : old.key ≡ Som
   gains_on answer m sum is gains =
       rests_gains 1 m sum old.reader ahead.reader new.reader (model.Find key) answer is rests gains
 
-  pub looked_anew : (answer : Bool) → MovesByHand key word ahead new answer → KeepsAnew key old new answer
+  pub looked_anew : (answer : Bool) → MovesByHand key word ahead new answer → KeepsByHand key old new answer
   looked_anew answer moves =
       moved_anew key word old ahead new (looks_loud key other old.key old.reader.says held loud) rests.table
       rests.number (ap (λ (c : Caller). c.says) look) key_is (ap (λ (c : Caller). c.marks) look) gains_on answer
@@ -320,19 +320,19 @@ module _ (key word other : ℕ) (old ahead new : Handed) (held : old.key ≡ Som
 -- a hand that holds nothing, or another key's set by the count, pins the key without a look
 module _ (key : ℕ) (old new : Handed) (apart : old.key ≢ Some key)
     (looks : looks_first key old.key old.reader.says ≡ false) where
-  pub pinned_anew : (answer : Bool) → PinsByHand key old new answer → KeepsAnew key old new answer
+  pub pinned_anew : (answer : Bool) → PinsByHand key old new answer → KeepsByHand key old new answer
   pinned_anew answer pins =
       keeps_anew key old new answer (steps_to_depart old.key) [] (pinned key old new answer pins)
       (inl (looks, refl, refl)) (λ own. absurd (apart own))
 
 pub pinned_none : (key : ℕ) (old new : Handed) (answer : Bool) → old.key ≡ None → PinsByHand key old new answer
-    → KeepsAnew key old new answer
+    → KeepsByHand key old new answer
 pinned_none key old new answer none =
     pinned_anew key old new (λ own. absurd (let here = sym none ∙ own in cc))
     (ap (λ (o : Option ℕ). looks_first key o old.reader.says) none) answer
 
 pub pinned_other : (key other : ℕ) (old new : Handed) (answer : Bool) → old.key ≡ Some other → other ≢ key
-    → old.reader.says ≡ 0 → PinsByHand key old new answer → KeepsAnew key old new answer
+    → old.reader.says ≡ 0 → PinsByHand key old new answer → KeepsByHand key old new answer
 pinned_other key other old new answer held apart silent =
     pinned_anew key old new (λ own. absurd (apart (some_is other key (sym held ∙ own))))
     (looks_not key other old.key old.reader.says held apart silent) answer
@@ -367,11 +367,6 @@ pinned_late key word old new answer held silent pins =
     steps_so =
         let two : late_by old.reader.says word ≡ 2 = ap (λ (b : Bool). cond {A = ℕ} b 0 2) stays in
         omega (arith, one_step old.key held)
-
-pub anew_keeps : (key : ℕ) (old new : Handed) (answer : Bool) → KeepsAnew key old new answer
-    → KeepsByHand key old new answer
-anew_keeps key old new true anew = inr anew
-anew_keeps key old new false anew = anew
 
 -- what a look and a load tell of the hand, whose seat they are made by
 module _ (key : ℕ) (before after : MapSeat) (held : Option Kept) (role : after.me.0.role ≡ before.me.0.role)

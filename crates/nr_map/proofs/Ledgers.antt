@@ -199,10 +199,10 @@ module _ (steps : ℕ) (call : Call) (rows : List Row) (old new : Caller) (gone 
       = ap (entries_of new.seen) (sym (gains.number ∙ writes)) ∙ gains.own in
       omega (arith, all, ap put_count mine, published.count, put_now)
 
-  pub puts_are : new.marks.puts ≡ set old.marks.puts published.slot published.number
+  puts_are : new.marks.puts ≡ set old.marks.puts published.slot published.number
   puts_are = ap (λ (m : Marks). m.puts) published.marks
 
-  pub flags_are : new.marks.reaped ≡ set old.marks.reaped published.slot false
+  flags_are : new.marks.reaped ≡ set old.marks.reaped published.slot false
   flags_are = ap (λ (m : Marks). m.reaped) published.marks
 
   -- what the call changed: where its slot stood, and that nothing but its number came

@@ -1,8 +1,8 @@
 use Rattle.std.proofs.Common.{ap, arith, refl, subst, sym, ◌∙◌, ◌≡◌, ◌≢◌, Some, Option}
 use Rattle.nr_board.proofs.ReaderSeats.{names_held}
-use Rattle.nr_map.proofs.HandSteps.{anew_keeps, asked_anew, looked_anew, looked_in_vain, loud_by_word, pinned_none}
+use Rattle.nr_map.proofs.HandSteps.{asked_anew, looked_anew, looked_in_vain, loud_by_word, pinned_none}
 use Rattle.nr_map.proofs.HandSteps.{pinned_other, silent_by_count}
-use Rattle.nr_map.specs.Hands.{Handed, IsHand, KeepsAnew, handed, key_held}
+use Rattle.nr_map.specs.Hands.{Handed, IsHand, KeepsByHand, handed, key_held}
 use Rattle.nr_map.specs.declared.hand.Kept.{Kept}
 use Rattle.nr_map.proofs.hand.Hand.keep.Goals as goal
 
@@ -19,10 +19,9 @@ returns-then-kept-key-clause-keeps c =
     let vain
     = looked_in_vain c.args.key before after held told.role told.says slot word told.holds gone (told.other gone)
     told.exact told.marks in
-    anew_keeps c.args.key c.args.self.now c.move_to.new.self c.move_to.result
-    (subst (λ (h : Handed). KeepsAnew c.args.key h c.move_to.new.self c.move_to.result) c.self.view_is
+    subst (λ (h : Handed). KeepsByHand c.args.key h c.move_to.new.self c.move_to.result) c.self.view_is
     (asked_anew c.args.key word (handed before held) (handed after held) c.move_to.new.self vain.0 key_is vain.1
-    c.move_to.result c.move_to.ensures.moves))
+    c.move_to.result c.move_to.ensures.moves)
 
 pub returns-clause-keeps : goal.returns-clause-keeps
 returns-clause-keeps c =
@@ -35,15 +34,14 @@ returns-clause-keeps c =
     let pins = subst (λ (o : Option Kept). IsHand before c.self.inside.caller.own o) c.in-Some.is c.self.invariant in
     let loud = loud_by_word c.self.inside.caller.own kept.set before pins (omega (arith, c.if-kept-eq0.false)) in
     let apart : kept.key ≢ c.args.key = λ e. absurd (c.if-kept-key.false e) in
-    anew_keeps c.args.key c.args.self.now c.move_to-2.new.self c.move_to-2.result
-    (subst (λ (h : Handed). KeepsAnew c.args.key h c.move_to-2.new.self c.move_to-2.result) c.self.view_is
+    subst (λ (h : Handed). KeepsByHand c.args.key h c.move_to-2.new.self c.move_to-2.result) c.self.view_is
     (looked_anew c.args.key c.look_ahead-word.result kept.key (handed before held) (handed after held)
-    c.move_to-2.new.self key_is apart loud told.step refl c.move_to-2.result c.move_to-2.ensures.moves))
+    c.move_to-2.new.self key_is apart loud told.step refl c.move_to-2.result c.move_to-2.ensures.moves)
 
 pub returns-in_default-clause-keeps : goal.returns-in_default-clause-keeps
-returns-in_default-clause-keeps c = anew_keeps c.args.key c.args.self.now c.pin.new.self c.pin.result
-    (pinned_none c.args.key c.args.self.now c.pin.new.self c.pin.result
-    (ap (λ (h : Handed). h.key) (sym c.self.view_is) ∙ ap key_held c.in_default.is) c.pin.ensures.pins)
+returns-in_default-clause-keeps c =
+    pinned_none c.args.key c.args.self.now c.pin.new.self c.pin.result
+    (ap (λ (h : Handed). h.key) (sym c.self.view_is) ∙ ap key_held c.in_default.is) c.pin.ensures.pins
 
 pub returns-then-kept-eq0-clause-keeps : goal.returns-then-kept-eq0-clause-keeps
 returns-then-kept-eq0-clause-keeps c =
@@ -53,9 +51,8 @@ returns-then-kept-eq0-clause-keeps c =
     let now = c.args.self.now in
     let pins = subst (λ (o : Option Kept). IsHand seat own o) c.in-Some.is c.self.invariant in
     let apart : kept.key ≢ c.args.key = λ e. absurd (c.if-kept-key.false e) in
-    anew_keeps c.args.key now c.pin-then-kept-eq0.new.self c.pin-then-kept-eq0.result
-    (pinned_other c.args.key kept.key now c.pin-then-kept-eq0.new.self c.pin-then-kept-eq0.result
+    pinned_other c.args.key kept.key now c.pin-then-kept-eq0.new.self c.pin-then-kept-eq0.result
     (ap (λ (h : Handed). h.key) (sym c.self.view_is) ∙ ap key_held c.in-Some.is) apart
     (ap (λ (h : Handed). h.reader.says) (sym c.self.view_is)
     ∙ silent_by_count own kept.set seat pins c.if-kept-eq0.true)
-    c.pin-then-kept-eq0.ensures.pins)
+    c.pin-then-kept-eq0.ensures.pins

@@ -1,9 +1,11 @@
-use Rattle.std.proofs.Common.{ℕ, ◌≡◌, ◌+◌, ◌-◌, ◌*◌, ◌<◌, ◌≤◌, ◌++◌, ◌∙◌, List, ap, arith, drop, length, min, subst}
-use Rattle.std.proofs.Common.{sym, take}
+use Rattle.std.proofs.Common.{ℕ, ◌≡◌, ◌+◌, ◌-◌, ◌*◌, ◌<◌, ◌≤◌, ◌++◌, ◌∙◌, List, ap, arith, drop, length, min, refl}
+use Rattle.std.proofs.Common.{subst, sym, take}
 use Rattle.std.proofs.lemmas.Grind.{div_ceil_times}
-use Rattle.std.proofs.lemmas.List.{drop-drop, length-take-le, length-append, take-append-drop}
+use Rattle.std.proofs.lemmas.List.{drop-drop, length-drop, length-take-le, take-append-drop}
 use Rattle.nr_map.specs.declared.wanted.Wanted.{Wanted}
-use Rattle.nr_map.proofs.FindsGroups.{Grouped, all_grouped, group_more}
+use Rattle.nr_map.specs.FindsEach.{FindsFrom}
+use Rattle.nr_map.proofs.FindsEach.{Begun, all_made}
+use Rattle.nr_map.proofs.FindsGroups.{group_more}
 use Rattle.nr_map.proofs.reader_map.ReaderMap.find_each.Goals as goal
 
 -- a part of a list from a place to an end, and what comes after it
@@ -13,15 +15,10 @@ module _ {A : Type 0} (keys : List A) (begin end : ℕ) (low : begin ≤ end) (f
       drop-drop (end - begin) begin keys
       ∙ ap (λ (n : ℕ). drop n keys) (let whole : begin + (end - begin) ≡ end = omega (arith, low) in whole)
 
-  left : length (drop begin keys) + begin ≡ length keys
-  left =
-      let front : length (take begin keys) ≡ begin = length-take-le begin keys (omega (arith, low, fits)) in
-      omega (arith, length-append (take begin keys) (drop begin keys), ap length (take-append-drop begin keys), front)
-
   part_size : length (take (end - begin) (drop begin keys)) + begin ≡ end
   part_size =
       let part : length (take (end - begin) (drop begin keys)) ≡ end - begin
-      = length-take-le (end - begin) (drop begin keys) (omega (arith, left, low, fits)) in
+      = length-take-le (end - begin) (drop begin keys) (omega (arith, length-drop begin keys, low, fits)) in
       omega (arith, part, low)
 
   part_whole : take (end - begin) (drop begin keys) ++ drop end keys ≡ drop begin keys
@@ -48,16 +45,17 @@ loop-group-preserved g c =
     let up : begin ≤ end = omega (arith, end_is, low) in let fits : end ≤ length keys = omega (arith, end_is) in
     let found : List (Wanted g.row.R.Denot) = c.find_group.new.group in
     let group : List (Wanted g.row.R.Denot) = take (end - begin) (drop begin keys) in
-    let more : Grouped shows first wanted end c.find_group.new.reader (take begin keys ++ (found ++ drop end keys)) =
-    group_more shows first wanted c.loop-group.group end c.loop-group.reader keys
-    (subst (λ (made : ℕ). Grouped shows first wanted made c.loop-group.reader keys) here had) low end_is
+    let more : Begun (FindsFrom shows) first wanted end c.find_group.new.reader
+    (take begin keys ++ (found ++ drop end keys))
+    = group_more shows first wanted c.loop-group.group end c.loop-group.reader keys
+    (subst (λ (made : ℕ). Begun (FindsFrom shows) first wanted made c.loop-group.reader keys) here had) low end_is
     c.find_group.new.reader found group (part_whole keys begin end up fits) (part_size keys begin end up fits)
     c.find_group.ensures.finds in
     record {
       own = c.find_group.ensures.own;
       grouped =
           subst
-          (λ (p : ℕ × List (Wanted g.row.R.Denot)). Grouped shows first wanted p.0 c.find_group.new.reader
+          (λ (p : ℕ × List (Wanted g.row.R.Denot)). Begun (FindsFrom shows) first wanted p.0 c.find_group.new.reader
           (take begin keys ++ (found ++ p.1)))
           (λ j. (there j, sym (after keys begin end up fits) j)) more;
     }
@@ -67,6 +65,6 @@ returns-clause-finds g c =
     let wanted = c.args.wanted.now in
     let had = c.loop-group.invariant.grouped in
     let bounds = div_ceil_times (length wanted) 16 (omega arith) in
-    all_grouped g.R.RowRoom.shows c.args.reader.now wanted (min (c.loop-group.group * 16) (length wanted))
+    all_made (FindsFrom g.R.RowRoom.shows) c.args.reader.now wanted (min (c.loop-group.group * 16) (length wanted))
     c.loop-group.reader c.loop-group.wanted had
-    (omega (arith, had.long, bounds.0, c.div_ceil-group-end.ensures, c.loop-group-test.false))
+    (omega (arith, had.long, bounds.0, c.div_ceil-group-end.ensures, c.loop-group-test.false)) refl

@@ -1,7 +1,7 @@
-use Rattle.std.proofs.Common.{◌<◌, ◌∙◌, length, arith, subst, sym}
+use Rattle.std.proofs.Common.{◌<◌, ◌∙◌, length, arith, refl, subst, sym}
 use Rattle.nr_map.specs.declared.wanted.Wanted.{Wanted}
 use Rattle.nr_map.specs.FindsEach.{FindsWanted}
-use Rattle.nr_map.proofs.FindsEach.{all_made, as_wanted, none_made, one_more}
+use Rattle.nr_map.proofs.FindsEach.{Listed, all_made, as_wanted, none_made, one_more}
 use Rattle.nr_map.proofs.reader_map.ReaderMap.find_group.Goals as goal
 
 pub find_wanted-requires-clause-key : goal.find_wanted-requires-clause-key
@@ -21,7 +21,7 @@ loop-one-init g c = record {
   own = c.load_group.ensures.own;
   ready = c.load_group.new.reader;
   loads = c.load_group.ensures.loads;
-  begun = none_made g.R.RowRoom.shows c.load_group.new.reader c.args.group.now;
+  begun = none_made (Listed g.R.RowRoom.shows) c.load_group.new.reader c.args.group.now;
 }
 
 pub loop-one-preserved : goal.loop-one-preserved
@@ -49,6 +49,6 @@ returns-clause-finds g c =
       ready = had.ready;
       loads = had.loads;
       finds =
-          all_made g.R.RowRoom.shows had.ready c.args.group.now c.loop-one.one-index c.loop-one.reader c.loop-one.group
-          had.begun (omega arith);
+          all_made (Listed g.R.RowRoom.shows) had.ready c.args.group.now c.loop-one.one-index c.loop-one.reader
+          c.loop-one.group had.begun (omega arith) refl;
     }
