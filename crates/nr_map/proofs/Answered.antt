@@ -1,7 +1,6 @@
 -- Each call is one entry, by the words of its contract; a write without a slot is none.
 use Rattle.std.proofs.Common.{◌≡◌, ℕ, ◌+◌, ◌*◌, ◌∙◌, List, [], ◌∷◌, ◌++◌, length, append_assoc, ap, arith, subst}
 use Rattle.std.proofs.Common.{Some, Result, Ok, Err, ⊎_elim, sym}
-use Rattle.std.proofs.lemmas.List.Sums.{count_by-le-length}
 use Rattle.nr_model.specs.declared.batches.Delta.{Delta}
 use Rattle.nr_model.specs.declared.calls.Call.{Call}
 use Rattle.nr_model.specs.declared.calls.Call.TheVariants as model
@@ -9,10 +8,8 @@ use Rattle.nr_model.specs.declared.calls.Reply.{Reply}
 use Rattle.nr_model.specs.declared.calls.Reply.TheVariants as reply
 use Rattle.nr_model.specs.declared.rows.Row.{Row}
 use Rattle.nr_model.specs.Histories.{Entry, IsLegal}
-use Rattle.nr_model.specs.Maps.{is_filled_key}
 use Rattle.nr_model.proofs.LawLemmas.{legal_goes_on_lem}
-use Rattle.nr_core.specs.Story.{entry, map_after}
-use Rattle.nr_core.proofs.Histories.{length-now}
+use Rattle.nr_core.specs.Story.{entry}
 use Rattle.nr_board.specs.declared.answers.Cancel.{Cancel}
 use Rattle.nr_board.specs.declared.answers.Cancel.TheVariants as cancel
 use Rattle.nr_board.specs.declared.answers.Evict.{Evict}
@@ -40,6 +37,7 @@ use Rattle.nr_map.specs.Written.{answered}
 use Rattle.nr_map.specs.declared.answers.Asked.{Asked}
 use Rattle.nr_map.specs.declared.answers.Asked.TheVariants as asked
 use Rattle.nr_map.proofs.GivenBack.{each_set_comes_out_once_lem}
+use Rattle.nr_map.proofs.SlotBounds.{few_filled}
 
 goes_on : (steps : ℕ) (entries : List Entry) (old new : Caller) → Grows steps entries old new → Goes entries old new
 goes_on steps entries old new grows = record {
@@ -180,8 +178,7 @@ module _ {Room : Type 0} (shows : Room → List Row → Type 0) (before had : Ro
 -- no more keys are filled than there are, and no more sets are held than there are readers
 room_for_all : NoWriteLacksASlot
 room_for_all call old new room without =
-    let keys = length-now new.table.shape new.seen in
-    let filled = count_by-le-length is_filled_key (map_after new.table.shape new.seen).states in
+    let filled = few_filled new.table.shape new.seen in
     let same_keys = ap (λ (t : Table). t.shape.keys) without.goes.table in
     let same_slots = ap (λ (t : Table). t.shape.slots) without.goes.table in
     let same_readers = ap (λ (t : Table). t.shape.readers) without.goes.table in

@@ -67,12 +67,12 @@ module _ (from : ℕ) (first : Handed) (before : List Row) where
     };
   })
 
-  pub copied_on : (put more : ℕ) (hand next : Handed) (cells after : List Row) → CopiedSoFar put hand cells
+  pub copied_on : {hand next : Handed} {cells after : List Row} (put more : ℕ) → CopiedSoFar put hand cells
       → ((old : List Row) → ArePutOver (drop from hand.rows) old put cells
       → ArePutOver (drop from hand.rows) old more after)
       → length after ≡ length cells → put ≤ more → CopiesHeld (2 * (more - put)) hand next
       → CopiedSoFar more next after
-  copied_on put more hand next cells after had puts long up reads = record {
+  copied_on {hand} {next} {cells} {after} put more had puts long up reads = record {
     over =
         subst
         (λ (l : List Row). ArePutOver (drop from l) before put cells → ArePutOver (drop from l) before more after)

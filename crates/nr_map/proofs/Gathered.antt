@@ -1,31 +1,19 @@
 -- After rounds of gathers the writer's history is that of all callers.
-use Rattle.std.proofs.Common.{◌≡◌, ◌≢◌, ℕ, suc, ◌+◌, ◌<◌, ◌≤◌, Bool, ◌&&◌, cond, List, [], ◌∷◌, ◌++◌, length, refl, sym}
-use Rattle.std.proofs.Common.{ap, ◌∙◌, arith, append_assoc, eq-eqb, ne_eqb, get_or, ⊎_elim}
+use Rattle.std.proofs.Common.{◌≡◌, ◌≢◌, ℕ, suc, ◌+◌, ◌<◌, ◌≤◌, Bool, ◌&&◌, cond, List, [], ◌∷◌, length, refl, sym}
+use Rattle.std.proofs.Common.{ap, ◌∙◌, arith, eq-eqb, ne_eqb, get_or, ⊎_elim}
 use Rattle.std.specs.List.{count_by}
 use Rattle.std.proofs.lemmas.Bool.{cases_lt}
 use mathlib.Core.Logic.{dite}
 use native.Mathlib.Decide.{ℕ_discrete}
 use Rattle.nr_model.proofs.HistoryLemmas.{count_by-cons, sends_are_answered_lem}
 use Rattle.nr_model.specs.Histories.{Entry, asks, entries_of, cancels_key, fills_key, is_cancelled, is_done, is_send}
-use Rattle.nr_core.proofs.Histories.{of-append}
 use Rattle.nr_core.proofs.Sums.{below-change, below-first, below-zero}
 use Rattle.nr_core.specs.Sums.{below, total}
 use Rattle.nr_board.proofs.Gathering.{just_calls}
 use Rattle.nr_board.specs.Callers.{Caller}
 use Rattle.nr_board.proofs.Entries.{nobody_else}
-use Rattle.nr_map.specs.Rounds.{CallsStay, EntriesAreCallers, RoundsTellAll, SendsOfAll}
+use Rattle.nr_map.specs.Rounds.{EntriesAreCallers, RoundsTellAll, SendsOfAll}
 use Rattle.nr_core.specs.Slots.{bound_of}
-
-pub calls_stay_lem : CallsStay
-calls_stay_lem log later caller goes_on has =
-    let his : List Entry → List Entry = λ l. entries_of l caller.number in
-    record {
-      rest = has.rest ++ his goes_on.rest;
-      is =
-          ap his goes_on.is ∙ of-append caller.number log goes_on.rest
-          ∙ ap (λ (l : List Entry). l ++ his goes_on.rest) has.is
-          ∙ append_assoc caller.mine has.rest (his goes_on.rest);
-    }
 
 pub rounds_tell_all_lem : RoundsTellAll
 rounds_tell_all_lem log readers calls

@@ -18,7 +18,6 @@ use Rattle.nr_core.proofs.Choices.{by_cases}
 use Rattle.nr_core.specs.declared.shape.Shape.{Shape}
 use Rattle.nr_model.specs.Strays.{count_of_put}
 use Rattle.nr_model.specs.declared.calls.Call.{Call}
-use Rattle.nr_model.specs.declared.calls.Call.TheVariants as model
 use Rattle.nr_model.specs.declared.rows.Row.{Row}
 use Rattle.nr_core.specs.Marks.{Marks, is_reaped, set_in}
 use Rattle.nr_core.specs.Puts.{put_count}
@@ -218,9 +217,9 @@ module _ {Room : Type 0} (shows : Room → List Row → Type 0) (old new : Calle
 
 -- CALLS THAT LEAVE THE SETS
 
-books_stay : (old new : Caller) (put : List (List Row)) (given : List Given) → KeepsSets old new → Books old put given
+books_stay : {old new : Caller} {put : List (List Row)} {given : List Given} → KeepsSets old new → Books old put given
     → Books new (put ++ []) (given ++ [])
-books_stay old new put given kept books =
+books_stay {old} {new} {put} {given} kept books =
     subst (λ (b : List (List Row) × List Given). Books new b.0 b.1)
     (λ j. (sym (append-nil put) j, sym (append-nil given) j)) (record {
       writes = kept.number ∙ books.writes;
@@ -237,44 +236,33 @@ books_stay old new put given kept books =
 -- EVERY RUN
 
 module _ {Room : Type 0} (shows : Room → List Row → Type 0) where
-  deal_goes_on : {old new : Caller} {more : List (List Row)} {out : List Given} (put : List (List Row))
-      (given : List Given)
-      → Deals shows old more out new → Books old put given → Books new (put ++ more) (given ++ out)
-  deal_goes_on put given (Fills key number rows old new before after back done) books =
-      gave_back shows 1 (model.Fill key number rows) rows old new before after put given books done.steps done.published
+  deal_goes_on : {old new : Caller} {more put : List (List Row)} {out given : List Given} → Books old put given
+      → Deals shows old more out new → Books new (put ++ more) (given ++ out)
+  deal_goes_on books (Fills key number rows old new before after back done) =
+      gave_back shows 1 _ rows old new before after _ _ books done.steps done.published back done.gives
+  deal_goes_on books (FillRefused key number rows _ _ _ _ fault says) =
+      books_stay (fill_keeps key number rows fault says.0) books
+  deal_goes_on books (Updates bound key batch old new before after back done) =
+      gave_back shows (2 * length done.set + 2) _ done.left old new before after _ _ books done.steps done.published
       back done.gives
-  deal_goes_on put given (FillRefused key number rows old new before after fault says) books =
-      books_stay old new put given (fill_keeps old new key number rows fault says.0) books
-  deal_goes_on put given (Updates bound key batch old new before after back done) books =
-      gave_back shows (2 * length done.set + 2) (model.Update key batch) done.left old new before after put given books
-      done.steps done.published back done.gives
-  deal_goes_on put given (UpdateRefused bound key batch old new before after fault says) books =
-      books_stay old new put given (update_keeps old new bound key batch fault says.0) books
-  deal_goes_on put given (Replaces key rows old new before after back done) books =
-      gave_back shows 1 (model.Replace key rows) rows old new before after put given books done.steps done.published
-      back done.gives
-  deal_goes_on put given (ReplaceRefused key rows old new before after fault says) books =
-      books_stay old new put given (replace_keeps old new key rows fault says.0) books
-  deal_goes_on put given (Reaps old new before after done) books =
-      reap_goes_on shows old new before after put given books done
-  deal_goes_on put given (ReapHeld old new before after says) books =
-      books_stay old new put given (rests_keeps old new _ _ _ _ says.8) books
-  deal_goes_on put given (ReapNothing old new before after says) books =
-      books_stay old new put given
-      (rests_keeps old new old.steps old.marks.polls old.marks.loads old.heard says.1) books
-  deal_goes_on put given (Evicts key old new answer says) books =
-      books_stay old new put given (evict_keeps old new key answer says) books
-  deal_goes_on put given (Cancels key old new answer says) books =
-      books_stay old new put given (cancel_keeps old new key answer says) books
-  deal_goes_on put given (Quiet steps call answer old new quiet gains stays) books =
-      books_stay old new put given (quiet_keeps old new steps call answer quiet gains stays) books
-  deal_goes_on put given (Lacks steps call counts old new without) books =
-      books_stay old new put given (lacks_keeps old new steps call counts without) books
-  deal_goes_on put given (LearnsMore steps old new says) books =
-      books_stay old new put given (learns_keeps old new steps says) books
-  deal_goes_on put given (Rests steps old new says) books =
-      books_stay old new put given
-      (rests_keeps old new (old.steps + steps) old.marks.polls old.marks.loads old.heard says) books
+  deal_goes_on books (UpdateRefused bound key batch _ _ _ _ fault says) =
+      books_stay (update_keeps bound key batch fault says.0) books
+  deal_goes_on books (Replaces key rows old new before after back done) =
+      gave_back shows 1 _ rows old new before after _ _ books done.steps done.published back done.gives
+  deal_goes_on books (ReplaceRefused key rows _ _ _ _ fault says) =
+      books_stay (replace_keeps key rows fault says.0) books
+  deal_goes_on books (Reaps old new before after done) = reap_goes_on shows old new before after _ _ books done
+  deal_goes_on books (ReapHeld _ _ _ _ says) = books_stay (rests_keeps _ _ _ _ says.8) books
+  deal_goes_on books (ReapNothing old _ _ _ says) =
+      books_stay (rests_keeps old.steps old.marks.polls old.marks.loads old.heard says.1) books
+  deal_goes_on books (Evicts key _ _ answer says) = books_stay (evict_keeps key answer says) books
+  deal_goes_on books (Cancels key _ _ answer says) = books_stay (cancel_keeps key answer says) books
+  deal_goes_on books (Quiet steps call answer _ _ quiet gains stays) =
+      books_stay (quiet_keeps steps call answer quiet gains stays) books
+  deal_goes_on books (Lacks steps call counts _ _ without) = books_stay (lacks_keeps steps call counts without) books
+  deal_goes_on books (LearnsMore steps _ _ says) = books_stay (learns_keeps steps says) books
+  deal_goes_on books (Rests steps old _ says) =
+      books_stay (rests_keeps (old.steps + steps) old.marks.polls old.marks.loads old.heard says) books
 
   run_books : {writer : Caller} {put : List (List Row)} {given : List Given} → Run shows writer put given
       → Books writer put given
@@ -287,7 +275,7 @@ module _ {Room : Type 0} (shows : Room → List Row → Type 0) where
         stand = λ slot low kept. absurd (omega arith);
         gave = All-nil (HasItsRows []);
       }) (opening_begins_lem shape words map writer readers opened)
-  run_books (Goes old new put more given out run deal) = deal_goes_on put given deal (run_books run)
+  run_books (Goes old new put more given out run deal) = deal_goes_on (run_books run) deal
 
   pub each_set_comes_out_once_lem : EachSetComesOutOnce shows
   each_set_comes_out_once_lem writer put given rest left run apart out = let books = run_books run in record {

@@ -45,7 +45,7 @@ pub kept_ledger : (old new : Caller) (gone : List ℕ) → KeepsSets old new →
 kept_ledger old new gone kept =
     ledger_stays_lem old new gone kept.table kept.fresh kept.puts kept.reaped kept.living kept.many
 
-module _ (old new : Caller) where
+module _ {old new : Caller} where
   -- the slots stay, and of the marks all but the polls and the loads
   slots_keep : (polls : List Past) (loads : List LoggedLoad) → new.number ≡ old.number → new.table ≡ old.table
       → new.fresh ≡ old.fresh → new.retired ≡ old.retired
@@ -134,14 +134,14 @@ module _ (old new : Caller) where
 
 pub quiet_leaves_lem : QuietLeaves
 quiet_leaves_lem steps call answer old new gone quiet gains stays =
-    kept_ledger old new gone (quiet_keeps old new steps call answer quiet gains stays)
+    kept_ledger old new gone (quiet_keeps steps call answer quiet gains stays)
 
 pub no_slot_leaves_lem : NoSlotLeaves
 no_slot_leaves_lem steps call counts old new gone without =
-    kept_ledger old new gone (lacks_keeps old new steps call counts without)
+    kept_ledger old new gone (lacks_keeps steps call counts without)
 
 pub cancel_leaves_lem : CancelLeaves
-cancel_leaves_lem key old new answer gone cancels = kept_ledger old new gone (cancel_keeps old new key answer cancels)
+cancel_leaves_lem key old new answer gone cancels = kept_ledger old new gone (cancel_keeps key answer cancels)
 
 pub eviction_leaves_lem : EvictionLeaves
-eviction_leaves_lem key old new answer gone evicts = kept_ledger old new gone (evict_keeps old new key answer evicts)
+eviction_leaves_lem key old new answer gone evicts = kept_ledger old new gone (evict_keeps key answer evicts)

@@ -1,7 +1,7 @@
 -- The sets that stand in slots and those that were let go, call by call: a call that puts a set lets go of the one that
 -- its slot had, and a reap of the one that it gives out.
-use Rattle.std.proofs.Common.{Bool, List, [], ap, arith, cond, drop, false, get_or, get_or-set_other}
-use Rattle.std.proofs.Common.{get_or-set_same, inl, inr, length, length-append, length-set, nat_eq, refl, set, subst}
+use Rattle.std.proofs.Common.{Bool, List, [], ap, arith, cond, false, get_or, get_or-set_other}
+use Rattle.std.proofs.Common.{get_or-set_same, inl, inr, length, length-set, nat_eq, refl, set, subst}
 use Rattle.std.proofs.Common.{suc, sym, take, true, zero, ℕ, ⊎_elim, ◌++◌, ◌+◌, ◌<◌, ◌∙◌, ◌∷◌, ◌≡◌, ◌≤◌, ◌≢◌, ◌⊎◌}
 use Rattle.std.specs.Prelude.{◌||◌, Some, nat_lt, replicate}
 use Rattle.std.proofs.lemmas.Bool.{eqb-false, le-ltb, lt-ltb}
@@ -11,6 +11,7 @@ use mathlib.Core.Logic.{dite}
 use mathlib.Core.Option.{some, some-injective, some-ne-none}
 use native.Mathlib.Decide.{dec_le, ℕ_discrete}
 use Rattle.nr_core.proofs.Choices.{by_cases}
+use Rattle.nr_board.proofs.Keepers.{at_behind}
 use Rattle.nr_core.proofs.Sums.{at_remove, at_snoc, below-change, below-same, below-term, only-other, only-same}
 use Rattle.nr_core.proofs.Sums.{total-append}
 use Rattle.nr_core.specs.Sums.{below, only}
@@ -23,8 +24,7 @@ use Rattle.nr_model.specs.declared.calls.Call.{Call}
 use Rattle.nr_model.specs.declared.calls.Call.TheVariants as model
 use Rattle.nr_model.specs.declared.calls.Reply.TheVariants as reply
 use Rattle.nr_model.specs.declared.rows.Row.{Row}
-use Rattle.nr_model.specs.declared.states.KeyState.{KeyState}
-use Rattle.nr_model.specs.declared.states.KeyState.TheVariants.{Asked, Hole, Rows}
+use Rattle.nr_model.specs.declared.states.KeyState.TheVariants.{Hole}
 use Rattle.nr_core.specs.Story.{entry}
 use Rattle.nr_core.specs.Marks.{Marks}
 use Rattle.nr_core.specs.Pasts.{Living}
@@ -42,19 +42,11 @@ use Rattle.nr_map.proofs.Standing.{stands_there}
 
 -- THE WRITER'S PUTS ARE ITS OWN ENTRIES'
 
-find_puts_none : (state : KeyState) → is_done (find_reply state) ≡ false
-find_puts_none (Hole number) = refl
-find_puts_none (Asked number) = refl
-find_puts_none (Rows number rows) = refl
-
-ask_puts_none : (state : KeyState) → is_done (ask_reply state) ≡ false
-ask_puts_none (Hole number) = refl
-ask_puts_none (Asked number) = refl
-ask_puts_none (Rows number rows) = refl
-
 reading_puts_none : (map : PartialMap) (call : Call) → is_reading call ≡ true → is_done (reply_to map call) ≡ false
-reading_puts_none map (model.Find key) reads = find_puts_none (state_of map key)
-reading_puts_none map (model.Ask key) reads = ask_puts_none (state_of map key)
+reading_puts_none map (model.Find key) reads =
+    elim (state_of map key) as (λ s. is_done (find_reply s) ≡ false) [ Hole n ↦ refl | _ ↦ refl ]
+reading_puts_none map (model.Ask key) reads =
+    elim (state_of map key) as (λ s. is_done (ask_reply s) ≡ false) [ Hole n ↦ refl | _ ↦ refl ]
 reading_puts_none map call reads = absurd (cc)
 
 own_puts : (shape : Shape) (map : PartialMap) (log : List Entry) → IsLegal map log → AreCallers shape log
@@ -348,40 +340,32 @@ handed_out_once_lem = ledger_goes_on
 -- A REAP
 
 -- a slot that waits is retired, and not passed by
-waits_there : (passes : ℕ → Bool) (retired held later : List Retired) (entry : Retired)
-    → not_passed passes retired ≡ held ++ entry ∷ later
+waits_there : (passes : ℕ → Bool) (retired : List Retired) (place : ℕ) (entry : Retired)
+    → get_elem? (not_passed passes retired) place ≡ some entry
     → (at : ℕ) × (get_elem? retired at ≡ some entry) × (passes entry.slot ≡ false)
-waits_there passes [] held later entry is =
-    absurd (let size = ap length is in let longer = length-append held (entry ∷ later) in omega arith)
-waits_there passes (e ∷ retired) held later entry is =
-    let Goal : Type 0 = (at : ℕ) × (get_elem? (e ∷ retired) at ≡ some entry) × (passes entry.slot ≡ false) in
-    let deeper : (held' : List Retired) → not_passed passes retired ≡ held' ++ entry ∷ later → Goal
-    = λ held' rest. let t = waits_there passes retired held' later entry rest in (suc t.0, t.1, t.2) in
-    by_cases
-    (λ (b : Bool). passes e.slot ≡ b
-    → cond {A = List Retired} b (not_passed passes retired) (e ∷ not_passed passes retired)
-    ≡ held ++ entry ∷ later
-    → Goal)
-    (passes e.slot)
-    (λ _ _ rest. deeper held rest)
-    (λ _ kept rest. here held rest kept deeper) refl is
+waits_there passes [] place entry there = absurd (some-ne-none entry (sym there))
+waits_there passes (e ∷ retired) place entry there =
+    waits (λ at rest. let t = waits_there passes retired at entry rest in (suc t.0, t.1, t.2)) (passes e.slot) refl
+    place there
   where
-    here : (held : List Retired) → e ∷ not_passed passes retired ≡ held ++ entry ∷ later → passes e.slot ≡ false
-        → ((held' : List Retired) → not_passed passes retired ≡ held' ++ entry ∷ later
-        → (at : ℕ) × (get_elem? (e ∷ retired) at ≡ some entry)
-        × (passes entry.slot ≡ false))
+    waits : ((place : ℕ) → get_elem? (not_passed passes retired) place ≡ some entry
+        → (at : ℕ) × (get_elem? (e ∷ retired) at ≡ some entry) × (passes entry.slot ≡ false))
+        → (b : Bool) → passes e.slot ≡ b → (place : ℕ)
+        → get_elem? (cond b (not_passed passes retired) (e ∷ not_passed passes retired)) place ≡ some entry
         → (at : ℕ) × (get_elem? (e ∷ retired) at ≡ some entry) × (passes entry.slot ≡ false)
-    here [] rest kept deeper =
-        let same : e ≡ entry = some-injective e entry (ap (λ (l : List Retired). get_elem? l 0) rest) in
-        (0, ap some same, ap (λ (x : Retired). passes x.slot) (sym same) ∙ kept)
-    here (h ∷ held) rest kept deeper = deeper held (ap (drop 1) rest)
+    waits deeper true _ place there = deeper place there
+    waits deeper false kept zero there =
+        (0, there, ap (λ (x : Retired). passes x.slot) (sym (some-injective e entry there)) ∙ kept)
+    waits deeper false kept (suc place) there = deeper place there
 
 -- a slot whose set is ready to be reaped was not reaped
 pub ready_there : (old : Caller) (scanned : List ℕ) (held later : List Retired) (entry : Retired)
     → ready_to old scanned ≡ held ++ entry ∷ later
     → (at : ℕ) × (get_elem? old.retired at ≡ some entry) × (get_or old.marks.reaped entry.slot false ≡ false)
 ready_there old scanned held later entry is =
-    let there = waits_there _ old.retired held later entry is in
+    let there
+    = waits_there _ old.retired (length held + 0) entry
+    (ap (λ (l : List Retired). get_elem? l (length held + 0)) is ∙ at_behind held (entry ∷ later) 0) in
     (there.0, there.1, first_of (get_or old.marks.reaped entry.slot false) _ there.2)
   where
     first_of : (a b : Bool) → (a || b) ≡ false → a ≡ false

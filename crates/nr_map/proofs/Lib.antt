@@ -1,7 +1,6 @@
 pub mod Gathered
 pub mod Written
 pub mod AllKeys
-pub mod Seating
 pub mod SetRooms
 pub mod NoSlots
 pub mod SlotBounds
@@ -20,6 +19,5 @@ pub mod Ledgers
 pub mod Keeping
 pub mod Remainders
 pub mod GivenBack
-pub mod SlotCounting
 pub mod Evictions
 pub mod Answered

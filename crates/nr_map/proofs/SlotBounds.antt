@@ -9,17 +9,14 @@ use Rattle.nr_core.specs.declared.shape.Shape.{Shape}
 use Rattle.nr_core.specs.Story.{map_after}
 use Rattle.nr_board.specs.Callers.{Table}
 use Rattle.nr_core.specs.SlotLists.{SlotLists}
-use Rattle.nr_map.specs.SlotBounds.{NoSlotIsRare, SearchesAreShort, RoomForFills, RoomForReplacements, RoomForUpdates}
+use Rattle.nr_map.specs.SlotBounds.{NoSlotIsRare, RoomForFills, RoomForReplacements, RoomForUpdates}
 
 -- no more keys are filled than there are
-few_filled : (shape : Shape) (log : List Entry) → filled_count (map_after shape log) ≤ shape.keys
+pub few_filled : (shape : Shape) (log : List Entry) → filled_count (map_after shape log) ≤ shape.keys
 few_filled shape log =
     let keys = length-now shape log in
     let filled = count_by-le-length is_filled_key (map_after shape log).states in
     omega arith
-
-pub searches_are_short_lem : SearchesAreShort
-searches_are_short_lem steps call rows old new published = published.few
 
 pub no_slot_is_rare_lem : NoSlotIsRare
 no_slot_is_rare_lem steps call counts old new without =

@@ -9,15 +9,12 @@ use Rattle.nr_core.proofs.Histories.{length-after}
 use Rattle.nr_core.specs.Story.{entry}
 use Rattle.nr_core.specs.Puts.{puts_at}
 use Rattle.nr_model.proofs.LawLemmas.{legal_begins_lem, legal_goes_on_lem}
-use Rattle.nr_board.specs.Callers.{Caller, Gains, Table, map_at_opening}
-use Rattle.nr_board.specs.Meetings.{Known}
-use Rattle.nr_board.specs.Rule.{StartsWith}
+use Rattle.nr_board.specs.Callers.{Table, map_at_opening}
 use Rattle.nr_model.specs.declared.rows.Row.{Row}
 use Rattle.nr_model.specs.declared.batches.ApplyFault.{ApplyFault}
 use Rattle.nr_model.specs.declared.batches.ApplyFault.TheVariants as fault
 use Rattle.nr_model.specs.declared.calls.Call.{Call}
 use Rattle.nr_model.specs.declared.calls.Call.TheVariants.{Find, Ask, Fill, Update, Replace, Evict, Cancel}
-use Rattle.nr_model.specs.declared.calls.Reply.{Reply}
 use Rattle.nr_model.specs.declared.calls.Reply.TheVariants as reply
 use Rattle.nr_model.specs.declared.states.KeyState.{KeyState}
 use Rattle.nr_model.specs.declared.states.KeyState.TheVariants.{Hole, Asked, Rows}
@@ -26,7 +23,7 @@ use Rattle.nr_model.specs.Maps.{PartialMap, applied_reply, rows_or, call_key, fi
 use Rattle.nr_model.specs.Maps.{reply_to, state_after, state_of}
 use Rattle.nr_model.specs.Histories.{Entry, IsLegal, after, is_done}
 use Rattle.nr_model.proofs.HistoryLemmas.{count_by-cons, one, state_of-next_other, state_of-next_same}
-use Rattle.nr_map.specs.Written.{FindsPut, FindsWhatItHeard, FindsWritten, HeardBefore, LastPut, NonePut, ReadsNoOlder}
+use Rattle.nr_map.specs.Written.{FindsWhatItHeard, FindsWritten, LastPut, NonePut, ReadsNoOlder}
 use Rattle.nr_map.specs.Written.{evicts_at, is_evicted}
 
 -- What a call leaves of a key's state: where it put a set, the key is filled; where it put none, a set that stands
@@ -212,57 +209,38 @@ finds_written_lem map before later put key caller found near puts_it legal =
     }
 
 -- the history in which who heard a note finds a key
-module _ (old asking new : Caller) (note : Known) (key steps : ℕ) (found : Reply) (heard : HeardBefore note old asking)
-    (gains : Gains steps (Find key) asking new found) where
-  abbrev find : Entry
-  find = entry asking.number (Find key) found
-
-  abbrev more : List Entry
-  more = (heard.hears.seen.rest ++ heard.seen.rest) ++ gains.between
-
-  begun : asking.seen ++ gains.between ≡ note.seen ++ more
-  begun =
-      ap (λ (l : List Entry). l ++ gains.between)
-      (heard.seen.is ∙ ap (λ (l : List Entry). l ++ heard.seen.rest) heard.hears.seen.is
-      ∙ append_assoc note.seen heard.hears.seen.rest heard.seen.rest)
-      ∙ append_assoc note.seen (heard.hears.seen.rest ++ heard.seen.rest) gains.between
-
-  grown : new.seen ≡ (note.seen ++ more) ++ find ∷ []
-  grown = gains.seen ∙ ap (λ (l : List Entry). l ++ find ∷ []) begun
-
-  legal : IsLegal (map_at_opening old.table) ((note.seen ++ more) ++ find ∷ [])
-  legal =
-      subst (IsLegal (map_at_opening old.table)) grown
-      (subst (λ (t : Table). IsLegal (map_at_opening t) new.seen) (heard.table ∙ heard.hears.learns.table)
-      gains.legal)
-
-  reads_on : (log : List Entry) × StartsWith log note.seen × (new.seen ≡ log ++ find ∷ [])
-      × IsLegal (map_at_opening old.table) log
-      × (found ≡ find_reply (state_of (after (map_at_opening old.table) log) key))
-  reads_on =
-      let ends = (legal_goes_on_lem (map_at_opening old.table) (note.seen ++ more) find).1.1 legal in
-      (note.seen ++ more, record { rest = more; is = refl }, grown, ends.0, ends.1)
-
-  finds_on : (before since : List Entry) (put : Entry) → key < old.table.shape.keys
-      → note.seen ≡ (before ++ put ∷ []) ++ since → puts_at key put ≡ true
-      → (more : List Entry) × (new.seen ≡ ((before ++ put ∷ []) ++ (since ++ more)) ++ find ∷ [])
-      × FindsPut (map_at_opening old.table) key (before ++ put ∷ []) (since ++ more) found
-  finds_on before since put near had puts_it =
-      let opening = map_at_opening old.table in let written = before ++ put ∷ [] in
-      let later : note.seen ++ more ≡ written ++ (since ++ more)
-      = ap (λ (l : List Entry). l ++ more) had ∙ append_assoc written since more in
-      let keys : key < length opening.states
-      = omega (arith, near, length-replicate old.table.shape.keys (Hole old.table.shape.first_number)) in (
-        more,
-        grown ∙ ap (λ (l : List Entry). l ++ find ∷ []) later,
-        finds_written_lem opening before (since ++ more) put key asking.number found keys puts_it
-            (subst (λ (l : List Entry). IsLegal opening (l ++ find ∷ [])) later legal),
-      )
+pub reads_no_older_lem : ReadsNoOlder
+reads_no_older_lem old asking new note key steps found heard gains =
+    let opening = map_at_opening old.table in
+    let find = entry asking.number (Find key) found in
+    let since = heard.hears.seen.rest ++ heard.seen.rest in
+    let log = note.seen ++ (since ++ gains.between) in
+    let begun : asking.seen ++ gains.between ≡ log
+    = ap (λ (l : List Entry). l ++ gains.between)
+    (heard.seen.is ∙ ap (λ (l : List Entry). l ++ heard.seen.rest) heard.hears.seen.is
+    ∙ append_assoc note.seen heard.hears.seen.rest heard.seen.rest)
+    ∙ append_assoc note.seen since gains.between in
+    let grown : new.seen ≡ log ++ find ∷ [] = gains.seen ∙ ap (λ (l : List Entry). l ++ find ∷ []) begun in
+    let legal : IsLegal opening (log ++ find ∷ [])
+    = subst (λ (p : Table × List Entry). IsLegal (map_at_opening p.0) p.1)
+    (λ j. ((heard.table ∙ heard.hears.learns.table) j, grown j)) gains.legal in
+    let ends = (legal_goes_on_lem opening log find).1.1 legal in
+    (log, record { rest = since ++ gains.between; is = refl }, grown, ends.0, ends.1)
 
 pub finds_what_it_heard_lem : FindsWhatItHeard
 finds_what_it_heard_lem old asking new note before since put key steps found near had puts_it heard gains =
-    finds_on old asking new note key steps found heard gains before since put near had puts_it
-
-pub reads_no_older_lem : ReadsNoOlder
-reads_no_older_lem old asking new note key steps found heard gains =
-    reads_on old asking new note key steps found heard gains
+    let opening = map_at_opening old.table in
+    let find = entry asking.number (Find key) found in
+    let written = before ++ put ∷ [] in
+    let reads = reads_no_older_lem old asking new note key steps found heard gains in
+    let more = reads.1.rest in
+    let later : reads.0 ≡ written ++ (since ++ more)
+    = reads.1.is ∙ ap (λ (l : List Entry). l ++ more) had ∙ append_assoc written since more in
+    let keys : key < length opening.states
+    = omega (arith, near, length-replicate old.table.shape.keys (Hole old.table.shape.first_number)) in (
+      more,
+      reads.2 ∙ ap (λ (l : List Entry). l ++ find ∷ []) later,
+      finds_written_lem opening before (since ++ more) put key asking.number found keys puts_it
+          (subst (λ (l : List Entry). IsLegal opening (l ++ find ∷ [])) later
+          ((legal_goes_on_lem opening reads.0 find).1.0 (reads.3, reads.4))),
+    )

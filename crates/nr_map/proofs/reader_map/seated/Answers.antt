@@ -2,8 +2,8 @@ use Rattle.std.proofs.Common.{ap, arith, replicate, ◌∙◌}
 use Rattle.nr_core.specs.declared.shape.Shape.{Shape}
 use Rattle.nr_core.specs.Marks.{opening_marks}
 use Rattle.nr_map.specs.Opened.{newcomer}
-use Rattle.nr_map.proofs.Seating.{all_own}
-use Rattle.nr_board.specs.Callers.{caller_of}
+use Rattle.nr_board.specs.Callers.{Caller, caller_of}
+use Rattle.std.proofs.lemmas.Option.{get_or_from_slice_get}
 use Rattle.nr_map.proofs.reader_map.seated.Goals as goal
 
 pub returns : goal.returns
@@ -21,5 +21,7 @@ returns c = let board = c.in_ok-board.board in let seated = c.in_ok-readers.ensu
       c.in_ok-board.ensures.board.0;
   count = seated.count;
   reads = seated.reads;
-  own = all_own board c.in_ok-readers.readers.items (λ place low. seated.reads place (omega (arith, seated.count)));
+  own = λ place other low. ap (λ (reader : Caller). reader.table)
+      (get_or_from_slice_get c.in_ok-readers.readers.items place _ other
+      (seated.reads place (omega (arith, low, seated.count))));
 }

@@ -12,21 +12,17 @@ loop-place-init c =
     let count : ℕ = c.min-count.result in
     let none = copied_none from first cells (min 0 count) (omega arith) in
     let one
-    = copied_on from first cells (min 0 count) (min 1 count) first c.copy_where.new.self
-    cells c.copy_where.new.cells none c.copy_where.ensures.cells c.copy_where.ensures.room
+    = copied_on from first cells (min 0 count) (min 1 count) none c.copy_where.ensures.cells c.copy_where.ensures.room
     (omega arith) c.copy_where.ensures.reads in
     let two
-    = copied_on from first cells (min 1 count) (min 2 count) c.copy_where.new.self c.copy_where-2.new.self
-    c.copy_where.new.cells c.copy_where-2.new.cells one c.copy_where-2.ensures.cells c.copy_where-2.ensures.room
-    (omega arith) c.copy_where-2.ensures.reads in
+    = copied_on from first cells (min 1 count) (min 2 count) one c.copy_where-2.ensures.cells
+    c.copy_where-2.ensures.room (omega arith) c.copy_where-2.ensures.reads in
     let three
-    = copied_on from first cells (min 2 count) (min 3 count) c.copy_where-2.new.self c.copy_where-3.new.self
-    c.copy_where-2.new.cells c.copy_where-3.new.cells two c.copy_where-3.ensures.cells c.copy_where-3.ensures.room
-    (omega arith) c.copy_where-3.ensures.reads in
+    = copied_on from first cells (min 2 count) (min 3 count) two c.copy_where-3.ensures.cells
+    c.copy_where-3.ensures.room (omega arith) c.copy_where-3.ensures.reads in
     let four
-    = copied_on from first cells (min 3 count) (min 4 count) c.copy_where-3.new.self c.copy_where-4.new.self
-    c.copy_where-3.new.cells c.copy_where-4.new.cells three c.copy_where-4.ensures.cells c.copy_where-4.ensures.room
-    (omega arith) c.copy_where-4.ensures.reads in
+    = copied_on from first cells (min 3 count) (min 4 count) three c.copy_where-4.ensures.cells
+    c.copy_where-4.ensures.room (omega arith) c.copy_where-4.ensures.reads in
     record { own = c.copy_where-4.ensures.own; copied = four }
 
 pub loop-place-preserved : goal.loop-place-preserved
@@ -37,8 +33,7 @@ loop-place-preserved c =
     record {
       own = made.ensures.own;
       copied = copied_on c.args.from c.args.self.now c.args.cells.now (min place count) (min (place + 1) count)
-          c.loop-place.self made.new.self c.loop-place.cells made.new.cells c.loop-place.invariant.copied
-          made.ensures.cells made.ensures.room (omega arith) made.ensures.reads;
+          c.loop-place.invariant.copied made.ensures.cells made.ensures.room (omega arith) made.ensures.reads;
     }
 
 pub returns-clause-cells : goal.returns-clause-cells
