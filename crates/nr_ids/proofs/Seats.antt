@@ -10,7 +10,7 @@ use Rattle.std.proofs.lemmas.List.{length-replicate, get_or-replicate}
 use Rattle.std.specs.Prelude.{replicate}
 use Rattle.atomic_table.specs.Seated.{TableId}
 use Rattle.atomic_table.specs.declared.shared.Seat.{Seat}
-use Rattle.atomic_table.specs.Table.{State, Act, Allows, Valid, carried_after, keeps, opening, step, stepped}
+use Rattle.atomic_table.specs.Table.{State, Me, Act, Allows, Valid, carried_after, keeps, opening, step, stepped}
 use Rattle.atomic_table.proofs.Lists.{exchanged}
 use Rattle.nr_ids.specs.declared.plan.Plan.{Plan}
 use Rattle.nr_ids.specs.Groups.{group_of, group_of_way, places, way_in, ways, IsPlan}
@@ -81,330 +81,277 @@ module _ (table : TableId) (key : Plan) (now : Opened) (about : Stands table key
   does event state kept at by words shows may =
       moves key state kept seat.id seat.me.0 (after kept.log event) at event words sits.calls by shows may refl
 
-  same_words : (event : Event) (state : State ℕ View) (kept : Kept key state) (place : ℕ)
-      → SameNames key state.words kept.log kept.shows event → SameTurns key state.words kept.log kept.shows event
-      → SameMarks key state.words kept.log kept.shows event → SameHints key state.words kept.log kept.shows event
+  -- a step of the seat's makes of its word f of what it was, where the event of it may happen
+  steps : (event : Event) (place : ℕ) (f : ℕ → ℕ) (then : ℕ → Me ℕ View → Type 0) → place < total now.plan
+      → maker event ≡ seat.me.0.number
+      → ((state : State ℕ View) (kept : Kept key state) → get_elem? state.views seat.id ≡ some seat.me.0
+      → May key kept.log event × Shows key (set state.words place (f (get_or state.words place 0))) (event ∷ kept.log)
+      × (Goes event seat.me.0 (after kept.log event)
+      → then (get_or state.words place 0) (after kept.log event, seat.me.1)))
+      → (seat.table_id ≡ table) × (place < table.words) × Allows (Kept key) table.slots seat.id seat.me place f then
+  steps event place f then low by may = (
+    own_table,
+    subst (λ (n : ℕ). place < n) (sym about.wide) low,
+    λ state kept len at small. let it = may state kept at in (
+      after kept.log event,
+      keeps,
+      tt,
+      does event state kept at by (set state.words place (f (get_or state.words place 0))) it.1 it.0,
+      it.2 (goes event state kept at it.0),
+    ),
+  )
+
+  -- one that changes nothing tells what the word shows
+  abbrev IsQuiet : Event → Type 0
+  IsQuiet event = (state : State ℕ View) (kept : Kept key state)
+      → May key kept.log event × SameNames key state.words kept.log kept.shows event
+      × SameTurns key state.words kept.log kept.shows event × SameMarks key state.words kept.log kept.shows event
+      × SameHints key state.words kept.log kept.shows event
+
+  same_words : (event : Event) (state : State ℕ View) (kept : Kept key state) (place : ℕ) → IsQuiet event
       → Shows key (set state.words place (get_or state.words place 0)) (event ∷ kept.log)
-  same_words event state kept place names turns marks hints =
+  same_words event state kept place quiet = let it = quiet state kept in
       subst (λ (words : List ℕ). Shows key words (event ∷ kept.log)) (sym (set-get_or state.words place 0))
-      (shows_same key state.words kept.log kept.shows event names turns marks hints)
+      (shows_same key state.words kept.log kept.shows event it.1 it.2 it.3 it.4)
+
+  reads : (event : Event) (place : ℕ) (then : ℕ → Me ℕ View → Type 0) → place < total now.plan
+      → maker event ≡ seat.me.0.number → IsQuiet event
+      → ((state : State ℕ View) (kept : Kept key state) → Goes event seat.me.0 (after kept.log event)
+      → then (get_or state.words place 0) (after kept.log event, seat.me.1))
+      → (seat.table_id ≡ table) × (place < table.words)
+      × Allows (Kept key) table.slots seat.id seat.me place (λ n. n) then
+  reads event place then low by quiet tells = steps event place (λ n. n) then low by
+      (λ state kept at. ((quiet state kept).0, same_words event state kept place quiet, tells state kept))
+
+  abbrev look : Event
+  look = looked seat.me.0.number
+
+  look_is_quiet : IsQuiet look
+  look_is_quiet state kept = (tt, λ _. refl, λ _. refl, λ _. refl, λ _. refl)
+
+  groups : key.groups ≡ now.plan.groups
+  groups = ap (λ (plan : Plan). plan.groups) about.key_is
+
+  own_groups : seat.me.0.plan.groups ≡ now.plan.groups
+  own_groups = ap (λ (d : Opened). d.plan.groups) sits.own
 
   pub looks_at_name : (way : ℕ) → way < ways now.plan → (seat.table_id ≡ table) × (way < table.words)
       × Allows (Kept key) table.slots seat.id seat.me way (λ n. n)
       (has_looked_at_name (step table.slots way 0 0 none) seat.me)
   looks_at_name way low =
-      let wide = about.wide in
-      let near : way < ways key = subst (λ (plan : Plan). way < ways plan) (sym about.key_is) low in (
-        own_table,
-        omega arith,
-        λ state kept len at small. let event = looked seat.me.0.number in (
-          after kept.log event,
-          keeps,
-          tt,
-          does event state kept at refl (set state.words way (get_or state.words way 0))
-              (same_words event state kept way (λ _. refl) (λ _. refl) (λ _. refl) (λ _. refl)) tt,
-          (goes event state kept at tt, kept.shows.names way near),
-        ),
-      )
+      reads look way (has_looked_at_name (step table.slots way 0 0 none) seat.me) (omega arith) refl look_is_quiet
+      (λ state kept goes. (goes, kept.shows.names way (omega (arith, low, groups))))
 
   pub looks_at_turn : (group place : ℕ) → group < now.plan.groups → place ≡ turn_place now.plan group
       → (seat.table_id ≡ table) × (place < table.words)
       × Allows (Kept key) table.slots seat.id seat.me place (λ n. n)
       (has_looked_at_turn (step table.slots place 0 0 none) seat.me)
   looks_at_turn group place low is =
-      let wide = about.wide in
-      let groups : seat.me.0.plan.groups ≡ now.plan.groups = ap (λ (d : Opened). d.plan.groups) sits.own in
-      let groups' : key.groups ≡ now.plan.groups = ap (λ (plan : Plan). plan.groups) about.key_is in (
-        own_table,
-        omega arith,
-        λ state kept len at small. let event = looked seat.me.0.number in (
-          after kept.log event,
-          keeps,
-          tt,
-          does event state kept at refl (set state.words place (get_or state.words place 0))
-              (same_words event state kept place (λ _. refl) (λ _. refl) (λ _. refl) (λ _. refl)) tt,
-          (
-            goes event state kept at tt,
-            λ other at_place. let there : place ≡ turn_place key other = omega arith in
-                ap (λ (p : ℕ). get_or state.words p 0) there ∙ kept.shows.turns other (omega arith)
-                ∙ ap (λ (plan : Plan). turn_of plan kept.log other) (sym plan_is),
-          ),
-        ),
-      )
+      reads look place (has_looked_at_turn (step table.slots place 0 0 none) seat.me) (omega arith) refl look_is_quiet
+      (λ state kept goes. (
+        goes,
+        λ other at_place. let there : place ≡ turn_place key other = omega (arith, at_place, groups, own_groups) in
+            ap (λ (p : ℕ). get_or state.words p 0) there
+            ∙ kept.shows.turns other (omega (arith, low, is, there, groups))
+            ∙ ap (λ (plan : Plan). turn_of plan kept.log other) (sym plan_is),
+      ))
 
   pub looks_at_hints : (group place : ℕ) → group < now.plan.groups → place ≡ hints_place now.plan group
       → (seat.table_id ≡ table) × (place < table.words)
       × Allows (Kept key) table.slots seat.id seat.me place (λ n. n)
       (has_looked_at_hints (step table.slots place 0 0 none) seat.me)
   looks_at_hints group place low is =
-      let wide = about.wide in
-      let groups : seat.me.0.plan.groups ≡ now.plan.groups = ap (λ (d : Opened). d.plan.groups) sits.own in
-      let groups' : key.groups ≡ now.plan.groups = ap (λ (plan : Plan). plan.groups) about.key_is in (
-        own_table,
-        omega arith,
-        λ state kept len at small. let event = looked seat.me.0.number in (
-          after kept.log event,
-          keeps,
-          tt,
-          does event state kept at refl (set state.words place (get_or state.words place 0))
-              (same_words event state kept place (λ _. refl) (λ _. refl) (λ _. refl) (λ _. refl)) tt,
-          (
-            goes event state kept at tt,
-            λ other at_place. let there : place ≡ hints_place key other = omega arith in
-                ap (λ (p : ℕ). get_or state.words p 0) there ∙ kept.shows.hints other (omega arith),
-          ),
-        ),
-      )
+      reads look place (has_looked_at_hints (step table.slots place 0 0 none) seat.me) (omega arith) refl look_is_quiet
+      (λ state kept goes. (
+        goes,
+        λ other at_place. let there : place ≡ hints_place key other = omega (arith, at_place, groups, own_groups) in
+            ap (λ (p : ℕ). get_or state.words p 0) there
+            ∙ kept.shows.hints other (omega (arith, low, is, there, groups)),
+      ))
 
   -- a load of any word, which of a group's marks tells what they are
   pub loads_word : (place : ℕ) → place < total now.plan → (seat.table_id ≡ table) × (place < table.words)
       × Allows (Kept key) table.slots seat.id seat.me place (λ n. n)
       (has_loaded (step table.slots place 0 0 none) seat.me)
   loads_word place low =
-      let wide = about.wide in
-      let total_is : total key ≡ total now.plan = ap total about.key_is in
-      let groups : seat.me.0.plan.groups ≡ key.groups = ap (λ (plan : Plan). plan.groups) plan_is in (
-        own_table,
-        omega (arith, low, wide),
-        λ state kept len at small. let event = touched seat.me.0.number (loaded place) in (
-          after kept.log event,
-          keeps,
-          tt,
-          does event state kept at refl (set state.words place (get_or state.words place 0))
-              (same_words event state kept place (λ _. refl) (λ _. refl) (λ _. refl) (λ _. refl)) tt,
-          (
-            goes event state kept at tt,
-            λ group near at_place. let there : place ≡ marks_place key group = omega (arith, at_place, groups) in
-                let inside : group < key.groups = omega (arith, near, groups) in
-                ap (λ (p : ℕ). get_or state.words p 0) there ∙ kept.shows.marks group inside,
-          ),
-        ),
-      )
+      reads (touched seat.me.0.number (loaded place)) place (has_loaded (step table.slots place 0 0 none) seat.me) low
+      refl (λ state kept. (tt, λ _. refl, λ _. refl, λ _. refl, λ _. refl))
+      (λ state kept goes. (
+        goes,
+        λ group near at_place.
+            let there : place ≡ marks_place key group = omega (arith, at_place, groups, own_groups) in
+            ap (λ (p : ℕ). get_or state.words p 0) there
+            ∙ kept.shows.marks group (omega (arith, near, groups, own_groups)),
+      ))
 
   -- a way's use bit is set
   pub marks_way : (way place bit : ℕ) → way < ways now.plan → place ≡ marks_place now.plan (group_of_way way)
       → bit ≡ mark_bit way → (seat.table_id ≡ table) × (place < table.words)
       × Allows (Kept key) table.slots seat.id seat.me place (λ n. bit_or n bit)
       (has_marked (step table.slots place bit 0 none) seat.me)
-  marks_way way place bit low is bit_is = let wide = about.wide in
+  marks_way way place bit low is bit_is =
+      let event = touched seat.me.0.number (marked way) in
       let group : ℕ = way / 8 in
-      let groups : key.groups ≡ now.plan.groups = ap (λ (plan : Plan). plan.groups) about.key_is in
-      let groups' : seat.me.0.plan.groups ≡ key.groups = ap (λ (plan : Plan). plan.groups) plan_is in
-      let place' : marks_place key group ≡ place = omega arith in (
-        own_table,
-        omega arith,
-        λ state kept len at small.
-            let event = touched seat.me.0.number (marked way) in
-            let n : ℕ = bit_or (get_or state.words place 0) bit in
-            let may : way < ways key = omega arith in (
-              after kept.log event,
-              keeps,
-              tt,
-              does event state kept at refl (set state.words place n)
-                  (subst
-                  (λ (p : ℕ). Shows key (set state.words p (bit_or (get_or state.words p 0) bit)) (event ∷ kept.log))
-                  place'
-                  (shows_marks key state.words kept.log kept.shows event group (λ (k : ℕ). bit_or k bit) (omega arith)
-                  (λ _. refl) (λ _. refl) (λ _. refl)
-                  (λ other. ap
-                  (λ (b : ℕ). cond (group == other) (bit_or (marks_of kept.log other) b) (marks_of kept.log other))
-                  (sym bit_is))))
-                  may,
-              λ other at_place other_bit.
-                  let same : way ≡ other
-                  = same_way way other (omega (arith, at_place, is, groups, groups'))
-                  (sym bit_is ∙ other_bit) in
-                  subst (λ (w : ℕ). Goes (touched seat.me.0.number (marked w)) seat.me.0 (after kept.log event)) same
-                  (goes event state kept at may),
-            ),
-      )
+      let place' : marks_place key group ≡ place = omega (arith, is, groups) in
+      steps event place (λ n. bit_or n bit) (has_marked (step table.slots place bit 0 none) seat.me) (omega arith) refl
+      (λ state kept at. (
+        omega (arith, low, groups),
+        subst (λ (p : ℕ). Shows key (set state.words p (bit_or (get_or state.words p 0) bit)) (event ∷ kept.log)) place'
+            (shows_marks key state.words kept.log kept.shows event group (λ k. bit_or k bit)
+            (omega (arith, low, groups)) (λ _. refl) (λ _. refl) (λ _. refl)
+            (λ other. ap
+            (λ (b : ℕ). cond (group == other) (bit_or (marks_of kept.log other) b) (marks_of kept.log other))
+            (sym bit_is))),
+        λ goes other at_place other_bit.
+            let same : way ≡ other
+            = same_way way other (omega (arith, at_place, is, groups, own_groups)) (sym bit_is ∙ other_bit) in
+            subst (λ (w : ℕ). Goes (touched seat.me.0.number (marked w)) seat.me.0 (after kept.log event)) same goes,
+      ))
 
-  module _ (clerk : seat.me.0.number ≡ 0) where
-    names_known : (state : State ℕ View) (kept : Kept key state) → get_elem? state.views seat.id ≡ some seat.me.0
-        → (way : ℕ) → name_of kept.log way ≡ name_of seat.me.0.seen way
-    names_known state kept at way =
-        let later = (kept.fits seat.id seat.me.0 at).later in
-        ap (λ (l : List Event). name_of l way) later.is
-        ∙ quiet_names later.rest seat.me.0.seen way
-        (ap (λ (k : ℕ). own k later.rest) (sym clerk) ∙ later.quiet sits.calls)
+  -- what the clerk knows, the others leave
+  module _ (clerk : seat.me.0.number ≡ 0) (state : State ℕ View) (kept : Kept key state)
+      (at : get_elem? state.views seat.id ≡ some seat.me.0) where
+    abbrev rest : List Event
+    rest = (kept.fits seat.id seat.me.0 at).later.rest
 
-    turn_known : (state : State ℕ View) (kept : Kept key state) → get_elem? state.views seat.id ≡ some seat.me.0
-        → (group : ℕ) → IsOpen key seat.me.0.seen group → turn_of key kept.log group ≡ turn_of key seat.me.0.seen group
-    turn_known state kept at group odd =
-        let later = (kept.fits seat.id seat.me.0 at).later in
-        ap (λ (l : List Event). turn_of key l group) later.is
-        ∙ quiet_turn key later.rest seat.me.0.seen group
-        (subst ClearsNothing (sym (later.quiet sits.calls) ∙ ap (λ (k : ℕ). own k later.rest) clerk) tt)
-        (subst (IsLegal key) later.is kept.legal) odd
+    is_later : kept.log ≡ rest ++ seat.me.0.seen
+    is_later = (kept.fits seat.id seat.me.0 at).later.is
 
-    hints_known : (state : State ℕ View) (kept : Kept key state) → get_elem? state.views seat.id ≡ some seat.me.0
-        → (group : ℕ) → hints_of kept.log group ≡ hints_of seat.me.0.seen group
-    hints_known state kept at group =
-        let later = (kept.fits seat.id seat.me.0 at).later in
-        ap (λ (l : List Event). hints_of l group) later.is
-        ∙ quiet_hints key later.rest seat.me.0.seen group
-        (ap (λ (k : ℕ). own k later.rest) (sym clerk) ∙ later.quiet sits.calls)
-        (subst (IsLegal key) later.is kept.legal)
+    quiet : own 0 rest ≡ []
+    quiet = ap (λ (k : ℕ). own k rest) (sym clerk) ∙ (kept.fits seat.id seat.me.0 at).later.quiet sits.calls
 
-    may_name : (state : State ℕ View) (kept : Kept key state) → get_elem? state.views seat.id ≡ some seat.me.0
-        → (way id : ℕ) → MayName key seat.me.0.seen way id → MayName key kept.log way id
-    may_name state kept at way id may = let known = names_known state kept at in record {
+    legal : IsLegal key (rest ++ seat.me.0.seen)
+    legal = subst (IsLegal key) is_later kept.legal
+
+    names_known : (way : ℕ) → name_of kept.log way ≡ name_of seat.me.0.seen way
+    names_known way = ap (λ (l : List Event). name_of l way) is_later ∙ quiet_names rest seat.me.0.seen way quiet
+
+    turn_known : (group : ℕ) → IsOpen key seat.me.0.seen group
+        → turn_of key kept.log group ≡ turn_of key seat.me.0.seen group
+    turn_known group odd = ap (λ (l : List Event). turn_of key l group) is_later
+        ∙ quiet_turn key rest seat.me.0.seen group (subst ClearsNothing (sym quiet) tt) legal odd
+
+    hints_known : (group : ℕ) → hints_of kept.log group ≡ hints_of seat.me.0.seen group
+    hints_known group =
+        ap (λ (l : List Event). hints_of l group) is_later ∙ quiet_hints key rest seat.me.0.seen group quiet legal
+
+    -- use bits that are set stay so until the clerk turns them over
+    set_known : (group bits : ℕ) → AreMarked seat.me.0.seen group bits → AreMarked kept.log group bits
+    set_known group bits were place low on = subst (λ (l : List Event). HasMark (marks_of l group) place) (sym is_later)
+        (quiet_mark key rest seat.me.0.seen group place quiet legal (were place low on))
+
+    -- and hints that keep those of the named ways keep them still
+    kept_known : (group hints : ℕ) → KeepsHints seat.me.0.seen group hints → KeepsHints kept.log group hints
+    kept_known group hints keeps_them place near has =
+        keeps_them place near (λ none. has (names_known (way_in group place) ∙ none))
+        ∙ ap (λ (word : ℕ). hint_at word place) (sym (hints_known group))
+
+    may_name : (way id : ℕ) → MayName key seat.me.0.seen way id → MayName key kept.log way id
+    may_name way id may = record {
       inside = may.inside;
       real = may.real;
       place = may.place;
-      hint =
-          ap (λ (hints : ℕ). hint_at hints (way % 8)) (hints_known state kept at (group_of_way way)) ∙ may.hint;
-      free = known way ∙ may.free;
-      open_claim = ap (λ (k : ℕ). k % 2) (turn_known state kept at (group_of key id) may.open_claim) ∙ may.open_claim;
-      absent = λ other has. may.absent other (sym (known other) ∙ has);
+      hint = ap (λ (hints : ℕ). hint_at hints (way % 8)) (hints_known (group_of_way way)) ∙ may.hint;
+      free = names_known way ∙ may.free;
+      open_claim = ap (λ (k : ℕ). k % 2) (turn_known (group_of key id) may.open_claim) ∙ may.open_claim;
+      absent = λ other has. may.absent other (sym (names_known other) ∙ has);
     }
 
+  module _ (clerk : seat.me.0.number ≡ 0) where
     pub names_way : (way id : ℕ) → MayName now.plan seat.me.0.seen way id
         → (seat.table_id ≡ table) × (way < table.words)
         × Allows (Kept key) table.slots seat.id seat.me way (λ _. id)
         (λ _. has_named (step table.slots way id 0 none) seat.me id)
-    names_way way id may_now =
-        let may : MayName key seat.me.0.seen way id
-        = subst (λ (plan : Plan). MayName plan seat.me.0.seen way id) (sym about.key_is) may_now in
-        let wide = about.wide in
-        let low = may_now.inside in (
-          own_table,
-          omega arith,
-          λ state kept len at small. let event = named way id in let may' = may_name state kept at way id may in (
-            after kept.log event,
-            keeps,
-            tt,
-            does event state kept at (sym clerk) (set state.words way id)
-                (shows_name key state.words kept.log kept.shows event way id may.inside (λ _. refl) (λ _. refl)
-                (λ _. refl) (λ _. refl)) may',
-            goes event state kept at may',
-          ),
-        )
+    names_way way id may =
+        let low = may.inside in
+        steps (named way id) way (λ _. id) (λ _. has_named (step table.slots way id 0 none) seat.me id) (omega arith)
+        (sym clerk)
+        (λ state kept at. (
+          may_name clerk state kept at way id
+              (subst (λ (plan : Plan). MayName plan seat.me.0.seen way id) (sym about.key_is) may),
+          shows_name key state.words kept.log kept.shows (named way id) way id (omega (arith, low, groups)) (λ _. refl)
+              (λ _. refl) (λ _. refl) (λ _. refl),
+          λ goes. goes,
+        ))
 
     pub unnames_way : (way : ℕ) → way < ways now.plan → (seat.table_id ≡ table) × (way < table.words)
         × Allows (Kept key) table.slots seat.id seat.me way (λ _. 0)
         (λ _. has_unnamed (step table.slots way 0 0 none) seat.me 0)
-    unnames_way way low =
-        let near : way < ways key = subst (λ (plan : Plan). way < ways plan) (sym about.key_is) low in
-        let wide = about.wide in (
-          own_table,
-          omega arith,
-          λ state kept len at small. let event = unnamed way in (
-            after kept.log event,
-            keeps,
-            tt,
-            does event state kept at (sym clerk) (set state.words way 0)
-                (shows_name key state.words kept.log kept.shows event way 0 near (λ _. refl) (λ _. refl)
-                (λ _. refl) (λ _. refl)) near,
-            goes event state kept at near,
-          ),
-        )
+    unnames_way way low = let near : way < ways key = omega (arith, low, groups) in
+        steps (unnamed way) way (λ _. 0) (λ _. has_unnamed (step table.slots way 0 0 none) seat.me 0) (omega arith)
+        (sym clerk)
+        (λ state kept at. (
+          near,
+          shows_name key state.words kept.log kept.shows (unnamed way) way 0 near (λ _. refl) (λ _. refl) (λ _. refl)
+              (λ _. refl),
+          λ goes. goes,
+        ))
 
     pub clears_group : (group place was : ℕ) → group < now.plan.groups → place ≡ turn_place now.plan group
         → turn_of now.plan seat.me.0.seen group ≡ was → was % 2 ≡ 1 → (seat.table_id ≡ table) × (place < table.words)
         × Allows (Kept key) table.slots seat.id seat.me place (λ _. was + 1)
         (λ _. has_cleared (step table.slots place (was + 1) 0 none) seat.me (was + 1))
-    clears_group group place was low is turn odd = let wide = about.wide in
-        let groups : seat.me.0.plan.groups ≡ now.plan.groups = ap (λ (d : Opened). d.plan.groups) sits.own in
-        let groups' : key.groups ≡ now.plan.groups = ap (λ (plan : Plan). plan.groups) about.key_is in
+    clears_group group place was low is turn odd =
         let turn' : turn_of key seat.me.0.seen group ≡ was
         = ap (λ (plan : Plan). turn_of plan seat.me.0.seen group) about.key_is ∙ turn in
-        let place' : turn_place key group ≡ place = omega arith in (
-          own_table,
-          omega arith,
-          λ state kept len at small. let event = cleared group in
-              let here : turn_of key kept.log group ≡ was
-              = turn_known state kept at group (ap (λ (k : ℕ). k % 2) turn' ∙ odd) ∙ turn' in
-              let may : May key kept.log event = (omega arith, ap (λ (k : ℕ). k % 2) here ∙ odd) in (
-                after kept.log event,
-                keeps,
-                tt,
-                does event state kept at (sym clerk) (set state.words place (was + 1))
-                    (subst (λ (p : ℕ). Shows key (set state.words p (was + 1)) (event ∷ kept.log)) place'
-                    (shows_turn key state.words kept.log kept.shows event group (was + 1) (omega arith)
-                    (ap (λ (k : ℕ). k + 1) (sym here)) (λ _. refl) (λ _. refl) (λ _. refl) (λ _. refl)))
-                    may,
-                λ other at_place.
-                    let same : group ≡ other = omega arith in
-                    subst (λ (g : ℕ). Goes (cleared g) seat.me.0 (after kept.log event)) same
-                    (goes event state kept at may),
-              ),
-        )
-
-    -- use bits that are set stay so until the clerk turns them over
-    set_known : (state : State ℕ View) (kept : Kept key state) → get_elem? state.views seat.id ≡ some seat.me.0
-        → (group bits : ℕ) → AreMarked seat.me.0.seen group bits → AreMarked kept.log group bits
-    set_known state kept at group bits were place low on =
-        let later = (kept.fits seat.id seat.me.0 at).later in
-        subst (λ (l : List Event). HasMark (marks_of l group) place) (sym later.is)
-        (quiet_mark key later.rest seat.me.0.seen group place
-        (ap (λ (k : ℕ). own k later.rest) (sym clerk) ∙ later.quiet sits.calls)
-        (subst (IsLegal key) later.is kept.legal) (were place low on))
+        let place' : turn_place key group ≡ place = omega (arith, is, groups) in
+        let near : group < key.groups = omega (arith, low, groups) in
+        steps (cleared group) place (λ _. was + 1)
+        (λ _. has_cleared (step table.slots place (was + 1) 0 none) seat.me (was + 1)) (omega arith) (sym clerk)
+        (λ state kept at.
+        let here : turn_of key kept.log group ≡ was
+        = turn_known clerk state kept at group (ap (λ (k : ℕ). k % 2) turn' ∙ odd) ∙ turn' in (
+          (near, ap (λ (k : ℕ). k % 2) here ∙ odd),
+          subst (λ (p : ℕ). Shows key (set state.words p (was + 1)) (cleared group ∷ kept.log)) place'
+              (shows_turn key state.words kept.log kept.shows (cleared group) group (was + 1) near
+              (ap (λ (k : ℕ). k + 1) (sym here)) (λ _. refl) (λ _. refl) (λ _. refl) (λ _. refl)),
+          λ goes other at_place.
+              let same : group ≡ other = omega (arith, is, at_place, own_groups) in
+              subst (λ (g : ℕ). Goes (cleared g) seat.me.0 (after kept.log (cleared group))) same goes,
+        ))
 
     pub turns_group : (group place bits : ℕ) → group < now.plan.groups → place ≡ marks_place now.plan group
         → AreMarked seat.me.0.seen group bits → (seat.table_id ≡ table) × (place < table.words)
         × Allows (Kept key) table.slots seat.id seat.me place (λ n. bit_xor n bits)
         (has_turned (step table.slots place bits 0 none) seat.me)
-    turns_group group place bits low is were = let wide = about.wide in
-        let groups : key.groups ≡ now.plan.groups = ap (λ (plan : Plan). plan.groups) about.key_is in
-        let groups' : seat.me.0.plan.groups ≡ key.groups = ap (λ (plan : Plan). plan.groups) plan_is in
-        let place' : marks_place key group ≡ place = omega arith in (
-          own_table,
-          omega arith,
-          λ state kept len at small.
-              let event = touched seat.me.0.number (turned group bits) in
-              let n : ℕ = bit_xor (get_or state.words place 0) bits in
-              let may : May key kept.log event = (clerk, omega arith, set_known state kept at group bits were) in (
-                after kept.log event,
-                keeps,
-                tt,
-                does event state kept at refl (set state.words place n)
-                    (subst
-                    (λ (p : ℕ). Shows key (set state.words p (bit_xor (get_or state.words p 0) bits))
-                    (event ∷ kept.log))
-                    place'
-                    (shows_marks key state.words kept.log kept.shows event group (λ (k : ℕ). bit_xor k bits)
-                    (omega arith) (λ _. refl) (λ _. refl) (λ _. refl) (λ _. refl)))
-                    may,
-                λ other at_place.
-                    let same : group ≡ other = omega arith in
-                    subst (λ (g : ℕ). Goes (touched seat.me.0.number (turned g bits)) seat.me.0 (after kept.log event))
-                    same (goes event state kept at may),
-              ),
-        )
+    turns_group group place bits low is were =
+        let event = touched seat.me.0.number (turned group bits) in
+        let place' : marks_place key group ≡ place = omega (arith, is, groups) in
+        let near : group < key.groups = omega (arith, low, groups) in
+        steps event place (λ n. bit_xor n bits) (has_turned (step table.slots place bits 0 none) seat.me) (omega arith)
+        refl
+        (λ state kept at. (
+          (clerk, near, set_known clerk state kept at group bits were),
+          subst (λ (p : ℕ). Shows key (set state.words p (bit_xor (get_or state.words p 0) bits)) (event ∷ kept.log))
+              place'
+              (shows_marks key state.words kept.log kept.shows event group (λ k. bit_xor k bits) near (λ _. refl)
+              (λ _. refl) (λ _. refl) (λ _. refl)),
+          λ goes other at_place.
+              let same : group ≡ other = omega (arith, is, at_place, own_groups) in
+              subst (λ (g : ℕ). Goes (touched seat.me.0.number (turned g bits)) seat.me.0 (after kept.log event)) same
+              goes,
+        ))
 
-    -- hints that keep those of the named ways keep them still
     pub writes_group : (group place hints : ℕ) → group < now.plan.groups → place ≡ hints_place now.plan group
         → KeepsHints seat.me.0.seen group hints → (seat.table_id ≡ table) × (place < table.words)
         × Allows (Kept key) table.slots seat.id seat.me place (λ _. hints)
         (λ _. has_hinted (step table.slots place hints 0 none) seat.me hints)
-    writes_group group place hints low is keeps_them = let wide = about.wide in
-        let groups : key.groups ≡ now.plan.groups = ap (λ (plan : Plan). plan.groups) about.key_is in
-        let groups' : seat.me.0.plan.groups ≡ key.groups = ap (λ (plan : Plan). plan.groups) plan_is in
-        let place' : hints_place key group ≡ place = omega arith in (
-          own_table,
-          omega arith,
-          λ state kept len at small.
-              let event = touched seat.me.0.number (hinted group hints) in
-              let still : KeepsHints kept.log group hints
-              = λ at_way near has. keeps_them at_way near
-              (λ none. has (names_known state kept at (way_in group at_way) ∙ none))
-              ∙ ap (λ (word : ℕ). hint_at word at_way) (sym (hints_known state kept at group)) in
-              let may : May key kept.log event = (clerk, omega arith, still) in (
-                after kept.log event,
-                keeps,
-                tt,
-                does event state kept at refl (set state.words place hints)
-                    (subst (λ (p : ℕ). Shows key (set state.words p hints) (event ∷ kept.log)) place'
-                    (shows_hints key state.words kept.log kept.shows event group hints (omega arith)
-                    (λ _. refl) (λ _. refl) (λ _. refl) (λ _. refl)))
-                    may,
-                λ other at_place.
-                    let same : group ≡ other = omega arith in
-                    subst (λ (g : ℕ). Goes (touched seat.me.0.number (hinted g hints)) seat.me.0 (after kept.log event))
-                    same (goes event state kept at may),
-              ),
-        )
+    writes_group group place hints low is keeps_them =
+        let event = touched seat.me.0.number (hinted group hints) in
+        let place' : hints_place key group ≡ place = omega (arith, is, groups) in
+        let near : group < key.groups = omega (arith, low, groups) in
+        steps event place (λ _. hints) (λ _. has_hinted (step table.slots place hints 0 none) seat.me hints)
+        (omega arith) refl
+        (λ state kept at. (
+          (clerk, near, kept_known clerk state kept at group hints keeps_them),
+          subst (λ (p : ℕ). Shows key (set state.words p hints) (event ∷ kept.log)) place'
+              (shows_hints key state.words kept.log kept.shows event group hints near (λ _. refl) (λ _. refl)
+              (λ _. refl) (λ _. refl)),
+          λ goes other at_place.
+              let same : group ≡ other = omega (arith, is, at_place, own_groups) in
+              subst (λ (g : ℕ). Goes (touched seat.me.0.number (hinted g hints)) seat.me.0 (after kept.log event)) same
+              goes,
+        ))
 
   pub claims_group : (group place id was : ℕ) → group ≡ group_of now.plan id → group < now.plan.groups
       → place ≡ turn_place now.plan group → 0 < id → was % 2 ≡ 0 → was < last_turn
@@ -412,8 +359,7 @@ module _ (table : TableId) (key : Plan) (now : Opened) (about : Stands table key
       → (seat.table_id ≡ table) × (place < table.words)
       × Allows (Kept key) table.slots seat.id seat.me place (λ n. either (n == was) (was + 1) n)
       (has_claimed (step table.slots place was (was + 1) (some id)) seat.me)
-  claims_group group place id was group_is low is real even early scan = let wide = about.wide in
-      let groups : key.groups ≡ now.plan.groups = ap (λ (plan : Plan). plan.groups) about.key_is in
+  claims_group group place id was group_is low is real even early scan = let wide = about.wide in let same = groups in
       let scan' : Scanned key seat.me.0.seen id was places
       = subst (λ (plan : Plan). Scanned plan seat.me.0.seen id was places) (sym about.key_is) scan in
       let of_id : group_of key id ≡ group = ap (λ (plan : Plan). group_of plan id) about.key_is ∙ sym group_is in
@@ -423,7 +369,6 @@ module _ (table : TableId) (key : Plan) (now : Opened) (about : Stands table key
         λ state kept len at small.
             let later = (kept.fits seat.id seat.me.0 at).later in
             let n : ℕ = get_or state.words place 0 in
-            let by = seat.me.0.number in
             let n_is : n ≡ turn_of key kept.log (group_of key id)
             = ap (λ (p : ℕ). get_or state.words p 0) (sym place') ∙ kept.shows.turns group (omega arith)
             ∙ ap (turn_of key kept.log) (sym of_id) in
@@ -432,7 +377,7 @@ module _ (table : TableId) (key : Plan) (now : Opened) (about : Stands table key
             × Kept key (stepped state place m seat.id seat.me.1 w a)
             × has_claimed (step table.slots place was (was + 1) (some id)) seat.me n (w, carried_after seat.me.1 a))
             (λ hit.
-            let event = claimed by id in let here : turn_of key kept.log (group_of key id) ≡ was = sym n_is ∙ hit in
+            let event = claimed seat.me.0.number id in let here : turn_of key kept.log (group_of key id) ≡ was = sym n_is ∙ hit in
             let may : MayClaim key kept.log id = record {
               real = real;
               closed = ap (λ (k : ℕ). k % 2) here ∙ even;
@@ -451,16 +396,15 @@ module _ (table : TableId) (key : Plan) (now : Opened) (about : Stands table key
                   may,
               (λ _. goes event state kept at may, λ ne. absurd (ne hit)),
             ))
-            (λ miss. let event = looked by in (
-              after kept.log event,
+            (λ miss. (
+              after kept.log look,
               keeps,
               tt,
-              does event state kept at refl (set state.words place n)
-                  (same_words event state kept place (λ _. refl) (λ _. refl) (λ _. refl) (λ _. refl)) tt,
+              does look state kept at refl (set state.words place n) (same_words look state kept place look_is_quiet) tt,
               (
                 λ hit. absurd (miss hit),
                 λ _. (
-                  goes event state kept at tt,
+                  goes look state kept at tt,
                   n_is ∙ ap (λ (plan : Plan). turn_of plan kept.log (group_of plan id)) (sym plan_is),
                 ),
               ),

@@ -1,5 +1,5 @@
 -- A step that adds one event keeps the rule, and so does one that adds none.
-use Rattle.std.proofs.Common.{◌≡◌, ◌≢◌, ℕ, zero, suc, ◌+◌, ◌<◌, ◌⊎◌, ⊎_elim, inl, inr, true, ◌==◌, cond, List, []}
+use Rattle.std.proofs.Common.{◌≡◌, ◌≢◌, ℕ, zero, suc, ◌+◌, ◌<◌, ◌⊎◌, ⊎_elim, inl, inr, true, false, ◌==◌, cond, List, []}
 use Rattle.std.proofs.Common.{◌∷◌, ◌++◌, length, get_or, set, refl, sym, ap, ◌∙◌, subst, arith, get_or-set_other}
 use Rattle.std.proofs.Common.{get_or-set_same}
 use mathlib.Core.Option.{some, some-injective, some-ne-none}
@@ -41,23 +41,31 @@ module _ (plan : Plan) (words : List ℕ) (log : List Event) (shows : Shows plan
         hints = λ group low. shows.hints group low ∙ sym (hints group);
       }
 
+  -- of one kind of words the written one tells what it became, and the others what they told
+  own_word : (P value becomes : ℕ → ℕ) (group other n : ℕ) → P group < length words
+      → (P other ≡ P group → group ≡ other) → n ≡ becomes group → get_or words (P other) 0 ≡ value other
+      → get_or (set words (P group) n) (P other) 0 ≡ cond (group == other) (becomes other) (value other)
+  own_word P value becomes group other n inside same is was = dite (ℕ_discrete group other)
+      (λ (e : group ≡ other). ap (λ (k : ℕ). get_or (set words (P group) n) (P k) 0) (sym e)
+      ∙ get_or-set_same words (P group) n 0 inside ∙ is ∙ ap becomes e
+      ∙ sym (cond_same (becomes other) (value other) group other e))
+      (λ ne. get_or-set_other words (P group) (P other) n 0 (λ e. ne (same e)) ∙ was
+      ∙ sym (cond_else (becomes other) (value other) group other ne))
+
+  other_word : (place other n old new : ℕ) → other ≢ place → get_or words other 0 ≡ old → new ≡ old
+      → get_or (set words place n) other 0 ≡ new
+  other_word place other n old new apart was same = get_or-set_other words place other n 0 apart ∙ was ∙ sym same
+
   pub shows_name : (way n : ℕ) → way < ways plan
       → ((other : ℕ) → name_of (event ∷ log) other ≡ cond (way == other) n (name_of log other)) → SameTurns → SameMarks
       → SameHints → Shows plan (set words way n) (event ∷ log)
   shows_name way n low names turns marks hints = let size = shows.size in record {
-    size = length-set words way n ∙ shows.size;
-    names = λ other near. dite (ℕ_discrete way other)
-        (λ (e : way ≡ other). let inside : way < length words = omega arith in
-        ap (λ (k : ℕ). get_or (set words way n) k 0) (sym e) ∙ get_or-set_same words way n 0 inside
-        ∙ sym (cond_same n (name_of log other) way other e) ∙ sym (names other))
-        (λ ne. get_or-set_other words way other n 0 (λ e. ne (sym e)) ∙ shows.names other near
-        ∙ sym (cond_else n (name_of log other) way other ne) ∙ sym (names other));
-    turns = λ group near. let apart : turn_place plan group ≢ way = λ e. absurd (omega arith) in
-        get_or-set_other words way (turn_place plan group) n 0 apart ∙ shows.turns group near ∙ sym (turns group);
-    marks = λ group near. let apart : marks_place plan group ≢ way = λ e. absurd (omega arith) in
-        get_or-set_other words way (marks_place plan group) n 0 apart ∙ shows.marks group near ∙ sym (marks group);
-    hints = λ group near. let apart : hints_place plan group ≢ way = λ e. absurd (omega arith) in
-        get_or-set_other words way (hints_place plan group) n 0 apart ∙ shows.hints group near ∙ sym (hints group);
+    size = length-set words way n ∙ size;
+    names = λ other near. own_word (λ k. k) (name_of log) (λ _. n) way other n (omega arith) sym refl
+        (shows.names other near) ∙ sym (names other);
+    turns = λ group near. other_word _ _ n _ _ (λ e. absurd (omega arith)) (shows.turns group near) (turns group);
+    marks = λ group near. other_word _ _ n _ _ (λ e. absurd (omega arith)) (shows.marks group near) (marks group);
+    hints = λ group near. other_word _ _ n _ _ (λ e. absurd (omega arith)) (shows.hints group near) (hints group);
   }
 
   pub shows_turn : (group n : ℕ) → group < plan.groups → n ≡ turn_of plan log group + 1 → SameNames
@@ -66,23 +74,12 @@ module _ (plan : Plan) (words : List ℕ) (log : List Event) (shows : Shows plan
       ≡ cond (group == other) (turn_of plan log other + 1) (turn_of plan log other))
       → SameMarks → SameHints → Shows plan (set words (turn_place plan group) n) (event ∷ log)
   shows_turn group n low is names turns marks hints = let size = shows.size in record {
-    size = length-set words (turn_place plan group) n ∙ shows.size;
-    names = λ way near. let apart : way ≢ turn_place plan group = λ e. absurd (omega arith) in
-        get_or-set_other words (turn_place plan group) way n 0 apart ∙ shows.names way near ∙ sym (names way);
-    turns = λ other near. dite (ℕ_discrete group other)
-        (λ (e : group ≡ other). let inside : turn_place plan group < length words = omega arith in
-        ap (λ (k : ℕ). get_or (set words (turn_place plan group) n) (turn_place plan k) 0) (sym e)
-        ∙ get_or-set_same words (turn_place plan group) n 0 inside ∙ is ∙ ap (λ (k : ℕ). turn_of plan log k + 1) e
-        ∙ sym (cond_same (turn_of plan log other + 1) (turn_of plan log other) group other e) ∙ sym (turns other))
-        (λ ne. let apart : turn_place plan other ≢ turn_place plan group = λ e. ne (omega arith) in
-        get_or-set_other words (turn_place plan group) (turn_place plan other) n 0 apart ∙ shows.turns other near
-        ∙ sym (cond_else (turn_of plan log other + 1) (turn_of plan log other) group other ne) ∙ sym (turns other));
-    marks = λ other near. let apart : marks_place plan other ≢ turn_place plan group = λ e. absurd (omega arith) in
-        get_or-set_other words (turn_place plan group) (marks_place plan other) n 0 apart ∙ shows.marks other near
-        ∙ sym (marks other);
-    hints = λ other near. let apart : hints_place plan other ≢ turn_place plan group = λ e. absurd (omega arith) in
-        get_or-set_other words (turn_place plan group) (hints_place plan other) n 0 apart ∙ shows.hints other near
-        ∙ sym (hints other);
+    size = length-set words (turn_place plan group) n ∙ size;
+    names = λ way near. other_word _ _ n _ _ (λ e. absurd (omega arith)) (shows.names way near) (names way);
+    turns = λ other near. own_word (turn_place plan) (turn_of plan log) (λ k. turn_of plan log k + 1) group other n
+        (omega arith) (λ e. omega arith) is (shows.turns other near) ∙ sym (turns other);
+    marks = λ other near. other_word _ _ n _ _ (λ e. absurd (omega arith)) (shows.marks other near) (marks other);
+    hints = λ other near. other_word _ _ n _ _ (λ e. absurd (omega arith)) (shows.hints other near) (hints other);
   }
 
   pub shows_marks : (group : ℕ) (f : ℕ → ℕ) → group < plan.groups → SameNames → SameTurns → SameHints
@@ -90,55 +87,27 @@ module _ (plan : Plan) (words : List ℕ) (log : List Event) (shows : Shows plan
       → marks_of (event ∷ log) other ≡ cond (group == other) (f (marks_of log other)) (marks_of log other))
       → Shows plan (set words (marks_place plan group) (f (get_or words (marks_place plan group) 0))) (event ∷ log)
   shows_marks group f low names turns hints marks =
-      let size = shows.size in
-      let place : ℕ = marks_place plan group in
-      let n : ℕ = f (get_or words place 0) in
-      record {
-        size = length-set words place n ∙ shows.size;
-        names = λ way near. let apart : way ≢ place = λ e. absurd (omega arith) in
-            get_or-set_other words place way n 0 apart ∙ shows.names way near ∙ sym (names way);
-        turns = λ other near. let apart : turn_place plan other ≢ place = λ e. absurd (omega arith) in
-            get_or-set_other words place (turn_place plan other) n 0 apart ∙ shows.turns other near
-            ∙ sym (turns other);
-        marks = λ other near. dite (ℕ_discrete group other)
-            (λ (e : group ≡ other). let inside : place < length words = omega arith in
-            ap (λ (k : ℕ). get_or (set words place n) (marks_place plan k) 0) (sym e)
-            ∙ get_or-set_same words place n 0 inside ∙ ap f (shows.marks group low)
-            ∙ ap (λ (k : ℕ). f (marks_of log k)) e
-            ∙ sym (cond_same (f (marks_of log other)) (marks_of log other) group other e) ∙ sym (marks other))
-            (λ ne. let apart : marks_place plan other ≢ place = λ e. ne (omega arith) in
-            get_or-set_other words place (marks_place plan other) n 0 apart ∙ shows.marks other near
-            ∙ sym (cond_else (f (marks_of log other)) (marks_of log other) group other ne) ∙ sym (marks other));
-        hints = λ other near. let apart : hints_place plan other ≢ place = λ e. absurd (omega arith) in
-            get_or-set_other words place (hints_place plan other) n 0 apart ∙ shows.hints other near
-            ∙ sym (hints other);
+      let size = shows.size in let n : ℕ = f (get_or words (marks_place plan group) 0) in record {
+        size = length-set words (marks_place plan group) n ∙ size;
+        names = λ way near. other_word _ _ n _ _ (λ e. absurd (omega arith)) (shows.names way near) (names way);
+        turns = λ other near. other_word _ _ n _ _ (λ e. absurd (omega arith)) (shows.turns other near) (turns other);
+        marks = λ other near. own_word (marks_place plan) (marks_of log) (λ k. f (marks_of log k)) group other n
+            (omega arith) (λ e. omega arith) (ap f (shows.marks group low)) (shows.marks other near)
+            ∙ sym (marks other);
+        hints = λ other near. other_word _ _ n _ _ (λ e. absurd (omega arith)) (shows.hints other near) (hints other);
       }
 
   pub shows_hints : (group n : ℕ) → group < plan.groups → SameNames → SameTurns → SameMarks
       → ((other : ℕ) → hints_of (event ∷ log) other ≡ cond (group == other) n (hints_of log other))
       → Shows plan (set words (hints_place plan group) n) (event ∷ log)
-  shows_hints group n low names turns marks hints =
-      let size = shows.size in
-      let place : ℕ = hints_place plan group in
-      record {
-        size = length-set words place n ∙ shows.size;
-        names = λ way near. let apart : way ≢ place = λ e. absurd (omega arith) in
-            get_or-set_other words place way n 0 apart ∙ shows.names way near ∙ sym (names way);
-        turns = λ other near. let apart : turn_place plan other ≢ place = λ e. absurd (omega arith) in
-            get_or-set_other words place (turn_place plan other) n 0 apart ∙ shows.turns other near
-            ∙ sym (turns other);
-        marks = λ other near. let apart : marks_place plan other ≢ place = λ e. absurd (omega arith) in
-            get_or-set_other words place (marks_place plan other) n 0 apart ∙ shows.marks other near
-            ∙ sym (marks other);
-        hints = λ other near. dite (ℕ_discrete group other)
-            (λ (e : group ≡ other). let inside : place < length words = omega arith in
-            ap (λ (k : ℕ). get_or (set words place n) (hints_place plan k) 0) (sym e)
-            ∙ get_or-set_same words place n 0 inside
-            ∙ sym (cond_same n (hints_of log other) group other e) ∙ sym (hints other))
-            (λ ne. let apart : hints_place plan other ≢ place = λ e. ne (omega arith) in
-            get_or-set_other words place (hints_place plan other) n 0 apart ∙ shows.hints other near
-            ∙ sym (cond_else n (hints_of log other) group other ne) ∙ sym (hints other));
-      }
+  shows_hints group n low names turns marks hints = let size = shows.size in record {
+    size = length-set words (hints_place plan group) n ∙ size;
+    names = λ way near. other_word _ _ n _ _ (λ e. absurd (omega arith)) (shows.names way near) (names way);
+    turns = λ other near. other_word _ _ n _ _ (λ e. absurd (omega arith)) (shows.turns other near) (turns other);
+    marks = λ other near. other_word _ _ n _ _ (λ e. absurd (omega arith)) (shows.marks other near) (marks other);
+    hints = λ other near. own_word (hints_place plan) (hints_of log) (λ _. n) group other n (omega arith)
+        (λ e. omega arith) refl (shows.hints other near) ∙ sym (hints other);
+  }
 
 module _ (plan : Plan) (state : State ℕ View) (kept : Kept plan state) (id : ℕ) (view next : View)
     (at : get_elem? state.views id ≡ some view) where
@@ -232,6 +201,28 @@ module _ (plan : Plan) (state : State ℕ View) (kept : Kept plan state) (id : �
           few = mine.few;
           maker = mine.maker;
         }
+
+-- what a caller was told may be anything with which the events begin, and its steps are not looked at
+told_fits : (plan : Plan) (log : List Event) (made : ℕ) (view : View) (told : List Event) → Fits plan log made view
+    → BeginsWith log told → Fits plan log made (record (counted view) { told = told })
+told_fits plan log made view told fits begins = record {
+  plan_is = fits.plan_is;
+  later = record { rest = fits.later.rest; is = fits.later.is; quiet = fits.later.quiet };
+  told = begins;
+  few = fits.few;
+  maker = fits.maker;
+}
+
+-- so may a note's view
+note_fits : (plan : Plan) (log : List Event) (made : ℕ) (view : View) → view.calls ≡ false → BeginsWith log view.seen
+    → BeginsWith log view.told → Fits plan log made view
+note_fits plan log made view silent seen told = let no : view.calls ≢ true = λ c. cc (sym silent ∙ c) in record {
+  plan_is = λ c. absurd (no c);
+  later = record { rest = seen.0; is = seen.1; quiet = λ c. absurd (no c) };
+  told = told;
+  few = λ c. absurd (no c);
+  maker = λ c. absurd (no c);
+}
 
 -- a token that makes no step yet, or none at all, stands beside those that there are
 snoc_at : {A : Type 0} (l : List A) (a b : A) (j : ℕ) → get_elem? (l ++ a ∷ []) j ≡ some b
@@ -339,24 +330,10 @@ note_made : (plan : Plan) (id : ℕ) (view : View) (seen : List Event) (state : 
 unfolding replaced
 note_made plan id view seen state kept at begins =
     let mine = kept.fits id view at in let next = counted view in
-    let stays = replaced plan state kept id view next at
-    (record {
-      plan_is = mine.plan_is;
-      later = record { rest = mine.later.rest; is = mine.later.is; quiet = mine.later.quiet };
-      told = mine.told;
-      few = mine.few;
-      maker = mine.maker;
-    })
+    let stays = replaced plan state kept id view next at (told_fits plan _ _ view view.told mine mine.told)
     (λ c. (c, refl)) in
     adds plan (record { words = state.words; homes = state.homes; views = set state.views id next }) stays
-    (record (note_of view) { seen = seen })
-    (record {
-      plan_is = λ c. absurd (cc (c));
-      later = record { rest = begins.0; is = begins.1; quiet = λ c. absurd (cc (c)) };
-      told = begins_all kept.log;
-      few = λ c. absurd (cc (c));
-      maker = λ c. absurd (cc (c));
-    })
+    (record (note_of view) { seen = seen }) (note_fits plan _ _ _ refl begins (begins_all kept.log))
     (λ j u there _ c. absurd (cc (c)))
 
 -- of what it has seen, or of what it was told, and takes one in
@@ -372,24 +349,9 @@ pub joins_so : (plan : Plan) (id : ℕ) (view : View) (other : ℕ) (note : View
     → Joins (Kept plan) id view other note (with_note view note) spent
 unfolding replaced
 joins_so plan id view other note state kept at apart beside =
-    let mine = kept.fits id view at in let next = with_note view note in
+    let next = with_note view note in
     let told = (kept.fits other note (sym (set_else state.views id other next apart) ∙ beside)).later in
     let took = replaced plan state kept id view next at
-    (record {
-      plan_is = mine.plan_is;
-      later = record { rest = mine.later.rest; is = mine.later.is; quiet = mine.later.quiet };
-      told = (told.rest, told.is);
-      few = mine.few;
-      maker = mine.maker;
-    })
-    (λ c. (c, refl)) in
+    (told_fits plan _ _ view note.seen (kept.fits id view at) (told.rest, told.is)) (λ c. (c, refl)) in
     replaced plan (record { words = state.words; homes = state.homes; views = set state.views id next }) took other note
-    spent beside
-    (record {
-      plan_is = λ c. absurd (cc (c));
-      later = record { rest = kept.log; is = (begins_all kept.log).1; quiet = λ c. absurd (cc (c)) };
-      told = begins_all kept.log;
-      few = λ c. absurd (cc (c));
-      maker = λ c. absurd (cc (c));
-    })
-    (λ c. absurd (cc (c)))
+    spent beside (note_fits plan _ _ spent refl (begins_all kept.log) (begins_all kept.log)) (λ c. absurd (cc (c)))
