@@ -237,7 +237,7 @@ module _ (id way : ℕ) (real : 0 < id) (old first second third fourth : Token) 
         ≡ turn_of first.directory.plan first.seen (group_for first id)
     known =
         clerk_turn first (hinting ++ looks (scan.0 + 2) first.number) fourth (group_for first id) first_clerk all
-        (looks_clear_nothing (scan.0 + 2) first.number) odd
+        (tt, (tt, looks_clear_nothing (scan.0 + 2) first.number)) odd
 
     pub may_admit : MayName first.directory.plan fourth.seen way id
     may_admit = record {
@@ -257,7 +257,7 @@ module _ (id way : ℕ) (real : 0 < id) (old first second third fourth : Token) 
         clerk_turn first (named way id ∷ hinting ++ looks (scan.0 + 2) first.number) fifth (group_for first id)
         first_clerk
         (grows_on first fourth fifth (hinting ++ looks (scan.0 + 2) first.number) (named way id ∷ []) all names)
-        (looks_clear_nothing (scan.0 + 2) first.number) odd
+        (tt, (tt, (tt, looks_clear_nothing (scan.0 + 2) first.number))) odd
 
   module _ (fifth last : Token) (names : Grows (named way id ∷ []) fourth fifth)
       (clears : Grows (cleared (group_for old id) ∷ []) fifth last) where

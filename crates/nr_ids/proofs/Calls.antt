@@ -6,15 +6,15 @@ use mathlib.Core.Logic.{dite}
 use native.Mathlib.Decide.{dec_le, ℕ_discrete}
 use Rattle.nr_ids.specs.declared.plan.Plan.{Plan}
 use Rattle.nr_ids.specs.Groups.{IsWayOf, group_at, group_of, group_of_way, places, second_of, way_at, way_in, ways}
-use Rattle.nr_ids.specs.Events.{Event, named, unnamed, cleared, claimed, looked, touched, own, looks, name_of, turn_of}
-use Rattle.nr_ids.specs.Events.{turned, mark_bit, May, IsLegal, IsAbsent, IsOpen, IsClosed}
+use Rattle.nr_ids.specs.Events.{Event, looked, touched, own, looks, name_of, turn_of}
+use Rattle.nr_ids.specs.Events.{turned, mark_bit, IsLegal, IsAbsent, IsOpen, IsClosed}
 use Rattle.nr_ids.specs.Scans.{Passed}
 use Rattle.nr_ids.specs.Looking.{WasAbsent, HadName, LackedName, PassedByClerk, group_for, way_for}
 use Rattle.nr_ids.specs.Answers.{WasOpen}
 use Rattle.nr_ids.specs.Marks.{ChoosesWay, LoadsMarks, TakesMark, TurnsMarks, load_of_marks}
 use Rattle.nr_ids.specs.Tokens.{Opened, Token, Grows, Newest, Within}
-use Rattle.nr_ids.proofs.Logs.{ClearsNothing, cond_same, cond_else, exact_names, looks_names}
-use Rattle.nr_ids.proofs.Logs.{named_inside, own_append, quiet_turn, was_odd}
+use Rattle.nr_ids.proofs.Logs.{ClearsNothing, exact_names, looks_names}
+use Rattle.nr_ids.proofs.Logs.{named_inside, name_step, new_name, no_name, own_append, quiet_turn, same_name, was_odd}
 
 pub grows_none : (old : Token) → IsLegal old.directory.plan old.seen → Grows [] old old
 grows_none old legal =
@@ -133,22 +133,18 @@ module _ (plan : Plan) (id : ℕ) (real : 0 < id) where
       (λ (e : name_of (rest ++ log) way ≡ id).
       let t = named_since rest log way legal.1 other e in
       (t.0, event ∷ t.1, t.2, ap (λ (l : List Event). event ∷ l) t.3, t.4, t.5))
-      (λ ne. (rest ++ log, event ∷ [], rest, refl, refl, first event legal.0 ne has))
-    where
-      first : (e : Event) → May plan (rest ++ log) e → name_of (rest ++ log) way ≢ id
-          → name_of (e ∷ rest ++ log) way ≡ id → IsAbsent (rest ++ log) id
-      first (named w i) may ne has = dite (ℕ_discrete w way)
-          (λ (e : w ≡ way).
-          subst (IsAbsent (rest ++ log)) (sym (cond_same i (name_of (rest ++ log) way) w way e) ∙ has) may.absent)
-          (λ apart. absurd (ne (sym (cond_else i (name_of (rest ++ log) way) w way apart) ∙ has)))
-      first (unnamed w) may ne has = dite (ℕ_discrete w way)
-          (λ (e : w ≡ way).
-          let none : 0 ≡ id = sym (cond_same 0 (name_of (rest ++ log) way) w way e) ∙ has in absurd (omega arith))
-          (λ apart. absurd (ne (sym (cond_else 0 (name_of (rest ++ log) way) w way apart) ∙ has)))
-      first (cleared g) may ne has = absurd (ne has)
-      first (claimed by i) may ne has = absurd (ne has)
-      first (looked by) may ne has = absurd (ne has)
-      first (touched by touch) may ne has = absurd (ne has)
+      (λ ne. (
+        rest ++ log,
+        event ∷ [],
+        rest,
+        refl,
+        refl,
+        elim (name_step plan event (rest ++ log) way legal.0) [
+          | same_name is ↦ absurd (ne (sym is ∙ has))
+          | new_name i event_is may is ↦ subst (IsAbsent (rest ++ log)) (sym is ∙ has) may.absent
+          | no_name event_is is ↦ absurd (omega (arith, is, has, real))
+        ],
+      ))
 
 ends_none : (a b : List Event) → a ++ b ≡ [] → (a ≡ []) × (b ≡ [])
 ends_none [] b e = (refl, e)

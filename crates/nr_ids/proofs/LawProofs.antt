@@ -5,12 +5,13 @@ use mathlib.Core.Logic.{dite}
 use native.Mathlib.Decide.{ℕ_discrete}
 use Rattle.nr_ids.specs.declared.plan.Plan.{Plan}
 use Rattle.nr_ids.specs.Groups.{group_of}
-use Rattle.nr_ids.specs.Events.{Event, named, unnamed, cleared, claimed, looked, touched, name_of, turn_of, May}
+use Rattle.nr_ids.specs.Events.{Event, named, unnamed, cleared, claimed, looked, touched, name_of, turn_of}
 use Rattle.nr_ids.specs.Events.{IsLegal, IsOpen}
 use Rattle.nr_ids.specs.Laws.{OneClaim, OneNaming, TurnCounts, FindsWhatItHeard, FindsWhatItKnew, Has, claims, closings}
 use Rattle.nr_ids.specs.Answers.{LooksUp}
 use Rattle.nr_ids.specs.Tokens.{Token, Within}
-use Rattle.nr_ids.proofs.Logs.{cond_same, cond_else, legal_end, named_inside, one_way, turn_on}
+use Rattle.nr_ids.proofs.Logs.{cond_same, cond_else, legal_end, named_inside, name_step, one_way, turn_step}
+use Rattle.nr_ids.proofs.Logs.{closes, new_name, no_name, opens, same_name, same_turn}
 use Rattle.nr_ids.proofs.Through.{looks_in_both, looks_up, looks_up_to}
 
 has_on : (event first : Event) (rest : List Event) → Has event rest → Has event (first ∷ rest)
@@ -21,32 +22,20 @@ odd_until_cleared : (plan : Plan) (rest log : List Event) (group : ℕ) → IsLe
     → IsOpen plan log group → Has (cleared group) rest ⊎ IsOpen plan (rest ++ log) group
 odd_until_cleared plan [] log group legal odd = inr odd
 odd_until_cleared plan (event ∷ rest) log group legal odd =
-    ⊎_elim (λ has. inl (has_on (cleared group) event rest has)) (still event legal.0)
+    ⊎_elim (λ has. inl (has_on (cleared group) event rest has))
+    (λ here. elim (turn_step plan event (rest ++ log) group) [
+      | same_turn is ↦ inr (ap (λ (k : ℕ). k % 2) is ∙ here)
+      | closes event_is open_claim is ↦ inl ([], rest, ap (λ (e : Event). e ∷ rest) event_is)
+      | opens closed is ↦ absurd (omega (arith, (closed legal.0).0, here))
+    ])
     (odd_until_cleared plan rest log group legal.1 odd)
-  where
-    still : (e : Event) → May plan (rest ++ log) e → IsOpen plan (rest ++ log) group
-        → Has (cleared group) (e ∷ rest) ⊎ IsOpen plan (e ∷ rest ++ log) group
-    still (named way id) may here = inr here
-    still (unnamed way) may here = inr here
-    still (cleared of) may here =
-        ⊎_elim (λ t. inl ([], rest, ap (λ (k : ℕ). cleared k ∷ rest) t.0)) (λ t. inr (ap (λ (k : ℕ). k % 2) t.1 ∙ here))
-        (turn_on plan (rest ++ log) of group)
-    still (claimed by id) may here = ⊎_elim
-        (λ t.
-        let even : turn_of plan (rest ++ log) group % 2 ≡ 0
-        = ap (λ (k : ℕ). turn_of plan (rest ++ log) k % 2) (sym t.0) ∙ may.closed in
-        absurd (omega arith))
-        (λ t. inr (ap (λ (k : ℕ). k % 2) t.1 ∙ here)) (turn_on plan (rest ++ log) (group_of plan id) group)
-    still (looked by) may here = inr here
-    still (touched by touch) may here = inr here
 
 pub one_claim : OneClaim
 one_claim plan rest log by id other twin legal same =
     let first = legal_end plan rest (claimed other twin ∷ log) legal.1 in let group = group_of plan id in
     let even : turn_of plan log group % 2 ≡ 0 = ap (λ (k : ℕ). turn_of plan log k % 2) (sym same) ∙ first.0.closed in
-    let odd : turn_of plan (claimed other twin ∷ log) group % 2 ≡ 1
-    = ⊎_elim (λ t. let e = t.1 in omega arith) (λ t. absurd (t.0 same))
-    (turn_on plan log (group_of plan twin) group) in
+    let next = cond_same (turn_of plan log group + 1) (turn_of plan log group) (group_of plan twin) group same in
+    let odd : turn_of plan (claimed other twin ∷ log) group % 2 ≡ 1 = omega (arith, next, even) in
     let now = legal.0.closed in
     ⊎_elim (λ has. has) (λ still. absurd (omega arith))
     (odd_until_cleared plan rest (claimed other twin ∷ log) group legal.1 odd)
@@ -56,23 +45,13 @@ stays : (plan : Plan) (rest log : List Event) (way id : ℕ) → IsLegal plan (r
     → (name_of (rest ++ log) way ≡ id) ⊎ Has (unnamed way) rest
 stays plan [] log way id legal real at = inl at
 stays plan (event ∷ rest) log way id legal real at =
-    ⊎_elim (still event legal.0) (λ gone. inr (has_on (unnamed way) event rest gone))
-    (stays plan rest log way id legal.1 real at)
-  where
-    still : (e : Event) → May plan (rest ++ log) e → name_of (rest ++ log) way ≡ id
-        → (name_of (e ∷ rest ++ log) way ≡ id) ⊎ Has (unnamed way) (e ∷ rest)
-    still (named w i) may here = dite (ℕ_discrete w way)
-        (λ (e : w ≡ way).
-        let free : name_of (rest ++ log) way ≡ 0 = ap (name_of (rest ++ log)) (sym e) ∙ may.free in
-        absurd (omega arith))
-        (λ ne. inl (cond_else i (name_of (rest ++ log) way) w way ne ∙ here))
-    still (unnamed w) may here = dite (ℕ_discrete w way)
-        (λ (e : w ≡ way). inr ([], rest, ap (λ (k : ℕ). unnamed k ∷ rest) e))
-        (λ ne. inl (cond_else 0 (name_of (rest ++ log) way) w way ne ∙ here))
-    still (cleared g) may here = inl here
-    still (claimed by i) may here = inl here
-    still (looked by) may here = inl here
-    still (touched by touch) may here = inl here
+    ⊎_elim
+    (λ (here : name_of (rest ++ log) way ≡ id). elim (name_step plan event (rest ++ log) way legal.0) [
+      | same_name is ↦ inl (is ∙ here)
+      | new_name i event_is may is ↦ absurd (omega (arith, may.free, here, real))
+      | no_name event_is is ↦ inr ([], rest, ap (λ (e : Event). e ∷ rest) event_is)
+    ])
+    (λ gone. inr (has_on (unnamed way) event rest gone)) (stays plan rest log way id legal.1 real at)
 
 pub one_naming : OneNaming
 one_naming plan rest log way first id legal = let before = legal_end plan rest (named first id ∷ log) legal.1 in ⊎_elim

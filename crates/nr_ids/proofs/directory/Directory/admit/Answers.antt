@@ -1,8 +1,7 @@
-use Rattle.std.proofs.Common.{◌≡◌, ◌<◌, ◌%◌, ℕ, [], ◌∷◌, ap, arith, subst, sym, ◌∙◌, Ok, Err, Some}
+use Rattle.std.proofs.Common.{◌≡◌, ◌%◌, ℕ, [], ◌∷◌, ap, arith, subst, sym, ◌∙◌, Ok, Err, Some}
 use Rattle.nr_ids.specs.declared.admissions.Refused.TheVariants as refused
 use Rattle.nr_ids.specs.Answers.{Admits}
 use Rattle.nr_ids.specs.Events.{IsOpen, MayName, cleared}
-use Rattle.nr_ids.specs.Groups.{ways}
 use Rattle.nr_ids.specs.Looking.{group_for}
 use Rattle.nr_ids.specs.Tokens.{Grows, Opened, Token, token}
 use Rattle.nr_ids.proofs.Calls.{group_is, turn_is, turn_there}
@@ -23,22 +22,6 @@ invariant_of-clerk-in-Some c =
     let grows = turn.ensures.grows in
     scanned_clerk c.args.self.now c.args.id turn.new.seat c.scan.new.seat (Some c.in-Some.way) c.scan.ensures.caller
     (grows.number ∙ was.1) c.in-Some.ensures.scans (looks_of_names 1 _ _ was.1 grows was.2)
-
-pub returns-in-Some-clause-answer : goal.returns-in-Some-clause-answer
-returns-in-Some-clause-answer c =
-    let id = c.args.id in
-    let way = c.in-Some.way in
-    let turn = c.look_at_turn-turn in
-    let finds = c.in-Some.ensures.scans in
-    let second = token c.scan.new.seat in
-    subst (λ (t : Token). Admits id t second (Err (refused.Named way))) c.clerk.view_is (
-      record { turned = token turn.new.seat; turn = turn.ensures.grows; finds = finds },
-      record {
-        inside = subst (λ (d : Opened). way < ways d.plan)
-            (turn.ensures.caller.own ∙ sym c.scan.ensures.caller.own) finds.named.inside;
-        has = finds.named.exact (turn.ensures.grows.number ∙ c.clerk.invariant.1);
-      },
-    )
 
 pub room_for-requires-clause-hints : goal.room_for-requires-clause-hints
 room_for-requires-clause-hints c =

@@ -1,9 +1,5 @@
-use Rattle.std.proofs.Common.{ℕ, ◌+◌, ◌*◌, ap, refl, subst, ◌∙◌}
-use Rattle.nr_ids.specs.declared.plan.Plan.{Plan}
+use Rattle.std.proofs.Common.{ℕ, refl, subst, ◌∙◌}
 use Rattle.nr_ids.specs.Events.{HasMark}
-use Rattle.nr_ids.specs.Groups.{group_of}
-use Rattle.nr_ids.specs.Marks.{ChoosesPlace, ChoosesWay}
-use Rattle.nr_ids.specs.Tokens.{Token, token}
 use Rattle.nr_ids.proofs.Admitting.{clerk_so, still_of_names}
 use Rattle.nr_ids.proofs.MarkBits.{turned_are_marked}
 use Rattle.nr_ids.proofs.directory.Directory.choose.Goals as goal
@@ -12,27 +8,6 @@ pub turn_marks-requires-clause-set : goal.turn_marks-requires-clause-set
 turn_marks-requires-clause-set c = λ place low on. subst (λ (n : ℕ). HasMark n place) c.marks.ensures.value
     (turned_are_marked c.marks.result c.chosen-place.result.0 c.chosen-place.result.1 c.chosen-place.ensures.chooses
     place low on)
-
-pub returns-clause-chooses : goal.returns-clause-chooses
-returns-clause-chooses c =
-    let looked = token c.marks.new.seat in
-    let new = token c.turn_marks.new.seat in
-    let group : ℕ = c.group_of-group.result in
-    let way : ℕ = 8 * group + c.chosen-place.result.0 in
-    subst (λ (g : ℕ). ChoosesWay g way c.args.clerk.now new)
-    (c.group_of-group.ensures.value ∙ ap (λ (p : Plan). group_of p c.args.id) c.plan.ensures.value)
-    (subst (λ (t : Token). ChoosesWay group way t new) c.clerk.view_is
-    (record {
-      looked = looked;
-      looks = c.marks.ensures.loads;
-      place = c.chosen-place.result.0;
-      bits = c.chosen-place.result.1;
-      chooses =
-          subst (λ (n : ℕ). ChoosesPlace n c.chosen-place.result.0 c.chosen-place.result.1) c.marks.ensures.value
-          c.chosen-place.ensures.chooses;
-      way_is = refl;
-      turns = c.turn_marks.ensures.turns;
-    }))
 
 pub invariant_of-clerk : goal.invariant_of-clerk
 invariant_of-clerk c =

@@ -1,4 +1,4 @@
-use Rattle.std.proofs.Common.{ap, refl, ◌∙◌, sym, subst, ℕ, ◌<◌, [], ◌∷◌}
+use Rattle.std.proofs.Common.{ap, refl, ◌∙◌, sym, subst, ℕ, [], ◌∷◌}
 use Rattle.nr_ids.specs.Events.{loaded, touched}
 use Rattle.nr_ids.specs.Rule.{marks_place}
 use Rattle.nr_ids.specs.Tokens.{Grows, Opened, token}
@@ -17,10 +17,3 @@ returns-clause-loads c =
     (c.marks_place-place.ensures.value
     ∙ ap (λ (d : Opened). marks_place d.plan c.args.group) (sym c.requires.caller.own))
     (grows_by c.args.seat.now c.load.new.seat _ c.load.ensures.0 c.load.ensures.2.0 refl)
-
-pub returns-clause-value : goal.returns-clause-value
-returns-clause-value c =
-    c.load.ensures.2.1 c.args.group
-    (subst (λ (d : Opened). c.args.group < d.plan.groups) (sym c.requires.caller.own) c.requires.group)
-    (c.marks_place-place.ensures.value
-    ∙ ap (λ (d : Opened). marks_place d.plan c.args.group) (sym c.requires.caller.own))

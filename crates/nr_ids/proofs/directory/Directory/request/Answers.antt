@@ -1,6 +1,5 @@
 use Rattle.std.proofs.Common.{ap, arith, refl, subst, sym, ◌∙◌}
 use Rattle.nr_ids.specs.declared.plan.Plan.{Plan}
-use Rattle.nr_ids.specs.declared.requests.Requested.TheVariants as requested
 use Rattle.nr_ids.specs.Groups.{group_of, places}
 use Rattle.nr_ids.specs.Answers.{LooksForClaim, Requests}
 use Rattle.nr_ids.specs.Events.{turn_of}
@@ -10,15 +9,6 @@ use Rattle.nr_ids.proofs.Calls.{group_is, turn_is}
 use Rattle.nr_ids.proofs.Through.{looks_in_both, outrun}
 use Rattle.nr_ids.proofs.directory.Directory.request.Goals as goal
 use Rattle.nr_ids.proofs.directory.Directory.request.Goals.{then-claim, else-claim}
-
-pub returns-in-Some-clause-answer : goal.returns-in-Some-clause-answer
-returns-in-Some-clause-answer c = let second = token c.scan.new.seat in let way = c.in-Some.way in
-    subst (λ (t : Token). Requests c.args.id t second (requested.Named way)) c.reader.view_is
-    (record {
-      turned = token c.look_at_turn-turn.new.seat;
-      turn = c.look_at_turn-turn.ensures.grows;
-      finds = c.in-Some.ensures.scans;
-    })
 
 pub claim-requires-clause-scanned : goal.claim-requires-clause-scanned
 claim-requires-clause-scanned c =

@@ -26,12 +26,6 @@ returns-then-free-eq0-clause-room c =
           (ap (λ (n : ℕ). hint_at n place) c.look_at_hints.ensures.value ∙ zero_then))));
     }
 
-pub overflow_mul-result : goal.overflow_mul-result
-overflow_mul-result c = omega (arith, c.requires.group, c.requires.plan.1)
-
-pub overflow_add-result : goal.overflow_add-result
-overflow_add-result c = omega (arith, c.requires.group, c.requires.plan.1, c.last.ensures.inside)
-
 pub returns-clause-room : goal.returns-clause-room
 returns-clause-room c =
     let new = token c.look_at_hints.new.seat in

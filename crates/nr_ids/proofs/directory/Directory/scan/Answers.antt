@@ -2,15 +2,8 @@ use Rattle.std.proofs.Common.{ap, sym, ◌∙◌}
 use Rattle.nr_ids.specs.declared.plan.Plan.{Plan}
 use Rattle.nr_ids.specs.Groups.{group_of, second_of}
 use Rattle.nr_ids.specs.Tokens.{Opened, token}
-use Rattle.nr_ids.proofs.Through.{found_first, scanned_both}
+use Rattle.nr_ids.proofs.Through.{scanned_both}
 use Rattle.nr_ids.proofs.directory.Directory.scan.Goals as goal
-
-pub returns-in-Some-clause-scans : goal.returns-in-Some-clause-scans
-returns-in-Some-clause-scans c =
-    let id = c.args.id in
-    let plan_is = c.plan-plan.ensures.value ∙ ap (λ (d : Opened). d.plan) (sym c.requires.caller.own) in
-    found_first id c.group_of.result c.in-Some.way (token c.args.seat.now) (token c.scan_group.new.seat)
-    (c.group_of.ensures.value ∙ ap (λ (p : Plan). group_of p id) plan_is) c.in-Some.ensures.scans
 
 pub returns-in-None-clause-scans : goal.returns-in-None-clause-scans
 returns-in-None-clause-scans c =
