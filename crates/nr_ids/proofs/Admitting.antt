@@ -27,10 +27,12 @@ use Rattle.nr_ids.proofs.Calls.{looks_both, still_passed}
 use Rattle.nr_ids.proofs.Seats.{Caller}
 use Rattle.nr_ids.proofs.Through.{finds_for_claim, looks_for_claim, looks_in_both, looks_on_for, looks_up_to}
 
--- a clerk's seat stays one
+-- the seat is a clerk's, and stays one
+abbrev pub IsClerk : Caller → Type 0
+IsClerk seat = Sits (token seat).directory seat × ((token seat).number ≡ 0) × HintsNames (token seat)
+
 pub clerk_so : (now : Opened) (old new : Caller) (acts : List Event) → Sits now new → (token old).number ≡ 0
-    → Grows acts (token old) (token new) → HintsNames (token new)
-    → Sits (token new).directory new × ((token new).number ≡ 0) × HintsNames (token new)
+    → Grows acts (token old) (token new) → HintsNames (token new) → IsClerk new
 clerk_so now old new acts sits clerk grows names =
     (subst (λ (d : Opened). Sits d new) (sym sits.own) sits, grows.number ∙ clerk, names)
 
@@ -67,23 +69,27 @@ looks_of_names count old new clerk grows =
     still_of_names old (looks count old.number) new clerk grows (looks_names count old.number old.seen)
     (looks_hints count old.number old.seen)
 
-pub clerk_looks_so : (now : Opened) (count : ℕ) (old new : Caller) → Sits now new → (token old).number ≡ 0
-    → Grows (looks count (token old).number) (token old) (token new) → HintsNames (token old)
-    → Sits (token new).directory new × ((token new).number ≡ 0) × HintsNames (token new)
-clerk_looks_so now count old new sits clerk grows names =
-    clerk_so now old new _ sits clerk grows (looks_of_names count _ _ clerk grows names)
+pub still_clerk : (now : Opened) (old new : Caller) (acts : List Event) → IsClerk old → Sits now new
+    → Grows acts (token old) (token new)
+    → ((way : ℕ) → name_of (acts ++ (token old).seen) way ≡ name_of (token old).seen way)
+    → ((group : ℕ) → hints_of (acts ++ (token old).seen) group ≡ hints_of (token old).seen group) → IsClerk new
+still_clerk now old new acts was sits grows names hints =
+    clerk_so now old new acts sits was.1 grows (still_of_names _ acts _ was.1 grows names hints was.2)
 
-pub scan_looks : (id : ℕ) (old new : Token) (found : Option ℕ) → Scans id old new found
+pub looked_clerk : (now : Opened) (count : ℕ) (old new : Caller) → IsClerk old → Sits now new
+    → Grows (looks count (token old).number) (token old) (token new) → IsClerk new
+looked_clerk now count old new was sits grows =
+    clerk_so now old new _ sits was.1 grows (looks_of_names count _ _ was.1 grows was.2)
+
+scan_looks : (id : ℕ) (old new : Token) (found : Option ℕ) → Scans id old new found
     → (count : ℕ) × Grows (looks count old.number) old new
 scan_looks id old new (Some way) finds = looks_up_to way id old new finds.looks
 scan_looks id old new None misses = looks_in_both id old new misses.looks
 
-pub scanned_clerk : (now : Opened) (id : ℕ) (old new : Caller) (found : Option ℕ) → Sits now new
-    → (token old).number ≡ 0 → Scans id (token old) (token new) found → HintsNames (token old)
-    → Sits (token new).directory new × ((token new).number ≡ 0) × HintsNames (token new)
-scanned_clerk now id old new found sits clerk scans names =
-    let looked = scan_looks id (token old) (token new) found scans in
-    clerk_so now old new _ sits clerk looked.1 (looks_of_names looked.0 _ _ clerk looked.1 names)
+pub scanned_clerk : (now : Opened) (id : ℕ) (old new : Caller) (found : Option ℕ) → IsClerk old → Sits now new
+    → Scans id (token old) (token new) found → IsClerk new
+scanned_clerk now id old new found was sits scans =
+    let looked = scan_looks id (token old) (token new) found scans in looked_clerk now looked.0 old new was sits looked.1
 
 -- ROOM
 -- where each place of a group has a hint, each has a name
@@ -201,24 +207,37 @@ its_hint now id way hint plan first third fourth own is plan_is set =
     subst (λ (n : ℕ). SetsHint way n third fourth)
     (is ∙ ap (λ (p : Plan). hint_of p id) (plan_is ∙ ap (λ (d : Opened). d.plan) (sym own))) set
 
--- a look at the turn, looks for the name and for room, a hint, a name and a clearing
-module _ (id way : ℕ) (real : 0 < id) (old first second third fourth : Token) (clerk : old.number ≡ 0)
-    (turn : Grows (looks 1 old.number) old first) (missed : Missed id first second) (room : HasRoom id way second third)
-    (hint : SetsHint way (hint_of first.directory.plan id) third fourth) where
+-- a look at the turn, looks for the name and for room, and a hint
+pub record Hinting (id way : ℕ) (old first second third fourth : Token) : Type 0 where
+  pub real : 0 < id
+  pub clerk : old.number ≡ 0
+  pub turn : Grows (looks 1 old.number) old first
+  pub missed : Missed id first second
+  pub room : HasRoom id way second third
+  pub hint : SetsHint way (hint_of first.directory.plan id) third fourth
+
+pub hints_way : {id way : ℕ} {old first second third fourth : Token} → 0 < id → old.number ≡ 0
+    → Grows (looks 1 old.number) old first → Missed id first second → HasRoom id way second third
+    → SetsHint way (hint_of first.directory.plan id) third fourth → Hinting id way old first second third fourth
+hints_way real clerk turn missed room hint =
+    record { real = real; clerk = clerk; turn = turn; missed = missed; room = room; hint = hint }
+
+-- and then a name and a clearing
+module _ (id way : ℕ) (old first second third fourth : Token) (it : Hinting id way old first second third fourth) where
   pub scan : (count : ℕ) × Grows (looks count first.number) first second
-  scan = looks_in_both id first second missed.looks
+  scan = looks_in_both id first second it.missed.looks
 
   searched : Grows (looks (scan.0 + 2) first.number) first third
-  searched = looks_after first second third scan.0 2 scan.1 room.grows
+  searched = looks_after first second third scan.0 2 scan.1 it.room.grows
 
   abbrev pub hinting : List Event
-  hinting = touched third.number (hinted (group_of_way way) hint.hints) ∷ looked third.number ∷ []
+  hinting = touched third.number (hinted (group_of_way way) it.hint.hints) ∷ looked third.number ∷ []
 
   all : Grows (hinting ++ looks (scan.0 + 2) first.number) first fourth
-  all = grows_on first third fourth (looks (scan.0 + 2) first.number) hinting searched hint.grows
+  all = grows_on first third fourth (looks (scan.0 + 2) first.number) hinting searched it.hint.grows
 
   first_clerk : first.number ≡ 0
-  first_clerk = turn.number ∙ clerk
+  first_clerk = it.turn.number ∙ it.clerk
 
   same_names : (other : ℕ) → name_of fourth.seen other ≡ name_of first.seen other
   same_names other =
@@ -241,13 +260,13 @@ module _ (id way : ℕ) (real : 0 < id) (old first second third fourth : Token) 
 
     pub may_admit : MayName first.directory.plan fourth.seen way id
     may_admit = record {
-      inside = subst (λ (d : Opened). way < ways d.plan) scan.1.directory room.inside;
-      real = real;
-      place = subst (λ (d : Opened). IsWayOf d.plan id way) scan.1.directory room.place;
-      hint = hint.set;
-      free = same_from_third way ∙ room.free;
+      inside = subst (λ (d : Opened). way < ways d.plan) scan.1.directory it.room.inside;
+      real = it.real;
+      place = subst (λ (d : Opened). IsWayOf d.plan id way) scan.1.directory it.room.place;
+      hint = it.hint.set;
+      free = same_from_third way ∙ it.room.free;
       open_claim = ap (λ (k : ℕ). k % 2) known ∙ odd;
-      absent = λ other has. missed.exact first_clerk other (sym (same_since other) ∙ has);
+      absent = λ other has. it.missed.exact first_clerk other (sym (same_since other) ∙ has);
     }
 
     pub still_open : (fifth : Token) → Grows (named way id ∷ []) fourth fifth
@@ -280,32 +299,32 @@ module _ (id way : ℕ) (real : 0 < id) (old first second third fourth : Token) 
     -- in all, as the clerk counts them
     abbrev closing : ℕ → ℕ → List Event
     closing group by =
-        cleared group ∷ named way id ∷ touched by (hinted (group_of_way way) hint.hints) ∷ looks 3 by
+        cleared group ∷ named way id ∷ touched by (hinted (group_of_way way) it.hint.hints) ∷ looks 3 by
 
     names_way : Grows (closing (group_for old id) old.number) second last
     names_way =
-        subst (λ (by : ℕ). Grows (closing (group_for old id) by) second last) (scan.1.number ∙ turn.number)
+        subst (λ (by : ℕ). Grows (closing (group_for old id) by) second last) (scan.1.number ∙ it.turn.number)
         (subst
         (λ (by : ℕ).
-        Grows (cleared (group_for old id) ∷ named way id ∷ touched by (hinted (group_of_way way) hint.hints)
+        Grows (cleared (group_for old id) ∷ named way id ∷ touched by (hinted (group_of_way way) it.hint.hints)
         ∷ looked by ∷ looks 2 second.number) second last)
-        room.grows.number
+        it.room.grows.number
         (grows_on second fourth last (hinting ++ looks 2 second.number)
         (cleared (group_for old id) ∷ named way id ∷ [])
-        (grows_on second third fourth (looks 2 second.number) hinting room.grows hint.grows) ends))
+        (grows_on second third fourth (looks 2 second.number) hinting it.room.grows it.hint.grows) ends))
 
     pub admission : Admits id old last (Ok way)
     admission = (
       record {
         scanned = second;
-        looks_for = record { turned = first; turn = turn; both = missed.looks };
-        hints = hint.hints;
+        looks_for = record { turned = first; turn = it.turn; both = it.missed.looks };
+        hints = it.hint.hints;
         grows = names_way;
       },
-      sym (clerk_looks old 1 old.number first way clerk turn) ∙ sym (same_names way) ∙ same_from_third way ∙ room.free,
+      sym (clerk_looks old 1 old.number first way it.clerk it.turn) ∙ sym (same_names way) ∙ same_from_third way ∙ it.room.free,
       record {
         inside = subst (λ (d : Opened). way < ways d.plan) (sym whole.directory)
-            (named_inside first.directory.plan last.seen way id whole.legal real has).0;
+            (named_inside first.directory.plan last.seen way id whole.legal it.real has).0;
         has = has;
       },
     )
@@ -314,17 +333,17 @@ module _ (id way : ℕ) (real : 0 < id) (old first second third fourth : Token) 
     pub admitted_of_names : HintsNames old → HintsNames last
     admitted_of_names were other inside some none = dite (ℕ_discrete way other)
         (λ (e : way ≡ other). let zero_id : id ≡ 0 = sym has ∙ ap (name_of last.seen) e ∙ none in
-        absurd (omega (arith, zero_id, real)))
+        absurd (omega (arith, zero_id, it.real)))
         (λ ne.
         let was : HintsNames third
-        = looks_of_names (scan.0 + 2) first third first_clerk searched (looks_of_names 1 old first clerk turn were) in
+        = looks_of_names (scan.0 + 2) first third first_clerk searched (looks_of_names 1 old first it.clerk it.turn were) in
         let hint_is : hint_in last.seen other ≡ hint_in third.seen other
         = ap (λ (n : ℕ). hint_at n (other % 8))
         (clerk_hints fourth (cleared (group_for old id) ∷ named way id ∷ []) last (group_of_way other)
         (all.number ∙ first_clerk) ends)
-        ∙ hint.others other (λ e. ne (sym e)) in
+        ∙ it.hint.others other (λ e. ne (sym e)) in
         was other
-        (subst (λ (d : Opened). other < ways d.plan) (hint.grows.directory)
+        (subst (λ (d : Opened). other < ways d.plan) (it.hint.grows.directory)
         (subst (λ (d : Opened). other < ways d.plan) ends.directory inside))
         (λ zero_then. some (hint_is ∙ zero_then))
         (sym (name_after other ∙ cond_else id (name_of fourth.seen other) way other ne ∙ same_from_third other) ∙ none))

@@ -1,6 +1,6 @@
-use Rattle.std.proofs.Common.{ℕ, refl, subst, ◌∙◌}
+use Rattle.std.proofs.Common.{ℕ, refl, subst}
 use Rattle.nr_ids.specs.Events.{HasMark}
-use Rattle.nr_ids.proofs.Admitting.{clerk_so, still_of_names}
+use Rattle.nr_ids.proofs.Admitting.{still_clerk}
 use Rattle.nr_ids.proofs.MarkBits.{turned_are_marked}
 use Rattle.nr_ids.proofs.directory.Directory.choose.Goals as goal
 
@@ -10,11 +10,8 @@ turn_marks-requires-clause-set c = λ place low on. subst (λ (n : ℕ). HasMark
     place low on)
 
 pub invariant_of-clerk : goal.invariant_of-clerk
-invariant_of-clerk c =
-    let was = c.clerk.invariant in
-    let looks = c.marks.ensures.loads in
-    let turns = c.turn_marks.ensures.turns in
-    let number = looks.number ∙ was.1 in
-    clerk_so c.args.self.now c.marks.new.seat c.turn_marks.new.seat _ c.turn_marks.ensures.clerk number turns
-    (still_of_names _ _ _ number turns (λ _. refl) (λ _. refl)
-    (still_of_names _ _ _ was.1 looks (λ _. refl) (λ _. refl) was.2))
+invariant_of-clerk c = let now = c.args.self.now in let looked = c.marks.new.seat in
+    still_clerk now looked c.turn_marks.new.seat _
+    (still_clerk now c.clerk.inside.seat looked _ c.clerk.invariant c.marks.ensures.caller c.marks.ensures.loads
+    (λ _. refl) (λ _. refl))
+    c.turn_marks.ensures.clerk c.turn_marks.ensures.turns (λ _. refl) (λ _. refl)

@@ -2,7 +2,7 @@ use Rattle.std.proofs.Common.{ℕ, [], ◌∷◌, ap, refl, subst, ◌∙◌}
 use Rattle.nr_ids.specs.Events.{cleared, looked, looks}
 use Rattle.nr_ids.specs.Looking.{group_for}
 use Rattle.nr_ids.specs.Tokens.{Grows, Token, token}
-use Rattle.nr_ids.proofs.Admitting.{clerk_so, looks_of_names, still_of_names}
+use Rattle.nr_ids.proofs.Admitting.{looked_clerk, still_clerk}
 use Rattle.nr_ids.proofs.Calls.{group_is, grows_on}
 use Rattle.nr_ids.proofs.directory.Directory.clear.Goals as goal
 
@@ -22,16 +22,13 @@ returns-clause-answer c =
     c.look_at_turn-turn.ensures.grows c.close.ensures.grows))
 
 pub invariant_of-clerk : goal.invariant_of-clerk
-invariant_of-clerk c = let was = c.clerk.invariant in let turn = c.look_at_turn-turn in
-    clerk_so c.args.self.now c.clerk.inside.seat turn.new.seat _ turn.ensures.caller was.1 turn.ensures.grows
-    (looks_of_names 1 _ _ was.1 turn.ensures.grows was.2)
+invariant_of-clerk c =
+    let turn = c.look_at_turn-turn in
+    looked_clerk c.args.self.now 1 c.clerk.inside.seat turn.new.seat c.clerk.invariant turn.ensures.caller
+    turn.ensures.grows
 
 pub invariant_of-clerk-2 : goal.invariant_of-clerk-2
-invariant_of-clerk-2 c =
-    let was = c.clerk.invariant in
-    let turn = c.look_at_turn-turn in
-    let closes = c.close.ensures.grows in
-    let number = turn.ensures.grows.number ∙ was.1 in
-    clerk_so c.args.self.now turn.new.seat c.close.new.seat _ c.close.ensures.clerk number closes
-    (still_of_names _ _ _ number closes (λ _. refl) (λ _. refl)
-    (looks_of_names 1 _ _ was.1 turn.ensures.grows was.2))
+invariant_of-clerk-2 c = let now = c.args.self.now in let turn = c.look_at_turn-turn in
+    still_clerk now turn.new.seat c.close.new.seat _
+    (looked_clerk now 1 c.clerk.inside.seat turn.new.seat c.clerk.invariant turn.ensures.caller turn.ensures.grows)
+    c.close.ensures.clerk c.close.ensures.grows (λ _. refl) (λ _. refl)
