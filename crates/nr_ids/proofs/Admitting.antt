@@ -199,14 +199,6 @@ module _ (way hint word : ℕ) (old mid : Token) (clerk : old.number ≡ 0) (loo
     }
 
 -- AN ADMISSION
--- the hint that was set is the id's
-pub its_hint : (now : Opened) (id way hint : ℕ) (plan : Plan) (first third fourth : Token) → first.directory ≡ now
-    → hint ≡ hint_of plan id → plan ≡ now.plan → SetsHint way hint third fourth
-    → SetsHint way (hint_of first.directory.plan id) third fourth
-its_hint now id way hint plan first third fourth own is plan_is set =
-    subst (λ (n : ℕ). SetsHint way n third fourth)
-    (is ∙ ap (λ (p : Plan). hint_of p id) (plan_is ∙ ap (λ (d : Opened). d.plan) (sym own))) set
-
 -- a look at the turn, looks for the name and for room, and a hint
 pub record Hinting (id way : ℕ) (old first second third fourth : Token) : Type 0 where
   pub real : 0 < id

@@ -266,12 +266,6 @@ passed_by way id old new lack = record {
   other = lack.other;
 }
 
--- the group that a call computes is the id's
-pub group_is : (id of : ℕ) (with : Plan) (now : Opened) (old : Token) → old.directory ≡ now → of ≡ group_of with id
-    → with ≡ now.plan → of ≡ group_for old id
-group_is id of with now old own is with_is =
-    is ∙ ap (λ (p : Plan). group_of p id) (with_is ∙ ap (λ (d : Opened). d.plan) (sym own))
-
 pub way_inside : (of groups place : ℕ) → of < groups → place < 8 → 8 * of + place < 8 * groups
 way_inside of groups place low near = omega arith
 
@@ -336,17 +330,6 @@ pub still_passed : (way : ℕ → ℕ) (name : ℕ) (old mid new : Token) (more 
     → Grows (looks more mid.number) mid new → PassedByClerk way name old 8 mid → PassedByClerk way name old 8 new
 still_passed way name old mid new more clerk same b passed _ at below has =
     passed clerk at below (sym (clerk_looks mid more mid.number new (way at) same b) ∙ has)
-
--- the turn that a call found
-module _ (now : Opened) (id of found : ℕ) (first : Token) (own : first.directory ≡ now)
-    (of_is : of ≡ group_for first id) (value : found ≡ turn_of now.plan first.seen of) where
-  pub turn_there : (seen : List Event)
-      → turn_of first.directory.plan seen (group_for first id) ≡ turn_of now.plan seen of
-  turn_there seen =
-      ap (λ (d : Opened). turn_of d.plan seen (group_for first id)) own ∙ ap (turn_of now.plan seen) (sym of_is)
-
-  pub turn_is : turn_of first.directory.plan first.seen (group_for first id) ≡ found
-  turn_is = turn_there first.seen ∙ sym value
 
 -- STEPS THAT CHANGE NO NAME
 abbrev pub LeavesNames : Token → Token → Type 0

@@ -355,19 +355,12 @@ module _ (id first second : ℕ) (old mid new : Token) (first_is : first ≡ gro
   scanned_both real None b = missed_both real b
 
 -- where a claim wasn't granted, another was within the call
-module _ (now : Opened) (id of found : ℕ) (old first second third : Token) (own : first.directory ≡ now)
-    (of_is : of ≡ group_for first id) (value : found ≡ turn_of now.plan first.seen of)
-    (turn : Grows (looks 1 old.number) old first) (scan : LooksInBoth id first second) where
-  pub outrun : found % 2 ≡ 0 → Grows (looks 1 second.number) second third → turn_of now.plan third.seen of ≢ found
-      → WasOpen id old third
-  outrun even look changed =
-      let all = (looks_in_both id first second scan).1 in
-      let there : (seen : List Event) → turn_of old.directory.plan seen (group_for old id) ≡ turn_of now.plan seen of
-      = λ seen. ap (λ (d : Opened). turn_of d.plan seen (group_of d.plan id)) (sym turn.directory)
-      ∙ ap (λ (d : Opened). turn_of d.plan seen (group_for first id)) own
-      ∙ ap (turn_of now.plan seen) (sym of_is) in
-      was_open id old first third (look.rest ++ all.rest) turn
-      (look.seen ∙ ap (λ (l : List Event). look.rest ++ l) all.seen
-      ∙ sym (append_assoc look.rest all.rest first.seen))
-      (ap (λ (k : ℕ). k % 2) (there first.seen ∙ sym value) ∙ even)
-      (λ still. changed (sym (there third.seen) ∙ still ∙ there first.seen ∙ sym value))
+pub outrun : (id found : ℕ) (old first second third : Token) → Grows (looks 1 old.number) old first
+    → LooksInBoth id first second → turn_of old.directory.plan first.seen (group_for old id) ≡ found → found % 2 ≡ 0
+    → Grows (looks 1 second.number) second third → turn_of old.directory.plan third.seen (group_for old id) ≢ found
+    → WasOpen id old third
+outrun id found old first second third turn scan value even look changed =
+    let all = (looks_in_both id first second scan).1 in
+    was_open id old first third (look.rest ++ all.rest) turn
+    (look.seen ∙ ap (λ (l : List Event). look.rest ++ l) all.seen ∙ sym (append_assoc look.rest all.rest first.seen))
+    (ap (λ (k : ℕ). k % 2) value ∙ even) (λ still. changed (still ∙ value))

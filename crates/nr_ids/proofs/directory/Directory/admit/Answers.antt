@@ -1,11 +1,13 @@
-use Rattle.std.proofs.Common.{◌≡◌, ◌%◌, ℕ, [], ◌∷◌, ap, arith, subst, sym, ◌∙◌, Ok, Err, None, Some}
+use Rattle.std.proofs.Common.{◌≡◌, rules, ◌%◌, ℕ, [], ◌∷◌, ap, arith, subst, sym, ◌∙◌, Ok, Err, None, Some}
 use Rattle.nr_ids.specs.declared.admissions.Refused.TheVariants as refused
 use Rattle.nr_ids.specs.Answers.{Admits}
 use Rattle.nr_ids.specs.Events.{IsOpen, MayName, cleared}
 use Rattle.nr_ids.specs.Looking.{group_for}
 use Rattle.nr_ids.specs.Tokens.{Grows, Opened, Token, token}
-use Rattle.nr_ids.proofs.Calls.{group_is, turn_is, turn_there}
-use Rattle.nr_ids.proofs.Admitting.{Hinting, admission, admitted_of_names, clerk_so, hints_way, its_hint, looked_clerk}
+use Rattle.nr_ids.specs.Events.{turn_of}
+use Rattle.nr_ids.specs.Groups.{hint_of}
+use Rattle.nr_ids.specs.Looking.{SetsHint}
+use Rattle.nr_ids.proofs.Admitting.{Hinting, admission, admitted_of_names, clerk_so, hints_way, looked_clerk}
 use Rattle.nr_ids.proofs.Admitting.{may_admit, scanned_clerk, still_open, whole}
 use Rattle.nr_ids.proofs.directory.Directory.admit.Goals as goal
 
@@ -54,103 +56,82 @@ returns-in_default-room_for-clause-answer c =
 
 pub name-requires-clause-may : goal.name-requires-clause-may
 name-requires-clause-may c =
+    let missed = c.in_default.ensures.scans in
     let id = c.args.id in
     let way = c.in-Some-room_for.way in
-    let turn = c.look_at_turn-turn.ensures in
+    let turn = c.look_at_turn-turn.ensures.grows in
     let old = token c.clerk.inside.seat in
     let first = token c.look_at_turn-turn.new.seat in
+    let second = token c.scan.new.seat in
     let third = token c.room_for.new.seat in
     let fourth = token c.hint.new.seat in
-    let missed = c.in_default.ensures.scans in
-    let set
-    = its_hint c.args.self.now id way c.hint_of.result c.plan-2.result.now first third fourth turn.caller.own
-    c.hint_of.ensures.value c.plan-2.ensures.value in
-    let it : Hinting id way old first (token c.scan.new.seat) third fourth
-    = hints_way c.requires.id c.clerk.invariant.1 turn.grows missed c.in-Some-room_for.ensures.rooms
-    (set c.hint.ensures.hints) in
-    let of_is
-    = group_is id c.group_of-group.result c.plan.result.now c.args.self.now first turn.caller.own c.group_of-group.ensures.value
-    c.plan.ensures.value in
-    let is = turn_is c.args.self.now id c.group_of-group.result c.look_at_turn-turn.result first turn.caller.own of_is
-    turn.value in
-    subst (λ (d : Opened). MayName d.plan fourth.seen way id) turn.caller.own
-    (may_admit id way old first (token c.scan.new.seat) third fourth it
-    (ap (λ (k : ℕ). k % 2) is ∙ omega (arith, c.if-turn-eq0.false)))
+    let hint : SetsHint way (hint_of first.directory.plan id) third fourth = search rules in
+    let it : Hinting id way old first second third fourth
+    = hints_way c.requires.id c.clerk.invariant.1 turn missed c.in-Some-room_for.ensures.rooms hint in
+    let is : turn_of first.directory.plan first.seen (group_for first id) ≡ c.look_at_turn-turn.result = search rules in
+    let open_claim : IsOpen first.directory.plan first.seen (group_for first id)
+    = ap (λ (k : ℕ). k % 2) is ∙ omega (arith, c.if-turn-eq0.false) in
+    subst (λ (d : Opened). MayName d.plan fourth.seen way id) c.look_at_turn-turn.ensures.caller.own
+    (may_admit id way old first second third fourth it open_claim)
 
 pub close-requires-clause-was : goal.close-requires-clause-was
 close-requires-clause-was c =
     let id = c.args.id in
     let way = c.in-Some-room_for.way in
-    let turn = c.look_at_turn-turn.ensures in
+    let turn = c.look_at_turn-turn.ensures.grows in
     let old = token c.clerk.inside.seat in
     let first = token c.look_at_turn-turn.new.seat in
+    let second = token c.scan.new.seat in
     let third = token c.room_for.new.seat in
     let fourth = token c.hint.new.seat in
-    let it : Hinting id way old first (token c.scan.new.seat) third fourth
-    = hints_way c.requires.id c.clerk.invariant.1 turn.grows c.in_default.ensures.scans
-    c.in-Some-room_for.ensures.rooms
-    (its_hint c.args.self.now id way c.hint_of.result c.plan-2.result.now first third fourth turn.caller.own
-    c.hint_of.ensures.value c.plan-2.ensures.value c.hint.ensures.hints) in
-    let of_is
-    = group_is id c.group_of-group.result c.plan.result.now c.args.self.now first turn.caller.own c.group_of-group.ensures.value
-    c.plan.ensures.value in
+    let hint : SetsHint way (hint_of first.directory.plan id) third fourth = search rules in
+    let it : Hinting id way old first second third fourth
+    = hints_way c.requires.id c.clerk.invariant.1 turn c.in_default.ensures.scans c.in-Some-room_for.ensures.rooms hint in
+    let is : turn_of first.directory.plan first.seen (group_for first id) ≡ c.look_at_turn-turn.result = search rules in
+    let open_claim : IsOpen first.directory.plan first.seen (group_for first id)
+    = ap (λ (k : ℕ). k % 2) is ∙ omega (arith, c.if-turn-eq0.false) in
     let fifth = token c.name.new.seat in
-    let is = turn_is c.args.self.now id c.group_of-group.result c.look_at_turn-turn.result first turn.caller.own of_is
-    turn.value in
-    sym
-    (turn_there c.args.self.now id c.group_of-group.result c.look_at_turn-turn.result first turn.caller.own of_is
-    turn.value fifth.seen)
-    ∙ still_open id way old first (token c.scan.new.seat) third fourth it
-    (ap (λ (k : ℕ). k % 2) is ∙ omega (arith, c.if-turn-eq0.false)) fifth c.name.ensures.grows
-    ∙ is
+    let still : turn_of first.directory.plan fifth.seen (group_for first id) ≡ c.look_at_turn-turn.result
+    = still_open id way old first second third fourth it open_claim fifth c.name.ensures.grows ∙ is in
+    search rules
 
 pub invariant_of-clerk-2 : goal.invariant_of-clerk-2
 invariant_of-clerk-2 c =
     let id = c.args.id in
     let way = c.in-Some-room_for.way in
-    let turn = c.look_at_turn-turn.ensures in
+    let turn = c.look_at_turn-turn.ensures.grows in
     let old = token c.clerk.inside.seat in
     let first = token c.look_at_turn-turn.new.seat in
+    let second = token c.scan.new.seat in
     let third = token c.room_for.new.seat in
     let fourth = token c.hint.new.seat in
-    let it : Hinting id way old first (token c.scan.new.seat) third fourth
-    = hints_way c.requires.id c.clerk.invariant.1 turn.grows c.in_default.ensures.scans
-    c.in-Some-room_for.ensures.rooms
-    (its_hint c.args.self.now id way c.hint_of.result c.plan-2.result.now first third fourth turn.caller.own
-    c.hint_of.ensures.value c.plan-2.ensures.value c.hint.ensures.hints) in
-    let own = ap (λ (t : Token). t.directory) c.clerk.view_is ∙ c.requires.own in
-    let of_is
-    = group_is id c.group_of-group.result c.plan.result.now c.args.self.now old own c.group_of-group.ensures.value
-    c.plan.ensures.value in
+    let hint : SetsHint way (hint_of first.directory.plan id) third fourth = search rules in
+    let it : Hinting id way old first second third fourth
+    = hints_way c.requires.id c.clerk.invariant.1 turn c.in_default.ensures.scans c.in-Some-room_for.ensures.rooms hint in
     let fifth = token c.name.new.seat in
     let last = token c.close.new.seat in
-    let clears = subst (λ (g : ℕ). Grows (cleared g ∷ []) fifth last) of_is c.close.ensures.grows in
+    let clears : Grows (cleared (group_for old id) ∷ []) fifth last = search rules in
     clerk_so c.args.self.now c.look_at_turn-turn.new.seat c.close.new.seat _ c.close.ensures.clerk
-    (turn.grows.number ∙ it.clerk)
-    (whole id way old first (token c.scan.new.seat) third fourth it fifth last c.name.ensures.grows clears)
-    (admitted_of_names id way old first (token c.scan.new.seat) third fourth it fifth last c.name.ensures.grows clears
+    (turn.number ∙ it.clerk)
+    (whole id way old first second third fourth it fifth last c.name.ensures.grows clears)
+    (admitted_of_names id way old first second third fourth it fifth last c.name.ensures.grows clears
     c.clerk.invariant.2)
 
 pub returns-clause-answer : goal.returns-clause-answer
 returns-clause-answer c =
     let id = c.args.id in
     let way = c.in-Some-room_for.way in
-    let turn = c.look_at_turn-turn.ensures in
+    let turn = c.look_at_turn-turn.ensures.grows in
     let old = token c.clerk.inside.seat in
     let first = token c.look_at_turn-turn.new.seat in
+    let second = token c.scan.new.seat in
     let third = token c.room_for.new.seat in
     let fourth = token c.hint.new.seat in
-    let it : Hinting id way old first (token c.scan.new.seat) third fourth
-    = hints_way c.requires.id c.clerk.invariant.1 turn.grows c.in_default.ensures.scans
-    c.in-Some-room_for.ensures.rooms
-    (its_hint c.args.self.now id way c.hint_of.result c.plan-2.result.now first third fourth turn.caller.own
-    c.hint_of.ensures.value c.plan-2.ensures.value c.hint.ensures.hints) in
-    let own = ap (λ (t : Token). t.directory) c.clerk.view_is ∙ c.requires.own in
-    let of_is
-    = group_is id c.group_of-group.result c.plan.result.now c.args.self.now old own c.group_of-group.ensures.value
-    c.plan.ensures.value in
+    let hint : SetsHint way (hint_of first.directory.plan id) third fourth = search rules in
+    let it : Hinting id way old first second third fourth
+    = hints_way c.requires.id c.clerk.invariant.1 turn c.in_default.ensures.scans c.in-Some-room_for.ensures.rooms hint in
     let fifth = token c.name.new.seat in
     let last = token c.close.new.seat in
-    let clears = subst (λ (g : ℕ). Grows (cleared g ∷ []) fifth last) of_is c.close.ensures.grows in
+    let clears : Grows (cleared (group_for old id) ∷ []) fifth last = search rules in
     subst (λ (t : Token). Admits id t last (Ok way)) c.clerk.view_is
-    (admission id way old first (token c.scan.new.seat) third fourth it fifth last c.name.ensures.grows clears)
+    (admission id way old first second third fourth it fifth last c.name.ensures.grows clears)

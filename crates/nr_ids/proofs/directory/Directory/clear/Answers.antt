@@ -1,9 +1,9 @@
-use Rattle.std.proofs.Common.{ℕ, [], ◌∷◌, ap, refl, subst, ◌∙◌}
+use Rattle.std.proofs.Common.{◌≡◌, rules, ℕ, [], ◌∷◌, ap, refl, subst, ◌∙◌}
 use Rattle.nr_ids.specs.Events.{cleared, looked, looks}
 use Rattle.nr_ids.specs.Looking.{group_for}
 use Rattle.nr_ids.specs.Tokens.{Grows, Token, token}
 use Rattle.nr_ids.proofs.Admitting.{looked_clerk, still_clerk}
-use Rattle.nr_ids.proofs.Calls.{group_is, grows_on}
+use Rattle.nr_ids.proofs.Calls.{grows_on}
 use Rattle.nr_ids.proofs.directory.Directory.clear.Goals as goal
 
 pub returns-clause-answer : goal.returns-clause-answer
@@ -12,10 +12,7 @@ returns-clause-answer c =
     let mid = token c.look_at_turn-turn.new.seat in
     let new = token c.close.new.seat in
     let id = c.args.id in
-    let group
-    = group_is id c.group_of-group.result c.plan.result.now c.args.self.now old
-    (ap (λ (t : Token). t.directory) c.clerk.view_is ∙ c.requires.own) c.group_of-group.ensures.value
-    c.plan.ensures.value in
+    let group : c.group_of-group.result ≡ group_for old id = search rules in
     subst (λ (t : Token). Grows (cleared (group_for t id) ∷ looks 1 t.number) t new) c.clerk.view_is
     (subst (λ (g : ℕ). Grows (cleared g ∷ looks 1 old.number) old new) group
     (grows_on old mid new (looked old.number ∷ []) (cleared c.group_of-group.result ∷ [])

@@ -1,11 +1,11 @@
-use Rattle.std.proofs.Common.{ap, arith, refl, subst, sym, ◌∙◌}
+use Rattle.std.proofs.Common.{ap, ◌≡◌, ◌≢◌, rules, arith, refl, subst, sym, ◌∙◌}
 use Rattle.nr_ids.specs.declared.plan.Plan.{Plan}
 use Rattle.nr_ids.specs.Groups.{group_of, places}
 use Rattle.nr_ids.specs.Answers.{LooksForClaim, Requests}
 use Rattle.nr_ids.specs.Events.{turn_of}
 use Rattle.nr_ids.specs.Scans.{Scanned}
 use Rattle.nr_ids.specs.Tokens.{Opened, Token, token}
-use Rattle.nr_ids.proofs.Calls.{group_is, turn_is}
+use Rattle.nr_ids.specs.Looking.{group_for}
 use Rattle.nr_ids.proofs.Through.{looks_in_both, outrun}
 use Rattle.nr_ids.proofs.directory.Directory.request.Goals as goal
 use Rattle.nr_ids.proofs.directory.Directory.request.Goals.{then-claim, else-claim}
@@ -16,19 +16,14 @@ claim-requires-clause-scanned c =
     let second = token c.scan.new.seat in
     let id = c.args.id in
     let found = c.look_at_turn-turn.result in
-    let turn = c.look_at_turn-turn.ensures in
-    let own = turn.caller.own in
-    let of_is
-    = group_is id c.group_of.result c.plan.result.now c.args.self.now first own c.group_of.ensures.value
-    c.plan.ensures.value in
     let missed = c.in_default.ensures.scans in
     let all = (looks_in_both id first second missed.looks).1 in
-    subst (λ (d : Opened). Scanned d.plan second.seen id found places) own
+    subst (λ (d : Opened). Scanned d.plan second.seen id found places) c.look_at_turn-turn.ensures.caller.own
     (record {
       start = first.seen;
       rest = all.rest;
       is = all.seen;
-      turn_is = turn_is c.args.self.now id c.group_of.result found first own of_is turn.value;
+      turn_is = search rules;
       passed = missed.passed;
     })
 
@@ -40,14 +35,11 @@ returns-clause-answer c =
     let third = token c.claim.new.seat in
     let id = c.args.id in
     let found = c.look_at_turn-turn.result in
-    let turn = c.look_at_turn-turn.ensures in
-    let own = turn.caller.own in
-    let of_is
-    = group_is id c.group_of.result c.plan.result.now c.args.self.now first own c.group_of.ensures.value
-    c.plan.ensures.value in
-    let of = c.group_of.ensures.value ∙ ap (λ (p : Plan). group_of p id) c.plan.ensures.value in
+    let turn = c.look_at_turn-turn.ensures.grows in
+    let plan_is : c.args.self.now.plan ≡ old.directory.plan = search rules in
+    let value : turn_of old.directory.plan first.seen (group_for old id) ≡ found = search rules in
     let looks = c.in_default.ensures.scans.looks in
-    let looks_for : LooksForClaim id old second = record { turned = first; turn = turn.grows; both = looks } in
+    let looks_for : LooksForClaim id old second = record { turned = first; turn = turn; both = looks } in
     subst (λ (t : Token). Requests id t third c.if-claim.result) c.reader.view_is (elim c.if-claim.branch [
       | then-claim w ↦ subst (Requests id old third) (sym w.result-is) (
         record { scanned = second; looks_for = looks_for; wins = c.claim.ensures.won w.if-claim.true },
@@ -57,9 +49,9 @@ returns-clause-answer c =
       | else-claim w ↦
           subst (Requests id old third) (sym w.result-is) (
             record { scanned = second; looks_for = looks_for; others = (c.claim.ensures.lost w.if-claim.false).0 },
-            outrun c.args.self.now id c.group_of.result found old first second third own of_is turn.value turn.grows
-                looks (omega (arith, c.if-turn-eq1.false)) (c.claim.ensures.lost w.if-claim.false).0
-                (λ same. (c.claim.ensures.lost w.if-claim.false).1
-                (ap (turn_of c.args.self.now.plan third.seen) (sym of) ∙ same)),
+            outrun id found old first second third turn looks value (omega (arith, c.if-turn-eq1.false))
+                (c.claim.ensures.lost w.if-claim.false).0
+                (subst (λ (p : Plan). turn_of p third.seen (group_of p id) ≢ found) plan_is
+                (c.claim.ensures.lost w.if-claim.false).1),
           )
     ])
