@@ -10,7 +10,6 @@ use native.Mathlib.Decide.{ℕ_discrete}
 use Rattle.nr_ids.specs.declared.admissions.Refused.{Refused}
 use Rattle.nr_ids.specs.declared.admissions.Refused.TheVariants as refused
 use Rattle.nr_ids.specs.declared.admissions.Room.{Room}
-use Rattle.nr_ids.specs.declared.plan.Plan.{Plan}
 use Rattle.nr_ids.specs.Groups.{IsWayOf, group_of_way, hint_of, way_at, way_in, ways}
 use Rattle.nr_ids.specs.Events.{Event, cleared, hinted, looked, named, own, touched, unnamed, hint_at, hint_in}
 use Rattle.nr_ids.specs.Events.{hints_of, looks}

@@ -435,15 +435,6 @@ claims_by old next id table goes = let seen = ap (λ (v : View). v.seen) goes.ne
   absent = (subst (IsLegal old.me.0.plan) seen goes.legal).0.absent;
 }
 
--- the seat stays a caller's
-pub sits_on : (now : Opened) (old next : Caller) (acts : List Event) → Sits now old
-    → Grows acts (token old) (token next) → next.me.0.calls ≡ old.me.0.calls → Sits now next
-sits_on now old next acts sits grows calls = record {
-  own = grows.directory ∙ sits.own;
-  calls = calls ∙ sits.calls;
-  legal = subst (λ (d : Opened). IsLegal d.plan next.me.0.seen) sits.own grows.legal;
-}
-
 -- the table at opening keeps the rule
 pub opens_so : (plan : Plan) (words : List ℕ) → IsPlan plan → words ≡ replicate (total plan) 0
     → Kept plan (opening words [] (opener plan))

@@ -7,7 +7,7 @@ use Rattle.std.proofs.Common.{◌↔◌, ◌-◌}
 use mathlib.Core.Logic.{dite}
 use native.Mathlib.Decide.{dec_le, ℕ_discrete}
 use Rattle.std.specs.Int.{bit_at}
-use Rattle.nr_ids.specs.Groups.{group_of, group_of_way, hint_of, way_in, ways}
+use Rattle.nr_ids.specs.Groups.{group_of_way, hint_of, way_in, ways}
 use Rattle.nr_ids.specs.Events.{Event, claimed, looked, looks, hint_at, hints_of, name_of, turn_of}
 use Rattle.nr_ids.specs.Looking.{FindsAt, FindsIn, IsFirst, LackedName, LooksIn, LooksInBoth, LooksUpTo}
 use Rattle.nr_ids.specs.Looking.{Missed}
@@ -15,7 +15,7 @@ use Rattle.nr_ids.specs.Looking.{PassedByClerk, PassesGroup, Scans, ScansGroup, 
 use Rattle.nr_ids.specs.declared.requests.Requested.{Requested}
 use Rattle.nr_ids.specs.declared.requests.Requested.TheVariants as requested
 use Rattle.nr_ids.specs.Answers.{FindsForClaim, FindsWay, LooksForClaim, LooksOn, LooksUp, Requests, WasOpen, WinsAfter}
-use Rattle.nr_ids.specs.Tokens.{Granted, Grows, Opened, Token, Within}
+use Rattle.nr_ids.specs.Tokens.{Granted, Grows, Token, Within}
 use Rattle.nr_ids.proofs.Logs.{cond_same, cond_else}
 use Rattle.nr_ids.proofs.Hinted.{other_hint}
 use Rattle.nr_ids.proofs.Calls.{grows_on, absent_within, clerk_looks, clerk_on, each_place, had_since, lacked_later}

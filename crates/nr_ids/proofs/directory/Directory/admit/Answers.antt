@@ -1,4 +1,4 @@
-use Rattle.std.proofs.Common.{◌≡◌, rules, ◌%◌, ℕ, [], ◌∷◌, ap, arith, subst, sym, ◌∙◌, Ok, Err, None, Some}
+use Rattle.std.proofs.Common.{◌≡◌, rules, ◌%◌, ℕ, [], ◌∷◌, ap, arith, subst, ◌∙◌, Ok, Err, None, Some}
 use Rattle.nr_ids.specs.declared.admissions.Refused.TheVariants as refused
 use Rattle.nr_ids.specs.Answers.{Admits}
 use Rattle.nr_ids.specs.Events.{IsOpen, MayName, cleared}

@@ -1,7 +1,7 @@
-use Rattle.std.proofs.Common.{ap, sym, ◌∙◌}
-use Rattle.nr_ids.specs.Rule.{View, turn_place}
-use Rattle.nr_ids.specs.Tokens.{Opened}
-use Rattle.nr_ids.proofs.Seats.{clears_group, grows_by, sits_on, stands}
+use Rattle.std.proofs.Common.{rules, sym}
+use Rattle.nr_ids.specs.Events.{cleared}
+use Rattle.nr_ids.specs.Plays.{Goes}
+use Rattle.nr_ids.proofs.Seats.{clears_group, grows_by, stands}
 use Rattle.nr_ids.proofs.directory.Directory.close.Goals as goal
 
 pub store-requires : goal.store-requires
@@ -11,17 +11,10 @@ store-requires c =
     c.requires.group c.turn_place-place.ensures.value c.requires.was c.requires.open_claim
 
 pub returns-clause-clerk : goal.returns-clause-clerk
-returns-clause-clerk c = let old = c.args.seat.now in let next = c.store.new.seat in
-    let goes
-    = c.store.ensures.2 c.args.group
-    (c.turn_place-place.ensures.value
-    ∙ ap (λ (d : Opened). turn_place d.plan c.args.group) (sym c.requires.clerk.own)) in
-    sits_on c.args.self.now old next _ c.requires.clerk
-    (grows_by old next _ c.store.ensures.0 goes (sym c.requires.number)) (ap (λ (v : View). v.calls) goes.next_is)
+returns-clause-clerk c = let next = c.store.new.seat in
+    let goes : Goes (cleared c.args.group) c.args.seat.now.me.0 next.me.0
+    = c.store.ensures.2 c.args.group (search rules) in search rules
 
 pub returns-clause-grows : goal.returns-clause-grows
-returns-clause-grows c = grows_by c.args.seat.now c.store.new.seat _ c.store.ensures.0
-    (c.store.ensures.2 c.args.group
-    (c.turn_place-place.ensures.value
-    ∙ ap (λ (d : Opened). turn_place d.plan c.args.group) (sym c.requires.clerk.own)))
-    (sym c.requires.number)
+returns-clause-grows c =
+    grows_by c.args.seat.now c.store.new.seat _ c.store.ensures.0 (c.store.ensures.2 c.args.group (search rules)) (sym c.requires.number)

@@ -1,6 +1,5 @@
-use Rattle.std.proofs.Common.{refl, subst, ℕ, [], ◌∷◌}
+use Rattle.std.proofs.Common.{refl, rules}
 use Rattle.nr_ids.specs.Events.{loaded, touched}
-use Rattle.nr_ids.specs.Tokens.{Grows, token}
 use Rattle.nr_ids.proofs.Seats.{grows_by, loads_word, stands}
 use Rattle.nr_ids.proofs.directory.Directory.load_hints.Goals as goal
 
@@ -11,7 +10,6 @@ load-requires c =
 
 pub returns-clause-grows : goal.returns-clause-grows
 returns-clause-grows c =
-    let old = token c.args.seat.now in
-    subst (λ (place : ℕ). Grows (touched old.number (loaded place) ∷ []) old (token c.load.new.seat))
-    c.hints_place-place.ensures.value
-    (grows_by c.args.seat.now c.load.new.seat _ c.load.ensures.0 c.load.ensures.2.0 refl)
+    let grows
+    = grows_by c.args.seat.now c.load.new.seat (touched c.args.seat.now.me.0.number (loaded c.hints_place-place.result))
+    c.load.ensures.0 c.load.ensures.2.0 refl in search rules

@@ -1,6 +1,4 @@
-use Rattle.std.proofs.Common.{ap, refl, sym, ◌∙◌}
-use Rattle.nr_ids.specs.Rule.{turn_place}
-use Rattle.nr_ids.specs.Tokens.{Opened}
+use Rattle.std.proofs.Common.{refl, rules}
 use Rattle.nr_ids.proofs.Logs.{open_early}
 use Rattle.nr_ids.proofs.Seats.{grows_by, looks_at_turn, stands}
 use Rattle.nr_ids.proofs.directory.Directory.look_at_turn.Goals as goal
@@ -15,9 +13,5 @@ returns-clause-grows c = grows_by c.args.seat.now c.load.new.seat _ c.load.ensur
 
 pub returns-clause-early : goal.returns-clause-early
 returns-clause-early c =
-    let turn
-    = c.load.ensures.2.1 c.args.group
-    (c.turn_place-place.ensures.value
-    ∙ ap (λ (d : Opened). turn_place d.plan c.args.group) (sym c.requires.caller.own)) in
     open_early c.args.seat.now.me.0.plan c.load.new.seat.me.0.seen c.args.group c.load.result c.load.ensures.2.0.legal
-    turn
+    (c.load.ensures.2.1 c.args.group (search rules))

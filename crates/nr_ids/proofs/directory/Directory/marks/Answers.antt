@@ -1,7 +1,5 @@
-use Rattle.std.proofs.Common.{ap, refl, ◌∙◌, sym, subst, ℕ, [], ◌∷◌}
+use Rattle.std.proofs.Common.{rules, refl}
 use Rattle.nr_ids.specs.Events.{loaded, touched}
-use Rattle.nr_ids.specs.Rule.{marks_place}
-use Rattle.nr_ids.specs.Tokens.{Grows, Opened, token}
 use Rattle.nr_ids.proofs.Seats.{grows_by, loads_word, stands}
 use Rattle.nr_ids.proofs.directory.Directory.marks.Goals as goal
 
@@ -12,8 +10,6 @@ load-requires c =
 
 pub returns-clause-loads : goal.returns-clause-loads
 returns-clause-loads c =
-    let old = token c.args.seat.now in
-    subst (λ (place : ℕ). Grows (touched old.number (loaded place) ∷ []) old (token c.load.new.seat))
-    (c.marks_place-place.ensures.value
-    ∙ ap (λ (d : Opened). marks_place d.plan c.args.group) (sym c.requires.caller.own))
-    (grows_by c.args.seat.now c.load.new.seat _ c.load.ensures.0 c.load.ensures.2.0 refl)
+    let grows
+    = grows_by c.args.seat.now c.load.new.seat (touched c.args.seat.now.me.0.number (loaded c.marks_place-place.result))
+    c.load.ensures.0 c.load.ensures.2.0 refl in search rules

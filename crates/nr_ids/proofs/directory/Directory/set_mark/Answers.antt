@@ -1,7 +1,4 @@
-use Rattle.std.proofs.Common.{◌*◌, ◌^◌, ◌%◌, ap, refl, ◌∙◌, sym}
-use Rattle.nr_ids.specs.Groups.{group_of_way}
-use Rattle.nr_ids.specs.Rule.{marks_place}
-use Rattle.nr_ids.specs.Tokens.{Opened}
+use Rattle.std.proofs.Common.{rules, ◌*◌, ◌^◌, ◌%◌, refl}
 use Rattle.nr_ids.proofs.MarkBits.{shifted_bit}
 use Rattle.nr_ids.proofs.Seats.{grows_by, marks_way, stands}
 use Rattle.nr_ids.proofs.directory.Directory.set_mark.Goals as goal
@@ -15,7 +12,4 @@ fetch_or-requires c =
 pub returns-clause-grows : goal.returns-clause-grows
 returns-clause-grows c =
     grows_by c.args.seat.now c.fetch_or.new.seat _ c.fetch_or.ensures.0
-    (c.fetch_or.ensures.2 c.args.way
-    (c.marks_place-place.ensures.value
-    ∙ ap (λ (d : Opened). marks_place d.plan (group_of_way c.args.way)) (sym c.requires.caller.own))
-    (shifted_bit c.args.way)) refl
+    (c.fetch_or.ensures.2 c.args.way (search rules) (shifted_bit c.args.way)) refl

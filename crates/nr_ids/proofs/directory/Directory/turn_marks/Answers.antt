@@ -1,7 +1,7 @@
-use Rattle.std.proofs.Common.{ap, refl, ◌∙◌, sym}
-use Rattle.nr_ids.specs.Rule.{View, marks_place}
-use Rattle.nr_ids.specs.Tokens.{Opened}
-use Rattle.nr_ids.proofs.Seats.{grows_by, sits_on, stands, turns_group}
+use Rattle.std.proofs.Common.{rules, refl}
+use Rattle.nr_ids.specs.Events.{touched, turned}
+use Rattle.nr_ids.specs.Plays.{Goes}
+use Rattle.nr_ids.proofs.Seats.{grows_by, stands, turns_group}
 use Rattle.nr_ids.proofs.directory.Directory.turn_marks.Goals as goal
 
 pub fetch_xor-requires : goal.fetch_xor-requires
@@ -11,18 +11,10 @@ fetch_xor-requires c =
     c.marks_place-place.ensures.value c.requires.set
 
 pub returns-clause-clerk : goal.returns-clause-clerk
-returns-clause-clerk c = let old = c.args.seat.now in let next = c.fetch_xor.new.seat in
-    let goes
-    = c.fetch_xor.ensures.2 c.args.group
-    (c.marks_place-place.ensures.value
-    ∙ ap (λ (d : Opened). marks_place d.plan c.args.group) (sym c.requires.clerk.own)) in
-    sits_on c.args.self.now old next _ c.requires.clerk (grows_by old next _ c.fetch_xor.ensures.0 goes refl)
-    (ap (λ (v : View). v.calls) goes.next_is)
+returns-clause-clerk c = let next = c.fetch_xor.new.seat in
+    let goes : Goes (touched c.args.seat.now.me.0.number (turned c.args.group c.args.bits)) c.args.seat.now.me.0 next.me.0
+    = c.fetch_xor.ensures.2 c.args.group (search rules) in search rules
 
 pub returns-clause-turns : goal.returns-clause-turns
 returns-clause-turns c =
-    grows_by c.args.seat.now c.fetch_xor.new.seat _ c.fetch_xor.ensures.0
-    (c.fetch_xor.ensures.2 c.args.group
-    (c.marks_place-place.ensures.value
-    ∙ ap (λ (d : Opened). marks_place d.plan c.args.group) (sym c.requires.clerk.own)))
-    refl
+    grows_by c.args.seat.now c.fetch_xor.new.seat _ c.fetch_xor.ensures.0 (c.fetch_xor.ensures.2 c.args.group (search rules)) refl

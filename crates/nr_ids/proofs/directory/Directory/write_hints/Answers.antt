@@ -1,7 +1,7 @@
-use Rattle.std.proofs.Common.{ap, refl, ◌∙◌, sym}
-use Rattle.nr_ids.specs.Rule.{View, hints_place}
-use Rattle.nr_ids.specs.Tokens.{Opened}
-use Rattle.nr_ids.proofs.Seats.{grows_by, sits_on, stands, writes_group}
+use Rattle.std.proofs.Common.{rules, refl}
+use Rattle.nr_ids.specs.Events.{hinted, touched}
+use Rattle.nr_ids.specs.Plays.{Goes}
+use Rattle.nr_ids.proofs.Seats.{grows_by, stands, writes_group}
 use Rattle.nr_ids.proofs.directory.Directory.write_hints.Goals as goal
 
 pub store-requires : goal.store-requires
@@ -11,18 +11,10 @@ store-requires c =
     c.hints_place-place.ensures.value c.requires.keeps
 
 pub returns-clause-clerk : goal.returns-clause-clerk
-returns-clause-clerk c = let old = c.args.seat.now in let next = c.store.new.seat in
-    let goes
-    = c.store.ensures.2 c.args.group
-    (c.hints_place-place.ensures.value
-    ∙ ap (λ (d : Opened). hints_place d.plan c.args.group) (sym c.requires.clerk.own)) in
-    sits_on c.args.self.now old next _ c.requires.clerk (grows_by old next _ c.store.ensures.0 goes refl)
-    (ap (λ (v : View). v.calls) goes.next_is)
+returns-clause-clerk c = let next = c.store.new.seat in
+    let goes : Goes (touched c.args.seat.now.me.0.number (hinted c.args.group c.args.hints)) c.args.seat.now.me.0 next.me.0
+    = c.store.ensures.2 c.args.group (search rules) in search rules
 
 pub returns-clause-grows : goal.returns-clause-grows
 returns-clause-grows c =
-    grows_by c.args.seat.now c.store.new.seat _ c.store.ensures.0
-    (c.store.ensures.2 c.args.group
-    (c.hints_place-place.ensures.value
-    ∙ ap (λ (d : Opened). hints_place d.plan c.args.group) (sym c.requires.clerk.own)))
-    refl
+    grows_by c.args.seat.now c.store.new.seat _ c.store.ensures.0 (c.store.ensures.2 c.args.group (search rules)) refl
