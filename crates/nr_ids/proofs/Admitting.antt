@@ -20,11 +20,11 @@ use Rattle.nr_ids.specs.Answers.{Admits}
 use Rattle.nr_ids.specs.Tokens.{Opened, Token, Grows, Sits, token}
 use Rattle.nr_ids.proofs.Logs.{cond_same, cond_else, looks_clear_nothing, looks_names, named_inside}
 use Rattle.nr_ids.proofs.Hinted.{exact_hints, hint_there}
-use Rattle.nr_ids.proofs.Calls.{at_first, at_second, clerk_looks, clerk_names, clerk_turn, each_place, grows_on}
+use Rattle.nr_ids.proofs.Calls.{at_first, at_second, clerk_looks, clerk_names, clerk_turn, each_place, grows_next, grows_on}
 use Rattle.nr_ids.proofs.Calls.{looks_after}
 use Rattle.nr_ids.proofs.Calls.{looks_both, still_passed}
 use Rattle.nr_ids.proofs.Seats.{Caller}
-use Rattle.nr_ids.proofs.Through.{finds_for_claim, looks_for_claim, looks_in_both, looks_on_for, looks_up_to}
+use Rattle.nr_ids.proofs.Through.{SomeLooks, finds_for_claim, looks_for_claim, looks_in_both, looks_on_for, looks_up_to}
 
 -- the seat is a clerk's, and stays one
 abbrev pub IsClerk : Caller → Type 0
@@ -80,8 +80,7 @@ pub looked_clerk : (now : Opened) (count : ℕ) (old new : Caller) → IsClerk o
 looked_clerk now count old new was sits grows =
     clerk_so now old new _ sits was.1 grows (looks_of_names count _ _ was.1 grows was.2)
 
-scan_looks : (id : ℕ) (old new : Token) (found : Option ℕ) → Scans id old new found
-    → (count : ℕ) × Grows (looks count old.number) old new
+scan_looks : (id : ℕ) (old new : Token) (found : Option ℕ) → Scans id old new found → SomeLooks old new
 scan_looks id old new (Some way) finds = looks_up_to way id old new finds.looks
 scan_looks id old new None misses = looks_in_both id old new misses.looks
 
@@ -176,10 +175,8 @@ module _ (way hint word : ℕ) (old mid : Token) (clerk : old.number ≡ 0) (loo
     sets_hint = record {
       hints = word;
       grows =
-          subst
-          (λ (by : ℕ). Grows (touched by (hinted (group_of_way way) word) ∷ looked old.number ∷ []) old new) look.number
-          (grows_on old mid new (looked old.number ∷ []) (touched mid.number (hinted (group_of_way way) word) ∷ []) look
-          write);
+          grows_next (λ by. touched by (hinted (group_of_way way) word) ∷ []) old mid new (looked old.number ∷ []) look
+          write;
       set =
           ap (λ (n : ℕ). hint_at n (way % 8))
           (after (group_of_way way) ∙ cond_same word (hints_of old.seen (way / 8)) (way / 8) (way / 8) refl)
@@ -215,7 +212,7 @@ hints_way real clerk turn missed room hint =
 
 -- and then a name and a clearing
 module _ (id way : ℕ) (old first second third fourth : Token) (it : Hinting id way old first second third fourth) where
-  pub scan : (count : ℕ) × Grows (looks count first.number) first second
+  pub scan : SomeLooks first second
   scan = looks_in_both id first second it.missed.looks
 
   searched : Grows (looks (scan.0 + 2) first.number) first third
@@ -295,14 +292,9 @@ module _ (id way : ℕ) (old first second third fourth : Token) (it : Hinting id
     names_way : Grows (closing (group_for old id) old.number) second last
     names_way =
         subst (λ (by : ℕ). Grows (closing (group_for old id) by) second last) (scan.1.number ∙ it.turn.number)
-        (subst
-        (λ (by : ℕ).
-        Grows (cleared (group_for old id) ∷ named way id ∷ touched by (hinted (group_of_way way) it.hint.hints)
-        ∷ looked by ∷ looks 2 second.number) second last)
-        it.room.grows.number
-        (grows_on second fourth last (hinting ++ looks 2 second.number)
-        (cleared (group_for old id) ∷ named way id ∷ [])
-        (grows_on second third fourth (looks 2 second.number) hinting it.room.grows it.hint.grows) ends))
+        (grows_on second fourth last _ (cleared (group_for old id) ∷ named way id ∷ [])
+        (grows_next (λ by. touched by (hinted (group_of_way way) it.hint.hints) ∷ looked by ∷ []) second third fourth
+        (looks 2 second.number) it.room.grows it.hint.grows) ends)
 
     pub admission : Admits id old last (Ok way)
     admission = (
@@ -344,12 +336,8 @@ module _ (way : ℕ) (old mid new : Token) (clerk : old.number ≡ 0) (takes : G
     (hint : SetsHint way 0 mid new) where
   pub unhinted : Grows
       (touched old.number (hinted (group_of_way way) hint.hints) ∷ looked old.number ∷ unnamed way ∷ []) old new
-  unhinted =
-      subst
-      (λ (by : ℕ). Grows (touched by (hinted (group_of_way way) hint.hints) ∷ looked by ∷ unnamed way ∷ []) old new)
-      takes.number
-      (grows_on old mid new (unnamed way ∷ [])
-      (touched mid.number (hinted (group_of_way way) hint.hints) ∷ looked mid.number ∷ []) takes hint.grows)
+  unhinted = grows_next (λ by. touched by (hinted (group_of_way way) hint.hints) ∷ looked by ∷ []) old mid new
+      (unnamed way ∷ []) takes hint.grows
 
   pub unnamed_of_names : HintsNames old → HintsNames new
   unnamed_of_names were other inside some none = dite (ℕ_discrete way other)
@@ -389,8 +377,7 @@ admits_by id way old new admits =
     )
 
 -- and a refusal is a few looks
-pub refusal_looks : (id : ℕ) (old new : Token) (why : Refused) → Admits id old new (Err why)
-    → (count : ℕ) × Grows (looks count old.number) old new
+pub refusal_looks : (id : ℕ) (old new : Token) (why : Refused) → Admits id old new (Err why) → SomeLooks old new
 refusal_looks id old new refused.NoClaim admits = (1, admits.0)
 refusal_looks id old new (refused.Named way) admits = finds_for_claim id old new way admits.0
 refusal_looks id old new refused.Full admits = looks_on_for id 2 old new admits.0

@@ -51,13 +51,18 @@ grows_on old mid new first last a b = record {
   steps = omega (arith, a.steps, b.steps, length-append last first);
 }
 
+-- the second call's steps are counted as the first one's caller's
+pub grows_next : (last : ℕ → List Event) (old mid new : Token) (first : List Event) → Grows first old mid
+    → Grows (last mid.number) mid new → Grows (last old.number ++ first) old new
+grows_next last old mid new first a b = subst (λ (by : ℕ). Grows (last by ++ first) old new) a.number
+    (grows_on old mid new first (last mid.number) a b)
+
 -- one look more
 pub looks_on : (old mid new : Token) (count : ℕ) → Grows (looks count old.number) old mid
     → Grows (looked mid.number ∷ []) mid new → Grows (looks (count + 1) old.number) old new
 looks_on old mid new count a b = let more : suc count ≡ count + 1 = omega arith in
     subst (λ (k : ℕ). Grows (looks k old.number) old new) more
-    (subst (λ (by : ℕ). Grows (looked by ∷ looks count old.number) old new) a.number
-    (grows_on old mid new (looks count old.number) (looked mid.number ∷ []) a b))
+    (grows_next (λ by. looked by ∷ []) old mid new (looks count old.number) a b)
 
 cons_not_nil : (a : List Event) (x : Event) (b : List Event) → a ++ x ∷ b ≢ []
 cons_not_nil [] x b e = absurd (cc (e))
@@ -322,8 +327,7 @@ pub looks_after : (old mid new : Token) (count more : ℕ) → Grows (looks coun
     → Grows (looks more mid.number) mid new → Grows (looks (count + more) old.number) old new
 looks_after old mid new count more a b =
     subst (λ (l : List Event). Grows l old new)
-    (ap (λ (by : ℕ). looks more by ++ looks count old.number) a.number ∙ looks_both count more old.number)
-    (grows_on old mid new (looks count old.number) (looks more mid.number) a b)
+    (looks_both count more old.number) (grows_next (looks more) old mid new (looks count old.number) a b)
 
 -- a name that the clerk didn't see there isn't there after other looks
 pub still_passed : (way : ℕ → ℕ) (name : ℕ) (old mid new : Token) (more : ℕ) → old.number ≡ 0 → mid.number ≡ 0

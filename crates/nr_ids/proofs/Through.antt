@@ -18,7 +18,7 @@ use Rattle.nr_ids.specs.Answers.{FindsForClaim, FindsWay, LooksForClaim, LooksOn
 use Rattle.nr_ids.specs.Tokens.{Granted, Grows, Token, Within}
 use Rattle.nr_ids.proofs.Logs.{cond_same, cond_else}
 use Rattle.nr_ids.proofs.Hinted.{other_hint}
-use Rattle.nr_ids.proofs.Calls.{grows_on, absent_within, clerk_looks, clerk_on, each_place, had_since, lacked_later}
+use Rattle.nr_ids.proofs.Calls.{grows_next, absent_within, clerk_looks, clerk_on, each_place, had_since, lacked_later}
 use Rattle.nr_ids.proofs.Calls.{lacked_since, looks_after, looks_on, none_has, passed_by, still_passed, was_open}
 use Rattle.nr_ids.proofs.Calls.{within_between}
 
@@ -217,24 +217,23 @@ module _ (id group : ℕ) (real : 0 < id) (old : Token) where
       }
 
 -- HOW MANY LOOKS
-pub looks_in : (id group among : ℕ) (old new : Token) → LooksIn id group among old new
-    → (count : ℕ) × Grows (looks count old.number) old new
+abbrev pub SomeLooks : Token → Token → Type 0
+SomeLooks old new = (count : ℕ) × Grows (looks count old.number) old new
+
+pub looks_in : (id group among : ℕ) (old new : Token) → LooksIn id group among old new → SomeLooks old new
 looks_in id group among old new through =
     let more : ℕ = fitting (hints_of through.hinted.seen group) (hint_of old.directory.plan id) among in
     (1 + more, looks_after old through.hinted new 1 more through.hints through.names)
 
-looks_twice : (old mid new : Token) → ((count : ℕ) × Grows (looks count old.number) old mid)
-    → ((count : ℕ) × Grows (looks count mid.number) mid new) → (count : ℕ) × Grows (looks count old.number) old new
+looks_twice : (old mid new : Token) → SomeLooks old mid → SomeLooks mid new → SomeLooks old new
 looks_twice old mid new a b = (a.0 + b.0, looks_after old mid new a.0 b.0 a.1 b.1)
 
-pub looks_in_both : (id : ℕ) (old new : Token) → LooksInBoth id old new
-    → (count : ℕ) × Grows (looks count old.number) old new
+pub looks_in_both : (id : ℕ) (old new : Token) → LooksInBoth id old new → SomeLooks old new
 looks_in_both id old new both =
     looks_twice old both.mid new (looks_in id (group_for old id) 8 old both.mid both.first)
     (looks_in id (second_for old id) 8 both.mid new both.second)
 
-pub looks_up_to : (way id : ℕ) (old new : Token) → LooksUpTo way id old new
-    → (count : ℕ) × Grows (looks count old.number) old new
+pub looks_up_to : (way id : ℕ) (old new : Token) → LooksUpTo way id old new → SomeLooks old new
 looks_up_to way id old new to = ⊎_elim
     (λ (first : (group_of_way way ≡ group_for old id) × LooksIn id (group_for old id) (way % 8 + 1) old new).
     looks_in id (group_for old id) (way % 8 + 1) old new first.1)
@@ -244,35 +243,29 @@ looks_up_to way id old new to = ⊎_elim
     (looks_in id (second_for old id) (way % 8 + 1) second.1.0 new second.1.2))
     to
 
-pub looks_for_claim : (id : ℕ) (old new : Token) → LooksForClaim id old new
-    → (count : ℕ) × Grows (looks count old.number) old new
+pub looks_for_claim : (id : ℕ) (old new : Token) → LooksForClaim id old new → SomeLooks old new
 looks_for_claim id old new for_claim =
     looks_twice old for_claim.turned new (1, for_claim.turn) (looks_in_both id for_claim.turned new for_claim.both)
 
-pub finds_for_claim : (id : ℕ) (old new : Token) (way : ℕ) → FindsForClaim id old new way
-    → (count : ℕ) × Grows (looks count old.number) old new
+pub finds_for_claim : (id : ℕ) (old new : Token) (way : ℕ) → FindsForClaim id old new way → SomeLooks old new
 finds_for_claim id old new way found =
     looks_twice old found.turned new (1, found.turn) (looks_up_to way id found.turned new found.finds.looks)
 
-pub looks_on_for : (id more : ℕ) (old new : Token) → LooksOn id more old new
-    → (count : ℕ) × Grows (looks count old.number) old new
+pub looks_on_for : (id more : ℕ) (old new : Token) → LooksOn id more old new → SomeLooks old new
 looks_on_for id more old new on =
     looks_twice old on.scanned new (looks_for_claim id old on.scanned on.looks_for) (more, on.others)
 
-pub looks_up : (id : ℕ) (old new : Token) (found : Option ℕ) → LooksUp id old new found
-    → (count : ℕ) × Grows (looks count old.number) old new
+pub looks_up : (id : ℕ) (old new : Token) (found : Option ℕ) → LooksUp id old new found → SomeLooks old new
 looks_up id old new (Some way) finds = looks_up_to way id old new finds.looks
 looks_up id old new None finds = looks_in_both id old new finds.0
 
-pub way_looks : (id : ℕ) (old new : Token) (found : Option ℕ) → FindsWay id old new found
-    → (count : ℕ) × Grows (looks count old.number) old new
+pub way_looks : (id : ℕ) (old new : Token) (found : Option ℕ) → FindsWay id old new found → SomeLooks old new
 way_looks id old new (Some way) finds = looks_up_to way id old new finds.0.looks
 way_looks id old new None finds = looks_in_both id old new finds.0
 
 -- of a request that was granted nothing
 pub request_looks : (id : ℕ) (old new : Token) (answer : Requested)
-    → ((claim : Granted) → answer ≢ requested.Granted claim) → Requests id old new answer
-    → (count : ℕ) × Grows (looks count old.number) old new
+    → ((claim : Granted) → answer ≢ requested.Granted claim) → Requests id old new answer → SomeLooks old new
 request_looks id old new (requested.Granted claim) none requests = absurd (none claim refl)
 request_looks id old new (requested.Named way) none requests = finds_for_claim id old new way requests
 request_looks id old new requested.Busy none requests = (1, requests.0)
@@ -282,14 +275,8 @@ request_looks id old new requested.Worn none requests = (1, requests.0)
 -- and of one that was granted a claim
 pub grant_looks : (id : ℕ) (old new : Token) → WinsAfter id old new
     → (count : ℕ) × Grows (claimed old.number id ∷ looks count old.number) old new
-grant_looks id old new won =
-    let scanned = won.scanned in
-    let looked = looks_for_claim id old scanned won.looks_for in
-    let grows = looked.1 in (
-      looked.0,
-      subst (λ (by : ℕ). Grows (claimed by id ∷ looks looked.0 old.number) old new) grows.number
-          (grows_on old scanned new (looks looked.0 old.number) (claimed scanned.number id ∷ []) grows won.wins.grows),
-    )
+grant_looks id old new won = let looked = looks_for_claim id old won.scanned won.looks_for in
+    (looked.0, grows_next (λ by. claimed by id ∷ []) old won.scanned new (looks looked.0 old.number) looked.1 won.wins.grows)
 
 -- BOTH GROUPS
 -- a scan found the name in the id's group
@@ -305,7 +292,7 @@ module _ (id first second : ℕ) (old mid new : Token) (first_is : first ≡ gro
   by_first : LooksIn id (group_for old id) 8 old mid
   by_first = subst (λ (g : ℕ). LooksIn id g 8 old mid) first_is a.looks
 
-  first_looks : (count : ℕ) × Grows (looks count old.number) old mid
+  first_looks : SomeLooks old mid
   first_looks = looks_in id first 8 old mid a.looks
 
   -- or in its second group
