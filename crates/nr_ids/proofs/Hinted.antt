@@ -1,5 +1,5 @@
 -- Hints: the clerk alone writes them, and a way that has an id's name has the id's hint.
-use Rattle.std.proofs.Common.{◌≡◌, ◌≢◌, ℕ, ◌+◌, ◌*◌, ◌/◌, ◌%◌, ◌<◌, ◌==◌, cond, Bool, true, false, List, [], ◌∷◌, ◌++◌}
+use Rattle.std.proofs.Common.{◌≡◌, ◌≢◌, ℕ, ◌+◌, ◌*◌, ◌/◌, ◌%◌, ◌<◌, ◌==◌, cond, List, [], ◌∷◌, ◌++◌}
 use Rattle.std.proofs.Common.{refl, sym, ap, ◌∙◌, arith}
 use mathlib.Core.Logic.{dite}
 use native.Mathlib.Decide.{ℕ_discrete}
@@ -9,7 +9,7 @@ use Rattle.nr_ids.specs.Events.{Event, Touch, named, unnamed, cleared, claimed, 
 use Rattle.nr_ids.specs.Events.{turned}
 use Rattle.nr_ids.specs.Events.{own, hint_at, hint_in, hints_after, hints_of, name_of, IsLegal, MayTouch}
 use Rattle.nr_ids.specs.Laws.{HintsTell}
-use Rattle.nr_ids.proofs.Logs.{cond_same, cond_else}
+use Rattle.nr_ids.proofs.Logs.{cond_same, cond_else, with_or_without}
 
 -- the hints after some events are those after the clerk's alone
 pub exact_hints : (plan : Plan) (rest seen : List Event) (group : ℕ) → IsLegal plan (rest ++ seen)
@@ -18,37 +18,23 @@ exact_hints plan [] seen group legal = refl
 exact_hints plan (named way id ∷ rest) seen group legal = exact_hints plan rest seen group legal.1
 exact_hints plan (unnamed way ∷ rest) seen group legal = exact_hints plan rest seen group legal.1
 exact_hints plan (cleared other ∷ rest) seen group legal = exact_hints plan rest seen group legal.1
-exact_hints plan (claimed by id ∷ rest) seen group legal =
-    exact_hints plan rest seen group legal.1 ∙ with_or_without (by == 0)
-  where
-    with_or_without : (b : Bool)
-        → hints_of (own 0 rest ++ seen) group
-        ≡ hints_of (cond b (claimed by id ∷ own 0 rest) (own 0 rest) ++ seen) group
-    with_or_without true = refl
-    with_or_without false = refl
-exact_hints plan (looked by ∷ rest) seen group legal =
-    exact_hints plan rest seen group legal.1 ∙ with_or_without (by == 0)
-  where
-    with_or_without : (b : Bool)
-        → hints_of (own 0 rest ++ seen) group ≡ hints_of (cond b (looked by ∷ own 0 rest) (own 0 rest) ++ seen) group
-    with_or_without true = refl
-    with_or_without false = refl
+exact_hints plan (claimed by id ∷ rest) seen group legal = exact_hints plan rest seen group legal.1
+    ∙ with_or_without (λ l. hints_of l group) (claimed by id) (own 0 rest) seen (by == 0) refl
+exact_hints plan (looked by ∷ rest) seen group legal = exact_hints plan rest seen group legal.1
+    ∙ with_or_without (λ l. hints_of l group) (looked by) (own 0 rest) seen (by == 0) refl
 exact_hints plan (touched by touch ∷ rest) seen group legal =
     by_touch touch legal.0 (exact_hints plan rest seen group legal.1)
   where
-    with_or_without : (t : Touch) (b : Bool)
-        → hints_of (touched by t ∷ own 0 rest ++ seen) group ≡ hints_of (own 0 rest ++ seen) group
-        → hints_of (own 0 rest ++ seen) group ≡ hints_of (cond b (touched by t ∷ own 0 rest) (own 0 rest) ++ seen) group
-    with_or_without t true same = sym same
-    with_or_without t false same = refl
-
     by_touch : (t : Touch) → MayTouch plan (rest ++ seen) by t
         → hints_of (rest ++ seen) group ≡ hints_of (own 0 rest ++ seen) group
         → hints_after t group (hints_of (rest ++ seen) group)
         ≡ hints_of (cond (by == 0) (touched by t ∷ own 0 rest) (own 0 rest) ++ seen) group
-    by_touch (loaded place) may was = was ∙ with_or_without (loaded place) (by == 0) refl
-    by_touch (marked way) may was = was ∙ with_or_without (marked way) (by == 0) refl
-    by_touch (turned other bits) may was = was ∙ with_or_without (turned other bits) (by == 0) refl
+    by_touch (loaded place) may was = was
+        ∙ with_or_without (λ l. hints_of l group) (touched by (loaded place)) (own 0 rest) seen (by == 0) refl
+    by_touch (marked way) may was = was
+        ∙ with_or_without (λ l. hints_of l group) (touched by (marked way)) (own 0 rest) seen (by == 0) refl
+    by_touch (turned other bits) may was = was
+        ∙ with_or_without (λ l. hints_of l group) (touched by (turned other bits)) (own 0 rest) seen (by == 0) refl
     by_touch (hinted other hints) may was =
         ap (λ (n : ℕ). cond (other == group) hints n) was
         ∙ ap (λ (l : List Event). hints_of (l ++ seen) group)

@@ -64,24 +64,17 @@ pub turn_counts : TurnCounts
 turn_counts plan [] group = refl
 turn_counts plan (named way id ∷ log) group = turn_counts plan log group
 turn_counts plan (unnamed way ∷ log) group = turn_counts plan log group
-turn_counts plan (cleared of ∷ log) group = let before = turn_counts plan log group in dite (ℕ_discrete of group)
-    (λ (e : of ≡ group). cond_same (turn_of plan log group + 1) (turn_of plan log group) of group e
-    ∙ omega (arith, before, cond_same (closings group log + 1) (closings group log) of group e))
-    (λ ne. cond_else (turn_of plan log group + 1) (turn_of plan log group) of group ne
-    ∙ before
-    ∙ ap (λ (k : ℕ). claims plan group log + k)
-    (sym (cond_else (closings group log + 1) (closings group log) of group ne)))
-turn_counts plan (claimed by id ∷ log) group =
-    let before = turn_counts plan log group in
-    let of = group_of plan id in
+turn_counts plan (cleared of ∷ log) group = let turn : ℕ = turn_of plan log group in
+    let before = turn_counts plan log group in let closed : ℕ = closings group log in dite (ℕ_discrete of group)
+    (λ (e : of ≡ group).
+    omega (arith, before, cond_same (turn + 1) turn of group e, cond_same (closed + 1) closed of group e))
+    (λ ne. omega (arith, before, cond_else (turn + 1) turn of group ne, cond_else (closed + 1) closed of group ne))
+turn_counts plan (claimed by id ∷ log) group = let turn : ℕ = turn_of plan log group in
+    let before = turn_counts plan log group in let granted : ℕ = claims plan group log in let of = group_of plan id in
     dite (ℕ_discrete (group_of plan id) group)
-    (λ (e : group_of plan id ≡ group). cond_same (turn_of plan log group + 1) (turn_of plan log group)
-    (group_of plan id) group e
-    ∙ omega (arith, before, cond_same (claims plan group log + 1) (claims plan group log) (group_of plan id) group e))
-    (λ ne. cond_else (turn_of plan log group + 1) (turn_of plan log group) (group_of plan id) group ne
-    ∙ before
-    ∙ ap (λ (k : ℕ). k + closings group log)
-    (sym (cond_else (claims plan group log + 1) (claims plan group log) (group_of plan id) group ne)))
+    (λ (e : group_of plan id ≡ group).
+    omega (arith, before, cond_same (turn + 1) turn of group e, cond_same (granted + 1) granted of group e))
+    (λ ne. omega (arith, before, cond_else (turn + 1) turn of group ne, cond_else (granted + 1) granted of group ne))
 turn_counts plan (looked by ∷ log) group = turn_counts plan log group
 turn_counts plan (touched by touch ∷ log) group = turn_counts plan log group
 

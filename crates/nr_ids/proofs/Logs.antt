@@ -38,30 +38,25 @@ own_append by (event ∷ a) b = dite (ℕ_discrete (maker event) by)
     (λ ne. own_other by event (a ++ b) ne ∙ own_append by a b
     ∙ ap (λ (l : List Event). l ++ own by b) (sym (own_other by event a ne)))
 
+-- an event that tells nothing may be left out
+pub with_or_without : (tells : List Event → ℕ) (event : Event) (log seen : List Event) (b : Bool)
+    → tells (event ∷ log ++ seen) ≡ tells (log ++ seen)
+    → tells (log ++ seen) ≡ tells (cond b (event ∷ log) log ++ seen)
+with_or_without tells event log seen true same = sym same
+with_or_without tells event log seen false same = refl
+
 -- the names after some events are those after the clerk's alone
 pub exact_names : (rest seen : List Event) (way : ℕ) → name_of (rest ++ seen) way ≡ name_of (own 0 rest ++ seen) way
 exact_names [] seen way = refl
 exact_names (named other id ∷ rest) seen way = ap (λ (n : ℕ). cond (other == way) id n) (exact_names rest seen way)
 exact_names (unnamed other ∷ rest) seen way = ap (λ (n : ℕ). cond (other == way) 0 n) (exact_names rest seen way)
 exact_names (cleared group ∷ rest) seen way = exact_names rest seen way
-exact_names (claimed by id ∷ rest) seen way = exact_names rest seen way ∙ with_or_without (by == 0)
-  where
-    with_or_without : (b : Bool)
-        → name_of (own 0 rest ++ seen) way ≡ name_of (cond b (claimed by id ∷ own 0 rest) (own 0 rest) ++ seen) way
-    with_or_without true = refl
-    with_or_without false = refl
-exact_names (looked by ∷ rest) seen way = exact_names rest seen way ∙ with_or_without (by == 0)
-  where
-    with_or_without : (b : Bool)
-        → name_of (own 0 rest ++ seen) way ≡ name_of (cond b (looked by ∷ own 0 rest) (own 0 rest) ++ seen) way
-    with_or_without true = refl
-    with_or_without false = refl
-exact_names (touched by touch ∷ rest) seen way = exact_names rest seen way ∙ with_or_without (by == 0)
-  where
-    with_or_without : (b : Bool)
-        → name_of (own 0 rest ++ seen) way ≡ name_of (cond b (touched by touch ∷ own 0 rest) (own 0 rest) ++ seen) way
-    with_or_without true = refl
-    with_or_without false = refl
+exact_names (claimed by id ∷ rest) seen way = exact_names rest seen way
+    ∙ with_or_without (λ l. name_of l way) (claimed by id) (own 0 rest) seen (by == 0) refl
+exact_names (looked by ∷ rest) seen way = exact_names rest seen way
+    ∙ with_or_without (λ l. name_of l way) (looked by) (own 0 rest) seen (by == 0) refl
+exact_names (touched by touch ∷ rest) seen way = exact_names rest seen way
+    ∙ with_or_without (λ l. name_of l way) (touched by touch) (own 0 rest) seen (by == 0) refl
 
 pub quiet_names : (rest seen : List Event) (way : ℕ) → own 0 rest ≡ [] → name_of (rest ++ seen) way ≡ name_of seen way
 quiet_names rest seen way quiet = exact_names rest seen way ∙ ap (λ (l : List Event). name_of (l ++ seen) way) quiet

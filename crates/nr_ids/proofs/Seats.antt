@@ -192,16 +192,15 @@ module _ (table : TableId) (key : Plan) (now : Opened) (about : Stands table key
   marks_way way place bit low is bit_is =
       let event = touched seat.me.0.number (marked way) in
       let group : ℕ = way / 8 in
-      let place' : marks_place key group ≡ place = omega (arith, is, groups) in
+      let place' : place ≡ marks_place key group = omega (arith, is, groups) in
       steps event place (λ n. bit_or n bit) (has_marked (step table.slots place bit 0 none) seat.me) (omega arith) refl
       (λ state kept at. (
         omega (arith, low, groups),
-        subst (λ (p : ℕ). Shows key (set state.words p (bit_or (get_or state.words p 0) bit)) (event ∷ kept.log)) place'
-            (shows_marks key state.words kept.log kept.shows event group (λ k. bit_or k bit)
+        shows_marks key state.words kept.log kept.shows event group place (λ k. bit_or k bit) place'
             (omega (arith, low, groups)) (λ _. refl) (λ _. refl) (λ _. refl)
             (λ other. ap
             (λ (b : ℕ). cond (group == other) (bit_or (marks_of kept.log other) b) (marks_of kept.log other))
-            (sym bit_is))),
+            (sym bit_is)),
         λ goes other at_place other_bit.
             let same : way ≡ other
             = same_way way other (omega (arith, at_place, is, groups, own_groups)) (sym bit_is ∙ other_bit) in
@@ -294,7 +293,7 @@ module _ (table : TableId) (key : Plan) (now : Opened) (about : Stands table key
     clears_group group place was low is turn odd =
         let turn' : turn_of key seat.me.0.seen group ≡ was
         = ap (λ (plan : Plan). turn_of plan seat.me.0.seen group) about.key_is ∙ turn in
-        let place' : turn_place key group ≡ place = omega (arith, is, groups) in
+        let place' : place ≡ turn_place key group = omega (arith, is, groups) in
         let near : group < key.groups = omega (arith, low, groups) in
         steps (cleared group) place (λ _. was + 1)
         (λ _. has_cleared (step table.slots place (was + 1) 0 none) seat.me (was + 1)) (omega arith) (sym clerk)
@@ -302,9 +301,8 @@ module _ (table : TableId) (key : Plan) (now : Opened) (about : Stands table key
         let here : turn_of key kept.log group ≡ was
         = turn_known clerk state kept at group (ap (λ (k : ℕ). k % 2) turn' ∙ odd) ∙ turn' in (
           (near, ap (λ (k : ℕ). k % 2) here ∙ odd),
-          subst (λ (p : ℕ). Shows key (set state.words p (was + 1)) (cleared group ∷ kept.log)) place'
-              (shows_turn key state.words kept.log kept.shows (cleared group) group (was + 1) near
-              (ap (λ (k : ℕ). k + 1) (sym here)) (λ _. refl) (λ _. refl) (λ _. refl) (λ _. refl)),
+          shows_turn key state.words kept.log kept.shows (cleared group) group place (was + 1) place' near
+              (ap (λ (k : ℕ). k + 1) (sym here)) (λ _. refl) (λ _. refl) (λ _. refl) (λ _. refl),
           λ goes other at_place.
               let same : group ≡ other = omega (arith, is, at_place, own_groups) in
               subst (λ (g : ℕ). Goes (cleared g) seat.me.0 (after kept.log (cleared group))) same goes,
@@ -316,16 +314,14 @@ module _ (table : TableId) (key : Plan) (now : Opened) (about : Stands table key
         (has_turned (step table.slots place bits 0 none) seat.me)
     turns_group group place bits low is were =
         let event = touched seat.me.0.number (turned group bits) in
-        let place' : marks_place key group ≡ place = omega (arith, is, groups) in
+        let place' : place ≡ marks_place key group = omega (arith, is, groups) in
         let near : group < key.groups = omega (arith, low, groups) in
         steps event place (λ n. bit_xor n bits) (has_turned (step table.slots place bits 0 none) seat.me) (omega arith)
         refl
         (λ state kept at. (
           (clerk, near, set_known clerk state kept at group bits were),
-          subst (λ (p : ℕ). Shows key (set state.words p (bit_xor (get_or state.words p 0) bits)) (event ∷ kept.log))
-              place'
-              (shows_marks key state.words kept.log kept.shows event group (λ k. bit_xor k bits) near (λ _. refl)
-              (λ _. refl) (λ _. refl) (λ _. refl)),
+          shows_marks key state.words kept.log kept.shows event group place (λ k. bit_xor k bits) place' near
+              (λ _. refl) (λ _. refl) (λ _. refl) (λ _. refl),
           λ goes other at_place.
               let same : group ≡ other = omega (arith, is, at_place, own_groups) in
               subst (λ (g : ℕ). Goes (touched seat.me.0.number (turned g bits)) seat.me.0 (after kept.log event)) same
@@ -338,15 +334,14 @@ module _ (table : TableId) (key : Plan) (now : Opened) (about : Stands table key
         (λ _. has_hinted (step table.slots place hints 0 none) seat.me hints)
     writes_group group place hints low is keeps_them =
         let event = touched seat.me.0.number (hinted group hints) in
-        let place' : hints_place key group ≡ place = omega (arith, is, groups) in
+        let place' : place ≡ hints_place key group = omega (arith, is, groups) in
         let near : group < key.groups = omega (arith, low, groups) in
         steps event place (λ _. hints) (λ _. has_hinted (step table.slots place hints 0 none) seat.me hints)
         (omega arith) refl
         (λ state kept at. (
           (clerk, near, kept_known clerk state kept at group hints keeps_them),
-          subst (λ (p : ℕ). Shows key (set state.words p hints) (event ∷ kept.log)) place'
-              (shows_hints key state.words kept.log kept.shows event group hints near (λ _. refl) (λ _. refl)
-              (λ _. refl) (λ _. refl)),
+          shows_hints key state.words kept.log kept.shows event group place hints place' near (λ _. refl) (λ _. refl)
+              (λ _. refl) (λ _. refl),
           λ goes other at_place.
               let same : group ≡ other = omega (arith, is, at_place, own_groups) in
               subst (λ (g : ℕ). Goes (touched seat.me.0.number (hinted g hints)) seat.me.0 (after kept.log event)) same
@@ -363,14 +358,14 @@ module _ (table : TableId) (key : Plan) (now : Opened) (about : Stands table key
       let scan' : Scanned key seat.me.0.seen id was places
       = subst (λ (plan : Plan). Scanned plan seat.me.0.seen id was places) (sym about.key_is) scan in
       let of_id : group_of key id ≡ group = ap (λ (plan : Plan). group_of plan id) about.key_is ∙ sym group_is in
-      let place' : turn_place key group ≡ place = omega arith in (
+      let place' : place ≡ turn_place key group = omega arith in (
         own_table,
         omega arith,
         λ state kept len at small.
             let later = (kept.fits seat.id seat.me.0 at).later in
             let n : ℕ = get_or state.words place 0 in
             let n_is : n ≡ turn_of key kept.log (group_of key id)
-            = ap (λ (p : ℕ). get_or state.words p 0) (sym place') ∙ kept.shows.turns group (omega arith)
+            = ap (λ (p : ℕ). get_or state.words p 0) place' ∙ kept.shows.turns group (omega arith)
             ∙ ap (turn_of key kept.log) (sym of_id) in
             exchanged n was (was + 1)
             (λ (m : ℕ). (w : View) × (a : Act ℕ) × Valid state.homes seat.me.1 a
@@ -389,10 +384,9 @@ module _ (table : TableId) (key : Plan) (now : Opened) (about : Stands table key
               keeps,
               tt,
               does event state kept at refl (set state.words place (was + 1))
-                  (subst (λ (p : ℕ). Shows key (set state.words p (was + 1)) (event ∷ kept.log))
-                  (ap (turn_place key) of_id ∙ place')
-                  (shows_turn key state.words kept.log kept.shows event (group_of key id) (was + 1) (omega arith)
-                  (ap (λ (k : ℕ). k + 1) (sym here)) (λ _. refl) (λ _. refl) (λ _. refl) (λ _. refl)))
+                  (shows_turn key state.words kept.log kept.shows event (group_of key id) place (was + 1)
+                  (place' ∙ ap (turn_place key) (sym of_id)) (omega arith) (ap (λ (k : ℕ). k + 1) (sym here))
+                  (λ _. refl) (λ _. refl) (λ _. refl) (λ _. refl))
                   may,
               (λ _. goes event state kept at may, λ ne. absurd (ne hit)),
             ))
@@ -442,13 +436,10 @@ opens_so plan words sizes is = record {
   log = [];
   shows = record {
     size = ap (λ (l : List ℕ). length l) is ∙ length-replicate (total plan) 0;
-    names = λ way low. ap (λ (l : List ℕ). get_or l way 0) is ∙ get_or-replicate (total plan) way 0 0 (omega arith);
-    turns = λ group low. ap (λ (l : List ℕ). get_or l (turn_place plan group) 0) is
-        ∙ get_or-replicate (total plan) (turn_place plan group) 0 0 (omega arith);
-    marks = λ group low. ap (λ (l : List ℕ). get_or l (marks_place plan group) 0) is
-        ∙ get_or-replicate (total plan) (marks_place plan group) 0 0 (omega arith);
-    hints = λ group low. ap (λ (l : List ℕ). get_or l (hints_place plan group) 0) is
-        ∙ get_or-replicate (total plan) (hints_place plan group) 0 0 (omega arith);
+    names = λ way low. none way (omega arith);
+    turns = λ group low. none (turn_place plan group) (omega arith);
+    marks = λ group low. none (marks_place plan group) (omega arith);
+    hints = λ group low. none (hints_place plan group) (omega arith);
   };
   legal = tt;
   sizes = sizes;
@@ -458,6 +449,9 @@ opens_so plan words sizes is = record {
   fresh = λ _ _. refl;
 }
   where
+    none : (at : ℕ) → at < total plan → get_or words at 0 ≡ 0
+    none at low = ap (λ (l : List ℕ). get_or l at 0) is ∙ get_or-replicate (total plan) at 0 0 low
+
     first : (at : ℕ) (view : View) → get_elem? (opener plan ∷ []) at ≡ some view → Fits plan [] 0 view
     first zero view e = subst (Fits plan [] 0) (some-injective (opener plan) view e)
         (record {

@@ -42,14 +42,14 @@ module _ (plan : Plan) (words : List ℕ) (log : List Event) (shows : Shows plan
       }
 
   -- of one kind of words the written one tells what it became, and the others what they told
-  own_word : (P value becomes : ℕ → ℕ) (group other n : ℕ) → P group < length words
+  own_word : (P value becomes : ℕ → ℕ) (place group other n : ℕ) → place ≡ P group → place < length words
       → (P other ≡ P group → group ≡ other) → n ≡ becomes group → get_or words (P other) 0 ≡ value other
-      → get_or (set words (P group) n) (P other) 0 ≡ cond (group == other) (becomes other) (value other)
-  own_word P value becomes group other n inside same is was = dite (ℕ_discrete group other)
-      (λ (e : group ≡ other). ap (λ (k : ℕ). get_or (set words (P group) n) (P k) 0) (sym e)
-      ∙ get_or-set_same words (P group) n 0 inside ∙ is ∙ ap becomes e
+      → get_or (set words place n) (P other) 0 ≡ cond (group == other) (becomes other) (value other)
+  own_word P value becomes place group other n there inside same is was = dite (ℕ_discrete group other)
+      (λ (e : group ≡ other). ap (λ (k : ℕ). get_or (set words place n) k 0) (ap P (sym e) ∙ sym there)
+      ∙ get_or-set_same words place n 0 inside ∙ is ∙ ap becomes e
       ∙ sym (cond_same (becomes other) (value other) group other e))
-      (λ ne. get_or-set_other words (P group) (P other) n 0 (λ e. ne (same e)) ∙ was
+      (λ ne. get_or-set_other words place (P other) n 0 (λ e. ne (same (e ∙ there))) ∙ was
       ∙ sym (cond_else (becomes other) (value other) group other ne))
 
   other_word : (place other n old new : ℕ) → other ≢ place → get_or words other 0 ≡ old → new ≡ old
@@ -61,51 +61,51 @@ module _ (plan : Plan) (words : List ℕ) (log : List Event) (shows : Shows plan
       → SameHints → Shows plan (set words way n) (event ∷ log)
   shows_name way n low names turns marks hints = let size = shows.size in record {
     size = length-set words way n ∙ size;
-    names = λ other near. own_word (λ k. k) (name_of log) (λ _. n) way other n (omega arith) sym refl
+    names = λ other near. own_word (λ k. k) (name_of log) (λ _. n) way way other n refl (omega arith) sym refl
         (shows.names other near) ∙ sym (names other);
     turns = λ group near. other_word _ _ n _ _ (λ e. absurd (omega arith)) (shows.turns group near) (turns group);
     marks = λ group near. other_word _ _ n _ _ (λ e. absurd (omega arith)) (shows.marks group near) (marks group);
     hints = λ group near. other_word _ _ n _ _ (λ e. absurd (omega arith)) (shows.hints group near) (hints group);
   }
 
-  pub shows_turn : (group n : ℕ) → group < plan.groups → n ≡ turn_of plan log group + 1 → SameNames
+  pub shows_turn : (group place n : ℕ) → place ≡ turn_place plan group → group < plan.groups → n ≡ turn_of plan log group + 1 → SameNames
       → ((other : ℕ)
       → turn_of plan (event ∷ log) other
       ≡ cond (group == other) (turn_of plan log other + 1) (turn_of plan log other))
-      → SameMarks → SameHints → Shows plan (set words (turn_place plan group) n) (event ∷ log)
-  shows_turn group n low is names turns marks hints = let size = shows.size in record {
-    size = length-set words (turn_place plan group) n ∙ size;
+      → SameMarks → SameHints → Shows plan (set words place n) (event ∷ log)
+  shows_turn group place n there low is names turns marks hints = let size = shows.size in record {
+    size = length-set words place n ∙ size;
     names = λ way near. other_word _ _ n _ _ (λ e. absurd (omega arith)) (shows.names way near) (names way);
-    turns = λ other near. own_word (turn_place plan) (turn_of plan log) (λ k. turn_of plan log k + 1) group other n
+    turns = λ other near. own_word (turn_place plan) (turn_of plan log) (λ k. turn_of plan log k + 1) place group other n there
         (omega arith) (λ e. omega arith) is (shows.turns other near) ∙ sym (turns other);
     marks = λ other near. other_word _ _ n _ _ (λ e. absurd (omega arith)) (shows.marks other near) (marks other);
     hints = λ other near. other_word _ _ n _ _ (λ e. absurd (omega arith)) (shows.hints other near) (hints other);
   }
 
-  pub shows_marks : (group : ℕ) (f : ℕ → ℕ) → group < plan.groups → SameNames → SameTurns → SameHints
+  pub shows_marks : (group place : ℕ) (f : ℕ → ℕ) → place ≡ marks_place plan group → group < plan.groups → SameNames → SameTurns → SameHints
       → ((other : ℕ)
       → marks_of (event ∷ log) other ≡ cond (group == other) (f (marks_of log other)) (marks_of log other))
-      → Shows plan (set words (marks_place plan group) (f (get_or words (marks_place plan group) 0))) (event ∷ log)
-  shows_marks group f low names turns hints marks =
-      let size = shows.size in let n : ℕ = f (get_or words (marks_place plan group) 0) in record {
-        size = length-set words (marks_place plan group) n ∙ size;
+      → Shows plan (set words place (f (get_or words place 0))) (event ∷ log)
+  shows_marks group place f there low names turns hints marks =
+      let size = shows.size in let n : ℕ = f (get_or words place 0) in record {
+        size = length-set words place n ∙ size;
         names = λ way near. other_word _ _ n _ _ (λ e. absurd (omega arith)) (shows.names way near) (names way);
         turns = λ other near. other_word _ _ n _ _ (λ e. absurd (omega arith)) (shows.turns other near) (turns other);
-        marks = λ other near. own_word (marks_place plan) (marks_of log) (λ k. f (marks_of log k)) group other n
-            (omega arith) (λ e. omega arith) (ap f (shows.marks group low)) (shows.marks other near)
+        marks = λ other near. own_word (marks_place plan) (marks_of log) (λ k. f (marks_of log k)) place group other n there
+            (omega arith) (λ e. omega arith) (ap (λ (k : ℕ). f (get_or words k 0)) there ∙ ap f (shows.marks group low)) (shows.marks other near)
             ∙ sym (marks other);
         hints = λ other near. other_word _ _ n _ _ (λ e. absurd (omega arith)) (shows.hints other near) (hints other);
       }
 
-  pub shows_hints : (group n : ℕ) → group < plan.groups → SameNames → SameTurns → SameMarks
+  pub shows_hints : (group place n : ℕ) → place ≡ hints_place plan group → group < plan.groups → SameNames → SameTurns → SameMarks
       → ((other : ℕ) → hints_of (event ∷ log) other ≡ cond (group == other) n (hints_of log other))
-      → Shows plan (set words (hints_place plan group) n) (event ∷ log)
-  shows_hints group n low names turns marks hints = let size = shows.size in record {
-    size = length-set words (hints_place plan group) n ∙ size;
+      → Shows plan (set words place n) (event ∷ log)
+  shows_hints group place n there low names turns marks hints = let size = shows.size in record {
+    size = length-set words place n ∙ size;
     names = λ way near. other_word _ _ n _ _ (λ e. absurd (omega arith)) (shows.names way near) (names way);
     turns = λ other near. other_word _ _ n _ _ (λ e. absurd (omega arith)) (shows.turns other near) (turns other);
     marks = λ other near. other_word _ _ n _ _ (λ e. absurd (omega arith)) (shows.marks other near) (marks other);
-    hints = λ other near. own_word (hints_place plan) (hints_of log) (λ _. n) group other n (omega arith)
+    hints = λ other near. own_word (hints_place plan) (hints_of log) (λ _. n) place group other n there (omega arith)
         (λ e. omega arith) refl (shows.hints other near) ∙ sym (hints other);
   }
 
