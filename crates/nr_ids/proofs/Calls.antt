@@ -5,11 +5,10 @@ use Rattle.std.proofs.Common.{Bool, true, false}
 use mathlib.Core.Logic.{dite}
 use native.Mathlib.Decide.{dec_le, ℕ_discrete}
 use Rattle.nr_ids.specs.declared.plan.Plan.{Plan}
-use Rattle.nr_ids.specs.Groups.{IsWayOf, group_at, group_of, group_of_way, places, second_of, way_at, way_in, ways}
+use Rattle.nr_ids.specs.Groups.{IsWayOf, group_at, group_of, group_of_way, places, second_of, way_at, way_in}
 use Rattle.nr_ids.specs.Events.{Event, looked, touched, own, looks, name_of, turn_of}
 use Rattle.nr_ids.specs.Events.{turned, mark_bit, IsLegal, IsAbsent, IsOpen, IsClosed}
-use Rattle.nr_ids.specs.Scans.{Passed}
-use Rattle.nr_ids.specs.Looking.{WasAbsent, HadName, LackedName, PassedByClerk, group_for, way_for}
+use Rattle.nr_ids.specs.Looking.{WasAbsent, LackedName, PassedByClerk, group_for, way_for}
 use Rattle.nr_ids.specs.Answers.{WasOpen}
 use Rattle.nr_ids.specs.Marks.{ChoosesWay, LoadsMarks, TakesMark, TurnsMarks, load_of_marks}
 use Rattle.nr_ids.specs.Tokens.{Opened, Token, Grows, Newest, Within}
@@ -233,42 +232,13 @@ clerk_on way name old mid new count same look other passed clerk at below = dite
     λ has. passed clerk at (omega arith)
     (sym (clerk_looks mid 1 mid.number new (way at) (same ∙ clerk) look) ∙ has))
 
--- what a name was, or was not, at a moment of a call it was at a moment of a longer one
-pub had_since : (way id : ℕ) (old mid new : Token) (acts : List Event) → Grows acts old mid → HadName way id mid new
-    → HadName way id old new
-had_since way id old mid new acts grows name = record {
-  inside = subst (λ (d : Opened). way < ways d.plan) grows.directory name.inside;
-  moment = name.moment;
-  within = within_since old mid new acts name.moment grows name.within;
-  had = name.had;
-  exact = λ clerk. name.exact (grows.number ∙ clerk);
-}
-
+-- what a name was not at a moment of a call it was not at a moment of a longer one
 pub lacked_later : (way id : ℕ) (old mid new : Token) (rest : List Event) → new.seen ≡ rest ++ mid.seen
     → LackedName way id old mid → LackedName way id old new
 lacked_later way id old mid new rest is name = record {
   moment = name.moment;
   within = within_on old mid new name.moment rest name.within is;
   other = name.other;
-}
-
-pub lacked_since : (way id : ℕ) (old mid new : Token) (acts : List Event) → Grows acts old mid
-    → LackedName way id mid new → LackedName way id old new
-lacked_since way id old mid new acts grows name = record {
-  moment = name.moment;
-  within = within_since old mid new acts name.moment grows name.within;
-  other = name.other;
-}
-
--- a name that a scan lacked was passed
-pub passed_by : (way id : ℕ) (old new : Token) → LackedName way id old new → Passed old.seen new.seen way id
-passed_by way id old new lack = record {
-  moment = lack.moment;
-  later = lack.within.later;
-  until = lack.within.until;
-  since = lack.within.since;
-  from = lack.within.from;
-  other = lack.other;
 }
 
 pub way_inside : (of groups place : ℕ) → of < groups → place < 8 → 8 * of + place < 8 * groups

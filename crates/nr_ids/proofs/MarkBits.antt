@@ -1,12 +1,13 @@
 -- Use bits: what an or and an exclusive or make of them, and that a set one stays until the clerk turns it over.
 use Rattle.std.proofs.Common.{◌≡◌, ◌≢◌, ℕ, zero, suc, ◌+◌, ◌*◌, ◌/◌, ◌%◌, ◌^◌, ◌<◌, ◌≤◌, ◌⊎◌}
-use Rattle.std.proofs.Common.{zero-mul, List, [], ◌∷◌, ◌++◌, refl, sym, ap, ◌∙◌, subst, arith, bit_and, bit_or, bit_xor}
+use Rattle.std.proofs.Common.{zero-mul, List, [], ◌∷◌, ◌++◌, sym, ap, ◌∙◌, subst, arith, bit_and, bit_or, bit_xor}
 use mathlib.Core.Logic.{dite}
 use native.Mathlib.Decide.{ℕ_discrete}
 use Rattle.std.specs.Int.{bit_at}
 use Rattle.std.proofs.lemmas.Nat.Bits.{and_pow, bit_at-lt, bit_at-pow_other, bit_at-pow_same, bit_at-zero}
 use Rattle.std.proofs.lemmas.Nat.Bits.{bit_at_cat_low, bit_at_or}
-use Rattle.std.proofs.lemmas.Nat.{pow_pos}
+use Rattle.std.proofs.lemmas.Nat.{pow_below, pow_pos}
+use Rattle.std.proofs.Math.Nat.{mod-eq_of_lt}
 use Rattle.nr_ids.specs.declared.plan.Plan.{Plan}
 use Rattle.nr_ids.specs.Groups.{group_of_way}
 use Rattle.nr_ids.specs.Events.{Event, Touch, named, unnamed, cleared, claimed, looked, touched, hinted, loaded, marked}
@@ -27,38 +28,28 @@ same_way way other group bit = dite (ℕ_discrete (way % 8) (other % 8))
 
 -- a place's bit as the code makes it
 pub shifted : (place : ℕ) → place < 8 → 1 * 2 ^ place % 2 ^ 64 ≡ 2 ^ place
-shifted zero low = refl
-shifted (suc zero) low = refl
-shifted (suc (suc zero)) low = refl
-shifted (suc (suc (suc zero))) low = refl
-shifted (suc (suc (suc (suc zero)))) low = refl
-shifted (suc (suc (suc (suc (suc zero))))) low = refl
-shifted (suc (suc (suc (suc (suc (suc zero)))))) low = refl
-shifted (suc (suc (suc (suc (suc (suc (suc zero))))))) low = refl
-shifted (suc (suc (suc (suc (suc (suc (suc (suc more)))))))) low = absurd (omega arith)
+shifted place low = let few = pow_below place 64 (omega (arith, low)) in
+    ap (λ (n : ℕ). n % 2 ^ 64) (omega arith) ∙ mod-eq_of_lt few
 
 pub shifted_bit : (way : ℕ) → 1 * 2 ^ (way % 8) % 2 ^ 64 ≡ mark_bit way
 shifted_bit way = shifted (way % 8) (omega arith)
 
+pub unmarked : (marks place : ℕ) → (HasMark marks place → ⊥) → bit_at marks place ≡ 0
+unmarked marks place other = let low = bit_at-lt marks place in omega (arith, low, other)
+
 -- whether it is among these marks
+bit_among : (marks place : ℕ) → place < 8 → bit_and marks (1 * 2 ^ place % 2 ^ 64) ≡ bit_at marks place * 2 ^ place
+bit_among marks place low = ap (bit_and marks) (shifted place low) ∙ and_pow marks place
+
 pub bit_set : (marks place : ℕ) → place < 8 → bit_and marks (1 * 2 ^ place % 2 ^ 64) ≢ 0 → HasMark marks place
-bit_set marks place low some =
-    let bit = ap (bit_and marks) (shifted place low) ∙ and_pow marks place in
-    let few = bit_at-lt marks place in
-    dite (ℕ_discrete (bit_at marks place) 0)
-    (λ (e : bit_at marks place ≡ 0). absurd (some (bit ∙ ap (λ (k : ℕ). k * 2 ^ place) e ∙ zero-mul (2 ^ place))))
-    (λ ne. omega (arith, few, ne))
+bit_set marks place low some = dite (ℕ_discrete (bit_at marks place) 1) (λ (e : bit_at marks place ≡ 1). e)
+    (λ ne. absurd (some
+    (bit_among marks place low ∙ ap (λ (k : ℕ). k * 2 ^ place) (unmarked marks place ne) ∙ zero-mul (2 ^ place))))
 
 pub bit_unset : (marks place : ℕ) → place < 8 → bit_and marks (1 * 2 ^ place % 2 ^ 64) ≡ 0 → bit_at marks place ≡ 0
-bit_unset marks place low none =
-    let bit = ap (bit_and marks) (shifted place low) ∙ and_pow marks place in
-    let few = bit_at-lt marks place in
-    let some = pow_pos place in
-    dite (ℕ_discrete (bit_at marks place) 1)
-    (λ (e : bit_at marks place ≡ 1).
-    let one : 1 * 2 ^ place ≡ 0 = ap (λ (k : ℕ). k * 2 ^ place) (sym e) ∙ sym bit ∙ none in
-    absurd (omega (arith, one, some)))
-    (λ ne. omega (arith, few, ne))
+bit_unset marks place low none = unmarked marks place (λ on.
+    let one : 1 * 2 ^ place ≡ 0 = ap (λ (k : ℕ). k * 2 ^ place) (sym on) ∙ sym (bit_among marks place low) ∙ none in
+    absurd (omega (arith, one, pow_pos place)))
 
 -- a set bit stays set by an or
 pub or_keeps : (marks bits place : ℕ) → HasMark marks place → HasMark (bit_or marks bits) place
@@ -151,11 +142,6 @@ pub marked_on : (marks count : ℕ) → ((step : ℕ) → step < count → HasMa
 marked_on marks count were is step near = dite (ℕ_discrete step count)
     (λ (e : step ≡ count). subst (λ (k : ℕ). HasMark marks (place_after (begin_of marks) k)) (sym e) is)
     (λ ne. were step (omega (arith, near, ne)))
-
-pub unmarked : (marks place : ℕ) → (HasMark marks place → ⊥) → bit_at marks place ≡ 0
-unmarked marks place other = let low = bit_at-lt marks place in dite (ℕ_discrete (bit_at marks place) 1)
-    (λ (e : bit_at marks place ≡ 1). absurd (other e))
-    (λ ne. omega (arith, low, ne))
 
 pub chosen_so : (marks place passed moved count : ℕ) → count ≤ 8 → place ≡ place_after (begin_of marks) count
     → ((step : ℕ) → step < count → HasMark marks (place_after (begin_of marks) step))

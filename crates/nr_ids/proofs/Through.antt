@@ -11,16 +11,16 @@ use Rattle.nr_ids.specs.Groups.{group_of_way, hint_of, way_in, ways}
 use Rattle.nr_ids.specs.Events.{Event, claimed, looked, looks, hint_at, hints_of, name_of, turn_of}
 use Rattle.nr_ids.specs.Looking.{FindsAt, FindsIn, IsFirst, LackedName, LooksIn, LooksInBoth, LooksUpTo}
 use Rattle.nr_ids.specs.Looking.{Missed}
-use Rattle.nr_ids.specs.Looking.{PassedByClerk, PassesGroup, Scans, ScansGroup, fitting, group_for, second_for, way_for}
+use Rattle.nr_ids.specs.Looking.{PassedByClerk, PassesGroup, Scans, ScansGroup, fitting, group_for, second_for}
 use Rattle.nr_ids.specs.declared.requests.Requested.{Requested}
 use Rattle.nr_ids.specs.declared.requests.Requested.TheVariants as requested
 use Rattle.nr_ids.specs.Answers.{FindsForClaim, FindsWay, LooksForClaim, LooksOn, LooksUp, Requests, WasOpen, WinsAfter}
-use Rattle.nr_ids.specs.Tokens.{Granted, Grows, Token, Within}
+use Rattle.nr_ids.specs.Tokens.{Granted, Grows, Opened, Token, Within}
 use Rattle.nr_ids.proofs.Logs.{cond_same, cond_else}
 use Rattle.nr_ids.proofs.Hinted.{other_hint}
-use Rattle.nr_ids.proofs.Calls.{grows_next, absent_within, clerk_looks, clerk_on, each_place, had_since, lacked_later}
-use Rattle.nr_ids.proofs.Calls.{lacked_since, looks_after, looks_on, none_has, passed_by, still_passed, was_open}
-use Rattle.nr_ids.proofs.Calls.{within_between}
+use Rattle.nr_ids.proofs.Calls.{grows_next, absent_within, clerk_looks, clerk_on, each_place, lacked_later}
+use Rattle.nr_ids.proofs.Calls.{looks_after, looks_on, none_has, still_passed, was_open}
+use Rattle.nr_ids.proofs.Calls.{within_between, within_since}
 
 -- so many first ways of a group were passed: those whose hint fits by a look at their names
 pub record Until (id group : ℕ) (old hinted new : Token) (count : ℕ) : Type 0 where
@@ -302,7 +302,13 @@ module _ (id first second : ℕ) (old mid new : Token) (first_is : first ≡ gro
       found.of ∙ second_is,
       (mid, by_first, subst (λ (g : ℕ). LooksIn id g (way % 8 + 1) mid new) second_is found.looks),
     );
-    named = had_since way id old mid new (looks first_looks.0 old.number) first_looks.1 found.named;
+    named = let grows = first_looks.1 in let named = found.named in record {
+      inside = subst (λ (d : Opened). way < ways d.plan) grows.directory named.inside;
+      moment = named.moment;
+      within = within_since old mid new _ named.moment grows named.within;
+      had = named.had;
+      exact = λ clerk. named.exact (grows.number ∙ clerk);
+    };
   }
 
   -- or in neither
@@ -320,8 +326,11 @@ module _ (id first second : ℕ) (old mid new : Token) (first_is : first ≡ gro
       let lacked
       = each_place id first second old (λ way. LackedName way id old new) first_is second_is
       (λ at low. lacked_later (way_in first at) id old mid new rest.rest rest.seen (a.lacked at low))
-      (λ at low. lacked_since (way_in second at) id old mid new (looks first_looks.0 old.number) first_looks.1
-      (b.lacked at low)) in
+      (λ at low. let lack = b.lacked at low in record {
+        moment = lack.moment;
+        within = within_since old mid new _ lack.moment first_looks.1 lack.within;
+        other = lack.other;
+      }) in
       record {
         looks = record {
           mid = mid;
@@ -329,7 +338,14 @@ module _ (id first second : ℕ) (old mid new : Token) (first_is : first ≡ gro
           second = subst (λ (g : ℕ). LooksIn id g 8 mid new) second_is b.looks;
         };
         absent = absent_within id real old new grows.legal here lacked;
-        passed = λ place near. passed_by (way_for old id place) id old new (lacked place near);
+        passed = λ place near. let lack = lacked place near in let within = lack.within in record {
+          moment = lack.moment;
+          later = within.later;
+          until = within.until;
+          since = within.since;
+          from = within.from;
+          other = lack.other;
+        };
         exact = λ clerk. none_has old.directory.plan id real new.seen grows.legal
             (each_place id first second old (λ way. name_of new.seen way ≢ id) first_is second_is
             (still_passed (way_in first) id old mid new second_looks.0 clerk (first_looks.1.number ∙ clerk) rest a.exact

@@ -1,9 +1,8 @@
-use Rattle.std.proofs.Common.{ℕ, List, ap, get_or, subst, sym, take}
+use Rattle.std.proofs.Common.{rules, ℕ, List, get_or, subst, sym, take}
 use Rattle.std.proofs.lemmas.List.{take_more}
-use Rattle.nr_ids.specs.declared.plan.Plan.{Plan}
 use Rattle.nr_ids.specs.Groups.{group_of}
 use Rattle.nr_ids.specs.Marks.{LoadsGroup, LoadsGroups}
-use Rattle.nr_ids.specs.Tokens.{Opened, token}
+use Rattle.nr_ids.specs.Tokens.{token}
 use Rattle.nr_ids.proofs.Ahead.{one_more_loaded}
 use Rattle.nr_ids.proofs.directory.Directory.load_groups.Goals as goal
 
@@ -13,11 +12,10 @@ loop-id-preserved c =
     let ids : List ℕ = c.args.ids.now in
     let id : ℕ = get_or ids at 0 in
     let old = token c.args.seat.now in let mid = token c.loop-id.seat in let new = token c.load_group.new.seat in
-    let plan_is = ap (λ (d : Opened). d.plan) (sym c.loop-id.invariant.sits.own) in
+    let group : LoadsGroup (group_of mid.directory.plan id) mid new = search rules in
     record {
       sits = c.load_group.ensures.caller;
       loads =
           subst (λ (l : List ℕ). LoadsGroups l old new) (sym (take_more ids at 0 c.loop-id-test.true))
-          (one_more_loaded (take at ids) id old mid new c.loop-id.invariant.loads
-          (subst (λ (p : Plan). LoadsGroup (group_of p id) mid new) plan_is c.load_group.ensures.loads));
+          (one_more_loaded (take at ids) id old mid new c.loop-id.invariant.loads group);
     }

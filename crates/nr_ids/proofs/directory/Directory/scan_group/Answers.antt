@@ -1,7 +1,6 @@
-use Rattle.std.proofs.Common.{◌≡◌, ◌<◌, ◌+◌, ◌*◌, ℕ, ap, arith, subst, sym, ◌∙◌}
+use Rattle.std.proofs.Common.{rules, ◌≡◌, ◌<◌, ◌+◌, ◌*◌, ℕ, ap, arith, subst, sym, ◌∙◌}
 use Rattle.std.specs.Int.{bit_at}
 use Rattle.std.proofs.lemmas.Nat.Bits.{bit_at-zero}
-use Rattle.nr_ids.specs.declared.plan.Plan.{Plan}
 use Rattle.nr_ids.specs.Events.{hint_at, IsLegal}
 use Rattle.nr_ids.specs.Groups.{hint_of, ways}
 use Rattle.nr_ids.specs.Tokens.{Opened, token}
@@ -11,25 +10,21 @@ use Rattle.nr_ids.proofs.directory.Directory.scan_group.Goals as goal
 
 pub loop-left-init : goal.loop-left-init
 loop-left-init c =
-    let id = c.args.id in
+    let old = token c.args.seat.now in
     let hinted = c.look_at_hints-hints in
-    let grows = hinted.ensures.grows in
-    let hint_is = c.hint_of-hint.ensures.value
-    ∙ ap (λ (p : Plan). hint_of p id)
-    (c.plan.ensures.value ∙ ap (λ (d : Opened). d.plan) (sym c.requires.caller.own)) in
+    let hint_is : c.hint_of-hint.result ≡ hint_of old.directory.plan c.args.id = search rules in
+    let legal : IsLegal (token hinted.new.seat).directory.plan (token hinted.new.seat).seen = search rules in
     record {
       sits = hinted.ensures.caller;
       so_far =
-          begun id c.args.group c.requires.id (token c.args.seat.now) (token hinted.new.seat) c.fitting-left.result
-          grows c.fitting-left.ensures.few
+          begun c.args.id c.args.group c.requires.id old (token hinted.new.seat) c.fitting-left.result
+          hinted.ensures.grows c.fitting-left.ensures.few
           (λ place near. let fits = c.fitting-left.ensures.fits place near in
           let same = ap (λ (n : ℕ). hint_at n place) hinted.ensures.value in (
             λ on. sym same ∙ fits.0 on ∙ hint_is,
             λ its. fits.1 (same ∙ its ∙ sym hint_is),
           ))
-          (grows_none (token hinted.new.seat)
-          (subst (λ (d : Opened). IsLegal d.plan (token hinted.new.seat).seen) (sym hinted.ensures.caller.own)
-          hinted.ensures.caller.legal));
+          (grows_none (token hinted.new.seat) legal);
     }
 
 pub returns-then-look-id-clause-scans : goal.returns-then-look-id-clause-scans
