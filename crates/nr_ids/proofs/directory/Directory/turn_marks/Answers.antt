@@ -17,4 +17,5 @@ returns-clause-clerk c = let next = c.fetch_xor.new.seat in
 
 pub returns-clause-turns : goal.returns-clause-turns
 returns-clause-turns c =
-    grows_by c.args.seat.now c.fetch_xor.new.seat _ c.fetch_xor.ensures.0 (c.fetch_xor.ensures.2 c.args.group (search rules)) refl
+    grows_by c.args.seat.now c.fetch_xor.new.seat _ c.fetch_xor.ensures.0
+    (c.fetch_xor.ensures.2 c.args.group (search rules)) refl
