@@ -20,7 +20,8 @@ use Rattle.nr_ids.specs.Answers.{Admits}
 use Rattle.nr_ids.specs.Tokens.{Opened, Token, Grows, Sits, token}
 use Rattle.nr_ids.proofs.Logs.{cond_same, cond_else, looks_clear_nothing, looks_names, named_inside}
 use Rattle.nr_ids.proofs.Hinted.{exact_hints, hint_there}
-use Rattle.nr_ids.proofs.Calls.{at_first, at_second, clerk_looks, clerk_names, clerk_turn, each_place, grows_next, grows_on}
+use Rattle.nr_ids.proofs.Calls.{at_first, at_second, clerk_looks, clerk_names, clerk_turn, each_place, grows_next}
+use Rattle.nr_ids.proofs.Calls.{grows_on}
 use Rattle.nr_ids.proofs.Calls.{looks_after}
 use Rattle.nr_ids.proofs.Calls.{looks_both, still_passed}
 use Rattle.nr_ids.proofs.Seats.{Caller}
@@ -87,7 +88,8 @@ scan_looks id old new None misses = looks_in_both id old new misses.looks
 pub scanned_clerk : (now : Opened) (id : ℕ) (old new : Caller) (found : Option ℕ) → IsClerk old → Sits now new
     → Scans id (token old) (token new) found → IsClerk new
 scanned_clerk now id old new found was sits scans =
-    let looked = scan_looks id (token old) (token new) found scans in looked_clerk now looked.0 old new was sits looked.1
+    let looked = scan_looks id (token old) (token new) found scans in
+    looked_clerk now looked.0 old new was sits looked.1
 
 -- ROOM
 -- where each place of a group has a hint, each has a name
@@ -304,7 +306,8 @@ module _ (id way : ℕ) (old first second third fourth : Token) (it : Hinting id
         hints = it.hint.hints;
         grows = names_way;
       },
-      sym (clerk_looks old 1 old.number first way it.clerk it.turn) ∙ sym (same_names way) ∙ same_from_third way ∙ it.room.free,
+      sym (clerk_looks old 1 old.number first way it.clerk it.turn) ∙ sym (same_names way) ∙ same_from_third way
+          ∙ it.room.free,
       record {
         inside = subst (λ (d : Opened). way < ways d.plan) (sym whole.directory)
             (named_inside first.directory.plan last.seen way id whole.legal it.real has).0;
@@ -319,7 +322,8 @@ module _ (id way : ℕ) (old first second third fourth : Token) (it : Hinting id
         absurd (omega (arith, zero_id, it.real)))
         (λ ne.
         let was : HintsNames third
-        = looks_of_names (scan.0 + 2) first third first_clerk searched (looks_of_names 1 old first it.clerk it.turn were) in
+        = looks_of_names (scan.0 + 2) first third first_clerk searched
+        (looks_of_names 1 old first it.clerk it.turn were) in
         let hint_is : hint_in last.seen other ≡ hint_in third.seen other
         = ap (λ (n : ℕ). hint_at n (other % 8))
         (clerk_hints fourth (cleared (group_for old id) ∷ named way id ∷ []) last (group_of_way other)

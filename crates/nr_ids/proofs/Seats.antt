@@ -372,7 +372,8 @@ module _ (table : TableId) (key : Plan) (now : Opened) (about : Stands table key
             × Kept key (stepped state place m seat.id seat.me.1 w a)
             × has_claimed (step table.slots place was (was + 1) (some id)) seat.me n (w, carried_after seat.me.1 a))
             (λ hit.
-            let event = claimed seat.me.0.number id in let here : turn_of key kept.log (group_of key id) ≡ was = sym n_is ∙ hit in
+            let event = claimed seat.me.0.number id in
+            let here : turn_of key kept.log (group_of key id) ≡ was = sym n_is ∙ hit in
             let may : MayClaim key kept.log id = record {
               real = real;
               closed = ap (λ (k : ℕ). k % 2) here ∙ even;
@@ -394,7 +395,8 @@ module _ (table : TableId) (key : Plan) (now : Opened) (about : Stands table key
               after kept.log look,
               keeps,
               tt,
-              does look state kept at refl (set state.words place n) (same_words look state kept place look_is_quiet) tt,
+              does look state kept at refl (set state.words place n)
+                  (same_words look state kept place look_is_quiet) tt,
               (
                 λ hit. absurd (miss hit),
                 λ _. (

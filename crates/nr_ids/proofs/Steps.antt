@@ -1,5 +1,6 @@
 -- A step that adds one event keeps the rule, and so does one that adds none.
-use Rattle.std.proofs.Common.{◌≡◌, ◌≢◌, ℕ, zero, suc, ◌+◌, ◌<◌, ◌⊎◌, ⊎_elim, inl, inr, true, false, ◌==◌, cond, List, []}
+use Rattle.std.proofs.Common.{◌≡◌, ◌≢◌, ℕ, zero, suc, ◌+◌, ◌<◌, ◌⊎◌, ⊎_elim, inl, inr, true, false, ◌==◌, cond, List}
+use Rattle.std.proofs.Common.{[]}
 use Rattle.std.proofs.Common.{◌∷◌, ◌++◌, length, get_or, set, refl, sym, ap, ◌∙◌, subst, arith, get_or-set_other}
 use Rattle.std.proofs.Common.{get_or-set_same}
 use mathlib.Core.Option.{some, some-injective, some-ne-none}
@@ -68,7 +69,8 @@ module _ (plan : Plan) (words : List ℕ) (log : List Event) (shows : Shows plan
     hints = λ group near. other_word _ _ n _ _ (λ e. absurd (omega arith)) (shows.hints group near) (hints group);
   }
 
-  pub shows_turn : (group place n : ℕ) → place ≡ turn_place plan group → group < plan.groups → n ≡ turn_of plan log group + 1 → SameNames
+  pub shows_turn : (group place n : ℕ) → place ≡ turn_place plan group → group < plan.groups
+      → n ≡ turn_of plan log group + 1 → SameNames
       → ((other : ℕ)
       → turn_of plan (event ∷ log) other
       ≡ cond (group == other) (turn_of plan log other + 1) (turn_of plan log other))
@@ -76,13 +78,15 @@ module _ (plan : Plan) (words : List ℕ) (log : List Event) (shows : Shows plan
   shows_turn group place n there low is names turns marks hints = let size = shows.size in record {
     size = length-set words place n ∙ size;
     names = λ way near. other_word _ _ n _ _ (λ e. absurd (omega arith)) (shows.names way near) (names way);
-    turns = λ other near. own_word (turn_place plan) (turn_of plan log) (λ k. turn_of plan log k + 1) place group other n there
+    turns = λ other near. own_word (turn_place plan) (turn_of plan log)
+        (λ k. turn_of plan log k + 1) place group other n there
         (omega arith) (λ e. omega arith) is (shows.turns other near) ∙ sym (turns other);
     marks = λ other near. other_word _ _ n _ _ (λ e. absurd (omega arith)) (shows.marks other near) (marks other);
     hints = λ other near. other_word _ _ n _ _ (λ e. absurd (omega arith)) (shows.hints other near) (hints other);
   }
 
-  pub shows_marks : (group place : ℕ) (f : ℕ → ℕ) → place ≡ marks_place plan group → group < plan.groups → SameNames → SameTurns → SameHints
+  pub shows_marks : (group place : ℕ) (f : ℕ → ℕ) → place ≡ marks_place plan group → group < plan.groups → SameNames
+      → SameTurns → SameHints
       → ((other : ℕ)
       → marks_of (event ∷ log) other ≡ cond (group == other) (f (marks_of log other)) (marks_of log other))
       → Shows plan (set words place (f (get_or words place 0))) (event ∷ log)
@@ -91,13 +95,16 @@ module _ (plan : Plan) (words : List ℕ) (log : List Event) (shows : Shows plan
         size = length-set words place n ∙ size;
         names = λ way near. other_word _ _ n _ _ (λ e. absurd (omega arith)) (shows.names way near) (names way);
         turns = λ other near. other_word _ _ n _ _ (λ e. absurd (omega arith)) (shows.turns other near) (turns other);
-        marks = λ other near. own_word (marks_place plan) (marks_of log) (λ k. f (marks_of log k)) place group other n there
-            (omega arith) (λ e. omega arith) (ap (λ (k : ℕ). f (get_or words k 0)) there ∙ ap f (shows.marks group low)) (shows.marks other near)
+        marks = λ other near. own_word (marks_place plan) (marks_of log)
+            (λ k. f (marks_of log k)) place group other n there
+            (omega arith) (λ e. omega arith)
+            (ap (λ (k : ℕ). f (get_or words k 0)) there ∙ ap f (shows.marks group low)) (shows.marks other near)
             ∙ sym (marks other);
         hints = λ other near. other_word _ _ n _ _ (λ e. absurd (omega arith)) (shows.hints other near) (hints other);
       }
 
-  pub shows_hints : (group place n : ℕ) → place ≡ hints_place plan group → group < plan.groups → SameNames → SameTurns → SameMarks
+  pub shows_hints : (group place n : ℕ) → place ≡ hints_place plan group → group < plan.groups → SameNames
+      → SameTurns → SameMarks
       → ((other : ℕ) → hints_of (event ∷ log) other ≡ cond (group == other) n (hints_of log other))
       → Shows plan (set words place n) (event ∷ log)
   shows_hints group place n there low names turns marks hints = let size = shows.size in record {

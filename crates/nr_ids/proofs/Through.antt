@@ -275,8 +275,11 @@ request_looks id old new requested.Worn none requests = (1, requests.0)
 -- and of one that was granted a claim
 pub grant_looks : (id : ℕ) (old new : Token) → WinsAfter id old new
     → (count : ℕ) × Grows (claimed old.number id ∷ looks count old.number) old new
-grant_looks id old new won = let looked = looks_for_claim id old won.scanned won.looks_for in
-    (looked.0, grows_next (λ by. claimed by id ∷ []) old won.scanned new (looks looked.0 old.number) looked.1 won.wins.grows)
+grant_looks id old new won = let looked = looks_for_claim id old won.scanned won.looks_for in (
+  looked.0,
+  grows_next (λ by. claimed by id ∷ []) old won.scanned new
+      (looks looked.0 old.number) looked.1 won.wins.grows,
+)
 
 -- BOTH GROUPS
 -- a scan found the name in the id's group

@@ -86,7 +86,8 @@ close-requires-clause-was c =
     let fourth = token c.hint.new.seat in
     let hint : SetsHint way (hint_of first.directory.plan id) third fourth = search rules in
     let it : Hinting id way old first second third fourth
-    = hints_way c.requires.id c.clerk.invariant.1 turn c.in_default.ensures.scans c.in-Some-room_for.ensures.rooms hint in
+    = hints_way c.requires.id c.clerk.invariant.1 turn c.in_default.ensures.scans c.in-Some-room_for.ensures.rooms
+    hint in
     let is : turn_of first.directory.plan first.seen (group_for first id) ≡ c.look_at_turn-turn.result = search rules in
     let open_claim : IsOpen first.directory.plan first.seen (group_for first id)
     = ap (λ (k : ℕ). k % 2) is ∙ omega (arith, c.if-turn-eq0.false) in
@@ -107,7 +108,8 @@ invariant_of-clerk-2 c =
     let fourth = token c.hint.new.seat in
     let hint : SetsHint way (hint_of first.directory.plan id) third fourth = search rules in
     let it : Hinting id way old first second third fourth
-    = hints_way c.requires.id c.clerk.invariant.1 turn c.in_default.ensures.scans c.in-Some-room_for.ensures.rooms hint in
+    = hints_way c.requires.id c.clerk.invariant.1 turn c.in_default.ensures.scans c.in-Some-room_for.ensures.rooms
+    hint in
     let fifth = token c.name.new.seat in
     let last = token c.close.new.seat in
     let clears : Grows (cleared (group_for old id) ∷ []) fifth last = search rules in
@@ -129,7 +131,8 @@ returns-clause-answer c =
     let fourth = token c.hint.new.seat in
     let hint : SetsHint way (hint_of first.directory.plan id) third fourth = search rules in
     let it : Hinting id way old first second third fourth
-    = hints_way c.requires.id c.clerk.invariant.1 turn c.in_default.ensures.scans c.in-Some-room_for.ensures.rooms hint in
+    = hints_way c.requires.id c.clerk.invariant.1 turn c.in_default.ensures.scans c.in-Some-room_for.ensures.rooms
+    hint in
     let fifth = token c.name.new.seat in
     let last = token c.close.new.seat in
     let clears : Grows (cleared (group_for old id) ∷ []) fifth last = search rules in

@@ -17,4 +17,5 @@ returns-clause-clerk c = let next = c.store.new.seat in
 
 pub returns-clause-grows : goal.returns-clause-grows
 returns-clause-grows c =
-    grows_by c.args.seat.now c.store.new.seat _ c.store.ensures.0 (c.store.ensures.2 c.args.group (search rules)) (sym c.requires.number)
+    grows_by c.args.seat.now c.store.new.seat _ c.store.ensures.0 (c.store.ensures.2 c.args.group (search rules))
+    (sym c.requires.number)

@@ -12,7 +12,8 @@ fetch_xor-requires c =
 
 pub returns-clause-clerk : goal.returns-clause-clerk
 returns-clause-clerk c = let next = c.fetch_xor.new.seat in
-    let goes : Goes (touched c.args.seat.now.me.0.number (turned c.args.group c.args.bits)) c.args.seat.now.me.0 next.me.0
+    let goes : Goes (touched c.args.seat.now.me.0.number (turned c.args.group c.args.bits)) c.args.seat.now.me.0
+    next.me.0
     = c.fetch_xor.ensures.2 c.args.group (search rules) in search rules
 
 pub returns-clause-turns : goal.returns-clause-turns

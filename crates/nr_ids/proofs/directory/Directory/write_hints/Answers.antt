@@ -12,7 +12,8 @@ store-requires c =
 
 pub returns-clause-clerk : goal.returns-clause-clerk
 returns-clause-clerk c = let next = c.store.new.seat in
-    let goes : Goes (touched c.args.seat.now.me.0.number (hinted c.args.group c.args.hints)) c.args.seat.now.me.0 next.me.0
+    let goes : Goes (touched c.args.seat.now.me.0.number (hinted c.args.group c.args.hints)) c.args.seat.now.me.0
+    next.me.0
     = c.store.ensures.2 c.args.group (search rules) in search rules
 
 pub returns-clause-grows : goal.returns-clause-grows
