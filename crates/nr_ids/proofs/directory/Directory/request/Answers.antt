@@ -1,6 +1,7 @@
 use Rattle.std.proofs.Common.{ap, ◌≡◌, ◌≢◌, rules, arith, refl, subst, sym, ◌∙◌}
 use Rattle.nr_ids.specs.declared.plan.Plan.{Plan}
 use Rattle.nr_ids.specs.Groups.{group_of, places}
+use Rattle.nr_ids.specs.declared.requests.Requested.TheVariants as requested
 use Rattle.nr_ids.specs.Answers.{LooksForClaim, Requests}
 use Rattle.nr_ids.specs.Events.{turn_of}
 use Rattle.nr_ids.specs.Scans.{Scanned}
@@ -46,8 +47,8 @@ returns-clause-answer c =
         w.of.ensures ∙ sym (ap (λ (t : Token). t.directory) c.reader.view_is ∙ c.requires.own),
         refl,
       )
-      | else-claim w ↦
-          subst (Requests id old third) (sym w.result-is) (
+      | else-claim w ↦ let is : c.if-claim.result ≡ requested.Outrun = w.result-is in
+          subst (Requests id old third) (sym is) (
             record { scanned = second; looks_for = looks_for; others = (c.claim.ensures.lost w.if-claim.false).0 },
             outrun id found old first second third turn looks value (omega (arith, c.if-turn-eq1.false))
                 (c.claim.ensures.lost w.if-claim.false).0
