@@ -43,22 +43,27 @@ both_empty [] ys none = (refl, none)
 both_empty (x ∷ xs) ys none = absurd (cc (none))
 
 -- what the writer learnt is steps without an entry
+abbrev like : Caller → Caller → Caller
+like old new = record new { pasts = old.pasts }
+
+abbrev grown : (steps : ℕ) (old new : Caller) → Learns steps old new → Grows steps [] old (like old new)
+grown steps old new learns = record {
+  table = learns.table;
+  number = learns.number;
+  between = learns.seen.rest;
+  seen = learns.seen.is ∙ sym (append-nil (old.seen ++ learns.seen.rest));
+  mine = learns.mine ∙ sym (append-nil old.mine);
+  legal = learns.legal;
+  own = learns.own;
+  callers = learns.callers;
+  steps_made = learns.steps_made;
+  pasts = refl;
+  loaded_ahead = learns.loaded_ahead;
+}
+
 pub learnt : (steps : ℕ) (old new : Caller) → Rested old → Learns steps old new → Stayed old new
 learnt steps old new rested learns =
-    let like : Caller = record new { pasts = old.pasts } in
-    let grows : Grows steps [] old like = record {
-      table = learns.table;
-      number = learns.number;
-      between = learns.seen.rest;
-      seen = learns.seen.is ∙ sym (append-nil (old.seen ++ learns.seen.rest));
-      mine = learns.mine ∙ sym (append-nil old.mine);
-      legal = learns.legal;
-      own = learns.own;
-      callers = learns.callers;
-      steps_made = learns.steps_made;
-      pasts = refl;
-      loaded_ahead = learns.loaded_ahead;
-    } in let on = stayed steps old like rested grows in record {
+    let on = stayed steps old (like old new) rested (grown steps old new learns) in record {
       rested = record {
         number = on.rested.number;
         sound = record
@@ -82,22 +87,8 @@ learnt_tied steps w a w' c tied learns =
 none_learnt : (steps : ℕ) (old new : Caller) → Rested old → (learns : Learns steps old new)
     → entries_of learns.seen.rest 0 ≡ []
 none_learnt steps old new rested learns =
-    let like : Caller = record new { pasts = old.pasts } in
-    let grows : Grows steps [] old like = record {
-      table = learns.table;
-      number = learns.number;
-      between = learns.seen.rest;
-      seen = learns.seen.is ∙ sym (append-nil (old.seen ++ learns.seen.rest));
-      mine = learns.mine ∙ sym (append-nil old.mine);
-      legal = learns.legal;
-      own = learns.own;
-      callers = learns.callers;
-      steps_made = learns.steps_made;
-      pasts = refl;
-      loaded_ahead = learns.loaded_ahead;
-    } in
     ap (entries_of learns.seen.rest) (sym rested.number)
-    ∙ none_between steps old [] like rested.sound.own refl grows
+    ∙ none_between steps old [] (like old new) rested.sound.own refl (grown steps old new learns)
 
 hole_or_asked : (state : KeyState) → Agrees 0 state → (n : ℕ) × ((state ≡ Hole n) ⊎ (state ≡ Asked n))
 hole_or_asked (Hole n) agrees = (n, inl refl)
@@ -129,14 +120,15 @@ asked_still n was now is still = ⊎_elim
     still
 
 module _ (way : ℕ) (a w a' w' : Caller) (rested : Rested w) (asks : AsksWay way a w a' w') where
+  stepped : Rested (with_step w)
+  stepped = record {
+    number = rested.number;
+    sound = record { legal = rested.sound.legal; own = rested.sound.own; callers = rested.sound.callers };
+    tidy = rested.tidy;
+  }
+
   pub asks_stays : Stayed w w'
-  asks_stays = let went = learnt 1 (with_step w) w'
-      (record {
-        number = rested.number;
-        sound = record
-            { legal = rested.sound.legal; own = rested.sound.own; callers = rested.sound.callers };
-        tidy = rested.tidy;
-      }) asks.hears.learns in
+  asks_stays = let went = learnt 1 (with_step w) w' stepped asks.hears.learns in
       record { rested = went.rested; still = went.still }
 
   -- the entries that the writer learnt: some, the request, and some
@@ -165,11 +157,6 @@ module _ (way : ℕ) (a w a' w' : Caller) (rested : Rested w) (asks : AsksWay wa
       let r : List Entry = (asks.meets.seen.rest ++ asks.asks.between) in
       let e : List Entry = entry asks.met.number (Ask way) asks.answer ∷ [] in
       let last : List Entry = asks.hears.seen.rest in
-      let stepped : Rested (with_step w) = record {
-        number = rested.number;
-        sound = record { legal = rested.sound.legal; own = rested.sound.own; callers = rested.sound.callers };
-        tidy = rested.tidy;
-      } in
       let none : entries_of ((r ++ e) ++ last) 0 ≡ [] = ap (λ (l : List Entry). entries_of l 0) (sym parts)
       ∙ none_learnt 1 (with_step w) w' stepped asks.hears.learns in
       let split = both_empty (entries_of (r ++ e) 0) (entries_of last 0) (sym (of-append 0 (r ++ e) last) ∙ none) in

@@ -211,95 +211,65 @@ changed : (ids : PartialIds) (call : IdCall) (left : Option (List Row))
 changed ids call left is = λ i. record { bound = ids.bound; rows_of = with_id ids.rows_of (id_of call) (sym is i) }
 
 module _ (map : PartialMap) (ids : PartialIds) (caller : ℕ) (call : Call) (shows : TellsIds map ids)
-    (near : call_key call < length map.states) where
+    (near : call_key call < length map.states) (s : KeyState) (is : state_of map (call_key call) ≡ s) where
   abbrev key : ℕ
   key = call_key call
 
-  abbrev state : KeyState
-  state = state_of map key
-
   abbrev new : KeyState
-  new = state_after map.bound call state
+  new = state_after map.bound call s
 
   abbrev now : PartialMap
   now = next map call
 
   is_new : state_of now key ≡ new
-  is_new = state_of-next_same map call near
+  is_new = state_of-next_same map call near ∙ ap (state_after map.bound call) is
 
   others : (k : ℕ) → key ≢ k → set_at now k ≡ set_at map k
   others k differs = ap id_set_of (state_of-next_other map k call differs)
 
   -- each key is tagged after it
   tagged_on : Tagged new → AllTagged now
-  tagged_on tagged k number rows is = ⊎_elim
-      (λ (same : key ≡ k). tagged number rows (sym is_new ∙ ap (state_of now) same ∙ is))
-      (λ (differs : key ≢ k). shows.tagged k number rows (sym (state_of-next_other map k call differs) ∙ is))
+  tagged_on tagged k number rows there = ⊎_elim
+      (λ (same : key ≡ k). tagged number rows (sym is_new ∙ ap (state_of now) same ∙ there))
+      (λ (differs : key ≢ k). shows.tagged k number rows (sym (state_of-next_other map k call differs) ∙ there))
       (cases_eq key k)
 
   -- the key's set stays
-  stays_so : id_set_of new ≡ id_set_of state → Tagged new → TellsIds now ids
-  stays_so same tagged = shows_of now ids shows.bound (tagged_on tagged)
+  stays_by : id_set_of new ≡ id_set_of s → Tagged new → TellsIds now ids
+  stays_by same tagged = shows_of now ids shows.bound (tagged_on tagged)
       (stay_matches (set_at map) (set_at now) ids.rows_of key (matches_of map ids shows) others
-      (ap id_set_of is_new ∙ same))
+      (ap id_set_of is_new ∙ same ∙ ap id_set_of (sym is)))
 
   -- the key gets a set of an id that no other key has
-  puts_so : (set : IdSet) → id_set_of new ≡ Some set → Tagged new →
-      ((k : ℕ) (t : IdSet) → key ≢ k → set_at map k ≡ Some t → t.id ≢ set.id)
-      → ((t : IdSet) → set_at map key ≡ Some t → t.id ≡ set.id)
+  puts_by : (set : IdSet) → id_set_of new ≡ Some set → Tagged new
+      → ((k : ℕ) (t : IdSet) → key ≢ k → set_at map k ≡ Some t → t.id ≢ set.id)
+      → ((t : IdSet) → id_set_of s ≡ Some t → t.id ≡ set.id)
       → TellsIds now (record { bound = ids.bound; rows_of = with_id ids.rows_of set.id (Some set.rows) })
-  puts_so set is tagged free kept =
+  puts_by set new_is tagged free kept =
       shows_of now (record { bound = ids.bound; rows_of = with_id ids.rows_of set.id (Some set.rows) })
       shows.bound (tagged_on tagged)
       (put_matches (set_at map) (set_at now) ids.rows_of key (matches_of map ids shows) others set
-      (ap id_set_of is_new ∙ is) free kept)
+      (ap id_set_of is_new ∙ new_is) free (λ t e. kept t (ap id_set_of (sym is) ∙ e)))
 
   -- the key's set goes
-  takes_so : (set : IdSet) → id_set_of state ≡ Some set → id_set_of new ≡ None → Tagged new →
-      TellsIds now (record { bound = ids.bound; rows_of = with_id ids.rows_of set.id None })
-  takes_so set was gone tagged =
+  takes_by : (set : IdSet) → id_set_of s ≡ Some set → id_set_of new ≡ None → Tagged new
+      → TellsIds now (record { bound = ids.bound; rows_of = with_id ids.rows_of set.id None })
+  takes_by set was gone tagged =
       shows_of now (record { bound = ids.bound; rows_of = with_id ids.rows_of set.id None }) shows.bound
       (tagged_on tagged)
-      (take_matches (set_at map) (set_at now) ids.rows_of key (matches_of map ids shows) others set was
-      (ap id_set_of is_new ∙ gone))
+      (take_matches (set_at map) (set_at now) ids.rows_of key (matches_of map ids shows) others set
+      (ap id_set_of is ∙ was) (ap id_set_of is_new ∙ gone))
 
-  -- the same by the state that the key had
-  module _ (s : KeyState) (is : state ≡ s) where
-    stays_by : id_set_of (state_after map.bound call s) ≡ id_set_of s → Tagged (state_after map.bound call s)
-        → TellsIds now ids
-    stays_by =
-        subst
-        (λ (x : KeyState). id_set_of (state_after map.bound call x) ≡ id_set_of x
-        → Tagged (state_after map.bound call x) →
-        TellsIds now ids) is stays_so
+  -- no other key has the id of the key's set
+  alone : (set : IdSet) → id_set_of s ≡ Some set → (k : ℕ) (t : IdSet) → key ≢ k → set_at map k ≡ Some t
+      → t.id ≢ set.id
+  alone set was k t differs there same = differs (shows.one key k set t (ap id_set_of is ∙ was) there (sym same))
 
-    puts_by : (set : IdSet) → id_set_of (state_after map.bound call s) ≡ Some set
-        → Tagged (state_after map.bound call s) →
-        ((k : ℕ) (t : IdSet) → key ≢ k → set_at map k ≡ Some t → t.id ≢ set.id)
-        → ((t : IdSet) → id_set_of s ≡ Some t → t.id ≡ set.id)
-        → TellsIds now (record { bound = ids.bound; rows_of = with_id ids.rows_of set.id (Some set.rows) })
-    puts_by set new_is tagged free kept =
-        puts_so set (ap (λ (x : KeyState). id_set_of (state_after map.bound call x)) is ∙ new_is)
-        (subst (λ (x : KeyState). Tagged (state_after map.bound call x)) (sym is) tagged) free
-        (λ t e. kept t (ap id_set_of (sym is) ∙ e))
+  had : (set : IdSet) → id_set_of s ≡ Some set → ids.rows_of set.id ≡ Some set.rows
+  had set was = shows.present key set (ap id_set_of is ∙ was)
 
-    takes_by : (set : IdSet) → id_set_of s ≡ Some set → id_set_of (state_after map.bound call s) ≡ None →
-        Tagged (state_after map.bound call s)
-        → TellsIds now (record { bound = ids.bound; rows_of = with_id ids.rows_of set.id None })
-    takes_by set was gone tagged = takes_so set (ap id_set_of is ∙ was)
-        (ap (λ (x : KeyState). id_set_of (state_after map.bound call x)) is ∙ gone)
-        (subst (λ (x : KeyState). Tagged (state_after map.bound call x)) (sym is) tagged)
-
-    -- no other key has the id of the key's set
-    alone : (set : IdSet) → id_set_of s ≡ Some set → (k : ℕ) (t : IdSet) → key ≢ k → set_at map k ≡ Some t
-        → t.id ≢ set.id
-    alone set was k t differs there same = differs (shows.one key k set t (ap id_set_of is ∙ was) there (sym same))
-
-    had : (set : IdSet) → id_set_of s ≡ Some set → ids.rows_of set.id ≡ Some set.rows
-    had set was = shows.present key set (ap id_set_of is ∙ was)
-
-    its_tag : Tagged s
-    its_tag n rows e = shows.tagged key n rows (is ∙ e)
+  its_tag : Tagged s
+  its_tag n rows e = shows.tagged key n rows (is ∙ e)
 
 -- what a step shows, by the state that its key had
 abbrev Steps : PartialMap → PartialIds → ℕ → Call → KeyState → Type 0

@@ -11,7 +11,8 @@ use Rattle.nr_model.specs.declared.calls.Reply.{Reply}
 use Rattle.nr_model.specs.declared.calls.Reply.TheVariants as reply
 use Rattle.nr_model.specs.declared.states.KeyState.{KeyState}
 use Rattle.nr_model.specs.declared.states.KeyState.TheVariants.{Hole, Asked, Rows}
-use Rattle.nr_model.specs.Maps.{cancel_reply, cancelled, evict_reply, evicted, fill_reply, number_of, state_of}
+use Rattle.nr_model.specs.Maps.{call_key, cancel_reply, cancelled, evict_reply, evicted, fill_reply, number_of}
+use Rattle.nr_model.specs.Maps.{state_after, state_of}
 use Rattle.nr_core.specs.declared.calls.NoSlot.{NoSlot}
 use Rattle.nr_board.specs.declared.answers.Cancel.TheVariants as cancel
 use Rattle.nr_board.specs.declared.answers.Evict.TheVariants as evict
@@ -32,7 +33,7 @@ use Rattle.nr_ids.proofs.Logs.{cond_else, cond_same, one_way}
 use Rattle.nr_idmap.specs.IdWrites.{FillsOwed, LacksForOwed, WithdrawsOwed, WornOwed}
 use Rattle.nr_idmap.specs.Keepers.{Agrees, ClosesOne, IsTied, Owed, OwesSame, keeper_of, owed_at, owed_for}
 use Rattle.nr_idmap.specs.Tags.{AreIdDeltas, tag_of}
-use Rattle.nr_idmap.proofs.Entries.{Went, stayed, went}
+use Rattle.nr_idmap.proofs.Entries.{Rested, Went, stayed, went}
 use Rattle.nr_idmap.proofs.LedgerLaws.{owed_tells}
 use Rattle.nr_idmap.proofs.Stills.{IsStill}
 use Rattle.nr_idmap.proofs.Ties.{Tagged, fill_agrees, fill_done, fill_keeps, fill_leaves, fill_puts, found_looks}
@@ -180,26 +181,50 @@ module _ (w a w' : Caller) (c c' : Token) (tied : IsTied (keeper_of w a c)) (id 
         stayed_owes w a w' c c' tied stays names a,
       )
 
+  -- the call's entry was made: what it leaves of its key must agree with the name, and owe what was owed
+  module _ (call : Call) (answer : Reply) (go : Went w w' call answer) where
+    abbrev name : ℕ
+    name = name_of c.seen (call_key call)
+
+    abbrev before : KeyState
+    before = state_of go.mid (call_key call)
+
+    abbrev after : KeyState
+    after = state_after go.mid.bound call before
+
+    agree : (k : ℕ) → Agrees (name_of c.seen k) (state_of go.mid k)
+    agree = mid_agrees w a w' c c' call answer tied go (λ k _. names k)
+
+    tied_after : Rested w' → w'.table ≡ w.table → Agrees name after → IsTied (keeper_of w' a c')
+    tied_after rested table agrees =
+        let look = found_looks id c c' (Some way) finds in let key : ℕ = call_key call in
+        retied w a w' a c c' (looks look.0 c.number) tied rested table (refl, tied.asks.1) look.1
+        (went_agrees w a w' c c' call answer tied go (λ k _. names k)
+        (subst (λ (n : ℕ). Agrees n (state_of (map_seen w') key)) (sym (names key))
+        (subst (Agrees name) (sym go.at_key) agrees)))
+
+    owes_after : owed_for (call_key call) name after ≡ owed_for (call_key call) name before
+        → OwesSame (keeper_of w a c) (keeper_of w' a c')
+    owes_after same = let key : ℕ = call_key call in
+        went_owes w a w' c c' call answer tied go (λ k _. names k) a
+        (ap (λ (n : ℕ). owed_for key n (state_of (map_seen w') key)) (names key) ∙ ap (owed_for key name) go.at_key
+        ∙ same ∙ mid_owes w a w' c c' call answer tied go (λ k _. names k))
+
+    untouched : Rested w' → w'.table ≡ w.table → after ≡ before → Left
+    untouched rested table stays = (
+      tied_after rested table (subst (Agrees name) (sym stays) (agree (call_key call))),
+      owes_after (ap (owed_for (call_key call) name) stays),
+    )
+
   pub update_entry : (steps : ℕ) (batch : List Delta) (answer : Reply) → AreIdDeltas batch
-      → Gains steps (Update way batch) w w' answer →
-      Left
+      → Gains steps (Update way batch) w w' answer → Left
   update_entry steps batch answer users gains =
       let call : Call = Update way batch in let go = went steps w w' call answer (rested_of w a c tied) gains near in
-      let look = found_looks id c c' (Some way) finds in
-      let same = λ (k : ℕ) (_ : k ≢ way). names k in
-      let s : KeyState = state_of go.mid way in
-      let name : ℕ = name_of c.seen way in
-      let room : 0 < go.mid.bound = subst (λ (b : ℕ). 0 < b) (sym go.bound) tied.room in
-      let here : Agrees (name_of c'.seen way) (state_of (map_seen w') way)
-      = subst (λ (n : ℕ). Agrees n (state_of (map_seen w') way))
-      (sym (names way))
-      (subst (Agrees name) (sym go.at_key)
-      (update_agrees name go.mid.bound batch s room users (mid_agrees w a w' c c' call answer tied go same way))) in (
-        retied w a w' a c c' (looks look.0 c.number) tied (go.rested users) gains.table (refl, tied.asks.1) look.1
-            (went_agrees w a w' c c' call answer tied go same here),
-        went_owes w a w' c c' call answer tied go same a
-            (ap (λ (n : ℕ). owed_for way n (state_of (map_seen w') way)) (names way) ∙ ap (owed_for way name) go.at_key
-            ∙ update_owes way name go.mid.bound batch s ∙ mid_owes w a w' c c' call answer tied go same),
+      let room : 0 < go.mid.bound = subst (λ (b : ℕ). 0 < b) (sym go.bound) tied.room in (
+        tied_after call answer go (go.rested users) gains.table
+            (update_agrees (name_of c.seen way) go.mid.bound batch (state_of go.mid way) room users
+            (agree call answer go way)),
+        owes_after call answer go (update_owes way (name_of c.seen way) go.mid.bound batch (state_of go.mid way)),
       )
 
   pub update_left : (bound : ℕ) (batch : List Delta) (r : Result (Unit {0}) UpdateFault) → AreIdDeltas batch →
@@ -222,25 +247,14 @@ module _ (w a w' : Caller) (c c' : Token) (tied : IsTied (keeper_of w a c)) (id 
     replace_entry steps answer real gains =
         let call : Call = Replace way (tag_of id ∷ rows) in
         let go = went steps w w' call answer (rested_of w a c tied) gains near in
-        let look = found_looks id c c' (Some way) finds in
-        let same = λ (k : ℕ) (_ : k ≢ way). names k in
-        let s : KeyState = state_of go.mid way in
-        let name : ℕ = name_of c.seen way in
-        let agree = mid_agrees w a w' c c' call answer tied go same in
-        let here : Agrees (name_of c'.seen way) (state_of (map_seen w') way)
-        = subst (λ (n : ℕ). Agrees n (state_of (map_seen w') way))
-        (sym (names way))
-        (subst (Agrees name) (sym go.at_key) (replace_agrees name (tag_of id ∷ rows) s (tagged real) (agree way))) in (
-          retied w a w' a c c' (looks look.0 c.number) tied
+        let agrees = agree call answer go in (
+          tied_after call answer go
               (go.rested
-              (replace_keeps c.directory.plan c.seen tied.legal go.mid agree way (tag_of id ∷ rows) (tagged real)
-              answer))
-              gains.table (refl, tied.asks.1) look.1
-              (went_agrees w a w' c c' call answer tied go same here),
-          went_owes w a w' c c' call answer tied go same a
-              (ap (λ (n : ℕ). owed_for way n (state_of (map_seen w') way)) (names way)
-              ∙ ap (owed_for way name) go.at_key
-              ∙ replace_owes way name (tag_of id ∷ rows) s ∙ mid_owes w a w' c c' call answer tied go same),
+              (replace_keeps c.directory.plan c.seen tied.legal go.mid agrees way (tag_of id ∷ rows) (tagged real)
+              answer)) gains.table
+              (replace_agrees (name_of c.seen way) (tag_of id ∷ rows) (state_of go.mid way) (tagged real) (agrees way)),
+          owes_after call answer go
+              (replace_owes way (name_of c.seen way) (tag_of id ∷ rows) (state_of go.mid way)),
         )
 
     pub replace_left : (r : Result (Unit {0}) ReplaceFault) → 0 < id → ReplacesKey way (tag_of id ∷ rows) w w' r → Left
@@ -260,21 +274,13 @@ module _ (w a w' : Caller) (c c' : Token) (tied : IsTied (keeper_of w a c)) (id 
           → IsTied (keeper_of w' a c')
       fill_entry steps answer real gains =
           let go = went steps w w' fills answer (rested_of w a c tied) gains near in
-          let look = found_looks id c c' (Some way) finds in
-          let same = λ (k : ℕ) (_ : k ≢ way). names k in let name : ℕ = name_of c.seen way in
-          let agree = mid_agrees w a w' c c' fills answer tied go same in
-          let here : Agrees (name_of c'.seen way) (state_of (map_seen w') way)
-          = subst (λ (n : ℕ). Agrees n (state_of (map_seen w') way))
-          (sym (names way))
-          (subst (Agrees name) (sym go.at_key)
-          (fill_agrees name number (tag_of id ∷ rows) (state_of go.mid way) (tagged real) (agree way)))
-          in
-          retied w a w' a c c' (looks look.0 c.number) tied
+          let agrees = agree fills answer go in
+          tied_after fills answer go
           (go.rested
-          (fill_keeps c.directory.plan c.seen tied.legal go.mid agree way (tag_of id ∷ rows) (tagged real) number
-          answer
-          go.replied)) gains.table (refl, tied.asks.1) look.1
-          (went_agrees w a w' c c' fills answer tied go same here)
+          (fill_keeps c.directory.plan c.seen tied.legal go.mid agrees way (tag_of id ∷ rows)
+          (tagged real) number answer
+          go.replied)) gains.table
+          (fill_agrees (name_of c.seen way) number (tag_of id ∷ rows) (state_of go.mid way) (tagged real) (agrees way))
 
       pub fill_tied : (r : Result (Unit {0}) FillFault) → 0 < id → FillsKey way number (tag_of id ∷ rows) w w' r →
           IsTied (keeper_of w' a c')
@@ -314,18 +320,15 @@ module _ (w a w' : Caller) (c c' : Token) (tied : IsTied (keeper_of w a c)) (id 
           OwesSame (keeper_of w a c) (keeper_of w' a c')
       fill_undone steps answer undone gains =
           let go = went steps w w' fills answer (rested_of w a c tied) gains near in
-          let same = λ (k : ℕ) (_ : k ≢ way). names k in let s : KeyState = state_of go.mid way in
-          let stays : state_of (map_seen w') way ≡ s = go.at_key
-          ∙ fill_leaves number (tag_of id ∷ rows) s (λ done. undone (go.replied ∙ done)) in (
+          let s : KeyState = state_of go.mid way in (
             λ is. let tells = owed_tells way (name_of c.seen way) (state_of (map_seen w) way)
                 (record { way = way; number = number; id = id }) is in
                 let now : s ≡ Asked number
                 = still_asked number s (subst (λ (x : KeyState). IsStill x s) tells.3 (go.still way)) in
                 undone (go.replied ∙ done_by s now),
-            went_owes w a w' c c' fills answer tied go same a
-                (ap (λ (n : ℕ). owed_for way n (state_of (map_seen w') way)) (names way)
-                ∙ ap (owed_for way (name_of c.seen way)) stays
-                ∙ mid_owes w a w' c c' fills answer tied go same),
+            owes_after fills answer go
+                (ap (owed_for way (name_of c.seen way))
+                (fill_leaves number (tag_of id ∷ rows) s (λ done. undone (go.replied ∙ done)))),
           )
         where
           done_by : (s : KeyState) → s ≡ Asked number → fill_reply number s ≡ reply.Done
@@ -359,43 +362,13 @@ module _ (w a w' : Caller) (c c' : Token) (tied : IsTied (keeper_of w a c)) (id 
 
   -- AN EVICTION AND A CANCEL THAT DO NOTHING
   pub evict_nothing : EvictsKey way w w' evict.Nothing → Left
-  evict_nothing h =
-      let gains = h.0 in
-      let call : Call = Evict way in
-      let go = went 1 w w' call reply.Nothing (rested_of w a c tied) gains near in
-      let look = found_looks id c c' (Some way) finds in
-      let same = λ (k : ℕ) (_ : k ≢ way). names k in
-      let s : KeyState = state_of go.mid way in
-      let name : ℕ = name_of c.seen way in
-      let stays : state_of (map_seen w') way ≡ s = go.at_key ∙ evict_leaves s go.replied in
-      let here : Agrees (name_of c'.seen way) (state_of (map_seen w') way)
-      = subst (λ (n : ℕ). Agrees n (state_of (map_seen w') way))
-      (sym (names way))
-      (subst (Agrees name) (sym stays) (mid_agrees w a w' c c' call reply.Nothing tied go same way)) in (
-        retied w a w' a c c' (looks look.0 c.number) tied (go.rested tt) gains.table (refl, tied.asks.1) look.1
-            (went_agrees w a w' c c' call reply.Nothing tied go same here),
-        went_owes w a w' c c' call reply.Nothing tied go same a
-            (ap (λ (n : ℕ). owed_for way n (state_of (map_seen w') way)) (names way) ∙ ap (owed_for way name) stays
-            ∙ mid_owes w a w' c c' call reply.Nothing tied go same),
-      )
+  evict_nothing h = let go = went 1 w w' (Evict way) reply.Nothing (rested_of w a c tied) h.0 near in
+      untouched (Evict way) reply.Nothing go (go.rested tt) h.0.table (evict_leaves (state_of go.mid way) go.replied)
 
   cancel_entry : (answer : Reply) → answer ≢ reply.Cancelled → (gains : Gains 1 (Cancel way) w w' answer) → Left
-  cancel_entry answer undone gains =
-      let call : Call = Cancel way in let go = went 1 w w' call answer (rested_of w a c tied) gains near in
-      let look = found_looks id c c' (Some way) finds in
-      let same = λ (k : ℕ) (_ : k ≢ way). names k in
-      let s : KeyState = state_of go.mid way in
-      let name : ℕ = name_of c.seen way in
-      let stays : state_of (map_seen w') way ≡ s = go.at_key ∙ cancel_leaves s (λ done. undone (go.replied ∙ done)) in
-      let here : Agrees (name_of c'.seen way) (state_of (map_seen w') way)
-      = subst (λ (n : ℕ). Agrees n (state_of (map_seen w') way))
-      (sym (names way)) (subst (Agrees name) (sym stays) (mid_agrees w a w' c c' call answer tied go same way)) in (
-        retied w a w' a c c' (looks look.0 c.number) tied (go.rested tt) gains.table (refl, tied.asks.1) look.1
-            (went_agrees w a w' c c' call answer tied go same here),
-        went_owes w a w' c c' call answer tied go same a
-            (ap (λ (n : ℕ). owed_for way n (state_of (map_seen w') way)) (names way) ∙ ap (owed_for way name) stays
-            ∙ mid_owes w a w' c c' call answer tied go same),
-      )
+  cancel_entry answer undone gains = let go = went 1 w w' (Cancel way) answer (rested_of w a c tied) gains near in
+      untouched (Cancel way) answer go (go.rested tt) gains.table
+      (cancel_leaves (state_of go.mid way) (λ done. undone (go.replied ∙ done)))
 
   pub cancel_nothing : CancelsKey way w w' cancel.Nothing
       → Left × ((owed : Owed) → owed_at (keeper_of w a c) way ≢ Some owed)
@@ -443,16 +416,27 @@ module _ (w a w' : Caller) (c c' : Token) (tied : IsTied (keeper_of w a c)) (id 
 -- CALLS AFTER WHICH THE NAME IS TAKEN
 module _ (w a w' : Caller) (c mid new : Token) (tied : IsTied (keeper_of w a c)) (id way : ℕ) (real : 0 < id)
     (finds : FindsWay id c mid (Some way)) (near : way < w.table.shape.keys) (unnames : Unnames way mid new) where
-  untied : (call : Call) (answer : Reply) (go : Went w w' call answer) → Agrees 0 (state_of (map_seen w') way) →
-      Agrees (name_of new.seen way) (state_of (map_seen w') way)
-  untied call answer go agrees = subst (λ (n : ℕ). Agrees n (state_of (map_seen w') way))
-      (sym (taken w a c mid new tied id way finds unnames)) agrees
+  tied_off : (call : Call) (answer : Reply) (go : Went w w' call answer)
+      → ((k : ℕ) → k ≢ call_key call → name_of new.seen k ≡ name_of c.seen k) → name_of new.seen (call_key call) ≡ 0
+      → Rested w' → w'.table ≡ w.table → Agrees 0 (state_after go.mid.bound call (state_of go.mid (call_key call)))
+      → IsTied (keeper_of w' a new)
+  tied_off call answer go others none rested table agrees =
+      let look = found_looks id c mid (Some way) finds in
+      retied w a w' a c new (unnaming way mid unnames.hints ++ looks look.0 c.number) tied rested table
+      (refl, tied.asks.1)
+      (grows_on c mid new (looks look.0 c.number) (unnaming way mid unnames.hints) look.1 unnames.grows)
+      (went_agrees w a w' c new call answer tied go others
+      (subst (λ (n : ℕ). Agrees n (state_of (map_seen w') (call_key call))) (sym none)
+      (subst (Agrees 0) (sym go.at_key) agrees)))
+
+  none : name_of new.seen way ≡ 0
+  none = taken w a c mid new tied id way finds unnames
 
   abbrev gone : (k : ℕ) → k ≢ way → name_of new.seen k ≡ name_of c.seen k
   gone = left w a c mid new tied id way finds unnames
 
   unowed : owed_for way (name_of new.seen way) (state_of (map_seen w') way) ≡ None
-  unowed = ap (λ (n : ℕ). owed_for way n (state_of (map_seen w') way)) (taken w a c mid new tied id way finds unnames)
+  unowed = ap (λ (n : ℕ). owed_for way n (state_of (map_seen w') way)) none
 
   pub evicted_way : EvictsKey way w w' evict.Evicted
       → IsTied (keeper_of w' a new) × OwesSame (keeper_of w a c) (keeper_of w' a new)
@@ -460,13 +444,8 @@ module _ (w a w' : Caller) (c mid new : Token) (tied : IsTied (keeper_of w a c))
       let gains = h.0 in
       let call : Call = Evict way in
       let go = went 2 w w' call reply.Evicted (rested_of w a c tied) gains near in
-      let look = found_looks id c mid (Some way) finds in
       let s : KeyState = state_of go.mid way in (
-        retied w a w' a c new (unnaming way mid unnames.hints ++ looks look.0 c.number) tied (go.rested tt) gains.table
-            (refl, tied.asks.1)
-            (grows_on c mid new (looks look.0 c.number) (unnaming way mid unnames.hints) look.1 unnames.grows)
-            (went_agrees w a w' c new call reply.Evicted tied go gone
-            (untied call reply.Evicted go (subst (Agrees 0) (sym go.at_key) (evict_agrees s)))),
+        tied_off call reply.Evicted go gone none (go.rested tt) gains.table (evict_agrees s),
         went_owes w a w' c new call reply.Evicted tied go gone a
             (unowed ∙ sym (evict_owed way (name_of c.seen way) s go.replied)
             ∙ mid_owes w a w' c new call reply.Evicted tied go gone),
@@ -479,14 +458,9 @@ module _ (w a w' : Caller) (c mid new : Token) (tied : IsTied (keeper_of w a c))
   withdrawn_way number is h =
       let gains = h.0 in
       let call : Call = Cancel way in
-      let go = went 2 w w' call reply.Cancelled (rested_of w a c tied) gains near in
-      let look = found_looks id c mid (Some way) finds in
-      let s : KeyState = state_of go.mid way in (
-        retied w a w' a c new (unnaming way mid unnames.hints ++ looks look.0 c.number) tied (go.rested tt) gains.table
-            (refl, tied.asks.1)
-            (grows_on c mid new (looks look.0 c.number) (unnaming way mid unnames.hints) look.1 unnames.grows)
-            (went_agrees w a w' c new call reply.Cancelled tied go gone
-            (untied call reply.Cancelled go (subst (Agrees 0) (sym go.at_key) (cancel_agrees s go.replied)))),
+      let go = went 2 w w' call reply.Cancelled (rested_of w a c tied) gains near in (
+        tied_off call reply.Cancelled go gone none (go.rested tt) gains.table
+            (cancel_agrees (state_of go.mid way) go.replied),
         record {
           mid = mid;
           finds = finds;

@@ -20,8 +20,8 @@ use Rattle.nr_idmap.proofs.id_map.IdMap.fill.Goals.{in-Ok, in-Err-NoSlot, in-Err
 
 pub invariant_of-writer : goal.invariant_of-writer
 invariant_of-writer c =
-    (searched c.writer.inside.writer c.writer.inside.asker c.writer.inside.clerk c.way_of.new.clerk c.writer.invariant
-    c.into_parts-way.result.2 c.into_parts-way.ensures.id c.way_of.result c.way_of.ensures.answer).0
+    (searched _ _ _ _ c.writer.invariant c.into_parts-way.result.2 c.into_parts-way.ensures.id _
+    c.way_of.ensures.answer).0
 
 -- a fill of the way by those numbers that the map refused
 abbrev Refused : Owed → List Row → Caller → Caller → Type 0
@@ -111,21 +111,12 @@ returns-clause-fills c =
                 c.args.rows.now number
                 v.in-Err-NoSlot.counts c.into_parts-way.ensures.id
                 (put c (Err (fill.NoSlot v.in-Err-NoSlot.counts))
-                (subst
-                (λ (why : FillFault). FillsKey way number c.as_slice.result.now writer c.fill_rows.new.writer
-                (Err why))
-                v.in-Err-NoSlot.field-0-is v.in-Err-NoSlot.ensures)),
+                (rw v.in-Err-NoSlot.field-0-is at v.in-Err-NoSlot.ensures)),
           ))
       | in-Err-NotAsked v ↦ closed fill.NotAsked (λ counts e. absurd (cc (e)))
-          (subst
-          (λ (why : FillFault). FillsKey way number c.as_slice.result.now writer c.fill_rows.new.writer (Err why))
-          v.in-Err-NotAsked.field-0-is v.in-Err-NotAsked.ensures) v.result-is
+          (rw v.in-Err-NotAsked.field-0-is at v.in-Err-NotAsked.ensures) v.result-is
       | in-Err-Already v ↦ closed fill.Already (λ counts e. absurd (cc (e)))
-          (subst
-          (λ (why : FillFault). FillsKey way number c.as_slice.result.now writer c.fill_rows.new.writer (Err why))
-          v.in-Err-Already.field-0-is v.in-Err-Already.ensures) v.result-is
+          (rw v.in-Err-Already.field-0-is at v.in-Err-Already.ensures) v.result-is
       | in-Err-Stale v ↦ closed fill.Stale (λ counts e. absurd (cc (e)))
-          (subst
-          (λ (why : FillFault). FillsKey way number c.as_slice.result.now writer c.fill_rows.new.writer (Err why))
-          v.in-Err-Stale.field-0-is v.in-Err-Stale.ensures) v.result-is
+          (rw v.in-Err-Stale.field-0-is at v.in-Err-Stale.ensures) v.result-is
     ]

@@ -25,8 +25,8 @@ use Rattle.nr_idmap.proofs.id_map.IdMap.fill_reclaiming.Goals.{in-Err-Stale}
 
 pub invariant_of-writer : goal.invariant_of-writer
 invariant_of-writer g c =
-    (searched c.writer.inside.writer c.writer.inside.asker c.writer.inside.clerk c.way_of.new.clerk c.writer.invariant
-    c.into_parts-way.result.2 c.into_parts-way.ensures.id c.way_of.result c.way_of.ensures.answer).0
+    (searched _ _ _ _ c.writer.invariant c.into_parts-way.result.2 c.into_parts-way.ensures.id _
+    c.way_of.ensures.answer).0
 
 -- a fill of the way by those numbers that the map refused
 abbrev Refused : Owed → List Row → Caller → Caller → Type 0
@@ -139,12 +139,7 @@ returns-clause-fills g c =
           v.in-Ok.given
           (put g c (Ok v.in-Ok.given) v.in-Ok.ensures)) v.result-is
       | in-Err-NoSlot v ↦ let it = put g c (Err (fill.NoSlot v.in-Err-NoSlot.counts))
-          (subst
-          (λ (why : FillFault). FillsReclaiming g.R.RowRoom.shows c.into_parts-way.result.0
-          c.into_parts-way.result.1
-          c.as_slice.result.now c.writer.inside.writer c.args.had.now c.fill_reclaiming.new.writer
-          c.fill_reclaiming.new.had (Err why))
-          v.in-Err-NoSlot.field-0-is v.in-Err-NoSlot.ensures) in
+          (rw v.in-Err-NoSlot.field-0-is at v.in-Err-NoSlot.ensures) in
           so (Err (unfilled.NoSlot v.upquery.result v.in-Err-NoSlot.counts)) (
             (
               v.upquery.ensures ∙ ap (λ (t : IdTable). record { table = t; owed = owed })
@@ -158,24 +153,9 @@ returns-clause-fills g c =
             it.1,
           ) v.result-is
       | in-Err-NotAsked v ↦ closed fill.NotAsked (λ counts e. absurd (cc (e)))
-          (subst
-          (λ (why : FillFault). FillsReclaiming g.R.RowRoom.shows c.into_parts-way.result.0
-          c.into_parts-way.result.1
-          c.as_slice.result.now c.writer.inside.writer c.args.had.now c.fill_reclaiming.new.writer
-          c.fill_reclaiming.new.had (Err why))
-          v.in-Err-NotAsked.field-0-is v.in-Err-NotAsked.ensures) v.result-is
+          (rw v.in-Err-NotAsked.field-0-is at v.in-Err-NotAsked.ensures) v.result-is
       | in-Err-Already v ↦ closed fill.Already (λ counts e. absurd (cc (e)))
-          (subst
-          (λ (why : FillFault). FillsReclaiming g.R.RowRoom.shows c.into_parts-way.result.0
-          c.into_parts-way.result.1
-          c.as_slice.result.now c.writer.inside.writer c.args.had.now c.fill_reclaiming.new.writer
-          c.fill_reclaiming.new.had (Err why))
-          v.in-Err-Already.field-0-is v.in-Err-Already.ensures) v.result-is
+          (rw v.in-Err-Already.field-0-is at v.in-Err-Already.ensures) v.result-is
       | in-Err-Stale v ↦ closed fill.Stale (λ counts e. absurd (cc (e)))
-          (subst
-          (λ (why : FillFault). FillsReclaiming g.R.RowRoom.shows c.into_parts-way.result.0
-          c.into_parts-way.result.1
-          c.as_slice.result.now c.writer.inside.writer c.args.had.now c.fill_reclaiming.new.writer
-          c.fill_reclaiming.new.had (Err why))
-          v.in-Err-Stale.field-0-is v.in-Err-Stale.ensures) v.result-is
+          (rw v.in-Err-Stale.field-0-is at v.in-Err-Stale.ensures) v.result-is
     ]

@@ -15,17 +15,13 @@ use Rattle.nr_idmap.proofs.id_map.IdMap.replace_reclaiming.Goals.{in-Ok, in-Err}
 
 pub invariant_of-writer : goal.invariant_of-writer
 invariant_of-writer g c =
-    (searched c.writer.inside.writer c.writer.inside.asker c.writer.inside.clerk c.way_of.new.clerk c.writer.invariant
-    c.args.id
-    c.requires.id c.way_of.result c.way_of.ensures.answer).0
+    (searched _ _ _ _ c.writer.invariant c.args.id c.requires.id _ c.way_of.ensures.answer).0
 
 pub returns-in_default-clause-owes : goal.returns-in_default-clause-owes
 returns-in_default-clause-owes g c =
     owes_so c.writer.inside.writer c.writer.inside.asker c.writer.inside.clerk c.args.writer.now
     c.writer.view_is c.writer.inside.writer c.writer.inside.asker c.way_of.new.clerk
-    (searched c.writer.inside.writer c.writer.inside.asker c.writer.inside.clerk c.way_of.new.clerk c.writer.invariant
-    c.args.id
-    c.requires.id c.way_of.result c.way_of.ensures.answer).1
+    (searched _ _ _ _ c.writer.invariant c.args.id c.requires.id _ c.way_of.ensures.answer).1
 
 put : (g : given.Over) (c : goal.Joined-replace_reclaiming g) (r : Result Reclaimed ReplaceFault) →
     ReplacesReclaiming g.R.RowRoom.shows c.in-Some.way c.as_slice.result.now c.writer.inside.writer c.args.had.now

@@ -11,9 +11,7 @@ use Rattle.nr_idmap.proofs.id_map.IdMap.update.Goals.{in-Ok, in-Err}
 
 pub invariant_of-writer : goal.invariant_of-writer
 invariant_of-writer c =
-    (searched c.writer.inside.writer c.writer.inside.asker c.writer.inside.clerk c.way_of.new.clerk c.writer.invariant
-    c.args.id
-    c.requires.id c.way_of.result c.way_of.ensures.answer).0
+    (searched _ _ _ _ c.writer.invariant c.args.id c.requires.id _ c.way_of.ensures.answer).0
 
 pub returns-in_default-clause-owes : goal.returns-in_default-clause-owes
 returns-in_default-clause-owes c =

@@ -4,14 +4,10 @@ use Rattle.nr_idmap.proofs.id_map.IdMap.way_of.Goals as goal
 
 pub invariant_of-writer : goal.invariant_of-writer
 invariant_of-writer c =
-    (searched c.writer.inside.writer c.writer.inside.asker c.writer.inside.clerk c.way_of.new.clerk c.writer.invariant
-    c.args.id
-    c.requires.id c.way_of.result c.way_of.ensures.answer).0
+    (searched _ _ _ _ c.writer.invariant c.args.id c.requires.id _ c.way_of.ensures.answer).0
 
 pub returns-clause-stays : goal.returns-clause-stays
 returns-clause-stays c =
     stays_so c.writer.inside.writer c.writer.inside.asker c.writer.inside.clerk c.args.writer.now c.writer.view_is
     c.way_of.new.clerk
-    (searched c.writer.inside.writer c.writer.inside.asker c.writer.inside.clerk c.way_of.new.clerk c.writer.invariant
-    c.args.id
-    c.requires.id c.way_of.result c.way_of.ensures.answer).1
+    (searched _ _ _ _ c.writer.invariant c.args.id c.requires.id _ c.way_of.ensures.answer).1

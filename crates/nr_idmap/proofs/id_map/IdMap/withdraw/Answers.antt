@@ -20,8 +20,8 @@ Refused owed writer writer' = CancelsKey owed.way writer writer' cancel.Nothing
 
 pub invariant_of-writer : goal.invariant_of-writer
 invariant_of-writer c =
-    (searched c.writer.inside.writer c.writer.inside.asker c.writer.inside.clerk c.way_of.new.clerk c.writer.invariant
-    c.into_parts-way.result.2 c.into_parts-way.ensures.id c.way_of.result c.way_of.ensures.answer).0
+    (searched _ _ _ _ c.writer.invariant c.into_parts-way.result.2 c.into_parts-way.ensures.id _
+    c.way_of.ensures.answer).0
 
 pub returns-then-ne-clause-withdraws : goal.returns-then-ne-clause-withdraws
 returns-then-ne-clause-withdraws c =
@@ -37,8 +37,8 @@ returns-then-ne-clause-withdraws c =
 
 pub invariant_of-writer-then-number : goal.invariant_of-writer-then-number
 invariant_of-writer-then-number c =
-    (searched c.writer.inside.writer c.writer.inside.asker c.writer.inside.clerk c.way_of.new.clerk c.writer.invariant
-    c.into_parts-way.result.2 c.into_parts-way.ensures.id c.way_of.result c.way_of.ensures.answer).0
+    (searched _ _ _ _ c.writer.invariant c.into_parts-way.result.2 c.into_parts-way.ensures.id _
+    c.way_of.ensures.answer).0
 
 -- what is open for the way has the way's number
 other_number : (w a : Caller) (c : Token) (owed : Owed) → number_of (state_of (map_seen w) owed.way) ≢ owed.number →
