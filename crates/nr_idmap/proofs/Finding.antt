@@ -1,13 +1,11 @@
 -- What a find by id says, by what the map's find found in the id's way.
-use Rattle.std.proofs.Common.{◌≡◌, ◌*◌, ℕ, List, [], ◌∷◌, ap, sym, subst, Some, ◌∙◌, refl, None}
+use Rattle.std.proofs.Common.{◌≡◌, ℕ, List, [], ◌∷◌, ap, sym, subst, Some, ◌∙◌, refl, None}
 use Rattle.nr_model.specs.declared.rows.Row.{Row}
 use Rattle.nr_board.specs.Callers.{Caller}
 use Rattle.nr_map.specs.LoadsAhead.{LoadsKey, load_of, with_loads}
 use Rattle.nr_map.specs.Tagged.{FindsTagged}
 use Rattle.nr_map.specs.declared.tagged.Tagged.{Tagged}
 use Rattle.nr_map.specs.declared.tagged.Tagged.TheVariants as tagged
-use Rattle.nr_ids.specs.Groups.{group_of}
-use Rattle.nr_ids.specs.declared.plan.Plan.{Plan}
 use Rattle.nr_ids.specs.Tokens.{Token}
 use Rattle.nr_idmap.specs.declared.finds.FoundId.{FoundId}
 use Rattle.nr_idmap.specs.declared.finds.FoundId.TheVariants as found
@@ -34,11 +32,6 @@ finds_by_way shows id at old new looked before after found.Moved looks finds = (
   finds.4,
 )
 finds_by_way shows id at old new looked before after found.Absent looks finds = absurd finds
-
--- the first way of the id's group, by the plan of the directory
-pub line_is : (id first : ℕ) (plan : Plan) (ids : Token) → first ≡ 8 * group_of plan id → plan ≡ ids.directory.plan
-    → first ≡ line_of id ids
-line_is id first plan ids is same = is ∙ ap (λ (p : Plan). 8 * group_of p id) same
 
 -- a load of the line's word, by its key
 pub line_loaded : (id key : ℕ) (ids : Token) (old near : Caller) → key ≡ line_of id ids

@@ -1,11 +1,11 @@
-use Rattle.std.proofs.Common.{◌≡◌, refl, ap, subst, sym, ◌∙◌, List, Option, Some, None}
+use Rattle.std.proofs.Common.{rules, ◌≡◌, refl, ap, subst, sym, ◌∙◌, List, Option, Some, None}
 use Rattle.nr_model.specs.declared.rows.Row.{Row}
 use Rattle.nr_map.specs.Hands.{Handed}
+use Rattle.nr_idmap.specs.IdFinds.{line_of}
 use Rattle.nr_idmap.specs.declared.hands.Holding.{Holding}
 use Rattle.nr_idmap.specs.IdHands.{IdHanded, IsIdHand, id_held, reader_of}
-use Rattle.nr_idmap.specs.Keepers.{IdTable}
 use Rattle.nr_map.specs.LoadsAhead.{LoadsKey}
-use Rattle.nr_idmap.proofs.Finding.{finds_absent, finds_by_id, finds_inside, line_is}
+use Rattle.nr_idmap.proofs.Finding.{finds_absent, finds_by_id, finds_inside}
 use Rattle.nr_idmap.proofs.hands.IdHand.find.Goals as goal
 
 -- a hand that holds no id's set holds none of the map
@@ -18,10 +18,7 @@ pub returns-clause-finds : goal.returns-clause-finds
 returns-clause-finds g c =
     let own : IdHanded
     = record { hand = c.self.inside.hand; ids = c.self.inside.ids; id = id_held c.self.inside.held } in
-    let line
-    = line_is c.args.id c.first_way-first.result c.plan.result.now own.ids c.first_way-first.ensures.value
-    (c.plan.ensures.value ∙ ap (λ (t : IdTable). t.directory.plan) (c.map.view_is ∙ sym c.requires.own)
-    ∙ sym (ap (λ (h : IdHanded). h.ids.directory.plan) c.self.view_is)) in
+    let line : c.first_way-first.result ≡ line_of c.args.id own.ids = search rules in
     let there = c.find_tagged-found.ensures.finds in
     let none = holds_none own.hand c.self.inside.sorted c.self.inside.held c.self.invariant
     (ap (λ (h : IdHanded). h.id) c.self.view_is ∙ c.requires.idle) in
@@ -42,10 +39,7 @@ pub returns-in_default-clause-finds : goal.returns-in_default-clause-finds
 returns-in_default-clause-finds g c =
     let own : IdHanded
     = record { hand = c.self.inside.hand; ids = c.self.inside.ids; id = id_held c.self.inside.held } in
-    let line
-    = line_is c.args.id c.first_way-first.result c.plan.result.now own.ids c.first_way-first.ensures.value
-    (c.plan.ensures.value ∙ ap (λ (t : IdTable). t.directory.plan) (c.map.view_is ∙ sym c.requires.own)
-    ∙ sym (ap (λ (h : IdHanded). h.ids.directory.plan) c.self.view_is)) in
+    let line : c.first_way-first.result ≡ line_of c.args.id own.ids = search rules in
     finds_absent g.R.RowRoom.shows c.args.id (reader_of own) (reader_of c.args.self.now) c.first_way-first.result
     c.load_key.new.self.reader c.look_up.new.ids c.args.rows.now (ap reader_of c.self.view_is) line
     c.load_key.ensures.loads c.in_default.ensures.looks

@@ -1,4 +1,4 @@
-use Rattle.std.proofs.Common.{◌≡◌, ◌<◌, ◌≤◌, ℕ, List, None, true, false, ap, subst, sym, ◌∙◌}
+use Rattle.std.proofs.Common.{rules, ◌≡◌, ◌<◌, ◌≤◌, ℕ, List, None, true, false, ap, subst, sym, ◌∙◌}
 use Rattle.nr_model.specs.declared.rows.Row.{Row}
 use Rattle.nr_model.specs.Rows.{IsRowSet}
 use Rattle.nr_board.specs.Callers.{Table}
@@ -11,7 +11,7 @@ use Rattle.nr_idmap.specs.declared.finds.FoundId.TheVariants as found
 use Rattle.nr_idmap.specs.IdHands.{HoldsAnew, IdHanded, id_held, with_line_loaded}
 use Rattle.nr_idmap.specs.IdFinds.{LooksForWay, line_of}
 use Rattle.nr_idmap.specs.Keepers.{IdTable}
-use Rattle.nr_idmap.proofs.Finding.{line_is, line_loaded}
+use Rattle.nr_idmap.proofs.Finding.{line_loaded}
 use Rattle.nr_idmap.proofs.Holding.{KeepsIn, hand_is, holds_moved, holds_pending, holds_rows, kept_key}
 use Rattle.nr_idmap.proofs.Holding.{kept_row_set, kept_set}
 use Rattle.nr_idmap.proofs.Walking.{held_row_set}
@@ -31,10 +31,7 @@ pub returns-in-Hole-clause-holds : goal.returns-in-Hole-clause-holds
 returns-in-Hole-clause-holds c =
     let own : IdHanded
     = record { hand = c.self.inside.hand; ids = c.self.inside.ids; id = id_held c.self.inside.held } in
-    let line
-    = line_is c.args.id c.first_way-first.result c.plan.result.now own.ids c.first_way-first.ensures.value
-    (c.plan.ensures.value ∙ ap (λ (t : IdTable). t.directory.plan) (c.map.view_is ∙ sym c.requires.own)
-    ∙ sym (ap (λ (h : IdHanded). h.ids.directory.plan) c.self.view_is)) in
+    let line : c.first_way-first.result ≡ line_of c.args.id own.ids = search rules in
     holds_pending c.args.id c.in-Some.at own c.args.self.now c.self.view_is c.look_up.new.ids
     c.in-Some.ensures.looks
     c.load_key.ensures.loads.0 c.find_kept.new.self c.self.inside.sorted c.find_kept.new.rows
@@ -46,10 +43,7 @@ pub returns-then-has_tag-clause-holds : goal.returns-then-has_tag-clause-holds
 returns-then-has_tag-clause-holds c =
     let own : IdHanded
     = record { hand = c.self.inside.hand; ids = c.self.inside.ids; id = id_held c.self.inside.held } in
-    let line
-    = line_is c.args.id c.first_way-first.result c.plan.result.now own.ids c.first_way-first.ensures.value
-    (c.plan.ensures.value ∙ ap (λ (t : IdTable). t.directory.plan) (c.map.view_is ∙ sym c.requires.own)
-    ∙ sym (ap (λ (h : IdHanded). h.ids.directory.plan) c.self.view_is)) in
+    let line : c.first_way-first.result ≡ line_of c.args.id own.ids = search rules in
     holds_rows c.args.id c.in-Some.at own c.args.self.now c.self.view_is c.look_up.new.ids
     c.in-Some.ensures.looks
     c.load_key.ensures.loads.0 c.find_kept.new.self c.self.inside.sorted c.find_kept.new.rows
@@ -63,10 +57,7 @@ pub returns-else-has_tag-clause-holds : goal.returns-else-has_tag-clause-holds
 returns-else-has_tag-clause-holds c =
     let own : IdHanded
     = record { hand = c.self.inside.hand; ids = c.self.inside.ids; id = id_held c.self.inside.held } in
-    let line
-    = line_is c.args.id c.first_way-first.result c.plan.result.now own.ids c.first_way-first.ensures.value
-    (c.plan.ensures.value ∙ ap (λ (t : IdTable). t.directory.plan) (c.map.view_is ∙ sym c.requires.own)
-    ∙ sym (ap (λ (h : IdHanded). h.ids.directory.plan) c.self.view_is)) in
+    let line : c.first_way-first.result ≡ line_of c.args.id own.ids = search rules in
     holds_moved c.args.id c.in-Some.at own c.args.self.now c.self.view_is c.look_up.new.ids
     c.in-Some.ensures.looks
     c.load_key.ensures.loads.0 c.find_kept.new.self c.self.inside.sorted c.find_kept.new.rows
@@ -109,10 +100,7 @@ pub returns-in_default-clause-holds : goal.returns-in_default-clause-holds
 returns-in_default-clause-holds c =
     let own : IdHanded
     = record { hand = c.self.inside.hand; ids = c.self.inside.ids; id = id_held c.self.inside.held } in
-    let line
-    = line_is c.args.id c.first_way-first.result c.plan.result.now own.ids c.first_way-first.ensures.value
-    (c.plan.ensures.value ∙ ap (λ (t : IdTable). t.directory.plan) (c.map.view_is ∙ sym c.requires.own)
-    ∙ sym (ap (λ (h : IdHanded). h.ids.directory.plan) c.self.view_is)) in
+    let line : c.first_way-first.result ≡ line_of c.args.id own.ids = search rules in
     let loads = c.load_key.ensures.loads in
     let held = c.load_key.ensures.held in
     let goes = c.release.ensures.lets_go in

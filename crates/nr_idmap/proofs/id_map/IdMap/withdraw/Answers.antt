@@ -1,4 +1,4 @@
-use Rattle.std.proofs.Common.{◌≢◌, ap, ◌∙◌, sym, subst, inr, refl, Some}
+use Rattle.std.proofs.Common.{rules, ◌≢◌, ap, ◌∙◌, sym, subst, inr, refl, Some}
 use Rattle.nr_model.specs.Maps.{number_of, state_of}
 use Rattle.nr_board.specs.declared.answers.Cancel.TheVariants as cancel
 use Rattle.nr_board.specs.Callers.{Caller, map_seen}
@@ -68,9 +68,7 @@ invariant_of-writer-in-Cancelled c =
     let writer = c.writer.inside.writer in let asker = c.writer.inside.asker in
     let clerk = c.writer.inside.clerk in let searched_by = c.way_of.new.clerk in let tied = c.writer.invariant in
     let id = c.into_parts-way.result.2 in let way = c.into_parts-way.result.0 in
-    let finds
-    = subst (FindsWay id clerk searched_by) (found_is c.way_of.result way c.if-ne.ensures)
-    c.way_of.ensures.answer in
+    let finds : FindsWay id clerk searched_by (Some way) = search (rules, found_is) in
     (withdrawn_way writer asker c.cancel.new.writer clerk searched_by c.unname.new.clerk tied id way
     c.into_parts-way.ensures.id finds
     (near_of writer asker id way clerk searched_by tied finds) c.unname.ensures.answer c.into_parts-way.result.1
@@ -81,9 +79,7 @@ invariant_of-writer-in-Nothing c =
     let writer = c.writer.inside.writer in let asker = c.writer.inside.asker in
     let clerk = c.writer.inside.clerk in let searched_by = c.way_of.new.clerk in let tied = c.writer.invariant in
     let id = c.into_parts-way.result.2 in let way = c.into_parts-way.result.0 in
-    let finds
-    = subst (FindsWay id clerk searched_by) (found_is c.way_of.result way c.if-ne.ensures)
-    c.way_of.ensures.answer in
+    let finds : FindsWay id clerk searched_by (Some way) = search (rules, found_is) in
     (cancel_nothing writer asker c.cancel.new.writer clerk searched_by tied id way finds
     (near_of writer asker id way clerk searched_by tied finds) c.in-Nothing.ensures).0.0
 
@@ -92,9 +88,7 @@ invariant_of-writer-in-Worn c =
     let writer = c.writer.inside.writer in let asker = c.writer.inside.asker in
     let clerk = c.writer.inside.clerk in let searched_by = c.way_of.new.clerk in let tied = c.writer.invariant in
     let id = c.into_parts-way.result.2 in let way = c.into_parts-way.result.0 in
-    let finds
-    = subst (FindsWay id clerk searched_by) (found_is c.way_of.result way c.if-ne.ensures)
-    c.way_of.ensures.answer in
+    let finds : FindsWay id clerk searched_by (Some way) = search (rules, found_is) in
     (cancel_worn writer asker c.cancel.new.writer clerk searched_by tied id way finds
     (near_of writer asker id way clerk searched_by tied finds) c.into_parts-way.result.1 c.into_parts-way.ensures.id
     (sym c.number.ensures.number ∙ c.if-number.false) c.in-Worn.ensures).0
@@ -105,9 +99,7 @@ returns-in-Cancelled-clause-withdraws c =
     let clerk = c.writer.inside.clerk in let searched_by = c.way_of.new.clerk in let tied = c.writer.invariant in
     let id = c.into_parts-way.result.2 in let way = c.into_parts-way.result.0 in
     let number = c.into_parts-way.result.1 in
-    let finds
-    = subst (FindsWay id clerk searched_by) (found_is c.way_of.result way c.if-ne.ensures)
-    c.way_of.ensures.answer in
+    let finds : FindsWay id clerk searched_by (Some way) = search (rules, found_is) in
     let owed : Owed = record { way = way; number = number; id = id } in
     let new = keeper_of c.cancel.new.writer asker c.unname.new.clerk in
     subst (λ (o : Owed). WithdrawsOwed o c.args.writer.now new) (sym c.into_parts-way.ensures.parts)
@@ -122,9 +114,7 @@ returns-in-Nothing-clause-withdraws c =
     let writer = c.writer.inside.writer in let asker = c.writer.inside.asker in
     let clerk = c.writer.inside.clerk in let searched_by = c.way_of.new.clerk in let tied = c.writer.invariant in
     let id = c.into_parts-way.result.2 in let way = c.into_parts-way.result.0 in
-    let finds
-    = subst (FindsWay id clerk searched_by) (found_is c.way_of.result way c.if-ne.ensures)
-    c.way_of.ensures.answer in
+    let finds : FindsWay id clerk searched_by (Some way) = search (rules, found_is) in
     let owed : Owed = record { way = way; number = c.into_parts-way.result.1; id = id } in
     let new = keeper_of c.cancel.new.writer asker searched_by in
     let met = cancel_nothing writer asker c.cancel.new.writer clerk searched_by tied id way finds
@@ -140,9 +130,7 @@ returns-in-Worn-clause-withdraws c =
     let clerk = c.writer.inside.clerk in let searched_by = c.way_of.new.clerk in let tied = c.writer.invariant in
     let id = c.into_parts-way.result.2 in let way = c.into_parts-way.result.0 in
     let number = c.into_parts-way.result.1 in
-    let finds
-    = subst (FindsWay id clerk searched_by) (found_is c.way_of.result way c.if-ne.ensures)
-    c.way_of.ensures.answer in
+    let finds : FindsWay id clerk searched_by (Some way) = search (rules, found_is) in
     let owed : Owed = record { way = way; number = number; id = id } in
     let new = keeper_of c.cancel.new.writer asker searched_by in (
       c.upquery.ensures ∙ (λ i. record { table = sym c.requires.own i; owed = sym c.into_parts-way.ensures.parts i }),
