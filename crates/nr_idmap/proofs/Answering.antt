@@ -32,15 +32,6 @@ module _ (w a : Caller) (c : Token) (k : Keeper) (is : keeper_of w a c ≡ k) (c
     (tied : IsTied (keeper_of w a c)) (owed : Owed)
     (real : 0 < owed.id) (found : Option ℕ) (finds : FindsWay owed.id c c' found)
     (refused : Caller → Caller → Type 0) where
-  pub closed_unfound : found ≢ Some owed.way → WasClosed refused owed k (keeper_of w a c')
-  closed_unfound other = subst (λ (x : Keeper). WasClosed refused owed x (keeper_of w a c')) is (record {
-    closed = closed_by_name w a c c' tied owed.id real owed found refl finds other;
-    found = found;
-    finds = finds;
-    how = inl refl;
-    owes = (searched w a c c' tied owed.id real found finds).1;
-  })
-
   pub closed_so : owed_at (keeper_of w a c) owed.way ≢ Some owed → WasClosed refused owed k (keeper_of w a c')
   closed_so closed = subst (λ (x : Keeper). WasClosed refused owed x (keeper_of w a c')) is
       (record {
@@ -50,3 +41,6 @@ module _ (w a : Caller) (c : Token) (k : Keeper) (is : keeper_of w a c ≡ k) (c
         how = inl refl;
         owes = (searched w a c c' tied owed.id real found finds).1;
       })
+
+  pub closed_unfound : found ≢ Some owed.way → WasClosed refused owed k (keeper_of w a c')
+  closed_unfound other = closed_so (closed_by_name w a c c' tied owed.id real owed found refl finds other)

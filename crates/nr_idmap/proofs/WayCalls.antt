@@ -37,7 +37,7 @@ use Rattle.nr_idmap.proofs.Entries.{Rested, Went, stayed, went}
 use Rattle.nr_idmap.proofs.LedgerLaws.{owed_tells}
 use Rattle.nr_idmap.proofs.Stills.{IsStill}
 use Rattle.nr_idmap.proofs.Ties.{Tagged, fill_agrees, fill_done, fill_keeps, fill_leaves, fill_puts, found_looks}
-use Rattle.nr_idmap.proofs.Ties.{found_names, mid_agrees, mid_owes, owed_asked, owed_hole, owed_none, replace_agrees}
+use Rattle.nr_idmap.proofs.Ties.{found_names, mid_agrees, mid_owes, near_of, owed_asked, owed_hole, owed_none, replace_agrees}
 use Rattle.nr_idmap.proofs.Ties.{replace_keeps, replace_owes, rested_of, retied, stayed_agrees, stayed_owes}
 use Rattle.nr_idmap.proofs.Ties.{update_agrees, update_owes, went_agrees, went_else, went_owes}
 
@@ -160,8 +160,10 @@ module _ (w a : Caller) (c mid new : Token) (tied : IsTied (keeper_of w a c)) (i
 
 -- CALLS THAT LEAVE THE NAME
 module _ (w a w' : Caller) (c c' : Token) (tied : IsTied (keeper_of w a c)) (id way : ℕ)
-    (finds : FindsWay id c c' (Some way))
-    (near : way < w.table.shape.keys) where
+    (finds : FindsWay id c c' (Some way)) where
+  near : way < w.table.shape.keys
+  near = near_of w a id way c c' tied finds
+
   names : (k : ℕ) → name_of c'.seen k ≡ name_of c.seen k
   names k = found_names w a id c c' (Some way) tied finds k
 
@@ -415,7 +417,10 @@ module _ (w a w' : Caller) (c c' : Token) (tied : IsTied (keeper_of w a c)) (id 
 
 -- CALLS AFTER WHICH THE NAME IS TAKEN
 module _ (w a w' : Caller) (c mid new : Token) (tied : IsTied (keeper_of w a c)) (id way : ℕ) (real : 0 < id)
-    (finds : FindsWay id c mid (Some way)) (near : way < w.table.shape.keys) (unnames : Unnames way mid new) where
+    (finds : FindsWay id c mid (Some way)) (unnames : Unnames way mid new) where
+  inside : way < w.table.shape.keys
+  inside = near_of w a id way c mid tied finds
+
   tied_off : (call : Call) (answer : Reply) (go : Went w w' call answer)
       → ((k : ℕ) → k ≢ call_key call → name_of new.seen k ≡ name_of c.seen k) → name_of new.seen (call_key call) ≡ 0
       → Rested w' → w'.table ≡ w.table → Agrees 0 (state_after go.mid.bound call (state_of go.mid (call_key call)))
@@ -443,7 +448,7 @@ module _ (w a w' : Caller) (c mid new : Token) (tied : IsTied (keeper_of w a c))
   evicted_way h =
       let gains = h.0 in
       let call : Call = Evict way in
-      let go = went 2 w w' call reply.Evicted (rested_of w a c tied) gains near in
+      let go = went 2 w w' call reply.Evicted (rested_of w a c tied) gains inside in
       let s : KeyState = state_of go.mid way in (
         tied_off call reply.Evicted go gone none (go.rested tt) gains.table (evict_agrees s),
         went_owes w a w' c new call reply.Evicted tied go gone a
@@ -458,7 +463,7 @@ module _ (w a w' : Caller) (c mid new : Token) (tied : IsTied (keeper_of w a c))
   withdrawn_way number is h =
       let gains = h.0 in
       let call : Call = Cancel way in
-      let go = went 2 w w' call reply.Cancelled (rested_of w a c tied) gains near in (
+      let go = went 2 w w' call reply.Cancelled (rested_of w a c tied) gains inside in (
         tied_off call reply.Cancelled go gone none (go.rested tt) gains.table
             (cancel_agrees (state_of go.mid way) go.replied),
         record {
@@ -468,7 +473,7 @@ module _ (w a w' : Caller) (c mid new : Token) (tied : IsTied (keeper_of w a c))
           unnames = unnames;
           closes = record {
             before =
-                met_owed w a w' c mid tied id way finds near number reply.Cancelled real (λ e. absurd (cc (e))) is go;
+                met_owed w a w' c mid tied id way finds number reply.Cancelled real (λ e. absurd (cc (e))) is go;
             after = unowed;
             others = went_else w a w' c new call reply.Cancelled tied go gone a;
           };

@@ -1,7 +1,6 @@
 use Rattle.std.proofs.Common.{rules, ◌<◌, ◌≤◌, ◌∙◌, Some, Option, ap, subst, sym}
 use Rattle.nr_model.specs.declared.rows.Row.{Row}
 use Rattle.nr_map.specs.FirstRows.{FindsTaggedFirst}
-use Rattle.nr_idmap.specs.declared.finds.NamedWay.{NamedWay}
 use Rattle.nr_idmap.specs.declared.hands.Holding.{Holding}
 use Rattle.nr_idmap.specs.IdHands.{IdHanded, IsIdHand, id_held}
 use Rattle.nr_idmap.specs.IdWalks.{FindsFirstOn, IsNear}
@@ -45,8 +44,4 @@ returns-clause-finds c =
       id_is =
           ap (λ (held : Option Holding). id_held held) c.held_then-self-inside.ensures ∙ held_id at.way found.result.0;
     } in
-    subst (λ (o : Option NamedWay). FindsFirstOn c.args.id o c.args.self.now c.args.cells.now new
-    found.new.cells found.result.1 c.tell.result) (sym c.in-Some.is)
-    (subst (λ (h : IdHanded). FindsFirstOn c.args.id (Some at) h c.args.cells.now new found.new.cells
-    found.result.1 c.tell.result)
-    c.self.view_is finds)
+    search rules

@@ -1,7 +1,6 @@
 use Rattle.std.proofs.Common.{rules, ◌<◌, ◌≤◌, ◌∙◌, Some, Option, ap, subst, sym}
 use Rattle.nr_model.specs.declared.rows.Row.{Row}
 use Rattle.nr_map.specs.Tagged.{FindsTaggedKept}
-use Rattle.nr_idmap.specs.declared.finds.NamedWay.{NamedWay}
 use Rattle.nr_idmap.specs.declared.hands.Holding.{Holding}
 use Rattle.nr_idmap.specs.IdHands.{IdHanded, IsIdHand, id_held}
 use Rattle.nr_idmap.specs.IdWalks.{FindsOn, IsNear}
@@ -45,7 +44,4 @@ returns-clause-finds g c =
       id_is =
           ap (λ (held : Option Holding). id_held held) c.held_then-self-inside.ensures ∙ held_id at.way found.result;
     } in
-    subst (λ (o : Option NamedWay). FindsOn shows c.args.id o c.args.self.now c.args.rows.now new found.new.rows
-    c.tell.result) (sym c.in-Some.is)
-    (subst (λ (h : IdHanded). FindsOn shows c.args.id (Some at) h c.args.rows.now new found.new.rows c.tell.result)
-    c.self.view_is finds)
+    search rules

@@ -1,5 +1,4 @@
 use Rattle.nr_idmap.proofs.Answering.{owes_so}
-use Rattle.nr_idmap.proofs.Ties.{near_of}
 use Rattle.nr_idmap.proofs.WayCalls.{evict_nothing, evicted_way, searched}
 use Rattle.nr_idmap.proofs.id_map.IdMap.evict.Goals as goal
 
@@ -22,7 +21,6 @@ invariant_of-writer-in-Evicted c =
     (evicted_way writer asker c.evict.new.writer clerk searched_by c.unname.new.clerk tied c.args.id c.in-Some.way
     c.requires.id
     c.in-Some.ensures.answer
-    (near_of writer asker c.args.id c.in-Some.way clerk searched_by tied c.in-Some.ensures.answer)
     c.unname.ensures.answer c.in-Evicted.ensures).0
 
 pub invariant_of-writer-in-Nothing : goal.invariant_of-writer-in-Nothing
@@ -31,7 +29,6 @@ invariant_of-writer-in-Nothing c =
     let clerk = c.writer.inside.clerk in let searched_by = c.way_of.new.clerk in let tied = c.writer.invariant in
     (evict_nothing writer asker c.evict.new.writer clerk searched_by tied c.args.id c.in-Some.way
     c.in-Some.ensures.answer
-    (near_of writer asker c.args.id c.in-Some.way clerk searched_by tied c.in-Some.ensures.answer)
     c.in-Nothing.ensures).0
 
 pub returns-in-Evicted-clause-owes : goal.returns-in-Evicted-clause-owes
@@ -42,7 +39,6 @@ returns-in-Evicted-clause-owes c =
     (evicted_way writer asker c.evict.new.writer clerk searched_by c.unname.new.clerk tied c.args.id c.in-Some.way
     c.requires.id
     c.in-Some.ensures.answer
-    (near_of writer asker c.args.id c.in-Some.way clerk searched_by tied c.in-Some.ensures.answer)
     c.unname.ensures.answer c.in-Evicted.ensures).1
 
 pub returns-in-Nothing-clause-owes : goal.returns-in-Nothing-clause-owes
@@ -52,5 +48,4 @@ returns-in-Nothing-clause-owes c =
     owes_so writer asker clerk c.args.writer.now c.writer.view_is c.evict.new.writer asker searched_by
     (evict_nothing writer asker c.evict.new.writer clerk searched_by tied c.args.id c.in-Some.way
     c.in-Some.ensures.answer
-    (near_of writer asker c.args.id c.in-Some.way clerk searched_by tied c.in-Some.ensures.answer)
     c.in-Nothing.ensures).1

@@ -1,4 +1,4 @@
-use Rattle.std.proofs.Common.{◌≡◌, ◌≢◌, ◌<◌, inr, refl, List, ◌∷◌, ap, ◌∙◌, sym, subst, Result, Ok, Err, Some}
+use Rattle.std.proofs.Common.{◌≡◌, ◌≢◌, inr, refl, List, ◌∷◌, ap, ◌∙◌, sym, subst, Result, Ok, Err, Some}
 use Rattle.nr_model.specs.declared.rows.Row.{Row}
 use Rattle.nr_core.specs.declared.calls.NoSlot.{NoSlot}
 use Rattle.nr_board.specs.declared.answers.FillFault.{FillFault}
@@ -13,7 +13,6 @@ use Rattle.nr_idmap.specs.Keepers.{IdTable, Keeper, Owed, keeper_of}
 use Rattle.nr_idmap.specs.Tags.{tag_of}
 use Rattle.nr_idmap.proofs.Answering.{closed_unfound}
 use Rattle.nr_idmap.proofs.Found.{found_is, found_not}
-use Rattle.nr_idmap.proofs.Ties.{near_of}
 use Rattle.nr_idmap.proofs.WayCalls.{fill_closes, fill_lacks, fill_refused, fill_tied, searched}
 use Rattle.nr_idmap.proofs.id_map.IdMap.fill.Goals as goal
 use Rattle.nr_idmap.proofs.id_map.IdMap.fill.Goals.{in-Ok, in-Err-NoSlot, in-Err-NotAsked, in-Err-Already, in-Err-Stale}
@@ -45,12 +44,6 @@ finds : (c : goal.Joined-fill_rows) →
 finds c = subst (FindsWay c.into_parts-way.result.2 c.writer.inside.clerk c.way_of.new.clerk)
     (found_is c.way_of.result c.into_parts-way.result.0 c.if-ne.ensures) c.way_of.ensures.answer
 
-near : (c : goal.Joined-fill_rows) → c.into_parts-way.result.0 < c.writer.inside.writer.table.shape.keys
-near c =
-    near_of c.writer.inside.writer c.writer.inside.asker c.into_parts-way.result.2 c.into_parts-way.result.0
-    c.writer.inside.clerk
-    c.way_of.new.clerk c.writer.invariant (finds c)
-
 put : (c : goal.Joined-fill_rows) (r : Result (Unit {0}) FillFault) →
     FillsKey c.into_parts-way.result.0 c.into_parts-way.result.1 c.as_slice.result.now c.writer.inside.writer
     c.fill_rows.new.writer r
@@ -65,7 +58,7 @@ put c r h =
 pub invariant_of-writer-2 : goal.invariant_of-writer-2
 invariant_of-writer-2 c =
     fill_tied c.writer.inside.writer c.writer.inside.asker c.fill_rows.new.writer c.writer.inside.clerk
-    c.way_of.new.clerk c.writer.invariant c.into_parts-way.result.2 c.into_parts-way.result.0 (finds c) (near c)
+    c.way_of.new.clerk c.writer.invariant c.into_parts-way.result.2 c.into_parts-way.result.0 (finds c)
     c.args.rows.now
     c.into_parts-way.result.1 c.fill_rows.result c.into_parts-way.ensures.id
     (put c c.fill_rows.result c.fill_rows.ensures)
@@ -85,7 +78,7 @@ returns-clause-fills c =
     (h : FillsKey way number c.as_slice.result.now writer c.fill_rows.new.writer (Err why))
     (same : c.match-fill_rows.result ≡ Err unfilled.Closed).
     let kept
-    = fill_refused writer asker c.fill_rows.new.writer clerk searched_by tied id way (finds c) (near c)
+    = fill_refused writer asker c.fill_rows.new.writer clerk searched_by tied id way (finds c)
     c.args.rows.now number why
     other (put c (Err why) h) in
     let was : FillsId owed c.args.rows.now (keeper_of writer asker clerk) new (Err unfilled.Closed) = record
@@ -98,7 +91,7 @@ returns-clause-fills c =
           subst
           (λ (r : Result (Unit {0}) Unfilled). FillsId c.args.upquery.owed c.args.rows.now c.args.writer.now new r)
           (sym v.result-is) (so (Ok tt)
-          (fill_closes writer asker c.fill_rows.new.writer clerk searched_by tied id way (finds c) (near c)
+          (fill_closes writer asker c.fill_rows.new.writer clerk searched_by tied id way (finds c)
           c.args.rows.now number
           c.into_parts-way.ensures.id (put c (Ok tt) v.in-Ok.ensures)))
       | in-Err-NoSlot v ↦
@@ -107,7 +100,7 @@ returns-clause-fills c =
           (sym v.result-is) (so (Err (unfilled.NoSlot v.upquery.result v.in-Err-NoSlot.counts)) (
             v.upquery.ensures ∙ ap (λ (t : IdTable). record { table = t; owed = owed })
                 (sym c.requires.own ∙ ap (λ (k : Keeper). k.table) (sym c.writer.view_is)),
-            fill_lacks writer asker c.fill_rows.new.writer clerk searched_by tied id way (finds c) (near c)
+            fill_lacks writer asker c.fill_rows.new.writer clerk searched_by tied id way (finds c)
                 c.args.rows.now number
                 v.in-Err-NoSlot.counts c.into_parts-way.ensures.id
                 (put c (Err (fill.NoSlot v.in-Err-NoSlot.counts))

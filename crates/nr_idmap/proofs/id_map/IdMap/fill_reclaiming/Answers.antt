@@ -1,4 +1,4 @@
-use Rattle.std.proofs.Common.{◌≡◌, ◌≢◌, ◌<◌, inr, refl, List, ◌∷◌, ap, ◌∙◌, sym, subst, Result, Ok, Err, Some}
+use Rattle.std.proofs.Common.{◌≡◌, ◌≢◌, inr, refl, List, ◌∷◌, ap, ◌∙◌, sym, subst, Result, Ok, Err, Some}
 use Rattle.nr_model.specs.declared.rows.Row.{Row}
 use Rattle.nr_core.specs.declared.calls.NoSlot.{NoSlot}
 use Rattle.nr_board.specs.declared.answers.FillFault.{FillFault}
@@ -16,7 +16,6 @@ use Rattle.nr_idmap.specs.Tags.{tag_of}
 use Rattle.nr_idmap.proofs.Answering.{closed_unfound}
 use Rattle.nr_idmap.proofs.Found.{found_is, found_not}
 use Rattle.nr_idmap.proofs.Giving.{fill_gives, filled_gives}
-use Rattle.nr_idmap.proofs.Ties.{near_of}
 use Rattle.nr_idmap.proofs.WayCalls.{fill_lacks, fill_refused, searched}
 use Rattle.nr_idmap.proofs.id_map.IdMap.fill_reclaiming.Given as given
 use Rattle.nr_idmap.proofs.id_map.IdMap.fill_reclaiming.Goals as goal
@@ -56,13 +55,6 @@ finds : (g : given.Over) (c : goal.Joined-fill_reclaiming g) →
     FindsWay c.into_parts-way.result.2 c.writer.inside.clerk c.way_of.new.clerk (Some c.into_parts-way.result.0)
 finds g c = subst (FindsWay c.into_parts-way.result.2 c.writer.inside.clerk c.way_of.new.clerk)
     (found_is c.way_of.result c.into_parts-way.result.0 c.if-ne.ensures) c.way_of.ensures.answer
-
-near : (g : given.Over) (c : goal.Joined-fill_reclaiming g)
-    → c.into_parts-way.result.0 < c.writer.inside.writer.table.shape.keys
-near g c =
-    near_of c.writer.inside.writer c.writer.inside.asker c.into_parts-way.result.2 c.into_parts-way.result.0
-    c.writer.inside.clerk
-    c.way_of.new.clerk c.writer.invariant (finds g c)
 
 put : (g : given.Over) (c : goal.Joined-fill_reclaiming g) (r : Result Reclaimed FillFault) →
     FillsReclaiming g.R.RowRoom.shows c.into_parts-way.result.0 c.into_parts-way.result.1 c.as_slice.result.now
@@ -116,7 +108,7 @@ returns-clause-fills g c =
     let it = put g c (Err why) h in
     let kept
     = fill_refused c.writer.inside.writer c.writer.inside.asker c.fill_reclaiming.new.writer c.writer.inside.clerk
-    c.way_of.new.clerk c.writer.invariant c.into_parts-way.result.2 c.into_parts-way.result.0 (finds g c) (near g c)
+    c.way_of.new.clerk c.writer.invariant c.into_parts-way.result.2 c.into_parts-way.result.0 (finds g c)
     c.args.rows.now
     c.into_parts-way.result.1 why other it.0 in
     let was : FillsId owed c.args.rows.now
@@ -146,7 +138,7 @@ returns-clause-fills g c =
                   (sym c.requires.own ∙ ap (λ (k : Keeper). k.table) (sym c.writer.view_is)),
               fill_lacks c.writer.inside.writer c.writer.inside.asker c.fill_reclaiming.new.writer c.writer.inside.clerk
                   c.way_of.new.clerk
-                  c.writer.invariant c.into_parts-way.result.2 c.into_parts-way.result.0 (finds g c) (near g c)
+                  c.writer.invariant c.into_parts-way.result.2 c.into_parts-way.result.0 (finds g c)
                   c.args.rows.now
                   c.into_parts-way.result.1 v.in-Err-NoSlot.counts c.into_parts-way.ensures.id it.0,
             ),

@@ -6,7 +6,6 @@ use Rattle.nr_board.specs.Callers.{Caller}
 use Rattle.nr_idmap.specs.Keepers.{IsTied, OwesSame, keeper_of}
 use Rattle.nr_idmap.specs.Tags.{tag_of}
 use Rattle.nr_idmap.proofs.Answering.{owes_so, way_done, way_refused}
-use Rattle.nr_idmap.proofs.Ties.{near_of}
 use Rattle.nr_idmap.proofs.WayCalls.{searched, replace_left}
 use Rattle.nr_idmap.proofs.id_map.IdMap.replace.Goals as goal
 use Rattle.nr_idmap.proofs.id_map.IdMap.replace.Goals.{in-Ok, in-Err}
@@ -38,7 +37,6 @@ left c =
     let clerk = c.writer.inside.clerk in let searched_by = c.way_of.new.clerk in let tied = c.writer.invariant in
     let finds = c.in-Some.ensures.answer in
     replace_left writer asker c.replace_rows.new.writer clerk searched_by tied c.args.id c.in-Some.way finds
-    (near_of writer asker c.args.id c.in-Some.way clerk searched_by tied finds)
     c.args.rows.now c.replace_rows.result c.requires.id (put c c.replace_rows.result c.replace_rows.ensures)
 
 pub invariant_of-writer-2 : goal.invariant_of-writer-2

@@ -4,7 +4,6 @@ use Rattle.nr_board.specs.WriterAnswers.{UpdatesKey}
 use Rattle.nr_board.specs.Callers.{Caller}
 use Rattle.nr_idmap.specs.Keepers.{IdTable, IsTied, OwesSame, keeper_of}
 use Rattle.nr_idmap.proofs.Answering.{owes_so, way_done, way_refused}
-use Rattle.nr_idmap.proofs.Ties.{near_of}
 use Rattle.nr_idmap.proofs.WayCalls.{searched, update_left}
 use Rattle.nr_idmap.proofs.id_map.IdMap.update.Goals as goal
 use Rattle.nr_idmap.proofs.id_map.IdMap.update.Goals.{in-Ok, in-Err}
@@ -30,7 +29,6 @@ left c =
     let clerk = c.writer.inside.clerk in let searched_by = c.way_of.new.clerk in let tied = c.writer.invariant in
     let finds = c.in-Some.ensures.answer in
     update_left writer asker c.update_rows.new.writer clerk searched_by tied c.args.id c.in-Some.way finds
-    (near_of writer asker c.args.id c.in-Some.way clerk searched_by tied finds)
     c.self.inside.map.shape.rows c.args.deltas.now c.update_rows.result c.requires.deltas c.update_rows.ensures
 
 pub invariant_of-writer-2 : goal.invariant_of-writer-2

@@ -11,7 +11,6 @@ use Rattle.nr_idmap.specs.Keepers.{Keeper, Owed, keeper_of, owed_at}
 use Rattle.nr_idmap.proofs.Answering.{closed_so, closed_unfound}
 use Rattle.nr_idmap.proofs.Found.{found_is, found_not}
 use Rattle.nr_idmap.proofs.LedgerLaws.{owed_tells}
-use Rattle.nr_idmap.proofs.Ties.{near_of}
 use Rattle.nr_idmap.proofs.WayCalls.{cancel_nothing, cancel_worn, searched, withdrawn_way}
 use Rattle.nr_idmap.proofs.id_map.IdMap.withdraw.Goals as goal
 
@@ -70,8 +69,7 @@ invariant_of-writer-in-Cancelled c =
     let id = c.into_parts-way.result.2 in let way = c.into_parts-way.result.0 in
     let finds : FindsWay id clerk searched_by (Some way) = search (rules, found_is) in
     (withdrawn_way writer asker c.cancel.new.writer clerk searched_by c.unname.new.clerk tied id way
-    c.into_parts-way.ensures.id finds
-    (near_of writer asker id way clerk searched_by tied finds) c.unname.ensures.answer c.into_parts-way.result.1
+    c.into_parts-way.ensures.id finds c.unname.ensures.answer c.into_parts-way.result.1
     (sym c.number.ensures.number ∙ c.if-number.false) c.in-Cancelled.ensures).0
 
 pub invariant_of-writer-in-Nothing : goal.invariant_of-writer-in-Nothing
@@ -80,8 +78,7 @@ invariant_of-writer-in-Nothing c =
     let clerk = c.writer.inside.clerk in let searched_by = c.way_of.new.clerk in let tied = c.writer.invariant in
     let id = c.into_parts-way.result.2 in let way = c.into_parts-way.result.0 in
     let finds : FindsWay id clerk searched_by (Some way) = search (rules, found_is) in
-    (cancel_nothing writer asker c.cancel.new.writer clerk searched_by tied id way finds
-    (near_of writer asker id way clerk searched_by tied finds) c.in-Nothing.ensures).0.0
+    (cancel_nothing writer asker c.cancel.new.writer clerk searched_by tied id way finds c.in-Nothing.ensures).0.0
 
 pub invariant_of-writer-in-Worn : goal.invariant_of-writer-in-Worn
 invariant_of-writer-in-Worn c =
@@ -89,8 +86,7 @@ invariant_of-writer-in-Worn c =
     let clerk = c.writer.inside.clerk in let searched_by = c.way_of.new.clerk in let tied = c.writer.invariant in
     let id = c.into_parts-way.result.2 in let way = c.into_parts-way.result.0 in
     let finds : FindsWay id clerk searched_by (Some way) = search (rules, found_is) in
-    (cancel_worn writer asker c.cancel.new.writer clerk searched_by tied id way finds
-    (near_of writer asker id way clerk searched_by tied finds) c.into_parts-way.result.1 c.into_parts-way.ensures.id
+    (cancel_worn writer asker c.cancel.new.writer clerk searched_by tied id way finds c.into_parts-way.result.1 c.into_parts-way.ensures.id
     (sym c.number.ensures.number ∙ c.if-number.false) c.in-Worn.ensures).0
 
 pub returns-in-Cancelled-clause-withdraws : goal.returns-in-Cancelled-clause-withdraws
@@ -105,8 +101,7 @@ returns-in-Cancelled-clause-withdraws c =
     subst (λ (o : Owed). WithdrawsOwed o c.args.writer.now new) (sym c.into_parts-way.ensures.parts)
     (subst (λ (k : Keeper). WithdrawsOwed owed k new) c.writer.view_is
     (withdrawn_way writer asker c.cancel.new.writer clerk searched_by c.unname.new.clerk tied id way
-    c.into_parts-way.ensures.id finds
-    (near_of writer asker id way clerk searched_by tied finds) c.unname.ensures.answer number
+    c.into_parts-way.ensures.id finds c.unname.ensures.answer number
     (sym c.number.ensures.number ∙ c.if-number.false) c.in-Cancelled.ensures).1)
 
 pub returns-in-Nothing-clause-withdraws : goal.returns-in-Nothing-clause-withdraws
@@ -117,8 +112,7 @@ returns-in-Nothing-clause-withdraws c =
     let finds : FindsWay id clerk searched_by (Some way) = search (rules, found_is) in
     let owed : Owed = record { way = way; number = c.into_parts-way.result.1; id = id } in
     let new = keeper_of c.cancel.new.writer asker searched_by in
-    let met = cancel_nothing writer asker c.cancel.new.writer clerk searched_by tied id way finds
-    (near_of writer asker id way clerk searched_by tied finds) c.in-Nothing.ensures in
+    let met = cancel_nothing writer asker c.cancel.new.writer clerk searched_by tied id way finds c.in-Nothing.ensures in
     let was : WasClosed (Refused owed) owed (keeper_of writer asker clerk) new = record
     { closed = met.1 owed; found = Some way; finds = finds; how = inr (refl, c.in-Nothing.ensures); owes = met.0.1 } in
     subst (λ (o : Owed). WasClosed (Refused o) o c.args.writer.now new) (sym c.into_parts-way.ensures.parts)
@@ -136,7 +130,6 @@ returns-in-Worn-clause-withdraws c =
       c.upquery.ensures ∙ (λ i. record { table = sym c.requires.own i; owed = sym c.into_parts-way.ensures.parts i }),
       subst (λ (o : Owed). WornOwed o c.args.writer.now new) (sym c.into_parts-way.ensures.parts)
           (subst (λ (k : Keeper). WornOwed owed k new) c.writer.view_is
-          (cancel_worn writer asker c.cancel.new.writer clerk searched_by tied id way finds
-          (near_of writer asker id way clerk searched_by tied finds) number c.into_parts-way.ensures.id
+          (cancel_worn writer asker c.cancel.new.writer clerk searched_by tied id way finds number c.into_parts-way.ensures.id
           (sym c.number.ensures.number ∙ c.if-number.false) c.in-Worn.ensures).1),
     )
