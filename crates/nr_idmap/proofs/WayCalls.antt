@@ -37,7 +37,8 @@ use Rattle.nr_idmap.proofs.Entries.{Rested, Went, stayed, went}
 use Rattle.nr_idmap.proofs.LedgerLaws.{owed_tells}
 use Rattle.nr_idmap.proofs.Stills.{IsStill}
 use Rattle.nr_idmap.proofs.Ties.{Tagged, fill_agrees, fill_done, fill_keeps, fill_leaves, fill_puts, found_looks}
-use Rattle.nr_idmap.proofs.Ties.{found_names, mid_agrees, mid_owes, near_of, owed_asked, owed_hole, owed_none, replace_agrees}
+use Rattle.nr_idmap.proofs.Ties.{found_names, mid_agrees, mid_owes, near_of, owed_asked, owed_hole, owed_none}
+use Rattle.nr_idmap.proofs.Ties.{replace_agrees}
 use Rattle.nr_idmap.proofs.Ties.{replace_keeps, replace_owes, rested_of, retied, stayed_agrees, stayed_owes}
 use Rattle.nr_idmap.proofs.Ties.{update_agrees, update_owes, went_agrees, went_else, went_owes}
 

@@ -71,9 +71,10 @@ returns-clause-fills c =
     let number = c.into_parts-way.result.1 in
     let owed : Owed = record { way = way; number = number; id = id } in
     let new = keeper_of c.fill_rows.new.writer asker searched_by in
-    let so = λ (r : Result (Unit {0}) Unfilled) (h : FillsId owed c.args.rows.now (keeper_of writer asker clerk) new r).
-    subst (λ (o : Owed). FillsId o c.args.rows.now c.args.writer.now new r) (sym c.into_parts-way.ensures.parts)
-    (subst (λ (k : Keeper). FillsId owed c.args.rows.now k new r) c.writer.view_is h) in
+    let so = λ (r : Result (Unit {0}) Unfilled) (h : FillsId owed c.args.rows.now (keeper_of writer asker clerk) new r)
+    (same : c.match-fill_rows.result ≡ r).
+    subst (λ (x : Owed × Keeper × Result (Unit {0}) Unfilled). FillsId x.0 c.args.rows.now x.1 new x.2)
+    (λ i. (sym c.into_parts-way.ensures.parts i, c.writer.view_is i, sym same i)) h in
     let closed = λ (why : FillFault) (other : (counts : NoSlot) → why ≢ fill.NoSlot counts)
     (h : FillsKey way number c.as_slice.result.now writer c.fill_rows.new.writer (Err why))
     (same : c.match-fill_rows.result ≡ Err unfilled.Closed).
@@ -83,29 +84,20 @@ returns-clause-fills c =
     other (put c (Err why) h) in
     let was : FillsId owed c.args.rows.now (keeper_of writer asker clerk) new (Err unfilled.Closed) = record
     { closed = kept.0; found = Some way; finds = finds c; how = inr (refl, (why, put c (Err why) h)); owes = kept.1 } in
-    subst (λ (r : Result (Unit {0}) Unfilled). FillsId c.args.upquery.owed c.args.rows.now c.args.writer.now new r)
-    (sym same)
-    (so (Err unfilled.Closed) was) in
+    so (Err unfilled.Closed) was same in
     elim c.match-fill_rows.branch [
-      | in-Ok v ↦
-          subst
-          (λ (r : Result (Unit {0}) Unfilled). FillsId c.args.upquery.owed c.args.rows.now c.args.writer.now new r)
-          (sym v.result-is) (so (Ok tt)
-          (fill_closes writer asker c.fill_rows.new.writer clerk searched_by tied id way (finds c)
-          c.args.rows.now number
-          c.into_parts-way.ensures.id (put c (Ok tt) v.in-Ok.ensures)))
-      | in-Err-NoSlot v ↦
-          subst
-          (λ (r : Result (Unit {0}) Unfilled). FillsId c.args.upquery.owed c.args.rows.now c.args.writer.now new r)
-          (sym v.result-is) (so (Err (unfilled.NoSlot v.upquery.result v.in-Err-NoSlot.counts)) (
-            v.upquery.ensures ∙ ap (λ (t : IdTable). record { table = t; owed = owed })
-                (sym c.requires.own ∙ ap (λ (k : Keeper). k.table) (sym c.writer.view_is)),
-            fill_lacks writer asker c.fill_rows.new.writer clerk searched_by tied id way (finds c)
-                c.args.rows.now number
-                v.in-Err-NoSlot.counts c.into_parts-way.ensures.id
-                (put c (Err (fill.NoSlot v.in-Err-NoSlot.counts))
-                (rw v.in-Err-NoSlot.field-0-is at v.in-Err-NoSlot.ensures)),
-          ))
+      | in-Ok v ↦ so (Ok tt)
+          (fill_closes writer asker c.fill_rows.new.writer clerk searched_by tied id way
+          (finds c) c.args.rows.now number
+          c.into_parts-way.ensures.id (put c (Ok tt) v.in-Ok.ensures)) v.result-is
+      | in-Err-NoSlot v ↦ so (Err (unfilled.NoSlot v.upquery.result v.in-Err-NoSlot.counts)) (
+        v.upquery.ensures ∙ ap (λ (t : IdTable). record { table = t; owed = owed })
+            (sym c.requires.own ∙ ap (λ (k : Keeper). k.table) (sym c.writer.view_is)),
+        fill_lacks writer asker c.fill_rows.new.writer clerk searched_by tied id way (finds c) c.args.rows.now number
+            v.in-Err-NoSlot.counts c.into_parts-way.ensures.id
+            (put c (Err (fill.NoSlot v.in-Err-NoSlot.counts))
+            (rw v.in-Err-NoSlot.field-0-is at v.in-Err-NoSlot.ensures)),
+      ) v.result-is
       | in-Err-NotAsked v ↦ closed fill.NotAsked (λ counts e. absurd (cc (e)))
           (rw v.in-Err-NotAsked.field-0-is at v.in-Err-NotAsked.ensures) v.result-is
       | in-Err-Already v ↦ closed fill.Already (λ counts e. absurd (cc (e)))

@@ -79,43 +79,28 @@ invariant_of-writer-2 g c = fill_gives g.R.RowRoom.shows c.args.had.now c.fill_r
 
 pub returns-clause-fills : goal.returns-clause-fills
 returns-clause-fills g c =
-    let owed : Owed
-    = record {
-      way = c.into_parts-way.result.0;
-      number = c.into_parts-way.result.1;
-      id = c.into_parts-way.result.2;
-    } in
-    let new = keeper_of c.fill_reclaiming.new.writer c.writer.inside.asker c.way_of.new.clerk in
+    let writer = c.writer.inside.writer in let asker = c.writer.inside.asker in
+    let clerk = c.writer.inside.clerk in let searched_by = c.way_of.new.clerk in let tied = c.writer.invariant in
+    let id = c.into_parts-way.result.2 in let way = c.into_parts-way.result.0 in
+    let number = c.into_parts-way.result.1 in
+    let owed : Owed = record { way = way; number = number; id = id } in
+    let shows = g.R.RowRoom.shows in let rows = c.args.rows.now in
+    let had = c.args.had.now in let then = c.fill_reclaiming.new.had in
+    let next = c.fill_reclaiming.new.writer in let new = keeper_of next asker searched_by in
     let so = λ (r : Result Reclaimed Unfilled)
-    (h : FillsIdReclaiming g.R.RowRoom.shows owed c.args.rows.now
-    (keeper_of c.writer.inside.writer c.writer.inside.asker c.writer.inside.clerk) c.args.had.now new
-    c.fill_reclaiming.new.had r)
+    (h : FillsIdReclaiming shows owed rows (keeper_of writer asker clerk) had new then r)
     (same : c.match-fill_reclaiming.result ≡ r).
-    subst
-    (λ (q : Result Reclaimed Unfilled). FillsIdReclaiming g.R.RowRoom.shows c.args.upquery.owed c.args.rows.now
-    c.args.writer.now
-    c.args.had.now new c.fill_reclaiming.new.had q) (sym same)
-    (subst (λ (o : Owed). FillsIdReclaiming g.R.RowRoom.shows o c.args.rows.now c.args.writer.now c.args.had.now new
-    c.fill_reclaiming.new.had r) (sym c.into_parts-way.ensures.parts)
-    (subst
-    (λ (k : Keeper). FillsIdReclaiming g.R.RowRoom.shows owed c.args.rows.now k c.args.had.now new
-    c.fill_reclaiming.new.had r)
-    c.writer.view_is h)) in
+    subst (λ (x : Owed × Keeper × Result Reclaimed Unfilled). FillsIdReclaiming shows x.0 rows x.1 had new then x.2)
+    (λ i. (sym c.into_parts-way.ensures.parts i, c.writer.view_is i, sym same i)) h in
     let closed = λ (why : FillFault) (other : (counts : NoSlot) → why ≢ fill.NoSlot counts)
-    (h : FillsReclaiming g.R.RowRoom.shows c.into_parts-way.result.0 c.into_parts-way.result.1 c.as_slice.result.now
-    c.writer.inside.writer c.args.had.now c.fill_reclaiming.new.writer c.fill_reclaiming.new.had (Err why))
+    (h : FillsReclaiming shows way number c.as_slice.result.now writer had next then (Err why))
     (same : c.match-fill_reclaiming.result ≡ Err unfilled.Closed).
     let it = put g c (Err why) h in
     let kept
-    = fill_refused c.writer.inside.writer c.writer.inside.asker c.fill_reclaiming.new.writer c.writer.inside.clerk
-    c.way_of.new.clerk c.writer.invariant c.into_parts-way.result.2 c.into_parts-way.result.0 (finds g c)
-    c.args.rows.now
-    c.into_parts-way.result.1 why other it.0 in
-    let was : FillsId owed c.args.rows.now
-    (keeper_of c.writer.inside.writer c.writer.inside.asker c.writer.inside.clerk) new
-    (Err unfilled.Closed) = record {
+    = fill_refused writer asker next clerk searched_by tied id way (finds g c) rows number why other it.0 in
+    let was : FillsId owed rows (keeper_of writer asker clerk) new (Err unfilled.Closed) = record {
       closed = kept.0;
-      found = Some c.into_parts-way.result.0;
+      found = Some way;
       finds = finds g c;
       how = inr (refl, (why, it.0));
       owes = kept.1;
@@ -123,24 +108,16 @@ returns-clause-fills g c =
     so (Err unfilled.Closed) (was, it.1) same in
     elim c.match-fill_reclaiming.branch [
       | in-Ok v ↦ so (Ok v.in-Ok.given)
-          (filled_gives g.R.RowRoom.shows c.args.had.now c.fill_reclaiming.new.had c.writer.inside.writer
-          c.writer.inside.asker
-          c.fill_reclaiming.new.writer c.writer.inside.clerk c.way_of.new.clerk c.writer.invariant
-          c.into_parts-way.result.2
-          c.into_parts-way.result.0 (finds g c) c.args.rows.now c.into_parts-way.ensures.id c.into_parts-way.result.1
-          v.in-Ok.given
-          (put g c (Ok v.in-Ok.given) v.in-Ok.ensures)) v.result-is
+          (filled_gives shows had then writer asker next clerk searched_by tied id way (finds g c) rows
+          c.into_parts-way.ensures.id number v.in-Ok.given (put g c (Ok v.in-Ok.given) v.in-Ok.ensures)) v.result-is
       | in-Err-NoSlot v ↦ let it = put g c (Err (fill.NoSlot v.in-Err-NoSlot.counts))
           (rw v.in-Err-NoSlot.field-0-is at v.in-Err-NoSlot.ensures) in
           so (Err (unfilled.NoSlot v.upquery.result v.in-Err-NoSlot.counts)) (
             (
               v.upquery.ensures ∙ ap (λ (t : IdTable). record { table = t; owed = owed })
                   (sym c.requires.own ∙ ap (λ (k : Keeper). k.table) (sym c.writer.view_is)),
-              fill_lacks c.writer.inside.writer c.writer.inside.asker c.fill_reclaiming.new.writer c.writer.inside.clerk
-                  c.way_of.new.clerk
-                  c.writer.invariant c.into_parts-way.result.2 c.into_parts-way.result.0 (finds g c)
-                  c.args.rows.now
-                  c.into_parts-way.result.1 v.in-Err-NoSlot.counts c.into_parts-way.ensures.id it.0,
+              fill_lacks writer asker next clerk searched_by tied id way (finds g c) rows number
+                  v.in-Err-NoSlot.counts c.into_parts-way.ensures.id it.0,
             ),
             it.1,
           ) v.result-is

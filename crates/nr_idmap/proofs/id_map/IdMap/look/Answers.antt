@@ -15,11 +15,8 @@ invariant_of-writer g c =
 
 pub returns-in_default-clause-owes : goal.returns-in_default-clause-owes
 returns-in_default-clause-owes g c =
-    let writer = c.writer.inside.writer in let asker = c.writer.inside.asker in
-    let clerk = c.writer.inside.clerk in let searched_by = c.way_of.new.clerk in
-    owes_so writer asker clerk c.args.writer.now c.writer.view_is writer asker searched_by
-    (searched writer asker clerk searched_by c.writer.invariant c.args.id c.requires.id c.way_of.result
-    c.way_of.ensures.answer).1
+    owes_so _ _ _ _ c.writer.view_is c.writer.inside.writer c.writer.inside.asker c.way_of.new.clerk
+    (searched _ _ _ _ c.writer.invariant c.args.id c.requires.id _ c.way_of.ensures.answer).1
 
 pub invariant_of-writer-2 : goal.invariant_of-writer-2
 invariant_of-writer-2 g c = elim c.match-look_into.branch [

@@ -16,11 +16,8 @@ invariant_of-writer c =
 
 pub returns-in_default-clause-owes : goal.returns-in_default-clause-owes
 returns-in_default-clause-owes c =
-    let writer = c.writer.inside.writer in let asker = c.writer.inside.asker in
-    let clerk = c.writer.inside.clerk in let searched_by = c.way_of.new.clerk in
-    owes_so writer asker clerk c.args.writer.now c.writer.view_is writer asker searched_by
-    (searched writer asker clerk searched_by c.writer.invariant c.args.id c.requires.id c.way_of.result
-    c.way_of.ensures.answer).1
+    owes_so _ _ _ _ c.writer.view_is c.writer.inside.writer c.writer.inside.asker c.way_of.new.clerk
+    (searched _ _ _ _ c.writer.invariant c.args.id c.requires.id _ c.way_of.ensures.answer).1
 
 put : (c : goal.Joined-replace_rows) (r : Result (Unit {0}) ReplaceFault) →
     ReplacesKey c.in-Some.way c.as_slice.result.now c.writer.inside.writer c.replace_rows.new.writer r →
@@ -63,5 +60,4 @@ returns-clause-replaces c =
 
 pub returns-clause-owes : goal.returns-clause-owes
 returns-clause-owes c =
-    owes_so c.writer.inside.writer c.writer.inside.asker c.writer.inside.clerk c.args.writer.now c.writer.view_is
-    c.replace_rows.new.writer c.writer.inside.asker c.way_of.new.clerk (left c).1
+    owes_so _ _ _ _ c.writer.view_is c.replace_rows.new.writer c.writer.inside.asker c.way_of.new.clerk (left c).1

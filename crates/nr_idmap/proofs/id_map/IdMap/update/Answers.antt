@@ -14,11 +14,8 @@ invariant_of-writer c =
 
 pub returns-in_default-clause-owes : goal.returns-in_default-clause-owes
 returns-in_default-clause-owes c =
-    let writer = c.writer.inside.writer in let asker = c.writer.inside.asker in
-    let clerk = c.writer.inside.clerk in let searched_by = c.way_of.new.clerk in
-    owes_so writer asker clerk c.args.writer.now c.writer.view_is writer asker searched_by
-    (searched writer asker clerk searched_by c.writer.invariant c.args.id c.requires.id c.way_of.result
-    c.way_of.ensures.answer).1
+    owes_so _ _ _ _ c.writer.view_is c.writer.inside.writer c.writer.inside.asker c.way_of.new.clerk
+    (searched _ _ _ _ c.writer.invariant c.args.id c.requires.id _ c.way_of.ensures.answer).1
 
 left : (c : goal.Joined-update_rows) →
     IsTied (keeper_of c.update_rows.new.writer c.writer.inside.asker c.way_of.new.clerk) ×
@@ -61,5 +58,4 @@ returns-clause-updates c =
 
 pub returns-clause-owes : goal.returns-clause-owes
 returns-clause-owes c =
-    owes_so c.writer.inside.writer c.writer.inside.asker c.writer.inside.clerk c.args.writer.now c.writer.view_is
-    c.update_rows.new.writer c.writer.inside.asker c.way_of.new.clerk (left c).1
+    owes_so _ _ _ _ c.writer.view_is c.update_rows.new.writer c.writer.inside.asker c.way_of.new.clerk (left c).1

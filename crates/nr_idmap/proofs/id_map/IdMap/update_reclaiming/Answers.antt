@@ -17,8 +17,7 @@ invariant_of-writer g c =
 
 pub returns-in_default-clause-owes : goal.returns-in_default-clause-owes
 returns-in_default-clause-owes g c =
-    owes_so c.writer.inside.writer c.writer.inside.asker c.writer.inside.clerk c.args.writer.now
-    c.writer.view_is c.writer.inside.writer c.writer.inside.asker c.way_of.new.clerk
+    owes_so _ _ _ _ c.writer.view_is c.writer.inside.writer c.writer.inside.asker c.way_of.new.clerk
     (searched _ _ _ _ c.writer.invariant c.args.id c.requires.id _ c.way_of.ensures.answer).1
 
 left : (g : given.Over) (c : goal.Joined-update_reclaiming g) →
@@ -66,5 +65,5 @@ returns-clause-updates g c =
 
 pub returns-clause-owes : goal.returns-clause-owes
 returns-clause-owes g c =
-    owes_so c.writer.inside.writer c.writer.inside.asker c.writer.inside.clerk c.args.writer.now c.writer.view_is
-    c.update_reclaiming.new.writer c.writer.inside.asker c.way_of.new.clerk (left g c).1
+    owes_so _ _ _ _ c.writer.view_is c.update_reclaiming.new.writer c.writer.inside.asker c.way_of.new.clerk
+    (left g c).1

@@ -64,72 +64,69 @@ returns-then-number-clause-withdraws c =
 
 pub invariant_of-writer-in-Cancelled : goal.invariant_of-writer-in-Cancelled
 invariant_of-writer-in-Cancelled c =
-    let writer = c.writer.inside.writer in let asker = c.writer.inside.asker in
-    let clerk = c.writer.inside.clerk in let searched_by = c.way_of.new.clerk in let tied = c.writer.invariant in
     let id = c.into_parts-way.result.2 in let way = c.into_parts-way.result.0 in
-    let finds : FindsWay id clerk searched_by (Some way) = search (rules, found_is) in
-    (withdrawn_way writer asker c.cancel.new.writer clerk searched_by c.unname.new.clerk tied id way
-    c.into_parts-way.ensures.id finds c.unname.ensures.answer c.into_parts-way.result.1
+    let finds : FindsWay id c.writer.inside.clerk c.way_of.new.clerk (Some way) = search (rules, found_is) in
+    (withdrawn_way _ _ c.cancel.new.writer _ _ c.unname.new.clerk c.writer.invariant id way c.into_parts-way.ensures.id
+    finds c.unname.ensures.answer c.into_parts-way.result.1
     (sym c.number.ensures.number ∙ c.if-number.false) c.in-Cancelled.ensures).0
 
 pub invariant_of-writer-in-Nothing : goal.invariant_of-writer-in-Nothing
 invariant_of-writer-in-Nothing c =
-    let writer = c.writer.inside.writer in let asker = c.writer.inside.asker in
-    let clerk = c.writer.inside.clerk in let searched_by = c.way_of.new.clerk in let tied = c.writer.invariant in
     let id = c.into_parts-way.result.2 in let way = c.into_parts-way.result.0 in
-    let finds : FindsWay id clerk searched_by (Some way) = search (rules, found_is) in
-    (cancel_nothing writer asker c.cancel.new.writer clerk searched_by tied id way finds c.in-Nothing.ensures).0.0
+    let finds : FindsWay id c.writer.inside.clerk c.way_of.new.clerk (Some way) = search (rules, found_is) in
+    (cancel_nothing _ _ c.cancel.new.writer _ _ c.writer.invariant id way finds c.in-Nothing.ensures).0.0
 
 pub invariant_of-writer-in-Worn : goal.invariant_of-writer-in-Worn
 invariant_of-writer-in-Worn c =
-    let writer = c.writer.inside.writer in let asker = c.writer.inside.asker in
-    let clerk = c.writer.inside.clerk in let searched_by = c.way_of.new.clerk in let tied = c.writer.invariant in
     let id = c.into_parts-way.result.2 in let way = c.into_parts-way.result.0 in
-    let finds : FindsWay id clerk searched_by (Some way) = search (rules, found_is) in
-    (cancel_worn writer asker c.cancel.new.writer clerk searched_by tied id way finds c.into_parts-way.result.1 c.into_parts-way.ensures.id
+    let finds : FindsWay id c.writer.inside.clerk c.way_of.new.clerk (Some way) = search (rules, found_is) in
+    (cancel_worn _ _ c.cancel.new.writer _ _ c.writer.invariant id way finds c.into_parts-way.result.1
+    c.into_parts-way.ensures.id
     (sym c.number.ensures.number ∙ c.if-number.false) c.in-Worn.ensures).0
 
 pub returns-in-Cancelled-clause-withdraws : goal.returns-in-Cancelled-clause-withdraws
 returns-in-Cancelled-clause-withdraws c =
-    let writer = c.writer.inside.writer in let asker = c.writer.inside.asker in
-    let clerk = c.writer.inside.clerk in let searched_by = c.way_of.new.clerk in let tied = c.writer.invariant in
     let id = c.into_parts-way.result.2 in let way = c.into_parts-way.result.0 in
+    let finds : FindsWay id c.writer.inside.clerk c.way_of.new.clerk (Some way) = search (rules, found_is) in
     let number = c.into_parts-way.result.1 in
-    let finds : FindsWay id clerk searched_by (Some way) = search (rules, found_is) in
     let owed : Owed = record { way = way; number = number; id = id } in
-    let new = keeper_of c.cancel.new.writer asker c.unname.new.clerk in
-    subst (λ (o : Owed). WithdrawsOwed o c.args.writer.now new) (sym c.into_parts-way.ensures.parts)
-    (subst (λ (k : Keeper). WithdrawsOwed owed k new) c.writer.view_is
-    (withdrawn_way writer asker c.cancel.new.writer clerk searched_by c.unname.new.clerk tied id way
+    let old = keeper_of c.writer.inside.writer c.writer.inside.asker c.writer.inside.clerk in
+    let new = keeper_of c.cancel.new.writer c.writer.inside.asker c.unname.new.clerk in
+    let withdraws : WithdrawsOwed owed old new
+    = (withdrawn_way _ _ c.cancel.new.writer _ _ c.unname.new.clerk c.writer.invariant id way
     c.into_parts-way.ensures.id finds c.unname.ensures.answer number
-    (sym c.number.ensures.number ∙ c.if-number.false) c.in-Cancelled.ensures).1)
+    (sym c.number.ensures.number ∙ c.if-number.false) c.in-Cancelled.ensures).1 in search rules
 
 pub returns-in-Nothing-clause-withdraws : goal.returns-in-Nothing-clause-withdraws
 returns-in-Nothing-clause-withdraws c =
-    let writer = c.writer.inside.writer in let asker = c.writer.inside.asker in
-    let clerk = c.writer.inside.clerk in let searched_by = c.way_of.new.clerk in let tied = c.writer.invariant in
     let id = c.into_parts-way.result.2 in let way = c.into_parts-way.result.0 in
-    let finds : FindsWay id clerk searched_by (Some way) = search (rules, found_is) in
-    let owed : Owed = record { way = way; number = c.into_parts-way.result.1; id = id } in
-    let new = keeper_of c.cancel.new.writer asker searched_by in
-    let met = cancel_nothing writer asker c.cancel.new.writer clerk searched_by tied id way finds c.in-Nothing.ensures in
-    let was : WasClosed (Refused owed) owed (keeper_of writer asker clerk) new = record
-    { closed = met.1 owed; found = Some way; finds = finds; how = inr (refl, c.in-Nothing.ensures); owes = met.0.1 } in
-    subst (λ (o : Owed). WasClosed (Refused o) o c.args.writer.now new) (sym c.into_parts-way.ensures.parts)
-    (subst (λ (k : Keeper). WasClosed (Refused owed) owed k new) c.writer.view_is was)
+    let finds : FindsWay id c.writer.inside.clerk c.way_of.new.clerk (Some way) = search (rules, found_is) in
+    let number = c.into_parts-way.result.1 in
+    let owed : Owed = record { way = way; number = number; id = id } in
+    let old = keeper_of c.writer.inside.writer c.writer.inside.asker c.writer.inside.clerk in
+    let new = keeper_of c.cancel.new.writer c.writer.inside.asker c.way_of.new.clerk in
+    let met = cancel_nothing _ _ c.cancel.new.writer _ _ c.writer.invariant id way finds c.in-Nothing.ensures in
+    subst (λ (x : Owed × Keeper). WasClosed (Refused x.0) x.0 x.1 new)
+    (λ i. (sym c.into_parts-way.ensures.parts i, c.writer.view_is i))
+    (record {
+      closed = met.1 owed;
+      found = Some way;
+      finds = finds;
+      how = inr (refl, c.in-Nothing.ensures);
+      owes = met.0.1;
+    })
 
 pub returns-in-Worn-clause-withdraws : goal.returns-in-Worn-clause-withdraws
 returns-in-Worn-clause-withdraws c =
-    let writer = c.writer.inside.writer in let asker = c.writer.inside.asker in
-    let clerk = c.writer.inside.clerk in let searched_by = c.way_of.new.clerk in let tied = c.writer.invariant in
     let id = c.into_parts-way.result.2 in let way = c.into_parts-way.result.0 in
+    let finds : FindsWay id c.writer.inside.clerk c.way_of.new.clerk (Some way) = search (rules, found_is) in
     let number = c.into_parts-way.result.1 in
-    let finds : FindsWay id clerk searched_by (Some way) = search (rules, found_is) in
     let owed : Owed = record { way = way; number = number; id = id } in
-    let new = keeper_of c.cancel.new.writer asker searched_by in (
+    let old = keeper_of c.writer.inside.writer c.writer.inside.asker c.writer.inside.clerk in
+    let new = keeper_of c.cancel.new.writer c.writer.inside.asker c.way_of.new.clerk in
+    let worn : WornOwed owed old new
+    = (cancel_worn _ _ c.cancel.new.writer _ _ c.writer.invariant id way finds number c.into_parts-way.ensures.id
+    (sym c.number.ensures.number ∙ c.if-number.false) c.in-Worn.ensures).1 in (
       c.upquery.ensures ∙ (λ i. record { table = sym c.requires.own i; owed = sym c.into_parts-way.ensures.parts i }),
-      subst (λ (o : Owed). WornOwed o c.args.writer.now new) (sym c.into_parts-way.ensures.parts)
-          (subst (λ (k : Keeper). WornOwed owed k new) c.writer.view_is
-          (cancel_worn writer asker c.cancel.new.writer clerk searched_by tied id way finds number c.into_parts-way.ensures.id
-          (sym c.number.ensures.number ∙ c.if-number.false) c.in-Worn.ensures).1),
+      search rules,
     )
