@@ -33,6 +33,7 @@ use Rattle.nr_idmap.specs.Keepers.{Agrees, IsTied, OwesSame, keeper_of, owed_for
 use Rattle.nr_idmap.proofs.Entries.{Rested, Stayed, after_both, count_after, stayed}
 use Rattle.nr_idmap.proofs.Stills.{IsStill, agrees_still, others_still, owed_still}
 use Rattle.nr_idmap.proofs.Ties.{owed_asked, rested_of, retied, stayed_agrees, stayed_owes}
+use Rattle.nr_idmap.proofs.WayCalls.{still_asked}
 
 append_cancel : (xs ys zs : List Entry) → xs ++ ys ≡ xs ++ zs → ys ≡ zs
 append_cancel [] ys zs same = same
@@ -112,13 +113,6 @@ still_either n was now which still = ⊎_elim
     which)
     still
 
-asked_still : (n : ℕ) (was now : KeyState) → was ≡ Asked n → IsStill was now → now ≡ Asked n
-asked_still n was now is still = ⊎_elim
-    (λ (same : now ≡ was). same ∙ is)
-    (λ (t : (number : ℕ) × (was ≡ Hole number) × (now ≡ Asked number)).
-    let e : Hole t.0 ≡ Asked n = sym t.1 ∙ is in absurd (cc (e)))
-    still
-
 module _ (way : ℕ) (a w a' w' : Caller) (rested : Rested w) (asks : AsksWay way a w a' w') where
   stepped : Rested (with_step w)
   stepped = record {
@@ -188,8 +182,10 @@ module _ (way : ℕ) (a w a' w' : Caller) (rested : Rested w) (asks : AsksWay wa
       ∙ after_both w.seen ((r ++ e) ++ last) open_map ∙ after_both (r ++ e) last (map_seen w)
       ∙ ap (λ (m : PartialMap). after m last) (after_both r e (map_seen w)) in (
         was.0,
-        asked_still was.0 (state_of (next there (Ask way)) way) (state_of (map_seen w') way) asked
-            (subst (λ (m : PartialMap). IsStill (state_of (next there (Ask way)) way) (state_of m way)) (sym whole) on),
+        still_asked was.0 (state_of (map_seen w') way)
+            (subst (λ (s : KeyState). IsStill s (state_of (map_seen w') way)) asked
+            (subst (λ (m : PartialMap). IsStill (state_of (next there (Ask way)) way) (state_of m way))
+            (sym whole) on)),
       )
 
 -- AN ADMISSION

@@ -1,27 +1,26 @@
 -- The writer's own look at the id's way: it leaves the tie and the ledger, and the set that it finds is the id's.
-use Rattle.std.proofs.Common.{◌≡◌, ◌≢◌, ℕ, ◌+◌, ◌*◌, ◌<◌, Bool, true, false, List, ◌∷◌, length, refl, sym, ap, ◌∙◌}
+use Rattle.std.proofs.Common.{◌≡◌, ℕ, ◌+◌, ◌*◌, Bool, true, false, List, ◌∷◌, length, refl, sym, ap, ◌∙◌}
 use Rattle.std.proofs.Common.{subst, Some}
 use Rattle.nr_model.specs.declared.rows.Row.{Row}
-use Rattle.nr_model.specs.declared.calls.Call.{Call}
 use Rattle.nr_model.specs.declared.calls.Call.TheVariants.{Find}
 use Rattle.nr_model.specs.declared.calls.Reply.{Reply}
 use Rattle.nr_model.specs.declared.calls.Reply.TheVariants as reply
 use Rattle.nr_model.specs.declared.states.KeyState.{KeyState}
 use Rattle.nr_model.specs.declared.states.KeyState.TheVariants.{Hole, Asked, Rows}
 use Rattle.nr_model.specs.Maps.{find_reply, state_of}
-use Rattle.nr_board.specs.Callers.{Caller, Gains, map_seen}
+use Rattle.nr_board.specs.Callers.{Caller, Gains}
 use Rattle.nr_board.specs.WriterAnswers.{SlotsStay}
 use Rattle.nr_ids.specs.Answers.{FindsWay}
-use Rattle.nr_ids.specs.Events.{looks, name_of}
+use Rattle.nr_ids.specs.Events.{name_of}
 use Rattle.nr_ids.specs.Tokens.{Token}
 use Rattle.nr_idmap.specs.declared.looks.Looked.{Looked}
 use Rattle.nr_idmap.specs.declared.looks.Looked.TheVariants as looked
 use Rattle.nr_idmap.specs.IdLooks.{LooksById}
-use Rattle.nr_idmap.specs.Keepers.{Agrees, IsTied, Keeper, OwesSame, keeper_of, owed_for}
+use Rattle.nr_idmap.specs.Keepers.{Agrees, IsTied, Keeper, OwesSame, keeper_of}
 use Rattle.nr_idmap.specs.Tags.{CopiesBehind, tag_of}
 use Rattle.nr_idmap.proofs.Entries.{went}
-use Rattle.nr_idmap.proofs.Ties.{found_looks, found_names, mid_agrees, mid_owes, near_of, rested_of, retied}
-use Rattle.nr_idmap.proofs.Ties.{went_agrees, went_owes}
+use Rattle.nr_idmap.proofs.Ties.{found_names, near_of, rested_of}
+use Rattle.nr_idmap.proofs.WayCalls.{agree, untouched}
 
 -- a set that is found begins with the name's tag
 found_tagged : (name : ℕ) (state : KeyState) (set : List Row) → Agrees name state → reply.Rows set ≡ find_reply state →
@@ -32,38 +31,23 @@ found_tagged name (Rows n rows) set agrees found = let same : set ≡ rows = cc 
 
 module _ (w a w' : Caller) (c c' : Token) (tied : IsTied (keeper_of w a c)) (id way : ℕ)
     (finds : FindsWay id c c' (Some way)) where
-  near : way < w.table.shape.keys
-  near = near_of w a id way c c' tied finds
-
-  names : (k : ℕ) → name_of c'.seen k ≡ name_of c.seen k
-  names k = found_names w a id c c' (Some way) tied finds k
-
-  pub look_left : (steps : ℕ) (answer : Reply) → Gains steps (Find way) w w' answer →
-      IsTied (keeper_of w' a c') × OwesSame (keeper_of w a c) (keeper_of w' a c')
+  pub look_left : (steps : ℕ) (answer : Reply) → Gains steps (Find way) w w' answer
+      → IsTied (keeper_of w' a c') × OwesSame (keeper_of w a c) (keeper_of w' a c')
   look_left steps answer gains =
-      let call : Call = Find way in let go = went steps w w' call answer (rested_of w a c tied) gains near in
-      let look = found_looks id c c' (Some way) finds in
-      let same = λ (k : ℕ) (_ : k ≢ way). names k in let name : ℕ = name_of c.seen way in
-      let here : Agrees (name_of c'.seen way) (state_of (map_seen w') way)
-      = subst (λ (n : ℕ). Agrees n (state_of (map_seen w') way))
-      (sym (names way)) (subst (Agrees name) (sym go.at_key) (mid_agrees w a w' c c' call answer tied go same way)) in (
-        retied w a w' a c c' (looks look.0 c.number) tied (go.rested tt) gains.table (refl, tied.asks.1) look.1
-            (went_agrees w a w' c c' call answer tied go same here),
-        went_owes w a w' c c' call answer tied go same a
-            (ap (λ (n : ℕ). owed_for way n (state_of (map_seen w') way)) (names way) ∙ ap (owed_for way name) go.at_key
-            ∙ mid_owes w a w' c c' call answer tied go same),
-      )
+      let go = went steps w w' (Find way) answer (rested_of w a c tied) gains (near_of w a id way c c' tied finds) in
+      untouched w a w' c c' tied id way finds (Find way) answer go (go.rested tt) gains.table refl
 
-  pub look_tagged : (steps : ℕ) (set : List Row) → Gains steps (Find way) w w' (reply.Rows set) →
-      (rows : List Row) × (set ≡ tag_of id ∷ rows)
+  pub look_tagged : (steps : ℕ) (set : List Row) → Gains steps (Find way) w w' (reply.Rows set)
+      → (rows : List Row) × (set ≡ tag_of id ∷ rows)
   look_tagged steps set gains =
-      let call : Call = Find way in
-      let go = went steps w w' call (reply.Rows set) (rested_of w a c tied) gains near in
-      let same = λ (k : ℕ) (_ : k ≢ way). names k in let name : ℕ = name_of c.seen way in
-      let tag
-      = found_tagged name (state_of go.mid way) set (mid_agrees w a w' c c' call (reply.Rows set) tied go same way)
-      go.replied in
-      (tag.0, tag.1 ∙ ap (λ (n : ℕ). tag_of n ∷ tag.0) (sym (names way) ∙ finds.1.has))
+      let told : Reply = reply.Rows set in
+      let go = went steps w w' (Find way) told (rested_of w a c tied) gains (near_of w a id way c c' tied finds) in
+      let tag = found_tagged (name_of c.seen way) (state_of go.mid way) set
+      (agree w a w' c c' tied id way finds (Find way) told go way) go.replied in (
+        tag.0,
+        tag.1 ∙ ap (λ (n : ℕ). tag_of n ∷ tag.0)
+            (sym (found_names w a id c c' (Some way) tied finds way) ∙ finds.1.has),
+      )
 
 -- WHAT IT SAYS
 module _ {Room : Type 0} (shows : Room → List Row → Type 0) (id way : ℕ) (old now new : Keeper) (before after : Room)

@@ -1,12 +1,9 @@
 -- The tokens of a new map and a new directory are tied.
-use Rattle.std.proofs.Common.{◌≡◌, ℕ, zero, suc, ◌+◌, ◌<◌, ◌≤◌, ⊎_elim, List, [], ◌∷◌, ◌++◌, length, replicate, refl}
+use Rattle.std.proofs.Common.{◌≡◌, ℕ, zero, suc, ◌+◌, ◌<◌, List, [], ◌∷◌, ◌++◌, length, refl}
 use Rattle.std.proofs.Common.{sym, ap, ◌∙◌, subst, arith, length-append, Some}
 use Rattle.std.specs.Prelude.{All, slice_get}
-use Rattle.std.proofs.lemmas.Bool.{cases_lt}
-use Rattle.std.proofs.lemmas.List.{get_or_past, get_or-replicate, length-replicate}
-use Rattle.nr_model.specs.declared.states.KeyState.TheVariants.{Hole}
 use Rattle.nr_model.specs.Histories.{Entry, IsLegal, after, entries_of}
-use Rattle.nr_model.specs.Maps.{opening, state_of}
+use Rattle.nr_model.specs.Maps.{state_of}
 use Rattle.nr_core.specs.declared.shape.Shape.{Shape}
 use Rattle.nr_core.specs.Marks.{no_marks}
 use Rattle.nr_board.specs.Callers.{Caller, KnowsOwn, Table, map_at_opening}
@@ -18,17 +15,11 @@ use Rattle.nr_map.specs.Opened.{IsOpened, newcomer}
 use Rattle.nr_idmap.specs.IdOpenings.{pairs_from}
 use Rattle.nr_idmap.specs.Keepers.{Agrees, IdCaller, IsTied, keeper_of, id_table_of}
 use Rattle.nr_idmap.specs.Tidy.{IsTidy}
+use Rattle.nr_idmap.proofs.Readings.{opened_hole}
 
 last_of : (rest : List Caller) (last : Caller) → slice_get (rest ++ last ∷ []) (length rest) ≡ Some last
 last_of [] last = refl
 last_of (reader ∷ rest) last = last_of rest last
-
-is_hole : (keys rows number key : ℕ) → (n : ℕ) × (state_of (opening keys rows number) key ≡ Hole n)
-is_hole keys rows number key = ⊎_elim
-    (λ (near : key < keys). (number, get_or-replicate keys key (Hole number) (Hole 0) near))
-    (λ (far : keys ≤ key).
-    (0, get_or_past (replicate keys (Hole number)) key (Hole 0) (omega (arith, length-replicate keys (Hole number)))))
-    (cases_lt key keys)
 
 module _ (shape : Shape) (words : ℕ) (map : Table) (writer asker : Caller) (mapped rest : List Caller)
     (opened : IsOpened shape words map writer mapped)
@@ -65,7 +56,8 @@ module _ (shape : Shape) (words : ℕ) (map : Table) (writer asker : Caller) (ma
           tidy = subst (IsTidy (map_at_opening writer.table)) (sym seen) tt;
           legal = subst (IsLegalList clerk.directory.plan) (sym fresh.1) tt;
           agrees = λ way.
-              let hole = is_hole writer.table.shape.keys writer.table.shape.rows writer.table.shape.first_number way in
+              let hole = opened_hole writer.table.shape.keys writer.table.shape.rows writer.table.shape.first_number
+                  way in
               subst (Agrees (name_of clerk.seen way))
               (sym (ap (λ (l : List Entry). state_of (after (map_at_opening writer.table) l) way) seen ∙ hole.1))
               (ap (λ (l : List Event). name_of l way) fresh.1);

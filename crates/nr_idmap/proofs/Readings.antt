@@ -543,8 +543,8 @@ reads_on (e ∷ history) map ids shows legal tidy =
     )
 
 -- a new map has no sets
-opened_hole : (keys bound number key : ℕ) → (n : ℕ) × (state_of (opening keys (suc bound) number) key ≡ Hole n)
-opened_hole keys bound number key = ⊎_elim
+pub opened_hole : (keys rows number key : ℕ) → (n : ℕ) × (state_of (opening keys rows number) key ≡ Hole n)
+opened_hole keys rows number key = ⊎_elim
     (λ (near : key < keys). (number, get_or-replicate keys key (Hole number) (Hole 0) near))
     (λ (far : keys ≤ key).
     (0, get_or_past (replicate keys (Hole number)) key (Hole 0) (omega (arith, length-replicate keys (Hole number)))))
@@ -553,11 +553,11 @@ opened_hole keys bound number key = ⊎_elim
 opens : (keys bound number : ℕ) → TellsIds (opening keys (suc bound) number) (no_ids bound)
 opens keys bound number = record {
   bound = refl;
-  tagged = λ key n rows is. let hole = opened_hole keys bound number key in
+  tagged = λ key n rows is. let hole = opened_hole keys (suc bound) number key in
       absurd (let e : Hole hole.0 ≡ Rows n rows = sym hole.1 ∙ is in cc (e));
-  present = λ key set is. no_some set _ (sym (ap id_set_of (opened_hole keys bound number key).1) ∙ is);
+  present = λ key set is. no_some set _ (sym (ap id_set_of (opened_hole keys (suc bound) number key).1) ∙ is);
   only = λ id rows is. no_some rows _ is;
-  one = λ j k s t js kt same. no_some s _ (sym (ap id_set_of (opened_hole keys bound number j).1) ∙ js);
+  one = λ j k s t js kt same. no_some s _ (sym (ap id_set_of (opened_hole keys (suc bound) number j).1) ∙ js);
 }
 
 pub reads_as_ids : ReadsAsIds

@@ -79,27 +79,15 @@ others_behind : (first : Row) (delta : Delta) (batch : List Delta) → IsBehind 
     → IsBehind first batch
 others_behind first delta batch behind = λ place d low. behind (suc place) d (omega arith)
 
-positive_above : (first : Row) (batch : List Delta) → IsBehind first batch → Above first (positive_rows batch)
-positive_above first [] behind = tt
-positive_above first (delta ∷ batch) behind = elim delta.plus as
-    (λ b. Above first
-    (map (λ (d : Delta). d.row)
-    (cond b (delta ∷ filter (λ (d : Delta). d.plus) batch) (filter (λ (d : Delta). d.plus) batch)))) [
-      | true ↦
-          (first_behind first delta batch behind, positive_above first batch (others_behind first delta batch behind))
-      | false ↦ positive_above first batch
-          (others_behind first delta batch behind)
-    ]
-
-negative_above : (first : Row) (batch : List Delta) → IsBehind first batch → Above first (negative_rows batch)
-negative_above first [] behind = tt
-negative_above first (delta ∷ batch) behind = elim (not delta.plus) as
-    (λ b. Above first (map (λ (d : Delta). d.row)
-    (cond b (delta ∷ filter (λ (d : Delta). not d.plus) batch) (filter (λ (d : Delta). not d.plus) batch)))) [
-      | true ↦
-          (first_behind first delta batch behind, negative_above first batch (others_behind first delta batch behind))
-      | false ↦ negative_above first batch
-          (others_behind first delta batch behind)
+filtered_above : (keeps : Delta → Bool) (first : Row) (batch : List Delta) → IsBehind first batch
+    → Above first (map (λ (d : Delta). d.row) (filter keeps batch))
+filtered_above keeps first [] behind = tt
+filtered_above keeps first (delta ∷ batch) behind =
+    let rest = filtered_above keeps first batch (others_behind first delta batch behind) in
+    elim (keeps delta) as
+    (λ b. Above first (map (λ (d : Delta). d.row) (cond b (delta ∷ filter keeps batch) (filter keeps batch)))) [
+      | true ↦ (first_behind first delta batch behind, rest)
+      | false ↦ rest
     ]
 
 abbrev pub put_first : Row → Result (List Row) ApplyFault → Result (List Row) ApplyFault
@@ -110,7 +98,8 @@ pub applied_behind : (bound : ℕ) (first : Row) (rows : List Row) (batch : List
     applied (suc bound) (first ∷ rows) batch ≡ put_first first (applied bound rows batch)
 applied_behind bound first rows batch behind =
     let more : List Row = positive_rows batch in let less : List Row = negative_rows batch in
-    let more_above = positive_above first batch behind in let less_above = negative_above first batch behind in
+    let more_above = filtered_above (λ d. d.plus) first batch behind in
+    let less_above = filtered_above (λ d. not d.plus) first batch behind in
     let left : List Row = without_all (with_all rows more) less in
     let whole : with_all (first ∷ rows) more ≡ first ∷ with_all rows more
     = with_all_behind more rows first more_above in

@@ -54,17 +54,15 @@ module _ (key : ℕ) (old new : Handed) (sorted : List Row) (near : key < new.re
       (λ anew. let so = anew.1.4.row_set in (so.0, omega (arith, few, so.1)))
       reads
 
+  reads_hold : (more : ℕ) → FindsAndReads more key old new → IsIdHand new sorted (held_kept key tagged.Rows)
+  reads_hold more reads = record {
+    key_is = reads_key more reads;
+    near = near;
+    row_set = reads_row_set more reads;
+    set = λ some. absurd (omega (arith, some));
+  }
+
   pub walks_hold : (answer : Tagged) → Keeps key old new answer → IsIdHand new sorted (held_kept key answer)
-  walks_hold tagged.Rows (more, reads) = record {
-    key_is = reads_key more reads;
-    near = near;
-    row_set = reads_row_set more reads;
-    set = λ some. absurd (omega (arith, some));
-  }
-  walks_hold tagged.Other (more, reads) = record {
-    key_is = reads_key more reads;
-    near = near;
-    row_set = reads_row_set more reads;
-    set = λ some. absurd (omega (arith, some));
-  }
+  walks_hold tagged.Rows keeps = reads_hold keeps.0 keeps.1
+  walks_hold tagged.Other keeps = reads_hold keeps.0 keeps.1
   walks_hold tagged.Hole keeps = keeps.1.4.key_is

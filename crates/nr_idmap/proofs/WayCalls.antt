@@ -43,7 +43,7 @@ use Rattle.nr_idmap.proofs.Ties.{replace_keeps, replace_owes, rested_of, retied,
 use Rattle.nr_idmap.proofs.Ties.{update_agrees, update_owes, went_agrees, went_else, went_owes}
 
 -- ONE STATE
-still_asked : (n : ℕ) (now : KeyState) → IsStill (Asked n) now → now ≡ Asked n
+pub still_asked : (n : ℕ) (now : KeyState) → IsStill (Asked n) now → now ≡ Asked n
 still_asked n now still = ⊎_elim (λ same. same)
     (λ (asked : (number : ℕ) × (Asked n ≡ Hole number) × (now ≡ Asked number)). absurd (cc (asked.1))) still
 
@@ -195,7 +195,7 @@ module _ (w a w' : Caller) (c c' : Token) (tied : IsTied (keeper_of w a c)) (id 
     abbrev after : KeyState
     after = state_after go.mid.bound call before
 
-    agree : (k : ℕ) → Agrees (name_of c.seen k) (state_of go.mid k)
+    pub agree : (k : ℕ) → Agrees (name_of c.seen k) (state_of go.mid k)
     agree = mid_agrees w a w' c c' call answer tied go (λ k _. names k)
 
     tied_after : Rested w' → w'.table ≡ w.table → Agrees name after → IsTied (keeper_of w' a c')
@@ -213,7 +213,7 @@ module _ (w a w' : Caller) (c c' : Token) (tied : IsTied (keeper_of w a c)) (id 
         (ap (λ (n : ℕ). owed_for key n (state_of (map_seen w') key)) (names key) ∙ ap (owed_for key name) go.at_key
         ∙ same ∙ mid_owes w a w' c c' call answer tied go (λ k _. names k))
 
-    untouched : Rested w' → w'.table ≡ w.table → after ≡ before → Left
+    pub untouched : Rested w' → w'.table ≡ w.table → after ≡ before → Left
     untouched rested table stays = (
       tied_after rested table (subst (Agrees name) (sym stays) (agree (call_key call))),
       owes_after (ap (owed_for (call_key call) name) stays),

@@ -47,12 +47,12 @@ returns-clause-replaces c =
     Type 0 = λ way. ReplacesKey way (tag_of c.args.id ∷ c.args.rows.now) in
     elim c.match-replace_rows.branch [
       | in-Ok v ↦
-          way_done writer asker clerk c.args.writer.now c.writer.view_is c.replace_rows.new.writer asker searched_by
+          way_done _ _ _ _ c.writer.view_is c.replace_rows.new.writer asker searched_by
           Calls c.args.id
           c.match-replace_rows.result c.in-Some.way tt c.in-Some.ensures.answer (put c (Ok tt) v.in-Ok.ensures)
           v.result-is
       | in-Err v ↦
-          way_refused writer asker clerk c.args.writer.now c.writer.view_is c.replace_rows.new.writer asker searched_by
+          way_refused _ _ _ _ c.writer.view_is c.replace_rows.new.writer asker searched_by
           Calls
           c.args.id c.match-replace_rows.result c.in-Some.way v.in-Err.fault c.in-Some.ensures.answer
           (put c (Err v.in-Err.fault) v.in-Err.ensures) v.result-is

@@ -45,12 +45,12 @@ returns-clause-updates c =
     in
     elim c.match-update_rows.branch [
       | in-Ok v ↦
-          way_done writer asker clerk c.args.writer.now c.writer.view_is c.update_rows.new.writer asker searched_by
+          way_done _ _ _ _ c.writer.view_is c.update_rows.new.writer asker searched_by
           Calls c.args.id
           c.match-update_rows.result c.in-Some.way tt c.in-Some.ensures.answer (calls (Ok tt) v.in-Ok.ensures)
           v.result-is
       | in-Err v ↦
-          way_refused writer asker clerk c.args.writer.now c.writer.view_is c.update_rows.new.writer asker searched_by
+          way_refused _ _ _ _ c.writer.view_is c.update_rows.new.writer asker searched_by
           Calls
           c.args.id c.match-update_rows.result c.in-Some.way v.in-Err.fault c.in-Some.ensures.answer
           (calls (Err v.in-Err.fault) v.in-Err.ensures) v.result-is

@@ -51,13 +51,12 @@ returns-clause-updates g c =
     c.args.had.now c.update_reclaiming.new.writer c.update_reclaiming.new.had r) c.self.view_is h in
     elim c.match-update_reclaiming.branch [
       | in-Ok v ↦
-          way_done c.writer.inside.writer c.writer.inside.asker c.writer.inside.clerk c.args.writer.now c.writer.view_is
+          way_done _ _ _ _ c.writer.view_is
           c.update_reclaiming.new.writer c.writer.inside.asker c.way_of.new.clerk Calls c.args.id
           c.match-update_reclaiming.result
           c.in-Some.way v.in-Ok.given c.in-Some.ensures.answer (so (Ok v.in-Ok.given) v.in-Ok.ensures) v.result-is
       | in-Err v ↦
-          way_refused c.writer.inside.writer c.writer.inside.asker c.writer.inside.clerk c.args.writer.now
-          c.writer.view_is
+          way_refused _ _ _ _ c.writer.view_is
           c.update_reclaiming.new.writer c.writer.inside.asker c.way_of.new.clerk Calls c.args.id
           c.match-update_reclaiming.result
           c.in-Some.way v.in-Err.fault c.in-Some.ensures.answer (so (Err v.in-Err.fault) v.in-Err.ensures) v.result-is
