@@ -57,7 +57,7 @@ module _ (shape : Shape) (words : ℕ) (map : Table) (writer asker : Caller) (ma
           legal = subst (IsLegalList clerk.directory.plan) (sym fresh.1) tt;
           agrees = λ way.
               let hole = opened_hole writer.table.shape.keys writer.table.shape.rows writer.table.shape.first_number
-                  way in
+              way in
               subst (Agrees (name_of clerk.seen way))
               (sym (ap (λ (l : List Entry). state_of (after (map_at_opening writer.table) l) way) seen ∙ hole.1))
               (ap (λ (l : List Event). name_of l way) fresh.1);

@@ -4,15 +4,11 @@ use Rattle.nr_idmap.proofs.id_map.IdMap.hear_writer.Goals as goal
 
 pub invariant_of-writer : goal.invariant_of-writer
 invariant_of-writer c =
-    (heard_tied 1 c.writer.inside.writer c.writer.inside.asker c.hear_writer.new.writer c.writer.inside.clerk
-    c.hear_clerk.new.clerk
-    c.note.inside.ids c.writer.invariant c.hear_writer.ensures.learns c.hear_clerk.ensures.hears).0
+    (heard_tied 1 _ _ c.hear_writer.new.writer _ c.hear_clerk.new.clerk c.note.inside.ids c.writer.invariant
+    c.hear_writer.ensures.learns c.hear_clerk.ensures.hears).0
 
 pub returns-clause-owes : goal.returns-clause-owes
 returns-clause-owes c =
-    let writer = c.writer.inside.writer in let asker = c.writer.inside.asker in
-    let clerk = c.writer.inside.clerk in
-    owes_so writer asker clerk c.args.writer.now c.writer.view_is c.hear_writer.new.writer asker c.hear_clerk.new.clerk
-    (heard_tied 1 writer asker c.hear_writer.new.writer clerk c.hear_clerk.new.clerk c.note.inside.ids
-    c.writer.invariant
+    owes_so _ _ _ _ c.writer.view_is c.hear_writer.new.writer c.writer.inside.asker c.hear_clerk.new.clerk
+    (heard_tied 1 _ _ c.hear_writer.new.writer _ c.hear_clerk.new.clerk c.note.inside.ids c.writer.invariant
     c.hear_writer.ensures.learns c.hear_clerk.ensures.hears).1

@@ -3,15 +3,11 @@ use Rattle.nr_idmap.proofs.id_map.IdMap.id_at.Goals as goal
 
 pub invariant_of-writer : goal.invariant_of-writer
 invariant_of-writer c =
-    let writer = c.writer.inside.writer in let asker = c.writer.inside.asker in
-    let clerk = c.writer.inside.clerk in
-    (left_tied writer asker clerk c.id_of.new.clerk c.writer.invariant
-    (names_leave c.args.way clerk c.id_of.new.clerk c.id_of.result c.id_of.ensures.answer)).0
+    (left_tied _ _ _ c.id_of.new.clerk c.writer.invariant
+    (names_leave c.args.way c.writer.inside.clerk c.id_of.new.clerk c.id_of.result c.id_of.ensures.answer)).0
 
 pub returns-clause-stays : goal.returns-clause-stays
 returns-clause-stays c =
-    let writer = c.writer.inside.writer in let asker = c.writer.inside.asker in
-    let clerk = c.writer.inside.clerk in
-    stays_so writer asker clerk c.args.writer.now c.writer.view_is c.id_of.new.clerk
-    (left_tied writer asker clerk c.id_of.new.clerk c.writer.invariant
-    (names_leave c.args.way clerk c.id_of.new.clerk c.id_of.result c.id_of.ensures.answer)).1
+    stays_so _ _ _ _ c.writer.view_is c.id_of.new.clerk
+    (left_tied _ _ _ c.id_of.new.clerk c.writer.invariant
+    (names_leave c.args.way c.writer.inside.clerk c.id_of.new.clerk c.id_of.result c.id_of.ensures.answer)).1

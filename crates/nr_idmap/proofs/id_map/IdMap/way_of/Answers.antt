@@ -8,6 +8,5 @@ invariant_of-writer c =
 
 pub returns-clause-stays : goal.returns-clause-stays
 returns-clause-stays c =
-    stays_so c.writer.inside.writer c.writer.inside.asker c.writer.inside.clerk c.args.writer.now c.writer.view_is
-    c.way_of.new.clerk
+    stays_so _ _ _ _ c.writer.view_is c.way_of.new.clerk
     (searched _ _ _ _ c.writer.invariant c.args.id c.requires.id _ c.way_of.ensures.answer).1
