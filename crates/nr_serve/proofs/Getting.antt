@@ -1,9 +1,8 @@
 -- The tries of a get, put together: the tries that found a hole so far, one more of them, and the end.
 use Rattle.std.specs.Prelude.{nat_lt}
-use Rattle.std.proofs.Common.{◌≡◌, ℕ, Bool, false, ◌+◌, ◌-◌, ◌*◌, ◌<◌, ◌≤◌, Result, Ok, Err, List, [], ◌∷◌, ◌++◌}
+use Rattle.std.proofs.Common.{◌≡◌, ℕ, Bool, false, ◌+◌, ◌-◌, ◌≤◌, Result, Ok, Err, List, [], ◌∷◌, ◌++◌}
 use Rattle.std.proofs.Common.{length, refl, sym, ap, ◌∙◌, subst, arith, append_assoc, append-nil, length-append}
 use Rattle.nr_model.specs.declared.rows.Row.{Row}
-use Rattle.nr_model.specs.declared.calls.Reply.TheVariants as reply
 use Rattle.nr_model.specs.Histories.{Entry}
 use Rattle.nr_board.specs.Holds.{HoleIn, finds_by_word}
 use Rattle.nr_serve.specs.declared.hands.Hands.{Hands}
@@ -12,8 +11,8 @@ use Rattle.nr_serve.specs.declared.answers.Got.TheVariants as got
 use Rattle.nr_serve.specs.declared.answers.Requested.{Requested}
 use Rattle.nr_serve.specs.declared.answers.Tried.TheVariants as tried
 use Rattle.nr_serve.specs.declared.sleepers.TooLate.{TooLate}
-use Rattle.nr_serve.specs.Gets.{AwaitsFill, EndsLate, FindsOnce, Gets, GetsInTime, MissesAll, MissesOnce, TriesOnce}
-use Rattle.nr_serve.specs.Gets.{found, miss, misses, requested}
+use Rattle.nr_serve.specs.Gets.{Ends, Gets, GetsInTime, MayEnd, MissesAll, MissesOnce, TriesOnce}
+use Rattle.nr_serve.specs.Gets.{miss, misses, requested}
 use Rattle.nr_serve.specs.Hands.{Moves, last_count}
 use Rattle.nr_serve.proofs.Moving.{moves_both, moves_none}
 
@@ -91,69 +90,28 @@ counted_by key n a b missed no_word =
     let each = missed.counted no_word in
     omega (arith, all, each)
 
--- a last find, and all calls together
-pub found_last : (key n more : ℕ) (a b c : Hands) (set : List Row) (missed : Missed key n a b)
-    → (once : FindsOnce key more b c set)
-    → Moves (missed.steps + (once.steps + more))
-    (misses a.reader.number key missed.requests ++ found b.reader.number key (reply.Rows set) ∷ []) a c
-found_last key n more a b c set missed once =
-    moves_both missed.steps (once.steps + more) _ a (misses a.reader.number key missed.requests) b
-    (found b.reader.number key (reply.Rows set) ∷ []) c refl missed.moves once.moves
-
-abbrev pub gets_by_end : (key n tries : ℕ) (a b c : Hands) (before rows : List Row) (answer : Got) → n < tries
-    → Missed key n a b → TriesOnce key b before c rows (tried.Ended answer) → Gets key tries a before c rows answer
-gets_by_end key n tries a b c before rows got.Rows low missed once = record {
+-- a get that ends so after those tries, by these calls
+abbrev pub gets_by : {key n tries steps : ℕ} {a b c : Hands} {before rows : List Row} {last : List Entry} (answer : Got)
+    → MayEnd tries answer n → Missed key n a b → Ends key answer b before last c rows → Moves steps last b c
+    → Gets key tries a before c rows answer
+gets_by {key} {n} {tries} {steps} {a} {b} {c} {last = last} answer few missed ends moves = record {
   requests = missed.requests;
   between = b;
   missed = missed.missed;
   counted = counted_by key n a b missed;
-  few = omega (arith, low, missed.count_is);
-  last = found b.reader.number key (reply.Rows rows) ∷ [];
-  ends = (refl, once);
-  steps = missed.steps + (once.steps + (2 * length rows + 1));
-  moves = found_last key n (2 * length rows + 1) a b c rows missed once;
-}
-gets_by_end key n tries a b c before rows got.GaveUp low missed once = absurd once
-gets_by_end key n tries a b c before rows got.Barred low missed once = record {
-  requests = missed.requests;
-  between = b;
-  missed = missed.missed;
-  counted = counted_by key n a b missed;
-  few = omega (arith, low, missed.count_is);
-  last = found b.reader.number key (reply.Rows once.0) ∷ [];
-  ends = (once.0, refl, once.1, once.2);
-  steps = missed.steps + (once.1.steps + 1);
-  moves = found_last key n 1 a b c once.0 missed once.1;
+  few = subst (MayEnd tries answer) (sym missed.count_is) few;
+  last = last;
+  ends = ends;
+  steps = missed.steps + steps;
+  moves = moves_both missed.steps steps _ a _ b last c refl missed.moves moves;
 }
 
-abbrev pub gets_by_none : (key n tries : ℕ) (a b : Hands) (before rows : List Row) → n ≡ tries → Missed key n a b
+-- one that gives up
+abbrev pub gives_up : {key n tries : ℕ} {a b : Hands} {before rows : List Row} → n ≡ tries → Missed key n a b
     → rows ≡ before → Gets key tries a before b rows got.GaveUp
-gets_by_none key n tries a b before rows all missed same = record {
-  requests = missed.requests;
-  between = b;
-  missed = missed.missed;
-  counted = counted_by key n a b missed;
-  few = missed.count_is ∙ all;
-  last = [];
-  ends = (refl, refl, same);
-  steps = missed.steps + 0;
-  moves =
-      moves_both missed.steps 0 _ a (misses a.reader.number key missed.requests) b
-      [] b refl missed.moves (moves_none b (let counted = missed.moves.sends in omega (arith, counted)));
-}
-
--- the sleep after one try more timed out
-abbrev pub ends_late : (key n tries : ℕ) (a b c : Hands) (before rows : List Row) (request : Requested) → n + 1 < tries
-    → Missed key n a b → rows ≡ before → AwaitsFill key b c request → EndsLate key tries a before c rows
-ends_late key n tries a b c before rows request few missed same slept =
-    record {
-      made = n;
-      few = few;
-      last = b;
-      gets = gets_by_none key n n a b before rows refl missed same;
-      request = request;
-      slept = slept;
-    }
+gives_up {b = b} all missed same =
+    gets_by got.GaveUp all missed (refl, refl, same)
+    (moves_none b (let counted = missed.moves.sends in omega (arith, counted)))
 
 -- the calls of a get, however it ended
 pub record Called (old new : Hands) : Type 0 where
@@ -164,8 +122,5 @@ pub record Called (old new : Hands) : Type 0 where
 pub called_in_time : (key tries : ℕ) (a b : Hands) (before rows : List Row) (answer : Result Got TooLate)
     → GetsInTime key tries a before b rows answer → Called a b
 called_in_time key tries a b before rows (Ok got) gets = record { steps = _; entries = _; moves = gets.moves }
-called_in_time key tries a b before rows (Err late) gets = record {
-  steps = _;
-  entries = _;
-  moves = moves_both gets.gets.steps _ _ a _ gets.last _ b refl gets.gets.moves gets.slept.missed.moves;
-}
+called_in_time key tries a b before rows (Err late) gets =
+    record { steps = _; entries = _; moves = moves_both _ _ _ _ _ _ _ _ refl gets.gets.moves gets.slept.missed.moves }

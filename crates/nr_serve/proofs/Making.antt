@@ -5,7 +5,7 @@ use Rattle.nr_model.specs.declared.calls.Call.{Call}
 use Rattle.nr_model.specs.declared.calls.Reply.{Reply}
 use Rattle.nr_model.specs.Histories.{Entry, IsLegal, entries_of}
 use Rattle.nr_core.specs.Story.{entry}
-use Rattle.nr_board.specs.Callers.{Caller, Gains, Rests, Table, map_at_opening, IsSound}
+use Rattle.nr_board.specs.Callers.{Caller, Gains, Table, map_at_opening, IsSound}
 use Rattle.nr_board.specs.Entries.{AreCallers}
 use Rattle.nr_board.specs.Rule.{StartsWith}
 use Rattle.nr_serve.specs.Callers.{Makes}

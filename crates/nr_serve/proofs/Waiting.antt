@@ -1,7 +1,8 @@
 -- The sleeps of a get, put together over its tries.
 use Rattle.std.proofs.Common.{◌≡◌, ℕ, ◌+◌, ◌-◌, ◌<◌, ◌≤◌, ◌⊎◌, zero, suc, Result, Ok, Err, List, [], ◌∷◌, ◌++◌}
-use Rattle.std.proofs.Common.{Option, None, Some, length, refl, sym, ap, subst, arith, inl, inr, ◌∙◌, ⊎_elim}
+use Rattle.std.proofs.Common.{Option, None, Some, length, refl, ap, arith, inl, inr, ◌∙◌, ⊎_elim}
 use Rattle.std.proofs.Common.{slice_index}
+use Rattle.std.specs.Result.{IsErrAnd}
 use Rattle.nr_model.specs.declared.rows.Row.{Row}
 use Rattle.nr_map.specs.Tickets.{Request}
 use Rattle.nr_serve.specs.declared.hands.Hands.{Hands}
@@ -12,10 +13,11 @@ use Rattle.nr_serve.specs.declared.answers.Requested.TheVariants.{NotMade, Sent,
 use Rattle.nr_serve.specs.declared.answers.Tried.TheVariants as tried
 use Rattle.nr_serve.specs.declared.sleepers.TooLate.{TooLate}
 use Rattle.nr_serve.specs.Counts.{GuestSeen, IsLaterOf, closed_at, group_at}
-use Rattle.nr_serve.specs.Gets.{AwaitsFill, IsPending, MissesAll, MissesOnce, TriesOnce}
+use Rattle.nr_serve.specs.Gets.{AwaitsFill, GetsInTime, IsPending, MissesAll, MissesOnce, TriesOnce}
 use Rattle.nr_serve.specs.Hands.{last_count}
 use Rattle.nr_serve.specs.Waits.{GetsSleeping, SawRaises, SleepsIf, if_left, sleeps, sleeps_after}
-use Rattle.nr_serve.proofs.Getting.{Missed, ends_late, gets_by_end, gets_by_none, missed_more, missed_none, misses_then}
+use Rattle.nr_serve.proofs.Getting.{Missed, gets_by, gives_up, missed_more, missed_none, misses_then}
+use Rattle.nr_serve.proofs.Later.{later_both}
 
 -- that many tries found a hole, and each that left another slept where it had to
 pub record Slept (key n left : ℕ) (a b : Hands) (g h : GuestSeen) : Type 0 where
@@ -72,59 +74,54 @@ slept_none key left a g small = record { missed = missed_none key a small; saw =
 
 -- one try more, which began with a look at the count and may have ended with a sleep
 pub slept_more : (key n left count : ℕ) (a b c : Hands) (before rows : List Row) (request : Requested)
-    (g h i j k : GuestSeen) → (slept : Slept key n left a b g h) → TriesOnce key b before c rows (tried.Missed request)
-    → IsLaterOf h i → slice_index i.seen (group_at key) ≡ count → IsLaterOf i j → IsLaterOf j k
+    (g h i k : GuestSeen) → (slept : Slept key n left a b g h) → TriesOnce key b before c rows (tried.Missed request)
+    → IsLaterOf h i → slice_index i.seen (group_at key) ≡ count → IsLaterOf i k
     → SleepsIf (left - n) count key (IsPending request) c.kept k → Slept key (n + 1) left a c g k
-slept_more key n left count a b c before rows request g h i j k slept once looked found moved waited sleeps_if =
+slept_more key n left count a b c before rows request g h i k slept once looked found waited sleeps_if =
     let missed = slept.missed in
-    let at = group_at key in
-    let first = looked.seen at in
-    let second = moved.seen at in
-    let third = waited.seen at in
-    let later : IsLaterOf h k
-    = record {
-      lobby = waited.lobby ∙ (moved.lobby ∙ looked.lobby);
-      seen = λ place.
-          let x = looked.seen place in
-          let y = moved.seen place in
-          let z = waited.seen place in omega (arith, x, y, z);
-    } in
-    let saw
-    = saw_more key (sleeps key left a b missed.requests missed.missed)
-    (if_left (left - n) (sleeps_after request c.kept)) count g h k slept.saw later (omega (arith, first, found))
-    (rose_once key (left - n) count request c.kept k sleeps_if (omega (arith, second, third, found))) in
-    let all
-    = sleeps_then key left a b c missed.requests request missed.missed once.0 in
-    let times
-    = subst
-    (λ (m : ℕ). sleeps key left a c (missed.requests ++ request ∷ [])
-    (misses_then key a b c missed.requests request missed.missed once.0)
-    ≡ sleeps key left a b missed.requests missed.missed + if_left (left - m) (sleeps_after request c.kept))
-    missed.count_is all in
+    let first = looked.seen (group_at key) in
+    let last = waited.seen (group_at key) in
     record {
       missed = missed_more key n a b c before rows request missed once;
-      saw = subst (λ (m : ℕ). SawRaises key m g k) (sym times) saw;
+      saw =
+          rw (sleeps_then key left a b c missed.requests request missed.missed once.0, missed.count_is)
+          (saw_more key (sleeps key left a b missed.requests missed.missed)
+          (if_left (left - n) (sleeps_after request c.kept)) count g h k slept.saw (later_both h i k looked waited)
+          (omega (arith, first, found))
+          (rose_once key (left - n) count request c.kept k sleeps_if (omega (arith, last, found))));
     }
 
 -- a get that ends by a try which found rows
-pub sleeps_by_end : (key n tries : ℕ) (a b c : Hands) (before rows : List Row) (answer : Got) (g h i : GuestSeen)
-    → n < tries → Slept key n (tries - 1) a b g h → TriesOnce key b before c rows (tried.Ended answer) → IsLaterOf h i
+pub sleeps_by_end : (key n tries : ℕ) (a b c : Hands) (before between rows : List Row) (answer : Got)
+    (g h i : GuestSeen) → n < tries → Slept key n (tries - 1) a b g h → between ≡ before
+    → TriesOnce key b between c rows (tried.Ended answer) → IsLaterOf h i
     → GetsSleeping key tries a before g c rows i (Ok answer)
-sleeps_by_end key n tries a b c before rows got.Rows g h i low slept once later =
-    (gets_by_end key n tries a b c before rows got.Rows low slept.missed once, saw_later key _ g h i slept.saw later)
-sleeps_by_end key n tries a b c before rows got.GaveUp g h i low slept once later = absurd once
-sleeps_by_end key n tries a b c before rows got.Barred g h i low slept once later =
-    (gets_by_end key n tries a b c before rows got.Barred low slept.missed once, saw_later key _ g h i slept.saw later)
+sleeps_by_end key n tries a b c before between rows got.Rows g h i low slept same once later =
+    (gets_by got.Rows low slept.missed (refl, once) once.moves, saw_later key _ g h i slept.saw later)
+sleeps_by_end key n tries a b c before between rows got.GaveUp g h i low slept same once later = absurd once
+sleeps_by_end key n tries a b c before between rows got.Barred g h i low slept same once later = (
+  gets_by got.Barred low slept.missed (once.0, refl, once.1, once.2 ∙ same) once.1.moves,
+  saw_later key _ g h i slept.saw later,
+)
 
 -- one that gives up
 pub sleeps_by_none : (key n tries : ℕ) (a b : Hands) (before rows : List Row) (g h : GuestSeen) → n ≡ tries
     → Slept key n (tries - 1) a b g h → rows ≡ before → GetsSleeping key tries a before g b rows h (Ok got.GaveUp)
-sleeps_by_none key n tries a b before rows g h all slept same =
-    (gets_by_none key n tries a b before rows all slept.missed same, slept.saw)
+sleeps_by_none key n tries a b before rows g h all slept same = (gives_up all slept.missed same, slept.saw)
 
 -- and one whose last sleep timed out
-pub sleeps_late : (key n tries : ℕ) (a b c : Hands) (before rows : List Row) (request : Requested) (late : TooLate)
-    (g h i : GuestSeen) → n + 1 < tries → Slept key n (tries - 1) a b g h → rows ≡ before → AwaitsFill key b c request
-    → IsLaterOf h i → GetsSleeping key tries a before g c rows i (Err late)
-sleeps_late key n tries a b c before rows request late g h i few slept same last later =
-    (ends_late key n tries a b c before rows request few slept.missed same last, saw_later key _ g h i slept.saw later)
+pub sleeps_late : (Late : TooLate → Type 0) (key n tries : ℕ) (a b c : Hands) (before rows : List Row)
+    (request : Requested) (ended : Result Got TooLate) (g h i : GuestSeen) → IsErrAnd ended Late → n + 1 < tries
+    → Slept key n (tries - 1) a b g h → rows ≡ before → AwaitsFill key b c request → IsLaterOf h i
+    → GetsSleeping key tries a before g c rows i ended
+sleeps_late Late key n tries a b c before rows request (Ok got) g h i late few slept same last later = absurd late
+sleeps_late Late key n tries a b c before rows request (Err error) g h i late few slept same last later = (
+  record { made = n; few = few; last = b; gets = gives_up refl slept.missed same; request = request; slept = last },
+  saw_later key _ g h i slept.saw later,
+)
+
+pub sleeps_in_time : (key tries : ℕ) (a b : Hands) (before rows : List Row) (g h : GuestSeen)
+    (ended : Result Got TooLate) → GetsSleeping key tries a before g b rows h ended
+    → GetsInTime key tries a before b rows ended
+sleeps_in_time key tries a b before rows g h (Ok got) gets = gets.0
+sleeps_in_time key tries a b before rows g h (Err late) gets = gets.0

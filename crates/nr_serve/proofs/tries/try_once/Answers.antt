@@ -28,4 +28,4 @@ returns-clause-rings g c =
     })
     posted.new.lobby
     (ap (λ (hands : Hands). hands.poster) c.hands.view_is) in
-    rings_both _ _ _ _ _ _ posted.ensures.rings (rings_both _ _ _ _ _ _ same c.request.ensures.rings)
+    rings_both posted.ensures.rings (rings_both same c.request.ensures.rings)

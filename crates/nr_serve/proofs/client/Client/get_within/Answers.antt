@@ -9,9 +9,7 @@ pub invariant_of-self : goal.invariant_of-self
 invariant_of-self g c =
     let fields = c.self.inside in
     let got = c.get_by_tries in
-    let called
-    = called_in_time c.args.key c.args.tries fields.hands got.new.hands c.args.rows.now got.new.rows got.result
-    got.ensures.gets in
+    let called = called_in_time _ _ _ _ _ _ got.result got.ensures.gets in
     serves_on fields.shared.map.now fields.shared.triggers.now fields.opened.value fields.hands got.new.hands _ _
     c.self.invariant got.ensures.ready called.moves
 
