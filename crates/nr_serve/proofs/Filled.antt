@@ -1,5 +1,5 @@
 -- Which fills were done by a call of the writer's.
-use Rattle.std.proofs.Common.{◌≡◌, ℕ, List, [], ◌∷◌, ◌++◌, Result, Ok, Err, refl, sym, ap, ◌∙◌, append_assoc}
+use Rattle.std.proofs.Common.{◌≡◌, ℕ, List, [], ◌∷◌, ◌++◌, Result, Ok, Err, refl, sym, ◌∙◌, append_assoc}
 use Rattle.std.proofs.Common.{append-nil}
 use Rattle.nr_model.specs.declared.batches.Delta.{Delta}
 use Rattle.nr_model.specs.declared.rows.Row.{Row}
@@ -16,13 +16,11 @@ use Rattle.nr_board.specs.declared.answers.UpdateFault.{UpdateFault}
 use Rattle.nr_board.specs.declared.answers.UpdateFault.TheVariants as update
 use Rattle.nr_board.specs.Callers.{Caller, Grows}
 use Rattle.nr_board.specs.WriterAnswers.{CancelsKey, EvictsKey, FillsKey, ReplacesKey, UpdatesKey}
-use Rattle.nr_serve.specs.Ledger.{Filling, done_by, fills_done}
+use Rattle.nr_serve.specs.Ledger.{Filling, fills_done}
 
 pub fills_done-append : (l m : List Entry) → fills_done (l ++ m) ≡ fills_done l ++ fills_done m
 fills_done-append [] m = refl
-fills_done-append (e ∷ l) m =
-    ap (λ (fills : List Filling). done_by e.call e.reply ++ fills) (fills_done-append l m)
-    ∙ sym (append_assoc (done_by e.call e.reply) (fills_done l) (fills_done m))
+fills_done-append (e ∷ l) m = rw (fills_done-append l m, append_assoc)
 
 -- the writer made calls, among which these fills were done
 pub record Made (a b : Caller) (fills : List Filling) : Type 0 where

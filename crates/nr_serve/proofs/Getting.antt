@@ -1,7 +1,7 @@
 -- The tries of a get, put together: the tries that found a hole so far, one more of them, and the end.
 use Rattle.std.specs.Prelude.{nat_lt}
 use Rattle.std.proofs.Common.{◌≡◌, ℕ, Bool, false, ◌+◌, ◌-◌, ◌≤◌, Result, Ok, Err, List, [], ◌∷◌, ◌++◌}
-use Rattle.std.proofs.Common.{length, refl, sym, ap, ◌∙◌, subst, arith, append_assoc, append-nil, length-append}
+use Rattle.std.proofs.Common.{length, refl, sym, ◌∙◌, subst, arith, append_assoc, append-nil, length-append}
 use Rattle.nr_model.specs.declared.rows.Row.{Row}
 use Rattle.nr_model.specs.Histories.{Entry}
 use Rattle.nr_board.specs.Holds.{HoleIn, finds_by_word}
@@ -19,9 +19,7 @@ use Rattle.nr_serve.proofs.Moving.{moves_both, moves_none}
 pub misses-snoc : (by key : ℕ) (requests : List Requested) (request : Requested)
     → misses by key (requests ++ request ∷ []) ≡ misses by key requests ++ miss by key request
 misses-snoc by key [] request = append-nil (miss by key request)
-misses-snoc by key (first ∷ requests) request =
-    ap (λ (l : List Entry). miss by key first ++ l) (misses-snoc by key requests request)
-    ∙ sym (append_assoc (miss by key first) (misses by key requests) (miss by key request))
+misses-snoc by key (first ∷ requests) request = rw (misses-snoc by key requests request, append_assoc)
 
 abbrev pub misses_then : (key : ℕ) (a b c : Hands) (requests : List Requested) (request : Requested)
     → MissesAll key a b requests → MissesOnce key b c request → MissesAll key a c (requests ++ request ∷ [])
@@ -53,12 +51,7 @@ abbrev pub missed_more : (key n : ℕ) (a b c : Hands) (before rows : List Row) 
     → TriesOnce key b before c rows (tried.Missed request) → Missed key (n + 1) a c
 missed_more key n a b c before rows request missed once =
     let by = a.reader.number in
-    let moves
-    = subst (λ (at : ℕ). Moves (once.0.steps + length (requested at key request)) (miss at key request) b c)
-    missed.moves.makes.number once.0.moves in
-    let old = misses by key missed.requests in
-    let all : old ++ miss by key request ≡ misses by key (missed.requests ++ request ∷ [])
-    = sym (misses-snoc by key missed.requests request) in
+    let all = misses-snoc by key missed.requests request in
     record {
       requests = missed.requests ++ request ∷ [];
       count_is = omega (arith, missed.count_is, length-append missed.requests (request ∷ []));
@@ -67,19 +60,13 @@ missed_more key n a b c before rows request missed once =
       counted = λ no_word.
           let one : once.0.steps ≡ 1
           = (subst (λ (w : Bool). HoleIn w once.0.named once.0.steps)
-          (same_words missed.steps a old b missed.moves ∙ no_word) once.0.finds_in).1 in
-          omega (
-            arith,
-            one,
-            missed.counted no_word,
-            length-append old (miss by key request),
-            ap (λ (l : List Entry). length l) all,
-          );
+          (same_words missed.steps a _ b missed.moves ∙ no_word) once.0.finds_in).1 in
+          rw (all, length-append) (omega (arith, one, missed.counted no_word));
       moves =
-          subst (λ (l : List Entry). Moves (missed.steps + (once.0.steps + length (requested by key request))) l a c)
-          all
-          (moves_both missed.steps (once.0.steps + length (requested by key request)) _ a old b (miss by key request) c
-          refl missed.moves moves);
+          rw all
+          (moves_both refl missed.moves
+          (subst (λ (at : ℕ). Moves (once.0.steps + length (requested at key request)) (miss at key request) b c)
+          missed.moves.makes.number once.0.moves));
     }
 
 -- by the counts they took a step for each call
@@ -94,7 +81,7 @@ counted_by key n a b missed no_word =
 abbrev pub gets_by : {key n tries steps : ℕ} {a b c : Hands} {before rows : List Row} {last : List Entry} (answer : Got)
     → MayEnd tries answer n → Missed key n a b → Ends key answer b before last c rows → Moves steps last b c
     → Gets key tries a before c rows answer
-gets_by {key} {n} {tries} {steps} {a} {b} {c} {last = last} answer few missed ends moves = record {
+gets_by {key} {n} {tries} {steps} {a} {b} {last = last} answer few missed ends moves = record {
   requests = missed.requests;
   between = b;
   missed = missed.missed;
@@ -103,7 +90,7 @@ gets_by {key} {n} {tries} {steps} {a} {b} {c} {last = last} answer few missed en
   last = last;
   ends = ends;
   steps = missed.steps + steps;
-  moves = moves_both missed.steps steps _ a _ b last c refl missed.moves moves;
+  moves = moves_both refl missed.moves moves;
 }
 
 -- one that gives up
@@ -123,4 +110,4 @@ pub called_in_time : (key tries : ℕ) (a b : Hands) (before rows : List Row) (a
     → GetsInTime key tries a before b rows answer → Called a b
 called_in_time key tries a b before rows (Ok got) gets = record { steps = _; entries = _; moves = gets.moves }
 called_in_time key tries a b before rows (Err late) gets =
-    record { steps = _; entries = _; moves = moves_both _ _ _ _ _ _ _ _ refl gets.gets.moves gets.slept.missed.moves }
+    record { steps = _; entries = _; moves = moves_both refl gets.gets.moves gets.slept.missed.moves }

@@ -6,7 +6,7 @@ use Rattle.std.proofs.lemmas.List.Elements.{filter-append}
 use Rattle.nr_model.specs.declared.states.KeyState.TheVariants.{Hole}
 use Rattle.nr_model.specs.Histories.{Entry, IsLegal, entries_of}
 use Rattle.nr_model.proofs.LawLemmas.{legal_begins_lem}
-use Rattle.nr_board.specs.Callers.{Caller, IsSound, KnowsOwn, Table, map_at_opening}
+use Rattle.nr_board.specs.Callers.{Caller, IsSound, KnowsOwn, map_at_opening}
 use Rattle.nr_map.specs.Written.{FindsWritten}
 use Rattle.nr_serve.specs.Callers.{Makes}
 use Rattle.nr_serve.specs.Gets.{found}
@@ -55,12 +55,17 @@ module _ (steps : ℕ) (old new : Caller) (first rest : List Entry) (e : Entry)
   own_after : entries_of makes.seen.rest old.number ≡ first ++ e ∷ rest
   own_after = append_cancel_left old.mine (entries_of makes.seen.rest old.number) (first ++ e ∷ rest)
       (ap (λ (l : List Entry). l ++ entries_of makes.seen.rest old.number) (sym knows)
-      ∙ sym (filter-append (λ (k : Entry). k.caller == old.number) old.seen makes.seen.rest)
-      ∙ ap (λ (l : List Entry). entries_of l old.number) (sym makes.seen.is)
-      ∙ ap (entries_of new.seen) (sym makes.number) ∙ is_sound.own ∙ makes.mine)
+      ∙ rw (← filter-append, ← makes.seen.is, ← makes.number) (is_sound.own ∙ makes.mine))
 
   made : Stands makes.seen.rest e
   made = stands makes.seen.rest old.number first rest e own_after
+
+placed : {log seen heard noted : List Entry} (written since more rest later front back : List Entry) (find : Entry)
+    → log ≡ seen ++ later → later ≡ front ++ find ∷ back → seen ≡ heard ++ rest → heard ≡ noted ++ more
+    → noted ≡ written ++ since
+    → log ≡ ((written ++ (since ++ ((more ++ rest) ++ front))) ++ find ∷ []) ++ back
+placed written since more rest later front back find log_is later_is seen_is heard_is noted_is =
+    rw (log_is, later_is, seen_is, heard_is, noted_is) (simp append_assoc)
 
 pub gets_what_it_heard_lem : FindsWritten → GetsWhatItHeard
 gets_what_it_heard_lem finds_written old note asking new key tries rows_before rows got before since first rest put
@@ -72,24 +77,12 @@ gets_what_it_heard_lem finds_written old note asking new key tries rows_before r
     let makes = subst (λ (entries : List Entry). Makes gets.steps entries by new.reader) among gets.moves.makes in
     let there = made gets.steps by new.reader first rest find makes knows in
     let sound = is_sound gets.steps by new.reader first rest find makes knows in
-    let known = heard.hears.seen.rest ++ heard.seen.rest in
-    let more = known ++ there.front in
-    let all_known : by.seen ≡ note.seen ++ known
-    = heard.seen.is ∙ ap (λ (l : List Entry). l ++ heard.seen.rest) heard.hears.seen.is
-    ∙ append_assoc note.seen heard.hears.seen.rest heard.seen.rest in
-    let begun : by.seen ++ there.front ≡ written ++ (since ++ more)
-    = ap (λ (l : List Entry). l ++ there.front) all_known
-    ∙ append_assoc note.seen known there.front ∙ ap (λ (l : List Entry). l ++ more) had
-    ∙ append_assoc written since more in
-    let place : new.reader.seen ≡ ((written ++ (since ++ more)) ++ find ∷ []) ++ there.back =
-    makes.seen.is ∙ ap (λ (l : List Entry). by.seen ++ l) there.is
-    ∙ sym (append_assoc by.seen there.front (find ∷ there.back))
-    ∙ ap (λ (l : List Entry). l ++ find ∷ there.back) begun
-    ∙ sym (append_assoc (written ++ (since ++ more)) (find ∷ []) there.back) in
+    let more = (heard.hears.seen.rest ++ heard.seen.rest) ++ there.front in
+    let place : new.reader.seen ≡ ((written ++ (since ++ more)) ++ find ∷ []) ++ there.back
+    = placed _ _ _ _ _ _ _ _ makes.seen.is there.is heard.seen.is heard.hears.seen.is had in
     let table : new.reader.table ≡ old.table = makes.table ∙ heard.table ∙ heard.hears.learns.table in
     let legal : IsLegal opening (((written ++ (since ++ more)) ++ find ∷ []) ++ there.back)
-    = subst (IsLegal opening) place
-    (subst (λ (t : Table). IsLegal (map_at_opening t) new.reader.seen) table sound.legal) in
+    = rw (← place, ← table) sound.legal in
     let keys : key < length opening.states
     = omega (arith, near, length-replicate old.table.shape.keys (Hole old.table.shape.first_number)) in
     record {

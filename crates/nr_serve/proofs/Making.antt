@@ -1,21 +1,16 @@
 -- The calls of a caller, put together.
-use Rattle.std.proofs.Common.{◌≡◌, ℕ, ◌+◌, List, [], ◌∷◌, ◌++◌, refl, sym, ap, ◌∙◌, subst, arith, append_assoc}
+use Rattle.std.proofs.Common.{◌≡◌, ℕ, ◌+◌, List, [], ◌∷◌, ◌++◌, refl, sym, ◌∙◌, arith, append_assoc}
 use Rattle.std.proofs.Common.{append-nil, inl, inr, ⊎_elim}
 use Rattle.nr_model.specs.declared.calls.Call.{Call}
 use Rattle.nr_model.specs.declared.calls.Reply.{Reply}
-use Rattle.nr_model.specs.Histories.{Entry, IsLegal, entries_of}
+use Rattle.nr_model.specs.Histories.{Entry}
 use Rattle.nr_core.specs.Story.{entry}
-use Rattle.nr_board.specs.Callers.{Caller, Gains, Table, map_at_opening, IsSound}
-use Rattle.nr_board.specs.Entries.{AreCallers}
+use Rattle.nr_board.specs.Callers.{Caller, Gains, IsSound}
 use Rattle.nr_board.specs.Rule.{StartsWith}
 use Rattle.nr_serve.specs.Callers.{Makes}
 
-starts_both : (a b c : List Entry) → StartsWith b a → StartsWith c b → StartsWith c a
-starts_both a b c one two =
-    record {
-      rest = one.rest ++ two.rest;
-      is = two.is ∙ ap (λ (l : List Entry). l ++ two.rest) one.is ∙ append_assoc a one.rest two.rest;
-    }
+starts_both : {a b c : List Entry} → StartsWith b a → StartsWith c b → StartsWith c a
+starts_both one two = record { rest = one.rest ++ two.rest; is = rw (two.is, one.is, append_assoc) }
 
 pub makes_none : (a : Caller) → Makes 0 [] a a
 makes_none a = record {
@@ -32,43 +27,33 @@ pub makes_by_gains : (steps : ℕ) (a : Caller) (call : Call) (reply : Reply) (b
 makes_by_gains steps a call reply b gains = record {
   table = gains.table;
   number = gains.number;
-  seen =
-      record {
-        rest = gains.between ++ entry a.number call reply ∷ [];
-        is = gains.seen ∙ append_assoc a.seen gains.between (entry a.number call reply ∷ []);
-      };
+  seen = record { rest = gains.between ++ entry a.number call reply ∷ []; is = rw (gains.seen, append_assoc) };
   mine = gains.mine;
   steps_made = gains.steps_made;
-  sound = inr (record {
-    legal = subst (λ (t : Table). IsLegal (map_at_opening t) b.seen) (sym gains.table) gains.legal;
-    own = gains.own;
-    callers = subst (λ (t : Table). AreCallers t.shape b.seen) (sym gains.table) gains.callers;
-  });
+  sound =
+      inr (record { legal = rw gains.table gains.legal; own = gains.own; callers = rw gains.table gains.callers });
 }
 
-still_sound : (a b : Caller) → b.table ≡ a.table → b.number ≡ a.number → b.seen ≡ a.seen → b.mine ≡ a.mine → IsSound a
-    → IsSound b
-still_sound a b table number seen mine sound = record {
-  legal =
-      subst (λ (at : Table × List Entry). IsLegal (map_at_opening at.0) at.1) (λ i. (sym table i, sym seen i))
-      sound.legal;
-  own = (λ i. entries_of (seen i) (number i)) ∙ sound.own ∙ sym mine;
-  callers =
-      subst (λ (at : Table × List Entry). AreCallers at.0.shape at.1) (λ i. (sym table i, sym seen i)) sound.callers;
+still_sound : {a b : Caller} → b.table ≡ a.table → b.number ≡ a.number → b.seen ≡ a.seen → b.mine ≡ a.mine
+    → IsSound a → IsSound b
+still_sound table number seen mine sound = record {
+  legal = rw (table, seen) sound.legal;
+  own = rw (seen, number, mine) sound.own;
+  callers = rw (table, seen) sound.callers;
 }
 
-pub makes_both : (m n sum : ℕ) (a : Caller) (es : List Entry) (b : Caller) (fs : List Entry) (c : Caller) → sum ≡ m + n
-    → Makes m es a b → Makes n fs b c → Makes sum (es ++ fs) a c
-makes_both m n sum a es b fs c is one two = record {
+pub makes_both : {m n sum : ℕ} {a b c : Caller} {es fs : List Entry} → sum ≡ m + n → Makes m es a b → Makes n fs b c
+    → Makes sum (es ++ fs) a c
+makes_both {a = a} {b = b} {c = c} is one two = record {
   table = two.table ∙ one.table;
   number = two.number ∙ one.number;
-  seen = starts_both a.seen b.seen c.seen one.seen two.seen;
-  mine = two.mine ∙ ap (λ (l : List Entry). l ++ fs) one.mine ∙ append_assoc a.mine es fs;
+  seen = starts_both one.seen two.seen;
+  mine = rw (two.mine, one.mine, append_assoc);
   steps_made = omega (arith, one.steps_made, two.steps_made);
   sound = ⊎_elim
       (λ (still : (c.seen ≡ b.seen) × (c.mine ≡ b.mine)). ⊎_elim
       (λ (first : (b.seen ≡ a.seen) × (b.mine ≡ a.mine)). inl (still.0 ∙ first.0, still.1 ∙ first.1))
-      (λ (first : IsSound b). inr (still_sound b c two.table two.number still.0 still.1 first))
+      (λ (first : IsSound b). inr (still_sound two.table two.number still.0 still.1 first))
       one.sound)
       (λ (sound : IsSound c). inr sound)
       two.sound;

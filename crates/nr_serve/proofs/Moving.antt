@@ -1,5 +1,5 @@
 -- The moves of a client's hands, put together.
-use Rattle.std.proofs.Common.{◌≡◌, ℕ, ◌+◌, ◌≤◌, List, [], ◌∷◌, ◌++◌, length, refl, sym, ap, ◌∙◌, subst, arith}
+use Rattle.std.proofs.Common.{◌≡◌, ℕ, ◌+◌, ◌≤◌, List, [], ◌∷◌, ◌++◌, refl, sym, ◌∙◌, arith}
 use Rattle.std.proofs.Common.{append_assoc, append-nil, length-append, Option}
 use Rattle.nr_model.specs.Histories.{Entry}
 use Rattle.nr_map.specs.Tickets.{Request}
@@ -7,14 +7,12 @@ use Rattle.nr_trigger.specs.declared.post.Upquery.{Upquery}
 use Rattle.nr_trigger.specs.Tokens.{PosterSeen}
 use Rattle.nr_serve.specs.declared.hands.Hands.{Hands}
 use Rattle.nr_serve.specs.Hands.{Moves, last_count}
-use Rattle.nr_serve.specs.Tickets.{Posts, kept_upqueries, sent, sent_by}
+use Rattle.nr_serve.specs.Tickets.{Posts, kept_upqueries, sent}
 use Rattle.nr_serve.proofs.Making.{makes_both, makes_none}
 
 pub sent-append : (es fs : List Entry) → sent (es ++ fs) ≡ sent es ++ sent fs
 sent-append [] fs = refl
-sent-append (e ∷ es) fs =
-    ap (λ (l : List Upquery). sent_by e.call e.reply ++ l) (sent-append es fs)
-    ∙ sym (append_assoc (sent_by e.call e.reply) (sent es) (sent fs))
+sent-append (e ∷ es) fs = rw (sent-append es fs, append_assoc)
 
 pub posts_none : (kept : Option Request) (poster : PosterSeen) → Posts [] poster kept poster kept
 posts_none kept poster = record {
@@ -24,9 +22,9 @@ posts_none kept poster = record {
   all = append-nil (kept_upqueries kept);
 }
 
-posts_both : (k₀ k₁ k₂ : Option Request) (p₀ p₁ p₂ : PosterSeen) (s₁ s₂ : List Upquery) → Posts s₁ p₀ k₀ p₁ k₁
+posts_both : {k₀ k₁ k₂ : Option Request} {p₀ p₁ p₂ : PosterSeen} {s₁ s₂ : List Upquery} → Posts s₁ p₀ k₀ p₁ k₁
     → Posts s₂ p₁ k₁ p₂ k₂ → Posts (s₁ ++ s₂) p₀ k₀ p₂ k₂
-posts_both k₀ k₁ k₂ p₀ p₁ p₂ s₁ s₂ one two = record {
+posts_both {k₁ = k₁} {s₂ = s₂} one two = record {
   same =
       record {
         queue = two.same.queue ∙ one.same.queue;
@@ -35,28 +33,16 @@ posts_both k₀ k₁ k₂ p₀ p₁ p₂ s₁ s₂ one two = record {
         number = two.same.number ∙ one.same.number;
       };
   gain = one.gain ++ two.gain;
-  posted = two.posted ∙ ap (λ (l : List Upquery). l ++ two.gain) one.posted ∙ append_assoc p₀.posted one.gain two.gain;
-  all =
-      sym (append_assoc (kept_upqueries k₀) s₁ s₂) ∙ ap (λ (l : List Upquery). l ++ s₂) one.all
-      ∙ append_assoc one.gain (kept_upqueries k₁) s₂ ∙ ap (λ (l : List Upquery). one.gain ++ l) two.all
-      ∙ sym (append_assoc one.gain two.gain (kept_upqueries k₂));
+  posted = rw (two.posted, one.posted, append_assoc);
+  all = rw (← append_assoc, one.all, append_assoc one.gain (kept_upqueries k₁) s₂, two.all, append_assoc);
 }
 
-pub moves_both : (m n sum : ℕ) (a : Hands) (es : List Entry) (b : Hands) (fs : List Entry) (c : Hands) → sum ≡ m + n
-    → Moves m es a b → Moves n fs b c → Moves sum (es ++ fs) a c
-moves_both m n sum a es b fs c is one two = record {
-  makes = makes_both m n sum a.reader es b.reader fs c.reader is one.makes two.makes;
-  posts =
-      subst (λ (l : List Upquery). Posts l a.poster a.kept c.poster c.kept) (sym (sent-append es fs))
-      (posts_both a.kept b.kept c.kept a.poster b.poster c.poster (sent es) (sent fs) one.posts two.posts);
-  sends =
-      omega (
-        arith,
-        one.sends,
-        two.sends,
-        ap (λ (l : List Upquery). length l) (sent-append es fs),
-        length-append (sent es) (sent fs),
-      );
+pub moves_both : {m n sum : ℕ} {a b c : Hands} {es fs : List Entry} → sum ≡ m + n → Moves m es a b → Moves n fs b c
+    → Moves sum (es ++ fs) a c
+moves_both {a = a} {b = b} {c = c} {es = es} {fs = fs} is one two = record {
+  makes = makes_both is one.makes two.makes;
+  posts = rw (sent-append es fs) (posts_both one.posts two.posts);
+  sends = simp (sent-append, length-append) (omega (arith, one.sends, two.sends));
 }
 
 pub moves_none : (a : Hands) → a.sends ≤ last_count → Moves 0 [] a a

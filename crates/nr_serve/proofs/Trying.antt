@@ -1,5 +1,5 @@
 -- What one try that finds a hole adds.
-use Rattle.std.proofs.Common.{◌≡◌, ℕ, Bool, false, List, [], ◌∷◌, length, Option, None, refl, sym, ap, ◌+◌}
+use Rattle.std.proofs.Common.{◌≡◌, ℕ, Bool, false, List, [], ◌∷◌, length, None, refl, sym, ap, ◌+◌}
 use Rattle.std.proofs.Common.{◌∙◌, subst, arith}
 use Rattle.nr_model.specs.declared.rows.Row.{Row}
 use Rattle.nr_model.specs.declared.calls.Call.TheVariants as call
@@ -9,7 +9,7 @@ use Rattle.nr_core.specs.Marks.{LoggedLoad, Marks, acted, with_loads}
 use Rattle.nr_core.specs.Puts.{put_number}
 use Rattle.nr_board.specs.Callers.{Caller, Gains}
 use Rattle.nr_board.specs.Holds.{FindsHole, HoleIn, looked}
-use Rattle.nr_map.specs.Hands.{Handed, PinsByHand, departed, steps_to_depart}
+use Rattle.nr_map.specs.Hands.{Handed, PinsByHand}
 use Rattle.nr_serve.proofs.Getting.{same_words}
 use Rattle.nr_serve.specs.declared.hands.Hands.{Hands}
 use Rattle.nr_serve.specs.declared.answers.Requested.{Requested}
@@ -20,36 +20,27 @@ use Rattle.nr_serve.proofs.Making.{makes_by_gains}
 use Rattle.nr_serve.proofs.Moving.{moves_both, posts_none}
 
 -- a find after the post of a ticket that was kept
-finds : (steps key : ℕ) (a b : Hands) (answer : Reply) (reader : Caller) → Moves 0 [] a b
+finds : {steps key : ℕ} {a b : Hands} {answer : Reply} {reader : Caller} → Moves 0 [] a b
     → Gains steps (call.Find key) b.reader reader answer
     → Moves steps (found a.reader.number key answer ∷ []) a (record b { reader = reader })
-finds steps key a b answer reader posted gains =
-    let number : b.reader.number ≡ a.reader.number = posted.makes.number in
-    moves_both 0 steps steps a
-    [] b (found a.reader.number key answer ∷ []) (record b { reader = reader }) (omega arith) posted
-    (subst (λ (by : ℕ). Moves steps (found by key answer ∷ []) b (record b { reader = reader })) number
+finds {steps} {key} {a} {b} {answer} {reader} posted gains =
+    moves_both (omega arith) posted
+    (subst (λ (by : ℕ). Moves steps (found by key answer ∷ []) b (record b { reader = reader })) posted.makes.number
     (record {
       makes = makes_by_gains steps b.reader (call.Find key) answer reader gains;
       posts = posts_none b.kept b.poster;
       sends = omega (arith, posted.sends);
     }))
 
-misses_once : (key steps : ℕ) (a b c : Hands) (reader : Caller) (request : Requested) → Moves 0 [] a b
+misses_once : {key : ℕ} (steps : ℕ) {a b c : Hands} {reader : Caller} (request : Requested) → Moves 0 [] a b
     → Gains (steps + 0) (call.Find key) b.reader reader reply.Hole
     → Moves (length (requested reader.number key request)) (requested reader.number key request)
     (record b { reader = reader }) c
     → Moves (steps + length (requested a.reader.number key request)) (miss a.reader.number key request) a c
-misses_once key steps a b c reader request posted gains asked =
-    let number : reader.number ≡ a.reader.number = gains.number ∙ posted.makes.number in
-    let asked'
-    = subst
-    (λ (by : ℕ). Moves (length (requested by key request)) (requested by key request)
-    (record b { reader = reader }) c)
-    number asked in
-    moves_both (steps + 0) (length (requested a.reader.number key request)) _ a
-    (found a.reader.number key reply.Hole ∷ []) (record b { reader = reader })
-    (requested a.reader.number key request) c (omega arith)
-    (finds (steps + 0) key a b reply.Hole reader posted gains) asked'
+misses_once {key} steps {a} {b} {c} {reader} request posted gains asked =
+    moves_both (omega arith) (finds posted gains)
+    (subst (λ (by : ℕ). Moves (length (requested by key request)) (requested by key request)
+    (record b { reader = reader }) c) (gains.number ∙ posted.makes.number) asked)
 
 -- a ticket that was kept was posted, or is kept still
 pub record Posted (a b : Hands) : Type 0 where
@@ -63,13 +54,8 @@ pub hole_by_hand : (key : ℕ) (old new : Handed) → old.key ≡ None → PinsB
     × (new.reader.marks ≡ acted (looked old.reader.marks key finds.named) (put_number new.reader.seen key))
 hole_by_hand key old new none pins =
     let put : ℕ = put_number new.reader.seen key in
-    let finds
-    = subst (λ (held : Option ℕ). FindsHole (steps_to_depart held) key old.reader new.reader) none pins.0 in
-    let marks
-    = subst
-    (λ (held : Option ℕ). new.reader.marks
-    ≡ acted (with_loads (departed held old.reader.marks) new.reader.marks.loads) put)
-    none pins.1.marks in
+    let finds = rw none at pins.0 in
+    let marks = rw none at pins.1.marks in
     (finds, marks ∙ ap (λ (loads : List LoggedLoad). acted (with_loads old.reader.marks loads) put) finds.looks)
 
 -- a try that finds a hole: the post, the find, and the request
@@ -90,7 +76,7 @@ tries_hole key a b c reader request rows posted hole marked still asked leaves t
         = still ∙ marked
         ∙ ap (λ (old : Caller). acted (looked old.marks key hole.named) (put_number reader.seen key)) posted.reader in
         found ∙ ap (acted (looked a.reader.marks key hole.named)) (sym (ap (λ (m : Marks). m.put) found));
-    moves = misses_once key hole.steps a b c reader request posted.moves hole.gains asked;
+    moves = misses_once hole.steps request posted.moves hole.gains asked;
     leaves = leaves;
     attempts = let first = posted.attempts in omega (arith, first, then);
   },

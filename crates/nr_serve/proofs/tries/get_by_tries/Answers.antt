@@ -34,8 +34,8 @@ returns-in_err-sleep_if-clause-waits g c =
     let so_far = c.loop-i.invariant in
     let counted = c.count_for-counted.ensures in
     let slept = c.in_err-sleep_if.ensures.slept in
-    sleeps_late _ c.args.key c.loop-i.i c.args.tries c.args.hands.now c.loop-i.hands c.try_once.new.hands c.args.rows.now
-    c.try_once.new.rows c.in-Missed.requested c.from_residual.result c.args.lobby.now c.loop-i.lobby
+    sleeps_late _ c.args.key c.loop-i.i c.args.tries c.args.hands.now c.loop-i.hands c.try_once.new.hands
+    c.args.rows.now c.try_once.new.rows c.in-Missed.requested c.from_residual.result c.args.lobby.now c.loop-i.lobby
     c.sleep_if.new.lobby c.from_residual.ensures.1 (omega (arith, slept.0)) so_far.slept
     (c.in-Missed.ensures.tries.1 ∙ so_far.rows) (rw (counted.key, counted.hands) at slept.1)
     (later_both _ _ _ counted.looks.later
@@ -43,7 +43,8 @@ returns-in_err-sleep_if-clause-waits g c =
 
 pub returns-in_err-sleep_if-clause-gets : goal.returns-in_err-sleep_if-clause-gets
 returns-in_err-sleep_if-clause-gets g c =
-    sleeps_in_time _ _ _ _ _ _ c.args.lobby.now c.sleep_if.new.lobby c.from_residual.result (returns-in_err-sleep_if-clause-waits g c)
+    sleeps_in_time _ _ _ _ _ _ c.args.lobby.now c.sleep_if.new.lobby c.from_residual.result
+    (returns-in_err-sleep_if-clause-waits g c)
 
 pub returns-in_err-sleep_if-clause-rings : goal.returns-in_err-sleep_if-clause-rings
 returns-in_err-sleep_if-clause-rings g c =
