@@ -1,5 +1,5 @@
 -- Each step on the counts of a lobby keeps their rule.
-use Rattle.std.proofs.Common.{◌≡◌, ◌≢◌, ℕ, ◌+◌, ◌<◌, ◌≤◌, max, eqb, cond, zero, suc, List, [], ◌∷◌, ◌++◌, MatchBool}
+use Rattle.std.proofs.Common.{◌≡◌, ◌≢◌, ℕ, ◌+◌, ◌<◌, ◌≤◌, max, eqb, cond, zero, suc, List, [], ◌∷◌, ◌++◌}
 use Rattle.std.proofs.Common.{set, slice_index, refl, sym, ap, ◌∙◌, subst, arith, ⊎_elim, append-nil, length-set}
 use Rattle.std.proofs.Common.{replicate, eq-eqb, ne_eqb, le_refl, le_trans, zero-le}
 use Rattle.std.proofs.lemmas.List.{length-replicate, get_or-set_same, get_or-set_other}
@@ -30,83 +30,75 @@ abbrev pub after : List ℕ → Visit → List ℕ → ℕ → Visit
 after words visit more closings =
     record { seen = words; raised = visit.raised ++ more; closes = visit.closes + closings }
 
--- the number at a place goes up, and the guest raises these counts and closes the lobby that often
-module _ (state : S) (are : AreCounts state) (i n id : ℕ) (me : Me (Unit {0}) Visit) (more : List ℕ) (closings : ℕ)
-    (there : get_elem? state.views id ≡ some me.0) (inside : i < 536) (up : slice_index state.words i ≤ n) where
-  abbrev pub words : List ℕ
-  words = set state.words i n
+module _ (state : S) (are : AreCounts state) (id : ℕ) (me : Me (Unit {0}) Visit)
+    (there : get_elem? state.views id ≡ some me.0) where
+  -- the number at a place goes up, and the guest raises these counts and closes the lobby that often
+  module _ (i n : ℕ) (more : List ℕ) (closings : ℕ) (inside : i < 536) (up : slice_index state.words i ≤ n) where
+    abbrev words : List ℕ
+    words = set state.words i n
 
-  abbrev pub visit : Visit
-  visit = after words me.0 more closings
+    abbrev visit : Visit
+    visit = after words me.0 more closings
 
-  here : slice_index words i ≡ n
-  here = get_or-set_same state.words i n 0 (omega (arith, are.size))
+    here : slice_index words i ≡ n
+    here = get_or-set_same state.words i n 0 (omega (arith, are.size))
 
-  elsewhere : (place : ℕ) → place ≢ i → slice_index words place ≡ slice_index state.words place
-  elsewhere place other = get_or-set_other state.words i place n 0 other
+    elsewhere : (place : ℕ) → place ≢ i → slice_index words place ≡ slice_index state.words place
+    elsewhere place other = get_or-set_other state.words i place n 0 other
 
-  later : IsLater state.words words
-  later place =
-      dite (ℕ_discrete place i)
-      (λ same. subst (λ (at : ℕ). slice_index state.words at ≤ slice_index words at) (sym same)
-      (omega (arith, here, up)))
-      (λ other. omega (arith, elsewhere place other))
+    later : IsLater state.words words
+    later place =
+        dite (ℕ_discrete place i) (λ same. rw same (omega (arith, here, up)))
+        (λ other. omega (arith, elsewhere place other))
 
-  more_raised : (place : ℕ)
-      → total (raised_at place) (set state.views id visit) ≡ total (raised_at place) state.views + how_often place more
-  more_raised place =
-      omega
-      (arith, total-set (raised_at place) state.views id me.0 visit there, how_often-append place me.0.raised more)
+    more_raised : (place : ℕ)
+        → total (raised_at place) (set state.views id visit)
+        ≡ total (raised_at place) state.views + how_often place more
+    more_raised place =
+        omega
+        (arith, total-set (raised_at place) state.views id me.0 visit there, how_often-append place me.0.raised more)
 
-  more_closed : total closes_of (set state.views id visit) ≡ total closes_of state.views + closings
-  more_closed = omega (arith, total-set closes_of state.views id me.0 visit there)
+    more_closed : total closes_of (set state.views id visit) ≡ total closes_of state.views + closings
+    more_closed = omega (arith, total-set closes_of state.views id me.0 visit there)
 
-  pub still_counts : (i ≢ closed_at → n ≡ capped (total (raised_at i) state.views + how_often i more))
-      → ((place : ℕ) → place ≢ i → place ≢ closed_at → how_often place more ≡ 0)
-      → (i ≢ closed_at → n ≡ last_count → 0 < slice_index state.words closed_at)
-      → (i ≡ closed_at → 0 < n → 0 < total closes_of state.views + closings)
-      → AreCounts (stepped state i n id me.1 visit keeps)
-  still_counts counts none_else closes closed_by = record {
-    size = length-set state.words i n ∙ are.size;
-    counted = λ place count. dite (ℕ_discrete place i)
-        (λ same. subst (λ (at : ℕ). slice_index words at ≡ capped (total (raised_at at) (set state.views id visit)))
-        (sym same)
-        (here ∙ counts (λ closed. count (same ∙ closed)) ∙ ap capped (sym (more_raised i))))
-        (λ other.
-        let none = none_else place other count in
-        let sum = more_raised place in
-        let same : total (raised_at place) (set state.views id visit) ≡ total (raised_at place) state.views
-        = omega (arith, none, sum) in
-        elsewhere place other ∙ are.counted place count ∙ ap capped (sym same));
-    last = λ place count at_last. let closed : 0 < slice_index state.words closed_at = dite (ℕ_discrete place i)
-        (λ same. closes (λ closed. count (same ∙ closed))
-        (sym here ∙ ap (λ (at : ℕ). slice_index words at) (sym same) ∙ at_last))
-        (λ other. are.last place count (sym (elsewhere place other) ∙ at_last)) in
-        let kept = later closed_at in omega (arith, closed, kept);
-    closed = λ now. dite (ℕ_discrete closed_at i)
-        (λ same.
-        let by
-        = closed_by (sym same)
-        (subst (λ (m : ℕ). 0 < m) (ap (λ (at : ℕ). slice_index words at) same ∙ here) now) in
-        omega (arith, by, more_closed))
-        (λ other.
-        let by = are.closed (subst (λ (m : ℕ). 0 < m) (elsewhere closed_at other) now) in
-        omega (arith, by, more_closed));
-    seen = λ other known at. ⊎_elim
-        (λ mine. subst (λ (v : Visit). IsLater v.seen words) mine.1 (λ place. le_refl (slice_index words place)))
-        (λ was. λ place. le_trans (are.seen other known was.1 place) (later place))
-        (at_set state.views id other visit known at);
-  }
+    still_counts : (i ≢ closed_at → n ≡ capped (total (raised_at i) state.views + how_often i more))
+        → ((place : ℕ) → place ≢ i → place ≢ closed_at → how_often place more ≡ 0)
+        → (i ≢ closed_at → n ≡ last_count → 0 < slice_index state.words closed_at)
+        → (i ≡ closed_at → 0 < n → 0 < total closes_of state.views + closings)
+        → AreCounts (stepped state i n id me.1 visit keeps)
+    still_counts counts none_else closes closed_by = record {
+      size = length-set state.words i n ∙ are.size;
+      counted = λ place count. dite (ℕ_discrete place i)
+          (λ same. rw same (omega (arith, here, counts (λ closed. count (same ∙ closed)), more_raised i)))
+          (λ other. omega
+          (arith, elsewhere place other, are.counted place count, none_else place other count, more_raised place));
+      last = λ place count at_last.
+          let closed : 0 < slice_index state.words closed_at
+          = dite (ℕ_discrete place i)
+          (λ same. closes (λ closed. count (same ∙ closed)) (omega (arith, here, rw same at at_last)))
+          (λ other. are.last place count (omega (arith, elsewhere place other, at_last))) in
+          omega (arith, closed, later closed_at);
+      closed = λ now. dite (ℕ_discrete closed_at i)
+          (λ same. omega (arith, closed_by (sym same) (omega (arith, here, rw same at now)), more_closed))
+          (λ other. omega (arith, are.closed (omega (arith, elsewhere closed_at other, now)), more_closed));
+      seen = λ other known at. ⊎_elim
+          (λ mine. subst (λ (v : Visit). IsLater v.seen words) mine.1 (λ place. le_refl (slice_index words place)))
+          (λ was. λ place. le_trans (are.seen other known was.1 place) (later place))
+          (at_set state.views id other visit known at);
+    }
 
-  pub sees_more : IsLater me.0.seen words
-  sees_more place = le_trans (are.seen id me.0 there place) (later place)
+    sees_more : IsLater me.0.seen words
+    sees_more place = le_trans (are.seen id me.0 there place) (later place)
 
--- a number that stays closes nothing
-still_closed : (state : S) → AreCounts state → (place : ℕ) → place ≡ closed_at → 0 < slice_index state.words place
-    → 0 < total closes_of state.views + 0
-still_closed state are place same above =
-    let by = are.closed (subst (λ (at : ℕ). 0 < slice_index state.words at) same above) in
-    omega (arith, by)
+  -- a step that leaves the number as it is
+  still_counts_same : (place : ℕ) → place < 536
+      → AreCounts (stepped state place (slice_index state.words place) id me.1
+      (after (set state.words place (slice_index state.words place)) me.0 [] 0) keeps)
+  still_counts_same place inside =
+      still_counts place (slice_index state.words place)
+      [] 0 inside (le_refl (slice_index state.words place)) (λ count. omega (arith, are.counted place count))
+      (λ other _ _. refl) (λ count. are.last place count)
+      (λ same above. omega (arith, are.closed (rw same at above)))
 
 module _ (id : ℕ) (me : Me (Unit {0}) Visit) where
   -- a load
@@ -116,14 +108,12 @@ module _ (id : ℕ) (me : Me (Unit {0}) Visit) where
     after (set state.words place n) me.0 [] 0,
     keeps,
     tt,
-    still_counts state are place n id me
-        [] 0 there inside (le_refl n) (λ count. let is = are.counted place count in omega (arith, is))
-        (λ other _ _. refl) (λ count. are.last place count) (still_closed state are place),
+    still_counts_same state are id me there place inside,
     (
-      sees_more state are place n id me [] 0 there inside (le_refl n),
+      sees_more state are id me there place n [] 0 inside (le_refl n),
       append-nil me.0.raised,
       omega arith,
-      here state are place n id me [] 0 there inside (le_refl n),
+      here state are id me there place n [] 0 inside (le_refl n),
     ),
   )
 
@@ -137,16 +127,14 @@ module _ (id : ℕ) (me : Me (Unit {0}) Visit) where
         after (set state.words closed_at n) me.0 [] 1,
         keeps,
         tt,
-        still_counts state are closed_at n id me
-            [] 1 there inside up (λ count. absurd (count refl)) (λ other _ _. refl) (λ count. absurd (count refl))
+        still_counts state are id me there closed_at n
+            [] 1 inside up (λ count. absurd (count refl)) (λ other _ _. refl) (λ count. absurd (count refl))
             (λ _ _. omega arith),
         (
-          sees_more state are closed_at n id me [] 1 there inside up,
+          sees_more state are id me there closed_at n [] 1 inside up,
           append-nil me.0.raised,
           refl,
-          let is
-              = here state are closed_at n id me [] 1 there inside up in
-              omega (arith, is),
+          omega (arith, here state are id me there closed_at n [] 1 inside up),
         ),
       )
 
@@ -160,48 +148,23 @@ module _ (id : ℕ) (me : Me (Unit {0}) Visit) where
       dite (ℕ_discrete n count)
       (λ hit. let up : n ≤ next = omega (arith, hit, next_is, small) in
       let one : how_often place (place ∷ []) ≡ 1 = ap (λ (b : _). cond b 1 0 + 0) (eq-eqb place place refl) in
-      let sum = are.counted place is_count in
-      let known = are.seen id me.0 there closed_at in (
+      rw (eq-eqb n count hit) (
         after (set state.words place next) me.0 (place ∷ []) 0,
         keeps,
         tt,
-        subst
-            (λ (b : _). AreCounts
-            (stepped state place (either b next n) id me.1 (after (set state.words place next) me.0 (place ∷ []) 0)
-            keeps))
-            (sym (eq-eqb n count hit))
-            (still_counts state are place next id me (place ∷ []) 0 there inside up
-            (λ _. omega (arith, hit, next_is, one, sum))
+        still_counts state are id me there place next (place ∷ []) 0 inside up
+            (λ _. omega (arith, hit, next_is, one, are.counted place is_count))
             (λ other not _. ap (λ (b : _). cond b 1 0 + 0) (ne_eqb place other (λ same. not (sym same))))
-            (λ _ at_last. let seen = closed at_last in omega (arith, seen, known)) (λ same. absurd (is_count same))),
-        (
-          sees_more state are place next id me (place ∷ []) 0 there inside up,
-          omega arith,
-          subst
-              (λ (b : _). MatchBool b (me.0.raised ++ place ∷ [] ≡ me.0.raised ++ place ∷ [])
-              (me.0.raised ++ place ∷ [] ≡ me.0.raised))
-              (sym (eq-eqb n count hit)) refl,
-        ),
+            (λ _ at_last. omega (arith, closed at_last, are.seen id me.0 there closed_at))
+            (λ same. absurd (is_count same)),
+        (sees_more state are id me there place next (place ∷ []) 0 inside up, omega arith, refl),
       ))
-      (λ miss. (
+      (λ miss. rw (ne_eqb n count miss) (
         after (set state.words place n) me.0 [] 0,
         keeps,
         tt,
-        subst
-            (λ (b : _). AreCounts
-            (stepped state place (either b next n) id me.1 (after (set state.words place n) me.0 [] 0) keeps))
-            (sym (ne_eqb n count miss))
-            (still_counts state are place n id me
-            [] 0 there inside (le_refl n) (λ is. let sum = are.counted place is in omega (arith, sum))
-            (λ other _ _. refl) (λ is. are.last place is) (still_closed state are place)),
-        (
-          sees_more state are place n id me [] 0 there inside (le_refl n),
-          omega arith,
-          subst
-              (λ (b : _). MatchBool b (me.0.raised ++ [] ≡ me.0.raised ++ place ∷ []) (me.0.raised ++ [] ≡ me.0.raised))
-              (sym (ne_eqb n count miss))
-              (append-nil me.0.raised),
-        ),
+        still_counts_same state are id me there place inside,
+        (sees_more state are id me there place n [] 0 inside (le_refl n), omega arith, append-nil me.0.raised),
       ))
 
 -- a new guest
@@ -212,13 +175,9 @@ enters slots place state are _ _ =
       visit,
       record {
         size = are.size;
-        counted = λ at count.
-            let is = are.counted at count in
-            let sum = total-snoc (raised_at at) state.views visit in
-            omega (arith, is, sum);
+        counted = λ at count. omega (arith, are.counted at count, total-snoc (raised_at at) state.views visit);
         last = are.last;
-        closed = λ now.
-            let by = are.closed now in let sum = total-snoc closes_of state.views visit in omega (arith, by, sum);
+        closed = λ now. omega (arith, are.closed now, total-snoc closes_of state.views visit);
         seen = λ id known at. ⊎_elim (λ was. are.seen id known was)
             (λ mine. subst (λ (v : Visit). IsLater v.seen state.words) mine
             (λ other. le_refl (slice_index state.words other)))
@@ -237,8 +196,8 @@ pub opens : AreCounts (opening (replicate 536 0) [] new_guest)
 opens = record {
   size = length-replicate {A = ℕ} 536 0;
   counted = λ place _. zeros 536 place;
-  last = λ place _ at_last. let is = zeros 536 place in absurd (omega (arith, is, at_last));
-  closed = λ now. let is = zeros 536 closed_at in absurd (omega (arith, is, now));
+  last = λ place _ at_last. absurd (omega (arith, zeros 536 place, at_last));
+  closed = λ now. absurd (omega (arith, zeros 536 closed_at, now));
   seen = λ id known at. subst (λ (v : Visit). IsLater v.seen (replicate 536 0)) (only_first id known at)
       (λ place. zero-le);
 }

@@ -18,7 +18,8 @@ use Rattle.nr_serve.specs.declared.try_turns.TryTurn.TheVariants as turn
 use Rattle.nr_serve.specs.Ends.{TakesBack}
 use Rattle.nr_serve.specs.Flows.{FlowSeen}
 use Rattle.nr_serve.specs.Turns.{Spends, Takes, TurnsOrFails, kept_posts}
-use Rattle.nr_serve.specs.Ledger.{filled_by, Cancels, Does, EachTriggerEndsOnce, Ending, Evicts, FailWorn, Fails, FillLacks}
+use Rattle.nr_serve.specs.Ledger.{filled_by, Cancels, Does, EachTriggerEndsOnce}
+use Rattle.nr_serve.specs.Ledger.{Ending, Evicts, FailWorn, Fails, FillLacks}
 use Rattle.nr_serve.specs.Ledger.{Fills, Goes, Hears, IsEachOnce, Keeps, Lends, Looks, Opens, Replaces, Run}
 use Rattle.nr_serve.specs.Ledger.{TakesNone, TakesOne, Tells, TurnsOnce, Updates, ended_by, fate_by}
 use Rattle.nr_serve.specs.Ledger.{fills_of, posts_of}
