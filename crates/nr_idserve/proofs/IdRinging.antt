@@ -1,5 +1,5 @@
 -- A client's rings are as many as its posts, over several steps.
-use Rattle.std.proofs.Common.{◌≡◌, ◌∷◌, [], ◌++◌, ◌+◌, ℕ, List, length, replicate, length-append, refl, ap, subst}
+use Rattle.std.proofs.Common.{◌≡◌, ◌∷◌, [], ◌++◌, ◌+◌, ℕ, List, length, length-append, refl, ap, subst}
 use Rattle.std.proofs.Common.{arith}
 use Rattle.std.proofs.lemmas.List.{replicate-append-replicate}
 use Rattle.nr_trigger.specs.declared.post.Upquery.{Upquery}
@@ -26,12 +26,12 @@ rings_once a b g h upquery more raises = record {
   raises = raises;
 }
 
-pub rings_both : (a b c : PosterSeen) (g h i : GuestSeen) → RingsFor a g b h → RingsFor b h c i → RingsFor a g c i
-rings_both a b c g h i one two = record {
+pub rings_both : {a b c : PosterSeen} {g h i : GuestSeen} → RingsFor a g b h → RingsFor b h c i → RingsFor a g c i
+rings_both {g = g} {h = h} {i = i} one two = record {
   count = one.count + two.count;
   posted = omega (arith, one.posted, two.posted);
   raises = subst (λ (l : List ℕ). Raises l g i) (replicate-append-replicate one.count two.count rung_at)
-      (raises_both g h i (replicate one.count rung_at) (replicate two.count rung_at) one.raises two.raises);
+      (raises_both g h i _ _ one.raises two.raises);
 }
 
 -- the poster posted nothing
@@ -40,5 +40,5 @@ rings_same a b g same =
     record { count = 0; posted = omega (arith, ap (λ (l : List Upquery). length l) same); raises = raises_none g }
 
 -- the guest looked
-pub rings_looks : (a : PosterSeen) (g h : GuestSeen) → OnlyLooks g h → RingsFor a g a h
-rings_looks a g h looks = rings_none a a g h refl looks
+pub rings_looks : {a b : PosterSeen} {g h i : GuestSeen} → RingsFor a g b h → OnlyLooks h i → RingsFor a g b i
+rings_looks {b = b} {h = h} {i = i} rings looks = rings_both rings (rings_none b b h i refl looks)

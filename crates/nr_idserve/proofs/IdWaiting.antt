@@ -1,18 +1,22 @@
 -- The sleeps of a get by id, put together over its tries.
-use Rattle.std.proofs.Common.{◌≡◌, ℕ, ◌+◌, ◌-◌, ◌<◌, ◌≤◌, ◌⊎◌, ◌∙◌, zero, suc, List, Option, None, Some}
-use Rattle.std.proofs.Common.{Ok, Err, refl, sym, subst, arith, inl, inr, ⊎_elim, slice_index}
+use Rattle.std.proofs.Common.{◌≡◌, ℕ, ◌+◌, ◌-◌, ◌<◌, ◌≤◌, ◌⊎◌, zero, suc, List, Option, None, Some}
+use Rattle.std.proofs.Common.{Ok, Err, refl, subst, arith, inl, inr, ⊎_elim, slice_index}
+use Rattle.std.proofs.Common.{Result}
+use Rattle.std.specs.Result.{IsErrAnd}
 use Rattle.nr_model.specs.declared.rows.Row.{Row}
 use Rattle.nr_ids.specs.Tokens.{Granted}
 use Rattle.nr_serve.specs.Counts.{GuestSeen, IsLaterOf, closed_at, group_at}
 use Rattle.nr_serve.specs.Waits.{SawRaises, SleepsIf, if_left}
 use Rattle.nr_serve.specs.declared.sleepers.TooLate.{TooLate}
+use Rattle.nr_serve.proofs.Later.{later_both}
 use Rattle.nr_serve.proofs.Waiting.{saw_later, saw_more}
+use Rattle.nr_idserve.specs.declared.answers.GotId.{GotId}
 use Rattle.nr_idserve.specs.declared.answers.GotId.TheVariants as got
 use Rattle.nr_idserve.specs.declared.answers.Missed.{Missed}
 use Rattle.nr_idserve.specs.declared.answers.Missed.TheVariants.{Pending, NotRequested, Claimed, Named, Busy, Outrun}
 use Rattle.nr_idserve.specs.declared.answers.Missed.TheVariants.{Worn}
 use Rattle.nr_idserve.specs.declared.hands.IdHands.{IdHands}
-use Rattle.nr_idserve.specs.IdGets.{AwaitsRaise, FindsOnce, Getting, IsAwaited, MissesOnce, MissesTimes}
+use Rattle.nr_idserve.specs.IdGets.{AwaitsRaise, FindsOnce, GetsIdInTime, Getting, IsAwaited, MissesOnce, MissesTimes}
 use Rattle.nr_idserve.specs.IdWaits.{GetsIdSleeping, sleeps, sleeps_after, unless_kept}
 use Rattle.nr_idserve.proofs.IdGetting.{missed_more, missed_none}
 
@@ -50,35 +54,22 @@ pub slept_none : (capacity id tries group : ℕ) (a : IdHands) (g : GuestSeen)
 slept_none capacity id tries group a g = record { missed = missed_none capacity id a; saw = inr (omega arith) }
 
 -- one try more, which began with a look at the count and may have ended with a sleep
-pub slept_more : (capacity id n tries group count : ℕ) (a b c : IdHands) (missed : Missed) (g h i j k : GuestSeen)
+pub slept_more : (capacity id n tries group count : ℕ) (a b c : IdHands) (missed : Missed) (g h i k : GuestSeen)
     → Slept capacity id n tries group a b g h → MissesOnce capacity id b c missed → IsLaterOf h i
-    → slice_index i.seen (group_at group) ≡ count → IsLaterOf i j → IsLaterOf j k
+    → slice_index i.seen (group_at group) ≡ count → IsLaterOf i k
     → SleepsIf (tries - 1 - n) count group (IsAwaited missed) c.kept k → Slept capacity id (n + 1) tries group a c g k
-slept_more capacity id n tries group count a b c missed g h i j k slept once looked found moved waited sleeps_if =
+slept_more capacity id n tries group count a b c missed g h i k slept once looked found waited sleeps_if =
     let before = slept.missed in
-    let at = group_at group in
-    let first = looked.seen at in
-    let second = moved.seen at in
-    let third = waited.seen at in
-    let later : IsLaterOf h k
-    = record {
-      lobby = waited.lobby ∙ (moved.lobby ∙ looked.lobby);
-      seen = λ place.
-          let x = looked.seen place in
-          let y = moved.seen place in
-          let z = waited.seen place in omega (arith, x, y, z);
-    } in
-    let saw
-    = saw_more group (sleeps capacity id tries a b before.each before.all)
-    (if_left (tries - 1 - n) (sleeps_after missed c.kept)) count g h k slept.saw later (omega (arith, first, found))
-    (rose_once group (tries - 1 - n) count missed c.kept k sleeps_if (omega (arith, second, third, found))) in
+    let first = looked.seen (group_at group) in
+    let last = waited.seen (group_at group) in
     record {
       missed = missed_more capacity id n a b c missed before once;
       saw =
-          subst
-          (λ (m : ℕ). SawRaises group (sleeps capacity id tries a b before.each before.all
-          + if_left (tries - 1 - m) (sleeps_after missed c.kept)) g k)
-          (sym before.counted) saw;
+          rw before.counted
+          (saw_more group (sleeps capacity id tries a b before.each before.all)
+          (if_left (tries - 1 - n) (sleeps_after missed c.kept)) count g h k slept.saw (later_both h i k looked waited)
+          (omega (arith, first, found))
+          (rose_once group (tries - 1 - n) count missed c.kept k sleeps_if (omega (arith, last, found))));
     }
 
 module _ {Room : Type 0} (shows : Room → List Row → Type 0) where
@@ -102,11 +93,19 @@ module _ {Room : Type 0} (shows : Room → List Row → Type 0) where
       (record { missed = n; between = b; misses = slept.missed; ends = (all, refl, same) }, slept.saw)
 
   -- and one whose last sleep timed out
-  pub sleeps_late : (get : Getting) (n group : ℕ) (a b c : IdHands) (before rows : Room) (missed : Missed)
-      (late : TooLate) (g h i : GuestSeen) → n + 1 < get.tries → Slept get.capacity get.id n get.tries group a b g h
-      → rows ≡ before → AwaitsRaise get.capacity get.id b c missed → IsLaterOf h i
-      → GetsIdSleeping shows get group a before g c rows i (Err late)
-  sleeps_late get n group a b c before rows missed late g h i few slept same last later = (
+  pub sleeps_late : (Late : TooLate → Type 0) (get : Getting) (n group : ℕ) (a b c : IdHands) (before rows : Room)
+      (missed : Missed) (ended : Result GotId TooLate) (g h i : GuestSeen) → IsErrAnd ended Late → n + 1 < get.tries
+      → Slept get.capacity get.id n get.tries group a b g h → rows ≡ before
+      → AwaitsRaise get.capacity get.id b c missed → IsLaterOf h i
+      → GetsIdSleeping shows get group a before g c rows i ended
+  sleeps_late Late get n group a b c before rows missed (Ok got) g h i late few slept same last later = absurd late
+  sleeps_late Late get n group a b c before rows missed (Err why) g h i late few slept same last later = (
     record { made = n; few = few; last = b; misses = slept.missed; same = same; missed = missed; slept = last },
     saw_later group _ g h i slept.saw later,
   )
+
+  pub sleeps_in_time : (get : Getting) (group : ℕ) (a b : IdHands) (before rows : Room) (g h : GuestSeen)
+      (ended : Result GotId TooLate) → GetsIdSleeping shows get group a before g b rows h ended
+      → GetsIdInTime shows get a before b rows ended
+  sleeps_in_time get group a b before rows g h (Ok got) gets = gets.0
+  sleeps_in_time get group a b before rows g h (Err late) gets = gets.0
