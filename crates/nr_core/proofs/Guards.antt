@@ -23,7 +23,7 @@ guard b o why =
     by_cases (λ v. cond v o (Some why) ≡ None → (v ≡ true) × (o ≡ None)) b (λ _ e. (refl, e))
     (λ _ e. absurd (no_some (Some why) why refl e))
 
-both : (a b : Bool) → (a && b) ≡ true → (a ≡ true) × (b ≡ true)
+pub both : (a b : Bool) → (a && b) ≡ true → (a ≡ true) × (b ≡ true)
 both a b =
     by_cases (λ v. (v && b) ≡ true → (v ≡ true) × (b ≡ true)) a (λ _ e. (refl, e))
     (λ _ e. absurd (let n : 0 ≡ 1 = ap (λ v. cond {A = ℕ} v 1 0) e in omega arith))
