@@ -21,6 +21,9 @@ use Rattle.nr_idserve.specs.IdLedger.{held_for, held_for_id, one_if_open, opened
 use Rattle.nr_idserve.specs.IdLedger.DoesById.{Takes, Fills, FillLacks, Fails, FailWorn, Invalidates, InvalidateWorn}
 use Rattle.nr_idserve.specs.IdLedger.DoesById.{Keeps, Updates, Replaces, Evicts, Tells, Hears, Looks}
 
+some_not_none : {A : Type 0} {option : Option A} {x : A} → option ≡ Some x → option ≡ None → ⊥
+some_not_none is none = cc
+
 some_or_none : (n : ℕ) → (n ≡ 0) ⊎ (0 < n)
 some_or_none zero = inl refl
 some_or_none (suc n) = inr (omega arith)
@@ -78,68 +81,50 @@ all_closes old new way (owed ∷ held) none others all = (
   all_closes old new way held (omega (arith, none)) others all.1,
 )
 
-opens_once : (old new : Keeper) (owed : Owed) (held : List Owed) → OpensOne owed old new → AreTheOpen old held
-    → (way : ℕ)
-    → only way owed.way + held_for way held ≡ one_if_open (owed_at new way)
-opens_once old new owed held opens was way = ⊎_elim
-    (λ none.
-    let same = ap one_if_open (opens.others way (differs way owed.way none)) in
-    let once = was.once way in
-    omega (arith, none, same, once))
+-- a way that is open by one keeper alone, and each other way by both
+opened_at : (without having : Keeper) (owed : Owed) (way : ℕ) → owed_at without owed.way ≡ None
+    → owed_at having owed.way ≡ Some owed → OwesElse owed.way without having
+    → one_if_open (owed_at having way) ≡ only way owed.way + one_if_open (owed_at without way)
+opened_at without having owed way none here others = ⊎_elim
+    (λ isnt. omega (arith, isnt, ap one_if_open (others way (differs way owed.way isnt))))
     (λ some. let is : owed.way ≡ way = only-is way owed.way some in
     let few = only-le way owed.way in
-    let before = ap one_if_open (ap (owed_at old) (sym is) ∙ opens.before) in
-    let after = ap one_if_open (ap (owed_at new) (sym is) ∙ opens.after) in
-    let once = was.once way in omega (arith, some, few, before, after, once))
+    let before = ap one_if_open (ap (owed_at without) (sym is) ∙ none) in
+    let after = ap one_if_open (ap (owed_at having) (sym is) ∙ here) in
+    omega (arith, some, few, before, after))
     (some_or_none (only way owed.way))
 
-closes_once : (old new : Keeper) (owed : Owed) (before after : List Owed) → ClosesOne owed old new
-    → AreTheOpen old (before ++ owed ∷ after) → (way : ℕ)
-    → held_for way (before ++ after) ≡ one_if_open (owed_at new way)
-closes_once old new owed before after closes was way =
-    let cut = held_for-cut way before after owed in
-    let once = was.once way in
-    ⊎_elim
-    (λ none.
-    let same = ap one_if_open (closes.others way (differs way owed.way none)) in
-    omega (arith, cut, none, same, once))
-    (λ some. let is : owed.way ≡ way = only-is way owed.way some in
-    let few = only-le way owed.way in
-    let was_one = ap one_if_open (ap (owed_at old) (sym is) ∙ closes.before) in
-    let is_none = ap one_if_open (ap (owed_at new) (sym is) ∙ closes.after) in
-    omega (arith, cut, some, few, was_one, is_none, once))
-    (some_or_none (only way owed.way))
-
-pub opens_one : (old new : Keeper) (owed : Owed) (held : List Owed) → OpensOne owed old new → AreTheOpen old held
+opens_one : {old new : Keeper} {owed : Owed} {held : List Owed} → OpensOne owed old new → AreTheOpen old held
     → AreTheOpen new (owed ∷ held)
-opens_one old new owed held opens was =
-    record {
-      all = (opens.after, all_opens old new owed.way held opens.before opens.others was.all);
-      once = opens_once old new owed held opens was;
-    }
+opens_one {old} {new} {owed} {held} opens was = record {
+  all = (opens.after, all_opens old new owed.way held opens.before opens.others was.all);
+  once = λ way. omega (arith, was.once way, opened_at old new owed way opens.before opens.after opens.others);
+}
 
-pub closes_one : (old new : Keeper) (owed : Owed) (before after : List Owed) → ClosesOne owed old new
+closes_one : {old new : Keeper} {owed : Owed} (before after : List Owed) → ClosesOne owed old new
     → AreTheOpen old (before ++ owed ∷ after) → AreTheOpen new (before ++ after)
-closes_one old new owed before after closes was =
-    let cut = held_for-cut owed.way before after owed in
-    let one = was.once owed.way in
-    let was_one = ap one_if_open closes.before in
-    let mine = only-same owed.way in
+closes_one {old} {new} {owed} before after closes was =
+    let cut = λ (way : ℕ). held_for-cut way before after owed in
+    let none : held_for owed.way (before ++ after) ≡ 0
+    = omega (arith, cut owed.way, was.once owed.way, ap one_if_open closes.before, only-same owed.way) in
+    let others = λ (way : ℕ) (isnt : way ≢ owed.way). sym (closes.others way isnt) in
     record {
-      all =
-          all_closes old new owed.way (before ++ after) (omega (arith, cut, one, was_one, mine)) closes.others
-          (all_cut old before after owed was.all);
-      once = closes_once old new owed before after closes was;
+      all = all_closes old new owed.way (before ++ after) none closes.others (all_cut old before after owed was.all);
+      once = λ way. omega
+          (arith, cut way, was.once way, opened_at new old owed way closes.after closes.before others);
     }
 
-pub stays_open : (old new : Keeper) (held : List Owed) → OwesSame old new → AreTheOpen old held → AreTheOpen new held
-stays_open old new held same was =
+stays_open : (old new : Keeper) {held : List Owed} → OwesSame old new → AreTheOpen old held → AreTheOpen new held
+stays_open old new {held} same was =
     record { all = all_same old new held same was.all; once = λ way. was.once way ∙ sym (ap one_if_open (same way)) }
 
 -- A DATAFLOW
 -- the writer is as it was
-rests_open : (old new : Keeper) (held : List Owed) → new ≡ old → AreTheOpen old held → AreTheOpen new held
-rests_open old new held is was = subst (λ (keeper : Keeper). AreTheOpen keeper held) (sym is) was
+rests_open : {old new : Keeper} {held : List Owed} → new ≡ old → AreTheOpen old held → AreTheOpen new held
+rests_open {held = held} is was = subst (λ (keeper : Keeper). AreTheOpen keeper held) (sym is) was
+
+abbrev writes : IdFlowSeen → Keeper
+writes flow = flow.writer
 
 -- an admission has opened the upquery that it gives, and else none
 abbrev admitted : Result Sent Refused → List Owed
@@ -148,22 +133,21 @@ admitted (Err why) = []
 
 admits_open : (old new : IdFlowSeen) (id : ℕ) (answer : Result Sent Refused) (held : List Owed)
     → AdmitsOne id old new answer → AreTheOpen old.writer held → AreTheOpen new.writer (admitted answer ++ held)
-admits_open old new id (Ok sent) held admits was = opens_one old.writer new.writer sent.owed held admits.1.opens was
-admits_open old new id (Err why) held admits was = stays_open old.writer new.writer held admits.0.owes was
+admits_open old new id (Ok sent) held admits was = opens_one admits.1.opens was
+admits_open old new id (Err why) held admits was = stays_open old.writer new.writer admits.0.owes was
 
 may_go_open : (old new : IdFlowSeen) (id : ℕ) (may_go made : Bool) (held : List Owed) → EvictsIf may_go id old new made
     → AreTheOpen old.writer held → AreTheOpen new.writer held
-may_go_open old new id true true held evicts was = stays_open old.writer new.writer held evicts.owes was
-may_go_open old new id true false held evicts was = stays_open old.writer new.writer held evicts.owes was
+may_go_open old new id true true held evicts was = stays_open old.writer new.writer evicts.owes was
+may_go_open old new id true false held evicts was = stays_open old.writer new.writer evicts.owes was
 may_go_open old new id false true held evicts was = absurd evicts
-may_go_open old new id false false held same was =
-    rests_open old.writer new.writer held (ap (λ (flow : IdFlowSeen). flow.writer) same) was
+may_go_open old new id false false held same was = rests_open (ap writes same) was
 
 room_open : (old new : IdFlowSeen) (id : ℕ) (say : Say) (made : Bool) (held : List Owed)
     → MakesRoom id say old new made → AreTheOpen old.writer held → AreTheOpen new.writer held
 room_open old new id say made held makes was =
     may_go_open makes.0 new say.id say.may_go made held makes.2
-    (stays_open old.writer makes.0.writer held makes.1.stays.owes was)
+    (stays_open old.writer makes.0.writer makes.1.stays.owes was)
 
 asking_open : (old new : IdFlowSeen) (id : ℕ) (said : Option Say) (answer : Result Sent Refused) (held : List Owed)
     → AdmitsAsking id said old new answer → AreTheOpen old.writer held → AreTheOpen new.writer (admitted answer ++ held)
@@ -180,7 +164,7 @@ makes_room_open : (old new : IdFlowSeen) (id : ℕ) (said : Option Say) (answer 
 makes_room_open old new id said answer held admits was = ⊎_elim
     (λ once. admits_open old new id answer held once.0.0 was)
     (λ full. asking_open full.0 new id said answer held full.2
-    (stays_open old.writer full.0.writer held full.1.0.owes was))
+    (stays_open old.writer full.0.writer full.1.0.owes was))
     admits
 
 -- what a take gave
@@ -193,29 +177,27 @@ asked taken.Idle = []
 next_open : (old new : IdFlowSeen) (id : ℕ) (said : Option Say) (answer : Taken) (held : List Owed)
     → AdmitsNext id said old new answer
     → AreTheOpen old.writer held → AreTheOpen new.writer (asked answer ++ held)
-next_open old new id said (taken.Asked sent) held admits was =
-    makes_room_open old new id said (Ok sent) held admits was
+next_open old new id said (taken.Asked sent) held admits was = makes_room_open old new id said (Ok sent) held admits was
 next_open old new id said (taken.Passed other) held admits was =
     makes_room_open old new id said (Err admits.1) held admits.3 was
-next_open old new id said (taken.Full other) held admits was =
-    rests_open admits.1.writer new.writer held (ap (λ (flow : IdFlowSeen). flow.writer) admits.3)
+next_open old new id said (taken.Full other) held admits was = rests_open (ap writes admits.3)
     (makes_room_open old admits.1 id said _ held admits.2 was)
 next_open old new id said taken.Idle held admits was = absurd admits
 
 -- the claim was found without the writer
 claim_rests : (old new : IdFlowSeen) (id : ℕ) → NextsId old new (Some id) → new.writer ≡ old.writer
 claim_rests old new id nexts = ⊎_elim
-    (λ refused. ap (λ (flow : IdFlowSeen). flow.writer) refused.1)
-    (λ came. ap (λ (flow : IdFlowSeen). flow.writer) came.rest)
+    (λ refused. ap writes refused.1)
+    (λ came. ap writes came.rest)
     nexts
 
 module _ (said : Option Say) where
   comes_open : (old new : IdFlowSeen) (answer : Taken) (held : List Owed) → TakesNext said old new answer
       → AreTheOpen old.writer held → AreTheOpen new.writer (asked answer ++ held)
   comes_open old new answer held comes was =
-      let mid = rests_open old.writer comes.1.writer held (claim_rests old comes.1 comes.0 comes.2) was in ⊎_elim
+      let mid = rests_open (claim_rests old comes.1 comes.0 comes.2) was in ⊎_elim
       (λ none. subst (λ (answer : Taken). AreTheOpen new.writer (asked answer ++ held)) (sym none.1)
-      (rests_open comes.1.writer new.writer held (ap (λ (flow : IdFlowSeen). flow.writer) none.2) mid))
+      (rests_open (ap writes none.2) mid))
       (λ admits. next_open comes.1 new comes.0 said answer held admits mid)
       comes.3
 
@@ -224,24 +206,21 @@ module _ (said : Option Say) where
       → TakesById said old new answer
       → AreTheOpen old.writer held → AreTheOpen new.writer (asked answer ++ held)
   takes_open old new (taken.Asked sent) held none takes was = ⊎_elim
-      (λ kept. let both : None ≡ Some sent = sym none ∙ kept.0 in absurd (cc (both)))
+      (λ kept. absurd (some_not_none kept.0 none))
       (λ free. comes_open old new (taken.Asked sent) held free.1 was)
       takes
   takes_open old new (taken.Passed id) held none takes was = comes_open old new (taken.Passed id) held takes.1 was
   takes_open old new (taken.Full id) held none takes was = comes_open old new (taken.Full id) held takes.1 was
-  takes_open old new taken.Idle held none takes was =
-      rests_open old.writer new.writer held (ap (λ (flow : IdFlowSeen). flow.writer) takes.1.2) was
+  takes_open old new taken.Idle held none takes was = rests_open (ap writes takes.1.2) was
 
   -- one was kept, and comes first
   pub kept_first : (old new : IdFlowSeen) (answer : Taken) (sent : Sent) → old.kept ≡ Some sent
       → TakesById said old new answer → new ≡ record old { kept = None }
   kept_first old new (taken.Asked other) sent is takes =
-      ⊎_elim (λ kept. kept.1) (λ free. let both : None ≡ Some sent = sym free.0 ∙ is in absurd (cc (both))) takes
-  kept_first old new (taken.Passed id) sent is takes =
-      let both : None ≡ Some sent = sym takes.0 ∙ is in absurd (cc (both))
-  kept_first old new (taken.Full id) sent is takes =
-      let both : None ≡ Some sent = sym takes.0 ∙ is in absurd (cc (both))
-  kept_first old new taken.Idle sent is takes = let both : None ≡ Some sent = sym takes.0 ∙ is in absurd (cc (both))
+      ⊎_elim (λ kept. kept.1) (λ free. absurd (some_not_none is free.0)) takes
+  kept_first old new (taken.Passed id) sent is takes = absurd (some_not_none is takes.0)
+  kept_first old new (taken.Full id) sent is takes = absurd (some_not_none is takes.0)
+  kept_first old new taken.Idle sent is takes = absurd (some_not_none is takes.0)
 
 opened_asked : (answer : Taken) → opened_by (answered_by None answer) ≡ asked answer
 opened_asked (taken.Asked sent) = refl
@@ -255,9 +234,8 @@ take_open : (old new : IdFlowSeen) (said : Option Say) (answer : Taken) (held : 
 take_open old new said answer held None is takes was =
     subst (λ (more : List Owed). AreTheOpen new.writer (more ++ held)) (sym (opened_asked answer))
     (takes_open said old new answer held is takes was)
-take_open old new said answer held (Some sent) is takes was =
-    rests_open old.writer new.writer held
-    (ap (λ (flow : IdFlowSeen). flow.writer) (kept_first said old new answer sent is takes)) was
+take_open old new said answer held (Some sent) is takes was = rests_open
+    (ap writes (kept_first said old new answer sent is takes)) was
 
 -- and those that were spent didn't pass
 abbrev pub LeavesOpen : Keeper → List Owed → List IdEnding → Type 0
@@ -267,7 +245,7 @@ fill_open : (old new : IdFlowSeen) (sent : Sent) (rows : List Row) (said : Spent
     → FillsOneId sent rows old new (Ok said) → AreTheOpen old.writer (before ++ sent.owed ∷ after)
     → LeavesOpen new.writer (before ++ after) (ended sent.owed (fate_of said rows))
 fill_open old new sent rows spent.Filled before after fills was =
-    (closes_one old.writer new.writer sent.owed before after fills.0.fills.closes was, (tt, tt))
+    (closes_one before after fills.0.fills.closes was, (tt, tt))
 fill_open old new sent rows spent.Passed before after fills was =
     absurd (fills.0.fills.closed (all_at old.writer before after sent.owed was.all))
 fill_open old new sent rows spent.Failed before after fills was = absurd fills
@@ -281,7 +259,7 @@ withdraw_open raises old new sent spent.Filled before after ends was = absurd en
 withdraw_open raises old new sent spent.Passed before after ends was =
     absurd (ends.0.withdraws.closed (all_at old.writer before after sent.owed was.all))
 withdraw_open raises old new sent spent.Failed before after ends was =
-    (closes_one old.writer new.writer sent.owed before after ends.0.withdraws.closes was, (tt, tt))
+    (closes_one before after ends.0.withdraws.closes was, (tt, tt))
 
 pub does_open : {old new : IdFlowSeen} {held left : List Owed} {answers : List Answered} {ends : List IdEnding}
     → DoesById old held answers ends new left → AreTheOpen old.writer held
@@ -290,26 +268,22 @@ does_open (Takes old new said answer held takes) was = (take_open old new said a
 does_open (Fills old new sent rows said before after fills) was =
     fill_open old new sent rows said before after fills was
 does_open (FillLacks old new sent rows back held fills) was =
-    (stays_open old.writer new.writer held fills.0.fills.1.owes was, tt)
+    (stays_open old.writer new.writer fills.0.fills.1.owes was, tt)
 does_open (Fails old new sent said before after ends) was =
     withdraw_open FailsGroup old new sent said before after ends was
 does_open (FailWorn old new sent back held ends) was =
-    (stays_open old.writer new.writer held ends.0.withdraws.1.owes was, tt)
+    (stays_open old.writer new.writer ends.0.withdraws.1.owes was, tt)
 does_open (Invalidates old new sent said before after ends) was =
     withdraw_open RaisesGroup old new sent said before after ends was
 does_open (InvalidateWorn old new sent back held ends) was =
-    (stays_open old.writer new.writer held ends.0.withdraws.1.owes was, tt)
-does_open (Keeps old new sent held is) was =
-    (rests_open old.writer new.writer held (ap (λ (flow : IdFlowSeen). flow.writer) is) was, tt)
-does_open (Updates old new id deltas answer held calls same is) was =
-    (stays_open old.writer new.writer held same was, tt)
-does_open (Replaces old new id rows answer held calls same is) was =
-    (stays_open old.writer new.writer held same was, tt)
-does_open (Evicts old new id answer held evicts same is) was = (stays_open old.writer new.writer held same was, tt)
-does_open (Tells old new held made same is) was = (stays_open old.writer new.writer held same was, tt)
-does_open (Hears old new note held hears same is) was = (stays_open old.writer new.writer held same was, tt)
-does_open (Looks old new held is) was =
-    (rests_open old.writer new.writer held (ap (λ (flow : IdFlowSeen). flow.writer) is) was, tt)
+    (stays_open old.writer new.writer ends.0.withdraws.1.owes was, tt)
+does_open (Keeps old new sent held is) was = (rests_open (ap writes is) was, tt)
+does_open (Updates old new id deltas answer held calls same is) was = (stays_open old.writer new.writer same was, tt)
+does_open (Replaces old new id rows answer held calls same is) was = (stays_open old.writer new.writer same was, tt)
+does_open (Evicts old new id answer held evicts same is) was = (stays_open old.writer new.writer same was, tt)
+does_open (Tells old new held made same is) was = (stays_open old.writer new.writer same was, tt)
+does_open (Hears old new note held hears same is) was = (stays_open old.writer new.writer same was, tt)
+does_open (Looks old new held is) was = (rests_open (ap writes is) was, tt)
 
 pub none_open : (keeper : Keeper) → ((way : ℕ) → owed_at keeper way ≡ None) → AreTheOpen keeper []
 none_open keeper none = record { all = tt; once = λ way. sym (ap one_if_open (none way)) }
