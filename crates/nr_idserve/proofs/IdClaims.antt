@@ -30,9 +30,7 @@ claimed_ids-append [] m = sym (append-nil (claimed_ids m))
 claimed_ids-append (named way id ∷ l) m = claimed_ids-append l m
 claimed_ids-append (unnamed way ∷ l) m = claimed_ids-append l m
 claimed_ids-append (cleared group ∷ l) m = claimed_ids-append l m
-claimed_ids-append (claimed by id ∷ l) m =
-    ap (λ (ids : List ℕ). ids ++ id ∷ []) (claimed_ids-append l m)
-    ∙ append_assoc (claimed_ids m) (claimed_ids l) (id ∷ [])
+claimed_ids-append (claimed by id ∷ l) m = rw (claimed_ids-append l m, append_assoc)
 claimed_ids-append (looked by ∷ l) m = claimed_ids-append l m
 claimed_ids-append (touched by touch ∷ l) m = claimed_ids-append l m
 
@@ -42,7 +40,7 @@ looks_claim_none (suc count) by = looks_claim_none count by
 
 ids_posted-append : (l m : List Upquery) → ids_posted (l ++ m) ≡ ids_posted l ++ ids_posted m
 ids_posted-append [] m = refl
-ids_posted-append (upquery ∷ l) m = ap (λ (ids : List ℕ). upquery.number ∷ ids) (ids_posted-append l m)
+ids_posted-append (upquery ∷ l) m = rw (ids_posted-append l m)
 
 -- a reader's own steps were granted claims of these ids
 record Claims (old : Token) (ids : List ℕ) (new : Token) : Type 0 where
@@ -68,18 +66,13 @@ claims_none old new count grows =
 claims_touch : (touch : Touch) (old new : Token) → Grows (touched old.number touch ∷ []) old new → Claims old [] new
 claims_touch touch old new grows = claims_of old new (touched old.number touch ∷ []) [] grows refl
 
-claims_both : (a b c : Token) (ids more : List ℕ) → Claims a ids b → Claims b more c → Claims a (ids ++ more) c
-claims_both a b c ids more one two = record {
+claims_both : {a b c : Token} {ids more : List ℕ} → Claims a ids b → Claims b more c → Claims a (ids ++ more) c
+claims_both {a} one two = record {
   number = two.number ∙ one.number;
   events = two.events ++ one.events;
-  seen =
-      two.seen ∙ ap (λ (log : List Event). two.events ++ log) one.seen
-      ∙ sym (append_assoc two.events one.events a.seen);
+  seen = rw (two.seen, one.seen, append_assoc);
   claims =
-      ap claimed_ids (own_append a.number two.events one.events)
-      ∙ claimed_ids-append (own a.number two.events) (own a.number one.events)
-      ∙ ap (λ (l : List ℕ). l ++ claimed_ids (own a.number two.events)) one.claims
-      ∙ ap (λ (l : List ℕ). ids ++ l) (ap (λ (by : ℕ). claimed_ids (own by two.events)) (sym one.number) ∙ two.claims);
+      rw (own_append a.number two.events one.events, claimed_ids-append, one.claims, ← one.number, two.claims);
 }
 
 -- ONE CALL
@@ -112,14 +105,10 @@ each_both a b c one two =
     = record { number = one.number; events = one.events; seen = one.seen; claims = refl } in
     let second : Claims b.reader.ids more c.reader.ids
     = record { number = two.number; events = two.events; seen = two.seen; claims = refl } in
-    posts_each a c (mine ++ more) (one.gain ++ two.gain)
-    (claims_both a.reader.ids b.reader.ids c.reader.ids mine more first second)
-    (two.posted ∙ ap (λ (l : List Upquery). l ++ two.gain) one.posted ∙ append_assoc a.poster.posted one.gain two.gain)
-    (sym (append_assoc (ids_kept a.kept) mine more) ∙ ap (λ (l : List ℕ). l ++ more) one.all
-    ∙ append_assoc (ids_posted one.gain) (ids_kept b.kept) more
-    ∙ ap (λ (l : List ℕ). ids_posted one.gain ++ l) two.all
-    ∙ sym (append_assoc (ids_posted one.gain) (ids_posted two.gain) (ids_kept c.kept))
-    ∙ ap (λ (l : List ℕ). l ++ ids_kept c.kept) (sym (ids_posted-append one.gain two.gain)))
+    posts_each a c (mine ++ more) (one.gain ++ two.gain) (claims_both first second)
+    (rw (two.posted, one.posted, append_assoc))
+    (rw (← append_assoc, one.all, append_assoc (ids_posted one.gain) (ids_kept b.kept) more, two.all)
+    (rw (ids_posted-append, append_assoc)))
 
 each_same : (hands : IdHands) → PostsEach hands hands
 each_same hands =
@@ -165,8 +154,7 @@ look_none id old new way seen = let all = looks_up id old new way seen in claims
 
 way_none : (id : ℕ) (old new : Token) (at : Option NamedWay) → LooksForWay id old new at → Claims old [] new
 way_none id old new (Some at) seen =
-    claims_both old seen.0 new []
-    [] (look_none id old seen.0 (Some at.way) seen.1) (claims_touch _ seen.0 new seen.2.looks)
+    claims_both (look_none id old seen.0 (Some at.way) seen.1) (claims_touch _ seen.0 new seen.2.looks)
 way_none id old new None seen = look_none id old new None seen
 
 mark_none : (way : ℕ) (marked : Bool) (old new : Token) → SetsMark way marked old new → Claims old [] new
@@ -178,8 +166,7 @@ find_none : {Room : Type 0} (shows : Room → List Row → Type 0) (id : ℕ) (o
     → FindsById shows id old before new after answer
     → Claims old.ids [] new.ids
 find_none shows id old before new after found.Rows (word, finds) =
-    claims_both old.ids finds.2 new.ids []
-    [] (way_none id old.ids finds.2 (Some finds.0) finds.3.0)
+    claims_both (way_none id old.ids finds.2 (Some finds.0) finds.3.0)
     (mark_none finds.0.way finds.0.is_marked finds.2 new.ids finds.4)
 find_none shows id old before new after found.Pending (word, finds) =
     way_none id old.ids new.ids (Some finds.0) finds.1

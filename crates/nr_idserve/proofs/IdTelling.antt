@@ -6,7 +6,7 @@ use Rattle.nr_model.specs.Histories.{Entry}
 use Rattle.nr_core.specs.Puts.{puts_at}
 use Rattle.nr_board.specs.Callers.{Caller, Grows}
 use Rattle.nr_board.specs.Rule.{StartsWith}
-use Rattle.nr_ids.specs.Events.{Event, name_of}
+use Rattle.nr_ids.specs.Events.{name_of}
 use Rattle.nr_idmap.specs.declared.finds.FoundId.{FoundId}
 use Rattle.nr_idmap.specs.declared.finds.FoundId.TheVariants as found
 use Rattle.nr_idmap.specs.IdFinds.{FindsById, FindsByName, with_line}
@@ -35,10 +35,7 @@ stays old new same =
 
 grows : (steps : ℕ) (old : Caller) (entries : List Entry) (new : Caller) → Grows steps entries old new → Goes old new
 grows steps old entries new made =
-    record {
-      table = made.table;
-      seen = record { rest = made.between ++ entries; is = made.seen ∙ append_assoc old.seen made.between entries };
-    }
+    record { table = made.table; seen = record { rest = made.between ++ entries; is = rw (made.seen, append_assoc) } }
 
 named_goes : {Room : Type 0} (shows : Room → List Row → Type 0) (id : ℕ) (old : IdCaller) (before : Room)
     (new : IdCaller) (after : Room) (answer : FoundId)
@@ -87,20 +84,11 @@ miss_goes capacity id old said new tried =
     first
 
 -- A TRY, AND SEVERAL
-since_both : (a b c : IdCaller) → IsSince a b → IsSince b c → IsSince a c
-since_both a b c one two = record {
+since_both : {a b c : IdCaller} → IsSince a b → IsSince b c → IsSince a c
+since_both one two = record {
   table = two.table ∙ one.table;
-  seen =
-      record {
-        rest = one.seen.rest ++ two.seen.rest;
-        is = two.seen.is ∙ ap (λ (log : List Entry). log ++ two.seen.rest) one.seen.is
-            ∙ append_assoc a.caller.seen one.seen.rest two.seen.rest;
-      };
-  ids = (
-    two.ids.0 ++ one.ids.0,
-    two.ids.1 ∙ ap (λ (log : List Event). two.ids.0 ++ log) one.ids.1
-        ∙ sym (append_assoc two.ids.0 one.ids.0 a.ids.seen),
-  );
+  seen = record { rest = one.seen.rest ++ two.seen.rest; is = rw (two.seen.is, one.seen.is, append_assoc) };
+  ids = (two.ids.0 ++ one.ids.0, rw (two.ids.1, one.ids.1, append_assoc));
 }
 
 miss_since : (capacity id : ℕ) (old : IdHands) (said : Missed) (new : IdHands) → MissesOnce capacity id old new said
@@ -131,11 +119,7 @@ module _ {Room : Type 0} (shows : Room → List Row → Type 0) (law : FindsIdHe
   find_tells asked after first room answer later finds =
       let heard_before : HeardIdBefore note (with_steps_of_split old) asked = record {
         map = record { steps = 1; heard = heard.caller; hears = hears.map; table = later.table; seen = later.seen };
-        ids = (
-          later.ids.0 ++ hears.ids.knows.0,
-          later.ids.1 ∙ ap (λ (log : List Event). later.ids.0 ++ log) hears.ids.knows.1
-              ∙ sym (append_assoc later.ids.0 hears.ids.knows.0 note.ids.seen),
-        );
+        ids = (later.ids.0 ++ hears.ids.knows.0, rw (later.ids.1, hears.ids.knows.1, append_assoc));
       } in ⊎_elim
       (λ unnamed. inl unnamed)
       (λ (tells : FindsIdPut shows
@@ -172,7 +156,7 @@ module _ {Room : Type 0} (shows : Room → List Row → Type 0) (law : FindsIdHe
             find_tells tried.posted.reader tried.reader room room tried.answer asked
                 (as_find shows id tried.posted.reader room tried.reader tried.answer tried.finds),
           ),
-          since_both heard tries.0.reader new.reader earlier.1 (miss_since capacity id tries.0 said new tried),
+          since_both earlier.1 (miss_since capacity id tries.0 said new tried),
         )
 
     last_tells : (tries missed : ℕ) (answer : GotId) (between new : IdHands) (after : Room)
