@@ -11,7 +11,6 @@ use mathlib.Core.Logic.{dite}
 use mathlib.Core.Option.{some, some-injective, some-ne-none}
 use native.Mathlib.Decide.{dec_le, ℕ_discrete}
 use Rattle.nr_core.proofs.Choices.{by_cases}
-use Rattle.nr_board.proofs.Keepers.{at_behind}
 use Rattle.nr_core.proofs.Sums.{at_remove, at_snoc, below-change, below-same, below-term, only-other, only-same}
 use Rattle.nr_core.proofs.Sums.{total-append}
 use Rattle.nr_core.specs.Sums.{below, only}
@@ -358,14 +357,19 @@ waits_there passes (e ∷ retired) place entry there =
         (0, there, ap (λ (x : Retired). passes x.slot) (sym (some-injective e entry there)) ∙ kept)
     waits deeper false kept (suc place) there = deeper place there
 
+-- what stands between two lists
+at_seam : {A : Type 0} (l : List A) (a : A) (m : List A) → get_elem? (l ++ a ∷ m) (length l) ≡ some a
+at_seam [] a m = refl
+at_seam (x ∷ l) a m = at_seam l a m
+
 -- a slot whose set is ready to be reaped was not reaped
 pub ready_there : (old : Caller) (scanned : List ℕ) (held later : List Retired) (entry : Retired)
     → ready_to old scanned ≡ held ++ entry ∷ later
     → (at : ℕ) × (get_elem? old.retired at ≡ some entry) × (get_or old.marks.reaped entry.slot false ≡ false)
 ready_there old scanned held later entry is =
     let there
-    = waits_there _ old.retired (length held + 0) entry
-    (ap (λ (l : List Retired). get_elem? l (length held + 0)) is ∙ at_behind held (entry ∷ later) 0) in
+    = waits_there _ old.retired (length held) entry
+    (ap (λ (l : List Retired). get_elem? l (length held)) is ∙ at_seam held entry later) in
     (there.0, there.1, first_of (get_or old.marks.reaped entry.slot false) _ there.2)
   where
     first_of : (a b : Bool) → (a || b) ≡ false → a ≡ false
