@@ -1,35 +1,19 @@
 -- A number that a reply tells, or that a fill is done under, is the key's.
-use Rattle.std.proofs.Common.{◌≡◌, ◌∙◌, ℕ, ◌==◌, ap, sym, refl, ⊎_elim}
-use Rattle.std.proofs.lemmas.Bool.{cases_Bool, false≢true, eqb-true}
-use Rattle.nr_model.specs.declared.calls.Reply.{Reply}
+use Rattle.std.proofs.Common.{◌≡◌, ◌∙◌, ℕ, ap, sym, arith}
+use Rattle.std.proofs.lemmas.Bool.Decides.{nat_tests}
 use Rattle.nr_model.specs.declared.calls.Reply.TheVariants as reply
 use Rattle.nr_model.specs.declared.states.KeyState.{KeyState}
-use Rattle.nr_model.specs.declared.states.KeyState.TheVariants.{Hole, Asked, Rows}
 use Rattle.nr_model.specs.Maps.{PartialMap, opening, number_of, ask_reply, fill_reply, reply_to}
-use Rattle.nr_model.specs.Histories.{after, is_send, is_done}
+use Rattle.nr_model.specs.Histories.{after}
 use Rattle.nr_model.specs.Laws.{AnswersFitTheirRequests}
 use Rattle.nr_model.proofs.HistoryLemmas.{numbers_count_cancels_lem}
 use Rattle.nr_model.proofs.LawLemmas.{legal_goes_on_lem}
 
-abbrev told_number : Reply → ℕ
-told_number (reply.Send n) = n
-told_number _ = 0
-
 send_tells : (number : ℕ) (state : KeyState) → ask_reply state ≡ reply.Send number → number ≡ number_of state
-send_tells number (Hole n) e = sym (ap told_number e)
-send_tells number (Asked n) e = absurd (false≢true (ap is_send e))
-send_tells number (Rows n rows) e = absurd (false≢true (ap is_send e))
+send_tells number state e = grind (arith, nat_tests)
 
 done_names : (number : ℕ) (state : KeyState) → fill_reply number state ≡ reply.Done → number ≡ number_of state
-done_names number (Hole n) e = absurd (false≢true (ap is_done e))
-done_names number (Asked n) e =
-    ⊎_elim
-    (λ same. sym (eqb-true n number same))
-    (λ other.
-    let stale : fill_reply number (Asked n) ≡ reply.Stale = rw other refl in
-    absurd (false≢true (ap is_done (sym stale ∙ e))))
-    (cases_Bool (n == number))
-done_names number (Rows n rows) e = absurd (false≢true (ap is_done e))
+done_names number state e = grind (arith, nat_tests)
 
 pub answers_fit_their_requests_lem : AnswersFitTheirRequests
 answers_fit_their_requests_lem keys bound first_number key number history e legal within =

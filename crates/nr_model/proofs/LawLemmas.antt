@@ -1,8 +1,8 @@
 -- The laws.
-use Rattle.std.proofs.Common.{◌≡◌, ◌∙◌, ℕ, ◌<◌, ◌≤◌, Bool, true, false, ltb, List, [], ◌∷◌, ◌++◌, length, ⊎_elim, ap}
-use Rattle.std.proofs.Common.{refl, sym, arith, Ok, Err}
+use Rattle.std.proofs.Common.{◌≡◌, ◌∙◌, ℕ, ◌<◌, ◌≤◌, Bool, true, false, ltb, if◌then◌else◌, List, [], ◌∷◌, ◌++◌, length}
+use Rattle.std.proofs.Common.{⊎_elim, ap, refl, sym, arith, Ok, Err}
 use Rattle.std.specs.List.{list_any}
-use Rattle.std.proofs.lemmas.Bool.{and_parts, cases_Bool, cases_lt, not-true, ltb-true, eq-eqb, and_from, or_cases}
+use Rattle.std.proofs.lemmas.Bool.{and_parts, cases_Bool, not-true, ltb-true, eq-eqb, and_from, or_cases}
 use Rattle.std.proofs.lemmas.Bool.{false≢true}
 use Rattle.std.proofs.lemmas.Bool.Decides.{nat_tests}
 use Rattle.std.proofs.lemmas.List.Sums.{fold-append}
@@ -10,7 +10,7 @@ use Rattle.nr_model.specs.declared.rows.Row.{Row}
 use Rattle.nr_model.specs.declared.batches.Delta.{Delta}
 use Rattle.nr_model.specs.declared.batches.ApplyFault.TheVariants as fault
 use Rattle.nr_model.specs.Rows.{row_eq, row_lt, is_ascending, count_of, is_short, with_all, without_all, in_order}
-use Rattle.nr_model.specs.Batches.{applied, positive_rows, negative_rows}
+use Rattle.nr_model.specs.Batches.{applied, positive_rows, negative_rows, within_bound}
 use Rattle.nr_model.specs.Maps.{PartialMap, reply_to, next}
 use Rattle.nr_model.specs.Histories.{Entry, after, IsLegal}
 use Rattle.nr_model.specs.Laws.{OrderKeepsRows, CountsDecide, OrderedStay, BatchMovesRows, BatchLacksRow, LegalGoesOn}
@@ -18,7 +18,7 @@ use Rattle.nr_model.specs.Laws.{LegalBegins}
 use Rattle.nr_model.proofs.RowLemmas.{one, row_eq-refl, row_eq-true, row_ge-trans, count_of-append, count_of-cons}
 use Rattle.nr_model.proofs.RowLemmas.{length-with_all, count_of-with_all, ascending-with_all, ascending-without_all}
 use Rattle.nr_model.proofs.RowLemmas.{ascending-cons, count_of-without_all, enough_from, short_from}
-use Rattle.nr_model.proofs.BatchLemmas.{is_short-with_all, applied_no_row, applied_ok, applied_too_many}
+use Rattle.nr_model.proofs.BatchLemmas.{is_short-with_all}
 
 pub order_keeps_rows_lem : OrderKeepsRows
 order_keeps_rows_lem rows = (
@@ -27,8 +27,8 @@ order_keeps_rows_lem rows = (
   λ r. omega (arith, count_of-with_all [] rows r),
 )
 
-row_lt-irrefl : (r : Row) → row_lt r r ≡ false
-row_lt-irrefl r = grind (arith, nat_tests)
+least_itself : (x r : Row) → row_eq x r ≡ true → row_lt r x ≡ false
+least_itself x r e = grind (arith, nat_tests)
 
 row_antisym : (r s : Row) → row_lt r s ≡ false → row_lt s r ≡ false → r ≡ s
 row_antisym r s h k =
@@ -36,22 +36,16 @@ row_antisym r s h k =
     let second : r.b ≡ s.b = grind (arith, nat_tests) in
     row_eq-true r s (and_from _ _ (eq-eqb r.a s.a first) (eq-eqb r.b s.b second))
 
--- the first row of an ascending list is not above any other
-rest_least : (xs : List Row) (x r : Row) → is_ascending (x ∷ xs) ≡ true → 0 < count_of xs r → row_lt r x ≡ false
-rest_least [] x r h k = absurd (omega arith)
-rest_least (y ∷ ys) x r h k =
-    let parts = and_parts _ _ h in
-    ⊎_elim
-    (λ e. ap (λ z. row_lt z x) (sym (row_eq-true y r e)) ∙ not-true _ parts.0)
-    (λ e. row_ge-trans x y r (not-true _ parts.0)
-    (rest_least ys y r parts.1 (omega (arith, k, count_of-cons y ys r, ap (λ b. one b) e))))
-    (cases_Bool (row_eq y r))
-
+-- the first row of an ascending list is not above any of it
 first_least : (xs : List Row) (x r : Row) → is_ascending (x ∷ xs) ≡ true → 0 < count_of (x ∷ xs) r → row_lt r x ≡ false
-first_least xs x r h k =
-    ⊎_elim
-    (λ e. ap (λ z. row_lt z x) (sym (row_eq-true x r e)) ∙ row_lt-irrefl x)
-    (λ e. rest_least xs x r h (omega (arith, k, count_of-cons x xs r, ap (λ b. one b) e)))
+first_least [] x r h k =
+    ⊎_elim (least_itself x r) (λ e. absurd (omega (arith, k, count_of-cons x [] r, ap (λ b. one b) e)))
+    (cases_Bool (row_eq x r))
+first_least (y ∷ ys) x r h k =
+    let parts = and_parts _ _ h in
+    ⊎_elim (least_itself x r)
+    (λ e. row_ge-trans x y r (not-true _ parts.0)
+    (first_least ys y r parts.1 (omega (arith, k, count_of-cons x (y ∷ ys) r, ap (λ b. one b) e))))
     (cases_Bool (row_eq x r))
 
 pub counts_decide_lem : CountsDecide
@@ -76,52 +70,36 @@ pub ordered_stay_lem : OrderedStay
 ordered_stay_lem rows h =
     let kept = order_keeps_rows_lem rows in counts_decide_lem (in_order rows) rows kept.0 h kept.2
 
--- what a batch that is applied leaves
-pub applied_left : (bound : ℕ) (rows left : List Row) (batch : List Delta) → applied bound rows batch ≡ Ok left
-    → (is_short (with_all rows (positive_rows batch)) (negative_rows batch) ≡ false) × (length left ≤ bound)
-    × (left ≡ without_all (with_all rows (positive_rows batch)) (negative_rows batch))
-applied_left bound rows left batch h =
-    let rest : List Row = without_all (with_all rows (positive_rows batch)) (negative_rows batch) in
-    ⊎_elim
-    (λ e. let k = applied_no_row bound rows batch e in cc)
-    (λ e. ⊎_elim
-    (λ more. let k = applied_too_many bound rows batch e more in cc)
-    (λ fits. let k = applied_ok bound rows batch e fits in let same : left ≡ rest = cc in (e, rw same fits, same))
-    (cases_lt bound (length rest)))
-    (cases_Bool (is_short (with_all rows (positive_rows batch)) (negative_rows batch)))
+-- what a batch that is applied leaves, and one that lacks a row is short of it
+applied_left : (short : Bool) (bound : ℕ) (rest left : List Row)
+    → (if short then Err fault.NoRow else within_bound bound rest) ≡ Ok left
+    → (short ≡ false) × (length left ≤ bound) × (left ≡ rest)
+applied_left short bound rest left h =
+    (grind (arith, nat_tests), grind (arith, nat_tests), grind (arith, nat_tests))
+
+lacks : (short : Bool) (bound : ℕ) (rest : List Row)
+    → (if short then Err fault.NoRow else within_bound bound rest) ≡ Err fault.NoRow → short ≡ true
+lacks short bound rest h = grind (arith, nat_tests)
 
 pub batch_moves_rows_lem : BatchMovesRows
+unfolding applied
 batch_moves_rows_lem bound rows left batch h e =
     let more : List Row = positive_rows batch in
     let less : List Row = negative_rows batch in
-    let parts = applied_left bound rows left batch e in (
+    let parts = applied_left (is_short (rows ++ more) less) bound (without_all (with_all rows more) less) left e in
+    let enough = enough_from (with_all rows more) less (sym (is_short-with_all rows more less) ∙ parts.0) in (
       (rw parts.2 (ascending-without_all (with_all rows more) less (ascending-with_all rows more h)), parts.1),
       λ r. omega (
         arith,
         ap (λ l. count_of l r) parts.2,
         count_of-with_all rows more r,
-        count_of-without_all (with_all rows more) less (enough_from (with_all rows more) less parts.0) r,
+        count_of-without_all (with_all rows more) less enough r,
       ),
     )
 
 any_row : (p : Row → Bool) (xs : List Row) → list_any p xs ≡ true → (r : Row) × (p r ≡ true)
 any_row p [] h = absurd (false≢true h)
 any_row p (x ∷ xs) h = ⊎_elim (λ e. (x, e)) (λ e. any_row p xs e) (or_cases (p x) (list_any p xs) h)
-
-lacks : (bound : ℕ) (rows : List Row) (batch : List Delta) → applied bound rows batch ≡ Err fault.NoRow
-    → is_short (rows ++ positive_rows batch) (negative_rows batch) ≡ true
-unfolding applied
-lacks bound rows batch h =
-    let more : List Row = positive_rows batch in
-    let less : List Row = negative_rows batch in
-    ⊎_elim
-    (λ e. e)
-    (λ e. let s : is_short (with_all rows more) less ≡ false = sym (is_short-with_all rows more less) ∙ e in
-    ⊎_elim
-    (λ big. let k = applied_too_many bound rows batch s big in cc)
-    (λ fits. let k = applied_ok bound rows batch s fits in cc)
-    (cases_lt bound (length (without_all (with_all rows more) less))))
-    (cases_Bool (is_short (rows ++ more) less))
 
 pub batch_lacks_row_lem : BatchLacksRow
 unfolding applied
@@ -130,7 +108,8 @@ batch_lacks_row_lem bound rows batch =
     let less : List Row = negative_rows batch in (
       λ h.
           let found : (r : Row) × (ltb (count_of (rows ++ more) r) (count_of less r) ≡ true)
-          = any_row _ less (lacks bound rows batch h) in
+          = any_row _ less
+          (lacks (is_short (rows ++ more) less) bound (without_all (with_all rows more) less) h) in
           (found.0, omega (arith, count_of-append rows more found.0, ltb-true _ _ found.1)),
       λ found.
           let s : is_short (rows ++ more) less ≡ true
