@@ -1,5 +1,5 @@
 -- The laws.
-use Rattle.std.proofs.Common.{◌≡◌, ◌∙◌, ℕ, ◌<◌, ◌≤◌, Bool, true, false, ltb, if◌then◌else◌, List, [], ◌∷◌, ◌++◌, length}
+use Rattle.std.proofs.Common.{◌≡◌, ◌↔◌, ◌∙◌, ℕ, ◌<◌, ◌≤◌, Bool, true, false, ltb, if◌then◌else◌, List, [], ◌∷◌, ◌++◌, length}
 use Rattle.std.proofs.Common.{⊎_elim, ap, refl, sym, arith, Ok, Err}
 use Rattle.std.specs.List.{list_any}
 use Rattle.std.proofs.lemmas.Bool.{and_parts, cases_Bool, not-true, ltb-true, eq-eqb, and_from, or_cases}
@@ -27,26 +27,13 @@ order_keeps_rows_lem rows = (
   λ r. omega (arith, count_of-with_all [] rows r),
 )
 
-least_itself : (x r : Row) → row_eq x r ≡ true → row_lt r x ≡ false
-least_itself x r e = grind (arith, nat_tests)
-
 row_antisym : (r s : Row) → row_lt r s ≡ false → row_lt s r ≡ false → r ≡ s
-row_antisym r s h k =
-    let first : r.a ≡ s.a = grind (arith, nat_tests) in
-    let second : r.b ≡ s.b = grind (arith, nat_tests) in
-    row_eq-true r s (and_from _ _ (eq-eqb r.a s.a first) (eq-eqb r.b s.b second))
+row_antisym r s h k = grind (arith, nat_tests)
 
 -- the first row of an ascending list is not above any of it
 first_least : (xs : List Row) (x r : Row) → is_ascending (x ∷ xs) ≡ true → 0 < count_of (x ∷ xs) r → row_lt r x ≡ false
-first_least [] x r h k =
-    ⊎_elim (least_itself x r) (λ e. absurd (omega (arith, k, count_of-cons x [] r, ap (λ b. one b) e)))
-    (cases_Bool (row_eq x r))
-first_least (y ∷ ys) x r h k =
-    let parts = and_parts _ _ h in
-    ⊎_elim (least_itself x r)
-    (λ e. row_ge-trans x y r (not-true _ parts.0)
-    (first_least ys y r parts.1 (omega (arith, k, count_of-cons x (y ∷ ys) r, ap (λ b. one b) e))))
-    (cases_Bool (row_eq x r))
+first_least [] x r h k = grind (arith, nat_tests, count_of-cons x [] r)
+first_least (y ∷ ys) x r h k = grind (arith, nat_tests, count_of-cons x (y ∷ ys) r, first_least ys y r)
 
 pub counts_decide_lem : CountsDecide
 counts_decide_lem [] [] h k same = refl
@@ -117,19 +104,16 @@ batch_lacks_row_lem bound rows batch =
           rw s refl,
     )
 
-legal_push : (history : List Entry) (map : PartialMap) (e : Entry)
-    → IsLegal map history × (e.reply ≡ reply_to (after map history) e.call) → IsLegal map (history ++ e ∷ [])
-legal_push [] map e h = (h.1, tt)
-legal_push (x ∷ history) map e h = (h.0.0, legal_push history (next map x.call) e (h.0.1, h.1))
-
-legal_pop : (history : List Entry) (map : PartialMap) (e : Entry) → IsLegal map (history ++ e ∷ [])
-    → IsLegal map history × (e.reply ≡ reply_to (after map history) e.call)
-legal_pop [] map e h = (tt, h.0)
-legal_pop (x ∷ history) map e h = let rest = legal_pop history (next map x.call) e h.1 in ((h.0, rest.0), rest.1)
+legal_goes : (history : List Entry) (map : PartialMap) (e : Entry)
+    → (IsLegal map history × (e.reply ≡ reply_to (after map history) e.call)) ↔ IsLegal map (history ++ e ∷ [])
+legal_goes [] map e = (λ h. (h.1, tt), λ h. (tt, h.0))
+legal_goes (x ∷ history) map e =
+    let rest = legal_goes history (next map x.call) e in
+    (λ h. (h.0.0, rest.0 (h.0.1, h.1)), λ h. ((h.0, (rest.1 h.1).0), (rest.1 h.1).1))
 
 pub legal_goes_on_lem : LegalGoesOn
 legal_goes_on_lem map history e =
-    (fold-append (λ m x. next m x.call) map history (e ∷ []), (legal_push history map e, legal_pop history map e))
+    (fold-append (λ m x. next m x.call) map history (e ∷ []), legal_goes history map e)
 
 pub legal_begins_lem : LegalBegins
 legal_begins_lem map [] later h = tt

@@ -1,6 +1,6 @@
 use Rattle.std.proofs.Common.{rules, ◌≡◌, ◌*◌, length, replicate, ap, arith}
 use Rattle.nr_model.specs.declared.heads.Head.TheVariants as head
-use Rattle.nr_model.proofs.RunLemmas.{states_opened, kept_opened}
+use Rattle.nr_model.proofs.RunLemmas.{opened}
 use Rattle.nr_model.proofs.seq_map.SeqMap.open_with.Goals as goal
 
 pub invariant_of-result : goal.invariant_of-result
@@ -14,7 +14,7 @@ invariant_of-result c =
       search rules,
       record {
         room = omega (arith, cells, ap (λ n. n * c.args.rows) count);
-        kept = rw heads (kept_opened c.args.rows c.args.keys c.args.first_number c.in_ok-cells.cells.items);
+        kept = rw heads (opened c.args.rows c.args.keys c.args.first_number c.in_ok-cells.cells.items).1;
       },
     )
 
@@ -23,4 +23,4 @@ returns-clause-ok c =
     let heads : c.in_ok-heads.heads.items ≡ replicate c.args.keys (head.Hole c.args.first_number) = search rules in
     rw heads
     (ap (λ l. record { bound = c.args.rows; states = l })
-    (states_opened c.args.rows c.args.keys c.args.first_number c.in_ok-cells.cells.items))
+    (opened c.args.rows c.args.keys c.args.first_number c.in_ok-cells.cells.items).0)
