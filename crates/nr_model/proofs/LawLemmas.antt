@@ -2,12 +2,11 @@
 use Rattle.std.proofs.Common.{◌≡◌, ◌↔◌, ◌∙◌, ℕ, ◌<◌, ◌≤◌, Bool, true, false, ltb, if◌then◌else◌, List, [], ◌∷◌, ◌++◌, length}
 use Rattle.std.proofs.Common.{⊎_elim, ap, refl, sym, arith, Ok, Err}
 use Rattle.std.specs.List.{list_any}
-use Rattle.std.proofs.lemmas.Bool.{and_parts, cases_Bool, not-true, ltb-true, eq-eqb, and_from, or_cases}
+use Rattle.std.proofs.lemmas.Bool.{and_parts, ltb-true, or_cases}
 use Rattle.std.proofs.lemmas.Bool.{false≢true}
 use Rattle.std.proofs.lemmas.Bool.Decides.{nat_tests}
 use Rattle.std.proofs.lemmas.List.Sums.{fold-append}
 use Rattle.nr_model.specs.declared.rows.Row.{Row}
-use Rattle.nr_model.specs.declared.batches.Delta.{Delta}
 use Rattle.nr_model.specs.declared.batches.ApplyFault.TheVariants as fault
 use Rattle.nr_model.specs.Rows.{row_eq, row_lt, is_ascending, count_of, is_short, with_all, without_all, in_order}
 use Rattle.nr_model.specs.Batches.{applied, positive_rows, negative_rows, within_bound}
@@ -15,7 +14,7 @@ use Rattle.nr_model.specs.Maps.{PartialMap, reply_to, next}
 use Rattle.nr_model.specs.Histories.{Entry, after, IsLegal}
 use Rattle.nr_model.specs.Laws.{OrderKeepsRows, CountsDecide, OrderedStay, BatchMovesRows, BatchLacksRow, LegalGoesOn}
 use Rattle.nr_model.specs.Laws.{LegalBegins}
-use Rattle.nr_model.proofs.RowLemmas.{one, row_eq-refl, row_eq-true, row_ge-trans, count_of-append, count_of-cons}
+use Rattle.nr_model.proofs.RowLemmas.{one, row_eq-refl, count_of-append, count_of-cons}
 use Rattle.nr_model.proofs.RowLemmas.{length-with_all, count_of-with_all, ascending-with_all, ascending-without_all}
 use Rattle.nr_model.proofs.RowLemmas.{ascending-cons, count_of-without_all, enough_from, short_from}
 use Rattle.nr_model.proofs.BatchLemmas.{is_short-with_all}
@@ -37,10 +36,8 @@ first_least (y ∷ ys) x r h k = grind (arith, nat_tests, count_of-cons x (y ∷
 
 pub counts_decide_lem : CountsDecide
 counts_decide_lem [] [] h k same = refl
-counts_decide_lem [] (y ∷ ys) h k same =
-    absurd (omega (arith, same y, count_of-cons y ys y, ap (λ b. one b) (row_eq-refl y)))
-counts_decide_lem (x ∷ xs) [] h k same =
-    absurd (omega (arith, same x, count_of-cons x xs x, ap (λ b. one b) (row_eq-refl x)))
+counts_decide_lem [] (y ∷ ys) h k same = grind (arith, same y, count_of-cons y ys y, row_eq-refl y)
+counts_decide_lem (x ∷ xs) [] h k same = grind (arith, same x, count_of-cons x xs x, row_eq-refl x)
 counts_decide_lem (x ∷ xs) (y ∷ ys) h k same =
     let x_there : 0 < count_of (y ∷ ys) x
     = omega (arith, same x, count_of-cons x xs x, ap (λ b. one b) (row_eq-refl x)) in

@@ -1,6 +1,6 @@
 -- The states of all keys, by their heads and runs: what one key reads and writes.
 use Rattle.std.proofs.Common.{◌≡◌, ◌∙◌, ℕ, zero, suc, ◌+◌, ◌-◌, ◌*◌, ◌<◌, ◌≤◌, List, [], ◌∷◌, ◌++◌, length, take, drop}
-use Rattle.std.proofs.Common.{set, get_or, replicate, ap, sym, refl, subst, arith, Vec}
+use Rattle.std.proofs.Common.{set, get_or, replicate, ap, sym, refl, arith, Vec}
 use Rattle.std.specs.Vec.{with_items}
 use Rattle.std.proofs.lemmas.Slice.{take-put_mid_below}
 use borrow.Rule.Slice.PartMut.{put_mid}
