@@ -1,12 +1,12 @@
 -- The law: at every moment each posted ticket was taken once or is held, in its poster's order.
-use Rattle.std.proofs.Common.{◌≡◌, ℕ, ◌+◌, ◌<◌, ◌≤◌, List, [], ◌∷◌, ◌++◌, cond, length, length-append, sym, ap, ◌∙◌}
+use Rattle.std.proofs.Common.{◌≡◌, ℕ, ◌+◌, ◌<◌, ◌≤◌, List, [], ◌∷◌, ◌++◌, length, length-append, sym, ap, ◌∙◌}
 use Rattle.std.proofs.Common.{arith, eq-eqb, ⊎_elim, refl}
 use Rattle.std.proofs.lemmas.Bool.{cases_lt}
 use mathlib.Core.Option.{some}
 use Rattle.nr_trigger.specs.declared.post.Post.{Post}
 use Rattle.nr_trigger.specs.declared.post.Upquery.{Upquery}
 use Rattle.nr_trigger.specs.Posts.{Limits, notes_part, part}
-use Rattle.nr_trigger.specs.Views.{PassView, Posting, Opener, Leftover, Taker, Poster}
+use Rattle.nr_trigger.specs.Views.{PassView, Posting, Taker, Poster}
 use Rattle.nr_trigger.specs.Delivers.{Delivers, KnowsItsPart}
 use Rattle.nr_trigger.specs.Once.{ComesOutOnce, IsAmong}
 use Rattle.nr_trigger.proofs.Parts.{part-append}
@@ -15,25 +15,15 @@ use Rattle.nr_trigger.proofs.Places.{some-at}
 -- a post is in its own poster's part
 own-part-has-it : (before after : List Post) (post : Post) → part post.poster (before ++ post ∷ after) ≡ [] → ⊥
 own-part-has-it before after post none =
-    let apart : part post.poster (before ++ post ∷ after) ≡ part post.poster before ++ part post.poster (post ∷ after)
-    = part-append (λ post. post.upquery) post.poster before (post ∷ after) in
-    let own : part post.poster (post ∷ after) ≡ post.upquery ∷ part post.poster after
-    = ap (λ b. cond b (post.upquery ∷ part post.poster after) (part post.poster after))
-    (eq-eqb post.poster post.poster refl) in
-    let count = ap (λ (l : List Upquery). length l) (sym none ∙ apart ∙ ap (λ l. part post.poster before ++ l) own) in
-    let sum = length-append (part post.poster before) (post.upquery ∷ part post.poster after) in
-    omega (arith, count, sum)
+    let apart = part-append (λ post. post.upquery) post.poster before (post ∷ after) in
+    let count = ap (λ (l : List Upquery). length l) (sym none ∙ apart) in
+    omega (arith, simp (eq-eqb post.poster post.poster refl, length-append) at count)
 
 -- the pass at a poster's place is that poster's
 place-is-posters : (posted taken : List Post) (limits : Limits) (passes number : ℕ) (view : PassView)
     → KnowsItsPart posted taken limits passes (number + 2) view
     → (posting : Posting) × (view ≡ Poster posting) × (posting.number ≡ number)
-place-is-posters posted taken limits passes number Opener fits = absurd (let first = fits.0 in omega (arith, first))
-place-is-posters posted taken limits passes number Leftover fits = absurd (omega (arith, fits))
-place-is-posters posted taken limits passes number (Taker taking) fits =
-    absurd (let first = fits.0 in omega (arith, first))
-place-is-posters posted taken limits passes number (Poster posting) fits =
-    (posting, refl, let place = fits.0 in omega (arith, place))
+place-is-posters posted taken limits passes number view fits = grind arith
 
 -- every post is a poster's
 poster-is-there : (held : List Post) (views : List PassView) (now : Delivers held views) (number : ℕ)

@@ -1,5 +1,5 @@
 -- The rule at opening, and when the first pass becomes the taker's.
-use Rattle.std.proofs.Common.{◌≡◌, ℕ, zero, suc, List, [], ◌∷◌, ◌++◌, length, set, sym, refl, ap, ◌∙◌, subst, ⊎_elim}
+use Rattle.std.proofs.Common.{◌≡◌, ℕ, zero, suc, List, [], ◌∷◌, ◌++◌, length, set, sym, refl, ◌∙◌, subst, ⊎_elim}
 use Rattle.std.proofs.Common.{arith, length-append}
 use Rattle.std.proofs.lemmas.List.{length-set}
 use mathlib.Core.Option.{some, some-injective, some-ne-none}
@@ -17,8 +17,7 @@ alone a b (suc place) there = absurd (some-ne-none b (sym there))
 
 nothing-taken : (taken held posted : List Post) → taken ++ held ≡ posted → posted ≡ [] → [] ≡ taken
 nothing-taken [] held posted whole none = refl
-nothing-taken (x ∷ taken) held posted whole none =
-    absurd (let count = ap (λ (l : List Post). length l) (whole ∙ none) in omega (arith, count))
+nothing-taken (x ∷ taken) held posted whole none = absurd (cc)
 
 pub opening-delivers : Delivers [] (Opener ∷ [])
 opening-delivers = record {

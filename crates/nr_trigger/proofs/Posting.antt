@@ -2,11 +2,9 @@
 use Rattle.std.proofs.Common.{◌≡◌, ◌≢◌, ℕ, ◌+◌, ◌<◌, List, [], ◌∷◌, ◌++◌, length, set, sym, ap, ◌∙◌, subst}
 use Rattle.std.proofs.Common.{append_assoc, arith, refl}
 use Rattle.std.proofs.lemmas.List.{length-set}
-use mathlib.Core.Option.{some}
-use lib.ListN.{get_elem?}
 use Rattle.crossbeam_queue.specs.Fifo.{Pushes}
 use Rattle.nr_trigger.specs.declared.post.Post.{Post}
-use Rattle.nr_trigger.specs.Views.{PassView, Posting, Opener, Leftover, Taker, Poster, has_posted}
+use Rattle.nr_trigger.specs.Views.{PassView, Posting, Opener, Poster, has_posted}
 use Rattle.nr_trigger.specs.Delivers.{Delivers, KnowsItsPart}
 use Rattle.nr_trigger.specs.Posts.{Limits, MayGo}
 use Rattle.nr_trigger.proofs.Parts.{one-more-may-go, other-part-stays, own-part-gains}
@@ -18,10 +16,7 @@ others-fit-a-post-more : (posted taken : List Post) (limits : Limits) (passes pl
     → place ≢ at → at ≡ post.poster + 2 → at < passes
     → KnowsItsPart posted taken limits passes place view
     → KnowsItsPart (posted ++ post ∷ []) taken limits passes place view
-others-fit-a-post-more posted taken limits passes place at post Opener other spot inside fits =
-    absurd (let one = fits.1 in omega (arith, one, inside, spot))
-others-fit-a-post-more posted taken limits passes place at post Leftover other spot inside fits = fits
-others-fit-a-post-more posted taken limits passes place at post (Taker taking) other spot inside fits = fits
+others-fit-a-post-more posted taken limits passes place at post Opener other spot inside fits = grind arith
 others-fit-a-post-more posted taken limits passes place at post (Poster posting) other spot inside fits =
     let others : post.poster ≢ posting.number = λ same. other (fits.0 ∙ ap (λ n. n + 2) (sym same) ∙ sym spot) in (
       fits.0,
@@ -29,6 +24,7 @@ others-fit-a-post-more posted taken limits passes place at post (Poster posting)
       fits.2 ∙ sym (other-part-stays (λ post. post.note) posting.number posted post others),
       fits.3,
     )
+others-fit-a-post-more posted taken limits passes place at post _ other spot inside fits = fits
 
 pub poster-posts : (room place : ℕ) (view : PassView) (posting : Posting) (post : Post) → view ≡ Poster posting
     → post.poster ≡ posting.number → MayGo posting.limits post
@@ -54,10 +50,7 @@ poster-posts room place view posting post is mine may =
         limits = old.limits;
         within = one-more-may-go old.limits old.posted post old.within (subst (λ limits. MayGo limits post) me.3 may);
         fits =
-            subst
-            (λ passes. (at' : ℕ) (view : PassView) → get_elem? (set views place new) at' ≡ some view
-            → KnowsItsPart posted old.taken old.limits passes at' view)
-            (sym size)
+            rw size
             (each-after-change (KnowsItsPart posted old.taken old.limits (length views)) views place new (
               me.0,
               ap (λ l. l ++ post.upquery ∷ []) me.1

@@ -7,7 +7,7 @@ use lib.ListN.{get_elem?}
 use Rattle.crossbeam_queue.specs.Fifo.{Forks}
 use Rattle.nr_trigger.specs.declared.post.Post.{Post}
 use Rattle.nr_trigger.specs.Posts.{Limits, notes_part, part}
-use Rattle.nr_trigger.specs.Views.{PassView, Taking, Opener, Leftover, Taker, Poster, with_poster, next_poster}
+use Rattle.nr_trigger.specs.Views.{PassView, Taking, Taker, with_poster, next_poster}
 use Rattle.nr_trigger.specs.Delivers.{Delivers, KnowsItsPart}
 use Rattle.nr_trigger.proofs.Places.{each-after-change, inside-or-last}
 
@@ -15,12 +15,7 @@ use Rattle.nr_trigger.proofs.Places.{each-after-change, inside-or-last}
 others-fit-among-more : (posted taken : List Post) (limits : Limits) (passes more place at : ℕ) (view : PassView)
     → place ≢ at → at ≡ 0 → KnowsItsPart posted taken limits passes place view
     → KnowsItsPart posted taken limits more place view
-others-fit-among-more posted taken limits passes more place at Opener other first fits =
-    absurd (other (fits.0 ∙ sym first))
-others-fit-among-more posted taken limits passes more place at Leftover other first fits = fits
-others-fit-among-more posted taken limits passes more place at (Taker taking) other first fits =
-    absurd (other (fits.0 ∙ sym first))
-others-fit-among-more posted taken limits passes more place at (Poster posting) other first fits = fits
+others-fit-among-more posted taken limits passes more place at view other first fits = grind arith
 
 pub taker-makes-poster : (place : ℕ) (view : PassView) (taking : Taking) → view ≡ Taker taking
     → Forks Delivers place view (with_poster view) (next_poster view)

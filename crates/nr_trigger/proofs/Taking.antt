@@ -1,13 +1,11 @@
 -- The rule when the taker takes.
-use Rattle.std.proofs.Common.{◌≡◌, ◌≢◌, ℕ, ◌+◌, ◌≤◌, List, [], ◌∷◌, ◌++◌, length, set, sym, ap, ◌∙◌, subst}
-use Rattle.std.proofs.Common.{append_assoc, refl}
+use Rattle.std.proofs.Common.{◌≡◌, ◌≢◌, ℕ, ◌+◌, List, [], ◌∷◌, ◌++◌, length, set, sym, ap, ◌∙◌, subst}
+use Rattle.std.proofs.Common.{append_assoc, arith, refl}
 use Rattle.std.proofs.lemmas.List.{length-set}
-use mathlib.Core.Option.{some}
-use lib.ListN.{get_elem?}
 use Rattle.crossbeam_queue.specs.Fifo.{Pops}
 use Rattle.nr_trigger.specs.declared.post.Post.{Post}
 use Rattle.nr_trigger.specs.Posts.{Limits, MayAllGo, MayGo}
-use Rattle.nr_trigger.specs.Views.{PassView, Taking, Opener, Leftover, Taker, Poster, has_taken}
+use Rattle.nr_trigger.specs.Views.{PassView, Taking, Taker, has_taken}
 use Rattle.nr_trigger.specs.Delivers.{Delivers, KnowsItsPart}
 use Rattle.nr_trigger.proofs.Parts.{each-may-go}
 use Rattle.nr_trigger.proofs.Places.{each-after-change}
@@ -16,11 +14,7 @@ use Rattle.nr_trigger.proofs.Places.{each-after-change}
 others-fit-what-was-taken : (posted taken more : List Post) (limits : Limits) (passes place at : ℕ) (view : PassView)
     → place ≢ at → at ≡ 0
     → KnowsItsPart posted taken limits passes place view → KnowsItsPart posted more limits passes place view
-others-fit-what-was-taken posted taken more limits passes place at Opener other first fits = fits
-others-fit-what-was-taken posted taken more limits passes place at Leftover other first fits = fits
-others-fit-what-was-taken posted taken more limits passes place at (Taker taking) other first fits =
-    absurd (other (fits.0 ∙ sym first))
-others-fit-what-was-taken posted taken more limits passes place at (Poster posting) other first fits = fits
+others-fit-what-was-taken posted taken more limits passes place at view other first fits = grind arith
 
 pub taker-takes : (place : ℕ) (view : PassView) (taking : Taking) → view ≡ Taker taking
     → Pops Delivers place view (has_taken view)
@@ -40,15 +34,12 @@ taker-takes place view taking is =
         limits = old.limits;
         within = old.within;
         fits =
-            subst
-            (λ passes. (at' : ℕ) (view : PassView) → get_elem? (set views place new) at' ≡ some view
-            → KnowsItsPart old.posted taken old.limits passes at' view)
-            (sym size)
+            rw size
             (each-after-change (KnowsItsPart old.posted taken old.limits (length views)) views place new
             (me.0, me.1, ap (λ l. l ++ post ∷ []) me.2, me.3)
             (λ at' view other there. others-fit-what-was-taken old.posted old.taken taken old.limits (length views) at'
             place view other me.0 (old.fits at' view there)));
-        silent = λ number long. old.silent number (subst (λ passes. passes ≤ number + 2) size long);
+        silent = λ number long. old.silent number (rw size at long);
       },
       (refl, subst (λ limits. MayGo limits post) (sym me.3) may),
     ))
