@@ -1,6 +1,7 @@
 -- Each key's rows are a row set within the bound, after whatever calls.
-use Rattle.std.proofs.Common.{◌≡◌, ℕ, ◌+◌, ◌==◌, nat_lt, if◌then◌else◌, Bool, true, false, List, Result, Ok, Err, subst}
+use Rattle.std.proofs.Common.{◌≡◌, ℕ, List, Result, Ok, Err, subst}
 use Rattle.std.proofs.Common.{refl, sym, arith}
+use Rattle.std.proofs.lemmas.Bool.Decides.{nat_tests}
 use Rattle.std.proofs.lemmas.List.{length-replicate}
 use Rattle.nr_model.specs.declared.rows.Row.{Row}
 use Rattle.nr_model.specs.declared.batches.Delta.{Delta}
@@ -11,7 +12,7 @@ use Rattle.nr_model.specs.declared.states.KeyState.{KeyState}
 use Rattle.nr_model.specs.declared.states.KeyState.TheVariants.{Hole, Asked, Rows}
 use Rattle.nr_model.specs.Rows.{IsRowSet}
 use Rattle.nr_model.specs.Batches.{applied}
-use Rattle.nr_model.specs.Maps.{last_number, opening, state_after, rows_or}
+use Rattle.nr_model.specs.Maps.{opening, state_after, rows_or}
 use Rattle.nr_model.specs.Laws.{BringsRowSet, RowsStayWithinBound}
 use Rattle.nr_model.proofs.HistoryLemmas.{kept_along, opens_so}
 use Rattle.nr_model.proofs.LawLemmas.{batch_moves_rows_lem}
@@ -22,11 +23,6 @@ HasRowSet bound (Hole n) = Unit {0}
 HasRowSet bound (Asked n) = Unit {0}
 HasRowSet bound (Rows n rows) = IsRowSet bound rows
 
-cond_has : (bound : ℕ) (test : Bool) (state other : KeyState) → HasRowSet bound state → HasRowSet bound other
-    → HasRowSet bound (if test then state else other)
-cond_has bound true state other h k = h
-cond_has bound false state other h k = k
-
 update_has : (bound : ℕ) (rows : List Row) (batch : List Delta) (left : Result (List Row) ApplyFault)
     → applied bound rows batch ≡ left → IsRowSet bound rows → IsRowSet bound (rows_or left rows)
 update_has bound rows batch (Ok left) is h = (batch_moves_rows_lem bound rows left batch h.0 is).0
@@ -34,11 +30,11 @@ update_has bound rows batch (Err fault) is h = h
 
 call_has : (bound : ℕ) (call : Call) (state : KeyState) → BringsRowSet bound call → HasRowSet bound state
     → HasRowSet bound (state_after bound call state)
-call_has bound (Fill key number new) (Asked n) brings h = cond_has bound (n == number) (Rows n new) (Asked n) brings tt
+call_has bound (Fill key number new) (Asked n) brings h = grind (arith, nat_tests)
 call_has bound (Update key batch) (Rows n rows) brings h = update_has bound rows batch (applied bound rows batch) refl h
 call_has bound (Replace key new) (Rows n rows) brings h = brings
 call_has bound (Evict key) (Rows n rows) brings h = tt
-call_has bound (Cancel key) (Asked n) brings h = cond_has bound (nat_lt n last_number) (Hole (n + 1)) (Asked n) tt tt
+call_has bound (Cancel key) (Asked n) brings h = grind (arith, nat_tests)
 call_has bound (Ask key) (Hole n) brings h = tt
 call_has bound _ state brings h = h
 

@@ -41,16 +41,15 @@ run_at bound (first ∷ heads) cells (suc key) h state within =
 
 -- the run of a key ends within the cells
 pub run_within : (bound keys key : ℕ) → key < keys → key * bound + bound ≤ keys * bound
-run_within bound zero key within = absurd (omega arith)
-run_within bound (suc keys) zero within = omega arith
-run_within bound (suc keys) (suc key) within = omega (arith, run_within bound keys key (omega arith))
+run_within bound keys key within =
+    let ends : (key + 1) * bound ≤ keys * bound = grind arith in omega (arith, ends)
 
 -- the run is what lies between its start and its end
 run_between : (bound start : ℕ) (cells now : List Row) → now ≡ cells
     → take (start + bound - start) (drop start now) ≡ take bound (drop start cells)
 run_between bound start cells now same =
     let long : start + bound - start ≡ bound = omega arith in
-    ap (λ n. take n (drop start now)) long ∙ ap (λ l. take bound (drop start l)) same
+    rw (long, same) refl
 
 -- the cells with a run put back between its start and its end, in the place of the old ones
 put_between : {Z : Type 0} (bound start : ℕ) (kept : Vec Row Z) (now run : List Row) → now ≡ kept.items
