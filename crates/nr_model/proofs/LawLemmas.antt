@@ -2,7 +2,7 @@
 use Rattle.std.proofs.Common.{◌≡◌, ◌↔◌, ◌∙◌, ℕ, ◌<◌, ◌≤◌, Bool, true, false, ltb, if◌then◌else◌, List, [], ◌∷◌, ◌++◌, length}
 use Rattle.std.proofs.Common.{⊎_elim, ap, refl, sym, arith, Ok, Err}
 use Rattle.std.specs.List.{list_any}
-use Rattle.std.proofs.lemmas.Bool.{and_parts, ltb-true, or_cases}
+use Rattle.std.proofs.lemmas.Bool.{ltb-true, or_cases}
 use Rattle.std.proofs.lemmas.Bool.{false≢true}
 use Rattle.std.proofs.lemmas.Bool.Decides.{nat_tests}
 use Rattle.std.proofs.lemmas.List.Sums.{fold-append}
@@ -16,8 +16,9 @@ use Rattle.nr_model.specs.Laws.{OrderKeepsRows, CountsDecide, OrderedStay, Batch
 use Rattle.nr_model.specs.Laws.{LegalBegins}
 use Rattle.nr_model.proofs.RowLemmas.{one, row_eq-refl, count_of-append, count_of-cons}
 use Rattle.nr_model.proofs.RowLemmas.{length-with_all, count_of-with_all, ascending-with_all, ascending-without_all}
-use Rattle.nr_model.proofs.RowLemmas.{ascending-cons, count_of-without_all, enough_from, short_from}
+use Rattle.nr_model.proofs.RowLemmas.{count_of-without_all, enough_from, short_from}
 use Rattle.nr_model.proofs.BatchLemmas.{is_short-with_all}
+use Rattle.nr_model.proofs.PlaceLemmas.{rest_ascends}
 
 pub order_keeps_rows_lem : OrderKeepsRows
 order_keeps_rows_lem rows = (
@@ -39,14 +40,11 @@ counts_decide_lem [] [] h k same = refl
 counts_decide_lem [] (y ∷ ys) h k same = grind (arith, same y, count_of-cons y ys y, row_eq-refl y)
 counts_decide_lem (x ∷ xs) [] h k same = grind (arith, same x, count_of-cons x xs x, row_eq-refl x)
 counts_decide_lem (x ∷ xs) (y ∷ ys) h k same =
-    let x_there : 0 < count_of (y ∷ ys) x
-    = omega (arith, same x, count_of-cons x xs x, ap (λ b. one b) (row_eq-refl x)) in
-    let y_there : 0 < count_of (x ∷ xs) y
-    = omega (arith, same y, count_of-cons y ys y, ap (λ b. one b) (row_eq-refl y)) in
+    let x_there : 0 < count_of (y ∷ ys) x = grind (arith, same x, count_of-cons x xs x, row_eq-refl x) in
+    let y_there : 0 < count_of (x ∷ xs) y = grind (arith, same y, count_of-cons y ys y, row_eq-refl y) in
     let heads : x ≡ y = row_antisym x y (first_least ys y x k x_there) (first_least xs x y h y_there) in
     let tails : xs ≡ ys
-    = counts_decide_lem xs ys (and_parts _ _ (sym (ascending-cons x xs) ∙ h)).1
-    (and_parts _ _ (sym (ascending-cons y ys) ∙ k)).1
+    = counts_decide_lem xs ys (rest_ascends x xs h) (rest_ascends y ys k)
     (λ r. omega (arith, same r, count_of-cons x xs r, count_of-cons y ys r, ap (λ z. one (row_eq z r)) heads)) in
     ap (λ z. z ∷ xs) heads ∙ ap (λ l. y ∷ l) tails
 
