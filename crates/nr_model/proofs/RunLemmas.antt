@@ -175,7 +175,8 @@ run_of bound heads cells now map key h runs shows within is same =
 -- the cells with the key's run put back change its state alone
 pub run_put : {Z : Type 0} (bound key : ℕ) (heads : List Head) (kept : Vec Row Z) (now run : List Row) (h : Head)
     → AreRuns bound heads kept.items → key < length heads → now ≡ kept.items → length run ≡ bound → IsKeptRun h run
-    → let cells : List Row = (with_items kept (put_mid (key * bound) (key * bound + bound - key * bound) now run)).items in
+    → let start : ℕ = key * bound in
+    let cells : List Row = (with_items kept (put_mid start (start + bound - start) now run)).items in
     AreRuns bound (set heads key h) cells
     × (states_in bound (set heads key h) cells ≡ set (states_in bound heads kept.items) key (state_in h run))
 run_put bound key heads kept now run h runs within same long one =
