@@ -288,18 +288,16 @@ module
   pub about_to_leave : LeadsIn 1 table (model.Evict key) (desk_with lists (Leaving key), Going) before mid
   about_to_leave = subst (λ (o : Desk × Step). LeadsIn 1 table (model.Evict key) o before mid) leaves looks.leads
 
-  pub has_evicted : {board : Table} {found : ℕ} {after : MapSeat} {after_lists : SlotLists} → board ≡ table
-      → GoesOn board found mid after → after_lists ≡ record lists { retired = lists.retired ++ unnamed found }
+  pub has_evicted : {found : ℕ} {after : MapSeat} {after_lists : SlotLists} → GoesOn table found mid after
+      → after_lists ≡ record lists { retired = lists.retired ++ unnamed found }
       → RestsAt (token after).table after_lists after
       × (Gains 2 (model.Evict key) (token before) (token after) reply.Evicted
       × ((token after).fresh ≡ (token before).fresh) × ((token after).numbers ≡ (token before).numbers)
       × RetiresOne key (token before) (token before).retired (token after).retired
       × (after.me.0.marks ≡ without_name (with_polls before.me.0.marks []) key)
       × (after.me.0.heard ≡ before.me.0.heard))
-  has_evicted {found = found} {after = after} {after_lists = after_lists} board_is goes retires =
-      let gone
-      = subst (λ (t : Table). GoesOn t found mid after) board_is goes (desk_with lists (Leaving key))
-      about_to_leave.writes.role in
+  has_evicted {found = found} {after = after} {after_lists = after_lists} goes retires =
+      let gone = goes (desk_with lists (Leaving key)) about_to_leave.writes.role in
       let told = gone.leads in
       let all : LeadsIn 2 table (model.Evict key) (desk_with after_lists Idle, ended reply.Evicted) before after
       = record {
@@ -344,18 +342,15 @@ module
   pub about_to_withdraw : LeadsIn 1 table (model.Cancel key) (desk_with lists (Withdrawing key), Going) before mid
   about_to_withdraw = subst (λ (o : Desk × Step). LeadsIn 1 table (model.Cancel key) o before mid) withdraws looks.leads
 
-  pub has_cancelled : {board : Table} {found : ℕ} {after : MapSeat} {after_lists : SlotLists} → board ≡ table
-      → GoesOn board found mid after
+  pub has_cancelled : {found : ℕ} {after : MapSeat} {after_lists : SlotLists} → GoesOn table found mid after
       → after_lists ≡ record lists { numbers = slice_set lists.numbers key (slice_index lists.numbers key + 1) }
       → RestsAt (token after).table after_lists after
       × (Gains 2 (model.Cancel key) (token before) (token after) reply.Cancelled
       × (lists_of (token after) ≡ record (lists_of (token before))
       { numbers = slice_set (token before).numbers key (slice_index (token before).numbers key + 1) })
       × (after.me.0.marks ≡ with_polls before.me.0.marks []) × (after.me.0.heard ≡ before.me.0.heard))
-  has_cancelled {found = found} {after = after} {after_lists = after_lists} board_is goes renumbers =
-      let gone
-      = subst (λ (t : Table). GoesOn t found mid after) board_is goes (desk_with lists (Withdrawing key))
-      about_to_withdraw.writes.role in
+  has_cancelled {found = found} {after = after} {after_lists = after_lists} goes renumbers =
+      let gone = goes (desk_with lists (Withdrawing key)) about_to_withdraw.writes.role in
       let told = gone.leads in
       let all : LeadsIn 2 table (model.Cancel key) (desk_with after_lists Idle, ended reply.Cancelled) before after
       = record {

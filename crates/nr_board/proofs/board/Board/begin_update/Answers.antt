@@ -1,85 +1,52 @@
-use Rattle.std.proofs.Common.{ℕ, ap, sym, ◌∙◌, ◌≡◌, Err, refl}
+use Rattle.std.proofs.Common.{ap, sym, ◌∙◌, ◌≡◌, Err}
 use Rattle.nr_model.specs.Batches.{applied}
 use Rattle.nr_model.specs.declared.batches.ApplyFault.TheVariants as fault
 use Rattle.nr_model.specs.declared.calls.Reply.TheVariants as reply
 use Rattle.nr_core.specs.Slots.{bound_of}
-use Rattle.nr_core.specs.declared.places.Place.TheVariants.{Idle}
-use Rattle.nr_board.proofs.Looks.{has_looked, is_empty, is_full, slot_so, update_dropped, update_reads}
+use Rattle.nr_board.proofs.Looks.{has_looked, slot_so, update_dropped, update_reads}
 use Rattle.nr_board.proofs.SetRooms.{reads_set}
 use Rattle.nr_board.proofs.WriterCalls.{about_to_read, has_read, has_refused, look_ends}
-use Rattle.nr_board.specs.SlotLists.{desk_with}
 use Rattle.nr_board.proofs.board.Board.begin_update.Goals as goal
 
 pub returns-then-not-found : goal.returns-then-not-found
 returns-then-not-found g c =
-    let looks
-    = has_looked {before = c.args.seat.now} refl c.requires.own c.requires.rests c.requires.call
-    c.look.ensures.leads c.look.ensures.marks c.look.ensures.heard in
-    let told
-    = look_ends looks reply.Dropped
-    (update_dropped c.args.self.now.shape (desk_with c.args.lists.now Idle) c.args.key c.look.result
-    c.args.deltas.now (is_empty c.look.result c.parts-found.ensures.parts c.if-not-found.true)) in
+    let looks = has_looked c.requires.rests c.requires.own c.requires.call c.look.ensures in
+    let parts = c.parts-found.ensures.parts in
+    let told = look_ends looks reply.Dropped (update_dropped looks parts c.if-not-found.true) in
     (told.0, told.1, told.1.1.2)
 
 pub read_set-requires : goal.read_set-requires
 read_set-requires g c =
-    let looks
-    = has_looked {before = c.args.seat.now} refl c.requires.own c.requires.rests c.requires.call
-    c.look.ensures.leads c.look.ensures.marks c.look.ensures.heard in
-    let full = is_full c.look.result c.parts-found.ensures.parts c.if-not-found.false in
-    let desk = desk_with c.args.lists.now Idle in
+    let looks = has_looked c.requires.rests c.requires.own c.requires.call c.look.ensures in
+    let parts = c.parts-found.ensures.parts in
     let reads
-    = about_to_read looks (update_reads c.args.self.now.shape desk c.args.key c.look.result c.args.deltas.now full)
-    c.requires.call (slot_so c.look.result c.parts-found.ensures.parts) in
-    record {
-      writer = reads.0;
-      slot = reads.1;
-      key = rw c.requires.call c.requires.key;
-    }
+    = about_to_read looks (update_reads looks parts c.if-not-found.false) c.requires.call
+    (slot_so c.look.result parts) in
+    record { writer = reads.0; slot = reads.1; key = rw c.requires.call c.requires.key }
 
 pub returns-in-Err-NoRow : goal.returns-in-Err-NoRow
 returns-in-Err-NoRow g c =
-    let looks
-    = has_looked {before = c.args.seat.now} refl c.requires.own c.requires.rests c.requires.call
-    c.look.ensures.leads c.look.ensures.marks c.look.ensures.heard in
-    let full = is_full c.look.result c.parts-found.ensures.parts c.if-not-found.false in
-    let desk = desk_with c.args.lists.now Idle in
-    let read
-    = has_read looks (update_reads c.args.self.now.shape desk c.args.key c.look.result c.args.deltas.now full)
-    c.requires.call (reads_set c.read_set.ensures) in
-    let is : applied (bound_of c.args.self.now.shape) c.read_set.new.rows c.args.deltas.now ≡ Err fault.NoRow =
-    ap (λ (bound : ℕ). applied bound c.read_set.new.rows c.args.deltas.now) (sym c.rows.ensures.value)
-    ∙ c.in-Err-NoRow.ensures.fault ∙ ap Err c.in-Err-NoRow.field-0-is in
+    let looks = has_looked c.requires.rests c.requires.own c.requires.call c.look.ensures in
+    let reads = update_reads looks c.parts-found.ensures.parts c.if-not-found.false in
+    let read = has_read looks reads c.requires.call (reads_set c.read_set.ensures) in
+    let is : applied (bound_of c.args.self.now.shape) c.read_set.new.rows c.args.deltas.now ≡ Err fault.NoRow
+    = rw (sym c.rows.ensures.value) (c.in-Err-NoRow.ensures.fault ∙ ap Err c.in-Err-NoRow.field-0-is) in
     let told = has_refused read fault.NoRow is in
     (told.0, (c.read_set.new.rows, is, told.1.0, told.1.1, told.1.2), told.1.2.2)
 
 pub returns-in-Err-TooMany : goal.returns-in-Err-TooMany
 returns-in-Err-TooMany g c =
-    let looks
-    = has_looked {before = c.args.seat.now} refl c.requires.own c.requires.rests c.requires.call
-    c.look.ensures.leads c.look.ensures.marks c.look.ensures.heard in
-    let full = is_full c.look.result c.parts-found.ensures.parts c.if-not-found.false in
-    let desk = desk_with c.args.lists.now Idle in
-    let read
-    = has_read looks (update_reads c.args.self.now.shape desk c.args.key c.look.result c.args.deltas.now full)
-    c.requires.call (reads_set c.read_set.ensures) in
-    let is : applied (bound_of c.args.self.now.shape) c.read_set.new.rows c.args.deltas.now ≡ Err fault.TooMany =
-    ap (λ (bound : ℕ). applied bound c.read_set.new.rows c.args.deltas.now) (sym c.rows.ensures.value)
-    ∙ c.in-Err-TooMany.ensures.fault ∙ ap Err c.in-Err-TooMany.field-0-is in
+    let looks = has_looked c.requires.rests c.requires.own c.requires.call c.look.ensures in
+    let reads = update_reads looks c.parts-found.ensures.parts c.if-not-found.false in
+    let read = has_read looks reads c.requires.call (reads_set c.read_set.ensures) in
+    let is : applied (bound_of c.args.self.now.shape) c.read_set.new.rows c.args.deltas.now ≡ Err fault.TooMany
+    = rw (sym c.rows.ensures.value) (c.in-Err-TooMany.ensures.fault ∙ ap Err c.in-Err-TooMany.field-0-is) in
     let told = has_refused read fault.TooMany is in
     (told.0, (c.read_set.new.rows, is, told.1.0, told.1.1, told.1.2), told.1.2.2)
 
 pub returns-in-Ok : goal.returns-in-Ok
 returns-in-Ok g c =
-    let looks
-    = has_looked {before = c.args.seat.now} refl c.requires.own c.requires.rests c.requires.call
-    c.look.ensures.leads c.look.ensures.marks c.look.ensures.heard in
-    let full = is_full c.look.result c.parts-found.ensures.parts c.if-not-found.false in
-    let desk = desk_with c.args.lists.now Idle in
-    let read
-    = has_read looks (update_reads c.args.self.now.shape desk c.args.key c.look.result c.args.deltas.now full)
-    c.requires.call (reads_set c.read_set.ensures) in
-    let left
-    = ap (λ (bound : ℕ). applied bound c.read_set.new.rows c.args.deltas.now) (sym c.rows.ensures.value)
-    ∙ c.in-Ok.ensures.ok in
-    (_, c.read_set.new.rows, read, left)
+    let looks = has_looked c.requires.rests c.requires.own c.requires.call c.look.ensures in
+    let reads = update_reads looks c.parts-found.ensures.parts c.if-not-found.false in
+    let read = has_read looks reads c.requires.call (reads_set c.read_set.ensures) in
+    (_, c.read_set.new.rows, read, rw (sym c.rows.ensures.value) c.in-Ok.ensures.ok)
