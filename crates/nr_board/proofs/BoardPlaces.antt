@@ -1,7 +1,6 @@
 -- Where the words of a slot stand in the board's table: inside it, and at places that fit a word.
 use Rattle.std.proofs.Common.{◌≡◌, ◌∙◌, ℕ, ◌+◌, ◌*◌, ◌^◌, ◌<◌, ◌≤◌, ap, subst, sym, arith}
-use Rattle.std.proofs.lemmas.Nat.{mul-le}
-use Rattle.nr_words.specs.Places.{slot_words, total_of}
+use Rattle.nr_words.specs.Places.{total_of}
 use Rattle.nr_core.proofs.WordPlaces.{content_inside, departures_inside}
 use Rattle.nr_core.specs.Sizes.{IsShape}
 use Rattle.nr_core.specs.Slots.{content, departures, layout, slot_room}
@@ -29,9 +28,7 @@ stands {key = key} {words = words} is kept =
 module _ {board : Table} {key : Shape} {words : ℕ} (stand : Stands board key words) where
   -- all places fit
   pub total_fits : total_of (layout board.shape) < 2 ^ 64
-  total_fits = let shape = board.shape in let fits = stand.fits in
-      let slots = mul-le (slot_words shape.rows) shape.slots 512 (2 ^ 22) (omega (arith, fits.bound)) fits.slots in
-      omega (arith, stand.few)
+  total_fits = grind arith
 
   pub key_in : {place : ℕ} → place < board.shape.keys → place < words
   key_in near = omega (arith, near, stand.size)

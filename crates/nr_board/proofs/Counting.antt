@@ -1,5 +1,5 @@
 -- How the words that the core sees go along with the table's, and what the readers' words say.
-use Rattle.std.proofs.Common.{◌≡◌, ◌≢◌, ℕ, suc, ◌+◌, ◌-◌, ◌%◌, ◌^◌, ◌<◌, ◌≤◌, ⊎_elim, List, ◌++◌, ◌∷◌, [], Bool, true}
+use Rattle.std.proofs.Common.{◌≡◌, ◌≢◌, ℕ, suc, ◌+◌, ◌-◌, ◌%◌, ◌^◌, ◌<◌, ◌≤◌, ⊎_elim, List, ◌++◌, ◌∷◌, [], true}
 use Rattle.std.proofs.Common.{cond, length, get_or, set, length-set, get_or-set_other, get_or-set_same, sym, ap, ◌∙◌}
 use Rattle.std.proofs.Common.{subst, arith}
 use Rattle.std.proofs.lemmas.Bool.{lt-ltb}
@@ -101,10 +101,7 @@ pub counted_alone : (shape : Shape) (by_word : ℕ → ℕ) (words counted : Lis
     → by_word slot ≡ 0
     → Counted shape by_word words counted
     → get_or counted (departures shape slot) 0 ≡ get_or words (departures shape slot) 0
-counted_alone shape by_word words counted slot near none t =
-    let small = t.small slot near in
-    let less = t.less slot near in
-    omega arith
+counted_alone shape by_word words counted slot near none t = grind arith
 
 -- who is a reader stays so where one token has another view
 pub no_reader_before : (views : List View) (id : ℕ) (view next : View) → get_elem? views id ≡ some view
@@ -154,12 +151,7 @@ announces_on shape announcers words after views id view next at same says lend b
 
     loud_holds : (slot : ℕ) (view next : View) → next.says ≡ view.says → 0 < view.says
         → lends slot next ≡ lends slot view → 0 < holds slot next.role → 0 < holds slot view.role
-    loud_holds slot view next says loud lend grips =
-        let one : lends slot next ≡ holds slot next.role
-        = ap (λ (b : Bool). cond b (holds slot next.role) 0) (loud_at next.says (omega arith)) in
-        let other : lends slot view ≡ holds slot view.role
-        = ap (λ (b : Bool). cond b (holds slot view.role) 0) (loud_at view.says loud) in
-        omega arith
+    loud_holds slot view next says loud lend grips = grind arith
 
 -- one token more, which says nothing
 pub lent_more : (views : List View) (next : View) → next.says ≡ 0 → (slot : ℕ)

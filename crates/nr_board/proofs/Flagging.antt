@@ -2,11 +2,10 @@
 -- retires.
 use Rattle.std.proofs.Common.{◌≡◌, ◌≢◌, ℕ, suc, zero, ◌<◌, ⊎_elim, List, [], ◌∷◌, ◌++◌, Bool, true, false, set, get_or}
 use Rattle.std.proofs.Common.{take, get_or-set_other, length-set, refl, sym, ap, ◌∙◌, subst, arith}
-use Rattle.std.proofs.lemmas.Bool.{false≢true, le-ltb, lt-ltb}
+use Rattle.std.proofs.lemmas.Bool.{false≢true}
 use Rattle.std.specs.Prelude.{nat_lt}
 use mathlib.Core.Logic.{dite}
 use native.Mathlib.Decide.{ℕ_discrete}
-use Rattle.nr_core.proofs.Choices.{by_cases}
 use Rattle.nr_core.proofs.Sums.{only-other, total-append, total-remove}
 use Rattle.nr_core.specs.Roles.{retirements}
 use Rattle.nr_core.specs.SlotLists.{SlotLists}
@@ -24,10 +23,7 @@ use Rattle.nr_board.specs.WholeScans.{is_flagged}
 module _ (table : Table) (retired : List Retired) (heard : List ℕ) (flags : List Bool)
     (flagged : Flagged table retired heard flags) where
   flag_is : (slot : ℕ) → is_flagged flags slot ≡ nat_lt (get_or heard slot 0) table.announcers
-  flag_is slot =
-      by_cases (λ _. is_flagged flags slot ≡ nat_lt (get_or heard slot 0) table.announcers) (is_flagged flags slot)
-      (λ is. is ∙ sym (lt-ltb (get_or heard slot 0) table.announcers (flagged.stuck slot is)))
-      (λ is. is ∙ sym (le-ltb (get_or heard slot 0) table.announcers (flagged.whole slot is)))
+  flag_is slot = grind arith
 
   -- a pass polls just the slots that all readers were heard of
   pub polls_are : (place : ℕ) → unflagged retired flags place ≡ heard_all table.announcers heard (take place retired)
@@ -105,6 +101,4 @@ flags_retire table retired last heard now flags flagged is fewer some_words =
 pub unheard_is : (table : Table) (retired : List Retired) (heard : List ℕ) (flags : List Bool)
     → IsFlagged table retired heard flags → (slot : ℕ) (told : Bool) → (table.announcers ≡ 0 → told ≡ false)
     → (0 < table.announcers → told ≡ is_flagged flags slot) → told ≡ nat_lt (get_or heard slot 0) table.announcers
-unheard_is table retired heard flags flagged slot told none some_words = dite (ℕ_discrete table.announcers 0)
-    (λ e. none e ∙ sym (le-ltb (get_or heard slot 0) table.announcers (omega arith)))
-    (λ ne. some_words (omega arith) ∙ flag_is table retired heard flags (flagged (omega arith)) slot)
+unheard_is table retired heard flags flagged slot told none some_words = grind arith

@@ -15,7 +15,7 @@ use Rattle.nr_core.specs.declared.shape.Shape.{Shape}
 use Rattle.nr_core.proofs.ExactPlace.{gathered_is_known}
 use Rattle.nr_core.proofs.ListPlaces.{at_left}
 use Rattle.nr_core.specs.Exact.{Lists}
-use Rattle.nr_core.specs.Marks.{Marks, Past, gripped, past, told_by}
+use Rattle.nr_core.specs.Marks.{Marks, Past, past, told_by}
 use Rattle.nr_core.specs.Pasts.{Compared, Current}
 use Rattle.nr_board.proofs.Tokens.{MapSeat}
 use Rattle.nr_board.specs.Callers.{Caller, KnowsOwn, Table, caller_of, map_seen, token}
@@ -23,7 +23,7 @@ use Rattle.nr_board.specs.Learning.{HearsOf, Learned, LearnsOf, has_heard}
 use Rattle.nr_board.specs.Meetings.{Gathers, HearsNote, Learns, Meets, desk_seen, how_is, known_to, with_step}
 use Rattle.nr_board.specs.Notes.{has_noted, note_of, told_by_note}
 use Rattle.nr_board.specs.Rule.{StartsWith}
-use Rattle.nr_board.specs.Views.{View, desk_of, grip_of, caller_number}
+use Rattle.nr_board.specs.Views.{View, desk_of}
 use Rattle.nr_core.specs.Core.{AreNumbers}
 use Rattle.nr_core.specs.Story.{map_after}
 
@@ -220,13 +220,7 @@ module _ (writer reader heard lent last told : MapSeat) (fresh : ℕ) (retired :
       }
 
   one_is : past number grip reader.me.0.marks ≡ how_is (token reader)
-  one_is = λ j.
-      record {
-        reader = caller_number (sym reads j);
-        count = reader.me.0.marks.acts;
-        slot = gripped (grip_of (sym reads j));
-        put = reader.me.0.marks.put;
-      }
+  one_is = grind arith
 
   gathers_heard : Gathers (token writer) (token reader) (with_step (token heard)) (token told)
   gathers_heard = let log = heard.me.0.seen in let learns = back.learns in let known = compares in record {
@@ -247,13 +241,7 @@ module _ (writer reader heard lent last told : MapSeat) (fresh : ℕ) (retired :
   }
     where
       desk_at : desk ≡ desk_seen (token heard)
-      desk_at = λ j.
-          record {
-            place = Idle;
-            fresh = (desk_of (sym writes_still j)).fresh;
-            retired = (desk_of (sym writes_still j)).retired;
-            numbers = (desk_of (sym writes_still j)).numbers;
-          }
+      desk_at = grind arith
 
   pub gathers_seats : Gathers (token writer) (token reader) (token last) (token told)
   gathers_seats =

@@ -1,5 +1,5 @@
 -- How a reader comes to hold a set, step by step.
-use Rattle.std.proofs.Common.{◌≡◌, ◌≢◌, ℕ, suc, ◌+◌, ◌-◌, inl, inr, Bool, true, false, cond, eq-eqb, List, [], ◌∷◌}
+use Rattle.std.proofs.Common.{◌≡◌, ◌≢◌, ℕ, suc, ◌+◌, ◌-◌, ◌<◌, inl, inr, Bool, true, false, cond, eq-eqb, List, [], ◌∷◌}
 use Rattle.std.proofs.Common.{◌++◌, append_assoc, append-nil, refl, ap, sym, subst, arith, ◌∙◌}
 use Rattle.std.specs.Prelude.{Option, Some, None}
 use Rattle.nr_model.specs.Histories.{Entry, IsLegal}
@@ -179,9 +179,10 @@ module _ (table : Table) (key word newer : ℕ) (before mid : MapSeat)
       }
 
 -- a reader whose number is that finds by its word where it has one
-pub finds_so : (own : ℕ) (seat : MapSeat) → HasWord own seat.me.0 → finds_by_word (token seat) ≡ true
-finds_so own seat has =
-    lt-ltb (caller_number seat.me.0.role - 1) seat.me.0.announcers (omega (arith, has.number, has.within))
+pub finds_so : (own : ℕ) (seat : MapSeat) → caller_number seat.me.0.role ≡ suc own → own < seat.me.0.announcers
+    → finds_by_word (token seat) ≡ true
+finds_so own seat number within =
+    lt-ltb (caller_number seat.me.0.role - 1) seat.me.0.announcers (omega (arith, number, within))
 
 -- a reader that holds by its word looked at a hole, and clears its word and finds anew
 pub moves_anew : (table : Table) (key word own : ℕ) → is_filled word ≡ false
@@ -200,7 +201,7 @@ moves_anew table key word own empty before mid after answer holds has rests clea
       takes =
           subst
           (λ (p : Bool × Bool). TakesSteps p.0 answer (cond {A = List ℕ} p.1 (name_number word ∷ []) [] ++ named) n)
-          (λ j. (finds_so own mid has j, sym empty j)) told.takes;
+          (λ j. (finds_so own mid has.number has.within j, sym empty j)) told.takes;
       answered =
           rw empty
           (answered_rested table key 1 (n + 0) (n + 2 - 1) (looked marks key named) before mid after (omega arith)

@@ -46,9 +46,7 @@ caller_is Note call = absurd (omega arith)
 -- a word that names no slot
 not_named : (word : ℕ) (asked : Bool) → is_filled word ≡ false → has_ask word ≡ asked
     → kind_shown word ≡ cond {A = KeyKind} asked kind.Asked kind.Hole
-not_named word asked empty ask =
-    ap (λ (b : Bool). cond {A = KeyKind} b kind.Rows (cond {A = KeyKind} (has_ask word) kind.Asked kind.Hole)) empty
-    ∙ ap (λ (b : Bool). cond {A = KeyKind} b kind.Asked kind.Hole) ask
+not_named word asked empty ask = grind arith
 
 -- a key's word shows the kind of its state
 pub shows_kind : (shape : Shape) (words : List ℕ) (word : ℕ) (state : KeyState) → ShowsState shape words word state

@@ -396,9 +396,7 @@ lends_on view after same slot = ap (λ (n : ℕ). cond (nat_lt 0 view.says) n 0)
 -- a caller that says nothing holds nothing by a word
 pub silent_lends : (view : View) (after : Role) → view.says ≡ 0 → (slot : ℕ)
     → cond (nat_lt 0 view.says) (holds slot after) 0 ≡ lends slot view
-silent_lends view after silent slot =
-    ap (λ (n : ℕ). cond (nat_lt 0 n) (holds slot after) 0) silent
-    ∙ sym (ap (λ (n : ℕ). cond (nat_lt 0 n) (holds slot view.role) 0) silent)
+silent_lends view after silent slot = grind arith
 
 -- a content word and a key's word are no counts
 pub content_no_count : (shape : Shape) (slot index : ℕ) → index < slot_room shape

@@ -1,16 +1,14 @@
 -- What the reader's steps tell of its seat.
-use Rattle.std.proofs.Common.{Bool, refl, cond, eq-eqb, nat_eq, ne_eqb, suc, ◌+◌, ◌≡◌, ℕ, ◌<◌, true, false, [], ap, sym}
+use Rattle.std.proofs.Common.{Bool, refl, cond, nat_eq, suc, ◌+◌, ◌≡◌, ℕ, ◌<◌, true, false, [], ap, sym}
 use Rattle.std.proofs.Common.{subst, arith, ◌∙◌, Some}
 use Rattle.std.proofs.lemmas.Bool.{eqb-true}
 use Rattle.std.specs.Prelude.{◌↔◌, ◌&&◌}
-use mathlib.Core.Logic.{dite}
-use native.Mathlib.Decide.{ℕ_discrete}
 use Rattle.nr_model.specs.declared.calls.Call.TheVariants as model
 use Rattle.nr_model.specs.declared.calls.Reply.TheVariants as reply
 use Rattle.nr_model.specs.Maps.{state_of}
 use Rattle.nr_model.specs.Rows.{IsRowSet}
-use Rattle.nr_words.specs.KeyWords.{has_ask, is_filled, slot_of}
-use Rattle.nr_core.proofs.Choices.{by_cases, on_test}
+use Rattle.nr_words.specs.KeyWords.{is_filled, slot_of}
+use Rattle.nr_core.proofs.Choices.{by_cases}
 use Rattle.nr_core.proofs.KeyWords.{names_one}
 use Rattle.nr_core.proofs.WordPlaces.{same_content}
 use Rattle.nr_core.specs.Marks.{gripped, with_look}
@@ -29,7 +27,6 @@ use Rattle.nr_board.specs.Holds.{HeldAs, HoldsWhatItSays, slot_in}
 use Rattle.nr_board.specs.declared.holds.Held.{Held}
 use Rattle.nr_board.specs.Kinds.{kind_of, kind_shown}
 use Rattle.nr_board.specs.Meetings.{HasPut}
-use Rattle.nr_board.specs.declared.answers.KeyKind.{KeyKind}
 use Rattle.nr_board.specs.declared.answers.KeyKind.TheVariants as kind
 use Rattle.nr_board.specs.Plays.{Arrived, Asked, Departed, FoundAgain, Holds, IsIdle, Read}
 use Rattle.nr_board.specs.Seats.{HoldsAt, IdlesAt}
@@ -139,35 +136,21 @@ pub filled_name : (word : ℕ) → is_filled word ≡ true → name_number word 
 filled_name word full = ap (λ (b : Bool). cond {A = ℕ} b (slot_of word + 1) 0) full ∙ omega arith
 
 names_filled : (held word : ℕ) → is_filled word ≡ true → names_slot held word ≡ nat_eq (slot_of word) held
-names_filled held word full =
-    let found : ℕ = slot_of word in
-    let name = filled_name word full in
-    dite (ℕ_discrete found held)
-    (λ e. eq-eqb (name_number word) (suc held) (omega arith) ∙ sym (eq-eqb found held e))
-    (λ ne. ne_eqb (name_number word) (suc held) (λ e. ne (omega arith)) ∙ sym (ne_eqb found held ne))
+names_filled held word full = grind arith
 
 pub names_empty : (held word : ℕ) → is_filled word ≡ false → names_slot held word ≡ false
-names_empty held word empty =
-    let none : name_number word ≡ 0 = ap (λ (b : Bool). cond {A = ℕ} b (slot_of word + 1) 0) empty in
-    ne_eqb (name_number word) (suc held) (λ e. absurd (omega arith))
+names_empty held word empty = grind arith
 
 -- a word names the slot that is held exactly where it is filled and the slot is its own
 pub names_held : (held word : ℕ) → names_slot held word ≡ (is_filled word && nat_eq (slot_of word) held)
-names_held held word =
-    let same : Bool = nat_eq (slot_of word) held in
-    by_cases (λ _. names_slot held word ≡ (is_filled word && same)) (is_filled word)
-    (λ full. names_filled held word full ∙ sym (ap (λ (b : Bool). b && same) full))
-    (λ empty. names_empty held word empty ∙ sym (ap (λ (b : Bool). b && same) empty))
+names_held held word = grind arith
 
 -- a key has rows exactly where its word is filled
 rows_shown : (word : ℕ) → is_filled word ≡ true → kind_shown word ≡ kind.Rows
 rows_shown word full = rw full refl
 
 pub shown_filled : (word : ℕ) → kind_shown word ≡ kind.Rows → is_filled word ≡ true
-shown_filled word is =
-    let Full : KeyKind → Type 0 = λ k. k ≡ kind.Rows → is_filled word ≡ true in
-    on_test Full (is_filled word) (λ full _. full)
-    (λ _. on_test Full (has_ask word) (λ _ shown. absurd (cc)) (λ _ shown. absurd (cc))) is
+shown_filled word is = grind arith
 
 -- what a find again tells of the seat, by its answer
 module _ (table : Table) (before after : MapSeat) (same : after.table_id ≡ before.table_id) (begin key found : ℕ)

@@ -6,7 +6,7 @@ use mathlib.Core.Logic.{dite}
 use native.Mathlib.Decide.{ℕ_discrete}
 use Rattle.std.proofs.lemmas.Bool.{eq-eqb, ne_eqb}
 use Rattle.std.proofs.lemmas.List.{append_cancel_right, get_or-append_right, get_or-take, length-take-le, take_all}
-use Rattle.std.specs.Prelude.{Result, Ok, Err, Some, nat_lt, slice_get}
+use Rattle.std.specs.Prelude.{Result, Ok, Err, Some, slice_get}
 use Rattle.nr_model.specs.Batches.{applied}
 use Rattle.nr_model.specs.Histories.{Entry, entries_of}
 use Rattle.nr_model.specs.Maps.{applied_reply, rows_or, state_of, updated}
@@ -19,7 +19,6 @@ use Rattle.nr_model.specs.declared.calls.Reply.TheVariants as reply
 use Rattle.nr_model.specs.declared.rows.Row.{Row}
 use Rattle.nr_model.specs.declared.states.KeyState.TheVariants as states
 use Rattle.nr_words.specs.SetWords.{decode, encode}
-use Rattle.nr_core.proofs.Choices.{on_test}
 use Rattle.nr_core.proofs.Histories.{state_same}
 use Rattle.nr_core.proofs.Sets.{set_back}
 use Rattle.nr_core.specs.Slots.{content, bound_of}
@@ -45,10 +44,7 @@ use Rattle.nr_board.specs.WriterSeats.{GoesOn, IsReading, KeyHas, LeadsIn, MapSe
 -- a call that has its set ends with no reply yet
 pub settled_quiet : (shape : Shape) (desk : Desk) (call : WriterCall) (rows : List Row) (c : Call)
     → ending c (settled shape desk call rows).1 ≡ []
-settled_quiet shape desk call rows c =
-    let Quiet : Desk × Step → Type 0 = λ o. ending c o.1 ≡ [] in
-    on_test Quiet (nat_lt desk.fresh shape.slots) (λ _. refl)
-    (λ _. on_test Quiet (nat_eq (length desk.retired) 0) (λ _. refl) (λ _. refl))
+settled_quiet shape desk call rows c = grind arith
 
 -- an entry that a step of the writer adds is its own
 ending_own : (call : Call) (step : Step) → entries_of (ending call step) 0 ≡ ending call step

@@ -1,16 +1,16 @@
 -- What a load of a reader's own word does in a scan: which retired slots have a flag then, and which were heard.
 use Rattle.std.proofs.Common.{◌≡◌, ◌≢◌, ℕ, suc, zero, ◌+◌, ◌-◌, ◌<◌, ◌≤◌, ◌⊎◌, ⊎_elim, inl, inr, List, [], ◌∷◌, ◌++◌}
-use Rattle.std.proofs.Common.{Bool, true, false, cond, length, get_or, set, nat_eq, eq-eqb, ne_eqb, get_or-set_other}
+use Rattle.std.proofs.Common.{Bool, true, false, length, get_or, set, eq-eqb, ne_eqb, get_or-set_other}
 use Rattle.std.proofs.Common.{get_or-set_same, length-set, refl, sym, ap, ◌∙◌, subst, arith, length-append}
 use Rattle.std.proofs.lemmas.Bool.{false≢true, eqb-true, lt-ltb, ltb-true}
-use Rattle.std.specs.Prelude.{nat_lt, not, Some, None, ◌&&◌}
+use Rattle.std.specs.Prelude.{nat_lt, Some, None}
 use mathlib.Core.Logic.{dite}
 use mathlib.Core.Option.{some, some-injective}
 use native.Mathlib.Decide.{ℕ_discrete}
 use lib.ListN.{get_elem?}
-use Rattle.nr_core.proofs.Choices.{by_cases, on_test}
+use Rattle.nr_core.proofs.Choices.{by_cases}
 use Rattle.nr_core.proofs.Guards.{both}
-use Rattle.nr_core.proofs.Sums.{at_snoc, only-is, only-other, only-same, some_term}
+use Rattle.nr_core.proofs.Sums.{at_snoc, only-is, some_term}
 use Rattle.nr_core.specs.Roles.{retirements}
 use Rattle.nr_core.specs.Sums.{only, total}
 use Rattle.nr_core.specs.declared.places.Retired.{Retired}
@@ -78,40 +78,23 @@ misses_same : (retired : List Retired) (flags : List Bool) (mine : ℕ)
     → total (misses (set flags mine true)) retired ≡ total (misses flags) retired
 misses_same [] flags mine none = refl
 misses_same (entry ∷ retired) flags mine none =
-    let rest
-    = misses_same retired flags mine
-    (⊎_elim (λ (z : retirements mine (entry ∷ retired) ≡ 0). inl (omega arith))
-    (λ (t : is_flagged flags mine ≡ true). inr t) none) in
-    let one : is_flagged (set flags mine true) entry.slot ≡ is_flagged flags entry.slot
-    = dite (ℕ_discrete entry.slot mine)
-    (λ e. ⊎_elim
-    (λ (z : retirements mine (entry ∷ retired) ≡ 0). absurd
-    (let one = only-same mine in let same = ap (only mine) e in omega arith))
-    (λ (t : is_flagged flags mine ≡ true).
-    let was : is_flagged flags entry.slot ≡ true = ap (is_flagged flags) e ∙ t in
-    flag_stays flags mine entry.slot was ∙ sym was)
-    none)
-    (λ ne. flag_elsewhere flags mine entry.slot ne) in
-    let first = ap (λ (b : Bool). cond {A = ℕ} b 1 0) one in omega arith
+    grind
+    (arith, misses_same retired flags mine, flag_stays flags mine entry.slot, flag_elsewhere flags mine entry.slot)
 
 -- one more is, where it was not and is retired once
 misses_more : (retired : List Retired) (flags : List Bool) (mine : ℕ) → retirements mine retired ≡ 1
     → mine < length flags → is_flagged flags mine ≡ false
     → total (misses (set flags mine true)) retired ≡ total (misses flags) retired + 1
 misses_more [] flags mine once low unset = absurd (omega arith)
-misses_more (entry ∷ retired) flags mine once low unset = dite (ℕ_discrete entry.slot mine)
-    (λ e.
-    let here : only mine entry.slot ≡ 1 = ap (only mine) e ∙ only-same mine in
-    let rest = misses_same retired flags mine (inl (omega arith)) in
-    let now : misses (set flags mine true) entry ≡ 1
-    = ap (λ (b : Bool). cond {A = ℕ} b 1 0) (ap (is_flagged (set flags mine true)) e ∙ flag_there flags mine low) in
-    let was : misses flags entry ≡ 0 = ap (λ (b : Bool). cond {A = ℕ} b 1 0) (ap (is_flagged flags) e ∙ unset) in
-    omega arith)
-    (λ ne.
-    let here = only-other mine entry.slot ne in let rest = misses_more retired flags mine (omega arith) low unset in
-    let first : misses (set flags mine true) entry ≡ misses flags entry
-    = ap (λ (b : Bool). cond {A = ℕ} b 1 0) (flag_elsewhere flags mine entry.slot ne) in
-    omega arith)
+misses_more (entry ∷ retired) flags mine once low unset =
+    grind
+    (
+      arith,
+      misses_more retired flags mine,
+      misses_same retired flags mine,
+      flag_there flags mine low,
+      flag_elsewhere flags mine entry.slot,
+    )
 
 -- where none is flagged none is missed
 pub misses_none : (retired : List Retired) (flags : List Bool)
@@ -119,9 +102,7 @@ pub misses_none : (retired : List Retired) (flags : List Bool)
     → total (misses flags) retired ≡ 0
 misses_none [] flags none = refl
 misses_none (entry ∷ retired) flags none =
-    let rest = misses_none retired flags (λ at e there. none (suc at) e there) in
-    let first = ap (λ (b : Bool). cond {A = ℕ} b 1 0) (none 0 entry refl) in
-    omega arith
+    grind (arith, misses_none retired flags (λ at e there. none (suc at) e there), none 0 entry refl)
 
 -- ONE WORD
 
@@ -176,9 +157,7 @@ suc_of found loud = omega arith
 
 pub more_flags : (found : ℕ) (flags : List Bool) (slot : ℕ) → is_flagged flags slot ≡ true
     → is_flagged (announced found flags) slot ≡ true
-more_flags found flags slot is =
-    on_test (λ (l : List Bool). is_flagged l slot ≡ true) (nat_eq found 0) (λ _. is)
-    (λ _. flag_stays flags (found - 1) slot is)
+more_flags found flags slot is = grind (arith, flag_stays flags (found - 1) slot is)
 
 announced_loud : (found : ℕ) (flags : List Bool) → 0 < found → announced found flags ≡ set flags (found - 1) true
 announced_loud found flags loud = rw (ne_eqb found 0 (λ e. omega arith)) refl
@@ -190,23 +169,7 @@ announced_none found flags none = rw (eq-eqb found 0 none) refl
 either : (desk : Desk) (own found slot count : ℕ)
     → (heard_now desk own found slot count ≡ heard_before own count)
     ⊎ ((heard_before own count ≡ own) × (found ≢ suc slot))
-either desk own found slot count = let hb : ℕ = heard_before own count in
-    by_cases
-    (λ (b : Bool). (cond {A = ℕ} (b && (nat_eq hb own && not (nat_eq found (suc slot)))) (suc own) hb ≡ hb)
-    ⊎ ((hb ≡ own) × (found ≢ suc slot)))
-    (nat_lt 0 (retirements slot desk.retired))
-    (λ _. by_cases
-    (λ (b : Bool). (nat_eq hb own ≡ b)
-    → (cond {A = ℕ} (b && not (nat_eq found (suc slot))) (suc own) hb ≡ hb) ⊎ ((hb ≡ own) × (found ≢ suc slot)))
-    (nat_eq hb own)
-    (λ _ next. by_cases
-    (λ (b : Bool). (nat_eq found (suc slot) ≡ b)
-    → (cond {A = ℕ} (not b) (suc own) hb ≡ hb) ⊎ ((hb ≡ own) × (found ≢ suc slot)))
-    (nat_eq found (suc slot))
-    (λ _ _. inl refl)
-    (λ _ other. inr (eqb-true hb own next, λ e. false≢true (sym other ∙ eq-eqb found (suc slot) e))) refl)
-    (λ _ _. inl refl) refl)
-    (λ _. inl refl)
+either desk own found slot count = grind arith
 
 -- what a load of a reader's word makes heard, and what its flag tells of that
 module _ (desk : Desk) (now next : View) (flags : List Bool) (own found : ℕ)
@@ -226,9 +189,7 @@ module _ (desk : Desk) (now next : View) (flags : List Bool) (own found : ℕ)
 
   stuck_is : (slot : ℕ) → 0 < retirements slot desk.retired → is_flagged flags slot ≡ true
       → heard_before own (get_or now.heard slot 0) < own
-  stuck_is slot waits set_before = dite (ℕ_discrete own 0)
-      (λ e. absurd (false≢true (sym (first e slot waits) ∙ set_before)))
-      (λ ne. rw (ne_eqb own 0 ne) ((heard (omega arith)).stuck slot waits set_before))
+  stuck_is slot waits set_before = grind arith
 
   heard_is : (slot : ℕ) → slot < now.shape.slots
       → get_or next.heard slot 0 ≡ heard_now desk own found slot (get_or now.heard slot 0)
@@ -322,16 +283,7 @@ module _ (desk : Desk) (before now next : View) (flags : List Bool) (own found :
   -- a word that keeps no slot from being heard says none that is retired, or one that has a flag
   kept_by_none : found ≢ 0 → keeps_it ≡ false
       → (retirements (found - 1) desk.retired ≡ 0) ⊎ (is_flagged flags (found - 1) ≡ true)
-  kept_by_none ne lets = dite (ℕ_discrete (retirements (found - 1) desk.retired) 0) inl
-      (λ some_there. by_cases
-      (λ _. (retirements (found - 1) desk.retired ≡ 0) ⊎ (is_flagged flags (found - 1) ≡ true))
-      (is_flagged flags (found - 1)) inr
-      (λ is. absurd
-      (false≢true
-      (sym lets
-      ∙ rw (lt-ltb 0 found (omega arith))
-      (rw (lt-ltb 0 (retirements (found - 1) desk.retired) (omega arith))
-      (eq-eqb (heard_before own (get_or now.heard (found - 1) 0)) own (whole_now (found - 1) (omega arith) is)))))))
+  kept_by_none ne lets = grind arith
 
   keep_so : KeepBack desk.retired said_now (suc own) (scan_base (suc own) next.marks.polls)
   keep_so = subst (KeepBack desk.retired said_now (suc own)) (sym base_is)
@@ -506,9 +458,7 @@ module _ (desk : Desk) (before now next : View) (flags : List Bool) (own found :
       same_marks = ap (λ (v : View). with_scan now.marks next.marks.polls v.marks.loads) (sym told.same)
 
 pub announced_wide : (found : ℕ) (flags : List Bool) → length (announced found flags) ≡ length flags
-announced_wide found flags =
-    on_test (λ (l : List Bool). length l ≡ length flags) (nat_eq found 0) (λ _. refl)
-    (λ _. length-set flags (found - 1) true)
+announced_wide found flags = grind (arith, length-set flags (found - 1) true)
 
 -- THE FLAGS BEFORE THE FIRST WORD
 

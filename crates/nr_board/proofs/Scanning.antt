@@ -1,8 +1,6 @@
 -- The writer loads a reader's word: what it hears then is so.
-use Rattle.std.proofs.Common.{◌≡◌, ◌≢◌, ℕ, suc, ◌+◌, ◌<◌, ◌≤◌, ◌⊎◌, ⊎_elim, inl, inr, List, zero, length, [], ◌∷◌, ◌++◌}
-use Rattle.std.proofs.Common.{cond, get_or, map, set, eq-eqb, refl, sym, ap, ◌∙◌, subst, arith}
-use Rattle.std.proofs.lemmas.Bool.{false≢true, eqb-true, ltb-true}
-use Rattle.std.specs.Prelude.{nat_eq, nat_lt, not, ◌&&◌}
+use Rattle.std.proofs.Common.{◌≡◌, ◌≢◌, ℕ, suc, ◌+◌, ◌<◌, ◌≤◌, ◌⊎◌, ⊎_elim, inl, List, zero, length, [], ◌∷◌, ◌++◌}
+use Rattle.std.proofs.Common.{get_or, map, set, refl, sym, ap, ◌∙◌, subst, arith}
 use mathlib.Core.Logic.{dite}
 use mathlib.Core.Option.{none, some}
 use native.Mathlib.Decide.{ℕ_discrete}
@@ -10,9 +8,8 @@ use lib.ListN.{get_elem?}
 use lib.Seq.{set-get_or}
 use Rattle.atomic_table.proofs.Lists.{at_map}
 use Rattle.atomic_table.specs.Table.{Allows, Me, State, keeps, step}
-use Rattle.nr_core.proofs.Choices.{by_cases, on_test}
 use Rattle.nr_core.proofs.Sums.{at_set, term_le}
-use Rattle.nr_core.specs.Roles.{holds, is_by, is_writer, keeps as kept_slots, retirements}
+use Rattle.nr_core.specs.Roles.{is_by, is_writer, keeps as kept_slots, retirements}
 use Rattle.nr_core.specs.Slots.{layout, name_number}
 use Rattle.nr_words.specs.Places.{total_of}
 use Rattle.nr_core.specs.declared.roles.Desk.{Desk}
@@ -38,28 +35,11 @@ HeardMore desk own found slot before after =
 
 -- what is heard anew was heard no less before
 heard_less : (own count : ℕ) → heard_before own count ≤ count
-heard_less own count =
-    on_test (λ (n : ℕ). n ≤ count) (nat_eq own 0) (λ _. omega arith) (λ _. omega arith)
+heard_less own count = grind arith
 
 module _ (desk : Desk) (own found : ℕ) where
   heard_one : (slot count : ℕ) → HeardMore desk own found slot count (heard_now desk own found slot count)
-  heard_one slot count = let before : ℕ = heard_before own count in let less = heard_less own count in
-      by_cases (λ b. HeardMore desk own found slot count
-      (cond (b && (nat_eq before own && not (nat_eq found (suc slot)))) (suc own) before))
-      (nat_lt 0 (retirements slot desk.retired))
-      (λ waits. by_cases (λ b. HeardMore desk own found slot count
-      (cond (b && not (nat_eq found (suc slot))) (suc own) before)) (nat_eq before own)
-      (λ next. by_cases (λ b. HeardMore desk own found slot count (cond (not b) (suc own) before))
-      (nat_eq found (suc slot))
-      (λ says. inl less)
-      (λ other. inr (
-        refl,
-        (let is = eqb-true before own next in omega arith),
-        (λ e. false≢true (sym other ∙ eq-eqb found (suc slot) e)),
-        ltb-true 0 (retirements slot desk.retired) waits,
-      )))
-      (λ later. inl less))
-      (λ named. inl less)
+  heard_one slot count = grind arith
 
   heard_each : (heard : List ℕ) (first more at : ℕ)
       → HeardMore desk own found (first + at) (get_or heard (first + at) 0)
@@ -81,12 +61,7 @@ module _ (desk : Desk) (own found : ℕ) where
 -- who says another slot, or none, holds this one by no word
 says_other : (shape : Shape) (state : State (Unit {0}) View) (kept : Kept shape state) (id slot : ℕ) (view : View)
     → get_elem? state.views id ≡ some view → view.says ≢ suc slot → lends slot view ≡ 0
-says_other shape state kept id slot view at other =
-    on_test (λ (n : ℕ). n ≡ 0) (nat_lt 0 view.says)
-    (λ loud. dite (ℕ_discrete (holds slot view.role) 0) (λ nothing. nothing)
-    (λ something. absurd
-    (other (kept.announced.holds_it id slot view at (ltb-true 0 view.says loud) (omega arith)))))
-    (λ silent. refl)
+says_other shape state kept id slot view at other = grind arith
 
 -- a slot that a key names, by the writer's marks, is not retired
 named_stays : (shape : Shape) (state : State (Unit {0}) View) (kept : Kept shape state) (id : ℕ) (view : View)

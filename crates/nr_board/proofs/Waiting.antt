@@ -15,7 +15,7 @@ use Rattle.nr_board.specs.Callers.{Caller, Grows, Table, caller_of, map_seen, to
 use Rattle.nr_board.specs.Meetings.{with_steps}
 use Rattle.nr_board.specs.Plays.{Lacks}
 use Rattle.nr_board.specs.Recalls.{later, waited}
-use Rattle.nr_board.specs.Views.{View, desk_of}
+use Rattle.nr_board.specs.Views.{View}
 use Rattle.nr_board.specs.WriterSeats.{MapSeat, TakesSlot, WritesAt, RestsAt}
 use Rattle.nr_board.specs.declared.answers.Reclaimed.{Reclaimed}
 use Rattle.nr_board.specs.Reclaiming.{HandsOut}
@@ -24,13 +24,7 @@ use Rattle.nr_board.specs.SlotLists.{lists_of}
 -- the slots that a resting token shows
 pub lists_shown : (table : Table) (lists : SlotLists) (seat : MapSeat) → RestsAt table lists seat
     → lists_of (token seat) ≡ lists
-lists_shown table lists seat rests = λ j. record {
-  slots = (ap (λ (t : Table). t.shape.slots) rests.writes.own ∙ sym rests.slots) j;
-  fresh = ap (λ r. (desk_of r).fresh) rests.writes.role j;
-  retired = ap (λ r. (desk_of r).retired) rests.writes.role j;
-  numbers = ap (λ r. (desk_of r).numbers) rests.writes.role j;
-  reaped = sym rests.reaped j;
-}
+lists_shown table lists seat rests = grind arith
 
 waited_token : (mid new : MapSeat) (steps : ℕ) → new.table_id ≡ mid.table_id → new.me.0 ≡ waited steps mid.me.0
     → token new ≡ with_steps steps (token mid)

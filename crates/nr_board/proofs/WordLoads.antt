@@ -1,16 +1,12 @@
 -- What a whole scan tells, load by load: after each load what was heard is what the words so far tell.
-use Rattle.std.proofs.Common.{◌≡◌, ◌≢◌, ℕ, suc, zero, ◌+◌, ◌<◌, ◌≤◌, List, [], ◌∷◌, ◌++◌, Bool, cond, length, get_or}
-use Rattle.std.proofs.Common.{nat_eq, eq-eqb, ne_eqb, refl, sym, ap, ◌∙◌, arith, append_assoc, append-nil}
-use Rattle.std.proofs.Common.{length-append}
-use Rattle.std.specs.Prelude.{nat_lt, not, ◌&&◌}
+use Rattle.std.proofs.Common.{◌≡◌, ◌≢◌, ℕ, suc, zero, ◌+◌, ◌<◌, ◌≤◌, List, [], ◌∷◌, ◌++◌, cond, length, get_or}
+use Rattle.std.proofs.Common.{nat_eq, refl, sym, ap, ◌∙◌, arith, append_assoc, append-nil, length-append}
 use mathlib.Core.Logic.{dite}
 use native.Mathlib.Decide.{ℕ_discrete}
-use Rattle.nr_core.proofs.Choices.{by_cases, on_test}
-use Rattle.nr_core.specs.Roles.{retirements}
 use Rattle.nr_core.specs.declared.places.Retired.{Retired}
 use Rattle.nr_core.specs.declared.roles.Desk.{Desk}
 use Rattle.nr_core.specs.Marks.{Marks, Past, LoggedLoad, with_polls, with_scan}
-use Rattle.nr_board.specs.Scans.{heard_before, heard_from, heard_now}
+use Rattle.nr_board.specs.Scans.{heard_from, heard_now}
 use Rattle.nr_board.specs.WordLoads.{WordsSoFar, WordsTell, heard_by, heard_of, loads_of, unsaid, word_load}
 
 -- LOADS
@@ -34,50 +30,25 @@ no_loads marks polls = λ j. record marks { polls = polls; loads = sym (append-n
 
 unsaid_few : (slot : ℕ) (words : List ℕ) → unsaid slot words ≤ length words
 unsaid_few slot [] = omega arith
-unsaid_few slot (word ∷ words) = let rest = unsaid_few slot words in
-    on_test (λ (n : ℕ). n ≤ length (word ∷ words)) (nat_eq word (suc slot)) (λ _. omega arith) (λ _. omega arith)
+unsaid_few slot (word ∷ words) = grind (arith, unsaid_few slot words)
 
 -- what a word says, those behind it can't take back
 unsaid_stays : (slot : ℕ) (words more : List ℕ) → unsaid slot words < length words
     → unsaid slot (words ++ more) ≡ unsaid slot words
 unsaid_stays slot [] more low = absurd (omega arith)
-unsaid_stays slot (word ∷ words) more low =
-    by_cases
-    (λ (b : Bool). cond {A = ℕ} b 0 (suc (unsaid slot words)) < length (word ∷ words)
-    → cond {A = ℕ} b 0 (suc (unsaid slot (words ++ more))) ≡ cond {A = ℕ} b 0 (suc (unsaid slot words)))
-    (nat_eq word (suc slot))
-    (λ _ _. refl) (λ _ below. ap suc (unsaid_stays slot words more (omega arith))) low
+unsaid_stays slot (word ∷ words) more low = grind (arith, unsaid_stays slot words more)
 
 unsaid_on : (slot found : ℕ) (words : List ℕ) → unsaid slot words ≡ length words
     → unsaid slot (words ++ found ∷ []) ≡ cond {A = ℕ} (nat_eq found (suc slot)) (length words) (suc (length words))
 unsaid_on slot found [] all = refl
-unsaid_on slot found (word ∷ words) all =
-    by_cases
-    (λ (b : Bool). cond {A = ℕ} b 0 (suc (unsaid slot words)) ≡ length (word ∷ words)
-    → cond {A = ℕ} b 0 (suc (unsaid slot (words ++ found ∷ [])))
-    ≡ cond {A = ℕ} (nat_eq found (suc slot)) (length (word ∷ words)) (suc (length (word ∷ words))))
-    (nat_eq word (suc slot))
-    (λ _ none. absurd (omega arith))
-    (λ _ full. ap suc (unsaid_on slot found words (omega arith))
-    ∙ by_cases
-    (λ (b : Bool). suc (cond {A = ℕ} b (length words) (suc (length words)))
-    ≡ cond {A = ℕ} b (length (word ∷ words)) (suc (length (word ∷ words))))
-    (nat_eq found (suc slot)) (λ _. omega arith) (λ _. omega arith))
-    all
+unsaid_on slot found (word ∷ words) all = grind (arith, unsaid_on slot found words, unsaid_few slot words)
 
 -- ONE LOAD
 
 module _ (desk : Desk) (found : ℕ) where
   -- the first load hears all slots anew
   first_now : (slot count : ℕ) → heard_now desk 0 found slot count ≡ heard_of desk.retired (found ∷ []) slot
-  first_now slot count =
-      by_cases
-      (λ (b : Bool). cond {A = ℕ} (b && not (nat_eq found (suc slot))) 1 0
-      ≡ cond {A = ℕ} b (cond {A = ℕ} (nat_eq found (suc slot)) 0 1) 0)
-      (nat_lt 0 (retirements slot desk.retired))
-      (λ _. by_cases (λ (b : Bool). cond {A = ℕ} (not b) 1 0 ≡ cond {A = ℕ} b 0 1) (nat_eq found (suc slot)) (λ _. refl)
-      (λ _. refl))
-      (λ _. refl)
+  first_now slot count = grind arith
 
   first_from : (heard : List ℕ) (slot more : ℕ)
       → heard_from desk 0 found heard slot more ≡ heard_by desk.retired (found ∷ []) slot more
@@ -89,38 +60,8 @@ module _ (desk : Desk) (found : ℕ) where
     next_now : (slot count : ℕ) → count ≡ heard_of desk.retired words slot
         → heard_now desk own found slot count ≡ heard_of desk.retired (words ++ found ∷ []) slot
     next_now slot count is =
-        ap
-        (λ (n : ℕ).
-        cond {A = ℕ} (nat_lt 0 (retirements slot desk.retired)
-        && (nat_eq n own && not (nat_eq found (suc slot))))
-        (suc own) n)
-        (before ∙ is)
-        ∙ by_cases
-        (λ (b : Bool).
-        cond {A = ℕ} (b && (nat_eq (cond {A = ℕ} b (unsaid slot words) 0) own && not (nat_eq found (suc slot))))
-        (suc own) (cond {A = ℕ} b (unsaid slot words) 0)
-        ≡ cond {A = ℕ} b (unsaid slot (words ++ found ∷ [])) 0)
-        (nat_lt 0 (retirements slot desk.retired))
-        (λ _. dite (ℕ_discrete (unsaid slot words) own)
-        (λ e. ap (λ (b : Bool). cond {A = ℕ} (b && not (nat_eq found (suc slot))) (suc own) (unsaid slot words))
-        (eq-eqb (unsaid slot words) own e)
-        ∙ full e ∙ sym (unsaid_on slot found words (e ∙ sym each)))
-        (λ ne. ap (λ (b : Bool). cond {A = ℕ} (b && not (nat_eq found (suc slot))) (suc own) (unsaid slot words))
-        (ne_eqb (unsaid slot words) own ne)
-        ∙ sym (unsaid_stays slot words (found ∷ []) (let few = unsaid_few slot words in omega arith))))
-        (λ _. refl)
-      where
-        before : heard_before own count ≡ count
-        before = ap (λ (b : Bool). cond {A = ℕ} b 0 count) (ne_eqb own 0 (λ e. omega arith))
-
-        full : unsaid slot words ≡ own
-            → cond {A = ℕ} (not (nat_eq found (suc slot))) (suc own) (unsaid slot words)
-            ≡ cond {A = ℕ} (nat_eq found (suc slot)) (length words) (suc (length words))
-        full e =
-            by_cases
-            (λ (b : Bool). cond {A = ℕ} (not b) (suc own) (unsaid slot words)
-            ≡ cond {A = ℕ} b (length words) (suc (length words)))
-            (nat_eq found (suc slot)) (λ _. omega arith) (λ _. omega arith)
+        grind
+        (arith, unsaid_on slot found words, unsaid_stays slot words (found ∷ []), unsaid_few slot words)
 
     next_from : (heard : List ℕ) (slot more : ℕ)
         → ((at : ℕ) → slot ≤ at → at < slot + more → get_or heard at 0 ≡ heard_of desk.retired words at)

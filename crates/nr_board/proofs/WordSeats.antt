@@ -1,6 +1,5 @@
 -- What the steps by a reader's own word tell of its seat.
-use Rattle.std.proofs.Common.{◌≡◌, ◌⊎◌, ⊎_elim, ℕ, suc, ◌<◌, Bool, true, false, [], ap, cond, sym, subst}
-use Rattle.std.proofs.Common.{arith, ◌∙◌}
+use Rattle.std.proofs.Common.{◌≡◌, ◌⊎◌, ℕ, suc, ◌<◌, Bool, true, false, [], ap, sym, subst, arith, ◌∙◌}
 use Rattle.nr_model.specs.declared.calls.Call.TheVariants as model
 use Rattle.nr_model.specs.declared.calls.Reply.TheVariants as reply
 use Rattle.nr_words.specs.KeyWords.{is_filled}
@@ -9,7 +8,6 @@ use Rattle.nr_core.specs.declared.roles.Grip.TheVariants.{Nothing}
 use Rattle.nr_core.specs.declared.roles.Role.TheVariants.{Reader}
 use Rattle.nr_core.specs.declared.shape.Shape.{Shape}
 use Rattle.nr_core.proofs.Choices.{by_cases}
-use Rattle.std.proofs.lemmas.Bool.{eqb-true}
 use Rattle.nr_board.proofs.Tokens.{MapSeat, seat_grows, seat_rests}
 use Rattle.nr_board.specs.Callers.{Gains, Grows, Rests, Table, token}
 use Rattle.nr_core.specs.Marks.{Marks, acted, with_look}
@@ -17,7 +15,6 @@ use Rattle.nr_core.specs.Puts.{put_number}
 use Rattle.nr_board.specs.Plays.{Holds, IsIdle}
 use Rattle.nr_board.specs.Seats.{AnnouncesAt, HoldsAt, IdlesAt}
 use Rattle.nr_board.specs.Views.{caller_number, rows_held}
-use Rattle.nr_board.proofs.ReaderSeats.{names_empty}
 use Rattle.nr_board.specs.WordPlays.{Confirmed, HasWord, LookedUp, Said, slot_said}
 
 module _ (table : Table) (before after : MapSeat) (same : after.table_id ≡ before.table_id) where
@@ -110,9 +107,7 @@ module _ (table : Table) (before after : MapSeat) (same : after.table_id ≡ bef
     confirmed_other gone = told.other (names_said false gone)
 
     pub confirmed_says : after.me.0.says ≡ before.me.0.says
-    confirmed_says =
-        by_cases (λ (_ : Bool). after.me.0.says ≡ before.me.0.says) (names_slot slot found)
-        (λ yes. (told.same (names_said true yes)).says) (λ no. (confirmed_other no).says)
+    confirmed_says = grind arith
 
     pub confirmed_word : (own : ℕ) → HasWord own before.me.0 → HasWord own after.me.0
     confirmed_word own has = by_cases (λ (_ : Bool). HasWord own after.me.0) (names_slot slot found)
@@ -128,15 +123,7 @@ module _ (table : Table) (before after : MapSeat) (same : after.table_id ≡ bef
 
     pub confirmed_marks : (names_slot slot found ≡ true) ⊎ (is_filled found ≡ false)
         → after.me.0.marks ≡ acted looked (put_number after.me.0.seen key)
-    confirmed_marks answers = ⊎_elim
-        (λ yes. (told.same (names_said true yes)).marks
-        ∙ ap (λ (n : ℕ). acted (with_look before.me.0.marks key n) (put_number after.me.0.seen key))
-        (ap suc slot_is ∙ sym (eqb-true (name_number found) (suc slot) yes)))
-        (λ empty. (confirmed_other (names_empty slot found empty)).marks
-        ∙ ap (λ (b : Bool). cond b looked (acted looked (put_number after.me.0.seen key))) empty)
-        answers
+    confirmed_marks answers = grind arith
 
     pub confirmed_not_yet : names_slot slot found ≡ false → is_filled found ≡ true → after.me.0.marks ≡ looked
-    confirmed_not_yet gone full =
-        (confirmed_other gone).marks
-        ∙ ap (λ (b : Bool). cond b looked (acted looked (put_number after.me.0.seen key))) full
+    confirmed_not_yet gone full = grind arith

@@ -22,6 +22,7 @@ use Rattle.nr_core.specs.declared.calls.Step.{Step}
 use Rattle.nr_core.specs.declared.calls.Step.TheVariants.{Going}
 use Rattle.nr_core.specs.declared.calls.WriterCall.{WriterCall}
 use Rattle.nr_core.specs.declared.calls.WriterCall.TheVariants.{Cancel, Evict, Find, Update}
+use Rattle.nr_core.specs.declared.places.Place.{Place}
 use Rattle.nr_core.specs.declared.places.Place.TheVariants.{Idle, Leaving, Reading, Withdrawing}
 use Rattle.nr_core.specs.declared.roles.Desk.{Desk}
 use Rattle.nr_board.proofs.Publishing.{knows_after}
@@ -39,8 +40,7 @@ use Rattle.nr_board.specs.NamedRows.{ReadsAll}
 use Rattle.nr_board.proofs.KeySets.{before_last, had_before, none_between}
 use Rattle.nr_board.proofs.Retiring.{evicted_one, retires_so}
 use Rattle.nr_board.proofs.Searching.{grows_from}
-use Rattle.nr_board.proofs.Waiting.{grows_with, set_later, lists_shown}
-use Rattle.nr_board.specs.Recalls.{later}
+use Rattle.nr_board.proofs.Waiting.{lists_shown}
 use Rattle.nr_board.specs.Kinds.{kind_of}
 use Rattle.nr_board.proofs.Keepers.{kept_since}
 use Rattle.nr_board.specs.Polls.{KeptBack}
@@ -49,14 +49,19 @@ use Rattle.nr_core.proofs.Settle.{key_same}
 use Rattle.nr_core.specs.States.{key_of}
 use Rattle.nr_board.specs.Views.{desk_of, caller_number}
 use Rattle.nr_board.specs.Begins.{HasRead, HasSet}
-use Rattle.nr_board.specs.WriterSeats.{GoesOn, LacksSlot, LeadsIn, MapSeat, PublishesSet, RestsAt, Settles, WritesAt}
-use Rattle.nr_board.specs.WriterSeats.{KeyHas}
+use Rattle.nr_board.specs.WriterSeats.{GoesOn, LacksSlot, LeadsIn, MapSeat, PublishesSet, RestsAt, WritesAt, KeyHas}
 use Rattle.nr_core.specs.Slots.{bound_of}
 
-module _ (table : Table) (lists : SlotLists) (before : MapSeat) (rests : RestsAt table lists before) where
-  writer_number : (token before).number ≡ 0
-  writer_number = ap caller_number rests.writes.role
+-- an entry of the writer's is the call's own
+gains_so : {table : Table} {lists : SlotLists} {before : MapSeat} {steps : ℕ} {call : Call} {answer : Reply}
+    → RestsAt table lists before → (after : MapSeat)
+    → Grows steps (entry 0 call answer ∷ []) (token before) (token after)
+    → Gains steps call (token before) (token after) answer
+gains_so {before = before} {steps = steps} {call = call} {answer = answer} rests after =
+    subst (λ (n : ℕ). Grows steps (entry n call answer ∷ []) (token before) (token after))
+    (sym (ap caller_number rests.writes.role))
 
+module _ (table : Table) (lists : SlotLists) (before : MapSeat) (rests : RestsAt table lists before) where
   -- a call that ends with a reply
   pub ends : (steps : ℕ) (call : Call) (answer : Reply) (after_lists : SlotLists) (after : MapSeat)
       → after_lists.slots ≡ lists.slots
@@ -71,151 +76,11 @@ module _ (table : Table) (lists : SlotLists) (before : MapSeat) (rests : RestsAt
       reaped = same_reaped ∙ rests.reaped ∙ sym same_marks;
       own = leads.grows.own;
     },
-    subst (λ (n : ℕ). Grows steps (entry n call answer ∷ []) (token before) (token after)) (sym writer_number)
-        leads.grows,
+    gains_so rests after leads.grows,
   )
 
   pub same_slots : (after : MapSeat) → RestsAt table lists after → lists_of (token after) ≡ lists_of (token before)
   same_slots after rests_after = lists_shown table lists after rests_after ∙ sym (lists_shown table lists before rests)
-
-  -- a call that has its set
-  pub settles_so : (steps : ℕ) (call : WriterCall) (rows : List Row) (mid : MapSeat)
-      → LeadsIn steps table (call_of call) (settled table.shape (desk_with lists Idle) call rows) before mid
-      → mid.me.0.marks.polls ≡ []
-      → Settles table call rows lists mid × Grows steps [] (token before) (token mid)
-  settles_so steps call rows mid leads polls =
-      let grows
-      = subst (λ (es : List Entry). Grows steps es (token before) (token mid))
-      (settled_quiet table.shape (desk_with lists Idle) call rows (call_of call)) leads.grows in (
-        record {
-          slots = rests.slots;
-          writes = leads.writes;
-          short = leads.short;
-          knows = knows_after steps (token before) [] (token mid) grows;
-          polls = polls;
-        },
-        grows,
-      )
-
-  module _ (steps : ℕ) (call : WriterCall) (rows : List Row) (mid after : MapSeat)
-      (grows : Grows steps [] (token before) (token mid))
-      (only_polls : mid.me.0.marks ≡ with_polls before.me.0.marks []) (same_heard : mid.me.0.heard ≡ before.me.0.heard)
-      (after_lists : SlotLists) where
-    same_names : get_or before.me.0.marks.names (key_of call) 0 ≡ get_or mid.me.0.marks.names (key_of call) 0
-    same_names = ap (λ (m : Marks). get_or m.names (key_of call) 0) (sym only_polls)
-
-    -- the call put its set
-    pub publishes_so : (published : PublishesSet table call rows mid lists after after_lists)
-        → RestsAt table after_lists after × (put : Publishes steps (call_of call) rows (token before) (token after))
-        × (put.slot ≡ published.slot)
-    publishes_so published =
-        let all
-        = grows_both {sum = steps + 2 * length rows + 2 + published.steps} (omega arith) grows published.grows in
-        let reaped_after : after_lists.reaped ≡ after.me.0.marks.reaped =
-        ap (λ (s : SlotLists). s.reaped) published.retires
-        ∙ ap (λ (l : List Bool). slice_set l published.slot false)
-        (rests.reaped ∙ ap (λ (m : Marks). m.reaped) (sym only_polls))
-        ∙ ap (λ (m : Marks). m.reaped) (sym published.marks) in
-        let rests_after : RestsAt table after_lists after
-        = record {
-          writes = published.writes;
-          slots = published.slots ∙ rests.slots;
-          reaped = reaped_after;
-          own = all.own;
-        } in
-        let lists_after = lists_shown table after_lists after rests_after ∙ published.retires in
-        let map_then = map_after before.me.0.shape published.log in
-        let done_then
-        = (legal_goes_on_lem (map_at_opening (token before).table) published.log
-        (entry 0 (call_of call) reply.Done)).1.1
-        (subst (IsLegal (map_at_opening (token before).table)) published.seen all.legal) in (
-          rests_after,
-          record {
-            searched = published.steps;
-            slot = published.slot;
-            inside = subst (λ (t : Table). published.slot < t.shape.slots) (sym rests.writes.own) published.inside;
-            mid = published.mid;
-            scanned = published.scanned;
-            loads = published.loads;
-            took =
-                subst
-                (λ (p : Table × List ℕ × SlotLists). TookBySearch p.0 p.1 published.scanned published.loads
-                published.slot published.steps p.2 published.mid)
-                (λ j. (sym rests.writes.own j, same_heard j, sym (lists_shown table lists before rests) j))
-                published.took;
-            heard = published.heard;
-            few = subst (λ (t : Table). AreFewSteps t published.steps) (sym rests.writes.own) published.few;
-            fresh = ap (λ (s : SlotLists). s.fresh) lists_after;
-            numbers =
-                ap (λ (s : SlotLists). s.numbers) (lists_shown table after_lists after rests_after) ∙ published.numbers
-                ∙ sym (ap (λ (s : SlotLists). s.numbers) (lists_shown table lists before rests));
-            retires =
-                retires_so published.word (token before) published.mid.retired (token after).retired
-                (ap (λ (s : SlotLists). s.retired) lists_after) map_then call done_then.1
-                (published.swaps.state
-                ∙ ap (λ (t : Table). kind_of (state_of (map_after t.shape published.log) (key_of call)))
-                (sym rests.writes.own))
-                (same_names ∙ published.swaps.name);
-            number = published.number;
-            count = published.count;
-            put = published.put;
-            marks =
-                published.marks
-                ∙ (λ j. with_name (with_loads (only_polls j) ((only_polls j).loads ++ published.loads))
-                (sym (key_same call) j) published.slot published.number rows);
-            gains =
-                subst
-                (λ (n : ℕ). Grows (steps + 2 * length rows + 2 + published.steps)
-                (entry n (call_of call) reply.Done ∷ []) (token before) (token after))
-                (sym writer_number) all;
-          },
-          refl,
-        )
-
-    -- the call found no slot
-    pub lacks_so : (counts : NoSlot) → LacksSlot table call mid lists after after_lists counts
-        → RestsAt table after_lists after × HasNoSlot steps (call_of call) (token before) (token after) counts
-    lacks_so counts lacking =
-        let retired_is : (token before).retired ≡ lists.retired
-        = ap (λ (s : SlotLists). s.retired) (lists_shown table lists before rests) in
-        let counts_so : (token before).table.announcers ≡ 0 → table.announcers ≡ 0
-        = λ counted. ap (λ (t : Table). t.announcers) (sym rests.writes.own) ∙ counted in
-        let all
-        = grows_both refl grows lacking.grows in
-        let rests_lists : RestsAt table lists after = record {
-          writes = lacking.writes;
-          slots = rests.slots;
-          reaped = rests.reaped
-              ∙ ap (λ (m : Marks). m.reaped) (sym only_polls) ∙ ap (λ (m : Marks). m.reaped) (sym lacking.marks);
-          own = all.own;
-        } in (
-          subst (λ (s : SlotLists). RestsAt table s after) (sym lacking.same) rests_lists,
-          record {
-            searched = lacking.steps;
-            loads = lacking.loads;
-            all =
-                subst
-                (λ (p : Table × List ℕ × List Retired). SearchedAll p.0 p.1 after.me.0.heard lacking.loads p.2
-                lacking.steps)
-                (λ j. (sym rests.writes.own j, same_heard j, sym retired_is j)) lacking.searched;
-            grows = all;
-            readers = none_between (steps + lacking.steps) (token before) [] (token after) rests.own refl all;
-            lacks = lacking.lacks;
-            noted = λ counted. subst (λ (p : Table × List Past). Noted p.0.shape p.1 after.me.0.marks.polls)
-                (λ j. (sym rests.writes.own j, grows.pasts j)) (lacking.noted (counts_so counted));
-            kept =
-                subst
-                (λ (p : Table × List Retired). KeptBack p.0.shape.readers before.me.0.seen after.me.0.seen
-                lacking.loads p.1
-                after.me.0.marks.polls)
-                (λ j. (sym rests.writes.own j, sym retired_is j))
-                (kept_since (grows_from grows) lacking.kept);
-            slots = same_slots after rests_lists;
-            marks =
-                lacking.marks
-                ∙ ap (λ (m : Marks). with_scan m after.me.0.marks.polls (m.loads ++ lacking.loads)) only_polls;
-          },
-        )
 
 -- the call ends with its look
 pub look_ends : {table : Table} {lists : SlotLists} {call : WriterCall} {found : ℕ} {before after : MapSeat}
@@ -232,6 +97,7 @@ look_ends {table = table} {lists = lists} {call = call} {before = before} {after
       (ended_so.1, (same_slots table lists before looks.rests after ended_so.0, looks.marks, looks.heard)),
     )
 
+-- a call that has its set
 pub has_set : {table : Table} {lists : SlotLists} {steps : ℕ} {call : WriterCall} {rows : List Row}
     {before mid : MapSeat}
     → RestsAt table lists before
@@ -240,8 +106,22 @@ pub has_set : {table : Table} {lists : SlotLists} {steps : ℕ} {call : WriterCa
     → HasSet table lists steps call rows before mid
 has_set {table = table} {lists = lists} {steps = steps} {call = call} {rows = rows} {before = before} {mid = mid} rests
     leads marks heard =
-    let so = settles_so table lists before rests steps call rows mid leads (ap (λ (m : Marks). m.polls) marks) in
-    record { rests = rests; settles = so.0; grows = so.1; marks = marks; heard = heard }
+    let grows
+    = subst (λ (es : List Entry). Grows steps es (token before) (token mid))
+    (settled_quiet table.shape (desk_with lists Idle) call rows (call_of call)) leads.grows in
+    record {
+      rests = rests;
+      settles = record {
+        slots = rests.slots;
+        writes = leads.writes;
+        short = leads.short;
+        knows = knows_after steps (token before) [] (token mid) grows;
+        polls = ap (λ (m : Marks). m.polls) marks;
+      };
+      grows = grows;
+      marks = marks;
+      heard = heard;
+    }
 
 -- a fill and a replacement have it at their look
 pub look_settles : {table : Table} {lists : SlotLists} {call : WriterCall} {rows : List Row} {found : ℕ} {before
@@ -254,124 +134,217 @@ look_settles {table = table} {call = call} {before = before} {after = after} loo
     looks.marks looks.heard
 
 -- and it had the slot, and put the set there, or found none
-module
-    _ {table : Table} {lists after_lists : SlotLists} {steps : ℕ} {call given : WriterCall} {rows : List Row}
-    {before mid after : MapSeat} (set : HasSet table lists steps call rows before mid)
-    (is : given ≡ call) where
-  pub has_published : (published : PublishesSet table given rows mid lists after after_lists)
-      → RestsAt (token after).table after_lists after
-      × (put : Publishes steps (call_of call) rows (token before) (token after)) × (put.slot ≡ published.slot)
-  has_published published =
-      let put
-      = subst
-      (λ (c : WriterCall). (here : PublishesSet table c rows mid lists after after_lists)
-      × (here.slot ≡ published.slot))
-      is (published, refl) in
-      let so
-      = publishes_so table lists before set.rests steps call rows mid after set.grows set.marks set.heard
-      after_lists put.0 in
-      (rests_own table after_lists after so.0, so.1, so.2 ∙ put.1)
+module _ {table : Table} {lists : SlotLists} {steps : ℕ} {call : WriterCall} {rows : List Row} {before mid : MapSeat}
+    (set : HasSet table lists steps call rows before mid) where
+  own_table : table ≡ (token before).table
+  own_table = sym set.rests.writes.own
 
-  pub has_lacked : {counts : NoSlot} → LacksSlot table given mid lists after after_lists counts
+  own_lists : lists ≡ lists_of (token before)
+  own_lists = sym (lists_shown table lists before set.rests)
+
+  pub has_published : {given : WriterCall} {after_lists : SlotLists} {after : MapSeat} → given ≡ call
+      → (put : PublishesSet table given rows mid lists after after_lists)
+      → RestsAt (token after).table after_lists after
+      × (told : Publishes steps (call_of call) rows (token before) (token after)) × (told.slot ≡ put.slot)
+  has_published {after_lists = after_lists} {after = after} is put =
+      let here
+      = subst
+      (λ (c : WriterCall). (p : PublishesSet table c rows mid lists after after_lists) × (p.slot ≡ put.slot))
+      is (put, refl) in
+      let published = here.0 in
+      let all
+      = grows_both {sum = steps + 2 * length rows + 2 + published.steps} (omega arith) set.grows published.grows in
+      let rests_after : RestsAt table after_lists after
+      = record {
+        writes = published.writes;
+        slots = published.slots ∙ set.rests.slots;
+        reaped =
+            ap (λ (s : SlotLists). s.reaped) published.retires
+            ∙ ap (λ (l : List Bool). slice_set l published.slot false)
+            (set.rests.reaped ∙ ap (λ (m : Marks). m.reaped) (sym set.marks))
+            ∙ ap (λ (m : Marks). m.reaped) (sym published.marks);
+        own = all.own;
+      } in
+      let lists_after = lists_shown table after_lists after rests_after in
+      let log = published.log in
+      let done_then
+      = (legal_goes_on_lem (map_at_opening (token before).table) log (entry 0 (call_of call) reply.Done)).1.1
+      (subst (IsLegal (map_at_opening (token before).table)) published.seen all.legal) in (
+        rests_own table after_lists after rests_after,
+        record {
+          searched = published.steps;
+          slot = published.slot;
+          inside = subst (λ (t : Table). published.slot < t.shape.slots) own_table published.inside;
+          mid = published.mid;
+          scanned = published.scanned;
+          loads = published.loads;
+          took =
+              subst
+              (λ (p : Table × List ℕ × SlotLists). TookBySearch p.0 p.1 published.scanned published.loads
+              published.slot published.steps p.2 published.mid)
+              (λ j. (own_table j, set.heard j, own_lists j)) published.took;
+          heard = published.heard;
+          few = subst (λ (t : Table). AreFewSteps t published.steps) own_table published.few;
+          fresh = ap (λ (s : SlotLists). s.fresh) (lists_after ∙ published.retires);
+          numbers =
+              ap (λ (s : SlotLists). s.numbers) lists_after ∙ published.numbers
+              ∙ ap (λ (s : SlotLists). s.numbers) own_lists;
+          retires =
+              retires_so published.word (token before) published.mid.retired (token after).retired
+              (ap (λ (s : SlotLists). s.retired) (lists_after ∙ published.retires)) (map_after before.me.0.shape log)
+              call done_then.1
+              (published.swaps.state
+              ∙ ap (λ (t : Table). kind_of (state_of (map_after t.shape log) (key_of call))) own_table)
+              (ap (λ (m : Marks). get_or m.names (key_of call) 0) (sym set.marks) ∙ published.swaps.name);
+          number = published.number;
+          count = published.count;
+          put = published.put;
+          marks =
+              published.marks
+              ∙ (λ j. with_name (with_loads (set.marks j) ((set.marks j).loads ++ published.loads))
+              (sym (key_same call) j) published.slot published.number rows);
+          gains = gains_so set.rests after all;
+        },
+        here.1,
+      )
+
+  pub has_lacked : {given : WriterCall} {after_lists : SlotLists} {after : MapSeat} {counts : NoSlot} → given ≡ call
+      → LacksSlot table given mid lists after after_lists counts
       → RestsAt (token after).table after_lists after
       × HasNoSlot steps (call_of call) (token before) (token after) counts
-  has_lacked {counts = counts} lacking =
-      let so = lacks_so table lists before set.rests steps call rows mid after set.grows set.marks set.heard after_lists
-      counts (subst (λ (c : WriterCall). LacksSlot table c mid lists after after_lists counts) is lacking) in
-      (rests_own table after_lists after so.0, so.1)
+  has_lacked {after_lists = after_lists} {after = after} {counts = counts} is lacked =
+      let lacking = subst (λ (c : WriterCall). LacksSlot table c mid lists after after_lists counts) is lacked in
+      let retired_are = ap (λ (s : SlotLists). s.retired) own_lists in
+      let all = grows_both refl set.grows lacking.grows in
+      let rests_lists : RestsAt table lists after = record {
+        writes = lacking.writes;
+        slots = set.rests.slots;
+        reaped = set.rests.reaped
+            ∙ ap (λ (m : Marks). m.reaped) (sym set.marks) ∙ ap (λ (m : Marks). m.reaped) (sym lacking.marks);
+        own = all.own;
+      } in (
+        rests_own table after_lists after
+            (subst (λ (s : SlotLists). RestsAt table s after) (sym lacking.same) rests_lists),
+        record {
+          searched = lacking.steps;
+          loads = lacking.loads;
+          all =
+              subst
+              (λ (p : Table × List ℕ × List Retired). SearchedAll p.0 p.1 after.me.0.heard lacking.loads p.2
+              lacking.steps)
+              (λ j. (own_table j, set.heard j, retired_are j)) lacking.searched;
+          grows = all;
+          readers = none_between (steps + lacking.steps) (token before) [] (token after) set.rests.own refl all;
+          lacks = lacking.lacks;
+          noted = λ counted. subst (λ (p : Table × List Past). Noted p.0.shape p.1 after.me.0.marks.polls)
+              (λ j. (own_table j, set.grows.pasts j))
+              (lacking.noted (ap (λ (t : Table). t.announcers) own_table ∙ counted));
+          kept =
+              subst
+              (λ (p : Table × List Retired). KeptBack p.0.shape.readers before.me.0.seen after.me.0.seen
+              lacking.loads p.1
+              after.me.0.marks.polls)
+              (λ j. (own_table j, retired_are j))
+              (kept_since (grows_from set.grows) lacking.kept);
+          slots = same_slots table lists before set.rests after rests_lists;
+          marks =
+              lacking.marks
+              ∙ ap (λ (m : Marks). with_scan m after.me.0.marks.polls (m.loads ++ lacking.loads)) set.marks;
+        },
+      )
+
+-- the look led on, to a swap that ends the call or to a read
+module
+    _ {table : Table} {lists : SlotLists} {call : WriterCall} {word : ℕ} {place : Place} {before mid : MapSeat}
+    (looks : HasLooked table lists call word before mid)
+    (leads : looked table.shape (desk_with lists Idle) call word ≡ (desk_with lists place, Going)) where
+  pub about_to_go : LeadsIn 1 table (call_of call) (desk_with lists place, Going) before mid
+  about_to_go = subst (λ (o : Desk × Step). LeadsIn 1 table (call_of call) o before mid) leads looks.leads
+
+  swap_ends : (answer : Reply) (after_lists : SlotLists) (after : MapSeat) → after_lists.slots ≡ lists.slots
+      → after_lists.reaped ≡ lists.reaped → after.me.0.marks.reaped ≡ mid.me.0.marks.reaped
+      → LeadsIn 1 table (call_of call) (desk_with after_lists Idle, ended answer) mid after
+      → RestsAt table after_lists after × Gains 2 (call_of call) (token before) (token after) answer
+  swap_ends answer after_lists after slots reaped same_marks then =
+      ends table lists before looks.rests 2 (call_of call) answer after_lists after slots reaped
+      (same_marks ∙ ap (λ (m : Marks). m.reaped) looks.marks)
+      (record {
+        writes = then.writes;
+        grows = grows_both {sum = 2} (omega arith) about_to_go.grows then.grows;
+        short = λ counts without. absurd (not_reply counts answer without);
+      })
 
 -- the swap that evicts the key
-module
-    _ {table : Table} {lists : SlotLists} {key word : ℕ} {before mid : MapSeat}
-    (looks : HasLooked table lists (Evict key) word before mid)
-    (leaves : looked table.shape (desk_with lists Idle) (Evict key) word ≡ (desk_with lists (Leaving key), Going)) where
-  pub about_to_leave : LeadsIn 1 table (model.Evict key) (desk_with lists (Leaving key), Going) before mid
-  about_to_leave = subst (λ (o : Desk × Step). LeadsIn 1 table (model.Evict key) o before mid) leaves looks.leads
-
-  pub has_evicted : {found : ℕ} {after : MapSeat} {after_lists : SlotLists} → GoesOn table found mid after
-      → after_lists ≡ record lists { retired = lists.retired ++ unnamed found }
-      → RestsAt (token after).table after_lists after
-      × (Gains 2 (model.Evict key) (token before) (token after) reply.Evicted
-      × ((token after).fresh ≡ (token before).fresh) × ((token after).numbers ≡ (token before).numbers)
-      × RetiresOne key (token before) (token before).retired (token after).retired
-      × (after.me.0.marks ≡ without_name (with_polls before.me.0.marks []) key)
-      × (after.me.0.heard ≡ before.me.0.heard))
-  has_evicted {found = found} {after = after} {after_lists = after_lists} goes retires =
-      let gone = goes (desk_with lists (Leaving key)) about_to_leave.writes.role in
-      let told = gone.leads in
-      let all : LeadsIn 2 table (model.Evict key) (desk_with after_lists Idle, ended reply.Evicted) before after
-      = record {
-        writes = subst (λ (s : SlotLists). WritesAt table (desk_with s Idle) after) (sym retires) told.writes;
-        grows = grows_both {sum = 2} (omega arith) about_to_leave.grows told.grows;
-        short = λ counts without. absurd (not_reply counts reply.Evicted without);
-      } in
-      let ended_so
-      = ends table lists before looks.rests 2 (model.Evict key) reply.Evicted after_lists after
-      (ap (λ (s : SlotLists). s.slots) retires)
-      (ap (λ (s : SlotLists). s.reaped) retires)
-      (ap (λ (m : Marks). m.reaped) gone.marks.0 ∙ ap (λ (m : Marks). m.reaped) looks.marks) all in
-      let slots
-      = lists_shown table after_lists after ended_so.0 ∙ retires
-      ∙ ap (λ (s : SlotLists). record s { retired = s.retired ++ unnamed found })
-      (sym (lists_shown table lists before looks.rests)) in
-      let legal
-      = (legal_goes_on_lem (map_at_opening (token before).table) gone.log
-      (entry 0 (model.Evict key) reply.Evicted)).1.1
-      (subst (IsLegal (map_at_opening (token before).table)) gone.seen all.grows.legal) in (
-        rests_own table after_lists after ended_so.0,
-        (
-          ended_so.1,
-          ap (λ (s : SlotLists). s.fresh) slots,
-          ap (λ (s : SlotLists). s.numbers) slots,
-          evicted_one found (token before) (token before).retired (token after).retired
-              (ap (λ (s : SlotLists). s.retired) slots) (map_after before.me.0.shape gone.log) key legal.1
-              (gone.finds.state
-              ∙ ap (λ (t : Table). kind_of (state_of (map_after t.shape gone.log) key)) (sym looks.own))
-              (ap (λ (m : Marks). get_or m.names key 0) (sym looks.marks) ∙ gone.finds.name),
-          gone.marks.0 ∙ ap (λ (m : Marks). without_name m key) looks.marks,
-          gone.heard ∙ looks.heard,
-        ),
-      )
+pub has_evicted : {table : Table} {lists after_lists : SlotLists} {key word found : ℕ} {before mid after : MapSeat}
+    → HasLooked table lists (Evict key) word before mid
+    → looked table.shape (desk_with lists Idle) (Evict key) word ≡ (desk_with lists (Leaving key), Going)
+    → GoesOn table found mid after → after_lists ≡ record lists { retired = lists.retired ++ unnamed found }
+    → RestsAt (token after).table after_lists after
+    × (Gains 2 (model.Evict key) (token before) (token after) reply.Evicted
+    × ((token after).fresh ≡ (token before).fresh) × ((token after).numbers ≡ (token before).numbers)
+    × RetiresOne key (token before) (token before).retired (token after).retired
+    × (after.me.0.marks ≡ without_name (with_polls before.me.0.marks []) key)
+    × (after.me.0.heard ≡ before.me.0.heard))
+has_evicted {table = table} {lists = lists} {after_lists = after_lists} {key = key} {found = found} {before = before}
+    {mid = mid} {after = after} looks leaves goes retires =
+    let gone = goes (desk_with lists (Leaving key)) (about_to_go looks leaves).writes.role in
+    let (rests_after, gains)
+    = swap_ends looks leaves reply.Evicted after_lists after (ap (λ (s : SlotLists). s.slots) retires)
+    (ap (λ (s : SlotLists). s.reaped) retires) (ap (λ (m : Marks). m.reaped) gone.marks.0)
+    (subst (λ (s : SlotLists). LeadsIn 1 table (model.Evict key) (desk_with s Idle, ended reply.Evicted) mid after)
+    (sym retires) gone.leads) in
+    let slots
+    = lists_shown table after_lists after rests_after ∙ retires
+    ∙ ap (λ (s : SlotLists). record s { retired = s.retired ++ unnamed found })
+    (sym (lists_shown table lists before looks.rests)) in
+    let legal
+    = (legal_goes_on_lem (map_at_opening (token before).table) gone.log
+    (entry 0 (model.Evict key) reply.Evicted)).1.1
+    (subst (IsLegal (map_at_opening (token before).table)) gone.seen gains.legal) in (
+      rests_own table after_lists after rests_after,
+      (
+        gains,
+        ap (λ (s : SlotLists). s.fresh) slots,
+        ap (λ (s : SlotLists). s.numbers) slots,
+        evicted_one found (token before) (token before).retired (token after).retired
+            (ap (λ (s : SlotLists). s.retired) slots) (map_after before.me.0.shape gone.log) key legal.1
+            (gone.finds.state
+            ∙ ap (λ (t : Table). kind_of (state_of (map_after t.shape gone.log) key)) (sym looks.own))
+            (ap (λ (m : Marks). get_or m.names key 0) (sym looks.marks) ∙ gone.finds.name),
+        gone.marks.0 ∙ ap (λ (m : Marks). without_name m key) looks.marks,
+        gone.heard ∙ looks.heard,
+      ),
+    )
 
 -- the swap that takes the key's request back
-module
-    _ {table : Table} {lists : SlotLists} {key word : ℕ} {before mid : MapSeat}
-    (looks : HasLooked table lists (Cancel key) word before mid)
-    (withdraws : looked table.shape (desk_with lists Idle) (Cancel key) word
-    ≡ (desk_with lists (Withdrawing key), Going)) where
-  pub about_to_withdraw : LeadsIn 1 table (model.Cancel key) (desk_with lists (Withdrawing key), Going) before mid
-  about_to_withdraw = subst (λ (o : Desk × Step). LeadsIn 1 table (model.Cancel key) o before mid) withdraws looks.leads
-
-  pub has_cancelled : {found : ℕ} {after : MapSeat} {after_lists : SlotLists} → GoesOn table found mid after
-      → after_lists ≡ record lists { numbers = slice_set lists.numbers key (slice_index lists.numbers key + 1) }
-      → RestsAt (token after).table after_lists after
-      × (Gains 2 (model.Cancel key) (token before) (token after) reply.Cancelled
-      × (lists_of (token after) ≡ record (lists_of (token before))
-      { numbers = slice_set (token before).numbers key (slice_index (token before).numbers key + 1) })
-      × (after.me.0.marks ≡ with_polls before.me.0.marks []) × (after.me.0.heard ≡ before.me.0.heard))
-  has_cancelled {found = found} {after = after} {after_lists = after_lists} goes renumbers =
-      let gone = goes (desk_with lists (Withdrawing key)) about_to_withdraw.writes.role in
-      let told = gone.leads in
-      let all : LeadsIn 2 table (model.Cancel key) (desk_with after_lists Idle, ended reply.Cancelled) before after
-      = record {
-        writes = subst (λ (s : SlotLists). WritesAt table (desk_with s Idle) after) (sym renumbers) told.writes;
-        grows =
-            grows_both {sum = 2} (omega arith) about_to_withdraw.grows told.grows;
-        short = λ counts without. absurd (not_reply counts reply.Cancelled without);
-      } in
-      let ended_so = ends table lists before looks.rests 2 (model.Cancel key) reply.Cancelled after_lists after
-      (ap (λ (s : SlotLists). s.slots) renumbers) (ap (λ (s : SlotLists). s.reaped) renumbers)
-      (ap (λ (m : Marks). m.reaped) gone.marks.0 ∙ ap (λ (m : Marks). m.reaped) looks.marks) all in (
-        rests_own table after_lists after ended_so.0,
-        (
-          ended_so.1,
-          lists_shown table after_lists after ended_so.0 ∙ renumbers
-              ∙ ap (λ (s : SlotLists). record s { numbers = slice_set s.numbers key (slice_index s.numbers key + 1) })
-              (sym (lists_shown table lists before looks.rests)),
-          gone.marks.0 ∙ looks.marks,
-          gone.heard ∙ looks.heard,
-        ),
-      )
+pub has_cancelled : {table : Table} {lists after_lists : SlotLists} {key word found : ℕ} {before mid after : MapSeat}
+    → HasLooked table lists (Cancel key) word before mid
+    → looked table.shape (desk_with lists Idle) (Cancel key) word ≡ (desk_with lists (Withdrawing key), Going)
+    → GoesOn table found mid after
+    → after_lists ≡ record lists { numbers = slice_set lists.numbers key (slice_index lists.numbers key + 1) }
+    → RestsAt (token after).table after_lists after
+    × (Gains 2 (model.Cancel key) (token before) (token after) reply.Cancelled
+    × (lists_of (token after) ≡ record (lists_of (token before))
+    { numbers = slice_set (token before).numbers key (slice_index (token before).numbers key + 1) })
+    × (after.me.0.marks ≡ with_polls before.me.0.marks []) × (after.me.0.heard ≡ before.me.0.heard))
+has_cancelled {table = table} {lists = lists} {after_lists = after_lists} {key = key} {before = before} {mid = mid}
+    {after = after} looks withdraws goes renumbers =
+    let gone = goes (desk_with lists (Withdrawing key)) (about_to_go looks withdraws).writes.role in
+    let (rests_after, gains)
+    = swap_ends looks withdraws reply.Cancelled after_lists after (ap (λ (s : SlotLists). s.slots) renumbers)
+    (ap (λ (s : SlotLists). s.reaped) renumbers) (ap (λ (m : Marks). m.reaped) gone.marks.0)
+    (subst (λ (s : SlotLists). LeadsIn 1 table (model.Cancel key) (desk_with s Idle, ended reply.Cancelled) mid after)
+    (sym renumbers) gone.leads) in (
+      rests_own table after_lists after rests_after,
+      (
+        gains,
+        lists_shown table after_lists after rests_after ∙ renumbers
+            ∙ ap (λ (s : SlotLists). record s { numbers = slice_set s.numbers key (slice_index s.numbers key + 1) })
+            (sym (lists_shown table lists before looks.rests)),
+        gone.marks.0 ∙ looks.marks,
+        gone.heard ∙ looks.heard,
+      ),
+    )
 
 -- READS OF THE KEY'S SET
 
@@ -379,7 +352,7 @@ module _ {table : Table} {lists : SlotLists} {call given : WriterCall} {found : 
     (looks : HasLooked table lists call found before mid) (reads : looked table.shape (desk_with lists Idle) call
     found ≡ (desk_with lists (Reading call (slot_of found) []), Going)) (is : given ≡ call) where
   leads_there : LeadsIn 1 table (call_of call) (desk_with lists (Reading call (slot_of found) []), Going) before mid
-  leads_there = subst (λ (o : Desk × Step). LeadsIn 1 table (call_of call) o before mid) reads looks.leads
+  leads_there = about_to_go looks reads
 
   -- the writer is about to read the slot that the word named
   pub about_to_read : {slot : ℕ} → slot ≡ slot_of found
@@ -447,11 +420,7 @@ module
       → after.me.0.seen
       ≡ read.had.log ++ ending (model.Update key batch) (renewed table.shape at_read (Update key batch) left).1
   seen_by left is =
-      read.had.seen
-      ∙ ap
-      (λ (r : Result (List Row) ApplyFault). read.had.log
-      ++ ending (model.Update key batch) (renewed table.shape at_read (Update key batch) r).1)
-      is
+      rw (sym is) read.had.seen
 
   -- the map before the update is that of the table
   own_map : (log : List Entry) (number : ℕ) → state_of (map_after table.shape log) key ≡ states.Rows number rows
@@ -506,39 +475,21 @@ module
         grows.table still_has
 
     module _ {given : WriterCall} (given_is : given ≡ Update key batch) (near : key < table.shape.keys) where
-      pub has_updated : {last : MapSeat} {after_lists : SlotLists}
-          → PublishesSet table given left after lists last after_lists
+      -- where it was at `mid`, after the read or some steps later, when it looked for a slot
+      pub has_updated : {made : ℕ} {mid last : MapSeat} {after_lists : SlotLists}
+          → HasSet table lists made (Update key batch) left before mid
+          → ((steps : ℕ) → Grows steps (entry 0 (model.Update key batch) reply.Done ∷ []) (token mid) (token last)
+          → (sum : ℕ) × Grows sum (entry 0 (model.Update key batch) reply.Done ∷ []) (token after) (token last))
+          → (put : PublishesSet table given left mid lists last after_lists)
           → RestsAt (token last).table after_lists last
-          × ((published : Publishes (2 * length rows + 2) (model.Update key batch) left (token before) (token last))
-          × KeyHad key rows (token before) published.gains.between)
-      has_updated {last = last} {after_lists = after_lists} put =
-          let put_here
-          = subst (λ (c : WriterCall). PublishesSet table c left after lists last after_lists) given_is put in
-          let so = has_published has_renewed refl put_here in let then = put_here.grows in let all = so.1.gains in (
-            so.0,
-            (
-              so.1,
-              had_still near last _ _ _ _ then all refl
-                  (before_last ((token before).seen ++ all.between) ((token after).seen ++ then.between) _ _
-                  (sym all.seen ∙ then.seen)),
-            ),
-          )
-
-      -- where the writer made that many steps more before it published
-      pub has_updated_later : {last : MapSeat} {after_lists : SlotLists} (steps : ℕ)
-          → (put : PublishesSet table given left (later steps after) lists last after_lists)
-          → RestsAt (token last).table after_lists last
-          × ((published : Publishes (2 * length rows + 2 + steps) (model.Update key batch)
-          left (token before) (token last)) × KeyHad key rows (token before) published.gains.between
-          × (published.slot ≡ put.slot))
-      has_updated_later {last = last} {after_lists = after_lists} steps put =
+          × ((published : Publishes made (model.Update key batch) left (token before) (token last))
+          × KeyHad key rows (token before) published.gains.between × (published.slot ≡ put.slot))
+      has_updated {mid = mid} {last = last} {after_lists = after_lists} set grown put =
+          let so = has_published set given_is put in
           let here
-          = subst
-          (λ (c : WriterCall). (p : PublishesSet table c left (later steps after) lists last after_lists)
-          × (p.slot ≡ put.slot))
-          given_is (put, refl) in
-          let so = has_published (set_later steps has_renewed) refl here.0 in
-          let then = grows_with steps _ _ (token after) _ (token last) refl here.0.grows in
+          = subst (λ (c : WriterCall). PublishesSet table c left mid lists last after_lists)
+          given_is put in
+          let then = (grown _ here.grows).1 in
           let all = so.1.gains in (
             so.0,
             (
@@ -546,7 +497,7 @@ module
               had_still near last _ _ _ _ then all refl
                   (before_last ((token before).seen ++ all.between) ((token after).seen ++ then.between) _ _
                   (sym all.seen ∙ then.seen)),
-              so.2 ∙ here.1,
+              so.2,
             ),
           )
 

@@ -5,7 +5,7 @@ use Rattle.nr_core.specs.Writer.{ended, looked}
 use Rattle.nr_core.specs.declared.calls.WriterCall.TheVariants as writer
 use Rattle.nr_core.specs.declared.places.Place.TheVariants.{Idle, Withdrawing}
 use Rattle.nr_board.proofs.Looks.{cancel_filled, cancel_unasked, cancel_withdraws, cancel_worn, has_looked}
-use Rattle.nr_board.proofs.WriterCalls.{about_to_withdraw, has_cancelled, look_ends}
+use Rattle.nr_board.proofs.WriterCalls.{about_to_go, has_cancelled, look_ends}
 use Rattle.nr_board.specs.SlotLists.{desk_with}
 use Rattle.nr_board.proofs.board.Board.cancel_key.Goals.{then-found-via-then-found}
 use Rattle.nr_board.proofs.board.Board.cancel_key.Goals.{then-found-via-else-found+then-not-found}
@@ -41,7 +41,7 @@ overflow_add-next g c =
     let withdraws
     = cancel_withdraws looks c.parts-found.ensures.parts c.if-found.false c.if-not-found.false
     (omega (arith, c.from.ensures, c.if-from-ge-LAST_NUMBER.false)) in
-    omega (arith, (about_to_withdraw looks withdraws).writes.room.place.1, c.number-next.ensures)
+    omega (arith, (about_to_go looks withdraws).writes.room.place.1, c.number-next.ensures)
 
 pub withdraw-requires : goal.withdraw-requires
 withdraw-requires g c =
@@ -51,7 +51,7 @@ withdraw-requires g c =
     (omega (arith, c.from.ensures, c.if-from-ge-LAST_NUMBER.false)) in
     record {
       desk = desk_with c.args.lists.now (Withdrawing c.args.key);
-      writes = (about_to_withdraw looks withdraws).writes;
+      writes = (about_to_go looks withdraws).writes;
       place = refl;
       number_is = ap (λ (n : ℕ). n + 1) c.number-next.ensures;
     }

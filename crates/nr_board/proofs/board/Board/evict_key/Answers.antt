@@ -2,7 +2,7 @@ use Rattle.std.proofs.Common.{ap, arith, refl}
 use Rattle.nr_model.specs.declared.calls.Reply.TheVariants as reply
 use Rattle.nr_core.specs.declared.places.Place.TheVariants.{Leaving}
 use Rattle.nr_board.proofs.Looks.{evict_leaves, evict_nothing, has_looked}
-use Rattle.nr_board.proofs.WriterCalls.{about_to_leave, has_evicted, look_ends}
+use Rattle.nr_board.proofs.WriterCalls.{about_to_go, has_evicted, look_ends}
 use Rattle.nr_board.specs.Callers.{Table}
 use Rattle.nr_board.specs.SlotLists.{desk_with}
 use Rattle.nr_board.proofs.board.Board.evict_key.Goals as goal
@@ -20,7 +20,7 @@ unpublish-old_word-requires g c =
     let leaves = evict_leaves looks c.parts-found.ensures.parts c.if-not-found.false in
     record {
       desk = desk_with c.args.lists.now (Leaving c.args.key);
-      writes = (about_to_leave looks leaves).writes;
+      writes = (about_to_go looks leaves).writes;
       place = refl;
       number_is = c.number.ensures;
     }
@@ -29,7 +29,7 @@ pub retire-requires : goal.retire-requires
 retire-requires g c =
     let looks = has_looked c.requires.rests c.requires.own c.requires.call c.look.ensures in
     let leaves = evict_leaves looks c.parts-found.ensures.parts c.if-not-found.false in
-    let leads = about_to_leave looks leaves in
+    let leads = about_to_go looks leaves in
     omega (arith, leads.writes.room.place.1, c.requires.rests.slots, ap (λ (t : Table). t.shape.slots) c.requires.own)
 
 pub returns : goal.returns

@@ -1,11 +1,10 @@
-use Rattle.std.proofs.Common.{Bool, ap, arith, cond, ◌∙◌}
+use Rattle.std.proofs.Common.{Bool, ap, arith, cond, ◌<◌, ◌∙◌}
 use Rattle.nr_core.specs.Slots.{name_number}
 use Rattle.nr_core.specs.Marks.{Marks, acted, with_look}
 use Rattle.nr_core.specs.Puts.{put_number}
 use Rattle.nr_board.proofs.Holding.{finds_none, finds_so, holds_first}
 use Rattle.nr_board.proofs.Looks.{is_empty, is_full}
 use Rattle.nr_board.specs.Callers.{Table}
-use Rattle.nr_board.specs.WordPlays.{HasWord}
 use Rattle.nr_board.proofs.board.Board.hold_key.Goals as goal
 
 pub returns-then-not-parts : goal.returns-then-not-parts
@@ -16,19 +15,13 @@ returns-then-not-parts c =
     let after = c.look_at_key-word.new.seat in
     let word = c.look_at_key-word.result in
     let told = c.look_at_key-word.ensures in
-    let has : HasWord c.args.own.index before.me.0
-    = record {
-      number = c.requires.number;
-      within = omega (
-        arith,
-        c.if-own-announcers.false,
-        c.announcers.ensures,
-        ap (λ (t : Table). t.announcers) c.requires.reader.own,
-      );
-    } in
+    let announcers = ap (λ (t : Table). t.announcers) c.requires.reader.own in
+    let within : c.args.own.index < before.me.0.announcers
+    = omega (arith, c.if-own-announcers.false, c.announcers.ensures, announcers) in
     let empty = is_empty word c.parts.ensures.parts c.if-not-parts.true in
     let looked = with_look before.me.0.marks key (name_number word) in
-    rw (finds_so c.args.own.index before has) (finds_none map key word empty before after told.reader (told.hole empty)
+    rw (finds_so c.args.own.index before c.requires.number within)
+    (finds_none map key word empty before after told.reader (told.hole empty)
     (told.marks
     ∙ ap (λ (b : Bool). cond {A = Marks} b looked (acted looked (put_number after.me.0.seen key))) empty))
 
@@ -40,19 +33,12 @@ returns c =
     let mid = c.look_at_key-word.new.seat in
     let word = c.look_at_key-word.result in
     let told = c.look_at_key-word.ensures in
-    let has : HasWord c.args.own.index before.me.0
-    = record {
-      number = c.requires.number;
-      within = omega (
-        arith,
-        c.if-own-announcers.false,
-        c.announcers.ensures,
-        ap (λ (t : Table). t.announcers) c.requires.reader.own,
-      );
-    } in
+    let announcers = ap (λ (t : Table). t.announcers) c.requires.reader.own in
+    let within : c.args.own.index < before.me.0.announcers
+    = omega (arith, c.if-own-announcers.false, c.announcers.ensures, announcers) in
     let full = is_full word c.parts.ensures.parts c.if-not-parts.false in
     let looked = with_look before.me.0.marks key (name_number word) in
-    rw (finds_so c.args.own.index before has)
+    rw (finds_so c.args.own.index before c.requires.number within)
     (holds_first map key word full before mid c.hold_named.new.seat c.hold_named.result told.reader.idle
     (told.named full)
     (told.marks ∙ ap (λ (b : Bool). cond {A = Marks} b looked (acted looked (put_number mid.me.0.seen key))) full)

@@ -8,10 +8,8 @@ publish_set-requires g c =
     let begun = c.in_ok-begin_update.ensures in
     let is = begun.3 ∙ ap Ok (sym c.as_slice.ensures.value) in
     record {
-      settles =
-          rw c.requires.call (has_renewed begun.2 is).settles;
-      flagged =
-          rw begun.2.heard c.requires.flagged;
+      settles = rw c.requires.call (has_renewed begun.2 is).settles;
+      flagged = rw begun.2.heard c.requires.flagged;
       call = ap key_of (sym c.requires.call);
       key = c.requires.key;
     }
@@ -29,7 +27,9 @@ returns-in-Err g c =
 
 pub returns : goal.returns
 returns g c = let begun = c.in_ok-begin_update.ensures in let is = begun.3 ∙ ap Ok (sym c.as_slice.ensures.value) in
-    let told = has_updated begun.2 is c.requires.call c.requires.key c.in_default.ensures.publishes in
+    let told
+    = has_updated begun.2 is c.requires.call c.requires.key (has_renewed begun.2 is) (λ steps grows. (steps, grows))
+    c.in_default.ensures.publishes in
     record {
       rests = told.0;
       flagged = c.in_default.ensures.flagged;

@@ -1,7 +1,7 @@
-use Rattle.std.proofs.Common.{Ok, ap, sym, ◌∙◌}
+use Rattle.std.proofs.Common.{Ok, ap, refl, sym, ◌+◌, ◌∙◌}
 use Rattle.nr_core.specs.States.{key_of}
-use Rattle.nr_board.proofs.Waiting.{given_out}
-use Rattle.nr_board.proofs.WriterCalls.{has_not_updated, has_renewed, has_updated_later}
+use Rattle.nr_board.proofs.Waiting.{given_out, grows_with, set_later}
+use Rattle.nr_board.proofs.WriterCalls.{has_not_updated, has_renewed, has_updated}
 use Rattle.nr_board.proofs.board.Board.update_reclaiming.Goals as goal
 
 pub publish_reclaiming-requires : goal.publish_reclaiming-requires
@@ -9,10 +9,8 @@ publish_reclaiming-requires g c =
     let begun = c.in_ok-begin_update.ensures in
     let is = begun.3 ∙ ap Ok (sym c.as_slice.ensures.value) in
     record {
-      settles =
-          rw c.requires.call (has_renewed begun.2 is).settles;
-      flagged =
-          rw begun.2.heard c.requires.flagged;
+      settles = rw c.requires.call (has_renewed begun.2 is).settles;
+      flagged = rw begun.2.heard c.requires.flagged;
       call = ap key_of (sym c.requires.call);
       key = c.requires.key;
     }
@@ -22,7 +20,10 @@ returns-in-Ok g c =
     let begun = c.in_ok-begin_update.ensures in
     let is = begun.3 ∙ ap Ok (sym c.as_slice.ensures.value) in
     let put = c.in-Ok.ensures.publishes in
-    let told = has_updated_later begun.2 is c.requires.call c.requires.key put.0 put.1 in
+    let renewed = has_renewed begun.2 is in
+    let told
+    = has_updated begun.2 is c.requires.call c.requires.key (set_later put.0 renewed)
+    (λ steps grows. (steps + put.0, grows_with put.0 steps (steps + put.0) _ _ _ refl grows)) put.1 in
     record {
       rests = told.0;
       flagged = c.in-Ok.ensures.flagged;
@@ -33,8 +34,7 @@ returns-in-Ok g c =
         steps = put.0;
         published = told.1.0;
         had = told.1.1;
-        gives = given_out g.R.RowRoom.shows _ put.1.slot _ _ put.0 c.in-Ok.given (has_renewed begun.2 is)
-            c.requires.own told.1.2 put.2;
+        gives = given_out g.R.RowRoom.shows _ put.1.slot _ _ put.0 c.in-Ok.given renewed c.requires.own told.1.2 put.2;
       };
     }
 
