@@ -87,8 +87,7 @@ misses_more : (retired : List Retired) (flags : List Bool) (mine : ℕ) → reti
     → total (misses (set flags mine true)) retired ≡ total (misses flags) retired + 1
 misses_more [] flags mine once low unset = absurd (omega arith)
 misses_more (entry ∷ retired) flags mine once low unset =
-    grind
-    (
+    grind (
       arith,
       misses_more retired flags mine,
       misses_same retired flags mine,

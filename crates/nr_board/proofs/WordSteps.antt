@@ -104,12 +104,7 @@ look_up_makes shape id me key near idle sized =
       says = says;
       hole = λ empty. differ (is_filled found) _ full empty;
       named = λ _. advances;
-      marks =
-          marks_are ∙ marked.told.0
-          ∙ ap
-          (λ (l : List Entry). cond {A = Marks} (is_filled found) (looked found)
-          (acted (looked found) (put_number l key)))
-          (sym seen);
+      marks = rw seen (marks_are ∙ marked.told.0);
     }))
     (λ empty.
     let is : step.entries ≡ e ∷ [] = step.told.1 ∙ ap (λ (b : Bool). cond {A = List Entry} b [] (e ∷ [])) empty in
@@ -130,12 +125,7 @@ look_up_makes shape id me key near idle sized =
       says = says;
       hole = λ _. advances;
       named = λ full. differ (is_filled found) _ full empty;
-      marks =
-          marks_are ∙ marked.told.0
-          ∙ ap
-          (λ (l : List Entry). cond {A = Marks} (is_filled found) (looked found)
-          (acted (looked found) (put_number l key)))
-          (sym seen);
+      marks = rw seen (marks_are ∙ marked.told.0);
     })))
 
 pub looks_up_so : (shape : Shape) (slots id : ℕ) (me : Me (Unit {0}) View) (key : ℕ) → key < shape.keys
@@ -187,69 +177,59 @@ module _ (shape : Shape) (id own : ℕ) (view : View) (has : HasWord own view) (
       (other slot : ℕ) (writer : View) → get_elem? state.views other ≡ some writer → is_writer writer.role ≡ 1
       → own < get_or writer.heard slot 0 → lends slot next ≡ 0
 
-  -- what the writer has heard stays so
-  heard_still : (operation : Operation) (tells : Telling) (notes : MarkTelling)
+  module _ (operation : Operation) (tells : Telling) (notes : MarkTelling)
       (step : Stepped shape kept.counted (map role_of state.views) kept.log id view.role operation tells)
       (marked : Remarked role_of marks_of shape kept.counted state.views kept.log id operation view step.after
       step.entries notes)
-      (next : View)
-      → Follows shape id view operation tells notes state kept step marked next → LendsUnheard next
-      → AllHear (set state.views id next)
-  heard_still operation tells notes step marked next follows unheard =
-      let mine_next = ap (is_by (suc own)) follows.role ∙ step.same (suc own) ∙ is_own in
-      hears_after state.views id view next at
-      (λ other slot reader writer _ there writes his low. unheard other slot writer there writes
-      (let same = is_one next.role (suc own) (suc reader) mine_next his in omega arith))
-      (λ writes. absurd (no_reader next.role own writes mine_next)) kept.hears
+      (next : View) (follows : Follows shape id view operation tells notes state kept step marked next)
+      (unheard : LendsUnheard next) where
+    -- what the writer has heard stays so
+    heard_still : AllHear (set state.views id next)
+    heard_still =
+        let mine_next = ap (is_by (suc own)) follows.role ∙ step.same (suc own) ∙ is_own in
+        hears_after state.views id view next at
+        (λ other slot reader writer _ there writes his low. unheard other slot writer there writes
+        (let same = is_one next.role (suc own) (suc reader) mine_next his in omega arith))
+        (λ writes. absurd (no_reader next.role own writes mine_next)) kept.hears
 
-  -- the rule after a step of the core that the reader's view goes along with, where its word then says what the view
-  -- says
-  says_kept : (operation : Operation) (tells : Telling) (notes : MarkTelling)
-      (step : Stepped shape kept.counted (map role_of state.views) kept.log id view.role operation tells)
-      (marked : Remarked role_of marks_of shape kept.counted state.views kept.log id operation view step.after
-      step.entries notes)
-      (next : View)
-      → Follows shape id view operation tells notes state kept step marked next
-      → ((slot : ℕ) → 0 < next.says → 0 < holds slot next.role → next.says ≡ suc slot) → LendsUnheard next
-      → Counted shape (lent (set state.views id next)) state.words (words_after operation kept.counted)
-      → Kept shape
-      (record {
-        words = set state.words (says_at shape own) next.says;
-        homes = state.homes;
-        views = set state.views id next;
-      })
-  says_kept operation tells notes step marked next follows holds_it unheard seen =
-      let place : ℕ = says_at shape own in
-      let within = is_within in
-      let space = kept.announced.space in
-      keeps_core shape id view operation tells notes state kept at step marked next follows
-      (set state.words place next.says)
-      (counted_behind shape (lent (set state.views id next)) state.words (words_after operation kept.counted) place
-      next.says (omega arith) seen)
-      (announces_own shape kept.announcers state.words (set state.words place next.says) state.views id own view next at
-      (ap (is_by (suc own)) follows.role ∙ step.same (suc own) ∙ is_own) within
-      (λ caller. ap (is_by caller) follows.role ∙ step.same caller) alone
-      (get_or-set_same state.words place next.says 0 (omega arith)) (says_apart shape state.words own next.says)
-      holds_it (length-set state.words place next.says) kept.announced)
-      (heard_still operation tells notes step marked next follows unheard)
+    -- the rule after a step of the core that the reader's view goes along with, where its word then says what the view
+    -- says
+    says_kept : ((slot : ℕ) → 0 < next.says → 0 < holds slot next.role → next.says ≡ suc slot)
+        → Counted shape (lent (set state.views id next)) state.words (words_after operation kept.counted)
+        → Kept shape
+        (record {
+          words = set state.words (says_at shape own) next.says;
+          homes = state.homes;
+          views = set state.views id next;
+        })
+    says_kept holds_it seen =
+        let place : ℕ = says_at shape own in
+        let within = is_within in
+        let space = kept.announced.space in
+        keeps_core shape id view operation tells notes state kept at step marked next follows
+        (set state.words place next.says)
+        (counted_behind shape (lent (set state.views id next)) state.words (words_after operation kept.counted) place
+        next.says (omega arith) seen)
+        (announces_own shape kept.announcers state.words (set state.words place next.says) state.views id own view next
+        at
+        (ap (is_by (suc own)) follows.role ∙ step.same (suc own) ∙ is_own) within
+        (λ caller. ap (is_by caller) follows.role ∙ step.same caller) alone
+        (get_or-set_same state.words place next.says 0 (omega arith)) (says_apart shape state.words own next.says)
+        holds_it (length-set state.words place next.says) kept.announced)
+        heard_still
 
-  -- and where its word says what it said
-  says_still : (operation : Operation) (tells : Telling) (notes : MarkTelling)
-      (step : Stepped shape kept.counted (map role_of state.views) kept.log id view.role operation tells)
-      (marked : Remarked role_of marks_of shape kept.counted state.views kept.log id operation view step.after
-      step.entries notes)
-      (next : View)
-      → Follows shape id view operation tells notes state kept step marked next → next.says ≡ view.says
-      → ((slot : ℕ) → 0 < next.says → 0 < holds slot next.role → next.says ≡ suc slot) → LendsUnheard next
-      → Counted shape (lent (set state.views id next)) state.words (words_after operation kept.counted)
-      → Kept shape (record { words = state.words; homes = state.homes; views = set state.views id next })
-  says_still operation tells notes step marked next follows same holds_it unheard seen =
-      keeps_core shape id view operation tells notes state kept at step marked next follows state.words seen
-      (announces_own shape kept.announcers state.words state.words state.views id own view next at
-      (ap (is_by (suc own)) follows.role ∙ step.same (suc own) ∙ is_own) is_within
-      (λ caller. ap (is_by caller) follows.role ∙ step.same caller) alone
-      (kept.announced.says id own view at is_own is_within ∙ sym same) (λ _ _. refl) holds_it refl kept.announced)
-      (heard_still operation tells notes step marked next follows unheard)
+    -- and where its word says what it said
+    says_still : next.says ≡ view.says
+        → ((slot : ℕ) → 0 < next.says → 0 < holds slot next.role → next.says ≡ suc slot)
+        → Counted shape (lent (set state.views id next)) state.words (words_after operation kept.counted)
+        → Kept shape (record { words = state.words; homes = state.homes; views = set state.views id next })
+    says_still same holds_it seen =
+        keeps_core shape id view operation tells notes state kept at step marked next follows state.words seen
+        (announces_own shape kept.announcers state.words state.words state.views id own view next at
+        (ap (is_by (suc own)) follows.role ∙ step.same (suc own) ∙ is_own) is_within
+        (λ caller. ap (is_by caller) follows.role ∙ step.same caller) alone
+        (kept.announced.says id own view at is_own is_within ∙ sym same) (λ _ _. refl) holds_it refl kept.announced)
+        heard_still
 
 -- a view that says something else goes along with the step too
 saying_follows : (shape : Shape) (id : ℕ) (view : View) (operation : Operation) (tells : Telling) (notes : MarkTelling)
@@ -306,6 +286,18 @@ module _ (shape : Shape) (slots id own says : ℕ) (me : Me (Unit {0}) View) (ha
   abbrev reader : ℕ
   reader = caller_number view.role
 
+  -- the rule holds where the reader's word says that, and its token is told so
+  abbrev SaysNext : Type 0
+  SaysNext =
+      (next : View)
+      × Kept shape
+      (record {
+        words = set state.words (says_at shape own) says;
+        homes = state.homes;
+        views = set state.views id next;
+      })
+      × Said says view next
+
   -- a step of the core after which the reader holds nothing
   says_after : is_by reader view.role ≡ true
       → (operation : Operation) (tells : Telling) (notes : MarkTelling)
@@ -316,14 +308,7 @@ module _ (shape : Shape) (slots id own says : ℕ) (me : Me (Unit {0}) View) (ha
       → marked.now ≡ let_go (grip_of view.role) view.marks → ActsGo view step.after step.entries marked.now
       → ((next : View) → ((slot : ℕ) → lends slot next ≡ 0)
       → Counted shape (lent (set state.views id next)) state.words (words_after operation kept.counted))
-      → (next : View)
-      × Kept shape
-      (record {
-        words = set state.words (says_at shape own) says;
-        homes = state.homes;
-        views = set state.views id next;
-      })
-      × Said says view next
+      → SaysNext
   says_after mine operation tells notes step marked after no_entries no_news lets_go acts seen =
       let same : caller_number step.after ≡ reader = ap caller_number after in
       let callers : AreCallers shape step.entries = subst (AreCallers shape) (sym no_entries) tt in
@@ -334,8 +319,8 @@ module _ (shape : Shape) (slots id own says : ℕ) (me : Me (Unit {0}) View) (ha
         says_kept shape id own view has state kept at mine operation tells notes step marked next
             (saying_follows shape id view operation tells notes state kept step marked quiet says
             (waited_follows kept at step marked same sized callers acts no_entries))
-            (λ slot _ grips. absurd (omega (arith, holds_none slot)))
-            (λ _ slot _ _ _ _. idle_lends next holds_none slot) (seen next (idle_lends next holds_none)),
+            (λ _ slot _ _ _ _. idle_lends next holds_none slot)
+            (λ slot _ grips. absurd (omega (arith, holds_none slot))) (seen next (idle_lends next holds_none)),
         record {
           role = after;
           says_it = refl;
@@ -346,15 +331,7 @@ module _ (shape : Shape) (slots id own says : ℕ) (me : Me (Unit {0}) View) (ha
       )
 
   -- the core sees nothing of it where the reader held nothing
-  says_idle : IsIdle view.role
-      → (next : View)
-      × Kept shape
-      (record {
-        words = set state.words (says_at shape own) says;
-        homes = state.homes;
-        views = set state.views id next;
-      })
-      × Said says view next
+  says_idle : IsIdle view.role → SaysNext
   says_idle idle = let notes = ReaderLearns reader Nothing view.marks [] in
       let step
       = learns shape id view.role 0 kept.counted (map role_of state.views) kept.log kept.core
@@ -377,15 +354,7 @@ module _ (shape : Shape) (slots id own says : ℕ) (me : Me (Unit {0}) View) (ha
       kept.counts_words))
 
   -- and sees a departure where it held a slot by its word
-  says_held : HoldsByWord shape view
-      → (next : View)
-      × Kept shape
-      (record {
-        words = set state.words (says_at shape own) says;
-        homes = state.homes;
-        views = set state.views id next;
-      })
-      × Said says view next
+  says_held : HoldsByWord shape view → SaysNext
   says_held held =
       let slot : ℕ = slot_held view.role in
       let rows = rows_held view.role in
@@ -497,10 +466,7 @@ confirms_named shape slots id own me key near has sized idle loud state kept at 
     let few = lent_small shape state kept slot in (
       next,
       says_still shape id own view has state kept at mine operation tells notes step marked next
-          (learned_follows kept at step marked same sized callers acts) refl (λ s _ grip.
-          let held : 0 < only s slot = subst (λ (n : ℕ). 0 < n) (ap (holds s) after) grip in
-          let found = only-is s slot held in
-          omega arith)
+          (learned_follows kept at step marked same sized callers acts)
           (λ other s writer there writes low. grips s
           ∙ only-other s slot
           (λ e.
@@ -508,6 +474,10 @@ confirms_named shape slots id own me key near has sized idle loud state kept at 
           = named_unheard shape state kept other writer there writes key s near
           (names_seen ∙ ap suc e) in
           absurd (omega arith)))
+          refl (λ s _ grip.
+          let held : 0 < only s slot = subst (λ (n : ℕ). 0 < n) (ap (holds s) after) grip in
+          let found = only-is s slot held in
+          omega arith)
           (counted_lent shape (lent state.views) (lent (set state.views id next)) state.words kept.counted slot
           ((get_or kept.counted place 0 + (2 ^ 64 - 1)) % 2 ^ 64) inside (omega arith)
           (λ s ne. omega (arith, change s, only-other s slot (λ e. ne (sym e))))

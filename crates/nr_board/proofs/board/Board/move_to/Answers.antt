@@ -1,4 +1,3 @@
-use Rattle.std.proofs.Common.{false, true}
 use Rattle.nr_board.proofs.Holding.{moves_anew, moves_on}
 use Rattle.nr_board.proofs.Looks.{filled_so}
 use Rattle.nr_board.proofs.board.Board.move_to.Goals as goal
