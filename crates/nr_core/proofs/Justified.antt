@@ -12,7 +12,7 @@ use Rattle.nr_core.proofs.Guards.{is_idle, at_key}
 use Rattle.nr_core.proofs.Histories.{replies_so}
 use Rattle.nr_core.proofs.Settle.{key_same}
 use Rattle.nr_core.proofs.StateRoles.{IsCoreState}
-use Rattle.nr_core.proofs.Sweeps.{AtSweep, Notes, Swept, polled_slots}
+use Rattle.nr_core.proofs.Sweeps.{AtSweep, Sweep, Swept, polled_slots}
 use Rattle.nr_core.proofs.Without.{IsWithout, NoneLeft, look_none, not_going, not_reply, polled_none, read_none}
 use Rattle.nr_core.specs.Laws.{EndsWithout, IsJustified, call_of_event, call_in}
 use Rattle.nr_core.specs.Machine.{or_refusal, found_by, moved, unless}
@@ -143,7 +143,7 @@ go_ending state log polls is_core swept (Putting call rows slot departed index) 
     on_test (λ (o : Desk × Step). IsWithout counts o → Goal) (nat_le index (2 * length rows))
     (λ _ e'. absurd (not_going counts e')) (λ _ e'. absurd (not_reply counts reply.Done e')) e
 go_ending state log polls is_core swept (Reading call s got) is counts e =
-    let none_polled : polls ≡ [] = subst (AtSweep state polls) is swept.sweep in
+    let none_polled : polls ≡ [] = subst (AtSweep state.desk.retired state.holds polls) is swept.sweep in
     let n = read_none is_core.core state.desk counts call s got (stands_at is_core.core 0 is_core.fit.writer is) e in (
       call,
       refl,
@@ -158,7 +158,8 @@ go_ending state log polls is_core swept (Reading call s got) is counts e =
 go_ending state log polls is_core swept (Searching call rows q) is counts e =
     let shape = state.shape in let words = state.words in let desk = state.desk in let map_now = map_after shape log in
     let at_p = stands_at is_core.core 0 is_core.fit.writer is in
-    let notes : Notes state polls q = subst (AtSweep state polls) is swept.sweep in
+    let sweep : Sweep desk.retired state.holds polls q
+    = subst (AtSweep desk.retired state.holds polls) is swept.sweep in
     let found = get_or words (departures shape (retired_at desk q).slot) 0 in let within = at_p.1 in
     let n = polled_none shape desk counts call rows q found e in
     let found_is : found_by state Go ≡ found = ap (λ (p : Place). get_or words (target_of (going shape desk p)) 0) is in
@@ -173,7 +174,7 @@ go_ending state log polls is_core swept (Searching call rows q) is counts e =
         done = at_p.0.done;
         polled =
             ap (λ b. map (λ (poll : Poll). poll.slot) (cond b polls (polls ++ poll_at state q ∷ []))) miss
-            ∙ polled_slots state polls q within notes.slots
+            ∙ polled_slots state polls q within sweep.slots
             ∙ ap (map (λ (entry : Retired). entry.slot)) (take_all (q + 1) desk.retired (omega (arith, n.1)));
       },
     )

@@ -65,7 +65,6 @@ mod StateRoles
 mod ReaderEvents
 mod WriterEvents
 mod Events
-mod Bound
 mod Sweeps
 mod Stands
 mod Follows

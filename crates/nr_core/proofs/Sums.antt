@@ -109,6 +109,11 @@ module _ {A : Type 0} where
   total-remove g (x ∷ xs) zero a e = omega (arith, ap g (some-injective x a e))
   total-remove g (x ∷ xs) (suc p) a e = omega (arith, total-remove g xs p a e)
 
+  pub total-drop : (g : A → ℕ) (l : List A) (p : ℕ) → total g (drop p l) ≤ total g l
+  total-drop g l zero = omega arith
+  total-drop g [] (suc p) = omega arith
+  total-drop g (x ∷ xs) (suc p) = omega (arith, total-drop g xs p)
+
   pub at_remove : (l : List A) (p i : ℕ) (a : A) → get_elem? (take p l ++ drop (suc p) l) i ≡ some a
       → (j : ℕ) × (get_elem? l j ≡ some a)
   at_remove [] zero i a e = absurd (some-ne-none a (sym e))
