@@ -53,7 +53,6 @@ module _ (shape : Shape) (words : List ℕ) (roles : List Role) (log : List Entr
   -- the slots that are kept are the writer's
   pub kept_slots : (s : ℕ) → total (keeps s) roles ≡ keeps s (Writer desk)
   kept_slots s =
-      let one = core.one in
       let fewer = total-set is_writer roles id (Writer desk) Note there in
       omega
       (arith, total-set (keeps s) roles id (Writer desk) Note there, no_writers s (set roles id Note) (omega arith))

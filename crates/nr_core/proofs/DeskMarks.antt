@@ -70,8 +70,7 @@ no_room_left {shape = shape} {words = words} {roles = roles} {log = log} id {des
       apart = λ slot. dite (dec_le (retirements slot desk.retired) 1) (λ l. l)
           (λ l.
           let near = retired_inside slot (omega arith) in
-          let o = retired_once shape words roles log core id desk there slot near in
-          absurd (omega arith));
+          absurd (omega (arith, retired_once shape words roles log core id desk there slot near)));
       held = held;
       few = few;
     }
@@ -169,8 +168,7 @@ module _ {A : Type 0} {role : A → Role} {marks : A → Marks} where
       = below-same (λ j. only (suc s) (name_number (get_or words' j 0)))
       (λ j. only (suc s) (name_number (get_or words j 0)))
       shape.keys (λ j near. ap (λ (y : ℕ). only (suc s) (name_number y)) (same j near)) in
-      let f = fewer s in
-      omega arith)
+      omega (arith, fewer s))
       noted sweep leaves
 
   -- a load by the writer leaves the lists of its desk, whatever it notes and logs

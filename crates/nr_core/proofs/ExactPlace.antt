@@ -46,9 +46,8 @@ no_slot_by_marks_lem shape desk marks log known readers all before noted held li
     let c = all poll.reader range.0 range.1 in
     let b = before c.0 c.1 c.2 in
     (c.0, c.1, c.2, c.3, noted.newer i b.0 poll c.1 e b.1 c.3) in
-    let a = all_strays desk.retired marks (put_count log) readers lists.tidy current held still in
     let h = strays_by_history desk marks shape log (pins readers) lists in
-    omega arith
+    omega (arith, all_strays desk.retired marks (put_count log) readers lists.tidy current held still)
 
 -- A fill or an update that is done comes only where they are fewer.
 pub done_by_marks_lem : DoneByMarks

@@ -81,10 +81,9 @@ named_state {shape = shape} {words = words} {roles = roles} {log = log} core k n
     let Goal : KeyState → Type 0 = λ state. ShowsState shape words w state → Result state in
     let go : (state : KeyState) → Goal state = λ state. elim state as Goal [
       | key.Hole number ↦ λ shown. let none = shown.0 in absurd (omega arith)
-      | key.Asked number ↦ λ shown. let none = shown.0 in absurd (omega arith)
+      | key.Asked number ↦ λ shown. absurd (omega arith)
       | key.Rows number
           found ↦ λ shown.
-          let named = shown.1 in
           let same : shown.0 ≡ slot = omega arith in
           let near_slot : slot < shape.slots = subst (λ (s : ℕ). s < shape.slots) same shown.2 in (
             near_slot,

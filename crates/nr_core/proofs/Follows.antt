@@ -78,9 +78,7 @@ readable_room shape index (hold.On slot None) ok room =
     (room, omega arith)
 readable_room shape index (hold.On slot (Some size)) ok room =
     let g = guard (nat_le index (2 * size)) None refuse.OutOfRange ok in
-    let low : index ≤ 2 * size = leb-true index (2 * size) g.0 in
-    let short = room.1 in
-    (room.0, omega arith)
+    (room.0, omega (arith, leb-true index (2 * size) g.0))
 
 departs_room : (shape : Shape) (held : Hold) → if_not_holding held ≡ None → RoomOf shape held
     → slot_in held < shape.slots
@@ -98,8 +96,7 @@ held_untouched state log (Arrive r k) is_core ok s i held_so low here =
     let near = (at_reader_key state.shape r k _ ok).2 in
     absurd (omega arith)
 held_untouched state log (Ask r k) is_core ok s i held_so low here =
-    let near = (at_reader_key state.shape r k _ ok).2 in
-    absurd (omega arith)
+    absurd (omega (arith, (at_reader_key state.shape r k _ ok).2))
 held_untouched state log (Read r p) is_core ok s i held_so low here = ap Load here
 held_untouched state log (FindAgain r k) is_core ok s i held_so low here = ap Load here
 held_untouched state log (Start call) is_core ok s i held_so low here = ap Load here
@@ -128,11 +125,7 @@ held_untouched state log Go is_core ok s i held_so low here = go state.desk.plac
     go (Searching call rows p) is e = ap Load e
     go (Putting call rows t departed j) is e =
         let p = at_place (Putting call rows t departed j) is in
-        let near = p.wants.near in
-        let short = p.wants.row_set.1 in
-        let fits = is_core.core.fits.bound in
         let free = p.nobody in
-        let some_there = held_so.0 in
         on_test (λ (o : Operation). target_of o ≡ content state.shape s i → o ≡ Load (content state.shape s i))
         (nat_le j (2 * length rows))
         (λ yes e. let l : j ≤ 2 * length rows = leb-true j (2 * length rows) yes in
@@ -175,11 +168,10 @@ inside_words state log Go is_core ok = go state.desk.place refl (place_room stat
     go (Searching call rows poll) is room =
         let wide = is_core.core.wide in
         omega (arith, departures_inside state.shape (retired_at state.desk poll).slot room.1)
-    go (Putting call rows slot departed index) is room = let wide = is_core.core.wide in let near = room.0 in
+    go (Putting call rows slot departed index) is room =
         on_test (λ (o : Operation). target_of o < length state.words) (nat_le index (2 * length rows))
         (λ yes.
         let l : index ≤ 2 * length rows = leb-true index (2 * length rows) yes in
-        let few = room.3 in
         omega (arith, content_inside state.shape slot index room.2 (omega arith)))
         (λ _. omega arith)
 

@@ -53,9 +53,7 @@ module _ (shape : Shape) where
       → ((i : ℕ) → i ≤ 2 * (bound_of shape) → get_or words' (content shape s i) 0 ≡ get_or words (content shape s i) 0)
       → SlotSpells shape words s m → SlotSpells shape words' s m
   spells_more words words' s m f t =
-      let short = t.0.1 in
-      let n = length-row_words m in
-      (t.0, λ i l. f i (omega arith) ∙ t.1 i l)
+      (t.0, λ i l. f i (omega (arith, length-row_words m)) ∙ t.1 i l)
 
   pub shows_more : (words words' : List ℕ) (w : ℕ) (state : KeyState)
       → ((s i : ℕ) → name_number w ≡ suc s → s < shape.slots → i ≤ 2 * (bound_of shape)
@@ -73,8 +71,7 @@ module _ (shape : Shape) where
     holding_more Nothing f t = tt
     holding_more (On s set b) f t =
         let in_range = t.0 in
-        let one = only-same s in
-        (in_range, spells_more words words' s set (λ i l. f s i (omega arith) in_range l) t.1)
+        (in_range, spells_more words words' s set (λ i l. f s i (omega (arith, only-same s)) in_range l) t.1)
 
     -- what a step leaves of a slot
     pub record Left (s : ℕ) : Type 0 where
@@ -95,9 +92,8 @@ module _ (shape : Shape) where
         × (x.arrivals % 2 ^ 40 ≡ (get_or words' (departures shape x.slot) 0 + hold' x.slot) % 2 ^ 40)
     retired_more l left t i x at =
         let r = t i x at in
-        let part = term_le (λ (y : Retired). only x.slot y.slot) l i x at in
         let one = only-same x.slot in
-        (r.0, r.1 ∙ sym (left x.slot r.0 (omega arith)).sum)
+        (r.0, r.1 ∙ sym (left x.slot r.0 (omega (arith, term_le (λ (y : Retired). only x.slot y.slot) l i x at))).sum)
 
     pub free_more : (fresh : ℕ) → ((s : ℕ) → s < shape.slots → fresh ≤ s → Left s)
         → ((s : ℕ) → fresh ≤ s → s < shape.slots
@@ -151,8 +147,6 @@ module _ (shape : Shape) where
       place_more fresh l (Putting call rows s departed i) left t =
           let one = only-same s in
           let le = left s t.inside (omega arith) in
-          let n = length-row_words rows in
-          let short = t.wants.row_set.1 in
           let within = t.within in
           record {
             wants = wants_more call rows t.wants;
@@ -160,7 +154,7 @@ module _ (shape : Shape) where
             nobody = le.nobody t.nobody;
             counted = le.deps t.nobody ∙ t.counted;
             within = t.within;
-            put = λ j low. le.contents j (omega arith) ∙ t.put j low;
+            put = λ j low. le.contents j (omega (arith, length-row_words rows)) ∙ t.put j low;
           }
 
       pub desk_more : (desk : Desk) → ((k : ℕ) → number_of (state_of m' k) ≡ number_of (state_of m k))

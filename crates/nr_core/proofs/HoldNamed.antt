@@ -69,10 +69,9 @@ looks_up shape id reader k near words roles log core there =
 named_set : (shape : Shape) (words : List ℕ) (w : ℕ) (state : KeyState) (slot : ℕ) → name_number w ≡ suc slot
     → ShowsState shape words w state
     → (rows : List Row) × (slot < shape.slots) × SlotSpells shape words slot rows × (find_reply state ≡ reply.Rows rows)
-named_set shape words w (key.Hole number) slot names shown = absurd (let none = shown.0 in omega arith)
+named_set shape words w (key.Hole number) slot names shown = absurd (omega arith)
 named_set shape words w (key.Asked number) slot names shown = absurd (let none = shown.0 in omega arith)
 named_set shape words w (key.Rows number rows) slot names shown =
-    let named = shown.1 in
     let same : shown.0 ≡ slot = omega arith in (
       rows,
       subst (λ (s : ℕ). s < shape.slots) same shown.2,

@@ -10,9 +10,7 @@ how_often number numbers = total (only number) numbers
 pub count_is : (numbers : List ℕ) (number : ℕ) → count_of_put numbers number ≡ how_often number numbers
 count_is [] number = refl
 count_is (x ∷ xs) number =
-    let t = count_is xs number in
-    let c = count_by-cons (λ other. nat_eq other number) x xs in
-    omega arith
+    omega (arith, count_is xs number, count_by-cons (λ other. nat_eq other number) x xs)
 
 -- the strays, counted so
 abbrev pub stray_count : List ℕ → List ℕ → ℕ
@@ -26,7 +24,4 @@ strays_count keys (q ∷ qs) =
     let a = count_is qs q in
     let b = count_is keys q in
     let sum : count_of_put qs q + count_of_put keys q ≡ how_often q qs + how_often q keys = omega arith in
-    let c : cond {A = ℕ} (nat_eq (count_of_put qs q + count_of_put keys q) 0) 1 0
-    ≡ cond (nat_eq (how_often q qs + how_often q keys) 0) 1 0
-    = ap (λ (n : ℕ). cond {A = ℕ} (nat_eq n 0) 1 0) sum in
-    omega arith
+    omega (arith, ap (λ (n : ℕ). cond {A = ℕ} (nat_eq n 0) 1 0) sum)

@@ -202,8 +202,7 @@ abbrev Began : Shape → List Event → Type 0
 Began shape events = (call : WriterCall) → under_way (story_of shape events) ≡ call ∷ [] → BeganAmong shape events call
 
 not_both : {A : Type 0} (x : A) (list : List A) → list ≡ [] → list ≡ x ∷ [] → ⊥
-not_both x list none one = let n : length list ≡ 0 = ap length none in let m : length list ≡ 1 = ap length one in
-    omega arith
+not_both x list none one = let n : length list ≡ 0 = ap length none in omega (arith, ap length one)
 
 began_more : (shape : Shape) (events : List Event) (event : Event) → Began shape events
     → Began shape (events ++ event ∷ [])

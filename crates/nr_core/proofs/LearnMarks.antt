@@ -61,8 +61,7 @@ not_taken shape words at holders fresh retired slot (Putting a b mine c d) l t =
     dite (ℕ_discrete (only slot mine) 0) (λ z. z)
     (λ nz. absurd
     (let same = only-is slot mine (omega arith) in
-    let z : holders slot ≡ 0 = ap holders (sym same) ∙ t.nobody in
-    omega arith))
+    omega (arith, ap holders (sym same) ∙ t.nobody)))
 
 grip_near : (shape : Shape) (words : List ℕ) (at : PartialMap) (holders : ℕ → ℕ) (x : Grip) (slot : ℕ)
     → Grips shape words at holders x → gripped x ≡ Some slot → slot < shape.slots
@@ -95,8 +94,7 @@ module _ {A : Type 0} (role : A → Role) (marks : A → Marks) where
       let used : unused slot desk.fresh ≡ 0
       = dite (dec_le desk.fresh slot) (λ l. absurd (let z = (mine.free slot l near).0 in omega arith))
       (λ l. ap (λ b. cond {A = ℕ} b 1 0) (lt-leb desk.fresh slot (omega arith))) in
-      let once = retired_once shape words roles log core id desk at' slot near in
-      (near, omega arith)
+      (near, omega (arith, retired_once shape words roles log core id desk at' slot near))
 
   module _ (shape : Shape) (words : List ℕ) (callers : List A) (log : List Entry)
       (core : Core shape words (map role callers) log)
@@ -114,8 +112,7 @@ module _ {A : Type 0} (role : A → Role) (marks : A → Marks) where
           let z : w.who ≡ who
           = same_caller role marks callers once w.place place reader w.who who w.grip grip w.there there
           (w.is ∙ ap (λ (b : ℕ). Reader b w.grip) same) is in
-          let a : (marks w.who).acts ≡ (marks who).acts = ap (λ (b : A). (marks b).acts) z in
-          let l = w.least in (
+          let a : (marks w.who).acts ≡ (marks who).acts = ap (λ (b : A). (marks b).acts) z in (
             omega arith,
             λ e'. ap (λ (r : Role). gripped (grip_in r)) (sym is ∙ ap role (sym z) ∙ w.is) ∙ (w.same (a ∙ e')).0,
           );
@@ -124,7 +121,6 @@ module _ {A : Type 0} (role : A → Role) (marks : A → Marks) where
         living : (slot : ℕ) → gripped grip ≡ Some slot → Living desk.retired (marks me) slot
         living slot on =
             let lives_so = (held_lives callers core id at was place there is slot on).1 in
-            let wide = own.wide.0 in
             dite (ℕ_discrete (retirements slot desk.retired) 0)
             (λ z.
             let b = below_some (λ k. only (suc slot) (name_number (get_or words k 0))) shape.keys (omega arith) in

@@ -155,8 +155,7 @@ module _ (shape : Shape) (words : List ℕ) (roles : List Role) (log : List Entr
       rw (names_one (get_or words k 0) t.0 t.1).0
       (stops (Fill k number rows) reply.Already (key.Rows n old) near is refl refl)
   look_all (Cancel k) given near (key.Hole n) is t =
-      let w = get_or words k 0 in let even = t.1 in
-      rw (names_none w t.0, ne_eqb (w % 2) 1 (λ z. omega arith))
+      let w = get_or words k 0 in rw (names_none w t.0, ne_eqb (w % 2) 1 (λ z. omega arith))
       (stops (Cancel k) reply.Nothing (key.Hole n) near is refl refl)
   look_all (Cancel k) given near (key.Asked n) is t =
       let w = get_or words k 0 in

@@ -119,7 +119,6 @@ core_opens shape fits n few =
     let roles = Writer (opening_desk shape) ∷ readers_from 0 n in
     let all = all_readers n 0 in
     let hole : ℕ = hole_word shape.first_number false in
-    let few_numbers = fits.number in
     let is_hole = hole_is shape.first_number (omega arith) in
     let key_hole : (k : ℕ) → k < shape.keys → get_or words k 0 ≡ hole
     = front shape.keys hole (repeated shape.slots slot) in

@@ -82,9 +82,7 @@ module _ (shape : Shape) (desk : Desk) (P : WriterCall → Desk × Step → Type
     fills : (k number : ℕ) (rows : List Row) → is_filled word ≡ false → has_ask word ≡ true
         → nat_eq (slot_of word) number ≡ true → WouldBeDone shape (Fill k number rows) (ShownBy shape word)
     fills k number rows empty asked own (key.Hole n) shows =
-        let odd : word % 2 ≡ 1 = eqb-true (word % 2) 1 asked in
-        let even = shows.1.1 in
-        absurd (omega arith)
+        absurd (omega (arith, eqb-true (word % 2) 1 asked))
     fills k number rows empty asked own (key.Asked n) shows =
         ap (λ v. cond {A = Reply} v reply.Done reply.Stale)
         (ap (λ (m : ℕ). nat_eq m number) (sym shows.1.2) ∙ own)

@@ -50,10 +50,7 @@ module _ (slots : ℕ) (retired after : List Retired) (old new : List ℕ) (slot
     same ∙ known.0,
     λ other inside few.
         let told = more other (omega (arith, known.0)) few in
-        let before = known.1 other inside told.0 in
-        let least = told.1 in
-        let added = adds other in
-        omega arith,
+        omega (arith, known.1 other inside told.0, adds other),
   )
 
   pub counts_fewer : Fewer slot old new
@@ -63,10 +60,7 @@ module _ (slots : ℕ) (retired after : List Retired) (old new : List ℕ) (slot
     same ∙ known.0,
     λ other inside few.
         let told = fewer other (omega (arith, known.0)) few in
-        let before = known.1 other inside told.0 in
-        let most = told.1 in
-        let taken = takes other in
-        omega arith,
+        omega (arith, known.1 other inside told.0, takes other),
   )
 
 pub retired_last : (retired : List Retired) (entry : Retired) (other : ℕ)
@@ -126,9 +120,8 @@ module _ (count : ℕ) (retired : List Retired) (reaped : List Bool) (known : Ar
     λ place first.
         let here = (get_or retired place no_retired).slot in
         get_or-set_other reaped slot here false false (λ same.
-        let there = retired_there retired place (omega (arith, known.0)) in
         let moved = ap (λ it. retirements it retired) same in
-        absurd (omega arith))
+        absurd (omega (arith, retired_there retired place (omega (arith, known.0)))))
         ∙ known.1 place first,
   )
 
@@ -156,8 +149,7 @@ pub counts_put : (slots : ℕ) (retired after : List Retired) (old new : List �
     → More entry.slot old new → CountsRetirements slots after new
 counts_put slots retired after old new entry put same known more =
     counts_more slots retired after old new entry.slot same known more
-    (λ other. let last = retired_last retired entry other in
-    let moved = ap (retirements other) put in omega arith)
+    (λ other. let moved = ap (retirements other) put in omega (arith, retired_last retired entry other))
 
 -- the first was taken
 pub counts_popped : (slots : ℕ) (retired after : List Retired) (old new : List ℕ) (entry : Retired)
@@ -181,5 +173,4 @@ reaped_noted count slots retired reaped counts known counted slot inside wide tr
     reaped_too count retired reaped known slot wide
 reaped_noted count slots retired reaped counts known counted slot inside wide false none =
     let zero = none refl in
-    let most = counted.1 slot inside (omega arith) in
-    reaped_others count retired reaped known slot (omega arith)
+    reaped_others count retired reaped known slot (omega (arith, counted.1 slot inside (omega arith)))

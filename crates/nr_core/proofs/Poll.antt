@@ -45,11 +45,8 @@ pub nobody_holds : {shape : Shape} {words : List ℕ} {roles : List Role} {log :
     → Core shape words roles log → (slot found arrivals : ℕ)
     → arrivals % 2 ^ 40 ≡ (found + held roles slot) % 2 ^ 40 → same_count found arrivals ≡ true → held roles slot ≡ 0
 nobody_holds {roles = roles} core slot found arrivals count agrees =
-    let few = core.few in
-    let fits = core.fits.readers in
-    let at_most = total-le (holds slot) is_reader (holds-le slot) roles in
     let hit : found % 2 ^ 40 ≡ arrivals % 2 ^ 40 = eqb-true (found % 2 ^ 40) (arrivals % 2 ^ 40) agrees in
-    omega arith
+    omega (arith, total-le (holds slot) is_reader (holds-le slot) roles)
 
 -- where its departures are its arrivals nobody holds a retired slot, and the search may take it
 takes : {shape : Shape} {words : List ℕ} {roles : List Role} {log : List Entry} (core : Core shape words roles log)
@@ -72,9 +69,7 @@ takes {shape = shape} {words = words} {roles = roles} {log = log} core id {desk 
     let here : get_elem? desk.retired poll ≡ some z = got_at desk.retired poll no_retired low in
     let counted = known.retired poll z here in
     goes_on core id there place (taking_retired desk call rows poll found) (λ u.
-    let gone = total-remove (λ (y : Retired). only u y.slot) desk.retired poll z here in
-    let k = ap (taken u) is_at in
-    omega arith)
+    omega (arith, total-remove (λ (y : Retired). only u y.slot) desk.retired poll z here, ap (taken u) is_at))
     (record {
       place =
           record {

@@ -61,7 +61,6 @@ module _ {A : Type 0} (role : A → Role) (marks : A → Marks) where
         let listed = term_le (λ (y : Retired). only slot y.slot) desk.retired poll entry here in
         let one = only-same slot in
         let alone = rests role marks shape words callers log id me desk slot core at was (omega arith) in
-        let alone2 = alone.2 in
         record {
           many = let l = length-append polls (note ∷ []) in omega arith;
           slots = λ i e o g h.
@@ -150,8 +149,7 @@ module _ {A : Type 0} (role : A → Role) (marks : A → Marks) where
           note = noted who;
           more = refl;
           holds = found.1;
-          newer = λ n e there' same_reader. let w = sinces n e there' in let l = w.least in
-              let z
+          newer = λ n e there' same_reader. let w = sinces n e there' in let z
               = same_caller role marks callers once w.place who.place who.reader w.who who.who w.grip who.grip w.there
               who.there (w.is ∙ ap (λ (b : ℕ). Reader b w.grip) same_reader) who.is in
               let acts : (marks w.who).acts ≡ (marks who.who).acts = ap (λ (b : A). (marks b).acts) z in omega arith;
@@ -167,13 +165,11 @@ module _ {A : Type 0} (role : A → Role) (marks : A → Marks) where
             refl,
             missed,
             λ last.
-                let low = p.1 in
                 subst (NoRoom shape call desk.retired polls) (sym (ap (λ l. log ++ l) none ∙ append-nil log))
                 (no_room_left id core there (λ s. ap (taken s) is_at) p.2 wants.done polls (record {
                   many = omega arith;
                   slots = λ n e there'.
-                      let in_list = inside desk.retired n e there' in
-                      let q = before polls n (omega arith) in
+                      let q = before polls n (omega (arith, inside desk.retired n e there')) in
                       (q.0, q.1, sweep.slots n e q.0 (ap (λ l. get_elem? l n) same ∙ there') q.1);
                   different = sweep.different;
                 }) few),

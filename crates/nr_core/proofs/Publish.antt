@@ -41,7 +41,6 @@ publishes {shape = shape} {words = words} {log = log} core id {desk = desk} ther
     let map = map_after shape log in
     let putting = stands_at core id there is_at in
     let wants = putting.wants in
-    let fits = core.fits.slots in
     let inside = putting.inside in let n = naming_is slot departed (omega arith) in
     let flat-size = length-row_words rows in
     swap_step core id there (key_of call) (naming slot departed) (call_of call) reply.Done

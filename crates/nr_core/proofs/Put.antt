@@ -40,9 +40,6 @@ puts {shape = shape} {words = words} {roles = roles} {log = log} core id {desk =
     let mine = core.knows id (Writer desk) there in
     let putting = stands_at core id there is_at in
     let near : slot < shape.slots = putting.inside in let nobody_there : held roles slot ≡ 0 = putting.nobody in
-    let short = putting.wants.row_set.1 in
-    let wide = core.wide in
-    let fits = core.fits.bound in
     let flat-size = length-row_words rows in
     let more : index < length (encode rows) = omega arith in
     let w : ℕ = content shape slot index in

@@ -35,9 +35,7 @@ quiet_number log e key z =
 
 pub quiet_count : (log : List Entry) (e : Entry) → is_done e.reply ≡ false → put_count (log ++ e ∷ []) ≡ put_count log
 quiet_count log e z =
-    let t = count_more log e in
-    let none : puts_set e ≡ 0 = ap (λ b. cond {A = ℕ} b 1 0) z in
-    omega arith
+    omega (arith, count_more log e, ap (λ b. cond {A = ℕ} b 1 0) z)
 
 pub nil_number : (log : List Entry) (key : ℕ) → put_number (log ++ []) key ≡ put_number log key
 nil_number log key = ap (λ l. put_number l key) (append-nil log)

@@ -96,7 +96,6 @@ none_beyond (x ∷ l) (suc i) out = none_beyond l i (omega arith)
 pub hold_room : (state : State) (log : List Entry) → IsCoreState state log → (reader : ℕ) → 0 < reader
     → RoomOf state.shape (hold_of state reader)
 hold_room state log is_core reader low =
-    let size = is_core.fit.size in
     let i : ℕ = reader - 1 in
     dite (dec_le state.shape.readers i)
     (λ out. subst (RoomOf state.shape) (sym (none_beyond state.holds i (omega arith))) tt)
@@ -131,17 +130,15 @@ place_room state log is_core place is =
         → RoomForStep state p
     go Idle e t = tt
     go (Reading call slot got) e t =
-        let more = t.more in
         let shown : ShowsState state.shape state.words (get_or state.words (key_of call) 0)
         (key.Rows t.number t.rows) = subst (ShowsState state.shape state.words (get_or state.words (key_of call) 0))
         t.full
         (is_core.core.shows (key_of call) t.near) in
-        let short = shown.3.0.1 in (inside (key_of call) slot t.near t.names, omega arith)
+        (inside (key_of call) slot t.near t.names, omega arith)
     go (Leaving k) e t =
         let named_so = names_it state.shape state.words is_core.roles log is_core.core k t.0 t.1.near t.1.names in
         (t.1.near, fewer t.0 (inside k t.0 t.1.near t.1.names) (omega arith))
     go (Withdrawing k) e t =
-        let early = t.early in
         (t.near, omega (arith, desk.numbers.agree k t.near, ap number_of t.asked))
     go (Searching call rows poll) e t =
         (t.1, (desk.retired poll (retired_at state.desk poll) (got_at state.desk.retired poll no_retired t.1)).0)

@@ -32,7 +32,6 @@ module _ (shape : Shape) (words : List ℕ) (roles : List Role) (log : List Entr
   pub read_word : get_or words (content shape s (length got)) 0 ≡ get_or (encode reads.rows) (length got) 0
   read_word =
       let size = length-row_words reads.rows in
-      let more = reads.more in
       let same_slot : spelt_there.0 ≡ s = let a = spelt_there.1 in let b = reads.names in omega arith in
       rw (sym same_slot) (spelt_there.3.1 (length got) (omega arith))
 
@@ -40,8 +39,7 @@ module _ (shape : Shape) (words : List ℕ) (roles : List Role) (log : List Entr
   length-got_next = omega (arith, length-append got (get_or words (content shape s (length got)) 0 ∷ []))
 
   pub read_next : got_next ≡ take (suc (length got)) (encode reads.rows)
-  read_next = let size = length-row_words reads.rows in let more = reads.more in
-      ap (λ (y : ℕ). got ++ y ∷ []) read_word
+  read_next = let size = length-row_words reads.rows in ap (λ (y : ℕ). got ++ y ∷ []) read_word
       ∙ ap (λ (l : List ℕ). l ++ get_or (encode reads.rows) (length got) 0 ∷ []) reads.part
       ∙ sym (take-suc (encode reads.rows) (length got) 0 (omega arith))
 

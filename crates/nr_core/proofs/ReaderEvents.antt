@@ -69,8 +69,7 @@ readable i (On s rows b) e =
         omega arith
     within false e =
         let g = guard (nat_eq i 0) None refuse.OutOfRange e in
-        let l : i ≡ 0 = eqb-true i 0 g.0 in
-        omega arith
+        omega (arith, eqb-true i 0 g.0)
 
 module _ (state : State) (log : List Entry) (is_core : IsCoreState state log) (r : ℕ) (low : 0 < r)
     (high : r ≤ state.shape.readers) where

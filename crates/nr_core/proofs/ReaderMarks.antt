@@ -138,7 +138,6 @@ module _ {A : Type 0} (role : A → Role) (marks : A → Marks) (shape : Shape) 
       → CanMark role marks shape id me known (Or key 1) (Asks reader key) (KeepsMarks (marks me))
   asks_marked reader key near was words callers log core m once at since after entries ans =
       let word : ℕ = get_or words key 0 in
-      let wide = core.wide in
       reader_step m at was ans.0
       (λ k _. names_kept words key (bit_or word 1) (omega arith) (name-asked word (bit_or word 1) (with_ask_is word)) k)
       (one_ends log entries (entry reader (model.Ask key) (ask_word word)) ans.1
@@ -172,7 +171,6 @@ module _ {A : Type 0} (role : A → Role) (marks : A → Marks) (shape : Shape) 
       let word : ℕ = get_or words key 0 in
       let x : ℕ = (word + ARRIVE) % 2 ^ 64 in
       let now = acted (marks me) (put_number (log ++ entries) key) in
-      let wide = core.wide in
       let Goal : Type 0
       = Remarked role marks shape words callers log id (Add key ARRIVE) me after entries
       (ArrivesMarks (marks me) key) in
@@ -188,10 +186,8 @@ module _ {A : Type 0} (role : A → Role) (marks : A → Marks) (shape : Shape) 
         (kept.0 ∙ sym (ends.0 key), kept.1),
         λ l. absurd
             (let r = rests role marks shape words callers log j u desk slot core there writes l in
-            let b = below-term (λ k. only (suc slot) (name_number (get_or words k 0))) shape.keys key near in
             let one : only (suc slot) (name_number word) ≡ 1 = ap (only (suc slot)) names ∙ only-same (suc slot) in
-            let z = r.1 in
-            omega arith),
+            omega (arith, below-term (λ k. only (suc slot) (name_number (get_or words k 0))) shape.keys key near)),
       ))
       (contents_behind shape words key x near) (refl, refl) in
       ⊎_elim

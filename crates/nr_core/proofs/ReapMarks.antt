@@ -97,19 +97,16 @@ module _ {A : Type 0} (role : A → Role) (marks : A → Marks) where
         finish (with_reaped (with_poll (marks me) slot true) slot) (λ n e there'. inl there')
         (desk_reaped shape words' callers (log ++ entries) desk (with_poll (marks me) slot true) slot
         (stays (marks me).polls (with_poll (marks me) slot true).loads own.noted others)
-        (λ key l e. let part = below-term (λ k. only (suc slot) (name_number (get_or words k 0))) shape.keys key l in
-        let e' : name_number (get_or words key 0) ≡ suc slot
+        (λ key l e. let e' : name_number (get_or words key 0) ≡ suc slot
         = sym (ap (λ l. name_number (get_or l key 0)) (set-get_or words i 0)) ∙ e in
         let once_more : only (suc slot) (name_number (get_or words key 0)) ≡ 1
         = ap (only (suc slot)) e' ∙ only-same (suc slot) in
-        let none = alone.1 in
-        omega arith)
+        omega (arith, below-term (λ k. only (suc slot) (name_number (get_or words k 0))) shape.keys key l))
         (λ place reader who grip is_there is on.
         let l
         = term_le (holds slot) roles place (Reader reader grip)
         (at_maps role callers place who is_there ∙ ap some is) in
-        let g = grips_it grip slot on in
-        omega arith)) (
+        omega (arith, grips_it grip slot on))) (
           refl,
           rw hit refl,
         ))

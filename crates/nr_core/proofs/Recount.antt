@@ -35,8 +35,6 @@ recounts {shape = shape} {words = words} {roles = roles} {log = log} core id rea
     let map = map_after shape log in
     let words' = set words place x in
     let roles' = set roles id (Reader reader after) in
-    let wide = core.wide in
-    let fits = core.fits.bound in
     let cont : (t j : ℕ) → j ≤ 2 * (bound_of shape)
     → get_or words' (content shape t j) 0 ≡ get_or words (content shape t j) 0
     = λ t j low.

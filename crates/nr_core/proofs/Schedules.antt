@@ -78,9 +78,6 @@ few_held : (story : Story) (event : Event) → IsCoreState story.state story.his
     × (story.state.shape.slots < story.state.shape.keys + story.state.shape.readers + 1)
 few_held story event is_core swept after kept counts ends =
     let j = no_slot_is_justified story event is_core swept after counts ends in
-    let all = j.all in
-    let live = j.live in
-    let held_there = j.held in
     let at_most = filled_le (map_of story) in
     let size : length (map_of story).states ≡ story.state.shape.keys = length-now story.state.shape story.history in
     let few : length (tell story event).polls ≤ story.state.shape.readers

@@ -62,5 +62,4 @@ seats shape words roles log reader core few =
 pub notes : (shape : Shape) (words : List ℕ) (roles : List Role) (log : List Entry) → Core shape words roles log
     → Core shape words (roles ++ Note ∷ []) log
 notes shape words roles log core =
-    let few = core.few in
     seated shape words roles log Note core refl (omega arith) (λ _. refl) (λ _. refl) tt

@@ -44,16 +44,14 @@ unused-next s f = dite (dec_le (f + 1) s)
     (λ l.
     let a = unused-free s (f + 1) l in
     let b = unused-free s f (omega arith) in
-    let c = only-other s f (λ e. omega arith) in
-    omega arith)
+    omega (arith, only-other s f (λ e. omega arith)))
     (λ l.
     let a : unused s (f + 1) ≡ 0 = ap (λ b. cond {A = ℕ} b 1 0) (lt-leb (f + 1) s (omega arith)) in
     dite (ℕ_discrete f s)
     (λ e. let b = unused-free s f (omega arith) in let c : only s f ≡ 1 = ap (only s) e ∙ only-same s in omega arith)
     (λ ne.
-    let b : unused s f ≡ 0 = ap (λ b. cond {A = ℕ} b 1 0) (lt-leb f s (omega arith)) in
     let c = only-other s f ne in
-    omega arith))
+    omega (arith, ap (λ b. cond {A = ℕ} b 1 0) (lt-leb f s (omega arith)))))
 
 pub key_same : (call : WriterCall) → call_key (call_of call) ≡ key_of call
 key_same (Find k) = refl
@@ -105,8 +103,7 @@ module _ (shape : Shape) (words : List ℕ) (map : PartialMap) (hold : ℕ → �
       (λ no. let full : shape.slots ≤ desk.fresh = ltb-false desk.fresh shape.slots no in
       on_test (λ (o : Desk × Step). AtDesk shape words map hold o.0) (nat_eq (length desk.retired) 0) (λ _. t)
       (λ some_there.
-      let n : length desk.retired ≢ 0 = eqb-false (length desk.retired) 0 some_there in
-      moved_desk t (Searching call rows 0) (wants, omega arith, full)))
+      moved_desk t (Searching call rows 0) (wants, omega (arith, eqb-false (length desk.retired) 0 some_there), full)))
 
   settle_keeps : (s : ℕ) → keeps s (Writer (settled shape desk call rows).0) ≡ keeps s (Writer (moved_to desk Idle))
   settle_keeps s =

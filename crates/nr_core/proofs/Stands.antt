@@ -73,13 +73,10 @@ within_words : (index : ℕ) (size : Option ℕ) (rows : List Row) → (size ≡
 within_words index size rows known ok = ⊎_elim {A = size ≡ None} {B = size ≡ Some (length rows)}
     (λ unread.
     let g = guard (nat_eq index 0) None refuse.OutOfRange (ap (if_beyond index) (sym unread) ∙ ok) in
-    let zero_is : index ≡ 0 = eqb-true index 0 g.0 in
-    omega arith)
+    omega (arith, eqb-true index 0 g.0))
     (λ read.
     let g = guard (nat_le index (2 * length rows)) None refuse.OutOfRange (ap (if_beyond index) (sym read) ∙ ok) in
-    let low : index ≤ 2 * length rows = leb-true index (2 * length rows) g.0 in
-    let size_of = length-row_words rows in
-    omega arith)
+    omega (arith, leb-true index (2 * length rows) g.0, length-row_words rows))
     known
 
 -- a read that is not refused gives the word of the set at the index
@@ -101,12 +98,10 @@ module _ (story : Story) (is_core : IsCoreState story.state story.history) (r s 
   holder_role : (rows : List Row) × (b : Bool) × (get_elem? is_core.roles r ≡ some (Reader r (On s rows b)))
       × ((n ≡ None) ⊎ (n ≡ Some (length rows)))
   holder_role =
-      let size = is_core.fit.size in
       let high : r ≤ story.state.shape.readers
       = dite (dec_le r story.state.shape.readers) (λ l. l)
       (λ l.
-      let z : 0 ≡ suc s = ap hold_number (sym (none_beyond story.state.holds (r - 1) (omega arith)) ∙ holds_it) in
-      absurd (omega arith)) in
+      absurd (omega (arith, ap hold_number (sym (none_beyond story.state.holds (r - 1) (omega arith)) ∙ holds_it)))) in
       let o = reader_of is_core.fit r low high in
       let x = erased_is o.0 s n (sym o.2 ∙ holds_it) in
       (x.0, x.1, o.1 ∙ ap (λ (g : Grip). some (Reader r g)) x.2, x.3)
@@ -133,8 +128,7 @@ module _ (story : Story) (is_core : IsCoreState story.state story.history) (r s 
   holder =
       let role = holder_role in
       let part = term_le (holds s) is_core.roles r (Reader r (On s role.0 role.1)) role.2 in
-      let one = only-same s in
-      (omega arith, (is_core.core.knows r (Reader r (On s role.0 role.1)) role.2).0)
+      (omega (arith, only-same s), (is_core.core.knows r (Reader r (On s role.0 role.1)) role.2).0)
 
 pub stands : (story : Story) → IsCoreState story.state story.history → Stands story
 stands story is_core =
@@ -160,11 +154,9 @@ stands story is_core =
             ∙ ap (λ (n : ℕ). (get_or state.words (departures shape x.slot) 0 + n) % 2 ^ 40) (sums x.slot).0;
         unheld = λ s near mine. sym (sums s).0 ∙ dite (dec_le state.desk.fresh s) (λ l. (desk.free s l near).0)
             (λ l.
-            let u : unused s state.desk.fresh ≡ 0
-            = ap (λ b. cond {A = ℕ} b 1 0) (lt-leb state.desk.fresh s (omega arith)) in
             taken_nobody shape state.words (map_of story) (held roles) state.desk.fresh state.desk.retired s
             state.desk.place desk.place
-            (omega arith));
+            (omega (arith, ap (λ b. cond {A = ℕ} b 1 0) (lt-leb state.desk.fresh s (omega arith)))));
       };
       held = holding story is_core;
       sent = λ k near. sends_are_answered_lem shape.keys (bound_of shape) shape.first_number k story.history core.legal

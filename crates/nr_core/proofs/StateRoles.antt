@@ -246,7 +246,6 @@ state_sums state roles f s = go roles f.callers f.writer f.readers
         → (held l s ≡ total (on s) state.holds) × (total (keeps s) l ≡ keeps s (Writer state.desk))
     go [] size w r = absurd (omega arith)
     go (u ∷ rest) size w r =
-        let size' = f.size in
         let role : u ≡ Writer state.desk = some-injective u (Writer state.desk) w in
         let t
         = weights s rest state.holds 0 (omega arith)

@@ -51,8 +51,7 @@ stands-new qs (r ∷ rs) q z = let t = stands-new qs rs q z in dite (ℕ_discret
     let b = stands-some (q ∷ qs) r (omega arith) in omega arith)
     (λ ne. let o = only-other q r ne in let o' = only-other r q (λ e. ne (sym e)) in
     let same : how_often r (q ∷ qs) ≡ how_often r qs = omega arith in
-    let b : stands (q ∷ qs) r ≡ stands qs r = ap (λ (y : ℕ). cond {A = ℕ} (nat_eq y 0) 0 1) same in
-    omega arith)
+    omega (arith, ap (λ (y : ℕ). cond {A = ℕ} (nat_eq y 0) 0 1) same))
 
 -- one that stands there already adds nothing
 stands-old : (qs rs : List ℕ) (q : ℕ) → 0 < how_often q qs → total (stands (q ∷ qs)) rs ≡ total (stands qs) rs
@@ -61,12 +60,10 @@ stands-old qs (r ∷ rs) q z = let t = stands-old qs rs q z in dite (ℕ_discret
     (λ e.
     let p : how_often r qs ≡ how_often q qs = ap (λ (y : ℕ). how_often y qs) e in
     let a = stands-some qs r (omega arith) in
-    let b = stands-some (q ∷ qs) r (omega arith) in
-    omega arith)
+    omega (arith, stands-some (q ∷ qs) r (omega arith)))
     (λ ne. let o' = only-other r q (λ e. ne (sym e)) in
     let same : how_often r (q ∷ qs) ≡ how_often r qs = omega arith in
-    let b : stands (q ∷ qs) r ≡ stands qs r = ap (λ (y : ℕ). cond {A = ℕ} (nat_eq y 0) 0 1) same in
-    omega arith)
+    omega (arith, ap (λ (y : ℕ). cond {A = ℕ} (nat_eq y 0) 0 1) same))
 
 -- the strays are the retired put numbers that are pinned
 strays_are : (keys rs qs : List ℕ) → ((q : ℕ) → how_often q keys + how_often q rs ≤ 1)
@@ -96,9 +93,7 @@ all_stand : (qs rs : List ℕ) → ((i r : ℕ) → get_elem? rs i ≡ some r �
     → total (stands qs) rs ≡ length rs
 all_stand qs [] h = refl
 all_stand qs (r ∷ rs) h =
-    let t = all_stand qs rs (λ i x e. h (suc i) x e) in
-    let m = stands-some qs r (h 0 r refl) in
-    omega arith
+    omega (arith, all_stand qs rs (λ i x e. h (suc i) x e), stands-some qs r (h 0 r refl))
 
 some_stand : (qs rs : List ℕ) → total (stands qs) rs ≤ length rs
 some_stand qs [] = omega arith
@@ -193,9 +188,7 @@ module _ (retired : List Retired) (marks : Marks) (next : ℕ) (readers : List P
       let z = term_le (only q)
       (retired_puts marks.puts retired) y.0 (get_or marks.puts y.1.slot 0)
       (retired_put_at marks.puts retired y.0 y.1 y.2) in
-      let o : only q (get_or marks.puts y.1.slot 0) ≡ 1
-      = ap (only q) (ap (λ (b : ℕ). get_or marks.puts b 0) y.3 ∙ num) ∙ only-same q in
-      omega arith)
+      omega (arith, ap (only q) (ap (λ (b : ℕ). get_or marks.puts b 0) y.3 ∙ num) ∙ only-same q))
       has.1
 
   counted : strays (named_puts marks.puts marks.names) (pins readers)
@@ -204,19 +197,15 @@ module _ (retired : List Retired) (marks : Marks) (next : ℕ) (readers : List P
       strays_count (named_puts marks.puts marks.names) (pins readers)
       ∙ strays_are (named_puts marks.puts marks.names) (retired_puts marks.puts retired) (pins readers)
       (λ number.
-      let t = tidy.once number in
-      let a = count_is (named_puts marks.puts marks.names) number in
       let b = count_is (retired_puts marks.puts retired) number in
-      omega arith)
+      omega (arith, tidy.once number, count_is (named_puts marks.puts marks.names) number))
       covered
 
   -- there are never more strays than retired slots
   pub strays_most : strays (named_puts marks.puts marks.names) (pins readers) ≤ length retired
   strays_most =
-      let a = counted in
-      let b = some_stand (pins readers) (retired_puts marks.puts retired) in
       let c = length-retired_puts marks.puts retired in
-      omega arith
+      omega (arith, counted, some_stand (pins readers) (retired_puts marks.puts retired))
 
   -- a sweep found every retired slot held by a reader that has not moved since: each retired set is pinned
   pub all_strays : AllHeld retired marks.polls → Still marks.polls readers
@@ -234,8 +223,6 @@ module _ (retired : List Retired) (marks : Marks) (next : ℕ) (readers : List P
           let p : Past = w.1 in
           let cur = gathered w.0 p w.2 in
           let c = cur.polled i y.0 y.1 (sym w.3) in
-          let le = c.0 in
-          let le' = w.4 in
           let same : p.slot ≡ y.0.slot = c.1 (omega arith) in let on : p.slot ≡ Some slot = same ∙ y.2 in
           rw (sym (sym (cur.placed slot on).0 ∙ t.2)) (pins_it readers w.0 p slot w.2 on)
 

@@ -111,8 +111,5 @@ swap_step {shape = shape} {words = words} {roles = roles} {log = log} core id {d
     (λ j ne. state_other shape log e j (λ z. ne (z ∙ at_k)))
     (subst (ShowsState shape words x) (sym same) shown)
     (λ s l.
-    let a = total-append (λ (z : Retired). only s z.slot) desk.retired (unnamed w) in
-    let b = unnamed_sum s w in
-    let c' = took s in
-    omega arith)
+    omega (arith, total-append (λ (z : Retired). only s z.slot) desk.retired (unnamed w), unnamed_sum s w, took s))
     counted own

@@ -70,11 +70,8 @@ lives_swapped shape words desk k x near inside s =
     let change = below-change (λ j. only (suc s) (name_number (get_or (set words k x) j 0)))
     (λ j. only (suc s) (name_number (get_or words j 0))) shape.keys k near
     (λ j ne. ap (λ (y : ℕ). only (suc s) (name_number y)) (get_or-set_other words k j x 0 ne)) in
-    let here : only (suc s) (name_number (get_or (set words k x) k 0)) ≡ only (suc s) (name_number x)
-    = ap (λ (y : ℕ). only (suc s) (name_number y)) (get_or-set_same words k x 0 inside) in
     let more = total-append (λ (y : Retired). only s y.slot) desk.retired (unnamed word) in
-    let gone = unnamed_sum s word in
-    omega arith
+    omega (arith, ap (λ (y : ℕ). only (suc s) (name_number y)) (get_or-set_same words k x 0 inside), unnamed_sum s word)
 
 abbrev index : List ℕ → ℕ → ℕ
 index l i = get_or l i 0
@@ -123,19 +120,16 @@ module _ {A : Type 0} (role : A → Role) (marks : A → Marks) where
         puts = λ i s l e. dite (ℕ_discrete i n)
             (λ z.
             let same : s ≡ t
-            = let e' : name_number (get_or words' n 0) ≡ suc s
-            = ap (λ (y : ℕ). name_number (get_or words' y 0)) (sym z) ∙ e in
-            omega arith in (
+            = omega (arith, ap (λ (y : ℕ). name_number (get_or words' y 0)) (sym z) ∙ e) in (
               ap (index puts') same ∙ put_here ∙ sym number ∙ ap (put_number log') (sym z),
               ap (flag (set mine.reaped t false)) same
                   ∙ cleared mine.reaped t,
             ))
             (λ ne. let e' : name_number (get_or words i 0) ≡ suc s = sym (others i ne) ∙ e in
             let apart : s ≢ t
-            = λ z. let b = below-term (λ j. only (suc t) (name_number (get_or words j 0))) shape.keys i l in
-            let one : only (suc t) (name_number (get_or words i 0)) ≡ 1
+            = λ z. let one : only (suc t) (name_number (get_or words i 0)) ≡ 1
             = ap (only (suc t)) (e' ∙ ap suc z) ∙ only-same (suc t) in
-            absurd (omega arith) in
+            absurd (omega (arith, below-term (λ j. only (suc t) (name_number (get_or words j 0))) shape.keys i l)) in
             let kept = own.puts i s l e' in (
               put_other s apart ∙ kept.0 ∙ sym (numbers i ne),
               get_or-set_other mine.reaped t s false false apart ∙ kept.1,
@@ -157,9 +151,7 @@ module _ {A : Type 0} (role : A → Role) (marks : A → Marks) where
             let g = put_other s ne in
             dite (ℕ_discrete a t)
             (λ y. absurd
-            (let p : get_or puts' a 0 ≡ put_count log = ap (index puts') y ∙ put_here in
-            let f = own.fresh s l (old s l ne on) in
-            omega arith))
+            (omega (arith, ap (index puts') y ∙ put_here, own.fresh s l (old s l ne on))))
             (λ na. own.apart s a l b (old s l ne on) (old a b na one) (sym g ∙ e ∙ put_other a na)));
         sets = λ s l _. dite (ℕ_discrete s t)
             (λ z. subst (SlotSpells shape words' s) (ap (λ (i : ℕ). get_or (set mine.sets t rows) i []) (sym z))
@@ -188,7 +180,6 @@ module _ {A : Type 0} (role : A → Role) (marks : A → Marks) where
         let roles = map role callers in
         let there' : get_elem? roles id ≡ some (Writer desk) = at_maps role callers id me there ∙ ap some was in
         let p = stands_at core id there' is_at in
-        let short = p.wants.row_set.1 in
         writer_step core m there was ans.0 (marks me)
         [] (no_places (Since role marks callers)) (λ place note here. inl here) (desk_stay entries own
         (names_behind words shape.keys i x (omega arith)) (subst (QuietEnd log) (sym ans.1) (nothing_ends log))
@@ -197,8 +188,7 @@ module _ {A : Type 0} (role : A → Role) (marks : A → Marks) where
           subst (Untouched s) (sym is_at) (λ e. absurd (let none = untouched e in omega arith)),
           λ index low. get_or-set_other words i (content shape s index) x 0
               (λ e. absurd
-              (let none = untouched (sym (same_content shape s index slot at (omega arith) (omega arith) e)) in
-              omega arith)),
+              (omega (arith, untouched (sym (same_content shape s index slot at (omega arith) (omega arith) e))))),
         )))
         (refl, refl)
 
@@ -221,9 +211,6 @@ module _ {A : Type 0} (role : A → Role) (marks : A → Marks) where
         let near : k < shape.keys = p.wants.near in
         let in_range : slot < shape.slots = p.inside in
         let nobody : held roles slot ≡ 0 = p.nobody in
-        let wide = core.wide in
-        let wide' = own.wide.1 in
-        let fits = core.fits.slots in
         let name = (naming_is slot departed (omega arith)).0 in
         let one = only-same slot in
         let took : taken slot desk.place ≡ only slot slot = ap (taken slot) is_at in
@@ -233,7 +220,6 @@ module _ {A : Type 0} (role : A → Role) (marks : A → Marks) where
         = λ i ne. get_or-set_other words k i x 0 ne in
         let contents = contents_behind shape words k x near in
         let size = length-row_words rows in
-        let short = p.wants.row_set.1 in
         let spells : SlotSpells shape words' slot rows
         = spells_more shape words words' slot rows (contents slot)
         (p.wants.row_set, λ index low. p.put index (omega arith)) in
@@ -251,8 +237,7 @@ module _ {A : Type 0} (role : A → Role) (marks : A → Marks) where
         let l
         = term_le (holds slot) roles place (Reader reader grip)
         (at_maps role callers place who is_there ∙ ap some is) in
-        let g = grips_it grip slot on in
-        absurd (omega arith))
+        absurd (omega (arith, grips_it grip slot on)))
         (put_more log e k ∙ ap (λ b. cond b n (put_number log k)) yes)
         (λ i ne. put_more log e i ∙ ap (λ b. cond b n (put_number log i)) (no i ne))
         many
@@ -298,16 +283,13 @@ module _ {A : Type 0} (role : A → Role) (marks : A → Marks) where
         (λ ne. get_or-set_other (marks me).names k i 0 0 ne ∙ own.names i l ∙ sym (ap name_number (other i ne))))
         (λ i s l z. dite (ℕ_discrete i k)
         (λ y. absurd
-        (let none : name_number (get_or words' i 0) ≡ 0
-        = ap (λ (y : ℕ). name_number (get_or words' y 0)) y ∙ here in
-        omega arith))
+        (omega (arith, ap (λ (y : ℕ). name_number (get_or words' y 0)) y ∙ here)))
         (λ ne. ap name_number (sym (other i ne)) ∙ z))
         (λ i. quiet_number log e i refl) (quiet_count log e refl)
         (λ s l on.
-        let living = lives_swapped shape words desk k x near (omega arith) s in
         let none : only (suc s) (name_number x) ≡ 0
         = ap (only (suc s)) (hole_names_none (number_at desk k)) ∙ only-zero s in
-        omega arith)
+        omega (arith, lives_swapped shape words desk k x near (omega arith) s))
         own.noted (subst (HoldNoOthers role marks callers desk') (sym quiet) (none_hold role marks callers desk'))
         (λ s _ _. (subst (Untouched s) (sym is_at) tt, contents_behind shape words k x near s))))
         (refl, refl)

@@ -1,7 +1,7 @@
 -- The polls of one call are no more than the readers.
--- A reader that holds none of the slots that are still to be polled comes to hold none of them, since it comes to hold a
--- named slot, and no slot is retired during a sweep (held_swept). One that holds the slot that is polled holds no other,
--- so each poll that finds its slot held is followed by one more such reader (sweep_more). Every event keeps this
+-- A reader that holds none of the slots that are still to be polled comes to hold none of them, since it comes to hold
+-- a named slot, and no slot is retired during a sweep (held_swept). One that holds the slot that is polled holds no
+-- other, so each poll that finds its slot held leaves one such reader more (sweep_more). Every event keeps this
 -- (swept_event).
 use Rattle.std.proofs.Common.{[], List, ap, arith, cond, drop, get_or, length, map, refl, set, subst, suc, take}
 use Rattle.std.proofs.Common.{zero, ℕ, ◌%◌, ◌*◌, ◌++◌, ◌+◌, ◌-◌, ◌/◌, ◌<◌, ◌^◌, ◌∙◌, ◌∷◌, ◌≡◌, ◌≢◌, ◌≤◌, sym}
@@ -49,8 +49,8 @@ abbrev clear_of : List Retired → Hold → ℕ
 clear_of retired hold.Nothing = 1
 clear_of retired (hold.On slot size) = 1 - retirements slot retired
 
--- A sweep that is about to poll the retired slot at `poll`: each slot before it was found held, and as many readers hold
--- none of the slots from there on.
+-- A sweep that is about to poll the retired slot at `poll`: each slot before it was found held, and as many readers
+-- hold none of the slots from there on.
 pub record Sweep (retired : List Retired) (holds : List Hold) (polls : List Poll) (poll : ℕ) : Type 0 where
   pub many : length polls ≡ poll
   pub slots : map (λ (x : Poll). x.slot) polls ≡ map (λ (x : Retired). x.slot) (take poll retired)
@@ -291,7 +291,7 @@ go_swept state log polls is_core s (Searching call rows poll) is =
     let more
     = sweep_more state log polls poll is_core within (subst (AtSweep desk.retired state.holds polls) is s.sweep) here in
     record {
-      few = omega (arith, more.many, more.clear, all-clear (drop (poll + 1) desk.retired) state.holds, is_core.fit.size);
+      few = omega (arith, more, all-clear (drop (poll + 1) desk.retired) state.holds, is_core.fit.size);
       sweep = on_test (Good state.holds polls') (nat_lt (poll + 1) (length desk.retired)) (λ _. more) (λ _. tt);
       held = all_more has_holder polls (poll_at state poll) (record { slot = 0; holders = [] }) s.held
           (some_holder entry.slot state.holds 1 here);

@@ -29,8 +29,7 @@ unused_below fresh (suc n) l = dite (ℕ_discrete fresh (suc n))
     let none
     = below-same (λ slot. unused slot fresh) (λ _. 0) (suc n)
     (λ slot near. ap (λ b. cond {A = ℕ} b 1 0) (lt-leb fresh slot (omega arith))) in
-    let z = below-zero (suc n) in
-    omega arith)
+    omega (arith, below-zero (suc n)))
     (λ ne. let u = unused-free n fresh (omega arith) in let t = unused_below fresh n (omega arith) in omega arith)
 
 each_once : (l : List Retired) (n : ℕ) → ((i : ℕ) (x : Retired) → get_elem? l i ≡ some x → x.slot < n)

@@ -33,9 +33,7 @@ use Rattle.nr_model.specs.declared.states.KeyState.TheVariants as key
 pub below-list : (f : ℕ → ℕ) (l : List ℕ) → total f l ≡ below (λ i. f (get_or l i 0)) (length l)
 below-list f [] = refl
 below-list f (x ∷ xs) =
-    let t = below-list f xs in
-    let u = below-first (λ i. f (get_or (x ∷ xs) i 0)) (length xs) in
-    omega arith
+    omega (arith, below-list f xs, below-first (λ i. f (get_or (x ∷ xs) i 0)) (length xs))
 
 total-le_at : {A : Type 0} (f g : A → ℕ) (l : List A) → ((i : ℕ) (a : A) → get_elem? l i ≡ some a → f a ≤ g a)
     → total f l ≤ total g l
@@ -95,9 +93,7 @@ module _ {A : Type 0} (role : A → Role) (marks : A → Marks) (shape : Shape) 
 
   name_at : (i n : ℕ) → get_elem? (marks me).names i ≡ some n → (i < shape.keys) × (name_number (get_or words i 0) ≡ n)
   name_at i n e =
-      let wide = own.wide.0 in
-      let l = inside (marks me).names i n e in
-      let near : i < shape.keys = omega arith in
+      let near : i < shape.keys = omega (arith, inside (marks me).names i n e) in
       (near, sym (own.names i near) ∙ at_or (marks me).names i n e)
 
   by_name : (i s : ℕ) → i < shape.keys → name_number (get_or words i 0) ≡ suc s
@@ -111,15 +107,13 @@ module _ {A : Type 0} (role : A → Role) (marks : A → Marks) (shape : Shape) 
       → (entry.slot < shape.slots) × (0 < lives shape words desk entry.slot)
   by_rest i entry e =
       let t = term_le (λ (x : Retired). only entry.slot x.slot) desk.retired i entry e in
-      let one = only-same entry.slot in
-      (((core.knows id (Writer desk) there).retired i entry e).0, omega arith)
+      (((core.knows id (Writer desk) there).retired i entry e).0, omega (arith, only-same entry.slot))
 
   alive : (s : ℕ) → Living desk.retired (marks me) s → (s < shape.slots) × (0 < lives shape words desk s)
   alive s l =
       ⊎_elim
       (λ (t : (i : ℕ) × (i < length (marks me).names) × (get_or (marks me).names i 0 ≡ suc s)).
-      let wide = own.wide.0 in
-      let l' = t.1 in let near : t.0 < shape.keys = omega arith in by_name t.0 s near (sym (own.names t.0 near) ∙ t.2))
+      let near : t.0 < shape.keys = omega arith in by_name t.0 s near (sym (own.names t.0 near) ∙ t.2))
       (λ (t : (i : ℕ) × (entry : Retired) × (get_elem? desk.retired i ≡ some entry) × (entry.slot ≡ s)).
       let r = by_rest t.0 t.1 t.2 in let e = t.3 in
       subst (λ (y : ℕ). (y < shape.slots) × (0 < lives shape words desk y)) e r) l
@@ -180,12 +174,10 @@ module _ {A : Type 0} (role : A → Role) (marks : A → Marks) (shape : Shape) 
   pub tidy : Tidy desk.retired (marks me) (put_count log)
   tidy = record {
     once = λ number.
-        let a = one_with number in
-        let c = named_often (marks me).puts (marks me).names number in
         let e = retired_often (marks me).puts desk.retired number in
         let f = count_is (named_puts (marks me).puts (marks me).names) number in
         let g = count_is (retired_puts (marks me).puts desk.retired) number in
-        omega arith;
+        omega (arith, one_with number, named_often (marks me).puts (marks me).names number);
     apart = λ s t l m e. let a = alive s l in let b = alive t m in own.apart s t a.0 b.0 a.1 b.1 e;
     fresh = λ s l. let a = alive s l in own.fresh s a.0 a.1;
   }

@@ -43,13 +43,11 @@ counts_in (Ended (writer.NoSlot counts)) = counts
 
 pub not_going : (counts : NoSlot) → Going ≡ Ended (writer.NoSlot counts) → ⊥
 not_going counts e =
-    let n : step_number Going ≡ step_number (Ended (writer.NoSlot counts)) = ap step_number e in
-    omega arith
+    omega (arith, ap step_number e)
 
 pub not_reply : (counts : NoSlot) (answer : Reply) → ended answer ≡ Ended (writer.NoSlot counts) → ⊥
 not_reply counts answer e =
-    let n : step_number (ended answer) ≡ step_number (Ended (writer.NoSlot counts)) = ap step_number e in
-    omega arith
+    omega (arith, ap step_number e)
 
 -- what an outcome with no slot says of the desk before it
 pub record NoneLeft (shape : Shape) (desk : Desk) (outcome : Desk × Step) (counts : NoSlot) : Type 0 where
