@@ -54,8 +54,7 @@ arrives shape id reader k near words roles log core there =
     let name = name-bumped w in
     let parity : x % 2 ≡ w % 2 = omega arith in
     let bits : slot_of x ≡ slot_of w = omega arith in
-    let Result : Type 0
-    = Stepped shape words roles log id (Reader reader Nothing) (Add k ARRIVE) (Arrives shape reader k) in
+    let Result = Stepped shape words roles log id (Reader reader Nothing) (Add k ARRIVE) (Arrives shape reader k) in
     let Goal : KeyState → Type 0 = λ z. state_of map k ≡ z → ShowsState shape words w z → Result in
     let missing : (z : KeyState) → find_reply z ≡ reply.Hole → state_of map k ≡ z → ShowsState shape words w z
     → name_number w ≡ 0 → Result

@@ -34,26 +34,20 @@ puts_from_often : (number : ℕ) (log : List Entry) (at : ℕ) (states : List Ke
 puts_from_often number log at [] = refl
 puts_from_often number log at (state ∷ states) =
     let next : at + 1 ≡ suc at = omega arith in
-    let t : how_often number (puts_from log (at + 1) states) ≡ below
-    (λ i. key_has log number (is_filled_key (get_or states i (key.Hole 0))) (suc at + i))
-    (length states) = ap (λ (y : ℕ). how_often number (puts_from log y states)) next
+    let t = ap (λ (y : ℕ). how_often number (puts_from log y states)) next
     ∙ puts_from_often number log (suc at) states in
     let f
     = below-first (λ i. key_has log number (is_filled_key (get_or (state ∷ states) i (key.Hole 0))) (at + i))
     (length states) in
     let here : at + 0 ≡ at = omega arith in
-    let first : key_has log number (is_filled_key state) (at + 0) ≡ key_has log number (is_filled_key state) at
-    = ap (key_has log number (is_filled_key state)) here in
+    let first = ap (key_has log number (is_filled_key state)) here in
     let later
     = below-same (λ i. key_has log number (is_filled_key (get_or states i (key.Hole 0))) (suc at + i))
     (λ i. key_has log number (is_filled_key (get_or states i (key.Hole 0))) (at + suc i)) (length states)
     (λ i _.
     let shift : suc at + i ≡ at + suc i = omega arith in
     ap (key_has log number (is_filled_key (get_or states i (key.Hole 0)))) shift) in
-    let head : how_often number (cond (is_filled_key state) (put_number log at ∷ puts_from log (at + 1) states)
-    (puts_from log (at + 1) states))
-    ≡ key_has log number (is_filled_key state) at + how_often number (puts_from log (at + 1) states)
-    = by_cases
+    let head = by_cases
     (λ b. how_often number
     (cond b (put_number log at ∷ puts_from log (at + 1) states) (puts_from log (at + 1) states))
     ≡ key_has log
@@ -98,9 +92,7 @@ strays_same : (keys keys' qs : List ℕ) → ((q : ℕ) → how_often q keys ≡
     → stray_count keys qs ≡ stray_count keys' qs
 strays_same keys keys' [] h = refl
 strays_same keys keys' (q ∷ qs) h = let t = strays_same keys keys' qs h in
-    let a : cond {A = ℕ} (nat_eq (how_often q qs + how_often q keys) 0) 1 0
-    ≡ cond (nat_eq (how_often q qs + how_often q keys') 0) 1
-    0 = ap (λ (n : ℕ). cond {A = ℕ} (nat_eq (how_often q qs + n) 0) 1 0) (h q) in omega arith
+    let a = ap (λ (n : ℕ). cond {A = ℕ} (nat_eq (how_often q qs + n) 0) 1 0) (h q) in omega arith
 
 -- the strays by the history alone: pinned put numbers that no filled key has
 pub strays_by_history : (desk : Desk) (marks : Marks) (shape : Shape) (log : List Entry) (pinned : List ℕ)

@@ -21,7 +21,6 @@ departs shape id reader slot rows sized words roles log core there =
     let after = Reader reader Nothing in
     let part = term_le (holds slot) roles id role there in
     let one = only-same slot in
-    let less : held (set roles id after) slot + only slot slot ≡ held roles slot + 0
-    = total-set (holds slot) roles id role after there in
+    let less = total-set (holds slot) roles id role after there in
     reader_quiet Nothing (recounts core id reader slot _ (On slot rows sized) Nothing (core.knows id role there).0 there
     (λ t ne. sym (only-other t slot (λ e. ne (sym e)))) (omega arith) (λ _. omega arith) tt) (refl, refl)

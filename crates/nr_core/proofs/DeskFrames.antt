@@ -44,8 +44,7 @@ desk_step {shape = shape} {words = words} {roles = roles} {log = log} es core id
       deps = λ _. refl;
       sum = ap (λ (y : ℕ). (get_or words (departures shape s) 0 + y) % 2 ^ 40) (still s);
     } in
-    let own' : AtDesk shape words map' (held roles') desk'
-    = desk_more shape words words map map' (held roles) (held roles') (λ _ _. refl) (λ j _. same j) desk'
+    let own' = desk_more shape words words map map' (held roles) (held roles') (λ _ _. refl) (λ j _. same j) desk'
     (λ j. ap number_of (same j)) (λ s _ _. left s) own in
     subst (λ (v : List ℕ). Core shape v roles' (log ++ es)) (sym (set-get_or words i 0)) record {
       fits = core.fits;
@@ -111,8 +110,7 @@ rename {shape = shape} {words = words} {roles = roles} {log = log} es core id {d
           = below-change (λ j. only (suc s) (name_number (get_or words' j 0)))
           (λ j. only (suc s) (name_number (get_or words j 0))) shape.keys k near
           (λ j ne. ap (λ (y : ℕ). only (suc s) (name_number y)) (other j ne)) in
-          let at-k : only (suc s) (name_number (get_or words' k 0)) ≡ only (suc s) (name_number x)
-          = ap (λ (y : ℕ). only (suc s) (name_number y)) here in
+          let at-k = ap (λ (y : ℕ). only (suc s) (name_number y)) here in
           omega (arith, core.places s l, total-set (keeps s) roles id (Writer desk) (Writer desk') at, keeping s l);
       counts = λ j s l e. dite (ℕ_discrete j k)
           (λ z.

@@ -78,9 +78,7 @@ module _ {A : Type 0} (role : A → Role) (marks : A → Marks) where
         let inside = named_inside shape words (map role callers) log core key other near names_other in
         let one : only (suc other) (name_number word) ≡ 1 = ap (only (suc other)) names_other ∙ only-same (suc other) in
         let part = below-term (λ k. only (suc other) (name_number (get_or words k 0))) shape.keys key near in
-        let same : slot ≡ other
-        = own.apart slot other living.0 inside living.1 (omega arith)
+        let same = own.apart slot other living.0 inside living.1 (omega arith)
         (held_put ∙ sym same_number ∙ sym (own.puts key other near names_other).0) in
-        let yes : names_slot slot word ≡ true
-        = eq-eqb (name_number word) (suc slot) (names_other ∙ ap suc (sym same)) in
+        let yes = eq-eqb (name_number word) (suc slot) (names_other ∙ ap suc (sym same)) in
         let clash : true ≡ false = sym yes ∙ no in absurd (cc)))

@@ -92,8 +92,7 @@ holds_more {shape = shape} {words = words} {roles = roles} {log = log} core id r
     let is_named = names_it shape words roles log core k slot near_key names in
     let place = core.places slot near in
     let one = only-same slot in
-    let more : held (set roles id (Reader reader (On slot rows false))) slot + 0 ≡ held roles slot + only slot slot
-    = total-set (holds slot) roles id (Reader reader Nothing) (Reader reader (On slot rows false)) there in
+    let more = total-set (holds slot) roles id (Reader reader Nothing) (Reader reader (On slot rows false)) there in
     recounts core id reader slot _ Nothing (On slot rows false) near there
     (λ t ne. only-other t slot (λ e. ne (sym e))) (omega arith) (λ kept. absurd (omega arith)) (near, spells)
 

@@ -75,8 +75,7 @@ module _ {A : Type 0} (role : A → Role) (marks : A → Marks) (shape : Shape) 
         (kept.0 ∙ sym (ends.0 key), kept.1),
         λ l. absurd
             (let r = rests role marks shape words callers log j u desk s core there writes l in
-            let one : only (suc s) (name_number (get_or words key 0)) ≡ 1
-            = ap (only (suc s)) named ∙ only-same (suc s) in
+            let one = ap (only (suc s)) named ∙ only-same (suc s) in
             omega (arith, below-term (λ k. only (suc s) (name_number (get_or words k 0))) shape.keys key near)),
       ))
       (contents_counted shape words slot x) (refl, refl)

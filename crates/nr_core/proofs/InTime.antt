@@ -213,8 +213,7 @@ began_more shape events event began call is =
     ⊎_elim
     (λ kept.
     let b = began call (sym kept.0 ∙ now) in
-    let there : fold tell (story_of shape b.before) (Start call ∷ b.since) ≡ story
-    = sym (goes_on shape b.before (Start call ∷ b.since)) ∙ ap (story_of shape) (sym b.split) in
+    let there = sym (goes_on shape b.before (Start call ∷ b.since)) ∙ ap (story_of shape) (sym b.split) in
     record {
       before = b.before;
       since = b.since ++ event ∷ [];

@@ -98,8 +98,7 @@ justify story event is_core ok swept counts call is_call outcome desk_is ending 
     = slots_are shape state.words is_core.roles story.history core 0 desk writer_there ending.full ending.free in
     let live_is : counts.live ≡ shape.slots - length desk.retired = ap (λ (n : NoSlot). n.live) ending.none.counted in
     let held_is : counts.held ≡ length desk.retired = ap (λ (n : NoSlot). n.held) ending.none.counted in
-    let retired_is : (tell story event).state.desk.retired ≡ desk.retired
-    = ap (λ (s : Story). s.state.desk.retired) told_so
+    let retired_is = ap (λ (s : Story). s.state.desk.retired) told_so
     ∙ ap (λ (d : Desk). d.retired) (desk_is ∙ ending.none.same) in
     record {
       call = call;
@@ -163,8 +162,7 @@ go_ending state log polls is_core swept (Searching call rows q) is counts e =
     let found = get_or words (departures shape (retired_at desk q).slot) 0 in let within = at_p.1 in
     let n = polled_none shape desk counts call rows q found e in
     let found_is : found_by state Go ≡ found = ap (λ (p : Place). get_or words (target_of (going shape desk p)) 0) is in
-    let miss : same_count (found_by state Go) (retired_at desk q).arrivals ≡ false
-    = ap (λ (w : ℕ). same_count w (retired_at desk q).arrivals) found_is ∙ n.2 in (
+    let miss = ap (λ (w : ℕ). same_count w (retired_at desk q).arrivals) found_is ∙ n.2 in (
       call,
       refl,
       record {

@@ -80,8 +80,7 @@ module _ {A : Type 0} (role : A → Role) (marks : A → Marks) where
       on =
       let roles = map role callers in
       let at' : get_elem? roles id ≡ some (Writer desk) = at_maps role callers id writer at ∙ ap some was in
-      let there' : get_elem? roles place ≡ some (Reader reader grip)
-      = at_maps role callers place who there ∙ ap some is in
+      let there' = at_maps role callers place who there ∙ ap some is in
       let mine = core.knows id (Writer desk) at' in
       let near = grip_near shape words (map_after shape log) (held roles) grip slot
       (core.knows place (Reader reader grip) there') on in
@@ -91,8 +90,7 @@ module _ {A : Type 0} (role : A → Role) (marks : A → Marks) where
       let free
       = not_taken shape words (map_after shape log) (held roles) desk.fresh desk.retired slot desk.place held_so
       mine.place in
-      let used : unused slot desk.fresh ≡ 0
-      = dite (dec_le desk.fresh slot) (λ l. absurd (let z = (mine.free slot l near).0 in omega arith))
+      let used = dite (dec_le desk.fresh slot) (λ l. absurd (let z = (mine.free slot l near).0 in omega arith))
       (λ l. ap (λ b. cond {A = ℕ} b 1 0) (lt-leb desk.fresh slot (omega arith))) in
       (near, omega (arith, retired_once shape words roles log core id desk at' slot near))
 
@@ -109,8 +107,7 @@ module _ {A : Type 0} (role : A → Role) (marks : A → Marks) where
       kept = λ slot on. (own.held place reader slot who grip there is on).1;
       polled = λ i y e same.
           let w = own.noted i y e in
-          let z : w.who ≡ who
-          = same_caller role marks callers once w.place place reader w.who who w.grip grip w.there there
+          let z = same_caller role marks callers once w.place place reader w.who who w.grip grip w.there there
           (w.is ∙ ap (λ (b : ℕ). Reader b w.grip) same) is in
           let a : (marks w.who).acts ≡ (marks who).acts = ap (λ (b : A). (marks b).acts) z in (
             omega arith,

@@ -126,8 +126,7 @@ on_key {shape = shape} {words = words} {roles = roles} {log = log} es core id c 
       );
       counts = λ j s l e. dite (ℕ_discrete j k)
           (λ z.
-          let e' : name_number (get_or words k 0) ≡ suc s
-          = ap (λ (y : ℕ). name_number (get_or words y 0)) (sym z) ∙ (sym (names j) ∙ e) in
+          let e' = ap (λ (y : ℕ). name_number (get_or words y 0)) (sym z) ∙ (sym (names j) ∙ e) in
           let w : get_or words' j 0 ≡ x = ap (λ (y : ℕ). get_or words' y 0) z ∙ here in
           ap (λ (y : ℕ). arrivals_of y % 2 ^ 40) w ∙ counted s e'
           ∙ ap (λ (y : ℕ). (y + held roles' s) % 2 ^ 40) (sym (dep s)))

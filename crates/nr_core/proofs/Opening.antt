@@ -83,8 +83,7 @@ blank_at_opening shape slot near =
     let hole : ℕ = hole_word shape.first_number false in
     let room : ℕ = slot_room shape in
     let rest : List ℕ = replicate (2 * bound_of shape) 0 in
-    let block : shape.first_count ∷ replicate room 0 ≡ shape.first_count ∷ 0 ∷ rest
-    = ap (λ (n : ℕ). shape.first_count ∷ replicate n 0) (plus_one (2 * bound_of shape)) in
+    let block = ap (λ (n : ℕ). shape.first_count ∷ replicate n 0) (plus_one (2 * bound_of shape)) in
     past (replicate shape.keys hole) (repeated shape.slots (shape.first_count ∷ replicate room 0))
     (content shape slot 0) (suc room * slot + 1) (omega (arith, length-replicate {A = ℕ} shape.keys hole))
     ∙ ap (λ (b : List ℕ). get_or (repeated shape.slots b) (suc room * slot + 1) 0) block
@@ -120,8 +119,7 @@ core_opens shape fits n few =
     let all = all_readers n 0 in
     let hole : ℕ = hole_word shape.first_number false in
     let is_hole = hole_is shape.first_number (omega arith) in
-    let key_hole : (k : ℕ) → k < shape.keys → get_or words k 0 ≡ hole
-    = front shape.keys hole (repeated shape.slots slot) in
+    let key_hole = front shape.keys hole (repeated shape.slots slot) in
     let wide : length words ≡ total_of (layout shape) = omega (
       arith,
       length-append (replicate shape.keys hole) (repeated shape.slots slot),

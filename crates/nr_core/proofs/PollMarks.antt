@@ -67,15 +67,13 @@ module _ {A : Type 0} (role : A → Role) (marks : A → Marks) where
               let g' : get_elem? desk.retired i ≡ some e = ap (λ l. get_elem? l i) (sym same) ∙ g in
               ⊎_elim (λ (y : get_elem? polls i ≡ some o). old.slots i e o g' y)
               (λ (y : (i ≡ length polls) × (note ≡ o)).
-              let z : entry ≡ e
-              = some-injective entry e (sym here ∙ ap (get_elem? desk.retired) (sym many ∙ sym y.0) ∙ g') in
+              let z = some-injective entry e (sym here ∙ ap (get_elem? desk.retired) (sym many ∙ sym y.0) ∙ g') in
               ap (λ (b : Past). b.slot) (sym y.1) ∙ on ∙ ap (λ (b : Retired). Some b.slot) z)
               (at_last polls note o i h);
           different = λ b.
               let more = total-append (λ (y : Past). only b y.reader) polls (note ∷ []) in dite (ℕ_discrete reader b)
               (λ e.
-              let none : total (λ (y : Past). only b y.reader) polls ≡ 0
-              = dite (ℕ_discrete (total (λ (y : Past). only b y.reader) polls) 0) (λ z. z) (λ nz.
+              let none = dite (ℕ_discrete (total (λ (y : Past). only b y.reader) polls) 0) (λ z. z) (λ nz.
               let t = some_term (λ (y : Past). only b y.reader) polls (omega arith) in
               let same_reader : t.1.reader ≡ b = only-is b t.1.reader t.3 in
               let on'
@@ -143,8 +141,7 @@ module _ {A : Type 0} (role : A → Role) (marks : A → Marks) where
         there' in
         subst (λ r. KnowsMarks role marks shape words callers log r (marks w.who)) w.is
         (m.each w.place w.who w.there) in
-        let few : length polls ≤ shape.readers
-        = few_of (λ (e : Past). e.reader) polls shape.readers sweep.different readers in
+        let few = few_of (λ (e : Past). e.reader) polls shape.readers sweep.different readers in
         let missed : Missed shape known (marks me).polls slot polls = record {
           note = noted who;
           more = refl;

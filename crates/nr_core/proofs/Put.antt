@@ -57,8 +57,7 @@ puts {shape = shape} {words = words} {roles = roles} {log = log} core id {desk =
     let dep : (s : ℕ) → get_or words' (departures shape s) 0 ≡ get_or words (departures shape s) 0
     = λ s. get_or-set_other words w (departures shape s) x 0
     (λ z. content_apart shape slot index s (omega arith) (sym z)) in
-    let here : get_or words' w 0 ≡ x
-    = get_or-set_same words w x 0 (omega (arith, content_inside shape slot index near (omega arith))) in
+    let here = get_or-set_same words w x 0 (omega (arith, content_inside shape slot index near (omega arith))) in
     let still : (s : ℕ) → held roles' s ≡ held roles s
     = λ s. let same = total-set (holds s) roles id (Writer desk) (Writer desk') there in omega arith in
     let sum : (s : ℕ)

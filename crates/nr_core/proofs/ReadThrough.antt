@@ -50,7 +50,6 @@ module _ (shape : Shape) (words : List ℕ) (roles : List Role) (log : List Entr
   pub read_whole : length got_next ≡ 2 * get_or got_next 0 0 + 1 → decode got_next ≡ Some reads.rows
   read_whole whole =
       let size = length-row_words reads.rows in
-      let all_got : got_next ≡ encode reads.rows
-      = read_next
+      let all_got = read_next
       ∙ take_all (suc (length got)) (encode reads.rows) (omega (arith, whole, read_first, length-got_next)) in
       ap decode all_got ∙ set_back (bound_of shape) reads.rows read_set

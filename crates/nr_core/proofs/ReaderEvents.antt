@@ -226,8 +226,7 @@ after_read state log r p is_core ok =
     let b' : Bool = cond (nat_eq p 0) true b in
     let t = reads shape r r s m b p (can.1 s m b x.3) words is_core.roles log is_core.core there in
     let w : ℕ = get_or words (content shape s p) 0 in
-    let known : hold.On s (cond (nat_eq p 0) (Some w) (cond b (Some (length m)) None)) ≡ erased (On s m b')
-    = ap (hold.On s)
+    let known = ap (hold.On s)
     (by_cases
     (λ v. (v ≡ true → p ≡ 0)
     → cond v (Some w) (cond b (Some (length m)) None) ≡ cond (cond v true b) (Some (length m)) None)

@@ -171,8 +171,7 @@ module _ {A : Type 0} (role : A → Role) (marks : A → Marks) (shape : Shape) 
       let word : ℕ = get_or words key 0 in
       let x : ℕ = (word + ARRIVE) % 2 ^ 64 in
       let now = acted (marks me) (put_number (log ++ entries) key) in
-      let Goal : Type 0
-      = Remarked role marks shape words callers log id (Add key ARRIVE) me after entries
+      let Goal = Remarked role marks shape words callers log id (Add key ARRIVE) me after entries
       (ArrivesMarks (marks me) key) in
       let finish : (y : Grip) (r : Reply) → is_done r ≡ false → after ≡ Reader reader y
       → entries ≡ entry reader (model.Find key) r ∷ []

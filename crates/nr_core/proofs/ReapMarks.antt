@@ -97,10 +97,8 @@ module _ {A : Type 0} (role : A → Role) (marks : A → Marks) where
         finish (with_reaped (with_poll (marks me) slot true) slot) (λ n e there'. inl there')
         (desk_reaped shape words' callers (log ++ entries) desk (with_poll (marks me) slot true) slot
         (stays (marks me).polls (with_poll (marks me) slot true).loads own.noted others)
-        (λ key l e. let e' : name_number (get_or words key 0) ≡ suc slot
-        = sym (ap (λ l. name_number (get_or l key 0)) (set-get_or words i 0)) ∙ e in
-        let once_more : only (suc slot) (name_number (get_or words key 0)) ≡ 1
-        = ap (only (suc slot)) e' ∙ only-same (suc slot) in
+        (λ key l e. let e' = sym (ap (λ l. name_number (get_or l key 0)) (set-get_or words i 0)) ∙ e in
+        let once_more = ap (only (suc slot)) e' ∙ only-same (suc slot) in
         omega (arith, below-term (λ k. only (suc slot) (name_number (get_or words k 0))) shape.keys key l))
         (λ place reader who grip is_there is on.
         let l

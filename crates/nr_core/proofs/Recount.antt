@@ -41,8 +41,7 @@ recounts {shape = shape} {words = words} {roles = roles} {log = log} core id rea
     get_or-set_other words place (content shape t j) x 0 (λ e. content_apart shape t j slot (omega arith) e) in
     let dep : (t : ℕ) → t ≢ slot → get_or words' (departures shape t) 0 ≡ get_or words (departures shape t) 0
     = λ t ne. get_or-set_other words place (departures shape t) x 0 (λ e. ne (same_departures shape t slot e)) in
-    let here : get_or words' place 0 ≡ x
-    = get_or-set_same words place x 0 (omega (arith, departures_inside shape slot near)) in
+    let here = get_or-set_same words place x 0 (omega (arith, departures_inside shape slot near)) in
     let holding : (t : ℕ) → held roles' t + grips t before ≡ held roles t + grips t after
     = λ t. total-set (holds t) roles id (Reader reader before) (Reader reader after) there in
     let sums : (t : ℕ)

@@ -82,8 +82,7 @@ few_held story event is_core swept after kept counts ends =
     let size : length (map_of story).states ≡ story.state.shape.keys = length-now story.state.shape story.history in
     let few : length (tell story event).polls ≤ story.state.shape.readers
     = subst (λ (s : Shape). length (tell story event).polls ≤ s.readers) kept after.few in
-    let same : length (tell story event).polls ≡ length (tell story event).state.desk.retired
-    = sym (length-map (tell story event).polls (λ (x : Poll). x.slot)) ∙ ap length j.polled
+    let same = sym (length-map (tell story event).polls (λ (x : Poll). x.slot)) ∙ ap length j.polled
     ∙ length-map (tell story event).state.desk.retired (λ (x : Retired). x.slot) in
     (omega arith, omega arith)
 

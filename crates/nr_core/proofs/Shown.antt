@@ -37,8 +37,7 @@ pub spelt_set : (shape : Shape) (words : List ℕ) (s : ℕ) (rows : List Row) �
 spelt_set shape words s rows wide near sp = let short = sp.0.1 in let size = length-row_words rows in
     let c : ℕ = content shape s 0 in
     let d1 : length (drop c words) ≡ length words - c = length-drop c words in
-    let d2 : length (take (slot_room shape) (drop c words)) ≡ slot_room shape
-    = length-take-le (slot_room shape) (drop c words)
+    let d2 = length-take-le (slot_room shape) (drop c words)
     (omega (arith, in_block_below (layout shape) s (slot_room shape) near (omega arith))) in
     decodes_begins (bound_of shape) (slot_content shape words s) rows sp.0
     (begins_with (encode rows) (slot_content shape words s) (omega arith)

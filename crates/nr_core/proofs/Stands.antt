@@ -98,8 +98,7 @@ module _ (story : Story) (is_core : IsCoreState story.state story.history) (r s 
   holder_role : (rows : List Row) × (b : Bool) × (get_elem? is_core.roles r ≡ some (Reader r (On s rows b)))
       × ((n ≡ None) ⊎ (n ≡ Some (length rows)))
   holder_role =
-      let high : r ≤ story.state.shape.readers
-      = dite (dec_le r story.state.shape.readers) (λ l. l)
+      let high = dite (dec_le r story.state.shape.readers) (λ l. l)
       (λ l.
       absurd (omega (arith, ap hold_number (sym (none_beyond story.state.holds (r - 1) (omega arith)) ∙ holds_it)))) in
       let o = reader_of is_core.fit r low high in

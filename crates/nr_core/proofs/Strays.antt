@@ -84,9 +84,7 @@ strays_are keys rs (q ∷ qs) once cover =
     (λ ny. let c = head 1 (omega arith) in omega arith))
     (λ nz.
     let m = stands-old qs rs q (omega arith) in
-    let c : cond {A = ℕ} (nat_eq (how_often q qs + how_often q keys) 0) 1
-    0 ≡ 0 =
-    ap (λ d. cond {A = ℕ} d 1 0) (ne_eqb (how_often q qs + how_often q keys) 0 (λ e. omega arith)) in
+    let c = ap (λ d. cond {A = ℕ} d 1 0) (ne_eqb (how_often q qs + how_often q keys) 0 (λ e. omega arith)) in
     omega arith)
 
 all_stand : (qs rs : List ℕ) → ((i r : ℕ) → get_elem? rs i ≡ some r → 0 < how_often r qs)
@@ -159,8 +157,7 @@ named_at puts [] i slot l e = absurd (omega arith)
 named_at puts (zero ∷ names) zero slot l e = absurd (omega arith)
 named_at puts (zero ∷ names) (suc i) slot l e = named_at puts names i slot (omega arith) e
 named_at puts (suc t ∷ names) zero slot l e = let same : t ≡ slot = omega arith in
-    let o : only (get_or puts slot 0) (get_or puts t 0) ≡ 1
-    = ap (λ (y : ℕ). only (get_or puts slot 0) (get_or puts y 0)) same
+    let o = ap (λ (y : ℕ). only (get_or puts slot 0) (get_or puts y 0)) same
     ∙ only-same (get_or puts slot 0) in omega arith
 named_at puts (suc t ∷ names) (suc i) slot l e = let r = named_at puts names i slot (omega arith) e in omega arith
 
@@ -248,6 +245,5 @@ module _ (retired : List Retired) (marks : Marks) (next : ℕ) (readers : List P
           let has = (gathered y.0 y.1 y.3).placed y.2 y.4 in
           let has' = (after y.0 y.1 y.3).placed y.2 y.4 in
           let same : y.2 ≡ entry.slot = tidy.apart y.2 entry.slot has.1 here (has.0 ∙ y.5 ∙ e) in
-          let old : get_or marks'.puts entry.slot 0 ≡ get_or marks.puts entry.slot 0
-          = ap (λ (b : ℕ). get_or marks'.puts b 0) (sym same) ∙ has'.0 ∙ y.5 ∙ e in
+          let old = ap (λ (b : ℕ). get_or marks'.puts b 0) (sym same) ∙ has'.0 ∙ y.5 ∙ e in
           absurd (let g = tidy.fresh entry.slot here in omega arith))

@@ -127,8 +127,7 @@ module _ {A : Type 0} (role : A → Role) (marks : A → Marks) where
             ))
             (λ ne. let e' : name_number (get_or words i 0) ≡ suc s = sym (others i ne) ∙ e in
             let apart : s ≢ t
-            = λ z. let one : only (suc t) (name_number (get_or words i 0)) ≡ 1
-            = ap (only (suc t)) (e' ∙ ap suc z) ∙ only-same (suc t) in
+            = λ z. let one = ap (only (suc t)) (e' ∙ ap suc z) ∙ only-same (suc t) in
             absurd (omega (arith, below-term (λ j. only (suc t) (name_number (get_or words j 0))) shape.keys i l)) in
             let kept = own.puts i s l e' in (
               put_other s apart ∙ kept.0 ∙ sym (numbers i ne),
@@ -220,8 +219,7 @@ module _ {A : Type 0} (role : A → Role) (marks : A → Marks) where
         = λ i ne. get_or-set_other words k i x 0 ne in
         let contents = contents_behind shape words k x near in
         let size = length-row_words rows in
-        let spells : SlotSpells shape words' slot rows
-        = spells_more shape words words' slot rows (contents slot)
+        let spells = spells_more shape words words' slot rows (contents slot)
         (p.wants.row_set, λ index low. p.put index (omega arith)) in
         let yes : puts_at k e ≡ true = eq-eqb (call_key (call_of call)) k (key_same call) in
         let no : (i : ℕ) → i ≢ k → puts_at i e ≡ false
@@ -271,8 +269,7 @@ module _ {A : Type 0} (role : A → Role) (marks : A → Marks) where
         let p = stands_at core id at' is_at in
         let reads = p.1 in let near : k < shape.keys = reads.near in let wide = core.wide in let wide' = own.wide.0 in
         let quiet : (marks me).polls ≡ [] = subst (Sweeping role marks callers desk (marks me).polls) is_at own.sweep in
-        let here : name_number (get_or words' k 0) ≡ 0
-        = ap name_number (get_or-set_same words k x 0 (omega arith)) ∙ hole_names_none (number_at desk k) in
+        let here = ap name_number (get_or-set_same words k x 0 (omega arith)) ∙ hole_names_none (number_at desk k) in
         let other : (i : ℕ) → i ≢ k → get_or words' i 0 ≡ get_or words i 0
         = λ i ne. get_or-set_other words k i x 0 ne in
         writer_step core m there was
@@ -287,8 +284,7 @@ module _ {A : Type 0} (role : A → Role) (marks : A → Marks) where
         (λ ne. ap name_number (sym (other i ne)) ∙ z))
         (λ i. quiet_number log e i refl) (quiet_count log e refl)
         (λ s l on.
-        let none : only (suc s) (name_number x) ≡ 0
-        = ap (only (suc s)) (hole_names_none (number_at desk k)) ∙ only-zero s in
+        let none = ap (only (suc s)) (hole_names_none (number_at desk k)) ∙ only-zero s in
         omega (arith, lives_swapped shape words desk k x near (omega arith) s))
         own.noted (subst (HoldNoOthers role marks callers desk') (sym quiet) (none_hold role marks callers desk'))
         (λ s _ _. (subst (Untouched s) (sym is_at) tt, contents_behind shape words k x near s))))
@@ -312,8 +308,7 @@ module _ {A : Type 0} (role : A → Role) (marks : A → Marks) where
         let quiet : (marks me).polls ≡ [] = subst (Sweeping role marks callers desk (marks me).polls) is_at own.sweep in
         let shown : ShowsState shape words (get_or words k 0) (key.Asked p.number)
         = subst (ShowsState shape words (get_or words k 0)) p.asked (core.shows k near) in
-        let same : (i : ℕ) → name_number (get_or words' i 0) ≡ name_number (get_or words i 0)
-        = names_kept words k x (omega arith) (hole_names_none (number_at desk k + 1) ∙ sym shown.0) in
+        let same = names_kept words k x (omega arith) (hole_names_none (number_at desk k + 1) ∙ sym shown.0) in
         writer_step core m there was ans.0 (marks me)
         [] (no_places (Since role marks callers)) (λ place note here. inl here) (rw ans.1 (desk_keep own own.wide.0
         (λ i l. own.names i l ∙ sym (same i)) (λ i s l z. sym (same i) ∙ z) (λ i. quiet_number log e i refl)

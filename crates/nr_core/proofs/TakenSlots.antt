@@ -54,8 +54,7 @@ taken_are {shape = shape} {words = words} {roles = roles} {log = log} id {desk =
     = below-sum (λ slot. named shape words slot + unused slot desk.fresh) (λ slot. retirements slot desk.retired)
     shape.slots in
     let b = below-sum (named shape words) (λ slot. unused slot desk.fresh) shape.slots in
-    let r : below (λ slot. retirements slot desk.retired) shape.slots ≡ length desk.retired
-    = exchanged (λ slot (x : Retired). only slot x.slot)
+    let r = exchanged (λ slot (x : Retired). only slot x.slot)
     desk.retired shape.slots ∙ each_once desk.retired shape.slots (λ i x e. (mine.retired i x e).0) in
     omega (
       arith,

@@ -65,8 +65,7 @@ withdraws {shape = shape} {words = words} {log = log} core id {desk = desk} ther
     let x : ℕ = hole_word (number_at desk at + 1) false in
     let hole = hole_is (number_at desk at + 1) (omega arith) in
     let c = cancels_early (bound_of shape) at n early in
-    let leaves : state_after (bound_of shape) (model.Cancel at) (state_of map at) ≡ key.Hole (n + 1)
-    = ap (state_after (bound_of shape) (model.Cancel at)) p.asked ∙ c.1 in
+    let leaves = ap (state_after (bound_of shape) (model.Cancel at)) p.asked ∙ c.1 in
     let shown : ShowsState shape words w (key.Asked n)
     = subst (ShowsState shape words w) p.asked (core.shows at p.near) in
     let numbers : List ℕ = set desk.numbers at (number_at desk at + 1) in

@@ -99,10 +99,8 @@ reads_on {shape = shape} {words = words} {roles = roles} {log = log} core id {de
     let place : ℕ = content shape slot (length got) in let found : ℕ = get_or words place 0 in
     let reading = stands_at core id there is_at in
     let got' : List ℕ = got ++ found ∷ [] in
-    let longer : length got' ≡ suc (length got)
-    = length-got_next shape words roles log core (key_of call) slot got reading in
-    let first : get_or got' 0 0 ≡ length reading.rows
-    = read_first shape words roles log core (key_of call) slot got reading in
+    let longer = length-got_next shape words roles log core (key_of call) slot got reading in
+    let first = read_first shape words roles log core (key_of call) slot got reading in
     let keeps_so = keeps_moved desk (Reading call slot got) Idle is_at (λ _. refl) in
     let idle = moved_desk known Idle tt in let size = length-row_words reading.rows in
     let Good : Desk × Step → Type 0
