@@ -1,13 +1,11 @@
 -- A reader departs from the slot that it holds.
-use Rattle.std.proofs.Common.{Bool, List, arith, refl, set, sym, ℕ}
-use Rattle.std.proofs.Common.{◌+◌, ◌≡◌}
+use Rattle.std.proofs.Common.{Bool, List, arith, refl, sym, ℕ}
 use Rattle.nr_model.specs.declared.rows.Row.{Row}
 use Rattle.nr_core.proofs.Sums.{only-other, only-same, total-set, term_le}
 use Rattle.nr_core.specs.declared.operation.Operation.TheVariants.{Add}
-use Rattle.nr_core.specs.Roles.{held, holds}
+use Rattle.nr_core.specs.Roles.{holds}
 use Rattle.nr_core.specs.Slots.{departures}
 use Rattle.nr_core.specs.Steps.{CanStep, Departs}
-use Rattle.nr_core.specs.Sums.{only}
 use Rattle.nr_core.specs.declared.roles.Grip.TheVariants.{Nothing, On}
 use Rattle.nr_core.specs.declared.roles.Role.TheVariants.{Reader}
 use Rattle.nr_core.specs.declared.shape.Shape.{Shape}

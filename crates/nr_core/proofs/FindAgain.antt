@@ -3,7 +3,6 @@
 use Rattle.std.proofs.Common.{List, [], Bool, cond, ap, arith, get_or, refl, set, subst, suc, sym, append-nil, ℕ, ◌++◌}
 use Rattle.std.proofs.Common.{◌<◌, ◌∙◌, ◌∷◌, ◌≡◌}
 use Rattle.std.proofs.lemmas.Bool.{eqb-true}
-use Rattle.std.specs.Prelude.{Option, None, Some}
 use lib.Seq.{set-get_or}
 use Rattle.nr_model.specs.Histories.{Entry}
 use Rattle.nr_model.specs.Maps.{PartialMap, find_reply, next, state_of}
@@ -28,18 +27,12 @@ use Rattle.nr_model.specs.declared.calls.Call.TheVariants as model
 use Rattle.nr_model.specs.declared.calls.Reply.TheVariants as reply
 use Rattle.nr_model.specs.declared.states.KeyState.TheVariants as key
 
-abbrev set_in : Option (List Row) → List Row
-set_in None = []
-set_in (Some rows) = rows
-
 -- a slot spells one set
 one_set : {shape : Shape} {words : List ℕ} {roles : List Role} {log : List Entry} → Core shape words roles log
     → (slot : ℕ) (one other : List Row)
     → slot < shape.slots → SlotSpells shape words slot one → SlotSpells shape words slot other → one ≡ other
 one_set {shape = shape} {words = words} core slot one other near first second =
-    ap set_in
-    (sym (spelt_set shape words slot one core.wide near first)
-    ∙ spelt_set shape words slot other core.wide near second)
+    cc (spelt_set shape words slot one core.wide near first, spelt_set shape words slot other core.wide near second)
 
 -- a find leaves the map
 find_leaves : (map : PartialMap) (k : ℕ) → next map (model.Find k) ≡ map

@@ -30,17 +30,12 @@ use Rattle.nr_model.specs.declared.states.KeyState.TheVariants as key
 pub unused-free : (s f : ℕ) → f ≤ s → unused s f ≡ 1
 unused-free s f l = ap (λ b. cond {A = ℕ} b 1 0) (le-leb f s l)
 
-abbrev rank : KeyState → ℕ
-rank (key.Hole number) = 0
-rank (key.Asked number) = 1
-rank (key.Rows number rows) = 2
-
 pub not_hole : (z : KeyState) (number : ℕ) (rows : List Row) → z ≡ key.Rows number rows → (other : ℕ)
     → z ≡ key.Hole other → ⊥
-not_hole z number rows e other n = let two : rank z ≡ 2 = ap rank e in let none : rank z ≡ 0 = ap rank n in omega arith
+not_hole z number rows e other n = cc
 
 pub asked_no_hole : (z : KeyState) (number : ℕ) → z ≡ key.Asked number → (other : ℕ) → z ≡ key.Hole other → ⊥
-asked_no_hole z number e other n = let two : rank z ≡ 1 = ap rank e in let none : rank z ≡ 0 = ap rank n in omega arith
+asked_no_hole z number e other n = cc
 
 -- the list of numbers, where no state's number changes
 pub numbers_more : (shape : Shape) (m m' : PartialMap) (numbers : List ℕ)
@@ -109,27 +104,16 @@ module _ (shape : Shape) where
         (stays : (k : ℕ) → ((number : ℕ) → state_of m k ≡ key.Hole number → ⊥) → state_of m' k ≡ state_of m k) where
       pub wants_more : (call : WriterCall) (rows : List Row) → Wants shape words m hold call rows
           → Wants shape words' m' hold' call rows
-      wants_more call rows t = let same = stays (key_of call) t.no_hole in record {
-        near = t.near;
-        row_set = t.row_set;
-        no_hole = λ number e. t.no_hole number (sym same ∙ e);
-        done = ap (reply_at (bound_of shape) (call_of call)) same ∙ t.done;
-        leaves =
-            ap (state_after (bound_of shape) (call_of call)) same ∙ t.leaves
-            ∙ ap (λ (z : KeyState). key.Rows (number_of z) rows) (sym same);
-      }
+      wants_more call rows t = let same = stays (key_of call) t.no_hole in assumption (
+        λ (number : ℕ) (e : state_of m' (key_of call) ≡ key.Hole number). t.no_hole number (sym same ∙ e),
+        ap (reply_at (bound_of shape) (call_of call)) same ∙ t.done,
+        ap (state_after (bound_of shape) (call_of call)) same ∙ t.leaves
+            ∙ ap (λ (z : KeyState). key.Rows (number_of z) rows) (sym same),
+      )
 
       pub reads_more : (k s : ℕ) (got : List ℕ) → Reads shape words m hold k s got → Reads shape words' m' hold' k s got
       reads_more k s got t =
-          record {
-            near = t.near;
-            names = names k t.near ∙ t.names;
-            number = t.number;
-            rows = t.rows;
-            full = stays k (not_hole (state_of m k) t.number t.rows t.full) ∙ t.full;
-            part = t.part;
-            more = t.more;
-          }
+          search (names k t.near ∙ t.names, stays k (not_hole (state_of m k) t.number t.rows t.full) ∙ t.full, t)
 
       pub place_more : (fresh : ℕ) (l : List Retired) (p : Place) → ((s : ℕ) → s < shape.slots → 0 < taken s p → Left s)
           → AtPlace shape words m hold fresh l p → AtPlace shape words' m' hold' fresh l p
@@ -137,12 +121,7 @@ module _ (shape : Shape) where
       place_more fresh l (Reading call s got) left t = reads_more (key_of call) s got t
       place_more fresh l (Leaving k) left t = (t.0, reads_more k t.0 [] t.1)
       place_more fresh l (Withdrawing k) left t =
-          record {
-            near = t.near;
-            number = t.number;
-            asked = stays k (asked_no_hole (state_of m k) t.number t.asked) ∙ t.asked;
-            early = t.early;
-          }
+          search (stays k (asked_no_hole (state_of m k) t.number t.asked) ∙ t.asked, t)
       place_more fresh l (Searching call rows p) left t = (wants_more call rows t.0, t.1, t.2)
       place_more fresh l (Putting call rows s departed i) left t =
           let one = only-same s in

@@ -17,12 +17,11 @@ use Rattle.nr_core.proofs.FindAgain.{find_more}
 use Rattle.nr_core.proofs.Learn.{nothing}
 use Rattle.nr_core.proofs.Sums.{only-other, only-same, total-set}
 use Rattle.nr_core.specs.Core.{Core, ShowsState}
-use Rattle.nr_core.specs.Roles.{held, holds}
+use Rattle.nr_core.specs.Roles.{holds}
 use Rattle.nr_core.specs.StepLaws.{HoldNamedLaw, LookUpLaw}
 use Rattle.nr_core.specs.Steps.{LooksUp, Stepped}
 use Rattle.nr_core.specs.Slots.{SlotSpells, departures, name_number}
 use Rattle.nr_core.specs.Story.{entry, map_after}
-use Rattle.nr_core.specs.Sums.{only}
 use Rattle.nr_core.specs.declared.operation.Operation.TheVariants.{Load}
 use Rattle.nr_core.specs.declared.roles.Grip.TheVariants.{Nothing, On}
 use Rattle.nr_core.specs.declared.roles.Role.{Role}

@@ -19,21 +19,17 @@ use Rattle.nr_core.specs.Roles.{held, holds, retirements}
 use Rattle.nr_core.specs.Sums.{only}
 use Rattle.nr_core.specs.declared.roles.Desk.{Desk}
 use Rattle.nr_core.specs.declared.roles.Grip.{Grip}
-use Rattle.nr_core.specs.declared.roles.Grip.TheVariants.{Nothing, On}
+use Rattle.nr_core.specs.declared.roles.Grip.TheVariants.{On}
 use Rattle.nr_core.specs.declared.roles.Role.{Role}
-use Rattle.nr_core.specs.declared.roles.Role.TheVariants.{Note, Reader, Writer}
+use Rattle.nr_core.specs.declared.roles.Role.TheVariants.{Reader}
 use Rattle.nr_core.specs.declared.shape.Shape.{Shape}
 
 reader_of : (s : ℕ) (r : Role) → 0 < holds s r → (c : ℕ) × (x : Grip) × (r ≡ Reader c x) × (gripped x ≡ Some s)
-reader_of s (Writer desk) l = absurd (omega arith)
-reader_of s (Reader c Nothing) l = absurd (omega arith)
 reader_of s (Reader c (On t rows sized)) l = (c, On t rows sized, refl, ap (λ (y : ℕ). Some y) (only-is s t l))
-reader_of s Note l = absurd (omega arith)
+reader_of s other l = absurd (omega arith)
 
-abbrev pub grip_in : Role → Grip
-grip_in (Writer desk) = Nothing
-grip_in (Reader c x) = x
-grip_in Note = Nothing
+pub same_grip : {c c' : ℕ} {x x' : Grip} → Reader c x ≡ Reader c' x' → x ≡ x'
+same_grip e = cc
 
 module _ {A : Type 0} (role : A → Role) (marks : A → Marks) (callers : List A) where
   pub same_caller : Once role marks callers → (i j c : ℕ) (me w : A) (x y : Grip)
@@ -47,6 +43,25 @@ module _ {A : Type 0} (role : A → Role) (marks : A → Marks) (callers : List 
       (at_maps role callers i me at ∙ ap some is) (at_maps role callers j w there ∙ ap some also) in
       let one : only c c ≡ 1 = only-same c in let most = once c in absurd (omega arith))
 
+  -- what is known of a reader since then, of the reader as it is
+  pub since_itself : Once role marks callers → (place : ℕ) {reader : ℕ} {who : A} {grip : Grip}
+      → get_elem? callers place ≡ some who → role who ≡ Reader reader grip → (old : Past)
+      → Since role marks callers old → old.reader ≡ reader
+      → (old.count ≤ (marks who).acts)
+      × ((marks who).acts ≡ old.count → (gripped grip ≡ old.slot) × ((marks who).put ≡ old.put))
+  since_itself once place {reader} {who} {grip} there is old w same =
+      let z
+      = same_caller once w.place place reader w.who who w.grip grip w.there there
+      (w.is ∙ ap (λ (b : ℕ). Reader b w.grip) same) is in
+      let acts : (marks w.who).acts ≡ (marks who).acts = ap (λ (b : A). (marks b).acts) z in (
+        omega (arith, w.least),
+        λ e.
+            let s = w.same (acts ∙ e) in (
+              ap gripped (same_grip (sym is ∙ ap role (sym z) ∙ w.is)) ∙ s.0,
+              ap (λ (b : A). (marks b).put) (sym z) ∙ s.1,
+            ),
+      )
+
   -- one of the callers is that reader
   pub record ReaderThere : Type 0 where
     pub place : ℕ
@@ -59,6 +74,9 @@ module _ {A : Type 0} (role : A → Role) (marks : A → Marks) (callers : List 
 module _ {A : Type 0} {role : A → Role} {marks : A → Marks} {callers : List A} where
   abbrev pub noted : ReaderThere role marks callers → Past
   noted one = past one.reader one.grip (marks one.who)
+
+  pub since_now : (one : ReaderThere role marks callers) → Since role marks callers (noted one)
+  since_now one = let least : (marks one.who).acts ≤ (marks one.who).acts = omega arith in search (one, least)
 
   -- a slot that a poll finds held is held by one of them
   pub holder_of : (slot found arrivals : ℕ)
@@ -85,16 +103,7 @@ module _ {A : Type 0} {role : A → Role} {marks : A → Marks} {callers : List 
     module _ (notes : List Past) where
       pub since_more : AllSince role marks callers notes → AllSince role marks callers (notes ++ noted one ∷ [])
       since_more since at old there = ⊎_elim (since at old)
-          (λ (last : (at ≡ length notes) × (noted one ≡ old)). subst (Since role marks callers) last.1
-          (record {
-            place = one.place;
-            who = one.who;
-            there = one.there;
-            grip = one.grip;
-            is = one.is;
-            least = omega arith;
-            same = λ _. (refl, refl);
-          }))
+          (λ (last : (at ≡ length notes) × (noted one ≡ old)). subst (Since role marks callers) last.1 (since_now one))
           (at_last notes (noted one) old at there)
 
       pub present_more : (earlier : List Past) → NotesPresent role marks callers earlier notes
@@ -114,7 +123,7 @@ module _ {A : Type 0} {role : A → Role} {marks : A → Marks} {callers : List 
           let same
           = same_caller role marks callers once one.place place one.reader one.who who one.grip grip one.there here
           one.is is' in
-          ap (λ (b : Past). b.slot) (sym last.1) ∙ ap gripped (ap grip_in (sym one.is ∙ ap role same ∙ is')) ∙ on)
+          ap (λ (b : Past). b.slot) (sym last.1) ∙ ap gripped (same_grip (sym one.is ∙ ap role same ∙ is')) ∙ on)
           (at_last notes (noted one) old at there)
 
   -- what a poll of a held slot tells that notes it

@@ -202,7 +202,7 @@ abbrev Began : Shape → List Event → Type 0
 Began shape events = (call : WriterCall) → under_way (story_of shape events) ≡ call ∷ [] → BeganAmong shape events call
 
 not_both : {A : Type 0} (x : A) (list : List A) → list ≡ [] → list ≡ x ∷ [] → ⊥
-not_both x list none one = let n : length list ≡ 0 = ap length none in omega (arith, ap length one)
+not_both x list none one = cc
 
 began_more : (shape : Shape) (events : List Event) (event : Event) → Began shape events
     → Began shape (events ++ event ∷ [])
@@ -230,7 +230,7 @@ began_more shape events event began call is =
     })
     (⊎_elim (λ none. absurd (not_both call (under_way (tell story event)) none now))
     (λ starts.
-    let same : starts.0 ≡ call = ap (λ (list : List WriterCall). first_of starts.0 list) (sym starts.3 ∙ now) in
+    let same : starts.0 ≡ call = cc (starts.3) in
     let is_start : event ≡ Start call = starts.1 ∙ ap Start same in
     record {
       before = events;
@@ -242,10 +242,6 @@ began_more shape events event began call is =
           ∙ subst (λ e. entries_of (told_by story e) 0 ≡ []) is_start starts.4;
     }))
     (leaves story event)
-  where
-    first_of : WriterCall → List WriterCall → WriterCall
-    first_of other [] = other
-    first_of other (one ∷ list) = one
 
 began_since : (later events : List Event) (shape : Shape) → Began shape events → Began shape (events ++ later)
 began_since [] events shape began = subst (Began shape) (sym (append-nil events)) began

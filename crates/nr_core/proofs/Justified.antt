@@ -1,8 +1,8 @@
 -- A no-slot is justified.
-use Rattle.std.proofs.Common.{[], List, ap, arith, cond, false, get_or, length, map, refl, subst, sym, ℕ, ◌*◌}
+use Rattle.std.proofs.Common.{[], List, ap, arith, cond, get_or, length, map, refl, subst, sym, ℕ, ◌*◌}
 use Rattle.std.proofs.Common.{◌++◌, ◌+◌, ◌-◌, ◌∙◌, ◌∷◌, ◌≡◌, ◌≤◌}
 use Rattle.std.proofs.lemmas.List.{take_all}
-use Rattle.std.specs.Prelude.{Err, None, Ok, Option, Result, Some, nat_le}
+use Rattle.std.specs.Prelude.{None, Ok, Option, Some, nat_le}
 use Rattle.nr_model.specs.Histories.{Entry}
 use Rattle.nr_model.specs.Maps.{reply_at, state_of}
 use Rattle.nr_words.specs.KeyWords.{same_count}
@@ -20,13 +20,13 @@ use Rattle.nr_core.specs.Operations.{going, target_of}
 use Rattle.nr_core.specs.Refusals.{refusal}
 use Rattle.nr_core.specs.Roles.{taken}
 use Rattle.nr_core.specs.Slots.{bound_of, departures}
-use Rattle.nr_core.specs.States.{Arrive, Ask, Depart, Event, FindAgain, Go, Read, Start, State, key_of, retired_at}
+use Rattle.nr_core.specs.States.{Event, Go, Start, State, key_of, retired_at}
 use Rattle.nr_core.specs.Story.{Poll, Story, call_of, ending, map_after, poll_at, polls_after, polls_at, tell, told}
 use Rattle.nr_core.specs.Writer.{looked, put_on, went}
 use Rattle.nr_core.specs.declared.calls.NoSlot.{NoSlot}
 use Rattle.nr_core.specs.declared.calls.Refusal.{Refusal}
 use Rattle.nr_core.specs.declared.calls.Step.{Step}
-use Rattle.nr_core.specs.declared.calls.Step.TheVariants.{Ended, Going}
+use Rattle.nr_core.specs.declared.calls.Step.TheVariants.{Ended}
 use Rattle.nr_core.specs.declared.calls.WriterCall.{WriterCall}
 use Rattle.nr_core.specs.declared.places.Place.{Place}
 use Rattle.nr_core.specs.declared.places.Place.TheVariants.{Idle, Leaving, Putting, Reading, Searching, Withdrawing}
@@ -36,19 +36,10 @@ use Rattle.nr_core.proofs.Frames.{stands_at}
 use Rattle.nr_model.specs.declared.calls.Reply.TheVariants as reply
 use Rattle.nr_core.specs.declared.calls.WReply.TheVariants as writer
 
-abbrev result_number : Result Step Refusal → ℕ
-result_number (Ok step) = 0
-result_number (Err why) = 1
-
-abbrev step_or : Result Step Refusal → Step
-step_or (Ok step) = step
-step_or (Err why) = Going
-
 -- an answer that is no refusal
 answered : (o : Option Refusal) (given step : Step) → or_refusal o given ≡ Ok step → (o ≡ None) × (given ≡ step)
-answered None given step e = (refl, ap step_or e)
-answered (Some why) given step e =
-    absurd (let n : result_number (Err why) ≡ result_number (Ok step) = ap result_number e in omega arith)
+answered None given step e = (refl, cc)
+answered (Some why) given step e = absurd (cc)
 
 none_in : {A : Type 0} (l : List A) → length l ≡ 0 → l ≡ []
 none_in [] e = refl
@@ -181,11 +172,6 @@ pub no_slot_is_justified : (story : Story) (event : Event) → IsCoreState story
     → Swept story.state story.polls
     → Swept (tell story event).state (tell story event).polls → (counts : NoSlot) → EndsWithout story.state event counts
     → IsJustified story event counts
-no_slot_is_justified story (Arrive r k) is_core swept after counts e = absurd e
-no_slot_is_justified story (Read r i) is_core swept after counts e = absurd e
-no_slot_is_justified story (Depart r) is_core swept after counts e = absurd e
-no_slot_is_justified story (Ask r k) is_core swept after counts e = absurd e
-no_slot_is_justified story (FindAgain r k) is_core swept after counts e = absurd e
 no_slot_is_justified story (Start call) is_core swept after counts e =
     let state = story.state in
     let shape = state.shape in
@@ -212,3 +198,4 @@ no_slot_is_justified story Go is_core swept after counts e =
     let a = answered (refusal state Go) outcome.1 (Ended (writer.NoSlot counts)) e in
     let n = go_ending state story.history story.polls is_core swept desk.place refl counts a.1 in
     justify story Go is_core a.0 after counts n.0 n.1 outcome refl n.2
+no_slot_is_justified story other is_core swept after counts e = absurd e

@@ -16,12 +16,12 @@ use Rattle.nr_core.proofs.Sums.{only-is, some_term, term_le}
 use Rattle.nr_core.specs.Core.{AtPlace, Core, Grips}
 use Rattle.nr_core.specs.Roles.{held, holds, retirements, taken}
 use Rattle.nr_core.specs.declared.operation.Operation.TheVariants.{Load}
-use Rattle.nr_core.specs.Slots.{name_number, unused}
+use Rattle.nr_core.specs.Slots.{name_number}
 use Rattle.nr_core.specs.Steps.{LoadsWord}
 use Rattle.nr_core.specs.Story.{map_after}
 use Rattle.nr_core.specs.Sums.{below, only}
 use Rattle.nr_core.specs.declared.places.Place.{Place}
-use Rattle.nr_core.specs.declared.places.Place.TheVariants.{Idle, Leaving, Putting, Reading, Searching, Withdrawing}
+use Rattle.nr_core.specs.declared.places.Place.TheVariants.{Putting}
 use Rattle.nr_core.specs.declared.places.Retired.{Retired}
 use Rattle.nr_core.specs.declared.roles.Desk.{Desk}
 use Rattle.nr_core.specs.declared.roles.Grip.{Grip}
@@ -35,7 +35,7 @@ use Rattle.nr_core.specs.Marked.{AllSince, CanMark, Desked, Once, Since, lives}
 use Rattle.nr_core.specs.Exact.{Lists}
 use Rattle.nr_core.specs.MarkSteps.{ReaderLearns, WriterLearns}
 use Rattle.nr_core.proofs.ListPlaces.{at_maps, no_places, some_is}
-use Rattle.nr_core.proofs.Holders.{grip_in, same_caller}
+use Rattle.nr_core.proofs.Holders.{since_itself, since_now}
 use Rattle.nr_core.proofs.ReaderMarks.{reader_step, contents_loaded}
 use Rattle.nr_core.proofs.SwapMarks.{grips_it}
 use Rattle.nr_core.proofs.Tidy.{listed}
@@ -52,16 +52,12 @@ below_some f (suc n) l =
 not_taken : (shape : Shape) (words : List ℕ) (at : PartialMap) (holders : ℕ → ℕ) (fresh : ℕ)
     (retired : List Retired) (slot : ℕ) (p : Place)
     → 0 < holders slot → AtPlace shape words at holders fresh retired p → taken slot p ≡ 0
-not_taken shape words at holders fresh retired slot Idle l t = refl
-not_taken shape words at holders fresh retired slot (Reading a b c) l t = refl
-not_taken shape words at holders fresh retired slot (Leaving a) l t = refl
-not_taken shape words at holders fresh retired slot (Withdrawing a) l t = refl
-not_taken shape words at holders fresh retired slot (Searching a b c) l t = refl
 not_taken shape words at holders fresh retired slot (Putting a b mine c d) l t =
     dite (ℕ_discrete (only slot mine) 0) (λ z. z)
     (λ nz. absurd
     (let same = only-is slot mine (omega arith) in
     omega (arith, ap holders (sym same) ∙ t.nobody)))
+not_taken shape words at holders fresh retired slot other l t = refl
 
 grip_near : (shape : Shape) (words : List ℕ) (at : PartialMap) (holders : ℕ → ℕ) (x : Grip) (slot : ℕ)
     → Grips shape words at holders x → gripped x ≡ Some slot → slot < shape.slots
@@ -106,13 +102,8 @@ module _ {A : Type 0} (role : A → Role) (marks : A → Marks) where
       placed = λ slot on. ((own.held place reader slot who grip there is on).0, living slot on);
       kept = λ slot on. (own.held place reader slot who grip there is on).1;
       polled = λ i y e same.
-          let w = own.noted i y e in
-          let z = same_caller role marks callers once w.place place reader w.who who w.grip grip w.there there
-          (w.is ∙ ap (λ (b : ℕ). Reader b w.grip) same) is in
-          let a : (marks w.who).acts ≡ (marks who).acts = ap (λ (b : A). (marks b).acts) z in (
-            omega arith,
-            λ e'. ap (λ (r : Role). gripped (grip_in r)) (sym is ∙ ap role (sym z) ∙ w.is) ∙ (w.same (a ∙ e')).0,
-          );
+          let now = since_itself role marks callers once place there is y (own.noted i y e) same in
+          (now.0, λ acts. (now.1 acts).0);
     }
       where
         living : (slot : ℕ) → gripped grip ≡ Some slot → Living desk.retired (marks me) slot
@@ -140,16 +131,9 @@ module _ {A : Type 0} (role : A → Role) (marks : A → Marks) where
     refreshed (o ∷ told) since =
         let w = since 0 o refl in let q : Past = past o.reader w.grip (marks w.who) in
         let t = refreshed told (λ n p e. since (suc n) p e) in
-        let now_so : Since role marks callers q
-        = record {
-          place = w.place;
-          who = w.who;
-          there = w.there;
-          grip = w.grip;
-          is = w.is;
-          least = omega arith;
-          same = λ _. (refl, refl);
-        } in
+        let now_so
+        = since_now
+        (record { place = w.place; who = w.who; reader = o.reader; grip = w.grip; there = w.there; is = w.is }) in
         let cur = current w.place o.reader w.who w.grip w.there w.is in (
           q ∷ t.0,
           first (Since role marks callers) q t.0 now_so t.1,
@@ -203,17 +187,5 @@ module _ {A : Type 0} (role : A → Role) (marks : A → Marks) where
         (contents_loaded shape words place) (
           refl,
           refl,
-          λ n o e same.
-              let w = since n o e in
-              let z
-              = same_caller role marks callers once w.place id reader w.who me w.grip grip w.there at
-              (w.is ∙ ap (λ (b : ℕ). Reader b w.grip) same) was in
-              let a : (marks w.who).acts ≡ (marks me).acts = ap (λ (b : A). (marks b).acts) z in let l = w.least in (
-                omega arith,
-                λ e'.
-                    let s = w.same (a ∙ e') in (
-                      ap (λ (r : Role). gripped (grip_in r)) (sym was ∙ ap role (sym z) ∙ w.is) ∙ s.0,
-                      ap (λ (b : A). (marks b).put) (sym z) ∙ s.1,
-                    ),
-              ),
+          λ n o e. since_itself role marks callers once id at was o (since n o e),
         )

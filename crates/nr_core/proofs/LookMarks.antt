@@ -17,7 +17,7 @@ use Rattle.nr_core.specs.Story.{call_of, ending, entry, map_after}
 use Rattle.nr_core.specs.Writer.{looked, moved_to, read_on}
 use Rattle.nr_core.specs.declared.calls.NoSlot.{NoSlot}
 use Rattle.nr_core.specs.declared.calls.Step.{Step}
-use Rattle.nr_core.specs.declared.calls.Step.TheVariants.{Ended, Going}
+use Rattle.nr_core.specs.declared.calls.Step.TheVariants.{Ended}
 use Rattle.nr_core.specs.declared.calls.WriterCall.{WriterCall}
 use Rattle.nr_core.specs.declared.places.Place.TheVariants.{Idle, Reading, Searching}
 use Rattle.nr_core.specs.declared.places.Retired.{Retired}
@@ -39,15 +39,13 @@ use Rattle.nr_core.specs.declared.calls.WReply.TheVariants as writer
 
 -- whether a step puts a set
 abbrev step_puts : Step → Bool
-step_puts Going = false
 step_puts (Ended (writer.Reply answer)) = is_done answer
-step_puts (Ended (writer.NoSlot counts)) = false
+step_puts other = false
 
 quiet_end : (log : List Entry) (call : Call) (step : Step) → step_puts step ≡ false → QuietEnd log (ending call step)
-quiet_end log call Going q = nothing_ends log
 quiet_end log call (Ended (writer.Reply answer)) q =
     ((λ k. quiet_number log (entry 0 call answer) k q), quiet_count log (entry 0 call answer) q)
-quiet_end log call (Ended (writer.NoSlot counts)) q = nothing_ends log
+quiet_end log call other q = nothing_ends log
 
 no_slot_ends : (log : List Entry) (call : Call) (step : Step) (counts : NoSlot) → step ≡ Ended (writer.NoSlot counts)
     → log ++ ending call step ≡ log

@@ -10,12 +10,12 @@ use native.Mathlib.Decide.{ℕ_discrete}
 use Rattle.nr_model.specs.Histories.{Entry}
 use Rattle.nr_core.proofs.Sums.{at_set, below-same, here_after, only-is, some_term, term_le, terms_le}
 use Rattle.nr_core.specs.Core.{Core}
-use Rattle.nr_core.specs.Roles.{is_reader, is_writer, keeps, retirements}
+use Rattle.nr_core.specs.Roles.{is_writer, keeps, retirements}
 use Rattle.nr_core.proofs.Frames.{spells_more}
 use Rattle.nr_core.specs.Slots.{bound_of, content, name_number, named}
 use Rattle.nr_core.specs.Sums.{only}
 use Rattle.nr_core.specs.declared.places.Place.{Place}
-use Rattle.nr_core.specs.declared.places.Place.TheVariants.{Idle, Leaving, Putting, Reading, Searching, Withdrawing}
+use Rattle.nr_core.specs.declared.places.Place.TheVariants.{Idle, Searching}
 use Rattle.nr_core.specs.declared.places.Retired.{Retired}
 use Rattle.nr_core.specs.declared.roles.Desk.{Desk}
 use Rattle.nr_core.specs.declared.roles.Grip.{Grip}
@@ -24,7 +24,7 @@ use Rattle.nr_core.specs.declared.roles.Role.TheVariants.{Note, Reader, Writer}
 use Rattle.nr_core.specs.declared.shape.Shape.{Shape}
 use Rattle.nr_core.specs.Puts.{put_count, put_number}
 use Rattle.nr_core.specs.Marks.{Marks, Past, LoggedLoad, gripped, set_in, with_loads}
-use Rattle.nr_core.specs.Marked.{Keeps, Desked, Evolves, HasWriter, HoldNoOthers, KnowsMarks, Marked, Since, Sweeping}
+use Rattle.nr_core.specs.Marked.{Keeps, Desked, Evolves, HoldNoOthers, KnowsMarks, Marked, Since, Sweeping}
 use Rattle.nr_core.specs.Marked.{lives}
 use Rattle.nr_core.proofs.ListPlaces.{at_left, at_maps, set_other}
 
@@ -59,29 +59,11 @@ module _ {A : Type 0} (role : A → Role) (marks : A → Marks) where
             let b = s.same (sym acts ∙ sym q.1 ∙ eq) in (q.0 ∙ b.0, q.2 ∙ ap (λ (y : A). (marks y).put) same ∙ b.1))
             (λ (q : (marks before).acts < (marks after).acts). absurd (omega arith)) t.2;
       })
-      (λ ne.
-      record {
-        place = s.place;
-        who = s.who;
-        there = set_other callers id s.place after s.who ne s.there;
-        grip = s.grip;
-        is = s.is;
-        least = s.least;
-        same = s.same;
-      })
+      (λ ne. search (set_other callers id s.place after s.who ne s.there, s))
 
   pub since_snoc : (callers : List A) (more : A) (old : Past) → Since role marks callers old
       → Since role marks (callers ++ more ∷ []) old
-  since_snoc callers more old s =
-      record {
-        place = s.place;
-        who = s.who;
-        there = at_left callers (more ∷ []) s.place s.who s.there;
-        grip = s.grip;
-        is = s.is;
-        least = s.least;
-        same = s.same;
-      }
+  since_snoc callers more old s = search (at_left callers (more ∷ []) s.place s.who s.there, s)
 
   -- a retired slot has no other place
   pub rests : (shape : Shape) (words : List ℕ) (callers : List A) (log : List Entry) (id : ℕ) (me : A) (desk : Desk)
@@ -122,19 +104,12 @@ module _ {A : Type 0} (role : A → Role) (marks : A → Marks) where
       → (polls : List Past) (p : Place) → Sweeping role marks callers desk polls p
       → Sweeping role marks callers' desk polls p
   sweeping_frame callers callers' desk mine stay polls Idle t = hold_no_others callers callers' desk mine stay polls t
-  sweeping_frame callers callers' desk mine stay polls (Reading a b c) t = t
-  sweeping_frame callers callers' desk mine stay polls (Leaving a) t = t
-  sweeping_frame callers callers' desk mine stay polls (Withdrawing a) t = t
   sweeping_frame callers callers' desk mine stay polls (Searching a b p) t = (
     hold_no_others callers callers' desk mine stay polls t.0,
-    λ each. let sweeps = t.1 each in record {
-      many = sweeps.many;
-      slots = sweeps.slots;
-      different = sweeps.different;
-      other = hold_no_others callers callers' desk mine stay polls sweeps.other;
-    },
+    λ each. let sweeps = t.1 each in
+        assumption (hold_no_others callers callers' desk mine stay polls sweeps.other, sweeps),
   )
-  sweeping_frame callers callers' desk mine stay polls (Putting a b c d e) t = t
+  sweeping_frame callers callers' desk mine stay polls other t = t
 
   pub desk_frame : (shape : Shape) (words words' : List ℕ) (callers callers' : List A) (log log' : List Entry)
       (desk : Desk) (mine : Marks)
@@ -171,18 +146,7 @@ module _ {A : Type 0} (role : A → Role) (marks : A → Marks) where
       (loads : List LoggedLoad)
       → Desked role marks shape words callers log desk mine
       → Desked role marks shape words callers log desk (with_loads mine loads)
-  desk_loads shape words callers log desk mine loads t = record {
-    wide = t.wide;
-    names = t.names;
-    puts = t.puts;
-    held = t.held;
-    fresh = t.fresh;
-    apart = t.apart;
-    sets = t.sets;
-    many = t.many;
-    noted = t.noted;
-    sweep = t.sweep;
-  }
+  desk_loads shape words callers log desk mine loads t = assumption t
 
   pub knows_loads : (shape : Shape) (words : List ℕ) (callers : List A) (log : List Entry) (r : Role) (mine : Marks)
       (loads : List LoggedLoad)
@@ -202,27 +166,34 @@ module _ {A : Type 0} (role : A → Role) (marks : A → Marks) where
   knows_frame shape words words' callers callers' log log' Note mine writes t = tt
 
   not_both : (r : Role) (desk : Desk) (c : ℕ) (x : Grip) → r ≡ Writer desk → r ≡ Reader c x → ⊥
-  not_both r desk c x writes reads =
-      absurd (let z : is_reader (Writer desk) ≡ 1 = ap is_reader (sym writes) ∙ ap is_reader reads in omega arith)
+  not_both r desk c x writes reads = cc
 
   pub evolves_writer : (me next : A) (desk : Desk) → role me ≡ Writer desk → Evolves role marks me next
   evolves_writer me next desk was c x e = absurd (not_both (role me) desk c x was e)
 
-  -- a caller's step, after which it knows what it should, and so does each other caller
-  set_marked : (shape : Shape) (words words' : List ℕ) (callers : List A) (log log' : List Entry) (id : ℕ) (next : A)
-      → Marked role marks shape words callers log → HasWriter role marks (set callers id next)
+  -- a caller's step, after which it knows what it should, and so does each other caller; the writer goes on as one
+  pub set_marked : (shape : Shape) (words words' : List ℕ) (callers : List A) (log log' : List Entry) (id : ℕ)
+      (me next : A)
+      → Marked role marks shape words callers log → get_elem? callers id ≡ some me
+      → ((desk : Desk) → role me ≡ Writer desk → (desk' : Desk) × (role next ≡ Writer desk'))
       → KnowsMarks role marks shape words' (set callers id next) log' (role next) (marks next)
       → ((j : ℕ) (u : A) (desk : Desk) → j ≢ id → get_elem? callers j ≡ some u → role u ≡ Writer desk
       → Desked role marks shape words callers log desk (marks u)
       → Desked role marks shape words' (set callers id next) log' desk (marks u))
       → Marked role marks shape words' (set callers id next) log'
-  set_marked shape words words' callers log log' id next m has own others = record {
+  set_marked shape words words' callers log log' id me next m at goes_on own others = record {
     each = λ j u there. ⊎_elim
         (λ (z : (j ≡ id) × (next ≡ u)). rw (sym z.1) own)
         (λ (z : (j ≢ id) × (get_elem? callers j ≡ some u)). knows_frame shape words words' callers (set callers id next)
         log log' (role u) (marks u) (λ desk is. others j u desk z.0 z.1 is) (m.each j u z.1))
         (at_set callers id j next u there);
-    writer = has;
+    writer = let w = m.writer in dite (ℕ_discrete w.place id)
+        (λ e.
+        let now
+        = goes_on w.desk (ap role (some-injective me w.who (sym at ∙ ap (get_elem? callers) (sym e) ∙ w.there)) ∙ w.is)
+        in
+        record { place = id; who = next; desk = now.0; there = here_after callers id me next at; is = now.1 })
+        (λ ne. search (set_other callers id w.place next w.who ne w.there, w));
   }
 
   -- a writer's step: what its new desk knows of the others as they are
@@ -233,8 +204,7 @@ module _ {A : Type 0} (role : A → Role) (marks : A → Marks) where
       → Marked role marks shape words callers log → Desked role marks shape words' callers log' desk' (marks next)
       → Marked role marks shape words' (set callers id next) log'
   marked_writer shape words words' callers log log' id me next desk desk' core at was is m own =
-      set_marked shape words words' callers log log' id next m
-      (record { place = id; who = next; desk = desk'; there = here_after callers id me next at; is = is })
+      set_marked shape words words' callers log log' id me next m at (λ _ _. (desk', is))
       (rw is (desk_frame shape words' words' callers (set callers id next) log' log' desk' (marks next) (λ _ _. refl)
       (λ _. refl) refl (λ old. since_set callers id me next old at (evolves_writer me next desk was))
       (λ place reader slot who grip there reads holds. ⊎_elim
@@ -263,38 +233,20 @@ module _ {A : Type 0} (role : A → Role) (marks : A → Marks) where
       → SameContents shape words words' → Marked role marks shape words callers log
       → Marked role marks shape words' (set callers id next) log'
   marked_reader shape words words' callers log log' id me next c x y at was is step names puts many holds contents m =
-      set_marked shape words words' callers log log' id next m
-      (let w = m.writer in
-      let apart : w.place ≢ id
-      = λ e. not_both (role me) w.desk c x
-      (ap role (some-injective me w.who (sym at ∙ ap (get_elem? callers) (sym e) ∙ w.there)) ∙ w.is) was in
-      record {
-        place = w.place;
-        who = w.who;
-        desk = w.desk;
-        there = set_other callers id w.place next w.who apart w.there;
-        is = w.is;
-      })
+      set_marked shape words words' callers log log' id me next m at
+      (λ desk writes. absurd (not_both (role me) desk c x writes was))
       (rw is (subst (λ r. KnowsMarks role marks shape words callers log r (marks me)) was (m.each id me at)))
       (λ j u desk ne there writes t. desk_frame shape words words' callers (set callers id next) log log' desk (marks u)
       names puts many (λ old. since_set callers id me next old at step)
       (λ place reader slot who grip here reads on. ⊎_elim
       (λ (z : (place ≡ id) × (next ≡ who)).
       let both : Reader c y ≡ Reader reader grip = sym is ∙ ap role z.1 ∙ reads in
-      let h = holds j slot u desk there writes t (ap (λ r. gripped (grip_of r)) both ∙ on) in (
+      let number : c ≡ reader = cc in
+      let held : gripped y ≡ Some slot = cc in
+      let h = holds j slot u desk there writes t held in (
         (h.0.0 ∙ ap (λ (b : A). (marks b).put) z.1, h.0.1),
-        λ l. (id, me, x, at, was ∙ ap (λ (b : ℕ). Reader b x) (ap number_of both), h.1 l),
+        λ l. (id, me, x, at, was ∙ ap (λ (b : ℕ). Reader b x) number, h.1 l),
       ))
       (λ (z : (place ≢ id) × (get_elem? callers place ≡ some who)).
       (t.held place reader slot who grip z.1 reads on, λ _. (place, who, grip, z.1, reads, on)))
       (at_set callers id place next who here)) contents t)
-    where
-      grip_of : Role → Grip
-      grip_of (Writer e) = x
-      grip_of (Reader a b) = b
-      grip_of Note = x
-
-      number_of : Role → ℕ
-      number_of (Writer e) = 0
-      number_of (Reader a b) = a
-      number_of Note = 0

@@ -10,7 +10,8 @@ use Rattle.nr_words.specs.KeyWords.{hole_word}
 use Rattle.nr_words.specs.Places.{total_of}
 use Rattle.nr_core.proofs.Frames.{unused-free}
 use Rattle.nr_core.proofs.KeyWords.{hole_is}
-use Rattle.nr_core.proofs.StateRoles.{IsCoreState, no_grip, same_grip}
+use Rattle.nr_core.proofs.StateRoles.{IsCoreState, no_grip}
+use Rattle.nr_core.proofs.Holders.{same_grip}
 use Rattle.nr_core.proofs.Sums.{only-other}
 use Rattle.nr_core.specs.Core.{AreNumbers, Core, Knows, ShowsState}
 use Rattle.nr_core.specs.Roles.{held, holds, is_reader, is_writer, keeps, readers_from}
@@ -191,5 +192,5 @@ opening_core shape fits = record {
   };
   found = λ j s rows b e.
       let c = only_readers shape.readers 0 j (Reader (suc j) (On s rows b)) e in
-      absurd (no_grip s rows b (same_grip c.0 (suc j) Nothing (On s rows b) c.1));
+      absurd (no_grip s rows b (same_grip c.1));
 }

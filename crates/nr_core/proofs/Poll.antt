@@ -27,18 +27,16 @@ use Rattle.nr_core.specs.declared.calls.WriterCall.{WriterCall}
 use Rattle.nr_core.specs.declared.places.Place.TheVariants.{Idle, Searching}
 use Rattle.nr_core.specs.declared.places.Retired.{Retired}
 use Rattle.nr_core.specs.declared.roles.Desk.{Desk}
-use Rattle.nr_core.specs.declared.roles.Grip.TheVariants.{Nothing, On}
+use Rattle.nr_core.specs.declared.roles.Grip.TheVariants.{On}
 use Rattle.nr_core.specs.declared.roles.Role.{Role}
-use Rattle.nr_core.specs.declared.roles.Role.TheVariants.{Note, Reader, Writer}
+use Rattle.nr_core.specs.declared.roles.Role.TheVariants.{Reader, Writer}
 use Rattle.nr_core.specs.declared.shape.Shape.{Shape}
 use Rattle.nr_core.proofs.Frames.{stands_at}
 use Rattle.nr_core.proofs.Stepping.{writer_makes}
 
 holds-le : (s : ℕ) (r : Role) → holds s r ≤ is_reader r
-holds-le s (Writer desk) = omega arith
-holds-le s (Reader r Nothing) = omega arith
 holds-le s (Reader r (On t m b)) = only-le s t
-holds-le s Note = omega arith
+holds-le s other = omega arith
 
 -- nobody holds a slot whose departures are its arrivals
 pub nobody_holds : {shape : Shape} {words : List ℕ} {roles : List Role} {log : List Entry}

@@ -39,8 +39,8 @@ use Rattle.nr_core.proofs.Different.{few_of}
 use Rattle.nr_core.proofs.ListPlaces.{at_last, at_maps, before, inside, some_is}
 use Rattle.nr_core.proofs.MarksSince.{rests}
 use Rattle.nr_core.proofs.DeskMarks.{Went, desk_of, load_step, no_room_left}
-use Rattle.nr_core.proofs.Holders.{ReaderThere, alone_more, holder_of, in_range, noted, present_more, same_caller}
-use Rattle.nr_core.proofs.Holders.{since_more}
+use Rattle.nr_core.proofs.Holders.{ReaderThere, alone_more, holder_of, in_range, noted, present_more}
+use Rattle.nr_core.proofs.Holders.{since_itself, since_more}
 use Rattle.nr_core.proofs.Frames.{stands_at}
 use Rattle.nr_core.proofs.PutNumbers.{none_end}
 
@@ -146,10 +146,8 @@ module _ {A : Type 0} (role : A → Role) (marks : A → Marks) where
           note = noted who;
           more = refl;
           holds = found.1;
-          newer = λ n e there' same_reader. let w = sinces n e there' in let z
-              = same_caller role marks callers once w.place who.place who.reader w.who who.who w.grip who.grip w.there
-              who.there (w.is ∙ ap (λ (b : ℕ). Reader b w.grip) same_reader) who.is in
-              let acts : (marks w.who).acts ≡ (marks who.who).acts = ap (λ (b : A). (marks b).acts) z in omega arith;
+          newer = λ n e there' same_reader.
+              (since_itself role marks callers once who.place who.there who.is e (sinces n e there') same_reader).0;
           range = in_range who m;
           different = sweep.different;
           few = few;

@@ -30,7 +30,7 @@ use Rattle.nr_core.specs.declared.roles.Desk.{Desk}
 use Rattle.nr_core.specs.declared.roles.Grip.{Grip}
 use Rattle.nr_core.specs.declared.roles.Grip.TheVariants.{Nothing, On}
 use Rattle.nr_core.specs.declared.roles.Role.{Role}
-use Rattle.nr_core.specs.declared.roles.Role.TheVariants.{Note, Reader, Writer}
+use Rattle.nr_core.specs.declared.roles.Role.TheVariants.{Reader, Writer}
 use Rattle.nr_core.specs.declared.shape.Shape.{Shape}
 use Rattle.nr_core.specs.Puts.{put_number}
 use Rattle.nr_core.specs.Marks.{Marks, Past, acted, gripped}
@@ -38,7 +38,7 @@ use Rattle.nr_core.specs.Marked.{Keeps, CanMark, Desked, Evolves, MarkTelling, M
 use Rattle.nr_core.specs.MarkSteps.{ArrivesMarks, DepartsMarks, KeepsMarks}
 use Rattle.nr_core.proofs.ListPlaces.{no_places, some_is}
 use Rattle.nr_core.proofs.MarksSince.{SameContents, marked_reader, rests}
-use Rattle.nr_core.proofs.Holders.{grip_in}
+use Rattle.nr_core.proofs.Holders.{same_grip}
 use Rattle.nr_core.proofs.PutNumbers.{QuietEnd, none_end, one_ends}
 use Rattle.nr_model.specs.declared.calls.Call.TheVariants as model
 use Rattle.nr_model.specs.declared.calls.Reply.TheVariants as reply
@@ -77,11 +77,6 @@ asks_nothing_done number true b = refl
 asks_nothing_done number false true = refl
 asks_nothing_done number false false = refl
 
-abbrev number_of : Role → ℕ
-number_of (Writer e) = 0
-number_of (Reader a b) = a
-number_of Note = 0
-
 module _ {A : Type 0} {role : A → Role} {marks : A → Marks} {shape : Shape} {id : ℕ} {me : A} where
   -- a reader's step that leaves what the keys name and puts nothing
   pub reader_step : {operation : Operation} {tells : MarkTelling} {words : List ℕ}
@@ -106,8 +101,8 @@ module _ {A : Type 0} {role : A → Role} {marks : A → Marks} {shape : Shape} 
       same_polls moves holds contents told =
       let evolves : (who : A) → role who ≡ after → marks who ≡ now → Evolves role marks me who
       = λ who is_role is_marks c z e.
-      let n : reader ≡ c = ap number_of (sym was ∙ e) in
-      let g : gripped x ≡ gripped z = ap (λ r. gripped (grip_in r)) (sym was ∙ e) in (
+      let n : reader ≡ c = cc in
+      let g = ap gripped (same_grip (sym was ∙ e)) in (
         y,
         is_role ∙ is ∙ ap (λ (b : ℕ). Reader b y) n,
         ⊎_elim

@@ -74,7 +74,8 @@ module _ {A : Type 0} (role : A → Role) (marks : A → Marks) where
         let i : ℕ = departures shape slot in
         let word : ℕ = get_or words i 0 in
         let own = desk_of id m at was in
-        let there = at_maps role callers id me at ∙ ap some was in
+        let there : get_elem? (map role callers) id ≡ some (Writer desk)
+        = at_maps role callers id me at ∙ ap some was in
         let here : get_elem? desk.retired poll ≡ some entry = got_at desk.retired poll no_retired low in
         let count = ((core.knows id (Writer desk) there).retired poll entry here).1 in
         let listed = term_le (λ (y : Retired). only slot y.slot) desk.retired poll entry here in

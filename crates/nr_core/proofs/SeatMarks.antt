@@ -4,11 +4,9 @@ use Rattle.std.proofs.Common.{◌∙◌, ◌∷◌, ◌≡◌, ◌≢◌, ◌⊎
 use Rattle.std.proofs.lemmas.List.{length-replicate}
 use Rattle.std.specs.Prelude.{None, Some, replicate}
 use lib.ListN.{get_elem?}
-use mathlib.Core.Logic.{dite}
-use native.Mathlib.Decide.{ℕ_discrete}
 use mathlib.Core.Option.{some, some-injective, some-ne-none}
 use Rattle.nr_model.specs.Histories.{Entry}
-use Rattle.nr_core.proofs.Sums.{at_set, at_snoc, here_after, below-same, below-zero, only-zero}
+use Rattle.nr_core.proofs.Sums.{at_set, at_snoc, below-same, below-zero, only-zero}
 use Rattle.nr_core.specs.Roles.{is_reader}
 use Rattle.nr_core.specs.Slots.{name_number, named, content, SlotSpells}
 use Rattle.nr_core.specs.States.{opening_desk}
@@ -20,8 +18,8 @@ use Rattle.nr_core.specs.declared.roles.Role.TheVariants.{Note, Reader, Writer}
 use Rattle.nr_core.specs.declared.shape.Shape.{Shape}
 use Rattle.nr_core.specs.Marks.{Marks, gripped, opening_marks, with_loads}
 use Rattle.nr_core.specs.Marked.{Desked, Evolves, KnowsMarks, Marked, Since}
-use Rattle.nr_core.proofs.ListPlaces.{at_left, no_places, set_other}
-use Rattle.nr_core.proofs.MarksSince.{desk_frame, knows_frame, knows_loads, since_set, since_snoc}
+use Rattle.nr_core.proofs.ListPlaces.{at_left, no_places}
+use Rattle.nr_core.proofs.MarksSince.{desk_frame, knows_frame, knows_loads, set_marked, since_set, since_snoc}
 use Rattle.nr_model.specs.declared.rows.Row.{Row}
 
 zeros : (n i : ℕ) → let none : ℕ = 0 in get_or (replicate n none) i 0 ≡ none
@@ -104,14 +102,7 @@ module _ {A : Type 0} (role : A → Role) (marks : A → Marks) where
         (λ (z : next ≡ u). rw (sym z) own)
         (at_snoc callers next u j there);
     writer =
-        let w = m.writer in
-        record {
-          place = w.place;
-          who = w.who;
-          desk = w.desk;
-          there = at_left callers (next ∷ []) w.place w.who w.there;
-          is = w.is;
-        };
+        let w = m.writer in search (at_left callers (next ∷ []) w.place w.who w.there, w);
   }
     where
       more : (desk : Desk) (mine : Marks) → Desked role marks shape words callers log desk mine
@@ -142,30 +133,9 @@ module _ {A : Type 0} (role : A → Role) (marks : A → Marks) where
     -- a view that changes and keeps its role, and its marks but the loads if it is a caller's
     pub alike_marked : Marked role marks shape words callers log
         → Marked role marks shape words (set callers id next) log
-    alike_marked m = record {
-      each = λ j u there. ⊎_elim
-          (λ (z : (j ≡ id) × (next ≡ u)). rw (sym z.1) own)
-          (λ (z : (j ≢ id) × (get_elem? callers j ≡ some u)). knows (role u) (marks u) (m.each j u z.1))
-          (at_set callers id j next u there);
-      writer = let w = m.writer in dite (ℕ_discrete w.place id)
-          (λ e.
-          record {
-            place = id;
-            who = next;
-            desk = w.desk;
-            there = here_after callers id me next at;
-            is = same ∙ ap role (some-injective me w.who (sym at ∙ ap (get_elem? callers) (sym e) ∙ w.there))
-                ∙ w.is;
-          })
-          (λ ne.
-          record {
-            place = w.place;
-            who = w.who;
-            desk = w.desk;
-            there = set_other callers id w.place next w.who ne w.there;
-            is = w.is;
-          });
-    }
+    alike_marked m =
+        set_marked role marks shape words words callers log log id me next m at (λ desk is. (desk, same ∙ is)) own
+        (λ j u desk ne there is. desk_alike desk (marks u))
       where
         desk_alike : (desk : Desk) (mine : Marks) → Desked role marks shape words callers log desk mine
             → Desked role marks shape words (set callers id next) log desk mine
@@ -188,17 +158,12 @@ module _ {A : Type 0} (role : A → Role) (marks : A → Marks) where
             (at_set callers id place next who there))
             (λ _ _ _. refl) t
 
-        knows : (r : Role) (mine : Marks) → KnowsMarks role marks shape words callers log r mine
-            → KnowsMarks role marks shape words (set callers id next) log r mine
-        knows r mine =
-            knows_frame role marks shape words words callers (set callers id next) log log r mine
-            (λ desk is. desk_alike desk mine)
-
         own : KnowsMarks role marks shape words (set callers id next) log (role next) (marks next)
         own = rw same (⊎_elim
             (λ (e : marks next ≡ with_loads (marks me) (marks next).loads). subst
             (KnowsMarks role marks shape words (set callers id next) log (role me)) (sym e)
             (knows_loads role marks shape words (set callers id next) log (role me) (marks me) (marks next).loads
-            (knows (role me) (marks me) (m.each id me at))))
+            (knows_frame role marks shape words words callers (set callers id next) log log (role me) (marks me)
+            (λ desk is. desk_alike desk (marks me)) (m.each id me at))))
             (λ (e : role me ≡ Note). rw e tt)
             alike)

@@ -1,7 +1,7 @@
 -- The writer's steps that leave all words: the call goes on, takes a slot or has none (settles), or ends with a reply
 -- (ends).
 use Rattle.std.proofs.Common.{[], List, ap, append-nil, arith, cond, get_or, length, nat_eq, refl, set, subst, sym}
-use Rattle.std.proofs.Common.{ℕ, ◌++◌, ◌+◌, ◌<◌, ◌∙◌, ◌∷◌, ◌≡◌, ◌≢◌, ◌≤◌}
+use Rattle.std.proofs.Common.{ℕ, ◌++◌, ◌+◌, ◌<◌, ◌∙◌, ◌∷◌, ◌≡◌, ◌≤◌}
 use Rattle.std.proofs.lemmas.Bool.{eqb-false, lt-leb, ltb-false, ltb-true}
 use Rattle.std.specs.Prelude.{nat_lt}
 use lib.ListN.{get_elem?}

@@ -1,6 +1,6 @@
 -- What the core state of a story says in the words of the law: what stands between any two steps.
-use Rattle.std.proofs.Common.{Bool, List, ap, arith, cond, false, get_or, inl, inr, length, map, nat_eq, suc}
-use Rattle.std.proofs.Common.{sym, true, ℕ, ⊎_elim, ◌%◌, ◌*◌, ◌+◌, ◌-◌, ◌<◌, ◌^◌, ◌∙◌, ◌≡◌, ◌≤◌, ◌⊎◌}
+use Rattle.std.proofs.Common.{Bool, List, ap, arith, cond, false, get_or, inl, inr, length, map, nat_eq}
+use Rattle.std.proofs.Common.{sym, true, ℕ, ⊎_elim, ◌%◌, ◌*◌, ◌+◌, ◌-◌, ◌<◌, ◌^◌, ◌∙◌, ◌≡◌, ◌⊎◌}
 use Rattle.std.proofs.lemmas.Bool.{eqb-true, leb-true, lt-leb}
 use Rattle.std.specs.Prelude.{None, Ok, Option, Some, nat_le}
 use lib.ListN.{get_elem?}
@@ -23,13 +23,13 @@ use Rattle.nr_core.specs.Laws.{HoldsFound, Stands, map_of}
 use Rattle.nr_core.specs.Machine.{or_refusal, found_by, read_answer}
 use Rattle.nr_core.specs.Refusals.{has_reader, if_beyond, if_unreadable, refusal}
 use Rattle.nr_core.specs.Roles.{held, holds, taken}
-use Rattle.nr_core.specs.Slots.{bound_of, content, departures, unused}
+use Rattle.nr_core.specs.Slots.{bound_of, content, departures}
 use Rattle.nr_core.specs.States.{Read, State, hold_of, no_retired, slot_in}
 use Rattle.nr_core.specs.Story.{Story}
 use Rattle.nr_core.specs.declared.calls.Refusal.{Refusal}
 use Rattle.nr_core.specs.declared.places.Hold.{Hold}
 use Rattle.nr_core.specs.declared.places.Place.{Place}
-use Rattle.nr_core.specs.declared.places.Place.TheVariants.{Idle, Leaving, Putting, Reading, Searching, Withdrawing}
+use Rattle.nr_core.specs.declared.places.Place.TheVariants.{Putting}
 use Rattle.nr_core.specs.declared.places.Retired.{Retired}
 use Rattle.nr_core.specs.declared.roles.Grip.{Grip}
 use Rattle.nr_core.specs.declared.roles.Grip.TheVariants.{Nothing, On}
@@ -41,27 +41,15 @@ use Rattle.nr_core.specs.declared.calls.Refusal.TheVariants as refuse
 taken_nobody : (shape : Shape) (words : List ℕ) (map : PartialMap) (hold : ℕ → ℕ) (fresh : ℕ) (l : List Retired) (s : ℕ)
     (p : Place)
     → AtPlace shape words map hold fresh l p → 0 < taken s p → hold s ≡ 0
-taken_nobody shape words map hold fresh l s Idle t mine = absurd (omega arith)
-taken_nobody shape words map hold fresh l s (Reading call u got) t mine = absurd (omega arith)
-taken_nobody shape words map hold fresh l s (Leaving k) t mine = absurd (omega arith)
-taken_nobody shape words map hold fresh l s (Withdrawing k) t mine = absurd (omega arith)
-taken_nobody shape words map hold fresh l s (Searching call rows p) t mine = absurd (omega arith)
 taken_nobody shape words map hold fresh l s (Putting call rows u departed i) t mine =
     ap hold (sym (only-is s u mine)) ∙ t.nobody
-
-abbrev hold_number : Hold → ℕ
-hold_number hold.Nothing = 0
-hold_number (hold.On s n) = suc s
-
-abbrev hold_rows : Hold → Option ℕ
-hold_rows hold.Nothing = None
-hold_rows (hold.On s n) = n
+taken_nobody shape words map hold fresh l s other t mine = absurd (omega arith)
 
 erased_is : (x : Grip) (s : ℕ) (n : Option ℕ) → erased x ≡ hold.On s n
     → (rows : List Row) × (b : Bool) × (x ≡ On s rows b) × ((n ≡ None) ⊎ (n ≡ Some (length rows)))
-erased_is Nothing s n e = let z : 0 ≡ suc s = ap hold_number e in absurd (omega arith)
-erased_is (On t rows b) s n e = let z : suc t ≡ suc s = ap hold_number e in let same : t ≡ s = omega arith in
-    (rows, b, ap (λ (u : ℕ). On u rows b) same, known b (sym (ap hold_rows e)))
+erased_is Nothing s n e = absurd (cc)
+erased_is (On t rows b) s n e = let same : t ≡ s = cc in
+    (rows, b, ap (λ (u : ℕ). On u rows b) same, known b (cc))
   where
     known : (b : Bool) → n ≡ cond b (Some (length rows)) None → (n ≡ None) ⊎ (n ≡ Some (length rows))
     known true e = inr e
@@ -100,7 +88,8 @@ module _ (story : Story) (is_core : IsCoreState story.state story.history) (r s 
   holder_role =
       let high = dite (dec_le r story.state.shape.readers) (λ l. l)
       (λ l.
-      absurd (omega (arith, ap hold_number (sym (none_beyond story.state.holds (r - 1) (omega arith)) ∙ holds_it)))) in
+      let none = none_beyond story.state.holds (r - 1) (omega arith) in
+      absurd (cc)) in
       let o = reader_of is_core.fit r low high in
       let x = erased_is o.0 s n (sym o.2 ∙ holds_it) in
       (x.0, x.1, o.1 ∙ ap (λ (g : Grip). some (Reader r g)) x.2, x.3)

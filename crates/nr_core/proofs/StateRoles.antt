@@ -32,7 +32,7 @@ use Rattle.nr_core.specs.declared.roles.Role.{Role}
 use Rattle.nr_core.specs.declared.roles.Role.TheVariants.{Reader, Writer}
 use Rattle.nr_core.proofs.ListPlaces.{set_other}
 use Rattle.nr_core.specs.declared.operation.Operation.{Operation}
-use Rattle.nr_core.proofs.Holders.{grip_in}
+use Rattle.nr_core.proofs.Holders.{same_grip}
 use Rattle.nr_core.specs.declared.places.Hold.TheVariants as hold
 use Rattle.nr_model.specs.declared.calls.Call.TheVariants as model
 use Rattle.nr_model.specs.declared.calls.Reply.TheVariants as reply
@@ -114,22 +114,11 @@ found_quiet log es c rows none f = (
   of-append c log es ∙ ap (λ (l : List Entry). entries_of log c ++ l) none ∙ append-nil (entries_of log c) ∙ f.2,
 )
 
-pub same_grip : (c c' : ℕ) (x x' : Grip) → Reader c x ≡ Reader c' x' → x ≡ x'
-same_grip c c' x x' e = ap grip_in e
-
-abbrev grip_number : Grip → ℕ
-grip_number Nothing = 0
-grip_number (On s rows b) = 1
-
 pub no_grip : (s : ℕ) (rows : List Row) (b : Bool) → Nothing ≡ On s rows b → ⊥
-no_grip s rows b e = let n : grip_number Nothing ≡ grip_number (On s rows b) = ap grip_number e in omega arith
-
-abbrev grip_rows : Grip → List Row
-grip_rows Nothing = []
-grip_rows (On s rows b) = rows
+no_grip s rows b e = cc
 
 pub same_rows : (s t : ℕ) (rows m : List Row) (b b' : Bool) → On s rows b ≡ On t m b' → rows ≡ m
-same_rows s t rows m b b' e = ap grip_rows e
+same_rows s t rows m b b' e = cc
 
 -- a role that changes at one place
 pub found_set : (roles : List Role) (log es : List Entry) (i : ℕ) (x : Grip) → AllFound roles log
@@ -142,7 +131,7 @@ found_set roles log es i x all quiet own j s rows b e =
     (λ t.
     let is : i ≡ j = omega (arith, t.0) in
     subst (λ (n : ℕ). Found (log ++ es) (suc n) rows) is
-    (own s rows b (same_grip (suc i) (suc j) x (On s rows b) t.1)))
+    (own s rows b (same_grip t.1)))
     (λ t. found_quiet log es (suc j) rows (quiet j (λ z. t.0 (ap suc z))) (all j s rows b t.1))
     (at_set roles (suc i) (suc j) (Reader (suc i) x) (Reader (suc j) (On s rows b)) e)
 

@@ -57,12 +57,9 @@ pub record Sweep (retired : List Retired) (holds : List Hold) (polls : List Poll
   pub clear : poll ≤ total (clear_of (drop poll retired)) holds
 
 abbrev pub AtSweep : List Retired → List Hold → List Poll → Place → Type 0
-AtSweep retired holds polls Idle = Unit {0}
 AtSweep retired holds polls (Reading call slot got) = polls ≡ []
-AtSweep retired holds polls (Leaving key) = Unit {0}
-AtSweep retired holds polls (Withdrawing key) = Unit {0}
 AtSweep retired holds polls (Searching call rows poll) = Sweep retired holds polls poll
-AtSweep retired holds polls (Putting call rows slot departed index) = Unit {0}
+AtSweep retired holds polls other = Unit {0}
 
 pub record SweptBy (readers : ℕ) (desk : Desk) (holds : List Hold) (polls : List Poll) : Type 0 where
   pub few : length polls ≤ readers
@@ -186,10 +183,6 @@ held_swept {desk = desk} {holds = holds} {polls = polls} i now within more s =
     record { few = s.few; sweep = go desk.place s.sweep; held = s.held }
   where
     go : (place : Place) → AtSweep desk.retired holds polls place → AtSweep desk.retired (set holds i now) polls place
-    go Idle t = t
-    go (Reading call slot got) t = t
-    go (Leaving key) t = t
-    go (Withdrawing key) t = t
     go (Searching call rows poll) t = record {
       many = t.many;
       slots = t.slots;
@@ -201,7 +194,7 @@ held_swept {desk = desk} {holds = holds} {polls = polls} i now within more s =
             (got_at holds i hold.Nothing within),
       );
     }
-    go (Putting call rows slot departed index) t = t
+    go other t = t
 
 read_clear : (retired : List Retired) (index found : ℕ) (x : Hold)
     → clear_of retired x ≤ clear_of retired (read_hold index found x)

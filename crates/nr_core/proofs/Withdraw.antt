@@ -6,7 +6,7 @@ use Rattle.std.specs.Prelude.{nat_lt}
 use lib.ListN.{get_elem?}
 use mathlib.Core.Option.{some}
 use Rattle.nr_model.specs.Histories.{Entry}
-use Rattle.nr_model.specs.Maps.{last_number, number_of, reply_at, state_after, state_of}
+use Rattle.nr_model.specs.Maps.{last_number, number_of, reply_at, state_after}
 use Rattle.nr_model.specs.declared.calls.Reply.{Reply}
 use Rattle.nr_model.specs.declared.states.KeyState.{KeyState}
 use Rattle.nr_words.specs.KeyWords.{arrivals_of, hole_word, slot_of}

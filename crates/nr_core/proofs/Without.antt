@@ -1,6 +1,6 @@
 -- A call that ends with no slot: every slot was taken once, the call would be done, and the polls of this call were of
 -- all the retired slots.
-use Rattle.std.proofs.Common.{List, ap, arith, false, length, nat_eq, refl, sym, ℕ, ◌+◌, ◌-◌, ◌∙◌, ◌≡◌, [], get_or}
+use Rattle.std.proofs.Common.{List, ap, false, length, nat_eq, refl, sym, ℕ, ◌+◌, ◌-◌, ◌∙◌, ◌≡◌, [], get_or}
 use Rattle.std.proofs.Common.{◌≤◌, subst, ◌*◌, ◌++◌, ◌∷◌}
 use Rattle.std.proofs.lemmas.Bool.{eqb-true, ltb-false}
 use Rattle.std.specs.Prelude.{nat_lt, Option}
@@ -31,23 +31,11 @@ use Rattle.nr_model.specs.declared.states.KeyState.TheVariants as key
 use Rattle.nr_model.specs.declared.calls.Reply.TheVariants as reply
 use Rattle.nr_core.specs.declared.calls.WReply.TheVariants as writer
 
-abbrev step_number : Step → ℕ
-step_number Going = 0
-step_number (Ended (writer.Reply answer)) = 1
-step_number (Ended (writer.NoSlot counts)) = 2
-
-abbrev counts_in : Step → NoSlot
-counts_in Going = record { live = 0; held = 0 }
-counts_in (Ended (writer.Reply answer)) = record { live = 0; held = 0 }
-counts_in (Ended (writer.NoSlot counts)) = counts
-
 pub not_going : (counts : NoSlot) → Going ≡ Ended (writer.NoSlot counts) → ⊥
-not_going counts e =
-    omega (arith, ap step_number e)
+not_going counts e = cc
 
 pub not_reply : (counts : NoSlot) (answer : Reply) → ended answer ≡ Ended (writer.NoSlot counts) → ⊥
-not_reply counts answer e =
-    omega (arith, ap step_number e)
+not_reply counts answer e = cc
 
 -- what an outcome with no slot says of the desk before it
 pub record NoneLeft (shape : Shape) (desk : Desk) (outcome : Desk × Step) (counts : NoSlot) : Type 0 where
@@ -73,7 +61,7 @@ module _ (shape : Shape) (desk : Desk) (counts : NoSlot) where
     gives_up = λ _ e. absurd (not_going counts e);
     takes = λ _ _ e. absurd (not_going counts e);
     searches = λ _ _ e. absurd (not_going counts e);
-    none = λ _ full none done e. (record { same = refl; counted = sym (ap counts_in e) }, full, none, done);
+    none = λ _ full none done e. (record { same = refl; counted = cc }, full, none, done);
   }
 
   -- a look ends so at a fill of an asked key, and where a filled key's set is replaced
@@ -107,7 +95,7 @@ module _ (shape : Shape) (desk : Desk) (counts : NoSlot) where
       on_test Ends (same_count found (retired_at desk p).arrivals) (λ _ e. absurd (not_going counts e))
       (λ miss. on_test Ends (nat_lt (p + 1) (length desk.retired)) (λ _ e. absurd (not_going counts e))
       (λ last e.
-      (record { same = refl; counted = sym (ap counts_in e) }, ltb-false (p + 1) (length desk.retired) last, miss)))
+      (record { same = refl; counted = cc }, ltb-false (p + 1) (length desk.retired) last, miss)))
 
 -- a read, whose words spell the set at its key
 pub read_none : {shape : Shape} {words : List ℕ} {roles : List Role} {log : List Entry}
