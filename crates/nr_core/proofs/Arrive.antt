@@ -39,8 +39,7 @@ shows_word shape words w x (key.Rows number rows) n p m t = (t.0, n ∙ t.1, t.2
 find_keeps : (shape : Shape) (log : List Entry) (c k : ℕ) (y : Reply) → k < shape.keys → (j : ℕ)
     → state_of (map_after shape (log ++ entry c (model.Find k) y ∷ [])) j ≡ state_of (map_after shape log) j
 find_keeps shape log c k y near j = dite (ℕ_discrete j k)
-    (λ e. ap (state_of (map_after shape (log ++ entry c (model.Find k) y ∷ []))) e
-    ∙ state_same shape log (entry c (model.Find k) y) near ∙ ap (state_of (map_after shape log)) (sym e))
+    (λ e. cc (state_same shape log (entry c (model.Find k) y) near))
     (λ ne. state_other shape log (entry c (model.Find k) y) j ne)
 
 pub arrives : (shape : Shape) (id reader k : ℕ) → k < shape.keys

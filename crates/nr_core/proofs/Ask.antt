@@ -48,8 +48,7 @@ shows-asked shape words w x (key.Rows number rows) n p m t = (t.0, n ∙ t.1, t.
 asked_word : (shape : Shape) (words : List ℕ) (w : ℕ) (state : KeyState) → ShowsState shape words w state
     → ask_reply state ≡ ask_word w
 asked_word shape words w (key.Hole number) t =
-    sym (ap (λ b. cond b reply.Filled (cond (has_ask w) reply.Waiting (reply.Send (slot_of w)))) (names_none w t.0)
-    ∙ ap (λ b. cond b reply.Waiting (reply.Send (slot_of w))) (ne_eqb (w % 2) 1 (λ z. omega arith)) ∙ ap reply.Send t.2)
+    sym (cc (names_none w t.0, ne_eqb (w % 2) 1 (λ z. omega arith), t.2))
 asked_word shape words w (key.Asked number) t =
     sym (ap (λ b. cond b reply.Filled (cond (has_ask w) reply.Waiting (reply.Send (slot_of w))))
     (names_none w t.0) ∙ ap (λ b. cond b reply.Waiting (reply.Send (slot_of w))) (eq-eqb (w % 2) 1 t.1))

@@ -116,8 +116,7 @@ rename {shape = shape} {words = words} {roles = roles} {log = log} es core id {d
           (λ z.
           let w : get_or words' j 0 ≡ x = ap (λ (y : ℕ). get_or words' y 0) z ∙ here in
           ap (λ (y : ℕ). arrivals_of y % 2 ^ 40) w ∙ counted s (ap name_number (sym w) ∙ e) ∙ sym (sum s))
-          (λ ne. ap (λ (y : ℕ). arrivals_of y % 2 ^ 40) (other j ne)
-          ∙ core.counts j s l (ap name_number (sym (other j ne)) ∙ e) ∙ sym (sum s));
+          (λ ne. cc (other j ne, core.counts j s l (ap name_number (sym (other j ne)) ∙ e), sum s));
       knows = λ j u there. ⊎_elim
           (λ (t : (j ≡ id) × (Writer desk' ≡ u)). subst (Knows shape words' map' (held roles')) t.1 own)
           (λ (t : (j ≢ id) × (get_elem? roles j ≡ some u)). no_writer core words' map' (held roles') id at

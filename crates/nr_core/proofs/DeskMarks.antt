@@ -63,9 +63,7 @@ pub no_room_left : {shape : Shape} {words : List ℕ} {roles : List Role} {log :
     → NoRoom shape call desk.retired polls log
 no_room_left {shape = shape} {words = words} {roles = roles} {log = log} id {desk = desk} {call = call} core there free
     full done polls held few = record {
-      done = replies_so shape log (call_of call)
-          ∙ ap (λ (k : ℕ). reply_at (bound_of shape) (call_of call) (state_of (map_after shape log) k)) (key_same call)
-          ∙ done;
+      done = cc (replies_so shape log (call_of call), key_same call);
       slots = slots_are shape words roles log core id desk there full free;
       apart = λ slot. dite (dec_le (retirements slot desk.retired) 1) (λ l. l)
           (λ l.

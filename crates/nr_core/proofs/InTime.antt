@@ -174,8 +174,7 @@ leaves story Go = leaves_if story Go (λ _.
     ⊎_elim
     (⊎_elim (λ none. inr (inl none))
     (λ on. inl (on.0, ap (λ entries. entries_of entries 0) (no_ending_at state.desk.place outcome.1 on.1))))
-    (λ idle. inr (inl (ap (λ place. call_in (went state.shape state.desk place (found_by state Go)).0.place) idle
-    ∙ ap call_in idle)))
+    (λ idle. inr (inl (cc)))
     (went_on state.shape state.desk state.desk.place (found_by state Go)))
 
 -- the story of events that go on

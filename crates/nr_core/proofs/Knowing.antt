@@ -26,8 +26,7 @@ module _ {A : Type 0} (role : A → Role) (marks : A → Marks) where
   pub since_both : (callers : List A) (news known : List Past) → AllSince role marks callers news
       → AllSince role marks callers known → AllSince role marks callers (news ++ known)
   since_both callers news known new old n p e =
-      ⊎_elim (λ (q : (i : ℕ) × (get_elem? news i ≡ some p)). new q.0 p q.1)
-      (λ (q : (i : ℕ) × (get_elem? known i ≡ some p)). old q.0 p q.1) (at_append news known n p e)
+      elim (at_append news known n p e) [ inl q ↦ new q.0 p q.1 | inr q ↦ old q.0 p q.1 ]
 
   module _ (pasts : A → List Past) where
     -- after a step of the caller at `id`, or where its view changes beside its role

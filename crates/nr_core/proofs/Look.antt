@@ -120,8 +120,7 @@ module _ (shape : Shape) (words : List ℕ) (roles : List Role) (log : List Entr
         no_hole = not_hole (state (Replace k rows)) n old is;
         done = ap (reply_at (bound_of shape) (model.Replace k rows)) is;
         leaves =
-            ap (state_after (bound_of shape) (model.Replace k rows)) is
-            ∙ ap (λ (m : ℕ). key.Rows m rows) (sym (ap number_of is));
+            cc;
       }))
   look_all (Evict k) given near (key.Hole n) is t =
       rw (names_none (get_or words k 0) t.0) (stops (Evict k) reply.Nothing (key.Hole n) near is refl refl)

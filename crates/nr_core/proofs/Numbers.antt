@@ -43,8 +43,7 @@ numbers_next shape log e numbers near next t =
       agree = λ j low. dite (ℕ_discrete j k)
           (λ is. rw is
           (get_or-set_same numbers k x 0 (omega arith) ∙ sym next ∙ sym (ap number_of (state_same shape log e near))))
-          (λ ne. get_or-set_other numbers k j x 0 ne ∙ t.agree j low
-          ∙ ap number_of (sym (state_other shape log e j ne)));
+          (λ ne. cc (get_or-set_other numbers k j x 0 ne, t.agree j low, state_other shape log e j ne));
     }
 
 pub number_within : (shape : Shape) (log : List Entry) (numbers : List ℕ) → IsShape shape

@@ -74,9 +74,7 @@ module _ (count : ℕ) (retired : List Retired) (reaped : List Bool) (known : Ar
       let longer = length-append retired more in (
         omega (arith, known.0),
         λ place first.
-            ap (λ (it : Retired). slice_index_or reaped it.slot false)
-            (get_or-append retired more no_retired place (omega (arith, known.0)))
-            ∙ known.1 place first,
+            cc (get_or-append retired more no_retired place (omega (arith, known.0)), known.1 place first),
       )
 
   -- without one of them, or without a later one
@@ -97,9 +95,7 @@ module _ (count : ℕ) (retired : List Retired) (reaped : List Bool) (known : Ar
   reaped_behind at late inside =
       let shorter = length-remove retired at inside in (
         omega arith,
-        λ place first. ap (λ (it : Retired). slice_index_or reaped it.slot false)
-            (get_or-remove_below retired at no_retired place (omega arith) inside)
-            ∙ known.1 place first,
+        λ place first. cc (get_or-remove_below retired at no_retired place (omega arith) inside, known.1 place first),
       )
 
   -- one more was reaped

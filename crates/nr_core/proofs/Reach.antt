@@ -65,8 +65,7 @@ reached_next state event given reached = let kept = shape_kept state event in re
   given =
       rw kept (all_given (bound_of state.shape) reached.events event reached.given given);
   leads =
-      ap (λ s. next_state s event) reached.leads ∙ sym (run_more state.shape reached.events event)
-      ∙ ap (λ shape. run shape (reached.events ++ event ∷ [])) (sym kept);
+      cc (reached.leads, run_more state.shape reached.events event);
 }
 
 -- an event leads on

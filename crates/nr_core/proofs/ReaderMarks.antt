@@ -47,8 +47,7 @@ use Rattle.nr_model.specs.declared.calls.Reply.TheVariants as reply
 pub names_kept : (words : List ℕ) (i x : ℕ) → i < length words → name_number x ≡ name_number (get_or words i 0)
     → (key : ℕ) → name_number (get_or (set words i x) key 0) ≡ name_number (get_or words key 0)
 names_kept words i x l same key = dite (ℕ_discrete key i)
-    (λ e. ap (λ (y : ℕ). name_number (get_or (set words i x) y 0)) e ∙ ap name_number (get_or-set_same words i x 0 l)
-    ∙ same ∙ ap (λ (y : ℕ). name_number (get_or words y 0)) (sym e))
+    (λ e. cc (get_or-set_same words i x 0 l))
     (λ ne. ap name_number (get_or-set_other words i key x 0 ne))
 
 pub names_behind : (words : List ℕ) (keys i x : ℕ) → keys ≤ i → (key : ℕ) → key < keys
@@ -184,13 +183,8 @@ module _ {A : Type 0} (role : A → Role) (marks : A → Marks) (shape : Shape) 
             omega (arith, below-term (λ k. only (suc slot) (name_number (get_or words k 0))) shape.keys key near)),
       ))
       (contents_behind shape words key x near) (refl, refl) in
-      ⊎_elim
-      (λ (t : (slot : ℕ) × (rows : List Row) × (name_number word ≡ suc slot) × (slot < shape.slots)
-      × IsRowSet (bound_of shape) rows
-      × (after ≡ Reader reader (On slot rows false))
-      × (entries ≡ entry reader (model.Find key) (reply.Rows rows) ∷ [])).
-      finish (On t.0 t.1 false) (reply.Rows t.1) refl t.5 t.6 (λ slot on. t.2 ∙ ap suc (some_is t.0 slot on)))
-      (λ (t : (name_number word ≡ 0) × (after ≡ Reader reader Nothing)
-      × (entries ≡ entry reader (model.Find key) reply.Hole ∷ [])).
-      finish Nothing reply.Hole refl t.1 t.2 (λ slot on. absurd (cc)))
-      ans
+      elim ans [
+        | inl t ↦
+            finish (On t.0 t.1 false) (reply.Rows t.1) refl t.5 t.6 (λ slot on. t.2 ∙ ap suc (some_is t.0 slot on))
+        | inr t ↦ finish Nothing reply.Hole refl t.1 t.2 (λ slot on. absurd (cc))
+      ]

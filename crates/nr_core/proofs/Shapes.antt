@@ -10,8 +10,7 @@ use Rattle.nr_core.specs.declared.shape.Shape.{Shape}
 good_size : (limit size : ℕ) → (IsBadSize limit size → ⊥) → (0 < size) × (size ≤ limit)
 good_size limit size good = (
   ⊎_elim {A = 0 < size} {B = size ≤ 0} (λ more. more) (λ none. absurd (good (inl (omega arith)))) (cases_lt 0 size),
-  ⊎_elim {A = limit < size} {B = size ≤ limit} (λ over. absurd (good (inr over))) (λ within. within)
-      (cases_lt limit size),
+  elim (cases_lt limit size) [ inl over ↦ absurd (good (inr over)) | inr within ↦ within ],
 )
 
 pub good_shape : (shape : Shape) → (IsBadShape shape → ⊥) → IsShape shape

@@ -65,16 +65,9 @@ shown_is state roles log core writer_there k near =
     → cond (is_filled w) B C ≡ Some z
     = λ z. elim z as
     (λ v. ShowsState shape words w v → number_at state.desk k ≡ number_of v → cond (is_filled w) B C ≡ Some v) [
-      | key.Hole n ↦ λ t _. let even = t.1 in ap (λ b. cond b B C) (names_none w t.0)
-          ∙ ap (λ b. Some (cond {A = KeyState} b (key.Asked (slot_of w)) (key.Hole (slot_of w))))
-          (ne_eqb (w % 2) 1 (λ z. omega arith))
-          ∙ ap (λ (m : ℕ). Some (key.Hole m)) t.2
+      | key.Hole n ↦ λ t _. let even = t.1 in cc (names_none w t.0, ne_eqb (w % 2) 1 (λ z. omega arith), t.2)
       | key.Asked
-          n ↦ λ t _. ap (λ b. cond b B C) (names_none w t.0)
-          ∙ ap (λ b. Some (cond {A = KeyState} b (key.Asked (slot_of w)) (key.Hole (slot_of w))))
-          (eq-eqb (w % 2) 1 t.1)
-          ∙ ap (λ (m : ℕ). Some (key.Asked m)) t.2
+          n ↦ λ t _. cc (names_none w t.0, eq-eqb (w % 2) 1 t.1, t.2)
       | key.Rows number rows ↦ λ t same. let n = names_one w t.0 t.1 in
-          ap (λ b. cond b B C) n.0 ∙ ap Given n.1 ∙ ap (option_map (λ rows. key.Rows (number_at state.desk k) rows))
-          (spelt_set shape words t.0 rows core.wide t.2 t.3) ∙ ap (λ (m : ℕ). Some (key.Rows m rows)) same
+          cc (n.0, n.1, spelt_set shape words t.0 rows core.wide t.2 t.3)
     ] in go z (core.shows k near) listed

@@ -76,9 +76,7 @@ reads_word : (state : State) (reader slot : ℕ) (size : Option ℕ) (rows : Lis
 reads_word state reader slot size rows index holds_it known spelt ok =
     let g = guard (has_reader state.shape reader) (if_unreadable index (hold_of state reader)) refuse.OutOfRange ok in
     let low = within_words index size rows known (ap (if_unreadable index) (sym holds_it) ∙ g.1) in
-    ap (λ (o : Option Refusal). or_refusal o (found_by state (Read reader index))) ok
-    ∙ ap (λ (y : Hold). Ok (get_or state.words (content state.shape (slot_in y) index) 0)) holds_it
-    ∙ ap (λ (w : ℕ). Ok w) (spelt index low)
+    cc (spelt index low)
 
 -- a reader that holds a slot, by its role
 module _ (story : Story) (is_core : IsCoreState story.state story.history) (r s : ℕ) (n : Option ℕ) (low : 0 < r)
@@ -135,11 +133,9 @@ stands story is_core =
         named_in = named_inside state.shape state.words roles story.history core;
         retired_in = λ i low.
             (desk.retired i (get_or state.desk.retired i no_retired) (got_at state.desk.retired i no_retired low)).0;
-        named_count = λ k s near e. core.counts k s near e
-            ∙ ap (λ (n : ℕ). (get_or state.words (departures shape s) 0 + n) % 2 ^ 40) (sums s).0;
+        named_count = λ k s near e. cc (core.counts k s near e, (sums s).0);
         retired_count = λ i low. let x = get_or state.desk.retired i no_retired in
-            (desk.retired i x (got_at state.desk.retired i no_retired low)).1
-            ∙ ap (λ (n : ℕ). (get_or state.words (departures shape x.slot) 0 + n) % 2 ^ 40) (sums x.slot).0;
+            cc ((desk.retired i x (got_at state.desk.retired i no_retired low)).1, (sums x.slot).0);
         unheld = λ s near mine. sym (sums s).0 ∙ dite (dec_le state.desk.fresh s) (λ l. (desk.free s l near).0)
             (λ l.
             taken_nobody shape state.words (map_of story) (held roles) state.desk.fresh state.desk.retired s

@@ -68,8 +68,7 @@ fit_reader n roles holds desk f i near x y e = let size = f.size in let callers 
       (λ same. (
         x,
         rw same (let o = f.readers i near in here_after roles (suc i) (Reader (suc i) o.0) (Reader (suc i) x) o.1),
-        ap (λ (m : ℕ). get_or (set holds i y) m hold.Nothing) same
-            ∙ get_or-set_same holds i y hold.Nothing (omega arith) ∙ e,
+        cc (get_or-set_same holds i y hold.Nothing (omega arith)),
       ))
       (λ ne.
       let o = f.readers j low in (
@@ -187,8 +186,7 @@ pub found_now : (log : List Entry) (c k : ℕ) (rows : List Row)
 found_now log c k rows = let e = entry c (model.Find k) (reply.Rows rows) in (
   k,
   entries_of log c,
-  of-append c log (e ∷ []) ∙ ap (λ (l : List Entry). entries_of log c ++ l)
-      (one_same c c (model.Find k) (reply.Rows rows) refl),
+  cc (of-append c log (e ∷ []), one_same c c (model.Find k) (reply.Rows rows) refl),
 )
 
 pub ending_other : (call : Call) (state : Step) (j : ℕ) → entries_of (ending call state) (suc j) ≡ []

@@ -73,8 +73,7 @@ only-is k x h = dite (ℕ_discrete x k) (λ e. e) (λ ne. absurd (omega (arith, 
 pub only-suc : (s t : ℕ) → only (suc s) (suc t) ≡ only s t
 only-suc s t =
     dite (ℕ_discrete t s)
-    (λ e. ap (λ b. cond {A = ℕ} b 1 0) (eq-eqb (suc t) (suc s) (ap suc e))
-    ∙ sym (ap (λ b. cond {A = ℕ} b 1 0) (eq-eqb t s e)))
+    (λ e. cc (eq-eqb (suc t) (suc s) (ap suc e), eq-eqb t s e))
     (λ ne. only-other (suc s) (suc t) (λ e. ne (omega arith)) ∙ sym (only-other s t ne))
 
 pub only-zero : (s : ℕ) → only (suc s) 0 ≡ 0

@@ -87,8 +87,7 @@ swap_step {shape = shape} {words = words} {roles = roles} {log = log} core id {d
     = λ s. ap (λ (pair : ℕ × ℕ). (pair.0 + pair.1) % 2 ^ 40) (λ i. (dep s i, still s i)) in
     let left : (s : ℕ) → Left shape words words' map map' (held roles) (held roles') s = λ s. record {
       contents = λ j low. get_or-set_other words k (content shape s j) x 0 (λ z. omega arith);
-      nobody = λ z. still s
-          ∙ z;
+      nobody = λ z. cc (still s);
       deps = λ _. dep s;
       sum = sum s;
     } in

@@ -114,16 +114,14 @@ module _ {A : Type 0} (role : A → Role) (marks : A → Marks) where
       record {
         wide = (length-set mine.names n (suc t) ∙ wide, length-set mine.puts t (put_count log) ∙ wide');
         names = λ i l. dite (ℕ_discrete i n)
-            (λ e. ap (index (set mine.names n (suc t))) e ∙ get_or-set_same mine.names n (suc t) 0 (omega arith)
-            ∙ sym here ∙ ap (λ (y : ℕ). name_number (get_or words' y 0)) (sym e))
+            (λ e. cc (get_or-set_same mine.names n (suc t) 0 (omega arith)))
             (λ ne. get_or-set_other mine.names n i (suc t) 0 ne ∙ own.names i l ∙ sym (others i ne));
         puts = λ i s l e. dite (ℕ_discrete i n)
             (λ z.
             let same : s ≡ t
             = omega (arith, ap (λ (y : ℕ). name_number (get_or words' y 0)) (sym z) ∙ e) in (
               ap (index puts') same ∙ put_here ∙ sym number ∙ ap (put_number log') (sym z),
-              ap (flag (set mine.reaped t false)) same
-                  ∙ cleared mine.reaped t,
+              cc (cleared mine.reaped t),
             ))
             (λ ne. let e' : name_number (get_or words i 0) ≡ suc s = sym (others i ne) ∙ e in
             let apart : s ≢ t
@@ -275,8 +273,7 @@ module _ {A : Type 0} (role : A → Role) (marks : A → Marks) where
         writer_step core m there was
         ans.0 (without_name (marks me) k) [] (no_places (Since role marks callers)) (λ place note here. inl here)
         (rw ans.1 (desk_keep own (length-set (marks me).names k 0 ∙ wide') (λ i l. dite (ℕ_discrete i k)
-        (λ z. ap (index (set (marks me).names k 0)) z ∙ get_or-set_same (marks me).names k 0 0 (omega arith)
-        ∙ sym here ∙ ap (λ (y : ℕ). name_number (get_or words' y 0)) (sym z))
+        (λ z. cc (get_or-set_same (marks me).names k 0 0 (omega arith)))
         (λ ne. get_or-set_other (marks me).names k i 0 0 ne ∙ own.names i l ∙ sym (ap name_number (other i ne))))
         (λ i s l z. dite (ℕ_discrete i k)
         (λ y. absurd

@@ -45,6 +45,5 @@ unpublishes {shape = shape} {words = words} {log = log} core id {desk = desk} th
     (hole.0, hole.1, hole.2 ∙ known.numbers.agree at r.near ∙ ap number_of r.full))
     (λ s. ap (taken s) is_at ∙ sym (ap (only (suc s)) hole.0 ∙ only-zero s)) (λ s e. absurd (omega (arith, hole.0)))
     (numbers_kept shape log (entry 0 (model.Evict at) reply.Evicted) desk.numbers r.near
-    (ap (λ (z : KeyState). number_of (state_after (bound_of shape) (model.Evict at) z)) r.full
-    ∙ sym (ap number_of r.full))
+    (cc (r.full))
     known.numbers)

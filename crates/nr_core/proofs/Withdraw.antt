@@ -46,8 +46,7 @@ cancels_early bound k n early =
 asked_retires_none : (shape : Shape) (words : List ℕ) (w n : ℕ) (l : List Retired)
     → ShowsState shape words w (key.Asked n) → l ++ unnamed w ≡ l
 asked_retires_none shape words w n l shown =
-    ap (λ b. l ++ cond b (record { slot = slot_of w; arrivals = arrivals_of w } ∷ []) []) (names_none w shown.0)
-    ∙ append-nil l
+    cc (names_none w shown.0, append-nil l)
 
 pub withdraws : {shape : Shape} {words : List ℕ} {roles : List Role} {log : List Entry}
     (core : Core shape words roles log) (id : ℕ) {desk : Desk}
