@@ -31,9 +31,8 @@ use Rattle.nr_model.specs.declared.calls.Reply.TheVariants as reply
 -- a word that names the same and asks the same shows the same
 shows_word : (shape : Shape) (words : List ℕ) (w x : ℕ) (state : KeyState) → name_number x ≡ name_number w
     → x % 2 ≡ w % 2 → slot_of x ≡ slot_of w → ShowsState shape words w state → ShowsState shape words x state
-shows_word shape words w x (key.Hole number) n p m t = (n ∙ t.0, p ∙ t.1, m ∙ t.2)
-shows_word shape words w x (key.Asked number) n p m t = (n ∙ t.0, p ∙ t.1, m ∙ t.2)
 shows_word shape words w x (key.Rows number rows) n p m t = (t.0, n ∙ t.1, t.2, t.3)
+shows_word shape words w x other n p m t = (n ∙ t.0, p ∙ t.1, m ∙ t.2)
 
 -- a find changes no state
 find_keeps : (shape : Shape) (log : List Entry) (c k : ℕ) (y : Reply) → k < shape.keys → (j : ℕ)

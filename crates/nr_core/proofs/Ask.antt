@@ -40,9 +40,8 @@ asked_number (key.Rows number rows) = refl
 -- an asked word shows the asked state
 shows-asked : (shape : Shape) (words : List ℕ) (w x : ℕ) (state : KeyState) → name_number x ≡ name_number w → x % 2 ≡ 1
     → slot_of x ≡ slot_of w → ShowsState shape words w state → ShowsState shape words x (asked state)
-shows-asked shape words w x (key.Hole number) n p m t = (n ∙ t.0, p, m ∙ t.2)
-shows-asked shape words w x (key.Asked number) n p m t = (n ∙ t.0, p, m ∙ t.2)
 shows-asked shape words w x (key.Rows number rows) n p m t = (t.0, n ∙ t.1, t.2, t.3)
+shows-asked shape words w x other n p m t = (n ∙ t.0, p, m ∙ t.2)
 
 -- the reply of a key's state is that of its word
 asked_word : (shape : Shape) (words : List ℕ) (w : ℕ) (state : KeyState) → ShowsState shape words w state

@@ -1,7 +1,7 @@
 -- How many slots are where, of any core state: a retired slot stands once, the retired ones are no more than the slots,
 -- and once every slot was taken the filled keys and the retired slots are all of them.
 use Rattle.std.proofs.Common.{Bool, List, [], ap, arith, cond, get_or, length, refl, set, suc, sym, ℕ, ◌+◌, ◌<◌, ◌∙◌}
-use Rattle.std.proofs.Common.{◌∷◌, ◌≡◌, ◌≤◌}
+use Rattle.std.proofs.Common.{zero, ◌∷◌, ◌≡◌, ◌≤◌}
 use Rattle.std.proofs.lemmas.Bool.{lt-leb}
 use Rattle.std.specs.List.{count_by}
 use lib.ListN.{get_elem?}
@@ -12,8 +12,10 @@ use Rattle.nr_model.proofs.HistoryLemmas.{count_by-cons}
 use Rattle.nr_model.specs.Histories.{Entry}
 use Rattle.nr_model.specs.Maps.{filled_count, is_filled_key, state_of}
 use Rattle.nr_model.specs.declared.states.KeyState.{KeyState}
+use Rattle.nr_core.proofs.Frames.{unused-free}
 use Rattle.nr_core.proofs.Histories.{length-now}
 use Rattle.nr_core.proofs.OnKey.{in_range}
+use Rattle.nr_core.proofs.KeyWords.{is_named}
 use Rattle.nr_core.proofs.Sums.{below-exchanged, below-few, below-fewer, below-first, below-one, below-only, below-same}
 use Rattle.nr_core.proofs.Sums.{below-sum, below-term, below-zero, exchanged, only-same, only-suc, only-zero, terms_le}
 use Rattle.nr_core.proofs.Sums.{total-set}
@@ -40,13 +42,23 @@ count_below p d (x ∷ l) =
       count_by-cons p x l,
     )
 
+-- the slots below n that were never taken
+unused_below : (fresh n : ℕ) → fresh ≤ n → below (λ slot. unused slot fresh) n + fresh ≡ n
+unused_below fresh zero l = omega arith
+unused_below fresh (suc n) l = dite (ℕ_discrete fresh (suc n))
+    (λ e.
+    let none
+    = below-same (λ slot. unused slot fresh) (λ _. 0) (suc n)
+    (λ slot near. ap (λ b. cond {A = ℕ} b 1 0) (lt-leb fresh slot (omega arith))) in
+    omega (arith, below-zero (suc n)))
+    (λ ne. let u = unused-free n fresh (omega arith) in let t = unused_below fresh n (omega arith) in omega arith)
+
 -- THE WRITER'S SLOTS
 
 no_writers : (s : ℕ) (l : List Role) → total is_writer l ≡ 0 → total (keeps s) l ≡ 0
 no_writers s [] none = refl
 no_writers s (Writer desk ∷ l) none = absurd (omega arith)
-no_writers s (Reader reader grip ∷ l) none = omega (arith, no_writers s l (omega arith))
-no_writers s (Note ∷ l) none = omega (arith, no_writers s l (omega arith))
+no_writers s (other ∷ l) none = omega (arith, no_writers s l (omega arith))
 
 module _ (shape : Shape) (words : List ℕ) (roles : List Role) (log : List Entry) (core : Core shape words roles log)
     (id : ℕ) (desk : Desk) (there : get_elem? roles id ≡ some (Writer desk)) where
@@ -117,13 +129,7 @@ module _ (shape : Shape) (words : List ℕ) (roles : List Role) (log : List Entr
 
   -- and is named
   pub names_it : (k s : ℕ) → k < shape.keys → name_number (get_or words k 0) ≡ suc s → 0 < named shape words s
-  names_it k s near names =
-      omega (
-        arith,
-        below-term (λ j. only (suc s) (name_number (get_or words j 0))) shape.keys k near,
-        ap (only (suc s)) names,
-        only-same (suc s),
-      )
+  names_it k s near names = is_named shape words k s near names
 
   one_name : (k : ℕ) → k < shape.keys
       → below (λ s. only (suc s) (name_number (get_or words k 0))) shape.slots
@@ -155,17 +161,23 @@ module _ (shape : Shape) (words : List ℕ) (roles : List Role) (log : List Entr
       ∙ ap (below (λ k. cond (is_filled_key (state_of (map_after shape log) k)) 1 0)) (sym (length-now shape log))
       ∙ sym (count_below is_filled_key (key.Hole 0) (map_after shape log).states)
 
-  -- once every slot was taken, the filled keys and the retired slots are all the slots, where the writer has taken none
-  pub slots_are : (id : ℕ) (desk : Desk) → get_elem? roles id ≡ some (Writer desk) → shape.slots ≤ desk.fresh
-      → ((s : ℕ) → taken s desk.place ≡ 0) → filled_count (map_after shape log) + length desk.retired ≡ shape.slots
-  slots_are id desk there full free = omega (
+  -- while no call has taken a slot, each slot that was ever taken is named by a filled key or retired
+  pub taken_are : (id : ℕ) (desk : Desk) → get_elem? roles id ≡ some (Writer desk)
+      → ((s : ℕ) → taken s desk.place ≡ 0) → filled_count (map_after shape log) + length desk.retired ≡ desk.fresh
+  taken_are id desk there free = omega (
     arith,
     named_are_filled,
     retired_sum shape words roles log core id desk there,
-    below-sum (named shape words) (λ s. retirements s desk.retired) shape.slots,
+    below-sum (named shape words) (λ s. unused s desk.fresh) shape.slots,
+    below-sum (λ s. named shape words s + unused s desk.fresh) (λ s. retirements s desk.retired) shape.slots,
+    below-same (λ s. (named shape words s + unused s desk.fresh) + retirements s desk.retired) (λ _. 1) shape.slots
+        (λ s near. omega (arith, retired_once shape words roles log core id desk there s near, free s)),
+    unused_below desk.fresh shape.slots (core.knows id (Writer desk) there).room,
     below-one shape.slots,
-    below-same (λ s. named shape words s + retirements s desk.retired) (λ _. 1) shape.slots
-        (λ s near.
-        let gone : unused s desk.fresh ≡ 0 = ap (λ b. cond {A = ℕ} b 1 0) (lt-leb desk.fresh s (omega arith)) in
-        omega (arith, retired_once shape words roles log core id desk there s near, free s)),
   )
+
+  -- once every slot was taken they are all the slots
+  pub slots_are : (id : ℕ) (desk : Desk) → get_elem? roles id ≡ some (Writer desk) → shape.slots ≤ desk.fresh
+      → ((s : ℕ) → taken s desk.place ≡ 0) → filled_count (map_after shape log) + length desk.retired ≡ shape.slots
+  slots_are id desk there full free =
+      omega (arith, taken_are id desk there free, (core.knows id (Writer desk) there).room)

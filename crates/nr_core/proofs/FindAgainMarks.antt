@@ -7,6 +7,7 @@ use Rattle.nr_model.specs.Histories.{Entry}
 use Rattle.nr_model.specs.declared.rows.Row.{Row}
 use Rattle.nr_core.proofs.Choices.{by_cases}
 use Rattle.nr_core.proofs.Counting.{named_inside}
+use Rattle.nr_core.proofs.KeyWords.{is_named}
 use Rattle.nr_core.proofs.Sums.{below-term, only-same}
 use Rattle.nr_core.specs.Steps.{FindsAgain}
 use Rattle.nr_core.specs.Slots.{name_number, names_slot}
@@ -76,9 +77,8 @@ module _ {A : Type 0} (role : A → Role) (marks : A → Marks) where
         let other : ℕ = name_number word - 1 in let names_other : name_number word ≡ suc other = omega arith in
         let living = held_lives role marks callers core w.place w.there w.is id at was slot refl in
         let inside = named_inside shape words (map role callers) log core key other near names_other in
-        let one : only (suc other) (name_number word) ≡ 1 = ap (only (suc other)) names_other ∙ only-same (suc other) in
-        let part = below-term (λ k. only (suc other) (name_number (get_or words k 0))) shape.keys key near in
-        let same = own.apart slot other living.0 inside living.1 (omega arith)
+        let same
+        = own.apart slot other living.0 inside living.1 (omega (arith, is_named shape words key other near names_other))
         (held_put ∙ sym same_number ∙ sym (own.puts key other near names_other).0) in
         let yes = eq-eqb (name_number word) (suc slot) (names_other ∙ ap suc (sym same)) in
         let clash : true ≡ false = sym yes ∙ no in absurd (cc)))

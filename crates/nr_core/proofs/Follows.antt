@@ -9,6 +9,7 @@ use Rattle.nr_model.specs.declared.calls.Call.{Call}
 use Rattle.nr_model.specs.declared.calls.Reply.{Reply}
 use Rattle.nr_model.specs.declared.states.KeyState.{KeyState}
 use Rattle.nr_core.proofs.Choices.{on_test}
+use Rattle.nr_core.proofs.Frames.{stands_at}
 use Rattle.nr_core.proofs.Go.{own_ending_at}
 use Rattle.nr_core.proofs.Guards.{guard, no_some, at_key, at_reader, at_reader_key}
 use Rattle.nr_core.proofs.Histories.{of-append}
@@ -104,27 +105,13 @@ held_untouched state log (Depart r) is_core ok s i held_so low here =
     absurd (content_apart state.shape s i (slot_in (hold_of state r)) low (sym here))
 held_untouched state log Go is_core ok s i held_so low here = go state.desk.place refl here
   where
-    mine : AtDesk state.shape state.words (map_after state.shape log) (held is_core.roles) state.desk
-    mine = is_core.core.knows 0 (Writer state.desk) is_core.fit.writer
-
-    at_place : (p : Place) → state.desk.place ≡ p
-        → AtPlace state.shape state.words (map_after state.shape log) (held is_core.roles) state.desk.fresh
-        state.desk.retired p
-    at_place p is =
-        subst
-        (AtPlace state.shape state.words (map_after state.shape log) (held is_core.roles) state.desk.fresh
-        state.desk.retired)
-        is mine.place
-
     go : (p : Place) → state.desk.place ≡ p → target_of (going state.shape state.desk p) ≡ content state.shape s i
         → going state.shape state.desk p ≡ Load (content state.shape s i)
-    go Idle is e = ap Load e
-    go (Reading call t got) is e = ap Load e
-    go (Leaving k) is e = let near = (at_place (Leaving k) is).1.near in absurd (omega arith)
-    go (Withdrawing k) is e = let near = (at_place (Withdrawing k) is).near in absurd (omega arith)
-    go (Searching call rows p) is e = ap Load e
+    go (Leaving k) is e =
+        let near = (stands_at is_core.core 0 is_core.fit.writer is).1.near in absurd (omega arith)
+    go (Withdrawing k) is e = let near = (stands_at is_core.core 0 is_core.fit.writer is).near in absurd (omega arith)
     go (Putting call rows t departed j) is e =
-        let p = at_place (Putting call rows t departed j) is in
+        let p = stands_at is_core.core 0 is_core.fit.writer is in
         let free = p.nobody in
         on_test (λ (o : Operation). target_of o ≡ content state.shape s i → o ≡ Load (content state.shape s i))
         (nat_le j (2 * length rows))
@@ -132,6 +119,7 @@ held_untouched state log Go is_core ok s i held_so low here = go state.desk.plac
         let same_slot : s ≡ t = same_content state.shape s i t j low (omega arith) (sym e) in
         let zero_there : held is_core.roles s ≡ 0 = ap (held is_core.roles) same_slot ∙ free in absurd (omega arith))
         (λ no e. absurd (omega arith)) e
+    go other is e = ap Load e
 
 key_inside : {state : State} {log : List Entry} (is_core : IsCoreState state log) {k : ℕ} → k < state.shape.keys
     → k < length state.words

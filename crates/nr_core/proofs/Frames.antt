@@ -54,10 +54,9 @@ module _ (shape : Shape) where
       → ((s i : ℕ) → name_number w ≡ suc s → s < shape.slots → i ≤ 2 * (bound_of shape)
       → get_or words' (content shape s i) 0 ≡ get_or words
       (content shape s i) 0) → ShowsState shape words w state → ShowsState shape words' w state
-  shows_more words words' w (key.Hole number) f t = t
-  shows_more words words' w (key.Asked number) f t = t
   shows_more words words' w (key.Rows number m) f t =
       (t.0, t.1, t.2, spells_more words words' t.0 m (λ i l. f t.0 i t.1 t.2 l) t.3)
+  shows_more words words' w other f t = t
 
   module _ (words words' : List ℕ) (m m' : PartialMap) (hold hold' : ℕ → ℕ) where
     pub holding_more : (x : Grip) → ((s i : ℕ) → 0 < grips s x → s < shape.slots → i ≤ 2 * (bound_of shape)

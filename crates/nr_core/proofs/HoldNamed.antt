@@ -47,9 +47,8 @@ loads_find {shape = shape} {words = words} {roles = roles} {log = log} core id r
 -- a key that names no slot is found as a hole
 found_hole : (shape : Shape) (words : List ℕ) (w : ℕ) (state : KeyState) → name_number w ≡ 0
     → ShowsState shape words w state → find_reply state ≡ reply.Hole
-found_hole shape words w (key.Hole number) none shown = refl
-found_hole shape words w (key.Asked number) none shown = refl
 found_hole shape words w (key.Rows number rows) none shown = absurd (let named = shown.1 in omega arith)
+found_hole shape words w other none shown = refl
 
 pub looks_up : LookUpLaw
 looks_up shape id reader k near words roles log core there =

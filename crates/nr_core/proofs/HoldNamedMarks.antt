@@ -5,6 +5,7 @@ use lib.Seq.{set-get_or}
 use Rattle.nr_model.specs.Histories.{Entry}
 use Rattle.nr_words.specs.KeyWords.{is_filled}
 use Rattle.nr_core.proofs.Choices.{by_cases}
+use Rattle.nr_core.proofs.KeyWords.{is_named}
 use Rattle.nr_core.proofs.Sums.{below-term, only-same}
 use Rattle.nr_core.specs.Steps.{HoldsNamed, LooksUp}
 use Rattle.nr_core.specs.declared.operation.Operation.TheVariants.{Add, Load}
@@ -75,7 +76,6 @@ module _ {A : Type 0} (role : A → Role) (marks : A → Marks) (shape : Shape) 
         (kept.0 ∙ sym (ends.0 key), kept.1),
         λ l. absurd
             (let r = rests role marks shape words callers log j u desk s core there writes l in
-            let one = ap (only (suc s)) named ∙ only-same (suc s) in
-            omega (arith, below-term (λ k. only (suc s) (name_number (get_or words k 0))) shape.keys key near)),
+            omega (arith, is_named shape words key s near named)),
       ))
       (contents_counted shape words slot x) (refl, refl)

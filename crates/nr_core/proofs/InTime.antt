@@ -74,9 +74,8 @@ tells_answer caller call reply None = inl refl
 tells_answer caller call reply (Some state) = inr (record { call = call; reply = reply state; own = refl; one = refl })
 
 tells_ending : (call : Call) (step : Step) → Tells 0 (call ∷ []) (ending call step)
-tells_ending call Going = inl refl
 tells_ending call (Ended (writer.Reply answer)) = inr (record { call = call; reply = answer; own = refl; one = refl })
-tells_ending call (Ended (writer.NoSlot counts)) = inl refl
+tells_ending call other = inl refl
 
 tells_ending_at : (place : Place) (step : Step) → Tells 0 (map call_of (call_in place)) (ending_at place step)
 tells_ending_at Idle step = inl refl

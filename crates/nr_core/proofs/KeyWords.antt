@@ -1,10 +1,13 @@
 -- What a key's word names and asks: after an arrival, after a request, and where it is written anew.
 use Rattle.std.proofs.Common.{ap, arith, cond, eq-eqb, false, ne_eqb, suc, sym, true, ℕ, ◌%◌, ◌*◌, ◌+◌, ◌/◌, ◌<◌, ◌^◌}
-use Rattle.std.proofs.Common.{◌∙◌, ◌≡◌, ◌≢◌}
+use Rattle.std.proofs.Common.{List, get_or, ◌∙◌, ◌≡◌, ◌≢◌}
 use mathlib.Core.Logic.{dite}
 use native.Mathlib.Decide.{ℕ_discrete}
 use Rattle.nr_words.specs.KeyWords.{arrivals_of, hole_word, is_filled, naming, slot_of}
-use Rattle.nr_core.specs.Slots.{name_number}
+use Rattle.nr_core.proofs.Sums.{below-term, only-same}
+use Rattle.nr_core.specs.Slots.{name_number, named}
+use Rattle.nr_core.specs.Sums.{only}
+use Rattle.nr_core.specs.declared.shape.Shape.{Shape}
 
 -- an arrival leaves what the word names and asks, and counts one
 pub bumped : (w : ℕ) → ((w + 2 ^ 24) % 2 ^ 64 % 2 ^ 24 ≡ w % 2 ^ 24) × ((w + 2 ^ 24) % 2 ^ 64 % 4 ≡ w % 4)
@@ -53,3 +56,14 @@ hole_is n l = (name_low (hole_word n false) (λ z. omega arith), omega arith, om
 -- the word that a publish writes
 pub naming_is : (t e : ℕ) → t < 2 ^ 22 → (name_number (naming t e) ≡ suc t) × (arrivals_of (naming t e) ≡ e % 2 ^ 40)
 naming_is t e l = let n = name_high (naming t e) (omega arith) in (omega arith, omega arith)
+
+-- a slot that a key names is named
+pub is_named : (shape : Shape) (words : List ℕ) (key slot : ℕ) → key < shape.keys
+    → name_number (get_or words key 0) ≡ suc slot → 0 < named shape words slot
+is_named shape words key slot near names =
+    omega (
+      arith,
+      below-term (λ j. only (suc slot) (name_number (get_or words j 0))) shape.keys key near,
+      ap (only (suc slot)) names,
+      only-same (suc slot),
+    )

@@ -12,6 +12,7 @@ use Rattle.nr_core.specs.declared.roles.Role.{Role}
 use Rattle.nr_core.specs.declared.roles.Role.TheVariants.{Note, Reader, Writer}
 use Rattle.nr_core.specs.Marks.{Marks, Past, past, told_by}
 use Rattle.nr_core.specs.Marked.{AllSince, Evolves, Knowing, MarkTelling, Remarked, Since}
+use Rattle.nr_core.proofs.Holders.{since_now}
 use Rattle.nr_core.proofs.ListPlaces.{no_places}
 use Rattle.nr_core.proofs.MarksSince.{since_set, since_snoc}
 
@@ -60,15 +61,8 @@ module _ {A : Type 0} (role : A → Role) (marks : A → Marks) where
             own : AllSince role marks callers (past reader grip (marks before) ∷ [])
             own zero p e =
                 subst (Since role marks callers) (some-injective (past reader grip (marks before)) p e)
-                (record {
-                  place = id;
-                  who = before;
-                  there = at;
-                  grip = grip;
-                  is = is;
-                  least = omega arith;
-                  same = λ _. (refl, refl);
-                })
+                (since_now
+                (record { place = id; who = before; reader = reader; grip = grip; there = at; is = is }))
             own (suc n) p e = absurd (some-ne-none p (sym e))
         told Note is = no_places (Since role marks callers)
 

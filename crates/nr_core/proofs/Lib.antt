@@ -72,7 +72,6 @@ mod Runs
 mod Justified
 mod Schedules
 mod MarksSince
-mod TakenSlots
 mod DeskMarks
 mod SwapMarks
 mod Holders

@@ -95,24 +95,16 @@ module _ (shape : Shape) (words : List ℕ) (roles : List Role) (log : List Entr
 
   look_all : (call : WriterCall) → IsGivenCall (bound_of shape) call → key_of call < shape.keys
       → (z : KeyState) → AtState call z
-  look_all (Find k) given near (key.Hole n) is t =
-      rw (names_none (get_or words k 0) t.0) (stops (Find k) reply.Hole (key.Hole n) near is refl refl)
-  look_all (Find k) given near (key.Asked n) is t =
-      rw (names_none (get_or words k 0) t.0) (stops (Find k) reply.Hole (key.Asked n) near is refl refl)
   look_all (Find k) given near (key.Rows n rows) is t =
       let named = names_one (get_or words k 0) t.0 t.1 in
       rw named.0 (begins (Find k) (slot_of (get_or words k 0)) n rows near (t.1 ∙ ap suc (sym named.1)) is)
-  look_all (Update k batch) given near (key.Hole n) is t =
-      rw (names_none (get_or words k 0) t.0) (stops (Update k batch) reply.Dropped (key.Hole n) near is refl refl)
-  look_all (Update k batch) given near (key.Asked n) is t =
-      rw (names_none (get_or words k 0) t.0) (stops (Update k batch) reply.Dropped (key.Asked n) near is refl refl)
+  look_all (Find k) given near other is t =
+      rw (names_none (get_or words k 0) t.0) (stops (Find k) reply.Hole other near is refl refl)
   look_all (Update k batch) given near (key.Rows n rows) is t =
       let named = names_one (get_or words k 0) t.0 t.1 in
       rw named.0 (begins (Update k batch) (slot_of (get_or words k 0)) n rows near (t.1 ∙ ap suc (sym named.1)) is)
-  look_all (Replace k rows) given near (key.Hole n) is t =
-      rw (names_none (get_or words k 0) t.0) (stops (Replace k rows) reply.Dropped (key.Hole n) near is refl refl)
-  look_all (Replace k rows) given near (key.Asked n) is t =
-      rw (names_none (get_or words k 0) t.0) (stops (Replace k rows) reply.Dropped (key.Asked n) near is refl refl)
+  look_all (Update k batch) given near other is t =
+      rw (names_none (get_or words k 0) t.0) (stops (Update k batch) reply.Dropped other near is refl refl)
   look_all (Replace k rows) given near (key.Rows n old) is t =
       rw (names_one (get_or words k 0) t.0 t.1).0 (settles core id there k (Replace k rows) rows idle_keeps (record {
         near = near;
@@ -122,15 +114,15 @@ module _ (shape : Shape) (words : List ℕ) (roles : List Role) (log : List Entr
         leaves =
             cc;
       }))
-  look_all (Evict k) given near (key.Hole n) is t =
-      rw (names_none (get_or words k 0) t.0) (stops (Evict k) reply.Nothing (key.Hole n) near is refl refl)
-  look_all (Evict k) given near (key.Asked n) is t =
-      rw (names_none (get_or words k 0) t.0) (stops (Evict k) reply.Nothing (key.Asked n) near is refl refl)
+  look_all (Replace k rows) given near other is t =
+      rw (names_none (get_or words k 0) t.0) (stops (Replace k rows) reply.Dropped other near is refl refl)
   look_all (Evict k) given near (key.Rows n rows) is t =
       let named = names_one (get_or words k 0) t.0 t.1 in
       let slot = slot_of (get_or words k 0) in
       rw named.0 (moves core id there k idle (Leaving k) (λ _. refl)
       (slot, named_slot k slot n rows near (t.1 ∙ ap suc (sym named.1)) is))
+  look_all (Evict k) given near other is t =
+      rw (names_none (get_or words k 0) t.0) (stops (Evict k) reply.Nothing other near is refl refl)
   look_all (Fill k number rows) given near (key.Hole n) is t =
       let w = get_or words k 0 in let even = t.1 in
       rw (names_none w t.0, ne_eqb (w % 2) 1 (λ z. omega arith))

@@ -9,6 +9,7 @@ use Rattle.nr_model.specs.Maps.{PartialMap, state_of}
 use Rattle.nr_words.specs.KeyWords.{arrivals_of}
 use Rattle.nr_core.proofs.Frames.{holding_more, shows_more}
 use Rattle.nr_core.proofs.OnKey.{in_range}
+use Rattle.nr_core.proofs.KeyWords.{is_named}
 use Rattle.nr_core.proofs.Sums.{at_set, below-same, below-term, only-same, term_le, terms_le, total-set}
 use Rattle.nr_core.specs.Core.{Core, Knows}
 use Rattle.nr_core.specs.Roles.{held, holds, is_reader, is_writer, keeps}
@@ -43,19 +44,12 @@ off_keys {shape = shape} {words = words} {roles = roles} {log = log} core id {r 
     let fits = core.fits.bound in
     let key : (k : ℕ) → k < shape.keys → get_or words' k 0 ≡ get_or words k 0
     = λ k l. get_or-set_other words i k x 0 (λ e. omega arith) in
-    let one-named : (k s : ℕ) → k < shape.keys → name_number (get_or words k 0) ≡ suc s → 0 < named shape words s
-    = λ k s l e. omega (
-      arith,
-      below-term (λ j. only (suc s) (name_number (get_or words j 0))) shape.keys k l,
-      ap (only (suc s)) e,
-      only-same (suc s),
-    ) in
     subst (Core shape words' roles') (sym (append-nil log)) record {
       fits = core.fits;
       wide = length-set words i x ∙ wide;
       legal = core.legal;
       shows = λ k l. rw (key k l) (shows_more shape words words' (get_or words k 0) (state_of map k)
-          (λ s j e near low. conts s j near low (one-named k s l e))
+          (λ s j e near low. conts s j near low (is_named shape words k s l e))
           (core.shows k l));
       places = λ s l. omega (
         arith,
@@ -70,7 +64,7 @@ off_keys {shape = shape} {words = words} {roles = roles} {log = log} core id {r 
           ap (λ (y : ℕ). arrivals_of y % 2 ^ 40) (key k l) ∙ core.counts k s l e'
           ∙ sym
           (sums s (in_range shape words (get_or words k 0) (state_of map k) s (core.shows k l) e')
-          (one-named k s l e'));
+          (is_named shape words k s l e'));
       knows = λ j u there. ⊎_elim (λ (t : (j ≡ id) × (r' ≡ u)). subst (Knows shape words' map (held roles')) t.1 own)
           (λ (t : (j ≢ id) × (get_elem? roles j ≡ some u)). others j u t.0 t.1 (core.knows j u t.1))
           (at_set roles id j r' u there);

@@ -10,6 +10,7 @@ use Rattle.nr_model.specs.Maps.{number_of, state_of}
 use Rattle.nr_model.specs.declared.states.KeyState.{KeyState}
 use Rattle.nr_words.specs.KeyWords.{arrivals_of}
 use Rattle.nr_core.proofs.Frames.{Left, holding_more, shows_more, knows_more}
+use Rattle.nr_core.proofs.KeyWords.{is_named}
 use Rattle.nr_core.proofs.Sums.{at_set, below-same, below-term, below-terms, only-same, term_le, total-set}
 use Rattle.nr_core.specs.Core.{Core, Grips, Knows, ShowsState}
 use Rattle.nr_core.specs.Roles.{grips, held, holds, is_reader, is_writer, keeps}
@@ -25,9 +26,8 @@ use Rattle.nr_model.specs.declared.states.KeyState.TheVariants as key
 -- a slot that a key names is in range
 pub in_range : (shape : Shape) (words : List ℕ) (w : ℕ) (state : KeyState) (s : ℕ) → ShowsState shape words w state
     → name_number w ≡ suc s → s < shape.slots
-in_range shape words w (key.Hole number) s t e = absurd (omega (arith, t.0))
-in_range shape words w (key.Asked number) s t e = absurd (omega (arith, t.0))
 in_range shape words w (key.Rows number m) s t e = let same = t.1 in let l = t.2 in omega arith
+in_range shape words w other s t e = absurd (omega (arith, t.0))
 
 -- two keys name different slots
 pub apart : (shape : Shape) (words : List ℕ) (roles : List Role) (log : List Entry) → Core shape words roles log
@@ -87,14 +87,8 @@ on_key {shape = shape} {words = words} {roles = roles} {log = log} es core id c 
     = λ s. total-set (holds s) roles id (Reader c before) (Reader c after) at in
     let still : (s : ℕ) → name_number (get_or words k 0) ≢ suc s → held roles' s ≡ held roles s
     = λ s ne. omega (arith, holding s, quiet s ne) in
-    let here-named : (s : ℕ) → name_number (get_or words k 0) ≡ suc s → 1 ≤ named shape words s = λ s e. omega (
-      arith,
-      below-term (λ j. only (suc s) (name_number (get_or words j 0))) shape.keys k near,
-      ap (only (suc s)) e,
-      only-same (suc s),
-    ) in
     let unnamed : (s : ℕ) → s < shape.slots → 0 < total (keeps s) roles → name_number (get_or words k 0) ≢ suc s
-    = λ s l kept e. omega (arith, here-named s e, core.places s l) in
+    = λ s l kept e. omega (arith, is_named shape words k s near e, core.places s l) in
     let left : (s : ℕ) → s < shape.slots → 0 < total (keeps s) roles
     → Left shape words words' map map' (held roles) (held roles') s
     = λ s l kept. let state = still s (unnamed s l kept) in record {

@@ -1,6 +1,7 @@
 -- At the opening all that stands between steps stands: every key is a hole, every slot is free.
 use Rattle.std.proofs.Common.{List, [], ap, arith, false, get_or, length, refl, replicate, subst, suc, sym, zero, ℕ}
 use Rattle.std.proofs.Common.{◌*◌, ◌++◌, ◌+◌, ◌<◌, ◌∙◌, ◌∷◌, ◌≡◌, ◌≤◌}
+use Rattle.std.proofs.Math.ListN.{get_or-append}
 use Rattle.std.proofs.lemmas.List.{get_or-replicate, length-append, length-replicate}
 use lib.ListN.{get_elem?}
 use mathlib.Core.Option.{some, some-injective, some-ne-none}
@@ -12,12 +13,12 @@ use Rattle.nr_core.proofs.Frames.{unused-free}
 use Rattle.nr_core.proofs.KeyWords.{hole_is}
 use Rattle.nr_core.proofs.StateRoles.{IsCoreState, no_grip}
 use Rattle.nr_core.proofs.Holders.{same_grip}
-use Rattle.nr_core.proofs.Sums.{only-other}
+use Rattle.nr_core.proofs.Sums.{below-same, below-zero, only-zero}
 use Rattle.nr_core.specs.Core.{AreNumbers, Core, Knows, ShowsState}
 use Rattle.nr_core.specs.Roles.{held, holds, is_reader, is_writer, keeps, readers_from}
 use Rattle.nr_core.specs.Sizes.{IsShape}
 use Rattle.nr_words.specs.Opening.{repeated}
-use Rattle.nr_core.specs.Slots.{departures, layout, name_number, words_at_opening, slot_room, bound_of, content}
+use Rattle.nr_core.specs.Slots.{departures, layout, name_number, named, words_at_opening, slot_room, content}
 use Rattle.nr_core.specs.States.{opening_state, opening_desk}
 use Rattle.nr_core.specs.Story.{map_after, opening_map}
 use Rattle.nr_core.specs.Sums.{below, only, total}
@@ -27,6 +28,13 @@ use Rattle.nr_core.specs.declared.roles.Role.TheVariants.{Reader, Writer}
 use Rattle.nr_core.specs.declared.shape.Shape.{Shape}
 use Rattle.nr_core.specs.declared.places.Hold.TheVariants as hold
 use Rattle.nr_model.specs.declared.states.KeyState.TheVariants as key
+
+pub none_named : (shape : Shape) (words : List ℕ) (slot : ℕ)
+    → ((key : ℕ) → key < shape.keys → name_number (get_or words key 0) ≡ 0) → named shape words slot ≡ 0
+none_named shape words slot none =
+    below-same (λ key. only (suc slot) (name_number (get_or words key 0))) (λ _. 0) shape.keys
+    (λ key l. ap (only (suc slot)) (none key l) ∙ only-zero slot)
+    ∙ below-zero shape.keys
 
 no_weight : (g : Role → ℕ) → ((c : ℕ) → g (Reader c Nothing) ≡ 0) → (n i : ℕ) → total g (readers_from i n) ≡ 0
 no_weight g none zero i = refl
@@ -57,25 +65,16 @@ past [] l i j e = ap (λ (n : ℕ). get_or l n 0) (omega arith)
 past (x ∷ a) l zero j e = absurd (omega arith)
 past (x ∷ a) l (suc i) j e = past a l i j (omega arith)
 
-each_slot : (room n s x : ℕ) (b : List ℕ) (i : ℕ) → length b ≡ room → s < n → i ≡ suc room * s
-    → get_or (repeated n (x ∷ b)) i 0 ≡ x
-each_slot room zero s x b i size low e = absurd (omega arith)
-each_slot room (suc n) zero x b zero size low e = refl
-each_slot room (suc n) zero x b (suc i) size low e = absurd (omega arith)
-each_slot room (suc n) (suc s) x b i size low e =
-    past (x ∷ b) (repeated n (x ∷ b)) i (suc room * s) (omega arith)
-    ∙ each_slot room n s x b (suc room * s) size (omega arith) refl
-
--- and its second word
-each_second : (room n s x y : ℕ) (b : List ℕ) (i : ℕ) → suc (length b) ≡ room → s < n → i ≡ suc room * s + 1
-    → get_or (repeated n (x ∷ y ∷ b)) i 0 ≡ y
-each_second room zero s x y b i size low e = absurd (omega arith)
-each_second room (suc n) zero x y b zero size low e = absurd (omega arith)
-each_second room (suc n) zero x y b (suc zero) size low e = refl
-each_second room (suc n) zero x y b (suc (suc i)) size low e = absurd (omega arith)
-each_second room (suc n) (suc s) x y b i size low e =
-    past (x ∷ y ∷ b) (repeated n (x ∷ y ∷ b)) i (suc room * s + 1) (omega arith)
-    ∙ each_second room n s x y b (suc room * s + 1) size (omega arith) refl
+-- a word of a slot at the opening
+each_word : (room n slot : ℕ) (block : List ℕ) (i j : ℕ) → length block ≡ suc room → j < suc room → slot < n
+    → i ≡ suc room * slot + j → get_or (repeated n block) i 0 ≡ get_or block j 0
+each_word room zero slot block i j size inside low e = absurd (omega arith)
+each_word room (suc n) zero block i j size inside low e = let same : i ≡ j = omega arith in
+    ap (λ (m : ℕ). get_or (block ++ repeated n block) m 0) same
+    ∙ get_or-append block (repeated n block) 0 j (omega arith)
+each_word room (suc n) (suc slot) block i j size inside low e =
+    past block (repeated n block) i (suc room * slot + j) (omega arith)
+    ∙ each_word room n slot block (suc room * slot + j) j size inside (omega arith) refl
 
 -- at the opening the first content word of each slot is 0
 pub blank_at_opening : (shape : Shape) (slot : ℕ) → slot < shape.slots
@@ -83,24 +82,16 @@ pub blank_at_opening : (shape : Shape) (slot : ℕ) → slot < shape.slots
 blank_at_opening shape slot near =
     let hole : ℕ = hole_word shape.first_number false in
     let room : ℕ = slot_room shape in
-    let rest : List ℕ = replicate (2 * bound_of shape) 0 in
-    let block = ap (λ (n : ℕ). shape.first_count ∷ replicate n 0) (plus_one (2 * bound_of shape)) in
-    past (replicate shape.keys hole) (repeated shape.slots (shape.first_count ∷ replicate room 0))
-    (content shape slot 0) (suc room * slot + 1) (omega (arith, length-replicate {A = ℕ} shape.keys hole))
-    ∙ ap (λ (b : List ℕ). get_or (repeated shape.slots b) (suc room * slot + 1) 0) block
-    ∙ each_second room shape.slots slot shape.first_count 0 rest (suc room * slot + 1)
-    (ap suc (length-replicate (2 * bound_of shape) 0) ∙ sym (plus_one (2 * bound_of shape))) near refl
-  where
-    plus_one : (n : ℕ) → n + 1 ≡ suc n
-    plus_one n = omega arith
+    let block : List ℕ = shape.first_count ∷ replicate room 0 in
+    past (replicate shape.keys hole) (repeated shape.slots block) (content shape slot 0) (suc room * slot + 1)
+    (omega (arith, length-replicate {A = ℕ} shape.keys hole))
+    ∙ each_word room shape.slots slot block (suc room * slot + 1) 1 (ap suc (length-replicate room 0)) (omega arith)
+    near refl
+    ∙ get_or-replicate room 0 0 0 (omega arith)
 
 length-repeated : (room n : ℕ) (b : List ℕ) → length b ≡ suc room → length (repeated n b) ≡ suc room * n
 length-repeated room zero b size = omega arith
 length-repeated room (suc n) b size = omega (arith, length-append b (repeated n b), length-repeated room n b size)
-
-below_none : (f : ℕ → ℕ) (n : ℕ) → ((k : ℕ) → k < n → f k ≡ 0) → below f n ≡ 0
-below_none f zero none = refl
-below_none f (suc n) none = omega (arith, below_none f n (λ k l. none k (omega arith)), none n (omega arith))
 
 -- every key has the first number
 first_numbers : (shape : Shape) → AreNumbers shape (opening_map shape) (replicate shape.keys shape.first_number)
@@ -132,8 +123,8 @@ core_opens shape fits n few =
     = λ s near. past (replicate shape.keys hole) (repeated shape.slots slot) (departures shape s)
     (suc (slot_room shape) * s)
     (omega (arith, length-replicate {A = ℕ} shape.keys hole))
-    ∙ each_slot (slot_room shape) shape.slots s shape.first_count
-    (replicate (slot_room shape) 0) (suc (slot_room shape) * s) (length-replicate (slot_room shape) 0) near refl in
+    ∙ each_word (slot_room shape) shape.slots s slot (suc (slot_room shape) * s) 0
+    (ap suc (length-replicate (slot_room shape) 0)) (omega arith) near (omega arith) in
     let nobody_holds : (s : ℕ) → held roles s ≡ 0 = λ s. omega (arith, no_weight (holds s) (λ c. refl) n 0) in
     let nameless : (k : ℕ) → k < shape.keys → name_number (get_or words k 0) ≡ 0
     = λ k near. ap name_number (key_hole k near) ∙ is_hole.0 in
@@ -149,8 +140,7 @@ core_opens shape fits n few =
           is_hole;
       places = λ s near. omega (
         arith,
-        below_none (λ k. only (suc s) (name_number (get_or words k 0))) shape.keys
-            (λ k l. ap (only (suc s)) (nameless k l) ∙ only-other (suc s) 0 (λ z. omega arith)),
+        none_named shape words s nameless,
         no_weight (keeps s) (λ c. refl) n 0,
         unused-free s 0
             (omega arith),

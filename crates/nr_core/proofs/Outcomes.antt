@@ -75,9 +75,8 @@ module _ (shape : Shape) (desk : Desk) (P : WriterCall → Desk × Step → Type
   module _ (word : ℕ) (has : OfOutcomes shape desk (ShownBy shape word) P) where
     replaces : (k : ℕ) (rows : List Row) → is_filled word ≡ true
         → WouldBeDone shape (Replace k rows) (ShownBy shape word)
-    replaces k rows filled (key.Hole n) shows = absurd (unfilled word filled (names_none word shows.1.0))
-    replaces k rows filled (key.Asked n) shows = absurd (unfilled word filled (names_none word shows.1.0))
     replaces k rows filled (key.Rows n old) shows = refl
+    replaces k rows filled other shows = absurd (unfilled word filled (names_none word shows.1.0))
 
     fills : (k number : ℕ) (rows : List Row) → is_filled word ≡ false → has_ask word ≡ true
         → nat_eq (slot_of word) number ≡ true → WouldBeDone shape (Fill k number rows) (ShownBy shape word)

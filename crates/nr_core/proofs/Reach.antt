@@ -12,6 +12,7 @@ use Rattle.nr_core.proofs.Shown.{shown_is}
 use Rattle.nr_core.proofs.Numbers.{number_within}
 use Rattle.nr_core.proofs.Counting.{few_retired, fewer_retired, named_inside, names_it}
 use Rattle.nr_core.proofs.Events.{story_core}
+use Rattle.nr_core.proofs.Frames.{stands_at}
 use Rattle.nr_core.proofs.Runs.{run_more, story_state}
 use Rattle.nr_core.proofs.StateRoles.{IsCoreState, erased}
 use Rattle.nr_core.proofs.Sums.{got_at, only-same}
@@ -106,11 +107,7 @@ hold_room state log is_core reader low =
 pub place_room : (state : State) (log : List Entry) → IsCoreState state log → (place : Place) → state.desk.place ≡ place
     → RoomForStep state place
 place_room state log is_core place is =
-    go place is
-    (subst
-    (AtPlace state.shape state.words (map_after state.shape log) (held is_core.roles) state.desk.fresh
-    state.desk.retired)
-    is desk.place)
+    go place is (stands_at is_core.core 0 is_core.fit.writer is)
   where
     desk : AtDesk state.shape state.words (map_after state.shape log) (held is_core.roles) state.desk
     desk = is_core.core.knows 0 (Writer state.desk) is_core.fit.writer

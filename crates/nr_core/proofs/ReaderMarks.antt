@@ -15,7 +15,7 @@ use Rattle.nr_model.specs.declared.rows.Row.{Row}
 use Rattle.nr_words.proofs.KeyWordLemmas.{with_ask_is}
 use Rattle.nr_words.specs.KeyWords.{has_ask, is_filled, slot_of}
 use Rattle.nr_words.specs.declared.key_words.TheConstants.{ARRIVE}
-use Rattle.nr_core.proofs.KeyWords.{name-asked, name-bumped}
+use Rattle.nr_core.proofs.KeyWords.{is_named, name-asked, name-bumped}
 use Rattle.nr_core.proofs.Sums.{below-term, only-same}
 use Rattle.nr_core.proofs.WordPlaces.{content_apart}
 use Rattle.nr_core.specs.Roles.{retirements}
@@ -179,8 +179,7 @@ module _ {A : Type 0} (role : A → Role) (marks : A → Marks) (shape : Shape) 
         (kept.0 ∙ sym (ends.0 key), kept.1),
         λ l. absurd
             (let r = rests role marks shape words callers log j u desk slot core there writes l in
-            let one : only (suc slot) (name_number word) ≡ 1 = ap (only (suc slot)) names ∙ only-same (suc slot) in
-            omega (arith, below-term (λ k. only (suc slot) (name_number (get_or words k 0))) shape.keys key near)),
+            omega (arith, is_named shape words key slot near names)),
       ))
       (contents_behind shape words key x near) (refl, refl) in
       elim ans [

@@ -9,6 +9,7 @@ use mathlib.Core.Option.{some}
 use Rattle.nr_model.specs.Histories.{Entry}
 use Rattle.nr_words.specs.KeyWords.{same_count}
 use Rattle.nr_core.proofs.Choices.{by_cases}
+use Rattle.nr_core.proofs.KeyWords.{is_named}
 use Rattle.nr_core.proofs.Sums.{below-term, only-same, term_le}
 use Rattle.nr_core.specs.Roles.{holds}
 use Rattle.nr_core.specs.Steps.{LoadsWord}
@@ -98,8 +99,7 @@ module _ {A : Type 0} (role : A → Role) (marks : A → Marks) where
         (desk_reaped shape words' callers (log ++ entries) desk (with_poll (marks me) slot true) slot
         (stays (marks me).polls (with_poll (marks me) slot true).loads own.noted others)
         (λ key l e. let e' = sym (ap (λ l. name_number (get_or l key 0)) (set-get_or words i 0)) ∙ e in
-        let once_more = ap (only (suc slot)) e' ∙ only-same (suc slot) in
-        omega (arith, below-term (λ k. only (suc slot) (name_number (get_or words k 0))) shape.keys key l))
+        omega (arith, is_named shape words key slot l e'))
         (λ place reader who grip is_there is on.
         let l
         = term_le (holds slot) roles place (Reader reader grip)

@@ -18,6 +18,7 @@ use Rattle.nr_core.specs.declared.roles.Role.TheVariants.{Note, Reader, Writer}
 use Rattle.nr_core.specs.declared.shape.Shape.{Shape}
 use Rattle.nr_core.specs.Marks.{Marks, gripped, opening_marks, with_loads}
 use Rattle.nr_core.specs.Marked.{Desked, Evolves, KnowsMarks, Marked, Since}
+use Rattle.nr_core.proofs.Opening.{none_named}
 use Rattle.nr_core.proofs.ListPlaces.{at_left, no_places}
 use Rattle.nr_core.proofs.MarksSince.{desk_frame, knows_frame, knows_loads, set_marked, since_set, since_snoc}
 use Rattle.nr_model.specs.declared.rows.Row.{Row}
@@ -40,13 +41,6 @@ blank_spells shape words slot blank = ((refl, omega arith), λ index low. by_ind
     by_index : (index : ℕ) → index < 1 → get_or words (content shape slot index) 0 ≡ get_or (0 ∷ []) index 0
     by_index zero low = blank
     by_index (suc index) low = absurd (omega arith)
-
-none_named : (shape : Shape) (words : List ℕ) (slot : ℕ)
-    → ((key : ℕ) → key < shape.keys → name_number (get_or words key 0) ≡ 0) → named shape words slot ≡ 0
-none_named shape words slot none =
-    below-same (λ key. only (suc slot) (name_number (get_or words key 0))) (λ _. 0) shape.keys
-    (λ key l. ap (only (suc slot)) (none key l) ∙ only-zero slot)
-    ∙ below-zero shape.keys
 
 module _ {A : Type 0} (role : A → Role) (marks : A → Marks) where
   not_reader : (me : A) (r : Role) (reader : ℕ) (grip : Grip) → is_reader r ≡ 0 → role me ≡ r

@@ -62,9 +62,8 @@ key_same (Evict k) = refl
 key_same (Cancel k) = refl
 
 pub own_ending : (call : Call) (s : Step) (b : ℕ) → entries_of (ending call s) b ≡ cond (nat_eq 0 b) (ending call s) []
-own_ending call Going b = none_of (nat_eq 0 b)
 own_ending call (Ended (writer.Reply y)) b = refl
-own_ending call (Ended (writer.NoSlot n)) b = none_of (nat_eq 0 b)
+own_ending call other b = none_of (nat_eq 0 b)
 
 -- the desk at another stage, where the writer knows what it should there, and keeps the same slots
 pub moved_desk : {shape : Shape} {words : List ℕ} {map : PartialMap} {hold : ℕ → ℕ} {desk : Desk}

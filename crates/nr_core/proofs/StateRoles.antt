@@ -190,9 +190,8 @@ found_now log c k rows = let e = entry c (model.Find k) (reply.Rows rows) in (
 )
 
 pub ending_other : (call : Call) (state : Step) (j : ℕ) → entries_of (ending call state) (suc j) ≡ []
-ending_other call Going j = refl
 ending_other call (Ended (writer.Reply y)) j = one_other 0 (suc j) call y (λ z. omega arith)
-ending_other call (Ended (writer.NoSlot n)) j = refl
+ending_other call other j = refl
 
 pub ending_at_other : (p : Place) (state : Step) (j : ℕ) → entries_of (ending_at p state) (suc j) ≡ []
 ending_at_other Idle s j = refl

@@ -13,7 +13,7 @@ use Rattle.nr_model.specs.declared.rows.Row.{Row}
 use Rattle.nr_words.specs.KeyWords.{hole_word, naming}
 use Rattle.nr_words.specs.SetWords.{encode}
 use Rattle.nr_core.proofs.Counting.{retired_once}
-use Rattle.nr_core.proofs.KeyWords.{name_low, naming_is}
+use Rattle.nr_core.proofs.KeyWords.{is_named, name_low, naming_is}
 use Rattle.nr_core.proofs.Settle.{key_same}
 use Rattle.nr_core.proofs.Sums.{below-change, below-same, below-term, only-other, only-same, only-suc, only-zero}
 use Rattle.nr_core.proofs.Sums.{term_le, total-append}
@@ -125,8 +125,7 @@ module _ {A : Type 0} (role : A → Role) (marks : A → Marks) where
             ))
             (λ ne. let e' : name_number (get_or words i 0) ≡ suc s = sym (others i ne) ∙ e in
             let apart : s ≢ t
-            = λ z. let one = ap (only (suc t)) (e' ∙ ap suc z) ∙ only-same (suc t) in
-            absurd (omega (arith, below-term (λ j. only (suc t) (name_number (get_or words j 0))) shape.keys i l)) in
+            = λ z. absurd (omega (arith, is_named shape words i t l (e' ∙ ap suc z))) in
             let kept = own.puts i s l e' in (
               put_other s apart ∙ kept.0 ∙ sym (numbers i ne),
               get_or-set_other mine.reaped t s false false apart ∙ kept.1,

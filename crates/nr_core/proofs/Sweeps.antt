@@ -14,7 +14,7 @@ use Rattle.nr_model.specs.Histories.{Entry}
 use Rattle.nr_model.specs.Maps.{state_of}
 use Rattle.nr_words.specs.KeyWords.{is_filled, same_count, slot_of}
 use Rattle.nr_core.proofs.Choices.{by_cases, on_test}
-use Rattle.nr_core.proofs.KeyWords.{name_high}
+use Rattle.nr_core.proofs.KeyWords.{is_named, name_high}
 use Rattle.nr_core.proofs.OnKey.{in_range}
 use Rattle.nr_core.proofs.StateRoles.{IsCoreState, state_sums}
 use Rattle.nr_core.proofs.Sums.{below-term, got_at, only-le, only-other, only-same, total-drop, total-set}
@@ -106,9 +106,7 @@ named_not_retired state log is_core key slot near names =
       arith,
       is_core.core.places slot inside,
       (state_sums state is_core.roles is_core.fit slot).1,
-      below-term (λ j. only (suc slot) (name_number (get_or state.words j 0))) shape.keys key near,
-      ap (only (suc slot)) names,
-      only-same (suc slot),
+      is_named shape state.words key slot near names,
     )
 
 -- who arrives holds a named slot, or none

@@ -9,7 +9,8 @@ use native.Mathlib.Decide.{ℕ_discrete}
 use Rattle.nr_model.specs.Histories.{Entry}
 use Rattle.nr_model.specs.Maps.{is_filled_key, state_of}
 use Rattle.nr_model.specs.declared.states.KeyState.{KeyState}
-use Rattle.nr_core.proofs.Counting.{named_inside, retired_once}
+use Rattle.nr_core.proofs.Counting.{named_inside, retired_once, taken_are}
+use Rattle.nr_core.proofs.KeyWords.{is_named}
 use Rattle.nr_core.proofs.Sums.{below-term, only-is, only-le, only-same, some_term, term_le, below-first, below-same}
 use Rattle.nr_core.specs.Core.{Core, ShowsState}
 use Rattle.nr_core.specs.Slots.{name_number, named}
@@ -27,7 +28,6 @@ use Rattle.nr_core.specs.Marked.{Desked, lives}
 use Rattle.nr_core.specs.Exact.{Lists, Tidy, named_puts, retired_puts}
 use Rattle.nr_core.proofs.HowOften.{count_is, how_often}
 use Rattle.nr_core.proofs.ListPlaces.{at_maps, inside}
-use Rattle.nr_core.proofs.TakenSlots.{taken_are}
 use Rattle.nr_model.specs.declared.states.KeyState.TheVariants as key
 
 pub below-list : (f : ℕ → ℕ) (l : List ℕ) → total f l ≡ below (λ i. f (get_or l i 0)) (length l)
@@ -73,9 +73,8 @@ name_has-is puts number (suc slot) l = (slot, refl, only-is number (get_or puts 
 
 shown_empty : (shape : Shape) (words : List ℕ) (w : ℕ) (state : KeyState) → ShowsState shape words w state
     → name_number w ≡ 0 → is_filled_key state ≡ false
-shown_empty shape words w (key.Hole number) t e = refl
-shown_empty shape words w (key.Asked number) t e = refl
 shown_empty shape words w (key.Rows number rows) t e = absurd (let z = t.1 in omega arith)
+shown_empty shape words w other t e = refl
 
 shown_full : (shape : Shape) (words : List ℕ) (w : ℕ) (state : KeyState) (slot : ℕ) → ShowsState shape words w state
     → name_number w ≡ suc slot → is_filled_key state ≡ true
@@ -99,9 +98,7 @@ module _ {A : Type 0} (role : A → Role) (marks : A → Marks) (shape : Shape) 
   by_name : (i s : ℕ) → i < shape.keys → name_number (get_or words i 0) ≡ suc s
       → (s < shape.slots) × (0 < lives shape words desk s)
   by_name i s near e =
-      let b = below-term (λ j. only (suc s) (name_number (get_or words j 0))) shape.keys i near in
-      let one : only (suc s) (name_number (get_or words i 0)) ≡ 1 = ap (only (suc s)) e ∙ only-same (suc s) in
-      (named_inside shape words (map role callers) log core i s near e, omega arith)
+      (named_inside shape words (map role callers) log core i s near e, omega (arith, is_named shape words i s near e))
 
   by_rest : (i : ℕ) (entry : Retired) → get_elem? desk.retired i ≡ some entry
       → (entry.slot < shape.slots) × (0 < lives shape words desk entry.slot)
@@ -187,7 +184,7 @@ module _ {A : Type 0} (role : A → Role) (marks : A → Marks) (shape : Shape) 
     tidy = tidy;
     wide = own.wide.0;
     room = (core.knows id (Writer desk) there).room;
-    slots = λ free. taken_are id core there free;
+    slots = taken_are shape words (map role callers) log core id desk there;
     empty = λ i l e. shown_empty shape words (get_or words i 0) (state_of (map_after shape log) i) (core.shows i l)
         (sym (own.names i l) ∙ e);
     full = λ i s l e.
