@@ -1,6 +1,6 @@
 -- How many slots are where, of any core state: a retired slot stands once, the retired ones are no more than the slots,
 -- and once every slot was taken the filled keys and the retired slots are all of them.
-use Rattle.std.proofs.Common.{Bool, List, [], ap, arith, cond, get_or, length, refl, set, suc, sym, ℕ, ◌+◌, ◌<◌, ◌∙◌}
+use Rattle.std.proofs.Common.{Bool, List, [], ap, arith, cond, get_or, length, refl, set, subst, suc, sym, ℕ, ◌+◌, ◌<◌, ◌∙◌}
 use Rattle.std.proofs.Common.{zero, ◌∷◌, ◌≡◌, ◌≤◌}
 use Rattle.std.proofs.lemmas.Bool.{lt-leb}
 use Rattle.std.specs.List.{count_by}
@@ -17,7 +17,8 @@ use Rattle.nr_core.proofs.Histories.{length-now}
 use Rattle.nr_core.proofs.OnKey.{in_range}
 use Rattle.nr_core.proofs.KeyWords.{is_named}
 use Rattle.nr_core.proofs.Sums.{below-exchanged, below-few, below-fewer, below-first, below-one, below-only, below-same}
-use Rattle.nr_core.proofs.Sums.{below-sum, below-term, below-zero, exchanged, only-same, only-suc, only-zero, terms_le}
+use Rattle.nr_core.proofs.Sums.{below-sum, below-zero, exchanged, only-is, only-same, only-suc, only-zero}
+use Rattle.nr_core.proofs.Sums.{some_term, terms_le}
 use Rattle.nr_core.proofs.Sums.{total-set}
 use Rattle.nr_core.specs.Core.{Core, ShowsState}
 use Rattle.nr_core.specs.Roles.{is_writer, keeps, retirements, taken}
@@ -27,7 +28,7 @@ use Rattle.nr_core.specs.Sums.{below, only, total}
 use Rattle.nr_core.specs.declared.places.Retired.{Retired}
 use Rattle.nr_core.specs.declared.roles.Desk.{Desk}
 use Rattle.nr_core.specs.declared.roles.Role.{Role}
-use Rattle.nr_core.specs.declared.roles.Role.TheVariants.{Note, Reader, Writer}
+use Rattle.nr_core.specs.declared.roles.Role.TheVariants.{Note, Writer}
 use Rattle.nr_core.specs.declared.shape.Shape.{Shape}
 use Rattle.nr_model.specs.declared.states.KeyState.TheVariants as key
 
@@ -73,6 +74,12 @@ module _ (shape : Shape) (words : List ℕ) (roles : List Role) (log : List Entr
   pub retired_once : (s : ℕ) → s < shape.slots
       → named shape words s + unused s desk.fresh + retirements s desk.retired + taken s desk.place ≡ 1
   retired_once s near = omega (arith, core.places s near, kept_slots s)
+
+  pub retired_inside : (s : ℕ) → 0 < retirements s desk.retired → s < shape.slots
+  retired_inside s l =
+      let t = some_term (λ (x : Retired). only s x.slot) desk.retired l in
+      subst (λ (y : ℕ). y < shape.slots) (only-is s t.1.slot t.3)
+      ((core.knows id (Writer desk) there).retired t.0 t.1 t.2).0
 
   retired_sum : below (λ s. retirements s desk.retired) shape.slots ≡ length desk.retired
   retired_sum =

@@ -7,10 +7,10 @@ use mathlib.Core.Option.{some}
 use native.Mathlib.Decide.{dec_le}
 use Rattle.nr_model.specs.Histories.{Entry}
 use Rattle.nr_model.specs.Maps.{reply_at, state_of}
-use Rattle.nr_core.proofs.Counting.{retired_once, slots_are}
+use Rattle.nr_core.proofs.Counting.{retired_inside, retired_once, slots_are}
 use Rattle.nr_core.proofs.Histories.{replies_so}
 use Rattle.nr_core.proofs.Settle.{key_same}
-use Rattle.nr_core.proofs.Sums.{below-same, only-is, some_term}
+use Rattle.nr_core.proofs.Sums.{below-same}
 use Rattle.nr_core.specs.Core.{Core}
 use Rattle.nr_core.specs.Roles.{held, retirements, taken}
 use Rattle.nr_core.specs.Operations.{becomes, target_of}
@@ -24,7 +24,6 @@ use Rattle.nr_core.specs.Sums.{only}
 use Rattle.nr_core.specs.Writer.{went}
 use Rattle.nr_core.specs.declared.calls.WriterCall.{WriterCall}
 use Rattle.nr_core.specs.declared.places.Place.{Place}
-use Rattle.nr_core.specs.declared.places.Retired.{Retired}
 use Rattle.nr_core.specs.declared.roles.Desk.{Desk}
 use Rattle.nr_core.specs.declared.roles.Role.{Role}
 use Rattle.nr_core.specs.declared.roles.Role.TheVariants.{Writer}
@@ -67,17 +66,11 @@ no_room_left {shape = shape} {words = words} {roles = roles} {log = log} id {des
       slots = slots_are shape words roles log core id desk there full free;
       apart = λ slot. dite (dec_le (retirements slot desk.retired) 1) (λ l. l)
           (λ l.
-          let near = retired_inside slot (omega arith) in
+          let near = retired_inside shape words roles log core id desk there slot (omega arith) in
           absurd (omega (arith, retired_once shape words roles log core id desk there slot near)));
       held = held;
       few = few;
     }
-  where
-    retired_inside : (slot : ℕ) → 0 < retirements slot desk.retired → slot < shape.slots
-    retired_inside slot l =
-        let t = some_term (λ (x : Retired). only slot x.slot) desk.retired l in
-        subst (λ (y : ℕ). y < shape.slots) (only-is slot t.1.slot t.3)
-        ((core.knows id (Writer desk) there).retired t.0 t.1 t.2).0
 
 module _ {A : Type 0} {role : A → Role} {marks : A → Marks} where
   pub desk_of : {shape : Shape} {words : List ℕ} {callers : List A} {log : List Entry} (id : ℕ) {me : A} {desk : Desk}

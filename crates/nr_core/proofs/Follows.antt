@@ -1,6 +1,6 @@
 -- What one event more does: one operation on one word, never a put into a held slot, and entries of its own caller.
 use Rattle.std.proofs.Common.{[], Bool, true, false, sym, List, ap, append-nil, arith, cond, length, nat_eq, refl}
-use Rattle.std.proofs.Common.{subst, ℕ, ◌*◌, ◌++◌, ◌<◌, ◌∙◌, ◌≡◌, ◌≢◌, ◌≤◌}
+use Rattle.std.proofs.Common.{ℕ, ◌*◌, ◌++◌, ◌<◌, ◌∙◌, ◌≡◌, ◌≢◌, ◌≤◌}
 use Rattle.std.proofs.lemmas.Bool.{eqb-true, leb-true}
 use Rattle.std.specs.Prelude.{None, Option, Some, nat_le}
 use Rattle.nr_model.specs.Histories.{Entry, entries_of}
@@ -19,7 +19,6 @@ use Rattle.nr_core.proofs.Settle.{own_ending}
 use Rattle.nr_core.proofs.Stands.{holder}
 use Rattle.nr_core.proofs.StateRoles.{IsCoreState}
 use Rattle.nr_core.proofs.WordPlaces.{content_apart, content_inside, departures_inside, same_content}
-use Rattle.nr_core.specs.Core.{AtDesk, AtPlace}
 use Rattle.nr_core.specs.Laws.{EndsWithout, Follows, IsJustified, caller_of_event}
 use Rattle.nr_core.specs.Machine.{found_by, moved, names_held, unless}
 use Rattle.nr_core.specs.Operations.{going, operation, target_of}
@@ -32,14 +31,13 @@ use Rattle.nr_core.specs.Roles.{held}
 use Rattle.nr_core.specs.Slots.{content, slot_room}
 use Rattle.nr_core.specs.States.{retired_at, Arrive, Ask, Depart, Event, FindAgain, Go, Read, Start, State, hold_of}
 use Rattle.nr_core.specs.States.{key_of, slot_in}
-use Rattle.nr_core.specs.Story.{Story, answering, call_of, map_after, polls_after, shown, told}
+use Rattle.nr_core.specs.Story.{Story, answering, call_of, polls_after, shown, told}
 use Rattle.nr_core.specs.Writer.{looked, went}
 use Rattle.nr_core.specs.declared.calls.NoSlot.{NoSlot}
 use Rattle.nr_core.specs.declared.calls.Refusal.{Refusal}
 use Rattle.nr_core.specs.declared.places.Hold.{Hold}
 use Rattle.nr_core.specs.declared.places.Place.{Place}
 use Rattle.nr_core.specs.declared.places.Place.TheVariants.{Idle, Leaving, Putting, Reading, Searching, Withdrawing}
-use Rattle.nr_core.specs.declared.roles.Role.TheVariants.{Writer}
 use Rattle.nr_core.specs.declared.shape.Shape.{Shape}
 use Rattle.nr_core.specs.declared.places.Hold.TheVariants as hold
 use Rattle.nr_core.specs.declared.calls.Refusal.TheVariants as refuse

@@ -6,12 +6,10 @@ use Rattle.nr_model.specs.Histories.{Entry}
 use Rattle.nr_words.specs.KeyWords.{is_filled}
 use Rattle.nr_core.proofs.Choices.{by_cases}
 use Rattle.nr_core.proofs.KeyWords.{is_named}
-use Rattle.nr_core.proofs.Sums.{below-term, only-same}
 use Rattle.nr_core.specs.Steps.{HoldsNamed, LooksUp}
 use Rattle.nr_core.specs.declared.operation.Operation.TheVariants.{Add, Load}
 use Rattle.nr_core.specs.Slots.{departures, name_number}
 use Rattle.nr_core.specs.Story.{entry}
-use Rattle.nr_core.specs.Sums.{only}
 use Rattle.nr_core.specs.declared.roles.Grip.TheVariants.{Nothing}
 use Rattle.nr_core.specs.declared.roles.Role.{Role}
 use Rattle.nr_core.specs.declared.roles.Role.TheVariants.{Reader}

@@ -21,7 +21,7 @@ use Rattle.nr_core.specs.Refusals.{refusal}
 use Rattle.nr_core.specs.Roles.{taken}
 use Rattle.nr_core.specs.Slots.{bound_of, departures}
 use Rattle.nr_core.specs.States.{Event, Go, Start, State, key_of, retired_at}
-use Rattle.nr_core.specs.Story.{Poll, Story, call_of, ending, map_after, poll_at, polls_after, polls_at, tell, told}
+use Rattle.nr_core.specs.Story.{Poll, Story, call_of, ending, map_after, poll_at, polls_after, polls_at, tell}
 use Rattle.nr_core.specs.Writer.{looked, put_on, went}
 use Rattle.nr_core.specs.declared.calls.NoSlot.{NoSlot}
 use Rattle.nr_core.specs.declared.calls.Refusal.{Refusal}
@@ -44,21 +44,6 @@ answered (Some why) given step e = absurd (cc)
 none_in : {A : Type 0} (l : List A) → length l ≡ 0 → l ≡ []
 none_in [] e = refl
 none_in (x ∷ l) e = absurd (omega arith)
-
--- the story after an event that is not refused
-tell_is : (story : Story) (event : Event) → refusal story.state event ≡ None
-    → tell story event ≡ record {
-      state = moved story.state event;
-      history = story.history ++ told story.state event;
-      polls = polls_after story.state
-          story.polls event;
-    }
-tell_is story event ok = ap (λ (o : Option Refusal). let after : Story = record {
-  state = unless o story.state (moved story.state event);
-  history = story.history ++ unless o [] (told story.state event);
-  polls = unless o
-      story.polls (polls_after story.state story.polls event);
-} in after) ok
 
 -- what is known of a call that ends with no slot by such an outcome of its step from a place
 record Ending (state : State) (log : List Entry) (place : Place) (polls : List Poll) (call : WriterCall)
@@ -84,12 +69,11 @@ justify story event is_core ok swept counts call is_call outcome desk_is ending 
     let desk = state.desk in
     let core = is_core.core in
     let writer_there = is_core.fit.writer in
-    let told_so = tell_is story event ok in
     let all_slots
     = slots_are shape state.words is_core.roles story.history core 0 desk writer_there ending.full ending.free in
     let live_is : counts.live ≡ shape.slots - length desk.retired = ap (λ (n : NoSlot). n.live) ending.none.counted in
     let held_is : counts.held ≡ length desk.retired = ap (λ (n : NoSlot). n.held) ending.none.counted in
-    let retired_is = ap (λ (s : Story). s.state.desk.retired) told_so
+    let retired_is = ap (λ (o : Option Refusal). (unless o state (moved state event)).desk.retired) ok
     ∙ ap (λ (d : Desk). d.retired) (desk_is ∙ ending.none.same) in
     record {
       call = call;
@@ -103,7 +87,8 @@ justify story event is_core ok swept counts call is_call outcome desk_is ending 
       all = omega (arith, live_is, held_is, all_slots);
       held = held_is ∙ ap length (sym retired_is);
       polled =
-          ap (λ (s : Story). map (λ (poll : Poll). poll.slot) s.polls) told_so ∙ ending.polled
+          ap (λ (o : Option Refusal). map (λ (poll : Poll). poll.slot)
+          (unless o story.polls (polls_after state story.polls event))) ok ∙ ending.polled
           ∙ ap (map (λ (entry : Retired). entry.slot)) (sym retired_is);
       were_held = swept.held;
     }

@@ -8,15 +8,15 @@ use mathlib.Core.Logic.{dite}
 use mathlib.Core.Option.{some, some-injective}
 use native.Mathlib.Decide.{ℕ_discrete}
 use Rattle.nr_model.specs.Histories.{Entry}
-use Rattle.nr_core.proofs.Sums.{at_set, below-same, here_after, only-is, some_term, term_le, terms_le}
+use Rattle.nr_core.proofs.Counting.{retired_inside, retired_once}
+use Rattle.nr_core.proofs.Sums.{at_set, below-same, here_after, terms_le}
 use Rattle.nr_core.specs.Core.{Core}
-use Rattle.nr_core.specs.Roles.{is_writer, keeps, retirements}
+use Rattle.nr_core.specs.Roles.{is_writer, retirements}
 use Rattle.nr_core.proofs.Frames.{spells_more}
 use Rattle.nr_core.specs.Slots.{bound_of, content, name_number, named}
 use Rattle.nr_core.specs.Sums.{only}
 use Rattle.nr_core.specs.declared.places.Place.{Place}
 use Rattle.nr_core.specs.declared.places.Place.TheVariants.{Idle, Searching}
-use Rattle.nr_core.specs.declared.places.Retired.{Retired}
 use Rattle.nr_core.specs.declared.roles.Desk.{Desk}
 use Rattle.nr_core.specs.declared.roles.Grip.{Grip}
 use Rattle.nr_core.specs.declared.roles.Role.{Role}
@@ -73,12 +73,8 @@ module _ {A : Type 0} (role : A → Role) (marks : A → Marks) where
       → (s < shape.slots) × (named shape words s ≡ 0) × (retirements s desk.retired ≡ 1)
   rests shape words callers log id me desk s core at is l =
       let at' : get_elem? (map role callers) id ≡ some (Writer desk) = at_maps role callers id me at ∙ ap some is in
-      let t = some_term (λ (x : Retired). only s x.slot) desk.retired l in
-      let same : t.1.slot ≡ s = only-is s t.1.slot t.3 in
-      let mine = core.knows id (Writer desk) at' in
-      let near : s < shape.slots = subst (λ (y : ℕ). y < shape.slots) same (mine.retired t.0 t.1 t.2).0 in
-      let part = term_le (keeps s) (map role callers) id (Writer desk) at' in
-      let once = core.places s near in
+      let near = retired_inside shape words (map role callers) log core id desk at' s l in
+      let once = retired_once shape words (map role callers) log core id desk at' s near in
       (near, omega arith, omega arith)
 
   -- one of the callers is that reader and holds the slot

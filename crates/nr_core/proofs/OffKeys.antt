@@ -10,7 +10,7 @@ use Rattle.nr_words.specs.KeyWords.{arrivals_of}
 use Rattle.nr_core.proofs.Frames.{holding_more, shows_more}
 use Rattle.nr_core.proofs.OnKey.{in_range}
 use Rattle.nr_core.proofs.KeyWords.{is_named}
-use Rattle.nr_core.proofs.Sums.{at_set, below-same, below-term, only-same, term_le, terms_le, total-set}
+use Rattle.nr_core.proofs.Sums.{at_set, below-same, term_le, terms_le, total-set}
 use Rattle.nr_core.specs.Core.{Core, Knows}
 use Rattle.nr_core.specs.Roles.{held, holds, is_reader, is_writer, keeps}
 use Rattle.nr_core.specs.Slots.{bound_of, content, departures, name_number, named}

@@ -1,6 +1,6 @@
 -- A reader's step on a key's word that leaves what the word names: it keeps all that stands.
 use Rattle.std.proofs.Common.{List, ap, arith, get_or, get_or-set_other, get_or-set_same, length-set, set, subst, suc}
-use Rattle.std.proofs.Common.{sym, ℕ, ⊎_elim, ◌%◌, ◌++◌, ◌+◌, ◌<◌, ◌^◌, ◌∙◌, ◌≡◌, ◌≢◌, ◌≤◌}
+use Rattle.std.proofs.Common.{sym, ℕ, ⊎_elim, ◌%◌, ◌++◌, ◌+◌, ◌<◌, ◌^◌, ◌∙◌, ◌≡◌, ◌≢◌}
 use lib.ListN.{get_elem?}
 use mathlib.Core.Logic.{dite}
 use mathlib.Core.Option.{some}
@@ -11,10 +11,10 @@ use Rattle.nr_model.specs.declared.states.KeyState.{KeyState}
 use Rattle.nr_words.specs.KeyWords.{arrivals_of}
 use Rattle.nr_core.proofs.Frames.{Left, holding_more, shows_more, knows_more}
 use Rattle.nr_core.proofs.KeyWords.{is_named}
-use Rattle.nr_core.proofs.Sums.{at_set, below-same, below-term, below-terms, only-same, term_le, total-set}
+use Rattle.nr_core.proofs.Sums.{at_set, below-same, below-terms, only-same, term_le, total-set}
 use Rattle.nr_core.specs.Core.{Core, Grips, Knows, ShowsState}
 use Rattle.nr_core.specs.Roles.{grips, held, holds, is_reader, is_writer, keeps}
-use Rattle.nr_core.specs.Slots.{content, departures, name_number, named}
+use Rattle.nr_core.specs.Slots.{content, departures, name_number}
 use Rattle.nr_core.specs.Story.{map_after, opening_map, shown}
 use Rattle.nr_core.specs.Sums.{only, total}
 use Rattle.nr_core.specs.declared.roles.Grip.{Grip}

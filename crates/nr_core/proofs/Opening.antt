@@ -21,7 +21,7 @@ use Rattle.nr_words.specs.Opening.{repeated}
 use Rattle.nr_core.specs.Slots.{departures, layout, name_number, named, words_at_opening, slot_room, content}
 use Rattle.nr_core.specs.States.{opening_state, opening_desk}
 use Rattle.nr_core.specs.Story.{map_after, opening_map}
-use Rattle.nr_core.specs.Sums.{below, only, total}
+use Rattle.nr_core.specs.Sums.{only, total}
 use Rattle.nr_core.specs.declared.roles.Grip.TheVariants.{Nothing, On}
 use Rattle.nr_core.specs.declared.roles.Role.{Role}
 use Rattle.nr_core.specs.declared.roles.Role.TheVariants.{Reader, Writer}

@@ -69,13 +69,7 @@ puts {shape = shape} {words = words} {roles = roles} {log = log} core id {desk =
     record { contents = λ j low. cont s j ne low; nobody = λ z. still s ∙ z; deps = λ _. dep s; sum = sum s } in
     let own : AtDesk shape words' map (held roles') desk' = record {
       place = record {
-        wants = let wants = putting.wants in record {
-          near = wants.near;
-          row_set = wants.row_set;
-          no_hole = wants.no_hole;
-          done = wants.done;
-          leaves = wants.leaves;
-        };
+        wants = assumption putting.wants;
         inside = near;
         nobody = still slot ∙ nobody_there;
         counted = dep slot ∙ putting.counted;

@@ -9,23 +9,20 @@ use mathlib.Core.Logic.{dite}
 use mathlib.Core.Option.{some}
 use native.Mathlib.Decide.{ℕ_discrete}
 use Rattle.nr_model.specs.Histories.{Entry, is_done}
-use Rattle.nr_model.specs.Rows.{IsRowSet}
 use Rattle.nr_model.specs.declared.calls.Reply.{Reply}
 use Rattle.nr_model.specs.declared.rows.Row.{Row}
 use Rattle.nr_words.proofs.KeyWordLemmas.{with_ask_is}
 use Rattle.nr_words.specs.KeyWords.{has_ask, is_filled, slot_of}
 use Rattle.nr_words.specs.declared.key_words.TheConstants.{ARRIVE}
 use Rattle.nr_core.proofs.KeyWords.{is_named, name-asked, name-bumped}
-use Rattle.nr_core.proofs.Sums.{below-term, only-same}
 use Rattle.nr_core.proofs.WordPlaces.{content_apart}
 use Rattle.nr_core.specs.Roles.{retirements}
 use Rattle.nr_core.specs.Operations.{becomes, target_of}
 use Rattle.nr_core.specs.declared.operation.Operation.{Operation}
 use Rattle.nr_core.specs.declared.operation.Operation.TheVariants.{Add, Load, Or}
-use Rattle.nr_core.specs.Slots.{content, departures, name_number, bound_of}
+use Rattle.nr_core.specs.Slots.{content, departures, name_number}
 use Rattle.nr_core.specs.Steps.{Arrives, Asks, Departs, ReadsHeld, ask_word}
 use Rattle.nr_core.specs.Story.{entry}
-use Rattle.nr_core.specs.Sums.{only}
 use Rattle.nr_core.specs.declared.roles.Desk.{Desk}
 use Rattle.nr_core.specs.declared.roles.Grip.{Grip}
 use Rattle.nr_core.specs.declared.roles.Grip.TheVariants.{Nothing, On}

@@ -10,7 +10,7 @@ use Rattle.nr_model.specs.Histories.{Entry}
 use Rattle.nr_words.specs.KeyWords.{same_count}
 use Rattle.nr_core.proofs.Choices.{by_cases}
 use Rattle.nr_core.proofs.KeyWords.{is_named}
-use Rattle.nr_core.proofs.Sums.{below-term, only-same, term_le}
+use Rattle.nr_core.proofs.Sums.{only-same, term_le}
 use Rattle.nr_core.specs.Roles.{holds}
 use Rattle.nr_core.specs.Steps.{LoadsWord}
 use Rattle.nr_core.specs.declared.operation.Operation.TheVariants.{Load}
@@ -24,7 +24,7 @@ use Rattle.nr_core.specs.declared.roles.Role.{Role}
 use Rattle.nr_core.specs.declared.roles.Role.TheVariants.{Reader, Writer}
 use Rattle.nr_core.specs.declared.shape.Shape.{Shape}
 use Rattle.nr_core.specs.Marks.{Marks, Past, LoggedLoad, gripped, with_poll, with_polls, with_reaped, with_scan}
-use Rattle.nr_core.specs.Marked.{AllSince, CanMark, Desked, HoldNoOthers, NotesPresent, Remarked, Since, Sweeping}
+use Rattle.nr_core.specs.Marked.{Keeps, AllSince, CanMark, Desked, HoldNoOthers, NotesPresent, Remarked, Since, Sweeping}
 use Rattle.nr_core.specs.MarkSteps.{ProbesMarks}
 use Rattle.nr_core.proofs.ListPlaces.{at_maps, no_places}
 use Rattle.nr_core.proofs.MarksSince.{rests}
@@ -43,23 +43,18 @@ module _ {A : Type 0} (role : A → Role) (marks : A → Marks) where
       → ((place reader : ℕ) (who : A) (grip : Grip) → get_elem? callers place ≡ some who → role who ≡ Reader reader grip
       → gripped grip ≡ Some slot → ⊥)
       → Desked role marks shape words callers log desk (with_reaped mine slot)
-  desk_reaped shape words callers log desk mine slot own unnamed nobody = record {
-    wide = own.wide;
-    names = own.names;
-    puts = λ key s l e.
-        let kept = own.puts key s l e in
-        let apart : s ≢ slot = λ z. unnamed key l (e ∙ ap suc z) in
-        (kept.0, get_or-set_other mine.reaped slot s true false apart ∙ kept.1);
-    held = λ place reader s who grip there is on. let kept = own.held place reader s who grip there is on in
-        let apart : s ≢ slot = λ z. nobody place reader who grip there is (on ∙ ap (λ (y : ℕ). Some y) z) in
-        (kept.0, get_or-set_other mine.reaped slot s true false apart ∙ kept.1);
-    fresh = own.fresh;
-    apart = own.apart;
-    sets = own.sets;
-    many = own.many;
-    noted = own.noted;
-    sweep = own.sweep;
-  }
+  desk_reaped shape words callers log desk mine slot own unnamed nobody = assumption (
+    λ (key s : ℕ) (l : key < shape.keys) (e : name_number (get_or words key 0) ≡ suc s).
+        still s (λ z. unnamed key l (e ∙ ap suc z)) (own.puts key s l e),
+    λ (place reader s : ℕ) (who : A) (grip : Grip) (there : get_elem? callers place ≡ some who)
+        (is : role who ≡ Reader reader grip) (on : gripped grip ≡ Some s).
+        still s (λ z. nobody place reader who grip there is (on ∙ ap (λ (y : ℕ). Some y) z))
+        (own.held place reader s who grip there is on),
+    own,
+  )
+    where
+      still : (s : ℕ) {number : ℕ} → s ≢ slot → Keeps mine s number → Keeps (with_reaped mine slot) s number
+      still s apart kept = (kept.0, get_or-set_other mine.reaped slot s true false apart ∙ kept.1)
 
   module _ (shape : Shape) (id : ℕ) (me : A) (known : List Past) (desk : Desk) where
     pub probes_marked : (poll : ℕ) (entry : Retired) → get_elem? desk.retired poll ≡ some entry → desk.place ≡ Idle

@@ -6,11 +6,10 @@ use Rattle.std.specs.Prelude.{None, Some, replicate}
 use lib.ListN.{get_elem?}
 use mathlib.Core.Option.{some, some-injective, some-ne-none}
 use Rattle.nr_model.specs.Histories.{Entry}
-use Rattle.nr_core.proofs.Sums.{at_set, at_snoc, below-same, below-zero, only-zero}
+use Rattle.nr_core.proofs.Sums.{at_set, at_snoc}
 use Rattle.nr_core.specs.Roles.{is_reader}
-use Rattle.nr_core.specs.Slots.{name_number, named, content, SlotSpells}
+use Rattle.nr_core.specs.Slots.{name_number, content, SlotSpells}
 use Rattle.nr_core.specs.States.{opening_desk}
-use Rattle.nr_core.specs.Sums.{only}
 use Rattle.nr_core.specs.declared.roles.Desk.{Desk}
 use Rattle.nr_core.specs.declared.roles.Grip.{Grip}
 use Rattle.nr_core.specs.declared.roles.Role.{Role}
@@ -23,15 +22,10 @@ use Rattle.nr_core.proofs.ListPlaces.{at_left, no_places}
 use Rattle.nr_core.proofs.MarksSince.{desk_frame, knows_frame, knows_loads, set_marked, since_set, since_snoc}
 use Rattle.nr_model.specs.declared.rows.Row.{Row}
 
-zeros : (n i : ℕ) → let none : ℕ = 0 in get_or (replicate n none) i 0 ≡ none
-zeros zero i = refl
-zeros (suc n) zero = refl
-zeros (suc n) (suc i) = zeros n i
-
-empties : (n i : ℕ) → let none : List Row = [] in get_or (replicate n none) i none ≡ none
-empties zero i = refl
-empties (suc n) zero = refl
-empties (suc n) (suc i) = empties n i
+blanks : {A : Type 0} (none : A) (n i : ℕ) → get_or (replicate n none) i none ≡ none
+blanks none zero i = refl
+blanks none (suc n) zero = refl
+blanks none (suc n) (suc i) = blanks none n i
 
 -- a slot whose first word is 0 spells the empty set
 blank_spells : (shape : Shape) (words : List ℕ) (slot : ℕ) → get_or words (content shape slot 0) 0 ≡ 0
@@ -63,14 +57,14 @@ module _ {A : Type 0} (role : A → Role) (marks : A → Marks) where
       desked : Desked role marks shape words (me ∷ []) [] (opening_desk shape) (opening_marks shape)
       desked = record {
         wide = (length-replicate shape.keys 0, length-replicate shape.slots 0);
-        names = λ key l. zeros shape.keys key ∙ sym (none key l);
+        names = λ key l. blanks 0 shape.keys key ∙ sym (none key l);
         puts = λ key slot l e. absurd (let z = none key l in omega arith);
         held = λ place reader slot who grip there reads _. absurd
             (not_reader who (Writer (opening_desk shape)) reader grip refl (ap role (sym (alone place who there)) ∙ is)
             reads);
         fresh = λ slot l on. absurd (let z = none_named shape words slot none in omega arith);
         apart = λ slot other l m on _ _. absurd (let z = none_named shape words slot none in omega arith);
-        sets = λ slot l _. subst (SlotSpells shape words slot) (sym (empties shape.slots slot))
+        sets = λ slot l _. subst (SlotSpells shape words slot) (sym (blanks {A = List Row} [] shape.slots slot))
             (blank_spells shape words slot (blank slot l));
         many = length-replicate shape.slots [];
         noted = no_places (Since role marks (me ∷ []));

@@ -27,7 +27,7 @@ use Rattle.nr_core.specs.Story.{call_of, ending, entry, map_after, opening_map}
 use Rattle.nr_core.specs.Sums.{only}
 use Rattle.nr_core.specs.Writer.{moved_to, settled}
 use Rattle.nr_core.specs.declared.calls.Step.{Step}
-use Rattle.nr_core.specs.declared.calls.Step.TheVariants.{Ended, Going}
+use Rattle.nr_core.specs.declared.calls.Step.TheVariants.{Ended}
 use Rattle.nr_core.specs.declared.calls.WriterCall.{WriterCall}
 use Rattle.nr_core.specs.declared.calls.WriterCall.TheVariants.{Cancel, Evict, Fill, Find, Replace, Update}
 use Rattle.nr_core.specs.declared.places.Place.TheVariants.{Idle, Searching}

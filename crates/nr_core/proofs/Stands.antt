@@ -1,6 +1,6 @@
 -- What the core state of a story says in the words of the law: what stands between any two steps.
 use Rattle.std.proofs.Common.{Bool, List, ap, arith, cond, false, get_or, inl, inr, length, map, nat_eq}
-use Rattle.std.proofs.Common.{sym, true, ℕ, ⊎_elim, ◌%◌, ◌*◌, ◌+◌, ◌-◌, ◌<◌, ◌^◌, ◌∙◌, ◌≡◌, ◌⊎◌}
+use Rattle.std.proofs.Common.{sym, true, ℕ, ⊎_elim, ◌*◌, ◌-◌, ◌<◌, ◌∙◌, ◌≡◌, ◌⊎◌}
 use Rattle.std.proofs.lemmas.Bool.{eqb-true, leb-true, lt-leb}
 use Rattle.std.specs.Prelude.{None, Ok, Option, Some, nat_le}
 use lib.ListN.{get_elem?}
@@ -20,14 +20,12 @@ use Rattle.nr_core.proofs.StateRoles.{IsCoreState, erased, state_sums, found_of,
 use Rattle.nr_core.proofs.Sums.{got_at, only-is, only-same, term_le}
 use Rattle.nr_core.specs.Core.{AtPlace}
 use Rattle.nr_core.specs.Laws.{HoldsFound, Stands, map_of}
-use Rattle.nr_core.specs.Machine.{or_refusal, found_by, read_answer}
+use Rattle.nr_core.specs.Machine.{read_answer}
 use Rattle.nr_core.specs.Refusals.{has_reader, if_beyond, if_unreadable, refusal}
 use Rattle.nr_core.specs.Roles.{held, holds, taken}
-use Rattle.nr_core.specs.Slots.{bound_of, content, departures}
-use Rattle.nr_core.specs.States.{Read, State, hold_of, no_retired, slot_in}
+use Rattle.nr_core.specs.Slots.{bound_of, content}
+use Rattle.nr_core.specs.States.{Read, State, hold_of, no_retired}
 use Rattle.nr_core.specs.Story.{Story}
-use Rattle.nr_core.specs.declared.calls.Refusal.{Refusal}
-use Rattle.nr_core.specs.declared.places.Hold.{Hold}
 use Rattle.nr_core.specs.declared.places.Place.{Place}
 use Rattle.nr_core.specs.declared.places.Place.TheVariants.{Putting}
 use Rattle.nr_core.specs.declared.places.Retired.{Retired}

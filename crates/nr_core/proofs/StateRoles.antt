@@ -21,7 +21,7 @@ use Rattle.nr_core.specs.States.{State}
 use Rattle.nr_core.specs.Story.{call_of, ending, ending_at, entry}
 use Rattle.nr_core.specs.Sums.{total}
 use Rattle.nr_core.specs.declared.calls.Step.{Step}
-use Rattle.nr_core.specs.declared.calls.Step.TheVariants.{Ended, Going}
+use Rattle.nr_core.specs.declared.calls.Step.TheVariants.{Ended}
 use Rattle.nr_core.specs.declared.places.Hold.{Hold}
 use Rattle.nr_core.specs.declared.places.Place.{Place}
 use Rattle.nr_core.specs.declared.places.Place.TheVariants.{Idle, Leaving, Putting, Reading, Searching, Withdrawing}

@@ -9,7 +9,7 @@ use lib.ListN.{get_elem?}
 use mathlib.Core.Logic.{dite}
 use mathlib.Core.Option.{some, some-injective, some-ne-none}
 use native.Mathlib.Decide.{ℕ_discrete}
-use Rattle.nr_core.proofs.Sums.{only-is, only-other, only-same, some_term, term_le}
+use Rattle.nr_core.proofs.Sums.{only-is, only-other, only-same, some_term, term_le, total-zero}
 use Rattle.nr_core.specs.Sums.{only, total}
 use Rattle.nr_core.specs.declared.places.Retired.{Retired}
 use Rattle.nr_model.specs.Strays.{strays}
@@ -34,10 +34,6 @@ stands-le : (l : List ℕ) (r : ℕ) → stands l r ≤ 1
 stands-le l r =
     dite (ℕ_discrete (how_often r l) 0) (λ z. let m = stands-none l r z in omega arith)
     (λ nz. let m = stands-some l r (omega arith) in omega arith)
-
-total-nil : {A : Type 0} (l : List A) → total (λ _. 0) l ≡ 0
-total-nil [] = refl
-total-nil (x ∷ xs) = let t = total-nil xs in omega arith
 
 -- one number more that is new adds the places where it stands
 stands-new : (qs rs : List ℕ) (q : ℕ) → how_often q qs ≡ 0
@@ -69,7 +65,7 @@ stands-old qs (r ∷ rs) q z = let t = stands-old qs rs q z in dite (ℕ_discret
 strays_are : (keys rs qs : List ℕ) → ((q : ℕ) → how_often q keys + how_often q rs ≤ 1)
     → ((i q : ℕ) → get_elem? qs i ≡ some q → 1 ≤ how_often q keys + how_often q rs)
     → stray_count keys qs ≡ total (stands qs) rs
-strays_are keys rs [] once cover = sym (total-nil rs)
+strays_are keys rs [] once cover = sym (total-zero rs)
 strays_are keys rs (q ∷ qs) once cover =
     let t = strays_are keys rs qs once (λ i r e. cover (suc i) r e) in
     let a = once q in

@@ -141,13 +141,13 @@ module _ {A : Type 0} where
   got_at (x ∷ xs) (suc i) z low = got_at xs i z (omega arith)
 
 module _ {A : Type 0} where
+  pub total-zero : (l : List A) → total (λ (_ : A). 0) l ≡ 0
+  total-zero [] = refl
+  total-zero (x ∷ xs) = omega (arith, total-zero xs)
+
   pub exchanged : (f : ℕ → A → ℕ) (l : List A) (n : ℕ)
       → below (λ c. total (f c) l) n ≡ total (λ x. below (λ c. f c x) n) l
-  exchanged f l zero = sym (nil l)
-    where
-      nil : (l : List A) → total (λ (_ : A). 0) l ≡ 0
-      nil [] = refl
-      nil (x ∷ xs) = omega (arith, nil xs)
+  exchanged f l zero = sym (total-zero l)
   exchanged f l (suc n) = omega (arith, exchanged f l n, split l)
     where
       split : (l : List A)

@@ -15,7 +15,7 @@ use Rattle.nr_words.specs.SetWords.{encode}
 use Rattle.nr_core.proofs.Counting.{retired_once}
 use Rattle.nr_core.proofs.KeyWords.{is_named, name_low, naming_is}
 use Rattle.nr_core.proofs.Settle.{key_same}
-use Rattle.nr_core.proofs.Sums.{below-change, below-same, below-term, only-other, only-same, only-suc, only-zero}
+use Rattle.nr_core.proofs.Sums.{below-change, below-same, only-other, only-same, only-suc, only-zero}
 use Rattle.nr_core.proofs.Sums.{term_le, total-append}
 use Rattle.nr_core.specs.Core.{ShowsState}
 use Rattle.nr_core.specs.Roles.{grips, held, holds, taken}

@@ -17,7 +17,7 @@ use Rattle.nr_core.proofs.Choices.{by_cases, on_test}
 use Rattle.nr_core.proofs.KeyWords.{is_named, name_high}
 use Rattle.nr_core.proofs.OnKey.{in_range}
 use Rattle.nr_core.proofs.StateRoles.{IsCoreState, state_sums}
-use Rattle.nr_core.proofs.Sums.{below-term, got_at, only-le, only-other, only-same, total-drop, total-set}
+use Rattle.nr_core.proofs.Sums.{got_at, only-le, only-other, only-same, total-drop, total-set}
 use Rattle.nr_core.specs.Accounts.{on}
 use Rattle.nr_core.specs.Machine.{arrive_hold, found_by, moved, read_hold}
 use Rattle.nr_core.specs.Operations.{going, target_of}

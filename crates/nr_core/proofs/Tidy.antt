@@ -11,7 +11,7 @@ use Rattle.nr_model.specs.Maps.{is_filled_key, state_of}
 use Rattle.nr_model.specs.declared.states.KeyState.{KeyState}
 use Rattle.nr_core.proofs.Counting.{named_inside, retired_once, taken_are}
 use Rattle.nr_core.proofs.KeyWords.{is_named}
-use Rattle.nr_core.proofs.Sums.{below-term, only-is, only-le, only-same, some_term, term_le, below-first, below-same}
+use Rattle.nr_core.proofs.Sums.{only-is, only-le, only-same, some_term, term_le, below-first, below-same}
 use Rattle.nr_core.specs.Core.{Core, ShowsState}
 use Rattle.nr_core.specs.Slots.{name_number, named}
 use Rattle.nr_core.specs.Story.{map_after}

@@ -4,7 +4,6 @@ use lib.ListN.{get_elem?}
 use mathlib.Core.Option.{some}
 use Rattle.nr_model.specs.Histories.{Entry}
 use Rattle.nr_model.specs.Maps.{number_of, reply_at, state_after}
-use Rattle.nr_model.specs.declared.states.KeyState.{KeyState}
 use Rattle.nr_words.specs.KeyWords.{hole_word}
 use Rattle.nr_core.proofs.KeyWords.{hole_is}
 use Rattle.nr_core.proofs.Numbers.{number_within, numbers_kept}

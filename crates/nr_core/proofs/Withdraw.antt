@@ -9,7 +9,7 @@ use Rattle.nr_model.specs.Histories.{Entry}
 use Rattle.nr_model.specs.Maps.{last_number, number_of, reply_at, state_after}
 use Rattle.nr_model.specs.declared.calls.Reply.{Reply}
 use Rattle.nr_model.specs.declared.states.KeyState.{KeyState}
-use Rattle.nr_words.specs.KeyWords.{arrivals_of, hole_word, slot_of}
+use Rattle.nr_words.specs.KeyWords.{hole_word}
 use Rattle.nr_core.proofs.KeyWords.{hole_is, names_none}
 use Rattle.nr_core.proofs.Numbers.{numbers_next}
 use Rattle.nr_core.proofs.Sums.{only-zero}

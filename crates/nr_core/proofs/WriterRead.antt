@@ -1,6 +1,6 @@
 -- The writer reads a word of the slot that its key names; the last read decides its find or update.
 use Rattle.std.proofs.Common.{[], List, ap, arith, get_or, length, nat_eq, refl, set, suc, sym, take, ℕ, ◌*◌, ◌++◌, ◌+◌}
-use Rattle.std.proofs.Common.{◌<◌, ◌∙◌, ◌∷◌, ◌≡◌, ◌≢◌}
+use Rattle.std.proofs.Common.{◌<◌, ◌∙◌, ◌∷◌, ◌≡◌, ◌≢◌, ◌≤◌}
 use Rattle.std.proofs.lemmas.Bool.{eqb-false, eqb-true}
 use Rattle.std.specs.Prelude.{Err, Ok, Result}
 use lib.ListN.{get_elem?}
@@ -112,15 +112,9 @@ reads_on {shape = shape} {words = words} {roles = roles} {log = log} core id {de
     reading.full (read_set shape words roles log core (key_of call) slot got reading) keeps_so idle))
     (λ no.
     let unfinished : length got' ≢ 2 * get_or got' 0 0 + 1 = eqb-false (length got') (2 * get_or got' 0 0 + 1) no in
-    let more = reading.more in
-    let same_len : suc (length got) ≡ length got' = omega arith in
-    moves core id there place is_at (Reading call slot got') (λ _. refl) (record {
-      near = reading.near;
-      names = reading.names;
-      number = reading.number;
-      rows = reading.rows;
-      full = reading.full;
-      part = read_next shape words roles log core (key_of call) slot got reading
-          ∙ ap (λ (n : ℕ). take n (encode reading.rows)) same_len;
-      more = omega arith;
-    }))
+    let same_len : suc (length got) ≡ length got' = omega (arith, reading.more) in
+    let part
+    = read_next shape words roles log core (key_of call) slot got reading
+    ∙ ap (λ (n : ℕ). take n (encode reading.rows)) same_len in
+    let more : length got' ≤ 2 * length reading.rows = omega (arith, reading.more) in
+    moves core id there place is_at (Reading call slot got') (λ _. refl) (search (part, more, reading)))
