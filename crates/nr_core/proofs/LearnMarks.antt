@@ -13,15 +13,13 @@ use Rattle.nr_model.specs.Histories.{Entry}
 use Rattle.nr_model.specs.Maps.{PartialMap}
 use Rattle.nr_core.proofs.Counting.{retired_once}
 use Rattle.nr_core.proofs.Sums.{only-is, some_term, term_le}
-use Rattle.nr_core.specs.Core.{AtPlace, Core, Grips}
+use Rattle.nr_core.specs.Core.{Core, Grips}
 use Rattle.nr_core.specs.Roles.{held, holds, retirements, taken}
 use Rattle.nr_core.specs.declared.operation.Operation.TheVariants.{Load}
 use Rattle.nr_core.specs.Slots.{name_number}
 use Rattle.nr_core.specs.Steps.{LoadsWord}
 use Rattle.nr_core.specs.Story.{map_after}
 use Rattle.nr_core.specs.Sums.{below, only}
-use Rattle.nr_core.specs.declared.places.Place.{Place}
-use Rattle.nr_core.specs.declared.places.Place.TheVariants.{Putting}
 use Rattle.nr_core.specs.declared.places.Retired.{Retired}
 use Rattle.nr_core.specs.declared.roles.Desk.{Desk}
 use Rattle.nr_core.specs.declared.roles.Grip.{Grip}
@@ -37,6 +35,7 @@ use Rattle.nr_core.specs.MarkSteps.{ReaderLearns, WriterLearns}
 use Rattle.nr_core.proofs.ListPlaces.{at_maps, no_places, some_is}
 use Rattle.nr_core.proofs.Holders.{since_itself, since_now}
 use Rattle.nr_core.proofs.ReaderMarks.{reader_step, contents_loaded}
+use Rattle.nr_core.proofs.Stands.{taken_nobody}
 use Rattle.nr_core.proofs.SwapMarks.{grips_it}
 use Rattle.nr_core.proofs.Tidy.{listed}
 use Rattle.nr_core.proofs.DeskMarks.{desk_of, load_stays, writer_step}
@@ -47,17 +46,6 @@ below_some f zero l = absurd (omega arith)
 below_some f (suc n) l =
     dite (ℕ_discrete (f n) 0) (λ z. let t = below_some f n (omega arith) in (t.0, let l' = t.1 in omega arith, t.2))
     (λ nz. (n, omega arith, omega arith))
-
--- a slot that is held is not taken
-not_taken : (shape : Shape) (words : List ℕ) (at : PartialMap) (holders : ℕ → ℕ) (fresh : ℕ)
-    (retired : List Retired) (slot : ℕ) (p : Place)
-    → 0 < holders slot → AtPlace shape words at holders fresh retired p → taken slot p ≡ 0
-not_taken shape words at holders fresh retired slot (Putting a b mine c d) l t =
-    dite (ℕ_discrete (only slot mine) 0) (λ z. z)
-    (λ nz. absurd
-    (let same = only-is slot mine (omega arith) in
-    omega (arith, ap holders (sym same) ∙ t.nobody)))
-not_taken shape words at holders fresh retired slot other l t = refl
 
 grip_near : (shape : Shape) (words : List ℕ) (at : PartialMap) (holders : ℕ → ℕ) (x : Grip) (slot : ℕ)
     → Grips shape words at holders x → gripped x ≡ Some slot → slot < shape.slots
@@ -83,9 +71,12 @@ module _ {A : Type 0} (role : A → Role) (marks : A → Marks) where
       let part = term_le (holds slot) roles place (Reader reader grip) there' in
       let one = grips_it grip slot on in
       let held_so : 0 < held roles slot = omega arith in
-      let free
-      = not_taken shape words (map_after shape log) (held roles) desk.fresh desk.retired slot desk.place held_so
-      mine.place in
+      let free : taken slot desk.place ≡ 0
+      = dite (ℕ_discrete (taken slot desk.place) 0) (λ z. z) (λ nz. absurd
+      (let nobody
+      = taken_nobody shape words (map_after shape log) (held roles) desk.fresh desk.retired slot desk.place mine.place
+      (omega arith) in
+      omega arith)) in
       let used = dite (dec_le desk.fresh slot) (λ l. absurd (let z = (mine.free slot l near).0 in omega arith))
       (λ l. ap (λ b. cond {A = ℕ} b 1 0) (lt-leb desk.fresh slot (omega arith))) in
       (near, omega (arith, retired_once shape words roles log core id desk at' slot near))

@@ -36,8 +36,9 @@ use Rattle.nr_core.specs.declared.shape.Shape.{Shape}
 use Rattle.nr_core.specs.declared.places.Hold.TheVariants as hold
 use Rattle.nr_core.specs.declared.calls.Refusal.TheVariants as refuse
 
-taken_nobody : (shape : Shape) (words : List ℕ) (map : PartialMap) (hold : ℕ → ℕ) (fresh : ℕ) (l : List Retired) (s : ℕ)
-    (p : Place)
+-- a slot that is taken is nobody's
+pub taken_nobody : (shape : Shape) (words : List ℕ) (map : PartialMap) (hold : ℕ → ℕ) (fresh : ℕ) (l : List Retired)
+    (s : ℕ) (p : Place)
     → AtPlace shape words map hold fresh l p → 0 < taken s p → hold s ≡ 0
 taken_nobody shape words map hold fresh l s (Putting call rows u departed i) t mine =
     ap hold (sym (only-is s u mine)) ∙ t.nobody

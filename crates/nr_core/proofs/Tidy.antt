@@ -78,9 +78,8 @@ shown_empty shape words w other t e = refl
 
 shown_full : (shape : Shape) (words : List ℕ) (w : ℕ) (state : KeyState) (slot : ℕ) → ShowsState shape words w state
     → name_number w ≡ suc slot → is_filled_key state ≡ true
-shown_full shape words w (key.Hole number) slot t e = absurd (let z = t.0 in omega arith)
-shown_full shape words w (key.Asked number) slot t e = absurd (let z = t.0 in omega arith)
 shown_full shape words w (key.Rows number rows) slot t e = refl
+shown_full shape words w other slot t e = absurd (let z = t.0 in omega arith)
 
 module _ {A : Type 0} (role : A → Role) (marks : A → Marks) (shape : Shape) (words : List ℕ) (callers : List A)
     (log : List Entry) (id : ℕ) (me : A)
