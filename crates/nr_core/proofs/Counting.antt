@@ -1,7 +1,7 @@
 -- How many slots are where, of any core state: a retired slot stands once, the retired ones are no more than the slots,
 -- and once every slot was taken the filled keys and the retired slots are all of them.
-use Rattle.std.proofs.Common.{Bool, List, [], ap, arith, cond, get_or, length, refl, set, subst, suc, sym, ℕ, ◌+◌, ◌<◌, ◌∙◌}
-use Rattle.std.proofs.Common.{zero, ◌∷◌, ◌≡◌, ◌≤◌}
+use Rattle.std.proofs.Common.{Bool, List, [], ap, arith, cond, get_or, length, refl, set, subst, suc, sym, ℕ}
+use Rattle.std.proofs.Common.{zero, ◌+◌, ◌<◌, ◌∙◌, ◌∷◌, ◌≡◌, ◌≤◌}
 use Rattle.std.proofs.lemmas.Bool.{lt-leb}
 use Rattle.std.specs.List.{count_by}
 use lib.ListN.{get_elem?}

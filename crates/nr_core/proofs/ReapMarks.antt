@@ -24,7 +24,8 @@ use Rattle.nr_core.specs.declared.roles.Role.{Role}
 use Rattle.nr_core.specs.declared.roles.Role.TheVariants.{Reader, Writer}
 use Rattle.nr_core.specs.declared.shape.Shape.{Shape}
 use Rattle.nr_core.specs.Marks.{Marks, Past, LoggedLoad, gripped, with_poll, with_polls, with_reaped, with_scan}
-use Rattle.nr_core.specs.Marked.{Keeps, AllSince, CanMark, Desked, HoldNoOthers, NotesPresent, Remarked, Since, Sweeping}
+use Rattle.nr_core.specs.Marked.{AllSince, CanMark, Desked, HoldNoOthers, Keeps, NotesPresent, Remarked, Since}
+use Rattle.nr_core.specs.Marked.{Sweeping}
 use Rattle.nr_core.specs.MarkSteps.{ProbesMarks}
 use Rattle.nr_core.proofs.ListPlaces.{at_maps, no_places}
 use Rattle.nr_core.proofs.MarksSince.{rests}
