@@ -1,7 +1,7 @@
 -- The writer's flags go along with what it hears: with a scan, with a set that it puts, and with a slot that it
 -- retires.
 use Rattle.std.proofs.Common.{◌≡◌, ◌≢◌, ℕ, suc, zero, ◌<◌, ⊎_elim, List, [], ◌∷◌, ◌++◌, Bool, true, false, set, get_or}
-use Rattle.std.proofs.Common.{take, get_or-set_other, length-set, refl, sym, ap, ◌∙◌, subst, arith}
+use Rattle.std.proofs.Common.{get_or-set_other, length-set, refl, sym, ap, ◌∙◌, subst, arith}
 use Rattle.std.proofs.lemmas.Bool.{false≢true}
 use Rattle.std.specs.Prelude.{nat_lt}
 use mathlib.Core.Logic.{dite}
@@ -16,18 +16,17 @@ use Rattle.nr_board.proofs.ScannedWords.{flag_elsewhere}
 use Rattle.nr_core.specs.Marks.{LoggedLoad}
 use Rattle.nr_board.specs.Callers.{Table}
 use Rattle.nr_board.specs.Flags.{Flagged, IsFlagged}
-use Rattle.nr_board.specs.Passes.{unflagged}
 use Rattle.nr_board.specs.SlotLists.{TookBySearch, heard_all, not_passed}
 use Rattle.nr_board.specs.WholeScans.{is_flagged}
 
 module _ (table : Table) (retired : List Retired) (heard : List ℕ) (flags : List Bool)
     (flagged : Flagged table retired heard flags) where
-  flag_is : (slot : ℕ) → is_flagged flags slot ≡ nat_lt (get_or heard slot 0) table.announcers
+  pub flag_is : (slot : ℕ) → is_flagged flags slot ≡ nat_lt (get_or heard slot 0) table.announcers
   flag_is slot = grind arith
 
-  -- a pass polls just the slots that all readers were heard of
-  pub polls_are : (place : ℕ) → unflagged retired flags place ≡ heard_all table.announcers heard (take place retired)
-  polls_are place = λ j. not_passed (λ slot. flag_is slot j) (take place retired)
+  -- the slots without a flag are just those of which all readers were heard
+  pub flags_are : (slots : List Retired) → not_passed (is_flagged flags) slots ≡ heard_all table.announcers heard slots
+  flags_are slots = λ j. not_passed (λ slot. flag_is slot j) slots
 
 -- SETS THAT ARE PUT
 

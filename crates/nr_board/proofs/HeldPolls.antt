@@ -1,18 +1,17 @@
 -- Polls of slots that are held, one for each of a list.
 use Rattle.std.proofs.Common.{◌≡◌, ℕ, zero, suc, ◌+◌, List, [], ◌∷◌, ◌++◌, Bool, true, false, length, take, drop}
-use Rattle.std.proofs.Common.{get_or, refl, sym, ap, ◌∙◌, arith, append-nil, append_assoc, take-suc}
+use Rattle.std.proofs.Common.{get_or, refl, sym, ap, ◌∙◌, arith, append-nil, append_assoc, length-append, take-suc}
 use Rattle.std.proofs.lemmas.List.{take-append-drop}
 use mathlib.Core.Option.{some, some-injective, some-ne-none}
-use lib.ListN.{get_elem?}
+use lib.ListN.{get_elem?, length-map}
 use Rattle.nr_core.specs.States.{no_retired}
 use mathlib.Core.List.{map-append}
-use lib.ListN.{length-map}
 use Rattle.nr_core.proofs.Choices.{by_cases}
 use Rattle.nr_core.specs.declared.places.Retired.{Retired}
 use Rattle.nr_core.specs.Marks.{OfSlot, LoggedLoad}
 use Rattle.nr_board.proofs.PollNotes.{StandsAt, there_is}
 use Rattle.nr_core.proofs.ListPlaces.{inside}
-use Rattle.nr_board.specs.Noting.{Reached}
+use Rattle.nr_board.specs.HeldSlots.{PolledTo}
 use Rattle.nr_board.specs.SlotLists.{held_polls, not_passed}
 
 abbrev held_poll : Retired → LoggedLoad
@@ -65,6 +64,11 @@ module _ (passes : ℕ → Bool) {retired : List Retired} {place : ℕ} {entry :
       → not_passed passes (take (place + 1) retired) ≡ not_passed passes (take place retired) ++ entry ∷ []
   up_to_polled stays = up_to_here ∙ rw stays refl
 
+  pub one_more_polled : passes entry.slot ≡ false
+      → length (not_passed passes (take (place + 1) retired)) ≡ length (not_passed passes (take place retired)) + 1
+  one_more_polled stays =
+      ap length (up_to_polled stays) ∙ length-append (not_passed passes (take place retired)) (entry ∷ [])
+
   -- and those behind it
   pub split_here : passes entry.slot ≡ false
       → not_passed passes retired
@@ -76,24 +80,29 @@ module _ (passes : ℕ → Bool) {retired : List Retired} {place : ℕ} {entry :
       ∙ ap (λ (l : List Retired). l ++ behind) (up_to_polled stays)
       ∙ append_assoc (not_passed passes (take place retired)) (entry ∷ []) behind
 
--- each of them is reached before that place
+-- each of them is reached before that place, and isn't passed by
 pub polled_reached : (passes : ℕ → Bool) (retired : List Retired) (place at : ℕ) (entry : Retired)
-    → get_elem? (not_passed passes (take place retired)) at ≡ some entry → Reached retired place entry.slot
+    → get_elem? (not_passed passes (take place retired)) at ≡ some entry → PolledTo passes retired place entry.slot
 polled_reached passes [] zero at entry there = absurd (some-ne-none entry (sym there))
 polled_reached passes [] (suc place) at entry there = absurd (some-ne-none entry (sym there))
 polled_reached passes (x ∷ retired) zero at entry there = absurd (some-ne-none entry (sym there))
 polled_reached passes (x ∷ retired) (suc place) at entry there =
     let behind = λ (n : ℕ) (is : get_elem? (not_passed passes (take place retired)) n ≡ some entry).
     reached_behind (polled_reached passes retired place n entry is) in
-    by_cases (λ b. passes x.slot ≡ b → Reached (x ∷ retired) (suc place) entry.slot) (passes x.slot)
-    (λ _ gone. behind at (rw gone at there)) (λ _ stays. first behind at (rw stays at there)) refl
+    by_cases (λ b. passes x.slot ≡ b → PolledTo passes (x ∷ retired) (suc place) entry.slot) (passes x.slot)
+    (λ _ gone. behind at (rw gone at there)) (λ _ stays. first stays behind at (rw stays at there)) refl
   where
-    reached_behind : Reached retired place entry.slot → Reached (x ∷ retired) (suc place) entry.slot
-    reached_behind r = (suc r.0, r.1, (let low = r.2 in omega arith), r.3, r.4)
+    reached_behind : PolledTo passes retired place entry.slot → PolledTo passes (x ∷ retired) (suc place) entry.slot
+    reached_behind (r, stays) = ((suc r.0, r.1, (let low = r.2 in omega arith), r.3, r.4), stays)
 
-    first : ((n : ℕ) → get_elem? (not_passed passes (take place retired)) n ≡ some entry
-        → Reached (x ∷ retired) (suc place) entry.slot)
+    first : passes x.slot ≡ false
+        → ((n : ℕ) → get_elem? (not_passed passes (take place retired)) n ≡ some entry
+        → PolledTo passes (x ∷ retired) (suc place) entry.slot)
         → (n : ℕ) → get_elem? (x ∷ not_passed passes (take place retired)) n ≡ some entry
-        → Reached (x ∷ retired) (suc place) entry.slot
-    first behind zero is = (zero, x, omega arith, refl, ap (λ (e : Retired). e.slot) (some-injective x entry is))
-    first behind (suc n) is = behind n is
+        → PolledTo passes (x ∷ retired) (suc place) entry.slot
+    first stays behind zero is =
+        let same = some-injective x entry is in (
+          (zero, x, omega arith, refl, ap (λ (e : Retired). e.slot) same),
+          ap (λ (e : Retired). passes e.slot) (sym same) ∙ stays,
+        )
+    first stays behind (suc n) is = behind n is

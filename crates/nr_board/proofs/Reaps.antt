@@ -1,30 +1,32 @@
 -- A reap: its sweeps and the scan between them, put together.
-use Rattle.std.proofs.Common.{◌≡◌, ℕ, ◌+◌, ◌*◌, ◌<◌, ⊎_elim, inl, inr, true, List, [], ◌∷◌, ◌++◌, ap, append-nil}
-use Rattle.std.proofs.Common.{append_assoc}
+use Rattle.std.proofs.Common.{◌≡◌, ℕ, ◌+◌, ◌*◌, ◌<◌, inl, inr, true, List, [], ◌∷◌, ◌++◌, ap, append-nil, append_assoc}
 use Rattle.std.proofs.Common.{arith, length, length-append, refl, set, subst, sym, ◌∙◌}
+use Rattle.nr_model.specs.Rows.{IsRowSet}
+use Rattle.nr_model.specs.declared.rows.Row.{Row}
 use Rattle.nr_core.specs.SlotLists.{SlotLists}
 use Rattle.nr_core.specs.declared.places.Place.TheVariants.{Idle}
 use Rattle.nr_core.specs.declared.places.Retired.{Retired}
-use Rattle.nr_core.specs.Marks.{Marks, OfSlot, Past, LoggedLoad, with_reaped, with_scan}
+use Rattle.nr_core.specs.Marks.{Marks, OfSlot, Past, LoggedLoad, set_in, with_reaped, with_scan}
 use Rattle.nr_board.proofs.Sweeps.{rests_after, token_after}
 use Rattle.nr_board.proofs.WordLoads.{words_many}
 use Rattle.nr_board.specs.Callers.{Table, token}
-use Rattle.nr_board.specs.Reaping.{HeldEach, ScansFirst, SweepsFor, SweepsHeard, after_polls, probed, ready_in}
+use Rattle.nr_board.specs.HeldSlots.{HeldEach}
+use Rattle.nr_board.specs.Reaping.{ReapsIn, ReapsSet, ScansFirst, SweepsFor, SweepsHeard, after_polls, probed, ready_in}
 use Rattle.nr_board.specs.Reaping.{ready_to, reaping, waiting, with_reap}
 use Rattle.nr_board.specs.Recalls.{RecallsAt, waited}
 use Rattle.nr_board.specs.SlotLists.{desk_with, held_polls}
 use Rattle.nr_board.specs.Views.{View, desk_of}
 use Rattle.nr_board.specs.WholeScans.{scanned_to}
-use Rattle.nr_board.specs.WordLoads.{WordsTell}
 use Rattle.nr_board.specs.WriterSeats.{MapSeat, RestsAt}
+use Rattle.nr_board.specs.declared.answers.Reaped.TheVariants as reaped
 use Rattle.nr_board.specs.declared.reaping.Sweep.{Sweep}
 use Rattle.nr_board.specs.declared.reaping.Sweep.TheVariants as sweep
 
--- the view after those polls and a scan
-abbrev swept : List Past → List LoggedLoad → ℕ → List ℕ → View → View
-swept notes loads more heard view =
+-- the view after those polls and loads of words
+abbrev after_loads : List Past → List LoggedLoad → List ℕ → View → View
+after_loads notes loads heard view =
     record view {
-      steps = view.steps + (length loads + more);
+      steps = view.steps + length loads;
       marks = with_scan view.marks (view.marks.polls ++ notes) (view.marks.loads ++ loads);
       heard = heard;
     }
@@ -42,69 +44,59 @@ module _ {table : Table} {lists : SlotLists} {before : MapSeat} (rests : RestsAt
   waiting_is : waiting lists.reaped lists.retired ≡ waiting (token before).marks.reaped (token before).retired
   waiting_is = λ j. waiting (rests.reaped j) (sym retired_is j)
 
-  -- the last sweep, before which nothing was loaded, or a first one was in vain and the words were scanned
+  -- the last sweep, and what was loaded before it
   record LastSweep (now : MapSeat) (found : Sweep) : Type 0 where
     last : MapSeat
     earlier : List Past
     loads : List LoggedLoad
     first : ScansFirst (token before) last.me.0.heard loads earlier
     scans : found ≡ sweep.Held → 0 < before.me.0.announcers → 0 < length loads
-    view : last.me.0 ≡ swept earlier loads 0 last.me.0.heard before.me.0
+    view : last.me.0 ≡ after_loads earlier loads last.me.0.heard before.me.0
     sweeps : SweepsFor lists last now found
 
   last_sweep : (now : MapSeat) (found : Sweep) → SweepsHeard lists before now found → LastSweep now found
-  last_sweep now found sweeps = ⊎_elim
-      (λ (once : SweepsFor lists before now found × (found ≡ sweep.Held → before.me.0.announcers ≡ 0)).
+  last_sweep now found (inl (sweeps, none)) =
+      let view = before.me.0 in let steps : view.steps ≡ view.steps + 0 = omega arith in
       record {
         last = before;
         earlier = [];
         loads = [];
         first = inl (refl, refl, refl);
-        scans = λ held some_words. let none = once.1 held in absurd (omega arith);
-        view =
-            let view = before.me.0 in let steps : view.steps ≡ view.steps + (0 + 0) = omega arith in
-            λ j.
+        scans = λ held some_words. let none_has = none held in absurd (omega arith);
+        view = λ j.
             record view {
               steps = steps j;
               marks = with_scan view.marks (sym (append-nil view.marks.polls) j)
                   (sym (append-nil view.marks.loads) j);
             };
-        sweeps = once.0;
-      })
-      (λ (twice : (0 < before.me.0.announcers) × (mid last : MapSeat) × SweepsFor lists before mid sweep.Held
-      × (scan : List LoggedLoad)
-      × WordsTell before.me.0.announcers lists.retired before.me.0.shape.slots scan last.me.0.heard
-      × (last.me.0 ≡ scanned_to scan last.me.0.heard mid.me.0) × SweepsFor lists last now found).
-      let (some_words, mid, last, first, scan, words, scans, second) = twice in
-      let polls = held_polls (ready_in lists before.me.0) in
-      let both = length-append polls scan in
-      let heard = last.me.0.heard in
+        sweeps = sweeps;
+      }
+  last_sweep now found (inr (some_words, mid, last, (notes, _, each, swept), scan, words, scans, second)) =
+      let view = before.me.0 in
+      let polls = held_polls (ready_in lists view) in
+      let steps : view.steps + length polls + length scan ≡ view.steps + length (polls ++ scan)
+      = omega (arith, length-append polls scan) in
       record {
         last = last;
-        earlier = first.0;
+        earlier = notes;
         loads = polls ++ scan;
         first = inr (
           some_words,
-          rw (sym (ready_is before.me.0.heard)) first.2,
+          rw (sym (ready_is view.heard)) each,
           scan,
           rw retired_is words,
-          ap (λ (l : List Retired). held_polls l ++ scan) (ready_is before.me.0.heard),
+          ap (λ (l : List Retired). held_polls l ++ scan) (ready_is view.heard),
         );
-        scans = λ _ _. omega (arith, words_many words);
-        view = scans ∙ ap (scanned_to scan heard) first.3
-            ∙ (let view = before.me.0 in
-            let steps : view.steps + length polls + length scan ≡ view.steps + (length (polls ++ scan) + 0)
-            = omega arith in
-            λ j.
+        scans = λ _ _. omega (arith, length-append polls scan, words_many words);
+        view = scans ∙ ap (scanned_to scan last.me.0.heard) swept
+            ∙ (λ j.
             record view {
               steps = steps j;
-              marks = with_scan view.marks (view.marks.polls ++ first.0)
-                  (append_assoc view.marks.loads polls scan j);
-              heard = heard;
+              marks = with_scan view.marks (view.marks.polls ++ notes) (append_assoc view.marks.loads polls scan j);
+              heard = last.me.0.heard;
             });
         sweeps = second;
-      })
-      sweeps
+      }
 
   module _ {now : MapSeat} {found : Sweep} (made : LastSweep now found) where
     abbrev heard_then : List ℕ
@@ -116,10 +108,10 @@ module _ {table : Table} {lists : SlotLists} {before : MapSeat} (rests : RestsAt
     -- after its polls
     after_sweep : (notes : List Past) (polls : List LoggedLoad)
         → probed notes polls made.last.me.0
-        ≡ swept (made.earlier ++ notes) (made.loads ++ polls) 0 heard_then before.me.0
-    after_sweep notes polls = let view = before.me.0 in let both = length-append made.loads polls in
-        let steps : view.steps + (length made.loads + 0) + length polls
-        ≡ view.steps + (length (made.loads ++ polls) + 0) = omega arith in
+        ≡ after_loads (made.earlier ++ notes) (made.loads ++ polls) heard_then before.me.0
+    after_sweep notes polls = let view = before.me.0 in
+        let steps : view.steps + length made.loads + length polls ≡ view.steps + length (made.loads ++ polls)
+        = omega (arith, length-append made.loads polls) in
         ap (probed notes polls) made.view
         ∙ (λ j.
         record view {
@@ -129,134 +121,136 @@ module _ {table : Table} {lists : SlotLists} {before : MapSeat} (rests : RestsAt
           heard = heard_then;
         })
 
-  -- what the sweeps give of a set that they found
-  pub record FoundSet (now : MapSeat) (slot : ℕ) : Type 0 where
-    pub held : List Retired
-    pub later : List Retired
-    pub entry : Retired
-    pub notes : List Past
-    pub earlier : List Past
-    pub scanned : List ℕ
-    pub loads : List LoggedLoad
-    pub first : ScansFirst (token before) scanned loads earlier
-    pub split : ready_to (token before) scanned ≡ held ++ entry ∷ later
-    pub each : HeldEach (token before).table.shape.readers held notes
-    pub slot_is : slot ≡ entry.slot
-    pub inside : slot < lists.slots
-    pub view : now.me.0
-        ≡ reaping slot
-        (swept (earlier ++ notes) (loads ++ (held_polls held ++ OfSlot slot true ∷ [])) 0 scanned before.me.0)
+  -- a set that the sweeps found
+  module _ (now : MapSeat) (slot : ℕ) (sweeps : SweepsHeard lists before now (sweep.Free slot))
+      (same : now.table_id ≡ before.table_id) where
+    abbrev made : LastSweep now (sweep.Free slot)
+    made = last_sweep now (sweep.Free slot) sweeps
 
-  pub found_set : (now : MapSeat) (slot : ℕ) → SweepsHeard lists before now (sweep.Free slot) → FoundSet now slot
-  found_set now slot sweeps = let made = last_sweep now (sweep.Free slot) sweeps in
-      let (held, later, entry, notes, split, each, slot_is, inside, view) = made.sweeps in
-      record {
-        held = held;
-        later = later;
-        entry = entry;
-        notes = notes;
-        earlier = made.earlier;
-        scanned = made.last.me.0.heard;
-        loads = made.loads;
-        first = made.first;
-        split = sym (ready_then made) ∙ split;
-        each = subst (λ (v : View). HeldEach v.shape.readers held notes) made.view each;
-        slot_is = slot_is;
-        inside = inside;
-        view = view ∙ ap (reaping slot) (after_sweep made notes (held_polls held ++ OfSlot slot true ∷ []));
-      }
+    abbrev notes_now : List Past
+    notes_now = made.earlier ++ made.sweeps.3
 
-  -- the slot whose set is reaped can be read
-  pub recalls_found : {now : MapSeat} {slot : ℕ} → now.table_id ≡ before.table_id → FoundSet now slot
-      → RecallsAt table slot now
-  recalls_found same found = record {
-    own =
-        (λ j. record { id = same j; shape = (found.view j).shape; announcers = (found.view j).announcers })
-        ∙ rests.writes.own;
-    desk = desk_with lists Idle;
-    role = ap (λ (v : View). v.role) found.view ∙ rests.writes.role;
-    inside = let near = found.inside in omega (arith, near, rests.slots);
-    untouched = tt;
-  }
+    abbrev loads_now : List LoggedLoad
+    loads_now = made.loads ++ (held_polls made.sweeps.0 ++ OfSlot slot true ∷ [])
 
-  module _ {now : MapSeat} {slot : ℕ} (last : MapSeat) (rows : ℕ) (same : now.table_id ≡ before.table_id)
-      (found : FoundSet now slot)
-      (last_same : last.table_id ≡ now.table_id) (waits : last.me.0 ≡ waited (2 * rows + 1) now.me.0) where
-    abbrev all_notes : List Past
-    all_notes = found.earlier ++ found.notes
+    view_now : now.me.0 ≡ reaping slot (after_loads notes_now loads_now made.last.me.0.heard before.me.0)
+    view_now = made.sweeps.8 ∙ ap (reaping slot) (after_sweep made made.sweeps.3 _)
 
-    abbrev all_loads : List LoggedLoad
-    all_loads = found.loads ++ (held_polls found.held ++ OfSlot slot true ∷ [])
+    -- can be read
+    pub recalls_found : RecallsAt table slot now
+    recalls_found = record {
+      own =
+          (λ j. record { id = same j; shape = (view_now j).shape; announcers = (view_now j).announcers })
+          ∙ rests.writes.own;
+      desk = desk_with lists Idle;
+      role = ap (λ (v : View). v.role) view_now ∙ rests.writes.role;
+      inside = let near = made.sweeps.7 in omega (arith, near, rests.slots);
+      untouched = tt;
+    }
 
+    -- and is given out
     abbrev marks_now : Marks
     marks_now =
         with_reaped
-        (with_scan before.me.0.marks (before.me.0.marks.polls ++ all_notes) (before.me.0.marks.loads ++ all_loads))
-        slot
+        (with_scan before.me.0.marks (before.me.0.marks.polls ++ notes_now) (before.me.0.marks.loads ++ loads_now)) slot
 
     abbrev steps_now : ℕ
-    steps_now = before.me.0.steps + (length all_loads + (2 * rows + 1))
+    steps_now = before.me.0.steps + (length loads_now + (2 * length (set_in before.me.0.marks slot) + 1))
 
-    last_view : last.me.0 ≡ record before.me.0 { steps = steps_now; marks = marks_now; heard = found.scanned }
-    last_view =
-        waits ∙ ap (waited (2 * rows + 1)) found.view
-        ∙ (λ j. record before.me.0 { steps = steps j; marks = marks_now; heard = found.scanned })
-      where
-        steps : before.me.0.steps + (length all_loads + 0) + (2 * rows + 1) ≡ steps_now
-        steps = omega arith
+    module _ (last : MapSeat) (last_same : last.table_id ≡ now.table_id)
+        (waits : last.me.0 ≡ waited (2 * length (set_in now.me.0.marks slot) + 1) now.me.0) where
+      last_view : last.me.0
+          ≡ record before.me.0 { steps = steps_now; marks = marks_now; heard = made.last.me.0.heard }
+      last_view =
+          waits ∙ ap (λ (v : View). waited (2 * length (set_in v.marks slot) + 1) v) view_now
+          ∙ (λ j. record before.me.0 { steps = steps j; marks = marks_now; heard = made.last.me.0.heard })
+        where
+          steps : before.me.0.steps + length loads_now + (2 * length (set_in before.me.0.marks slot) + 1) ≡ steps_now
+          steps = omega arith
 
-    pub reaped_token : token last
-        ≡ with_reap slot (after_polls all_notes all_loads found.scanned (2 * rows + 1) (token before))
-    reaped_token =
-        token_after table lists before last steps_now marks_now found.scanned rests (last_same ∙ same) last_view
+      pub reaps_set : {Room : Type 0} (shows : Room → List Row → Type 0) {after : Room}
+          → shows after (set_in now.me.0.marks slot) → IsRowSet table.shape.rows (set_in now.me.0.marks slot)
+          → ReapsSet shows (token before) (token last) after
+      reaps_set shows {after = after} shown row_set =
+          let (held, later, entry, notes, split, each, slot_is, _, _) = made.sweeps in
+          let set_is = ap (λ (v : View). set_in v.marks slot) view_now in
+          let gives = subst (λ (s : ℕ). shows after (set_in before.me.0.marks s)
+          × IsRowSet (token before).table.shape.rows (set_in before.me.0.marks s)
+          × (token last
+          ≡ with_reap s
+          (after_polls notes_now (made.loads ++ (held_polls held ++ OfSlot s true ∷ [])) made.last.me.0.heard
+          (2 * length (set_in before.me.0.marks s) + 1) (token before))))
+          slot_is (
+            rw (sym set_is) shown,
+            rw (sym set_is) (subst (λ (t : Table). IsRowSet t.shape.rows (set_in now.me.0.marks slot))
+                (sym rests.writes.own) row_set),
+            token_after table lists before last steps_now marks_now made.last.me.0.heard rests (last_same ∙ same)
+                last_view,
+          ) in
+          record {
+            held = held;
+            later = later;
+            entry = entry;
+            notes = notes;
+            earlier = made.earlier;
+            scanned = made.last.me.0.heard;
+            loads = made.loads;
+            first = made.first;
+            split = sym (ready_then made) ∙ split;
+            each = subst (λ (v : View). HeldEach v.shape.readers held notes) made.view each;
+            shown = gives.0;
+            row_set = gives.1;
+            new_is = gives.2;
+          }
 
-    pub reaped_rests : (after : SlotLists) → after ≡ record lists { reaped = set lists.reaped slot true }
-        → RestsAt table after last
-    reaped_rests after is =
-        rests_after table lists before last steps_now marks_now found.scanned rests (last_same ∙ same) last_view after
-        (is ∙ (λ j. record lists { reaped = set (rests.reaped j) slot true }))
+      pub reaped_rests : (after : SlotLists) → after ≡ record lists { reaped = set lists.reaped slot true }
+          → RestsAt table after last
+      reaped_rests after is =
+          rests_after table lists before last steps_now marks_now made.last.me.0.heard rests (last_same ∙ same)
+          last_view after (is ∙ (λ j. record lists { reaped = set (rests.reaped j) slot true }))
 
-  -- and where every set that waits is kept back
-  pub record KeepsAll (now : MapSeat) : Type 0 where
-    pub notes : List Past
-    pub earlier : List Past
-    pub scanned : List ℕ
-    pub loads : List LoggedLoad
-    pub first : ScansFirst (token before) scanned loads earlier
-    pub scans : 0 < (token before).table.announcers → 0 < length loads
-    pub some_wait : 0 < length (waiting (token before).marks.reaped (token before).retired)
-    pub each : HeldEach (token before).table.shape.readers (ready_to (token before) scanned) notes
-    pub view : now.me.0
-        ≡ swept (earlier ++ notes) (loads ++ held_polls (ready_to (token before) scanned)) 0 scanned before.me.0
+  -- every set that waits is kept back
+  module _ (now : MapSeat) (sweeps : SweepsHeard lists before now sweep.Held)
+      (same : now.table_id ≡ before.table_id) where
+    abbrev made_held : LastSweep now sweep.Held
+    made_held = last_sweep now sweep.Held sweeps
 
-  pub keeps_all : (now : MapSeat) → SweepsHeard lists before now sweep.Held → KeepsAll now
-  keeps_all now sweeps = let made = last_sweep now sweep.Held sweeps in
-      let (notes, some_wait, each, view) = made.sweeps in
-      let heard = made.last.me.0.heard in
-      record {
-        notes = notes;
-        earlier = made.earlier;
-        scanned = heard;
-        loads = made.loads;
-        first = made.first;
-        scans = made.scans refl;
-        some_wait = subst (λ (l : List Retired). 0 < length l) waiting_is some_wait;
-        each =
-            subst (λ (p : ℕ × List Retired). HeldEach p.0 p.1 notes)
-            (λ j. ((made.view j).shape.readers, ready_then made j)) each;
-        view = view ∙ after_sweep made notes (held_polls (ready_in lists made.last.me.0))
-            ∙ ap
-            (λ (l : List Retired). swept (made.earlier ++ notes) (made.loads ++ held_polls l) 0 heard before.me.0)
-            (ready_then made);
-      }
+    view_kept : now.me.0
+        ≡ after_loads (made_held.earlier ++ made_held.sweeps.0)
+        (made_held.loads ++ held_polls (ready_to (token before) made_held.last.me.0.heard))
+        made_held.last.me.0.heard before.me.0
+    view_kept =
+        made_held.sweeps.3 ∙ after_sweep made_held made_held.sweeps.0 (held_polls (ready_in lists made_held.last.me.0))
+        ∙ ap
+        (λ (l : List Retired). after_loads (made_held.earlier ++ made_held.sweeps.0) (made_held.loads ++ held_polls l)
+        made_held.last.me.0.heard before.me.0)
+        (ready_then made_held)
 
-  module _ {now : MapSeat} (same : now.table_id ≡ before.table_id) (keeps : KeepsAll now) where
-    pub kept_token : token now
-        ≡ after_polls (keeps.earlier ++ keeps.notes) (keeps.loads ++ held_polls (ready_to (token before) keeps.scanned))
-        keeps.scanned 0 (token before)
-    kept_token = token_after table lists before now _ _ keeps.scanned rests same keeps.view
+    pub keeps_all : {Room : Type 0} (shows : Room → List Row → Type 0) (room : Room)
+        → ReapsIn shows (token before) room (token now) room reaped.Held
+    keeps_all shows room = let (notes, some_wait, each, _) = made_held.sweeps in
+        let loads = made_held.loads ++ held_polls (ready_to (token before) made_held.last.me.0.heard) in
+        let plus : length loads ≡ length loads + 0 = omega arith in (
+          notes,
+          made_held.earlier,
+          made_held.last.me.0.heard,
+          made_held.loads,
+          made_held.first,
+          made_held.scans refl,
+          subst (λ (l : List Retired). 0 < length l) waiting_is some_wait,
+          subst (λ (p : ℕ × List Retired). HeldEach p.0 p.1 notes)
+              (λ j. ((made_held.view j).shape.readers, ready_then made_held j)) each,
+          token_after table lists before now _ _ made_held.last.me.0.heard rests same
+              (view_kept ∙ (λ j. record before.me.0 {
+                steps = before.me.0.steps + plus j;
+                marks = with_scan before.me.0.marks (before.me.0.marks.polls ++ (made_held.earlier ++ notes))
+                    (before.me.0.marks.loads ++ loads);
+                heard = made_held.last.me.0.heard;
+              })),
+          refl,
+        )
 
     pub kept_rests : RestsAt table lists now
     kept_rests =
-        rests_after table lists before now _ _ keeps.scanned rests same keeps.view lists
+        rests_after table lists before now _ _ made_held.last.me.0.heard rests same view_kept lists
         (λ j. record lists { reaped = rests.reaped j })

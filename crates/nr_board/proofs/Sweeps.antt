@@ -1,12 +1,11 @@
 -- A reap, poll by poll: the slots whose sets wait are split into those that were found held and those that are still to
 -- be polled.
-use Rattle.std.proofs.Common.{take, ◌≡◌, ◌∙◌, ℕ, zero, suc, ◌+◌, ◌<◌, ◌≤◌, Bool, true, false, List, [], ◌∷◌, ◌++◌}
-use Rattle.std.proofs.Common.{ap, append-nil, append_assoc, arith, drop, get_or, length, length-append, refl, subst}
-use Rattle.std.proofs.Common.{sym, ◌≢◌, ⊎_elim}
+use Rattle.std.proofs.Common.{take, ◌≡◌, ◌∙◌, ℕ, zero, suc, ◌+◌, ◌<◌, ◌≤◌, Bool, true, false, List, [], ◌∷◌, ◌++◌, ap}
+use Rattle.std.proofs.Common.{arith, drop, get_or, length, length-append, refl, subst, sym}
 use Rattle.std.proofs.lemmas.Bool.{ltb-false}
-use Rattle.std.specs.Prelude.{Some, nat_lt, ◌||◌}
+use Rattle.std.specs.Prelude.{nat_lt, ◌||◌}
 use lib.ListN.{get_elem?}
-use mathlib.Core.Option.{some, some-injective, some-ne-none}
+use mathlib.Core.Option.{some, some-injective}
 use Rattle.atomic_table.specs.Table.{Allows, Me}
 use Rattle.nr_model.specs.Histories.{entries_of}
 use Rattle.nr_words.specs.KeyWords.{same_count}
@@ -25,21 +24,18 @@ use Rattle.nr_core.specs.declared.places.Retired.{Retired}
 use Rattle.nr_core.specs.declared.roles.Desk.{Desk}
 use Rattle.nr_core.specs.declared.roles.Role.TheVariants.{Writer}
 use Rattle.nr_core.specs.declared.shape.Shape.{Shape}
-use Rattle.nr_core.proofs.ListPlaces.{at_last, at_left, before as before_at, inside, some_is}
 use Rattle.nr_core.proofs.ReapMarks.{probes_marked}
-use Rattle.nr_core.specs.Marks.{Marks, OfSlot, Past, LoggedLoad, with_loads, with_poll, with_polls}
-use Rattle.nr_core.specs.Marks.{with_reaped, with_scan}
+use Rattle.nr_core.specs.Marks.{Marks, OfSlot, with_reaped, with_scan}
 use Rattle.nr_core.specs.MarkSteps.{ProbeTells, ProbesMarks}
-use Rattle.nr_board.proofs.HeldPolls.{held_next, polled_reached, split_here, up_to_passed, up_to_polled}
-use Rattle.nr_board.proofs.Keepers.{at_behind, at_end, once_more}
+use Rattle.nr_board.proofs.HeldPolls.{held_many, one_more_polled, split_here, up_to_passed, up_to_polled}
+use Rattle.nr_board.proofs.HeldSlots.{held_free, held_none, held_on, held_past}
 use Rattle.nr_board.proofs.Lift.{knows_pasts, lends_on, lifts, sees_alone}
 use Rattle.nr_board.proofs.Moves.{ActsGo, waited, waiting as learns_nothing}
 use Rattle.nr_board.proofs.PollNotes.{StandsAt, at_get}
 use Rattle.nr_board.specs.Callers.{Caller, Table, caller_of, map_seen, token}
 use Rattle.nr_board.specs.Entries.{AreCallers}
 use Rattle.nr_board.specs.Plays.{Room}
-use Rattle.nr_board.specs.Reaping.{HeldEach, ProbesAt, ProbesTo, SweepsFor, SweptTo, probed, ready_before, reaping}
-use Rattle.nr_board.specs.Reaping.{SomeWait, waiting}
+use Rattle.nr_board.specs.Reaping.{ProbesAt, ProbesTo, SomeWait, SweepsFor, SweptTo, is_passed, ready_before, waiting}
 use Rattle.nr_board.specs.Rule.{Kept, marks_of, role_of}
 use Rattle.nr_board.specs.SlotLists.{desk_with, held_polls, not_passed}
 use Rattle.nr_board.specs.Views.{View, caller_number, desk_of}
@@ -118,42 +114,6 @@ probes_so shape slots id me desk poll entry is idle here heard =
     subst (λ (p : Shape × Retired). ProbesTo p.0 p.1 found view next) (λ j. (sym sized j, one_entry j))
     (next_is, marked.told.1)))
 
--- THE SLOTS THAT ARE HELD
-
-none_held : (readers : ℕ) → HeldEach readers [] []
-none_held readers = record {
-  held =
-      record {
-        many = refl;
-        slots = λ at entry there. absurd (some-ne-none entry (sym there));
-        different = λ reader. omega arith;
-      };
-  range = λ at note there. absurd (some-ne-none note (sym there));
-}
-
--- one slot more, held by a reader that holds none of the others
-module _ (readers : ℕ) (slots : List Retired) (notes : List Past) (entry : Retired) (note : Past)
-    (each : HeldEach readers slots notes) (on : note.slot ≡ Some entry.slot)
-    (low : 0 < note.reader) (high : note.reader ≤ readers)
-    (apart : (at : ℕ) (old : Past) → get_elem? notes at ≡ some old → old.reader ≢ note.reader) where
-  held_more : HeldEach readers (slots ++ entry ∷ []) (notes ++ note ∷ [])
-  held_more = let many = each.held.many in record {
-    held = record {
-      many = omega (arith, length-append notes (note ∷ []), length-append slots (entry ∷ []));
-      slots = λ at e there. ⊎_elim
-          (λ (old : get_elem? slots at ≡ some e).
-          let was = each.held.slots at e old in (was.0, at_left notes (note ∷ []) at was.0 was.1, was.2))
-          (λ (new : (at ≡ length slots) × (entry ≡ e)).
-          (note, at_end notes note at (omega (arith, new.0)), on ∙ ap (λ (x : Retired). Some x.slot) new.1))
-          (at_last slots entry e at there);
-      different = once_more notes note each.held.different apart;
-    };
-    range = λ at old there. ⊎_elim (λ (was : get_elem? notes at ≡ some old). each.range at old was)
-        (λ (new : (at ≡ length notes) × (note ≡ old)). subst (λ (n : Past). (0 < n.reader) × (n.reader ≤ readers)) new.1
-        (low, high))
-        (at_last notes note old at there);
-  }
-
 -- THE SWEEP
 
 -- a retired slot is one of the map's
@@ -162,40 +122,14 @@ pub retired_near : {table : Table} {lists : SlotLists} {seat : MapSeat} {place :
 retired_near {place = place} {entry = entry} rests here =
     omega (arith, rests.writes.room.inside place entry here.is, rests.slots)
 
--- one load more
-probed_more : (notes : List Past) (polls : List LoggedLoad) (load : LoggedLoad) (view : View)
-    → record (probed notes polls view) {
-      steps = view.steps + length polls + 1;
-      marks = with_loads (probed notes polls view).marks ((view.marks.loads ++ polls) ++ load ∷ []);
-    }
-    ≡ probed notes (polls ++ load ∷ []) view
-probed_more notes polls load
-    view = λ j.
-    record view {
-      steps = steps j;
-      marks = with_scan view.marks (view.marks.polls ++ notes) (append_assoc view.marks.loads polls (load ∷ []) j);
-    }
-  where
-    steps : view.steps + length polls + 1 ≡ view.steps + length (polls ++ load ∷ [])
-    steps = omega (arith, length-append polls (load ∷ []))
-
 pub swept_none : (lists : SlotLists) (seat : MapSeat) → SweptTo lists seat seat 0 false
 swept_none lists seat =
-    record {
-      notes = [];
-      each = none_held seat.me.0.shape.readers;
+    let steps : seat.me.0.steps ≡ seat.me.0.steps + 0 = omega arith in record {
       own = refl;
-      view = none_yet;
+      held = held_none (is_passed lists seat.me.0) lists.retired seat.me.0;
+      view = λ j. record seat.me.0 { steps = steps j };
       some_wait = (refl, refl);
     }
-  where
-    none_yet : seat.me.0 ≡ probed [] [] seat.me.0
-    none_yet = let view = seat.me.0 in let steps : view.steps ≡ view.steps + 0 = omega arith in
-        λ j.
-        record view {
-          steps = steps j;
-          marks = with_scan view.marks (sym (append-nil view.marks.polls) j) (sym (append-nil view.marks.loads) j);
-        }
 
 module
     _ {lists : SlotLists} {before mid : MapSeat} {place : ℕ} {waits : Bool} {this : Retired}
@@ -207,24 +141,18 @@ module
   abbrev unheard : ℕ → Bool
   unheard slot = nat_lt (get_or before.me.0.heard slot 0) before.me.0.announcers
 
-  abbrev passes : ℕ → Bool
-  passes slot = reaped slot || unheard slot
-
-  abbrev held : List Retired
-  held = ready_before lists before.me.0 place
-
   abbrev waiting_then : List Retired
   waiting_then = waiting lists.reaped (take (place + 1) lists.retired)
 
-  passed : (now : Bool) → SomeWait waiting_then before.me.0 mid.me.0 now → passes this.slot ≡ true
+  passed : (now : Bool) → SomeWait waiting_then before.me.0 mid.me.0 now → is_passed lists before.me.0 this.slot ≡ true
       → SweptTo lists before mid (place + 1) now
-  passed now some_wait gone = let same = sym (up_to_passed passes here gone) in record {
-    notes = so_far.notes;
-    each = subst (λ (l : List Retired). HeldEach before.me.0.shape.readers l so_far.notes) same so_far.each;
-    own = so_far.own;
-    view = so_far.view ∙ ap (λ (l : List Retired). probed so_far.notes (held_polls l) before.me.0) same;
-    some_wait = some_wait;
-  }
+  passed now some_wait gone =
+      record {
+        own = so_far.own;
+        held = held_past so_far.held here gone;
+        view = rw (up_to_passed (is_passed lists before.me.0) here gone) so_far.view;
+        some_wait = some_wait;
+      }
 
   pub swept_past : reaped this.slot ≡ true → SweptTo lists before mid (place + 1) waits
   swept_past gone =
@@ -247,7 +175,7 @@ module
   module _ {table : Table} (rests : RestsAt table lists before) (stays : reaped this.slot ≡ false)
       (near : unheard this.slot ≡ false) (found : ℕ) (after : MapSeat) (own : after.table_id ≡ mid.table_id)
       (tells : ProbesTo table.shape this found mid.me.0 after.me.0) where
-    polled : passes this.slot ≡ false
+    polled : is_passed lists before.me.0 this.slot ≡ false
     polled = λ j. stays j || near j
 
     told_of : (answer : Bool) → same_count found this.arrivals ≡ answer
@@ -255,78 +183,49 @@ module
     told_of answer agree =
         subst (λ (b : Bool). ProbeTells b table.shape this.slot mid.me.0.marks after.me.0.marks) agree tells.1
 
+    -- one step more
+    view_on : after.me.0
+        ≡ record before.me.0 {
+          steps = before.me.0.steps + length (ready_before lists before.me.0 place) + 1;
+          marks = after.me.0.marks;
+        }
+    view_on =
+        tells.0 ∙ ap (λ (v : View). record v { steps = v.steps + 1; marks = after.me.0.marks }) so_far.view
+
     pub swept_more : same_count found this.arrivals ≡ false → SweptTo lists before after (place + 1) true
-    swept_more apart = let told = told_of false apart in
-        let note : Past = told.0 in
-        let notes = so_far.notes ++ note ∷ [] in
-        let more = up_to_polled passes here polled in
-        let polls_are : mid.me.0.marks.polls ≡ before.me.0.marks.polls ++ so_far.notes
-        = ap (λ (v : View). v.marks.polls) so_far.view in
-        let readers : table.shape.readers ≡ before.me.0.shape.readers
-        = sym (ap (λ (t : Table). t.shape.readers) rests.writes.own) in
-        let another : (at : ℕ) (old : Past) → get_elem? so_far.notes at ≡ some old → old.reader ≢ note.reader
-        = λ at old there same.
-        let entry = before_at held at (omega (arith, inside so_far.notes at old there, so_far.each.held.many)) in
-        let its = so_far.each.held.slots at entry.0 entry.1 in
-        let its_slot : old.slot ≡ Some entry.0.slot
-        = ap (λ (p : Past). p.slot) (some-injective old its.0 (sym there ∙ its.1)) ∙ its.2 in
-        let as_here : old.slot ≡ note.slot
-        = told.5 (length before.me.0.marks.polls + at) old
-        (ap (λ (l : List Past). get_elem? l (length before.me.0.marks.polls + at)) polls_are
-        ∙ at_behind before.me.0.marks.polls so_far.notes at ∙ there) same in
-        let one_slot : entry.0.slot ≡ this.slot = some_is entry.0.slot this.slot (sym its_slot ∙ as_here ∙ told.2) in
-        let earlier = polled_reached passes lists.retired place at entry.0 entry.1 in
-        let one_place
-        = rests.writes.room.apart earlier.0 place earlier.1 this earlier.3 here.is (earlier.4 ∙ one_slot) in
-        absurd (omega (arith, earlier.2)) in
-        record {
-          notes = notes;
-          each = subst (λ (l : List Retired). HeldEach before.me.0.shape.readers l notes) (sym more)
-              (held_more before.me.0.shape.readers held so_far.notes this note so_far.each told.2 told.3
-              (let high = told.4 in omega arith) another);
+    swept_more apart =
+        let told = told_of false apart in
+        let steps : before.me.0.steps + length (ready_before lists before.me.0 place) + 1
+        ≡ before.me.0.steps + length (ready_before lists before.me.0 (place + 1))
+        = omega (arith, one_more_polled (is_passed lists before.me.0) here polled) in record {
           own = own ∙ so_far.own;
-          view = tells.0 ∙ (λ j. record mid.me.0 { steps = mid.me.0.steps + 1; marks = told.1 j })
-              ∙ ap
-              (λ (v : View).
-              record v {
-                steps = v.steps + 1;
-                marks = with_polls (with_poll v.marks this.slot false) (v.marks.polls ++ note ∷ []);
-              })
-              so_far.view
-              ∙ ap (λ (v : View). record v { marks = with_polls v.marks (v.marks.polls ++ note ∷ []) })
-              (probed_more so_far.notes (held_polls held) (OfSlot this.slot false) before.me.0)
-              ∙ (λ j.
-              let polls = (sym (held_next held this) ∙ ap held_polls (sym more)) j in
-              record before.me.0 {
-                steps = before.me.0.steps + length polls;
-                marks = with_scan before.me.0.marks
-                    (append_assoc before.me.0.marks.polls so_far.notes (note ∷ []) j)
-                    (before.me.0.marks.loads ++ polls);
-              });
+          held =
+              held_on so_far.held here polled after.me.0 table.shape
+              (sym (ap (λ (t : Table). t.shape.readers) rests.writes.own)) rests.writes.room.apart told;
+          view = view_on ∙ (λ j. record before.me.0 { steps = steps j; marks = after.me.0.marks });
           some_wait = this_waits stays;
         }
 
     pub sweeps_free : same_count found this.arrivals ≡ true → SweepsFor lists before after (sweep.Free this.slot)
     sweeps_free agree =
-        let told = told_of true agree in (
+        let view = before.me.0 in
+        let held = ready_before lists view place in
+        let polls = held_polls held ++ OfSlot this.slot true ∷ [] in
+        let steps : view.steps + length held + 1 ≡ view.steps + length polls
+        = omega (arith, length-append (held_polls held) (OfSlot this.slot true ∷ []), held_many held) in
+        let marks : after.me.0.marks
+        ≡ with_reaped (with_scan view.marks (view.marks.polls ++ so_far.held.notes) (view.marks.loads ++ polls))
+        this.slot
+        = told_of true agree ∙ ap (λ (m : Marks). with_reaped m this.slot) (held_free so_far.held here refl) in (
           held,
-          not_passed passes (drop (place + 1) lists.retired),
+          not_passed (is_passed lists view) (drop (place + 1) lists.retired),
           this,
-          so_far.notes,
-          split_here passes here polled,
-          so_far.each,
+          so_far.held.notes,
+          split_here (is_passed lists view) here polled,
+          so_far.held.each,
           refl,
           retired_near rests here,
-          tells.0 ∙ (λ j. record mid.me.0 { steps = mid.me.0.steps + 1; marks = told j })
-              ∙ ap
-              (λ (v : View).
-              record v {
-                steps = v.steps + 1;
-                marks = with_reaped (with_poll v.marks this.slot true) this.slot;
-              })
-              so_far.view
-              ∙ ap (reaping this.slot)
-              (probed_more so_far.notes (held_polls held) (OfSlot this.slot true) before.me.0),
+          view_on ∙ (λ j. record view { steps = steps j; marks = marks j }),
         )
 
 -- the first, which were reaped, are passed by

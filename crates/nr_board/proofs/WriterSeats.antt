@@ -33,7 +33,7 @@ module _ (table : Table) (before after : MapSeat) (same : after.table_id ≡ bef
       subst (λ (p : Shape × Shape). AreNumbers p.0 (map_after p.1 after.me.0.seen) numbers)
       (λ j. (shape_is j, (sym stays j).shape)) listed
 
-  leads_seat : (call : Call) (outcome : Desk × Step) → Leads call outcome before.me.0 after.me.0
+  pub leads_seat : (call : Call) (outcome : Desk × Step) → Leads call outcome before.me.0 after.me.0
       → LeadsTo table call outcome before after
   leads_seat call outcome leads = let grows = seat_grows before after _ same leads.advances in record {
     writes =

@@ -16,6 +16,7 @@ pub mod WordLoads
 pub mod SlotLists
 pub mod Polls
 pub mod Noting
+pub mod HeldSlots
 pub mod WriterSeats
 pub mod Searches
 pub mod WriterAnswers
@@ -28,7 +29,6 @@ pub mod SearchSeats
 pub mod WholeScans
 pub mod Flags
 pub mod Passes
-pub mod RetiredSearch
 pub mod HeldRows
 pub mod Holds
 pub mod NamedRows

@@ -1,7 +1,7 @@
 -- A reap: the writer polls the retired slots whose sets wait, oldest first, and gives out the set of the first that no
 -- reader holds. The slot stays retired, and its set is reaped.
-use Rattle.std.specs.Prelude.{◌≡◌, ℕ, ◌+◌, ◌*◌, ◌<◌, ◌≤◌, ◌⊎◌, ◌||◌, Bool, true, false, List, [], ◌∷◌, ◌++◌}
-use Rattle.std.specs.Prelude.{length, nat_lt, slice_index, slice_index_or, take}
+use Rattle.std.specs.Prelude.{◌≡◌, ℕ, ◌+◌, ◌*◌, ◌<◌, ◌≤◌, ◌⊎◌, ◌||◌, Bool, true, false, List, [], ◌∷◌, ◌++◌, length}
+use Rattle.std.specs.Prelude.{nat_lt, slice_index, slice_index_or, take}
 use mathlib.Core.Option.{some}
 use lib.ListN.{get_elem?}
 use Rattle.nr_model.specs.Rows.{IsRowSet}
@@ -16,12 +16,12 @@ use Rattle.nr_core.specs.declared.roles.Role.TheVariants.{Writer}
 use Rattle.nr_core.specs.declared.shape.Shape.{Shape}
 use Rattle.nr_core.specs.Marks.{OfSlot, Past, LoggedLoad, set_in, with_reaped, with_scan}
 use Rattle.nr_core.specs.MarkSteps.{ProbeTells}
-use Rattle.nr_core.specs.PollNotes.{AllHeld}
 use Rattle.nr_board.specs.declared.answers.Reaped.{Reaped}
 use Rattle.nr_board.specs.declared.answers.Reaped.TheVariants as reaped
 use Rattle.nr_board.specs.declared.reaping.Sweep.{Sweep}
 use Rattle.nr_board.specs.declared.reaping.Sweep.TheVariants as sweep
 use Rattle.nr_board.specs.Callers.{Caller, Table, token}
+use Rattle.nr_board.specs.HeldSlots.{HeldEach, HeldTo}
 use Rattle.nr_board.specs.Plays.{Room, Then}
 use Rattle.nr_board.specs.SlotLists.{held_polls, not_passed}
 use Rattle.nr_board.specs.Views.{View, view_of}
@@ -67,11 +67,6 @@ abbrev pub ready : ℕ → List ℕ → List Bool → List Retired → List Reti
 ready announcers heard flags retired =
     not_passed (λ slot. slice_index_or flags slot false || nat_lt (slice_index heard slot) announcers) retired
 
--- each of these slots was polled, in their order, and held by one of that many readers, each by another one
-pub record HeldEach (readers : ℕ) (slots : List Retired) (notes : List Past) : Type 0 where
-  pub held : AllHeld slots notes
-  pub range : (at : ℕ) (note : Past) → get_elem? notes at ≡ some note → (0 < note.reader) × (note.reader ≤ readers)
-
 -- after those polls, with what they noted
 abbrev pub probed : List Past → List LoggedLoad → View → View
 probed notes polls view =
@@ -98,21 +93,29 @@ SweepsFor lists old new sweep.Held =
     × (view_of new ≡ probed notes (held_polls (ready_in lists (view_of old))) (view_of old))
 SweepsFor lists old new sweep.Nothing = (waiting lists.reaped lists.retired ≡ []) × (view_of new ≡ view_of old)
 
--- the slots before that place that are ready
-abbrev pub ready_before : SlotLists → View → ℕ → List Retired
-ready_before lists view place = ready view.announcers view.heard lists.reaped (take place lists.retired)
-
 -- whether one of those sets waits; else nothing was polled
 abbrev pub SomeWait : List Retired → View → View → Bool → Type 0
 SomeWait waiting before now true = 0 < length waiting
 SomeWait waiting before now false = (waiting ≡ []) × (now ≡ before)
 
+-- the slots before that place that are ready
+abbrev pub ready_before : SlotLists → View → ℕ → List Retired
+ready_before lists view place = ready view.announcers view.heard lists.reaped (take place lists.retired)
+
+-- a slot is passed by whose set was reaped, or which isn't heard
+abbrev pub is_passed : SlotLists → View → ℕ → Bool
+is_passed lists view slot =
+    slice_index_or lists.reaped slot false || nat_lt (slice_index view.heard slot) view.announcers
+
 -- the sweep so far: each slot that it polled was held
 pub record SweptTo (lists : SlotLists) (before now : MapSeat) (place : ℕ) (waits : Bool) : Type 0 where
-  pub notes : List Past
-  pub each : HeldEach (view_of before).shape.readers (ready_before lists (view_of before) place) notes
   pub own : now.table_id ≡ before.table_id
-  pub view : view_of now ≡ probed notes (held_polls (ready_before lists (view_of before) place)) (view_of before)
+  pub held : HeldTo (is_passed lists (view_of before)) lists.retired (view_of before) (view_of now) place
+  pub view : view_of now
+      ≡ record (view_of before) {
+        steps = (view_of before).steps + length (ready_before lists (view_of before) place);
+        marks = (view_of now).marks;
+      }
   pub some_wait : SomeWait (waiting lists.reaped (take place lists.retired)) (view_of before) (view_of now) waits
 
 -- a sweep; or, where readers have words, one that was in vain, a scan, and another sweep

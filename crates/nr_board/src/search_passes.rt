@@ -1,9 +1,9 @@
 //! How a writer of a map whose readers have words searches its retired slots.
-ghost use Rattle.std.specs.Prelude.{◌≡◌, ◌<◌, [], length};
+ghost use Rattle.std.specs.Prelude.{◌≡◌, ◌<◌, length};
 ghost use Rattle.nr_board.specs.Callers.{IsSound, token};
 ghost use Rattle.nr_board.specs.Flags.{Flagged};
-ghost use Rattle.nr_board.specs.Passes.{AreHeard, NotesTo, PassesFor};
-ghost use Rattle.nr_board.specs.RetiredSearch.{SearchesFor};
+ghost use Rattle.nr_board.specs.Passes.{PassesFor};
+ghost use Rattle.nr_board.specs.Searches.{SearchesFor};
 ghost use Rattle.nr_board.specs.SearchSeats.{SearchesIn};
 ghost use Rattle.nr_board.specs.Views.{view_of};
 
@@ -17,7 +17,7 @@ impl Board {
     /// Takes a retired slot that nobody holds, where readers have words: a pass over the slots that the
     /// last scan heard, and if they are all held a scan of the words and another pass. A search that
     /// takes none ends with a load.
-    pub fn search_retired(
+    pub(crate) fn search_retired(
         &self,
         seat: &mut Seat,
         lists: &mut SlotLists,
@@ -25,9 +25,9 @@ impl Board {
     ) -> Result<Taken, NoSlot>
         requires search { SearchesIn self.now lists.old seat.old }
         requires knows { IsSound (token seat.old) }
+        requires waits { 0 < length lists.old.retired }
         requires some_words { 0 < self.now.announcers }
         requires flagged { Flagged self.now lists.old.retired (view_of seat.old).heard flags.old }
-        requires begins { (view_of seat.old).marks.polls ≡ [] }
         ensures searches { SearchesFor self.now seat.old lists.old seat.new lists.new result }
         ensures flagged { Flagged self.now lists.old.retired (view_of seat.new).heard flags.new }
     {
@@ -46,10 +46,8 @@ impl Board {
     fn pass(&self, seat: &mut Seat, lists: &mut SlotLists, flags: &ScanFlags) -> Option<Taken>
         requires search { SearchesIn self.now lists.old seat.old }
         requires knows { IsSound (token seat.old) }
-        requires wide { length flags.now ≡ self.now.shape.slots }
-        requires heard { AreHeard lists.old.retired flags.now self.now.announcers (view_of seat.old).heard }
-        requires notes { NotesTo lists.old.retired flags.now self.now.shape.readers 0 (length (view_of seat.old).marks.polls) (view_of seat.old).marks.polls }
-        ensures { PassesFor self.now flags.now seat.old lists.old seat.new lists.new result }
+        requires flagged { Flagged self.now lists.old.retired (view_of seat.old).heard flags.now }
+        ensures { PassesFor self.now seat.old lists.old seat.new lists.new result }
     {
         for place in 0..lists.retired_len() {
             let entry = lists.retired_at(place);
