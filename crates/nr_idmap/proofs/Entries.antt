@@ -1,5 +1,5 @@
 -- What a call of the map's writer leaves: others' entries came before its own, which changes its key alone.
-use Rattle.std.proofs.Common.{◌≡◌, ◌≢◌, ℕ, ◌<◌, Bool, cond, List, [], ◌∷◌, ◌++◌, refl, sym, ap, ◌∙◌, subst, arith}
+use Rattle.std.proofs.Common.{◌≡◌, ◌≢◌, ℕ, ◌<◌, Bool, cond, List, [], ◌∷◌, ◌++◌, refl, sym, ap, ◌∙◌, arith}
 use Rattle.std.proofs.Common.{append-nil, eq-eqb}
 use Rattle.std.proofs.lemmas.List.{length-set, length-replicate}
 use Rattle.nr_model.specs.declared.calls.Call.{Call}
@@ -11,7 +11,7 @@ use Rattle.nr_model.proofs.HistoryLemmas.{state_of-next_other, state_of-next_sam
 use Rattle.nr_core.specs.Story.{entry}
 use Rattle.nr_board.proofs.Entries.{callers_before, callers_of_more}
 use Rattle.nr_board.proofs.KeySets.{none_between}
-use Rattle.nr_board.specs.Callers.{Caller, Gains, Grows, IsSound, Table, map_at_opening, map_seen}
+use Rattle.nr_board.specs.Callers.{Caller, Gains, Grows, IsSound, map_at_opening, map_seen}
 use Rattle.nr_board.specs.Entries.{AreCallers}
 use Rattle.nr_idmap.specs.Tidy.{IsTidy, KeepsTags}
 use Rattle.nr_idmap.proofs.Stills.{IsStill, others_still, others_tidy}
@@ -52,14 +52,12 @@ pub record Waited (old : Caller) (log : List Entry) : Type 0 where
   pub still : (way : ℕ) → IsStill (state_of (map_seen old) way) (state_of (after (map_at_opening old.table) log) way)
   pub tidy : IsTidy (map_at_opening old.table) log
 
-module _ (steps : ℕ) (old new : Caller) (entries : List Entry) (rested : Rested old)
-    (grows : Grows steps entries old new)
-    (ours : entries_of entries 0 ≡ entries) where
+module _ {steps : ℕ} {old new : Caller} (entries : List Entry) (rested : Rested old)
+    (grows : Grows steps entries old new) (ours : entries_of entries 0 ≡ entries) where
   waited : Waited old (old.seen ++ grows.between)
   waited =
       let shape = old.table.shape in let open_map = map_at_opening old.table in
-      let callers : AreCallers shape ((old.seen ++ grows.between) ++ entries)
-      = subst (AreCallers shape) grows.seen grows.callers in
+      let callers : AreCallers shape ((old.seen ++ grows.between) ++ entries) = rw grows.seen at grows.callers in
       let between : AreCallers shape grows.between = callers_of_more shape old.seen grows.between
       (callers_before shape (old.seen ++ grows.between) entries callers) in
       let none : entries_of grows.between 0 ≡ [] = ap (entries_of grows.between) (sym rested.number)
@@ -67,84 +65,66 @@ module _ (steps : ℕ) (old new : Caller) (entries : List Entry) (rested : Reste
       let size : key_count (map_seen old) ≡ shape.keys = count_after old.seen open_map ∙ length-replicate shape.keys
       (Hole shape.first_number) in
       let parts : after open_map (old.seen ++ grows.between) ≡ after (map_seen old) grows.between
-      = after_both old.seen grows.between
-      open_map in record {
+      = after_both old.seen grows.between open_map in record {
         size = ap key_count parts ∙ count_after grows.between (map_seen old) ∙ size;
         bound = bound_after (old.seen ++ grows.between) open_map;
-        still = λ way. subst (λ (m : PartialMap). IsStill (state_of (map_seen old) way) (state_of m way)) (sym parts)
-            (others_still shape grows.between (map_seen old) way between none size);
+        still = λ way. rw parts (others_still shape grows.between (map_seen old) way between none size);
         tidy =
             tidy_both old.seen grows.between open_map rested.tidy
             (others_tidy shape grows.between (map_seen old) between none size);
       }
 
-  sound_now : IsSound new
-  sound_now = record {
-    legal = subst (λ (t : Table). IsLegal (map_at_opening t) new.seen) (sym grows.table) grows.legal;
-    own = grows.own;
-    callers = subst (λ (t : Table). AreCallers t.shape new.seen) (sym grows.table) grows.callers;
-  }
-
   rested_if : IsTidy (map_at_opening old.table) new.seen → Rested new
   rested_if tidy = record {
     number = grows.number ∙ rested.number;
-    sound = sound_now;
-    tidy = subst (λ (t : Table). IsTidy (map_at_opening t) new.seen)
-        (sym grows.table) tidy;
+    sound = record { legal = rw grows.table grows.legal; own = grows.own; callers = rw grows.table grows.callers };
+    tidy = rw grows.table tidy;
   }
-
-  map_now : map_seen new ≡ after (map_at_opening old.table) ((old.seen ++ grows.between) ++ entries)
-  map_now =
-      ap (λ (t : Table). after (map_at_opening t) new.seen) grows.table
-      ∙ ap (after (map_at_opening old.table)) grows.seen
 
 -- without an entry
 pub record Stayed (old new : Caller) : Type 0 where
   pub rested : Rested new
+  pub table : new.table ≡ old.table
   pub still : (way : ℕ) → IsStill (state_of (map_seen old) way) (state_of (map_seen new) way)
 
-pub stayed : (steps : ℕ) (old new : Caller) → Rested old → Grows steps [] old new → Stayed old new
-stayed steps old new rested grows =
-    let log : List Entry = old.seen ++ grows.between in
-    let waits = waited steps old new [] rested grows refl in
-    let now : map_seen new ≡ after (map_at_opening old.table) log = map_now steps old new [] rested grows refl
-    ∙ ap (after (map_at_opening old.table)) (append-nil log) in record {
-      rested = rested_if steps old new [] rested grows refl
-          (subst (IsTidy (map_at_opening old.table)) (sym (grows.seen ∙ append-nil log)) waits.tidy);
-      still = λ way. subst (λ (m : PartialMap). IsStill (state_of (map_seen old) way) (state_of m way)) (sym now)
-          (waits.still way);
+pub stayed : {steps : ℕ} {old new : Caller} → Rested old → Grows steps [] old new → Stayed old new
+stayed {old = old} rested grows =
+    let waits = waited [] rested grows refl in record {
+      rested = rested_if [] rested grows refl (rw (grows.seen, append-nil (old.seen ++ grows.between)) waits.tidy);
+      table = grows.table;
+      still = λ way. rw (grows.table, grows.seen, append-nil (old.seen ++ grows.between)) (waits.still way);
     }
 
 -- with one: the map before it, as others left it, and the map after it
 pub record Went (old new : Caller) (call : Call) (answer : Reply) : Type 0 where
   pub mid : PartialMap
   pub bound : mid.bound ≡ old.table.shape.rows
+  pub table : new.table ≡ old.table
   pub still : (way : ℕ) → IsStill (state_of (map_seen old) way) (state_of mid way)
   pub replied : answer ≡ reply_to mid call
   pub at_key : state_of (map_seen new) (call_key call) ≡ state_after mid.bound call (state_of mid (call_key call))
   pub others : (way : ℕ) → way ≢ call_key call → state_of (map_seen new) way ≡ state_of mid way
   pub rested : KeepsTags mid call answer → Rested new
 
-pub went : (steps : ℕ) (old new : Caller) (call : Call) (answer : Reply) → Rested old → Gains steps call old new answer
-    →
-    call_key call < old.table.shape.keys → Went old new call answer
-went steps old new call answer rested gains near =
+pub went : {steps : ℕ} {old new : Caller} (call : Call) {answer : Reply} → Rested old → Gains steps call old new answer
+    → call_key call < old.table.shape.keys → Went old new call answer
+went {old = old} {new} call {answer} rested gains near =
     let e : Entry = entry old.number call answer in let log : List Entry = old.seen ++ gains.between in
     let open_map = map_at_opening old.table in
     let ours : entries_of (e ∷ []) 0 ≡ e ∷ []
     = ap (λ (b : Bool). cond b (e ∷ []) []) (eq-eqb old.number 0 rested.number) in
-    let waits = waited steps old new (e ∷ []) rested gains ours in
+    let waits = waited (e ∷ []) rested gains ours in
     let mid : PartialMap = after open_map log in
-    let now : map_seen new ≡ next mid call
-    = map_now steps old new (e ∷ []) rested gains ours ∙ after_both log (e ∷ []) open_map in
+    let now : map_seen new ≡ next mid call = rw (gains.table, gains.seen) (after_both log (e ∷ []) open_map) in
     let inside : call_key call < key_count mid = omega (arith, near, waits.size) in record {
       mid = mid;
       bound = waits.bound;
+      table = gains.table;
       still = waits.still;
-      replied = legal_end log open_map e (subst (IsLegal open_map) gains.seen gains.legal);
+      replied = legal_end log open_map e (rw gains.seen at gains.legal);
       at_key = ap (λ (m : PartialMap). state_of m (call_key call)) now ∙ state_of-next_same mid call inside;
       others = λ way other. ap (λ (m : PartialMap). state_of m way) now
           ∙ state_of-next_other mid way call (λ e. other (sym e));
-      rested = λ keeps. rested_if steps old new (e ∷ []) rested gains ours
-          (subst (IsTidy open_map) (sym gains.seen) (tidy_both log (e ∷ []) open_map waits.tidy (inside, keeps, tt)));
+      rested = λ keeps. rested_if (e ∷ []) rested gains ours
+          (rw gains.seen (tidy_both log (e ∷ []) open_map waits.tidy (inside, keeps, tt)));
     }

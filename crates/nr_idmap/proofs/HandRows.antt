@@ -1,7 +1,6 @@
 -- A hand that had seen a way's name, and that the way had the id's rows, finds rows by it.
-use Rattle.std.proofs.Common.{◌≡◌, ◌≢◌, ℕ, zero, suc, ◌+◌, ◌<◌, ◌⊎◌, ⊎_elim, inl, inr, false, ◌*◌, List, []}
-use Rattle.std.proofs.Common.{◌∷◌, ◌++◌, length}
-use Rattle.std.proofs.Common.{refl, sym, ap, ◌∙◌, subst, arith, append-nil, append_assoc, Option, Some, None}
+use Rattle.std.proofs.Common.{◌≡◌, ◌≢◌, ℕ, zero, suc, ◌+◌, ◌<◌, ◌⊎◌, ⊎_elim, inl, inr, false, ◌*◌, List, [], ◌∷◌, ◌++◌}
+use Rattle.std.proofs.Common.{length, refl, sym, ap, ◌∙◌, arith, append-nil, append_assoc, Option, Some, None}
 use Rattle.std.specs.List.{count_by}
 use Rattle.std.proofs.lemmas.Bool.{cases_eq}
 use Rattle.std.proofs.lemmas.List.{length-replicate}
@@ -19,7 +18,7 @@ use Rattle.nr_map.specs.Hands.{Handed}
 use Rattle.nr_map.specs.Written.{evicts_at}
 use Rattle.nr_ids.specs.Groups.{ways}
 use Rattle.nr_ids.specs.Laws.{FindsWhatItHeard}
-use Rattle.nr_ids.specs.Tokens.{HasName, Token, known_to}
+use Rattle.nr_ids.specs.Tokens.{HasName, known_to}
 use Rattle.nr_idmap.specs.declared.finds.FoundId.{FoundId}
 use Rattle.nr_idmap.specs.declared.finds.FoundId.TheVariants as found
 use Rattle.nr_idmap.specs.IdHands.{AgainById, HoldsAnew, HoldsByName, IdHanded, IsHeldFor, KeepsWay, PinsById}
@@ -70,19 +69,14 @@ pub record FoundOnce (way : ℕ) (old new : Handed) (told : Reply) : Type 0 wher
 
 found_hole : (way : ℕ) (old new : Handed) → KeepsWay way old new answer.Hole → FoundOnce way old new reply.Hole
 found_hole way old new keeps = ⊎_elim
-    (λ again. let e : answer.Hole ≡ answer.Rows = again.2 in absurd (cc (e)))
+    (λ again. absurd (cc (again.2)))
     (λ anew. record { steps = _; gains = anew.1.0.2.gains })
     keeps.2
 
 pub found_rows : (way : ℕ) (old new : Handed) → KeepsWay way old new answer.Rows
     → FoundOnce way old new (reply.Rows new.rows)
 found_rows way old new keeps = ⊎_elim
-    (λ again. let held = again.0 in record {
-      steps = 2 * length old.rows + 1;
-      gains =
-          subst (λ (l : List Row). Gains (2 * length old.rows + 1) (Find way) old.reader new.reader (reply.Rows l))
-          (sym held.rows) held.gains;
-    })
+    (λ again. record { steps = 2 * length old.rows + 1; gains = rw again.0.rows again.0.gains })
     (λ anew. record { steps = _; gains = anew.1.0.2.gains })
     keeps.2
 
@@ -112,9 +106,6 @@ module _ (open_map : PartialMap) (id way number : ℕ) (rows : List Row) (before
       let has = has_then later (entry caller (Find way) told ∷ []) kept none in
       (has.1, legal_end (before ++ later) open_map (entry caller (Find way) told) kept.0 ∙ ap find_reply has.2)
 
-some_way : (a b : ℕ) → Some a ≡ Some b → a ≡ b
-some_way a b e = cc (e)
-
 module _ (law : FindsWhatItHeard) (old new : IdHanded) (id way number : ℕ) (rows : List Row) (before since : List Entry)
     (real : 0 < id)
     (named : HasName old.ids way id) (near : way < key_count (map_at_opening old.hand.reader.table))
@@ -130,7 +121,7 @@ module _ (law : FindsWhatItHeard) (old new : IdHanded) (id way number : ℕ) (ro
       → LooksForWay id asked.ids new.ids there → Unnamed ⊎ (way_named there ≡ Some way)
   looked_there asked there first looks =
       looks_there law (known_to old.ids) id way old.ids new.ids there real named.has ([], refl)
-      (subst (λ (t : Token). LooksForWay id t new.ids there) first.ids looks)
+      (rw first.ids at looks)
 
   -- a find of the way had the id's rows
   told_rows : (asked : IdHanded) (mid : Handed) (told : Reply) → Asked old asked → FoundOnce way asked.hand mid told →
@@ -147,12 +138,12 @@ module _ (law : FindsWhatItHeard) (old new : IdHanded) (id way number : ℕ) (ro
       ∙ ap (λ (l : List Entry). l ++ entry asked.hand.reader.number (Find way) told ∷ []) front in
       finds_them (map_at_opening old.hand.reader.table) id way number rows before real near some put
       asked.hand.reader.number told later
-      (subst (Kept (map_at_opening old.hand.reader.table)) seen kept) (ap (count_by (evicts_at way)) (sym seen) ∙ none)
+      (rw seen at kept) (rw (← seen) none)
 
   -- the way that was found is that one
   at_way : (at : ℕ) (from to : Handed) (told : Reply) → Some at ≡ Some way → FoundOnce at from to told
       → FoundOnce way from to told
-  at_way at from to told same once = subst (λ (k : ℕ). FoundOnce k from to told) (some_way at way same) once
+  at_way at from to told same once = let is : at ≡ way = cc (same) in rw is at once
 
   named_rows : (asked : IdHanded) (answer : FoundId) → Asked old asked → HoldsByName id asked new answer
       → Unnamed ⊎ (answer ≡ found.Rows)
@@ -161,16 +152,14 @@ module _ (law : FindsWhatItHeard) (old new : IdHanded) (id way number : ℕ) (ro
       (λ gone. inl gone)
       (λ (same : Some anew.0.way ≡ Some way). let has = told_rows asked new.hand reply.Hole first
       (at_way anew.0.way asked.hand new.hand reply.Hole same (found_hole anew.0.way asked.hand new.hand anew.2)) refl in
-      let e : reply.Hole ≡ reply.Rows (tag_of id ∷ has.0) = has.1 in
-      absurd (cc (e)))
+      absurd (cc (has.1)))
       (looked_there asked (Some anew.0) first anew.1)
-  named_rows asked found.Moved first anew = let mid : Handed = anew.1 in ⊎_elim
+  named_rows asked found.Moved first anew = ⊎_elim
       (λ gone. inl gone)
       (λ (same : Some anew.0.way ≡ Some way). let has = told_rows asked anew.1 (reply.Rows anew.1.rows) first
       (at_way anew.0.way asked.hand anew.1 (reply.Rows anew.1.rows) same
       (found_rows anew.0.way asked.hand anew.1 anew.3)) anew.5.rests.seen in
-      let e : anew.1.rows ≡ tag_of id ∷ has.0 = cc (has.1) in
-      absurd (anew.4 has.0 e))
+      absurd (anew.4 has.0 (cc (has.1))))
       (looked_there asked (Some anew.0) first anew.2)
   named_rows asked found.Absent first anew = ⊎_elim
       (λ gone. inl gone)
@@ -204,5 +193,5 @@ pins_its_rows law keeper old new id way number rows before since answer tied tab
       length-replicate old.hand.reader.table.shape.keys (Hole old.hand.reader.table.shape.first_number),
     ) in
     by_answer law old new id way number rows before since real named near
-    (subst (λ (t : Table). 0 < t.shape.rows) (sym map_same) tied.room)
+    (rw map_same tied.room)
     (kept_heard keeper old.hand.reader.table new.hand.reader.seen tied map_same heard) known put none answer pins

@@ -1,6 +1,6 @@
 -- A find by id of a reader that heard of the id's fill, by the laws of the map and of the directory.
 use Rattle.std.proofs.Common.{◌≡◌, ℕ, ◌+◌, ◌*◌, ◌<◌, ◌⊎◌, ⊎_elim, inl, inr, true, List, [], ◌∷◌, ◌++◌, length, refl}
-use Rattle.std.proofs.Common.{min, subst, Some, None}
+use Rattle.std.proofs.Common.{min, Some, None}
 use Rattle.nr_model.specs.declared.rows.Row.{Row}
 use Rattle.nr_model.specs.declared.calls.Call.TheVariants as model
 use Rattle.nr_model.specs.declared.calls.Reply.{Reply}
@@ -21,9 +21,6 @@ use Rattle.nr_idmap.specs.IdNotes.{IdKnown}
 use Rattle.nr_idmap.specs.Keepers.{IdCaller}
 use Rattle.nr_idmap.specs.Tags.{tag_of}
 use Rattle.nr_idmap.proofs.LookUps.{looks_there, set_on}
-
-some_way : (a b : ℕ) → Some a ≡ Some b → a ≡ b
-some_way a b e = cc (e)
 
 -- the load of a line tells nothing
 heard_with_line : (id word : ℕ) (old asking : IdCaller) (note : IdKnown) → HeardIdBefore note old asking
@@ -62,11 +59,10 @@ module _ {Room : Type 0} (shows : Room → List Row → Type 0) (of_map : FindsW
     in_way at looked new room answer steps told_there looks gains tells = ⊎_elim
         (λ gone. inl gone)
         (λ (same : Some at.way ≡ Some way).
-        let gains_here : Gains steps (model.Find way) asking.caller new.caller told_there = subst
-        (λ (k : ℕ). Gains steps (model.Find k) asking.caller new.caller told_there) (some_way at.way way same) gains in
+        let is : at.way ≡ way = cc (same) in
         let law
         = of_map old.caller asking.caller new.caller note.map before since put way steps told_there near told puts
-        heard.map gains_here in
+        heard.map (rw is at gains) in
         inr (record { told = told_there; tells = tells; more = law.0; seen = law.1; finds = law.2 }))
         (looks_there of_ids note.ids id way asking.ids looked (Some at) real named heard.ids looks)
 

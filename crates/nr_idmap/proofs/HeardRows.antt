@@ -1,6 +1,6 @@
 -- A way that had an id's rows has that id's until it is evicted, in a history whose writer puts tags. So who finds it
 -- by a note was answered with rows.
-use Rattle.std.proofs.Common.{◌≡◌, ◌≢◌, ℕ, ◌+◌, ◌<◌, ⊎_elim, inl, inr, Bool, true, false, ◌&&◌, List, [], ◌∷◌, ◌++◌}
+use Rattle.std.proofs.Common.{◌≡◌, ◌≢◌, ℕ, ◌+◌, ◌<◌, ⊎_elim, inl, inr, Bool, true, false, List, [], ◌∷◌, ◌++◌}
 use Rattle.std.proofs.Common.{refl, sym, ap, ◌∙◌, subst, arith, append_assoc, eq-eqb}
 use Rattle.std.specs.List.{count_by}
 use Rattle.std.proofs.lemmas.Bool.{cases_Bool, cases_eq}
@@ -13,7 +13,7 @@ use Rattle.nr_model.specs.declared.calls.Reply.TheVariants as reply
 use Rattle.nr_model.specs.declared.states.KeyState.{KeyState}
 use Rattle.nr_model.specs.declared.states.KeyState.TheVariants.{Hole, Rows}
 use Rattle.nr_model.specs.Histories.{Entry, IsLegal, after}
-use Rattle.nr_model.specs.Maps.{PartialMap, asked, call_key, cancelled, evict_reply, filled, key_count, next}
+use Rattle.nr_model.specs.Maps.{PartialMap, asked, call_key, cancelled, filled, key_count, next}
 use Rattle.nr_model.specs.Maps.{replace_reply, replaced, reply_to, state_after, state_of, updated}
 use Rattle.nr_model.proofs.HistoryLemmas.{count_by-cons, one, state_of-next_other, state_of-next_same}
 use Rattle.nr_core.specs.Story.{entry}
@@ -55,8 +55,8 @@ pub none_evicted : (way : ℕ) (e : Entry) → call_key e.call ≡ way → one (
     → is_evicted e.reply ≡ false
 none_evicted way e same none = ⊎_elim
     (λ (yes : is_evicted e.reply ≡ true).
-    let b : one (evicts_at way e) ≡ 1 = (λ j. one (yes j && eq-eqb (call_key e.call) way same j)) in
-    absurd (omega (arith, b, none)))
+    let b : 1 ≡ 0 = rw (yes, eq-eqb (call_key e.call) way same) at none in
+    absurd (omega arith))
     (λ (no : is_evicted e.reply ≡ false). no)
     (cases_Bool (is_evicted e.reply))
 
@@ -76,10 +76,9 @@ module _ (way : ℕ) (Has : KeyState → Type 0) where
       let size : key_count (next map e.call) ≡ key_count map
       = length-set map.states (call_key e.call) (state_after map.bound e.call (state_of map (call_key e.call))) in
       all_stay later (next map e.call) (omega (arith, near, size)) keep.1 (⊎_elim
-      (λ (same : call_key e.call ≡ way). subst (λ (k : ℕ). Has (state_of (next map e.call) k)) same
-      (subst Has (sym (state_of-next_same map e.call (omega (arith, near, same))))
-      (keep.0 same (subst (λ (k : ℕ). Has (state_of map k)) (sym same) has))))
-      (λ (other : call_key e.call ≢ way). subst Has (sym (state_of-next_other map way e.call other)) has)
+      (λ (same : call_key e.call ≡ way).
+      rw (← same, state_of-next_same map e.call (omega (arith, near, same))) (keep.0 same (rw same has)))
+      (λ (other : call_key e.call ≢ way). rw (state_of-next_other map way e.call other) has)
       (cases_eq (call_key e.call) way))
 
 module _ (id : ℕ) (real : 0 < id) where
@@ -106,9 +105,7 @@ module _ (id : ℕ) (real : 0 < id) where
         ap (replaced new) has.2
             ∙ ap (Rows has.0) (brings.tagged ∙ ap (λ (k : ℕ). tag_of k ∷ brings.others) (sym same)),
       )
-  call_keeps map (Evict key) answer replied keeps room none has =
-      let e : true ≡ false = sym (ap is_evicted (replied ∙ ap evict_reply has.2)) ∙ none in
-      absurd (cc (e))
+  call_keeps map (Evict key) answer replied keeps room none has = absurd (cc (rw (replied, has.2) at none))
   call_keeps map (Cancel key) answer replied keeps room none has = (has.0, has.1, ap cancelled has.2)
 
   ids_keep : (way : ℕ) (later : List Entry) (map : PartialMap) → 0 < map.bound → Kept map later
@@ -126,10 +123,6 @@ module _ (id : ℕ) (real : 0 < id) where
       HasIds (state_of map way) → HasIds (state_of (after map later) way)
   ids_stay way later map near room kept none has =
       all_stay way HasIds later map near (ids_keep way later map room kept none) has
-
--- what a key's rows are
-rows_same : (n m : ℕ) (rows others : List Row) → Rows n rows ≡ Rows m others → rows ≡ others
-rows_same n m rows others e = cc (e)
 
 module _ {Room : Type 0} (shows : Room → List Row → Type 0) (old asking new : IdCaller) (id way number : ℕ)
     (rows : List Row) (written since : List Entry) (room : Room)
@@ -181,13 +174,13 @@ module _ {Room : Type 0} (shows : Room → List Row → Type 0) (old asking new 
     set_found : (set : List Row) → finds.told ≡ reply.Rows set → (others : List Row) × (set ≡ tag_of id ∷ others)
     set_found set told = ⊎_elim
         (λ (first : NonePut begin way later set).
-        (rows, sym (rows_same number first.number (tag_of id ∷ rows) set (sym put ∙ first.rows_had))))
+        (rows, cc (put, first.rows_had)))
         (λ (last : LastPut begin way later set).
         let upto : List Entry = last.before ++ last.put ∷ [] in
         let has = has_upto upto last.tail (last.is ∙ sym (append_assoc last.before (last.put ∷ []) last.tail)) in
         let there : Rows last.number set ≡ Rows has.0 (tag_of id ∷ has.1) = sym last.rows_put
         ∙ sym (ap (λ (m : PartialMap). state_of m way) (after_both last.before (last.put ∷ []) begin)) ∙ has.2 in
-        (has.1, rows_same last.number has.0 set (tag_of id ∷ has.1) there))
+        (has.1, cc (there)))
         (finds.finds.rows set told)
 
   answered_rows : (answer : FoundId)
@@ -208,22 +201,16 @@ pub kept_heard : (keeper : Keeper) (table : Table) (seen : List Entry) → IsTie
     → StartsWith keeper.writer.seen seen →
     Kept (map_at_opening table) seen
 kept_heard keeper table seen tied same heard =
-    let log : List Entry = keeper.writer.seen in
-    let legal : IsLegal (map_at_opening keeper.table.map) log
-    = subst (λ (t : Table). IsLegal (map_at_opening t) log) tied.writes.0 tied.sound.legal in
-    subst (λ (t : Table). Kept (map_at_opening t) seen) (sym same)
-    (kept_begins (map_at_opening keeper.table.map) seen heard.rest
-    (subst (Kept (map_at_opening keeper.table.map)) heard.is (legal, tied.tidy)))
+    rw same (kept_begins (map_at_opening keeper.table.map) seen heard.rest
+    ((rw (tied.writes.0, heard.is) at tied.sound.legal), (rw heard.is at tied.tidy)))
 
 pub finds_its_rows : {Room : Type 0} (shows : Room → List Row → Type 0) → FindsIdHeard shows → FindsItsRows shows
 finds_its_rows shows law keeper old asking new note id way number rows before since put before_it room answer tied table
     heard near real named told puts put_is none hears finds =
     let kept = kept_heard keeper old.caller.table new.caller.seen tied table heard in
-    let some : 0 < old.caller.table.shape.rows = subst (λ (t : Table). 0 < t.shape.rows) (sym table) tied.room in ⊎_elim
-    (λ gone. inl gone)
-    (λ (there : FindsIdPut shows (record { id = id; way = way; old = old; written = before ++ put ∷ []; since = since })
-    asking new room answer).
-    inr
-    (answered_rows shows old asking new id way number rows (before ++ put ∷ []) since room real near some kept
-    put_is none answer there))
-    (law old asking new note id way before since put before_it room answer near real named told puts hears finds)
+    elim (law old asking new note id way before since put before_it room answer near real named told puts hears finds) [
+      | inl gone ↦ inl gone
+      | inr there ↦ inr
+          (answered_rows shows old asking new id way number rows (before ++ put ∷ []) since room real near
+          (rw table tied.room) kept put_is none answer there)
+    ]

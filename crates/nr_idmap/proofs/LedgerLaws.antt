@@ -1,64 +1,39 @@
 -- The laws of the writer by id, and of its ledger.
-use Rattle.std.proofs.Common.{◌≡◌, ◌≢◌, ℕ, zero, suc, ◌<◌, ◌⊎◌, inl, inr, List, [], ◌∷◌, ◌++◌, refl, sym, ap, ◌∙◌}
-use Rattle.std.proofs.Common.{subst, arith, Some, None}
+use Rattle.std.proofs.Common.{◌≡◌, ℕ, zero, suc, ◌<◌, ◌⊎◌, inl, inr, List, [], ◌∷◌, ◌++◌, refl, sym, ap, ◌∙◌}
+use Rattle.std.proofs.Common.{arith, Some, None}
 use Rattle.nr_model.specs.declared.rows.Row.{Row}
 use Rattle.nr_model.specs.declared.calls.Call.TheVariants.{Find}
 use Rattle.nr_model.specs.declared.calls.Reply.TheVariants as reply
 use Rattle.nr_model.specs.declared.states.KeyState.{KeyState}
 use Rattle.nr_model.specs.declared.states.KeyState.TheVariants.{Hole, Asked, Rows}
-use Rattle.nr_model.specs.Histories.{Entry, IsLegal, after}
+use Rattle.nr_model.specs.Histories.{Entry}
 use Rattle.nr_model.specs.Maps.{opening}
 use Rattle.nr_core.specs.Story.{entry}
-use Rattle.nr_board.specs.Callers.{Table, map_at_opening, map_seen}
+use Rattle.nr_board.specs.Callers.{map_seen}
 use Rattle.nr_ids.proofs.Logs.{one_way}
 use Rattle.nr_idmap.specs.Keepers.{Agrees, IsTied, Keeper, Owed, name_at, owed_at, owed_for, state_at}
-use Rattle.nr_idmap.specs.IdLaws.{HeardFinds, NamedIsOwedOrResident, OneUpquery, TellsIds, TiedReadsAsIds}
-use Rattle.nr_idmap.specs.PartialIds.{IsIdLegal, ids_after, no_ids, read_by_id}
+use Rattle.nr_idmap.specs.IdLaws.{HeardFinds, NamedIsOwedOrResident, OneUpquery, TiedReadsAsIds}
 use Rattle.nr_idmap.specs.Tags.{IsResident, id_set_of, tag_of}
-use Rattle.nr_idmap.specs.Tidy.{IsTidy}
 use Rattle.nr_idmap.proofs.Readings.{finds_resident, reads_as_ids, tidy_begins}
 use Rattle.nr_idmap.proofs.Ties.{owed_asked, owed_none, set_named}
 
 pub tied_reads_as_ids : TiedReadsAsIds
 tied_reads_as_ids keeper bound tied rows =
     let shape = keeper.table.map.shape in
-    let number = shape.first_number in
-    let seen : List Entry = keeper.writer.seen in
-    let Says : ℕ → Type 0 = λ r. IsIdLegal (no_ids bound) (read_by_id (opening shape.keys r number) seen) ×
-    TellsIds (after (opening shape.keys r number) seen)
-    (ids_after (no_ids bound) (read_by_id (opening shape.keys r number) seen)) in
-    let legal : IsLegal (opening shape.keys shape.rows number) seen
-    = subst (λ (t : Table). IsLegal (map_at_opening t) seen) tied.writes.0
-    tied.sound.legal in
-    let said : Says shape.rows = subst Says (sym rows)
-    (reads_as_ids shape.keys bound number seen
-    (subst (λ (r : ℕ). IsLegal (opening shape.keys r number) seen) rows legal)
-    (subst (λ (r : ℕ). IsTidy (opening shape.keys r number) seen) rows tied.tidy)) in
-    subst (λ (t : Table). IsIdLegal (no_ids bound) (read_by_id (map_at_opening t) seen) ×
-    TellsIds (after (map_at_opening t) seen) (ids_after (no_ids bound) (read_by_id (map_at_opening t) seen)))
-    (sym tied.writes.0) said
+    rw (tied.writes.0, rows)
+    (reads_as_ids shape.keys bound shape.first_number keeper.writer.seen
+    (rw (tied.writes.0, rows) at tied.sound.legal) (rw rows at tied.tidy))
 
 pub heard_finds : HeardFinds
 heard_finds keeper old new steps key bound id rows tied size table heard gains =
-    let shape = keeper.table.map.shape in let number = shape.first_number in
+    let shape = keeper.table.map.shape in
     let log : List Entry = old.seen ++ gains.between in
     let e : Entry = entry old.number (Find key) (reply.Rows (tag_of id ∷ rows)) in
-    let Has : Table → Type 0
-    = λ t. (ids_after (no_ids bound) (read_by_id (map_at_opening t) log)).rows_of id ≡ Some rows in
-    let legal : IsLegal (opening shape.keys shape.rows number) (log ++ e ∷ []) =
-    subst (λ (t : Table). IsLegal (map_at_opening t) (log ++ e ∷ [])) table
-    (subst (IsLegal (map_at_opening old.table)) gains.seen gains.legal) in
-    let tidy : IsTidy (opening shape.keys shape.rows number) (log ++ e ∷ [])
-    = subst (IsTidy (opening shape.keys shape.rows number))
-    gains.seen
-    (tidy_begins (opening shape.keys shape.rows number) new.seen heard.rest
-    (subst (IsTidy (opening shape.keys shape.rows number)) heard.is tied.tidy)) in
-    subst Has (sym table)
-    (subst (λ (r : ℕ). (ids_after (no_ids bound) (read_by_id (opening shape.keys r number) log)).rows_of id ≡ Some rows)
-    (sym size)
-    (finds_resident shape.keys bound number log e key id rows refl refl
-    (subst (λ (r : ℕ). IsLegal (opening shape.keys r number) (log ++ e ∷ [])) size legal)
-    (subst (λ (r : ℕ). IsTidy (opening shape.keys r number) (log ++ e ∷ [])) size tidy)))
+    rw (table, size)
+    (finds_resident shape.keys bound shape.first_number log e key id rows refl refl
+    (rw (gains.seen, table, size) at gains.legal)
+    (tidy_begins (opening shape.keys (suc bound) shape.first_number) (log ++ e ∷ []) heard.rest
+    (rw (heard.is, gains.seen, size) at tied.tidy)))
 
 -- THE LEDGER
 -- what is open for a way tells the way, its name and its number
@@ -92,35 +67,22 @@ resident_way keeper id rows tied at =
     let its = set_named (name_at keeper at.0) (state_at keeper at.0) (record { id = id; rows = rows })
     (tied.agrees at.0) (ap id_set_of at.1.1) in (omega (arith, its.0, its.1), sym its.1)
 
-no_set : (key number other : ℕ) (rows : List Row) (state : KeyState) → state ≡ Asked number → state ≢ Rows other rows
-no_set key number other rows state asked has =
-    let e : Asked number ≡ Rows other rows = sym asked ∙ has in
-    absurd (cc (e))
-
 pub named_is_owed_or_resident : NamedIsOwedOrResident
 named_is_owed_or_resident keeper way tied real = go (state_at keeper way) refl (tied.agrees way) where
-  name : ℕ
-  name = name_at keeper way
-
-  go : (state : KeyState) → state_at keeper way ≡ state → Agrees (name_at keeper way) (state_at keeper way)
+  go : (state : KeyState) → state_at keeper way ≡ state → Agrees (name_at keeper way) state
       → ((owed : Owed) × (owed_at keeper way ≡ Some owed) ×
       ((rows : List Row) → IsResident (map_seen keeper.writer) (name_at keeper way) rows → ⊥))
       ⊎ ((rows : List Row) × IsResident (map_seen keeper.writer) (name_at keeper way) rows
       × (owed_at keeper way ≡ None))
-  go (Hole number) is agrees =
-      absurd (let none : name_at keeper way ≡ 0 = subst (Agrees (name_at keeper way)) is agrees in omega arith)
+  go (Hole number) is none = absurd (omega (arith, none))
   go (Asked number) is agrees = inl (
     record { way = way; number = number; id = name_at keeper way },
-    ap (owed_for way (name_at keeper way)) is ∙ owed_asked way (name_at keeper way) number real,
+    rw is (owed_asked way (name_at keeper way) number real),
     λ rows at. let its = resident_way keeper (name_at keeper way) rows tied at in
         let same : at.0 ≡ way
         = one_way keeper.table.directory.plan keeper.clerk.seen at.0 way (name_at keeper way) tied.legal real its.1
         refl in
-        no_set way number at.1.0 (tag_of (name_at keeper way) ∷ rows) (state_at keeper way) is
-        (ap (state_at keeper) (sym same) ∙ at.1.1),
+        absurd (cc (is, same, at.1.1)),
   )
-  go (Rows number rows) is agrees = let tag = subst (Agrees (name_at keeper way)) is agrees in inr (
-    tag.1,
-    (way, (number, is ∙ ap (Rows number) tag.2)),
-    ap (owed_for way (name_at keeper way)) is ∙ owed_none way (name_at keeper way) number rows,
-  )
+  go (Rows number rows) is tag =
+      inr (tag.1, (way, (number, is ∙ ap (Rows number) tag.2)), rw is (owed_none way (name_at keeper way) number rows))

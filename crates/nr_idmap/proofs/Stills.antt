@@ -1,14 +1,14 @@
 -- What readers' entries leave: each key is as it was, but that a hole may be asked for. So names and sets agree still,
 -- and the same upqueries are open.
 use Rattle.std.proofs.Common.{◌≡◌, ◌≢◌, ℕ, ◌<◌, ◌⊎◌, ⊎_elim, inl, inr, Bool, true, false, cond, ◌==◌, List, [], ◌∷◌}
-use Rattle.std.proofs.Common.{refl, sym, ap, ◌∙◌, subst, arith, eq-eqb}
+use Rattle.std.proofs.Common.{refl, sym, ◌∙◌, subst, arith, eq-eqb}
 use Rattle.std.proofs.lemmas.Bool.{cases_eq}
 use Rattle.std.proofs.lemmas.List.{length-set}
 use Rattle.nr_model.specs.declared.calls.Call.{Call}
-use Rattle.nr_model.specs.declared.calls.Call.TheVariants.{Find, Ask, Fill, Update, Replace, Evict, Cancel}
+use Rattle.nr_model.specs.declared.calls.Call.TheVariants.{Find, Ask}
 use Rattle.nr_model.specs.declared.calls.Reply.{Reply}
 use Rattle.nr_model.specs.declared.states.KeyState.{KeyState}
-use Rattle.nr_model.specs.declared.states.KeyState.TheVariants.{Hole, Asked, Rows}
+use Rattle.nr_model.specs.declared.states.KeyState.TheVariants.{Hole, Asked}
 use Rattle.nr_model.specs.Histories.{Entry, after, entries_of}
 use Rattle.nr_model.specs.Maps.{PartialMap, call_key, key_count, next, state_after, state_of}
 use Rattle.nr_model.proofs.HistoryLemmas.{state_of-next_other, state_of-next_same}
@@ -21,40 +21,28 @@ use Rattle.nr_idmap.specs.Tidy.{IsTidy, KeepsTags}
 abbrev pub IsStill : KeyState → KeyState → Type 0
 IsStill was now = (now ≡ was) ⊎ ((number : ℕ) × (was ≡ Hole number) × (now ≡ Asked number))
 
-still_on : (a b c : KeyState) → IsStill a b → IsStill b c → IsStill a c
-still_on a b c first then = ⊎_elim
-    (λ (same : b ≡ a). ⊎_elim
-    (λ (next : c ≡ b). inl (next ∙ same))
-    (λ (asked : (number : ℕ) × (b ≡ Hole number) × (c ≡ Asked number)). inr (asked.0, sym same ∙ asked.1, asked.2))
-    then)
-    (λ (asked : (number : ℕ) × (a ≡ Hole number) × (b ≡ Asked number)). ⊎_elim
-    (λ (next : c ≡ b). inr (asked.0, asked.1, next ∙ asked.2))
-    (λ (again : (number : ℕ) × (b ≡ Hole number) × (c ≡ Asked number)).
-    let e : Asked asked.0 ≡ Hole again.0 = sym asked.2 ∙ again.1 in
-    absurd (cc (e)))
-    then)
-    first
+-- what the state had, and what being asked for has, the state has now
+pub by_still : (Has : KeyState → Type 0) {was now : KeyState} → Has was
+    → ((number : ℕ) → was ≡ Hole number → Has (Asked number)) → IsStill was now → Has now
+by_still Has had asked (inl same) = subst Has (sym same) had
+by_still Has had asked (inr (number, was, now)) = subst Has (sym now) (asked number was)
+
+still_on : {a b c : KeyState} → IsStill a b → IsStill b c → IsStill a c
+still_on {a} first (inl same) = subst (IsStill a) (sym same) first
+still_on (inl same) (inr (number, was, now)) = inr (number, sym same ∙ was, now)
+still_on (inr (number, was, now)) (inr (other, again, asked)) = absurd (cc (now, again))
 
 reading_still : (bound : ℕ) (call : Call) (state : KeyState) → is_reading call ≡ true
     → IsStill state (state_after bound call state)
 reading_still bound (Find key) state reads = inl refl
 reading_still bound (Ask key) (Hole n) reads = inr (n, refl, refl)
-reading_still bound (Ask key) (Asked n) reads = inl refl
-reading_still bound (Ask key) (Rows n rows) reads = inl refl
-reading_still bound (Fill key number rows) state reads = absurd (cc (reads))
-reading_still bound (Update key batch) state reads = absurd (cc (reads))
-reading_still bound (Replace key rows) state reads = absurd (cc (reads))
-reading_still bound (Evict key) state reads = absurd (cc (reads))
-reading_still bound (Cancel key) state reads = absurd (cc (reads))
+reading_still bound (Ask key) state reads = inl refl
+reading_still bound call state reads = absurd (cc (reads))
 
 reading_keeps : (map : PartialMap) (call : Call) (answer : Reply) → is_reading call ≡ true → KeepsTags map call answer
 reading_keeps map (Find key) answer reads = tt
 reading_keeps map (Ask key) answer reads = tt
-reading_keeps map (Fill key number rows) answer reads = absurd (cc (reads))
-reading_keeps map (Update key batch) answer reads = absurd (cc (reads))
-reading_keeps map (Replace key rows) answer reads = absurd (cc (reads))
-reading_keeps map (Evict key) answer reads = tt
-reading_keeps map (Cancel key) answer reads = tt
+reading_keeps map call answer reads = absurd (cc (reads))
 
 left_of : (b : Bool) (e : Entry) (log : List Entry) → cond b (e ∷ log) log ≡ [] → log ≡ []
 left_of true e log none = absurd (cc (none))
@@ -63,12 +51,10 @@ left_of false e log none = none
 -- an entry that isn't the writer's reads
 reads_of : (shape : Shape) (e : Entry) (log : List Entry) → IsCallers shape e → entries_of (e ∷ log) 0 ≡ []
     → is_reading e.call ≡ true
-reads_of shape e log is none = ⊎_elim
-    (λ writes. let here : e ∷ entries_of log 0 ≡ [] = sym
-    (ap (λ (b : Bool). cond b (e ∷ entries_of log 0) (entries_of log 0)) (eq-eqb e.caller 0 writes.0)) ∙ none in
-    absurd (cc (here)))
-    (λ reads. reads.1)
-    is.1
+reads_of shape e log (near, inl writes) none =
+    let here : e ∷ entries_of log 0 ≡ [] = rw (eq-eqb e.caller 0 writes.0) at none in
+    absurd (cc (here))
+reads_of shape e log (near, inr reads) none = reads.1
 
 pub others_still : (shape : Shape) (log : List Entry) (map : PartialMap) (way : ℕ) → AreCallers shape log
     → entries_of log 0 ≡ [] →
@@ -83,7 +69,7 @@ others_still shape (e ∷ log) map way callers none size =
     (reading_still map.bound e.call (state_of map (call_key e.call)) reads)))
     (λ (other : call_key e.call ≢ way). inl (state_of-next_other map way e.call other))
     (cases_eq (call_key e.call) way) in
-    still_on (state_of map way) (state_of (next map e.call) way) (state_of (after (next map e.call) log) way) one
+    still_on one
     (others_still shape log (next map e.call) way callers.1 (left_of (e.caller == 0) e (entries_of log 0) none)
     (length-set map.states (call_key e.call) (state_after map.bound e.call (state_of map (call_key e.call))) ∙ size))
 
@@ -97,20 +83,10 @@ others_tidy shape (e ∷ log) map callers none size = (
       (length-set map.states (call_key e.call) (state_after map.bound e.call (state_of map (call_key e.call))) ∙ size),
 )
 
-pub agrees_still : (name : ℕ) (was now : KeyState) → Agrees name was → IsStill was now → Agrees name now
-agrees_still name was now agrees still = ⊎_elim
-    (λ (same : now ≡ was). subst (Agrees name) (sym same) agrees)
-    (λ (asked : (number : ℕ) × (was ≡ Hole number) × (now ≡ Asked number)). subst (Agrees name) (sym asked.2) tt)
-    still
+pub agrees_still : (name : ℕ) {was now : KeyState} → Agrees name was → IsStill was now → Agrees name now
+agrees_still name agrees still = by_still (Agrees name) agrees (λ number was. tt) still
 
-no_owed : (way name : ℕ) (state : KeyState) → name ≡ 0 → owed_for way name state ≡ owed_for way 0 state
-no_owed way name state none = ap (λ (n : ℕ). owed_for way n state) none
-
-pub owed_still : (way name : ℕ) (was now : KeyState) → Agrees name was → IsStill was now
+pub owed_still : (way name : ℕ) {was now : KeyState} → Agrees name was → IsStill was now
     → owed_for way name now ≡ owed_for way name was
-owed_still way name was now agrees still = ⊎_elim
-    (λ (same : now ≡ was). ap (owed_for way name) same)
-    (λ (asked : (number : ℕ) × (was ≡ Hole number) × (now ≡ Asked number)).
-    let none : name ≡ 0 = subst (Agrees name) asked.1 agrees in
-    no_owed way name now none ∙ sym (no_owed way name was none))
-    still
+owed_still way name {was} agrees still = by_still (λ state. owed_for way name state ≡ owed_for way name was) refl
+    (λ number is. let none : name ≡ 0 = subst (Agrees name) is agrees in rw none refl) still

@@ -1,6 +1,6 @@
 -- The tie between the two tables, and the ledger, over a call on one way: the other ways keep theirs.
-use Rattle.std.proofs.Common.{◌≡◌, ◌≢◌, ℕ, zero, suc, ◌<◌, ⊎_elim, Bool, true, false, ◌==◌, List, ◌∷◌, refl, sym}
-use Rattle.std.proofs.Common.{ap, ◌∙◌, subst, arith, ne_eqb, eq-eqb, Result, Ok, Err, Option, Some, None}
+use Rattle.std.proofs.Common.{◌≡◌, ◌≢◌, ℕ, zero, suc, ◌<◌, ⊎_elim, inl, Bool, true, false, ◌==◌, List, ◌∷◌, refl, sym}
+use Rattle.std.proofs.Common.{ap, ◌∙◌, arith, ne_eqb, eq-eqb, Result, Ok, Err, Option, Some, None}
 use Rattle.std.specs.Prelude.{if◌then◌else◌}
 use Rattle.std.proofs.lemmas.Bool.{cases_eq}
 use Rattle.nr_model.specs.declared.rows.Row.{Row}
@@ -15,17 +15,17 @@ use Rattle.nr_model.specs.declared.states.KeyState.TheVariants.{Hole, Asked, Row
 use Rattle.nr_model.specs.Batches.{applied}
 use Rattle.nr_model.specs.Maps.{PartialMap, call_key, fill_reply, filled, replaced, reply_to, rows_or, state_of}
 use Rattle.nr_model.specs.Maps.{updated}
-use Rattle.nr_board.specs.Callers.{Caller, KnowsOwn, Table, map_seen}
+use Rattle.nr_board.specs.Callers.{Caller, KnowsOwn, map_seen}
 use Rattle.nr_ids.specs.declared.plan.Plan.{Plan}
 use Rattle.nr_ids.specs.Answers.{FindsWay}
-use Rattle.nr_ids.specs.Events.{Event, IsLegal, looks, name_of}
+use Rattle.nr_ids.specs.Events.{Event, IsLegal, name_of}
 use Rattle.nr_ids.specs.Groups.{ways}
 use Rattle.nr_ids.specs.Tokens.{Opened, Token}
 use Rattle.nr_ids.specs.Tokens as ids
-use Rattle.nr_ids.proofs.Calls.{clerk_looks}
+use Rattle.nr_ids.proofs.Calls.{LeavesNames, leaves_names, looks_leave}
 use Rattle.nr_ids.proofs.Logs.{one_way}
-use Rattle.nr_ids.proofs.Through.{looks_in_both, looks_up_to}
-use Rattle.nr_idmap.specs.Keepers.{Agrees, IsTied, OwesElse, OwesSame, keeper_of, owed_for}
+use Rattle.nr_ids.proofs.Through.{way_looks}
+use Rattle.nr_idmap.specs.Keepers.{Agrees, IsTied, Keeper, OwesElse, OwesSame, keeper_of, owed_for}
 use Rattle.nr_idmap.specs.Tags.{AreIdDeltas, IdSet, set_at, id_set_of, set_told, tag_of}
 use Rattle.nr_idmap.specs.Tidy.{KeepsTags}
 use Rattle.nr_idmap.proofs.Entries.{Rested, Stayed, Went}
@@ -33,16 +33,13 @@ use Rattle.nr_idmap.proofs.Stills.{agrees_still, owed_still}
 use Rattle.nr_idmap.proofs.Tagging.{applied_behind, put_first}
 
 -- ONE KEY'S STATE
-some_same : {A : Type 0} (a b : A) → Some a ≡ Some b → a ≡ b
-some_same a b e = cc (e)
-
 -- a key's set has its way's name
 pub set_named : (name : ℕ) (state : KeyState) (set : IdSet) → Agrees name state → id_set_of state ≡ Some set
     → (0 < name) × (set.id ≡ name)
 set_named name (Hole n) set agrees there = absurd (cc (there))
 set_named name (Asked n) set agrees there = absurd (cc (there))
-set_named name (Rows n rows) set agrees there = let same : record { id = name; rows = agrees.1 } ≡ set = some_same
-    (record { id = name; rows = agrees.1 }) set (sym (ap set_told agrees.2) ∙ there) in
+set_named name (Rows n rows) set agrees there =
+    let same : record { id = name; rows = agrees.1 } ≡ set = cc (ap set_told agrees.2, there) in
     (agrees.0, ap (λ (s : IdSet). s.id) (sym same))
 
 pub owed_none : (way name number : ℕ) (rows : List Row) → owed_for way name (Rows number rows) ≡ None
@@ -63,8 +60,7 @@ pub fill_done : (number : ℕ) (state : KeyState) → fill_reply number state �
 fill_done number (Hole n) done = absurd (cc (done))
 fill_done number (Asked n) done = ⊎_elim
     (λ (same : n ≡ number). ap Asked same)
-    (λ (other : n ≢ number). let e : reply.Stale ≡ reply.Done = sym
-    (ap (λ (b : Bool). if b then reply.Done else reply.Stale) (ne_eqb n number other)) ∙ done in absurd (cc (e)))
+    (λ (other : n ≢ number). absurd (cc (rw (ne_eqb n number other) at done)))
     (cases_eq n number)
 fill_done number (Rows n rows) done = absurd (cc (done))
 
@@ -72,16 +68,14 @@ pub fill_leaves : (number : ℕ) (rows : List Row) (state : KeyState) → fill_r
     filled number rows state ≡ state
 fill_leaves number rows (Hole n) undone = refl
 fill_leaves number rows (Asked n) undone = ⊎_elim
-    (λ (same : n ≡ number). absurd
-    (undone (ap (λ (b : Bool). if b then reply.Done else reply.Stale) (eq-eqb n number same))))
-    (λ (other : n ≢ number). ap (λ (b : Bool). if b then Rows n rows else Asked n) (ne_eqb n number other))
+    (λ (same : n ≡ number). absurd (undone (rw (eq-eqb n number same) refl)))
+    (λ (other : n ≢ number). rw (ne_eqb n number other) refl)
     (cases_eq n number)
 fill_leaves number rows (Rows n old) undone = refl
 
 pub fill_puts : (number : ℕ) (rows : List Row) (state : KeyState) → state ≡ Asked number
     → filled number rows state ≡ Rows number rows
-fill_puts number rows state is = ap (filled number rows) is
-    ∙ ap (λ (b : Bool). if b then Rows number rows else Asked number) (eq-eqb number number refl)
+fill_puts number rows state is = rw (is, eq-eqb number number refl) refl
 
 -- the rows behind the name's tag
 abbrev pub Tagged : ℕ → List Row → Type 0
@@ -132,10 +126,7 @@ update_agrees name (suc bound) batch (Rows n old) room users agrees =
     let r : Result (List Row) ApplyFault = applied bound agrees.1 batch in (
       agrees.0,
       rows_or r agrees.1,
-      ap (λ (o : List Row). rows_or (applied (suc bound) o batch) o) agrees.2
-          ∙ ap (λ (x : Result (List Row) ApplyFault). rows_or x (tag_of name ∷ agrees.1))
-          (applied_behind bound (tag_of name) agrees.1 batch users)
-          ∙ behind name agrees.1 r,
+      rw (agrees.2, applied_behind bound (tag_of name) agrees.1 batch users) (behind name agrees.1 r),
     )
 
 -- WHAT A CALL MUST KEEP TO
@@ -149,9 +140,9 @@ module _ (plan : Plan) (log : List Event) (legal : IsLegal plan log) (mid : Part
     filled_undone number (Asked n) set there done = absurd (cc (there))
     filled_undone number (Rows n old) set there done = absurd (cc (done))
 
-    pub fill_keeps : (number : ℕ) (answer : Reply) → answer ≡ reply_to mid (Fill way number rows) →
+    pub fill_keeps : (number : ℕ) {answer : Reply} → answer ≡ reply_to mid (Fill way number rows) →
         KeepsTags mid (Fill way number rows) answer
-    fill_keeps number answer replied = λ done. record {
+    fill_keeps number replied = λ done. record {
       id = name_of log way;
       others = tagged.1;
       tagged = tagged.2;
@@ -170,104 +161,92 @@ module _ (plan : Plan) (log : List Event) (legal : IsLegal plan log) (mid : Part
     }
 
 -- THE TOKENS
-pub rested_of : (w a : Caller) (c : Token) → IsTied (keeper_of w a c) → Rested w
-rested_of w a c tied = record { number = tied.writes.1; sound = tied.sound; tidy = tied.tidy }
+pub rested_of : {w a : Caller} {c : Token} → IsTied (keeper_of w a c) → Rested w
+rested_of tied = record { number = tied.writes.1; sound = tied.sound; tidy = tied.tidy }
 
-pub retied : (w a w' a' : Caller) (c c' : Token) (acts : List Event) → IsTied (keeper_of w a c) → Rested w'
-    → w'.table ≡ w.table →
-    (a'.table ≡ a.table) × KnowsOwn a' → ids.Grows acts c c'
+pub retied : {w a w' a' : Caller} {c c' : Token} {acts : List Event} → IsTied (keeper_of w a c) → Rested w'
+    → w'.table ≡ w.table → (a'.table ≡ a.table) × KnowsOwn a' → ids.Grows acts c c'
     → ((way : ℕ) → Agrees (name_of c'.seen way) (state_of (map_seen w') way)) → IsTied (keeper_of w' a' c')
-retied w a w' a' c c' acts tied rested table asker grows agrees = record {
+retied tied rested table asker grows agrees = record {
   writes = (refl, rested.number);
   asks = (asker.0 ∙ tied.asks.0 ∙ sym table, asker.1);
   names = (refl, grows.number ∙ tied.names.1);
-  ways_are =
-      ap (λ (d : Opened). ways d.plan) grows.directory ∙ tied.ways_are ∙ ap (λ (t : Table). t.shape.keys) (sym table);
-  room = subst (λ (t : Table). 0 < t.shape.rows) (sym table) tied.room;
+  ways_are = rw (grows.directory, table) tied.ways_are;
+  room = rw table tied.room;
   sound = rested.sound;
   tidy = rested.tidy;
-  legal = subst (λ (d : Opened). IsLegal d.plan c'.seen) (sym grows.directory) grows.legal;
+  legal = rw grows.directory grows.legal;
   agrees = agrees;
 }
 
--- a search by the clerk changes no name
-pub found_looks : (id : ℕ) (c c' : Token) (found : Option ℕ) → FindsWay id c c' found
-    → (count : ℕ) × ids.Grows (looks count c.number) c c'
-found_looks id c c' (Some way) finds = looks_up_to way id c c' finds.0.looks
-found_looks id c c' None finds = looks_in_both id c c' finds.0
+-- what keeps the tie, and leaves the same upqueries open
+abbrev pub Leaves : Keeper → Keeper → Type 0
+Leaves old new = IsTied new × OwesSame old new
 
-pub found_names : (w a : Caller) (id : ℕ) (c c' : Token) (found : Option ℕ) → IsTied (keeper_of w a c)
-    → FindsWay id c c' found →
-    (way : ℕ) → name_of c'.seen way ≡ name_of c.seen way
-found_names w a id c c' found tied finds way = let look = found_looks id c c' found finds in
-    clerk_looks c look.0 c.number c' way tied.names.1 look.1
+-- steps that neither make an entry nor change a name
+pub stays_tied : {w a w' : Caller} {c c' : Token} → IsTied (keeper_of w a c) → Stayed w w' → LeavesNames c c'
+    → Leaves (keeper_of w a c) (keeper_of w' a c')
+stays_tied {c = c} {c'} tied stayed leaves =
+    let names : (way : ℕ) → name_of c'.seen way ≡ name_of c.seen way
+    = λ way. leaves_names c c' way tied.names.1 leaves in (
+      retied tied stayed.rested stayed.table (refl, tied.asks.1) leaves.1
+          (λ way. rw (names way) (agrees_still (name_of c.seen way) (tied.agrees way) (stayed.still way))),
+      λ way. rw (names way) (owed_still way (name_of c.seen way) (tied.agrees way) (stayed.still way)),
+    )
 
--- STEPS WITHOUT AN ENTRY
-module _ (w a w' : Caller) (c c' : Token) (tied : IsTied (keeper_of w a c)) (stayed : Stayed w w')
-    (same : (way : ℕ) → name_of c'.seen way ≡ name_of c.seen way) where
-  pub stayed_agrees : (way : ℕ) → Agrees (name_of c'.seen way) (state_of (map_seen w') way)
-  stayed_agrees way = subst (λ (n : ℕ). Agrees n (state_of (map_seen w') way)) (sym (same way))
-      (agrees_still (name_of c.seen way) (state_of (map_seen w) way) (state_of (map_seen w') way) (tied.agrees way)
-      (stayed.still way))
+-- of the clerk alone
+pub clerk_tied : {w a : Caller} {c c' : Token} → IsTied (keeper_of w a c) → LeavesNames c c'
+    → Leaves (keeper_of w a c) (keeper_of w a c')
+clerk_tied tied leaves =
+    stays_tied tied (record { rested = rested_of tied; table = refl; still = λ way. inl refl }) leaves
 
-  pub stayed_owes : (a' : Caller) → OwesSame (keeper_of w a c) (keeper_of w' a' c')
-  stayed_owes a' way = ap (λ (n : ℕ). owed_for way n (state_of (map_seen w') way)) (same way)
-      ∙ owed_still way (name_of c.seen way) (state_of (map_seen w) way) (state_of (map_seen w') way) (tied.agrees way)
-      (stayed.still way)
+-- as a search
+pub found_leaves : (id : ℕ) (c c' : Token) (found : Option ℕ) → FindsWay id c c' found → LeavesNames c c'
+found_leaves id c c' found finds = let look = way_looks id c c' found finds in looks_leave look.0 c c' look.1
+
+pub found_names : (id : ℕ) (c c' : Token) (found : Option ℕ) → c.number ≡ 0 → FindsWay id c c' found → (way : ℕ)
+    → name_of c'.seen way ≡ name_of c.seen way
+found_names id c c' found clerk finds way = leaves_names c c' way clerk (found_leaves id c c' found finds)
+
+pub searched : {w a : Caller} {c c' : Token} → IsTied (keeper_of w a c) → (id : ℕ) (found : Option ℕ)
+    → FindsWay id c c' found → Leaves (keeper_of w a c) (keeper_of w a c')
+searched {c = c} {c'} tied id found finds = clerk_tied tied (found_leaves id c c' found finds)
 
 -- A CALL OF THE MAP'S WRITER
-module _ (w a w' : Caller) (c c' : Token) (call : Call) (answer : Reply) (tied : IsTied (keeper_of w a c))
+-- before its entry
+module _ {w a w' : Caller} {c : Token} {call : Call} {answer : Reply} (tied : IsTied (keeper_of w a c))
+    (went : Went w w' call answer) (way : ℕ) where
+  pub mid_agrees : Agrees (name_of c.seen way) (state_of went.mid way)
+  mid_agrees = agrees_still (name_of c.seen way) (tied.agrees way) (went.still way)
+
+  pub mid_owes : owed_for way (name_of c.seen way) (state_of went.mid way)
+      ≡ owed_for way (name_of c.seen way) (state_of (map_seen w) way)
+  mid_owes = owed_still way (name_of c.seen way) (tied.agrees way) (went.still way)
+
+-- and after it
+module _ {w a w' : Caller} {c : Token} (c' : Token) {call : Call} {answer : Reply} (tied : IsTied (keeper_of w a c))
     (went : Went w w' call answer)
     (same : (way : ℕ) → way ≢ call_key call → name_of c'.seen way ≡ name_of c.seen way) where
-  abbrev key : ℕ
-  key = call_key call
-
-  abbrev name : ℕ
-  name = name_of c.seen key
-
-  -- the key's state before the call's entry
-  abbrev state : KeyState
-  state = state_of went.mid key
-
-  pub mid_agrees : (way : ℕ) → Agrees (name_of c.seen way) (state_of went.mid way)
-  mid_agrees way =
-      agrees_still (name_of c.seen way) (state_of (map_seen w) way) (state_of went.mid way) (tied.agrees way)
-      (went.still way)
-
-  pub mid_owes : owed_for key name state ≡ owed_for key name (state_of (map_seen w) key)
-  mid_owes = owed_still key name (state_of (map_seen w) key) state (tied.agrees key) (went.still key)
-
-  pub went_agrees : Agrees (name_of c'.seen key) (state_of (map_seen w') key) → (way : ℕ) →
-      Agrees (name_of c'.seen way) (state_of (map_seen w') way)
+  pub went_agrees : Agrees (name_of c'.seen (call_key call)) (state_of (map_seen w') (call_key call)) → (way : ℕ)
+      → Agrees (name_of c'.seen way) (state_of (map_seen w') way)
   went_agrees here way = ⊎_elim
-      (λ (at : key ≡ way). subst (λ (k : ℕ). Agrees (name_of c'.seen k) (state_of (map_seen w') k)) at here)
-      (λ (off : key ≢ way). let other : way ≢ key = λ e. off (sym e) in
-      subst (λ (n : ℕ). Agrees n (state_of (map_seen w') way)) (sym (same way other))
-      (subst (Agrees (name_of c.seen way)) (sym (went.others way other)) (mid_agrees way)))
-      (cases_eq key way)
+      (λ (at : way ≡ call_key call). rw at here)
+      (λ (off : way ≢ call_key call). rw (same way off, went.others way off) (mid_agrees tied went way))
+      (cases_eq way (call_key call))
 
-  pub went_else : (a' : Caller) → OwesElse key (keeper_of w a c) (keeper_of w' a' c')
-  went_else a' way other = ap (λ (n : ℕ). owed_for way n (state_of (map_seen w') way)) (same way other)
-      ∙ ap (owed_for way (name_of c.seen way)) (went.others way other)
-      ∙ owed_still way (name_of c.seen way) (state_of (map_seen w) way) (state_of went.mid way) (tied.agrees way)
-      (went.still way)
+  pub went_else : (a' : Caller) → OwesElse (call_key call) (keeper_of w a c) (keeper_of w' a' c')
+  went_else a' way off = rw (same way off, went.others way off) (mid_owes tied went way)
 
-  pub went_owes : (a' : Caller) → owed_for key (name_of c'.seen key) (state_of (map_seen w') key) ≡ owed_for key name
-      (state_of (map_seen w) key) → OwesSame (keeper_of w a c) (keeper_of w' a' c')
-  went_owes a' here way = ⊎_elim
-      (λ (at : key ≡ way).
-      subst (λ (k : ℕ). owed_for k (name_of c'.seen k) (state_of (map_seen w') k) ≡ owed_for k (name_of c.seen k)
-      (state_of (map_seen w) k)) at here)
-      (λ (off : key ≢ way). went_else a' way (λ e. off (sym e)))
-      (cases_eq key way)
+  pub went_owes : (a' : Caller) → (let key = call_key call in owed_for key (name_of c'.seen key)
+      (state_of (map_seen w') key) ≡ owed_for key (name_of c.seen key) (state_of (map_seen w) key))
+      → OwesSame (keeper_of w a c) (keeper_of w' a' c')
+  went_owes a' here way =
+      ⊎_elim (λ (at : way ≡ call_key call). rw at here) (λ (off : way ≢ call_key call). went_else a' way off)
+      (cases_eq way (call_key call))
 
 -- the way that the clerk found is a key
-pub near_of : (w a : Caller) (id way : ℕ) (c c' : Token) → IsTied (keeper_of w a c) → FindsWay id c c' (Some way)
+pub near_of : {w a : Caller} {id way : ℕ} {c c' : Token} → IsTied (keeper_of w a c) → FindsWay id c c' (Some way)
     → way < w.table.shape.keys
-near_of w a id way c c' tied finds =
-    omega (
-      arith,
-      finds.1.inside,
-      ap (λ (d : Opened). ways d.plan) (found_looks id c c' (Some way) finds).1.directory,
-      tied.ways_are,
-    )
+near_of {id = id} {way} {c} {c'} tied finds =
+    let same = ap (λ (d : Opened). ways d.plan) (found_leaves id c c' (Some way) finds).1.directory in
+    omega (arith, finds.1.inside, same, tied.ways_are)

@@ -1,6 +1,5 @@
 -- What each call of the map's writer on the id's way does to the tie and to the ledger.
-use Rattle.std.proofs.Common.{◌≡◌, ◌≢◌, ℕ, ◌+◌, ◌<◌, ⊎_elim, Bool, true, false, List, [], ◌∷◌, refl, sym, ap, ◌∙◌}
-use Rattle.std.proofs.Common.{◌++◌}
+use Rattle.std.proofs.Common.{◌≡◌, ◌≢◌, ℕ, ◌+◌, ◌<◌, inl, inr, Bool, true, false, List, [], ◌∷◌, refl, sym, ap, ◌∙◌}
 use Rattle.std.proofs.Common.{subst, arith, eq-eqb, Result, Ok, Err, Option, Some, None}
 use Rattle.std.specs.Prelude.{if◌then◌else◌, nat_lt}
 use Rattle.nr_model.specs.declared.rows.Row.{Row}
@@ -13,7 +12,6 @@ use Rattle.nr_model.specs.declared.states.KeyState.{KeyState}
 use Rattle.nr_model.specs.declared.states.KeyState.TheVariants.{Hole, Asked, Rows}
 use Rattle.nr_model.specs.Maps.{call_key, cancel_reply, cancelled, evict_reply, evicted, fill_reply, number_of}
 use Rattle.nr_model.specs.Maps.{state_after, state_of}
-use Rattle.nr_core.specs.declared.calls.NoSlot.{NoSlot}
 use Rattle.nr_board.specs.declared.answers.Cancel.TheVariants as cancel
 use Rattle.nr_board.specs.declared.answers.Evict.TheVariants as evict
 use Rattle.nr_board.specs.declared.answers.FillFault.{FillFault}
@@ -25,43 +23,40 @@ use Rattle.nr_board.specs.declared.answers.UpdateFault.TheVariants as update
 use Rattle.nr_board.specs.Callers.{Caller, Gains, Grows, map_seen}
 use Rattle.nr_board.specs.WriterAnswers.{CancelsKey, EvictsKey, FillsKey, ReplacesKey, UpdatesKey}
 use Rattle.nr_ids.specs.Answers.{FindsWay, Unnames}
-use Rattle.nr_ids.specs.Events.{Event, hinted, looked, name_of, looks, touched, unnamed}
+use Rattle.nr_ids.specs.Events.{Event, hinted, looked, name_of, touched, unnamed}
 use Rattle.nr_ids.specs.Groups.{group_of_way}
 use Rattle.nr_ids.specs.Tokens.{Token}
 use Rattle.nr_ids.proofs.Calls.{clerk_names, grows_on}
 use Rattle.nr_ids.proofs.Logs.{cond_else, cond_same, one_way}
-use Rattle.nr_idmap.specs.IdWrites.{FillsOwed, LacksForOwed, WithdrawsOwed, WornOwed}
-use Rattle.nr_idmap.specs.Keepers.{Agrees, ClosesOne, IsTied, Owed, OwesSame, keeper_of, owed_at, owed_for}
+use Rattle.nr_idmap.specs.declared.upqueries.Unfilled.{Unfilled}
+use Rattle.nr_idmap.specs.declared.upqueries.Unfilled.TheVariants as unfilled
+use Rattle.nr_idmap.specs.IdWrites.{FillsId, WasClosed, WithdrawsOwed, WornOwed}
+use Rattle.nr_idmap.specs.Keepers.{Agrees, ClosesOne, IsTied, Owed, OwesSame, Sent, keeper_of, owed_at, owed_for}
 use Rattle.nr_idmap.specs.Tags.{AreIdDeltas, tag_of}
+use Rattle.nr_idmap.specs.Tidy.{KeepsTags}
 use Rattle.nr_idmap.proofs.Entries.{Rested, Went, stayed, went}
 use Rattle.nr_idmap.proofs.LedgerLaws.{owed_tells}
-use Rattle.nr_idmap.proofs.Stills.{IsStill}
-use Rattle.nr_idmap.proofs.Ties.{Tagged, fill_agrees, fill_done, fill_keeps, fill_leaves, fill_puts, found_looks}
-use Rattle.nr_idmap.proofs.Ties.{found_names, mid_agrees, mid_owes, near_of, owed_asked, owed_hole, owed_none}
-use Rattle.nr_idmap.proofs.Ties.{replace_agrees}
-use Rattle.nr_idmap.proofs.Ties.{replace_keeps, replace_owes, rested_of, retied, stayed_agrees, stayed_owes}
+use Rattle.nr_idmap.proofs.Stills.{IsStill, by_still}
+use Rattle.nr_idmap.proofs.Ties.{Leaves, Tagged, fill_agrees, fill_done, fill_keeps, fill_leaves, fill_puts}
+use Rattle.nr_idmap.proofs.Ties.{found_leaves, found_names, mid_agrees, mid_owes, near_of, owed_asked, owed_hole}
+use Rattle.nr_idmap.proofs.Ties.{owed_none, replace_agrees, replace_keeps, replace_owes, rested_of, retied, stays_tied}
 use Rattle.nr_idmap.proofs.Ties.{update_agrees, update_owes, went_agrees, went_else, went_owes}
 
 -- ONE STATE
 pub still_asked : (n : ℕ) (now : KeyState) → IsStill (Asked n) now → now ≡ Asked n
-still_asked n now still = ⊎_elim (λ same. same)
-    (λ (asked : (number : ℕ) × (Asked n ≡ Hole number) × (now ≡ Asked number)). absurd (cc (asked.1))) still
+still_asked n now (inl same) = same
+still_asked n now (inr (number, was, asked)) = absurd (cc (was))
 
-still_number : (was now : KeyState) → IsStill was now → number_of now ≡ number_of was
-still_number was now still = ⊎_elim
-    (λ (same : now ≡ was). ap number_of same)
-    (λ (asked : (number : ℕ) × (was ≡ Hole number) × (now ≡ Asked number)). ap number_of asked.2
-    ∙ ap number_of (sym asked.1))
-    still
+still_number : {was now : KeyState} → IsStill was now → number_of now ≡ number_of was
+still_number {was} still =
+    by_still (λ state. number_of state ≡ number_of was) refl (λ number is. sym (ap number_of is)) still
 
 -- a way with a name that is asked for now was so before
 was_asked : (name n : ℕ) (was now : KeyState) → 0 < name → Agrees name was → IsStill was now → now ≡ Asked n
     → was ≡ Asked n
-was_asked name n was now real agrees still asked = ⊎_elim
-    (λ (same : now ≡ was). sym same ∙ asked)
-    (λ (t : (number : ℕ) × (was ≡ Hole number) × (now ≡ Asked number)). absurd
-    (let none : name ≡ 0 = subst (Agrees name) t.1 agrees in omega arith))
-    still
+was_asked name n was now real agrees (inl same) asked = sym same ∙ asked
+was_asked name n was now real agrees (inr (number, hole, is)) asked =
+    absurd (let none : name ≡ 0 = subst (Agrees name) hole agrees in omega arith)
 
 evict_agrees : (state : KeyState) → Agrees 0 (evicted state)
 evict_agrees (Hole n) = refl
@@ -113,31 +108,18 @@ cancel_unowed way name (Hole n) e = owed_hole way name n
 cancel_unowed way name (Asked n) e = absurd (if_something (nat_lt n 4194303) e)
 cancel_unowed way name (Rows n rows) e = owed_none way name n rows
 
-none_some : (owed : Owed) → None ≢ Some owed
-none_some owed e = absurd (cc (e))
-
--- THE CLERK'S STEPS
-module _ (w a : Caller) (c c' : Token) (tied : IsTied (keeper_of w a c)) (id : ℕ) (real : 0 < id) where
-  -- what the search found shows that an upquery isn't open
-  pub closed_by_name : (owed : Owed) (found : Option ℕ) → owed.id ≡ id → FindsWay id c c' found → found ≢ Some owed.way
-      →
-      owed_at (keeper_of w a c) owed.way ≢ Some owed
-  closed_by_name owed (Some way) of finds other is =
-      let tells = owed_tells owed.way (name_of c.seen owed.way) (state_of (map_seen w) owed.way) owed is in
-      let here : name_of c.seen way ≡ id = sym (found_names w a id c c' (Some way) tied finds way) ∙ finds.1.has in
-      other (ap Some (one_way c.directory.plan c.seen way owed.way id tied.legal real here (sym tells.1 ∙ of)))
-  closed_by_name owed None of finds other is =
-      let tells = owed_tells owed.way (name_of c.seen owed.way) (state_of (map_seen w) owed.way) owed is in
-      finds.1 owed.way (found_names w a id c c' None tied finds owed.way ∙ sym tells.1 ∙ of)
-
-  pub searched : (found : Option ℕ) → FindsWay id c c' found
-      → IsTied (keeper_of w a c') × OwesSame (keeper_of w a c) (keeper_of w a c')
-  searched found finds =
-      let look = found_looks id c c' found finds in let names = found_names w a id c c' found tied finds in (
-        retied w a w a c c' (looks look.0 c.number) tied (rested_of w a c tied) refl (refl, tied.asks.1) look.1
-            (λ way. subst (λ (n : ℕ). Agrees n (state_of (map_seen w) way)) (sym (names way)) (tied.agrees way)),
-        λ way. ap (λ (n : ℕ). owed_for way n (state_of (map_seen w) way)) (names way),
-      )
+-- what the search found shows that an upquery isn't open
+pub closed_by_name : {w a : Caller} {c : Token} (c' : Token) → IsTied (keeper_of w a c) → (owed : Owed) → 0 < owed.id
+    → (found : Option ℕ) → FindsWay owed.id c c' found → found ≢ Some owed.way
+    → owed_at (keeper_of w a c) owed.way ≢ Some owed
+closed_by_name {w} {c = c} c' tied owed real (Some way) finds other is =
+    let tells = owed_tells owed.way (name_of c.seen owed.way) (state_of (map_seen w) owed.way) owed is in
+    let here : name_of c.seen way ≡ owed.id
+    = sym (found_names owed.id c c' (Some way) tied.names.1 finds way) ∙ finds.1.has in
+    other (ap Some (one_way c.directory.plan c.seen way owed.way owed.id tied.legal real here (sym tells.1)))
+closed_by_name {w} {c = c} c' tied owed real None finds other is =
+    let tells = owed_tells owed.way (name_of c.seen owed.way) (state_of (map_seen w) owed.way) owed is in
+    finds.1 owed.way (found_names owed.id c c' None tied.names.1 finds owed.way ∙ sym tells.1)
 
 -- what the clerk does there
 abbrev unnaming : ℕ → Token → ℕ → List Event
@@ -145,47 +127,48 @@ unnaming way clerk hints =
     touched clerk.number (hinted (group_of_way way) hints) ∷ looked clerk.number ∷ unnamed way ∷ []
 
 -- names after a way's name was taken
-module _ (w a : Caller) (c mid new : Token) (tied : IsTied (keeper_of w a c)) (id way : ℕ)
-    (finds : FindsWay id c mid (Some way))
-    (unnames : Unnames way mid new) where
+module _ {w a : Caller} {c mid new : Token} (tied : IsTied (keeper_of w a c)) (id way : ℕ)
+    (finds : FindsWay id c mid (Some way)) (unnames : Unnames way mid new) where
   taken_name : (k : ℕ) → name_of new.seen k ≡ name_of (unnamed way ∷ mid.seen) k
-  taken_name k = let look = found_looks id c mid (Some way) finds in
-      clerk_names mid (unnaming way mid unnames.hints) new k (look.1.number ∙ tied.names.1) unnames.grows
+  taken_name k = clerk_names mid (unnaming way mid unnames.hints) new k
+      ((found_leaves id c mid (Some way) finds).1.number ∙ tied.names.1) unnames.grows
 
   taken : name_of new.seen way ≡ 0
   taken = taken_name way ∙ cond_same 0 (name_of mid.seen way) way way refl
 
   left : (k : ℕ) → k ≢ way → name_of new.seen k ≡ name_of c.seen k
   left k other = taken_name k ∙ cond_else 0 (name_of mid.seen k) way k (λ e. other (sym e))
-      ∙ found_names w a id c mid (Some way) tied finds k
+      ∙ found_names id c mid (Some way) tied.names.1 finds k
+
+-- how a fill by its way's numbers tells of the map's refusal
+abbrev pub fault_told : Sent → FillFault → Unfilled
+fault_told sent fill.NotAsked = unfilled.Closed
+fault_told sent fill.Already = unfilled.Closed
+fault_told sent fill.Stale = unfilled.Closed
+fault_told sent (fill.NoSlot counts) = unfilled.NoSlot sent counts
+
+abbrev pub fill_told : {Done : Type 0} → Sent → Result Done FillFault → Result Done Unfilled
+fill_told sent (Ok done) = Ok done
+fill_told sent (Err why) = Err (fault_told sent why)
 
 -- CALLS THAT LEAVE THE NAME
-module _ (w a w' : Caller) (c c' : Token) (tied : IsTied (keeper_of w a c)) (id way : ℕ)
+module _ {w a : Caller} {c c' : Token} (tied : IsTied (keeper_of w a c)) (id way : ℕ)
     (finds : FindsWay id c c' (Some way)) where
-  near : way < w.table.shape.keys
-  near = near_of w a id way c c' tied finds
-
   names : (k : ℕ) → name_of c'.seen k ≡ name_of c.seen k
-  names k = found_names w a id c c' (Some way) tied finds k
+  names k = found_names id c c' (Some way) tied.names.1 finds k
 
-  has : name_of c.seen way ≡ id
-  has = sym (names way) ∙ finds.1.has
+  pub has_name : name_of c.seen way ≡ id
+  has_name = sym (names way) ∙ finds.1.has
 
-  abbrev Left : Type 0
-  Left = IsTied (keeper_of w' a c') × OwesSame (keeper_of w a c) (keeper_of w' a c')
+  abbrev Left : Caller → Type 0
+  Left w' = Leaves (keeper_of w a c) (keeper_of w' a c')
 
   -- the call found no slot
-  unslotted : (steps : ℕ) → Grows steps [] w w' → Left
-  unslotted steps grows =
-      let stays = stayed steps w w' (rested_of w a c tied) grows in
-      let look = found_looks id c c' (Some way) finds in (
-        retied w a w' a c c' (looks look.0 c.number) tied stays.rested grows.table (refl, tied.asks.1) look.1
-            (stayed_agrees w a w' c c' tied stays names),
-        stayed_owes w a w' c c' tied stays names a,
-      )
+  unslotted : {steps : ℕ} {w' : Caller} → Grows steps [] w w' → Left w'
+  unslotted grows = stays_tied tied (stayed (rested_of tied) grows) (found_leaves id c c' (Some way) finds)
 
   -- the call's entry was made: what it leaves of its key must agree with the name, and owe what was owed
-  module _ (call : Call) (answer : Reply) (go : Went w w' call answer) where
+  module _ {w' : Caller} {call : Call} {answer : Reply} (go : Went w w' call answer) where
     abbrev name : ℕ
     name = name_of c.seen (call_key call)
 
@@ -195,288 +178,236 @@ module _ (w a w' : Caller) (c c' : Token) (tied : IsTied (keeper_of w a c)) (id 
     abbrev after : KeyState
     after = state_after go.mid.bound call before
 
-    pub agree : (k : ℕ) → Agrees (name_of c.seen k) (state_of go.mid k)
-    agree = mid_agrees w a w' c c' call answer tied go (λ k _. names k)
-
-    tied_after : Rested w' → w'.table ≡ w.table → Agrees name after → IsTied (keeper_of w' a c')
-    tied_after rested table agrees =
-        let look = found_looks id c c' (Some way) finds in let key : ℕ = call_key call in
-        retied w a w' a c c' (looks look.0 c.number) tied rested table (refl, tied.asks.1) look.1
-        (went_agrees w a w' c c' call answer tied go (λ k _. names k)
-        (subst (λ (n : ℕ). Agrees n (state_of (map_seen w') key)) (sym (names key))
-        (subst (Agrees name) (sym go.at_key) agrees)))
+    tied_after : KeepsTags go.mid call answer → Agrees name after → IsTied (keeper_of w' a c')
+    tied_after keeps agrees =
+        retied tied (go.rested keeps) go.table (refl, tied.asks.1) (found_leaves id c c' (Some way) finds).1
+        (went_agrees c' tied go (λ k _. names k) (rw (names (call_key call), go.at_key) agrees))
 
     owes_after : owed_for (call_key call) name after ≡ owed_for (call_key call) name before
         → OwesSame (keeper_of w a c) (keeper_of w' a c')
-    owes_after same = let key : ℕ = call_key call in
-        went_owes w a w' c c' call answer tied go (λ k _. names k) a
-        (ap (λ (n : ℕ). owed_for key n (state_of (map_seen w') key)) (names key) ∙ ap (owed_for key name) go.at_key
-        ∙ same ∙ mid_owes w a w' c c' call answer tied go (λ k _. names k))
+    owes_after same = went_owes c' tied go (λ k _. names k) a
+        (rw (names (call_key call), go.at_key) (same ∙ mid_owes tied go (call_key call)))
 
-    pub untouched : Rested w' → w'.table ≡ w.table → after ≡ before → Left
-    untouched rested table stays = (
-      tied_after rested table (subst (Agrees name) (sym stays) (agree (call_key call))),
+    pub untouched : KeepsTags go.mid call answer → after ≡ before → Left w'
+    untouched keeps stays = (
+      tied_after keeps (rw stays (mid_agrees tied go (call_key call))),
       owes_after (ap (owed_for (call_key call) name) stays),
     )
 
-  pub update_entry : (steps : ℕ) (batch : List Delta) (answer : Reply) → AreIdDeltas batch
-      → Gains steps (Update way batch) w w' answer → Left
-  update_entry steps batch answer users gains =
-      let call : Call = Update way batch in let go = went steps w w' call answer (rested_of w a c tied) gains near in
-      let room : 0 < go.mid.bound = subst (λ (b : ℕ). 0 < b) (sym go.bound) tied.room in (
-        tied_after call answer go (go.rested users) gains.table
-            (update_agrees (name_of c.seen way) go.mid.bound batch (state_of go.mid way) room users
-            (agree call answer go way)),
-        owes_after call answer go (update_owes way (name_of c.seen way) go.mid.bound batch (state_of go.mid way)),
-      )
+  pub update_entry : {steps : ℕ} {w' : Caller} (batch : List Delta) {answer : Reply} → AreIdDeltas batch
+      → Gains steps (Update way batch) w w' answer → Left w'
+  update_entry batch users gains = let go = went (Update way batch) (rested_of tied) gains (near_of tied finds) in (
+    tied_after go users
+        (update_agrees (name_of c.seen way) go.mid.bound batch (state_of go.mid way) (rw go.bound tied.room) users
+        (mid_agrees tied go way)),
+    owes_after go (update_owes way (name_of c.seen way) go.mid.bound batch (state_of go.mid way)),
+  )
 
-  pub update_left : (bound : ℕ) (batch : List Delta) (r : Result (Unit {0}) UpdateFault) → AreIdDeltas batch →
-      UpdatesKey bound way batch w w' r → Left
-  update_left bound batch (Ok done) users h = update_entry _ batch reply.Done users h.3.gains
-  update_left bound batch (Err update.Dropped) users h = update_entry _ batch reply.Dropped users h.0
-  update_left bound batch (Err update.NoRow) users h = update_entry _ batch reply.NoRow users h.2
-  update_left bound batch (Err update.TooMany) users h = update_entry _ batch reply.TooMany users h.2
-  update_left bound batch (Err (update.NoSlot counts)) users h = unslotted _ h.3.grows
+  pub update_left : {w' : Caller} (bound : ℕ) (batch : List Delta) (r : Result (Unit {0}) UpdateFault)
+      → AreIdDeltas batch → UpdatesKey bound way batch w w' r → Left w'
+  update_left bound batch (Ok done) users h = update_entry batch users h.3.gains
+  update_left bound batch (Err update.Dropped) users h = update_entry batch users h.0
+  update_left bound batch (Err update.NoRow) users h = update_entry batch users h.2
+  update_left bound batch (Err update.TooMany) users h = update_entry batch users h.2
+  update_left bound batch (Err (update.NoSlot counts)) users h = unslotted h.3.grows
 
-  module _ (rows : List Row) where
-    set : List Row
-    set = tag_of id ∷ rows
+  module _ (real : 0 < id) (rows : List Row) where
+    tagged : Tagged (name_of c.seen way) (tag_of id ∷ rows)
+    tagged = rw has_name (real, rows, refl)
 
-    tagged : 0 < id → Tagged (name_of c.seen way) (tag_of id ∷ rows)
-    tagged real = (subst (λ (n : ℕ). 0 < n) (sym has) real, rows, ap (λ (n : ℕ). tag_of n ∷ rows) (sym has))
-
-    pub replace_entry : (steps : ℕ) (answer : Reply) → 0 < id → Gains steps (Replace way (tag_of id ∷ rows)) w w' answer
-        → Left
-    replace_entry steps answer real gains =
-        let call : Call = Replace way (tag_of id ∷ rows) in
-        let go = went steps w w' call answer (rested_of w a c tied) gains near in
-        let agrees = agree call answer go in (
-          tied_after call answer go
-              (go.rested
-              (replace_keeps c.directory.plan c.seen tied.legal go.mid agrees way (tag_of id ∷ rows) (tagged real)
-              answer)) gains.table
-              (replace_agrees (name_of c.seen way) (tag_of id ∷ rows) (state_of go.mid way) (tagged real) (agrees way)),
-          owes_after call answer go
-              (replace_owes way (name_of c.seen way) (tag_of id ∷ rows) (state_of go.mid way)),
+    pub replace_entry : {steps : ℕ} {w' : Caller} {answer : Reply}
+        → Gains steps (Replace way (tag_of id ∷ rows)) w w' answer → Left w'
+    replace_entry {answer = answer} gains =
+        let go = went (Replace way (tag_of id ∷ rows)) (rested_of tied) gains (near_of tied finds) in (
+          tied_after go
+              (replace_keeps c.directory.plan c.seen tied.legal go.mid (mid_agrees tied go) way (tag_of id ∷ rows)
+              tagged answer)
+              (replace_agrees (name_of c.seen way) (tag_of id ∷ rows) (state_of go.mid way) tagged
+              (mid_agrees tied go way)),
+          owes_after go (replace_owes way (name_of c.seen way) (tag_of id ∷ rows) (state_of go.mid way)),
         )
 
-    pub replace_left : (r : Result (Unit {0}) ReplaceFault) → 0 < id → ReplacesKey way (tag_of id ∷ rows) w w' r → Left
-    replace_left (Ok done) real h = replace_entry _ reply.Done real h.gains
-    replace_left (Err replace.Dropped) real h = replace_entry _ reply.Dropped real h.0
-    replace_left (Err (replace.NoSlot counts)) real h = unslotted _ h.grows
+    pub replace_left : {w' : Caller} (r : Result (Unit {0}) ReplaceFault)
+        → ReplacesKey way (tag_of id ∷ rows) w w' r → Left w'
+    replace_left (Ok done) h = replace_entry h.gains
+    replace_left (Err replace.Dropped) h = replace_entry h.0
+    replace_left (Err (replace.NoSlot counts)) h = unslotted h.grows
 
     -- A FILL
     module _ (number : ℕ) where
-      abbrev fills : Call
-      fills = Fill way number (tag_of id ∷ rows)
-
       abbrev owes : Owed
       owes = record { way = way; number = number; id = id }
 
-      pub fill_entry : (steps : ℕ) (answer : Reply) → 0 < id → Gains steps fills w w' answer
+      abbrev fills : Call
+      fills = Fill way number (tag_of id ∷ rows)
+
+      filled : {steps : ℕ} {w' : Caller} {answer : Reply} → Gains steps fills w w' answer → Went w w' fills answer
+      filled gains = went fills (rested_of tied) gains (near_of tied finds)
+
+      pub fill_entry : {steps : ℕ} {w' : Caller} {answer : Reply} → Gains steps fills w w' answer
           → IsTied (keeper_of w' a c')
-      fill_entry steps answer real gains =
-          let go = went steps w w' fills answer (rested_of w a c tied) gains near in
-          let agrees = agree fills answer go in
-          tied_after fills answer go
-          (go.rested
-          (fill_keeps c.directory.plan c.seen tied.legal go.mid agrees way (tag_of id ∷ rows)
-          (tagged real) number answer
-          go.replied)) gains.table
-          (fill_agrees (name_of c.seen way) number (tag_of id ∷ rows) (state_of go.mid way) (tagged real) (agrees way))
+      fill_entry gains = let go = filled gains in
+          tied_after go
+          (fill_keeps c.directory.plan c.seen tied.legal go.mid (mid_agrees tied go) way (tag_of id ∷ rows) tagged
+          number go.replied)
+          (fill_agrees (name_of c.seen way) number (tag_of id ∷ rows) (state_of go.mid way) tagged
+          (mid_agrees tied go way))
 
-      pub fill_tied : (r : Result (Unit {0}) FillFault) → 0 < id → FillsKey way number (tag_of id ∷ rows) w w' r →
-          IsTied (keeper_of w' a c')
-      fill_tied (Ok done) real h = fill_entry _ reply.Done real h.gains
-      fill_tied (Err fill.NotAsked) real h = fill_entry _ reply.NotAsked real h.0
-      fill_tied (Err fill.Already) real h = fill_entry _ reply.Already real h.0
-      fill_tied (Err fill.Stale) real h = fill_entry _ reply.Stale real h.0
-      fill_tied (Err (fill.NoSlot counts)) real h = (unslotted _ h.grows).0
+      -- the upquery was open, if the key is asked for with its number
+      open_if : {now : KeyState} → IsStill (state_of (map_seen w) way) now → now ≡ Asked number
+          → owed_at (keeper_of w a c) way ≡ Some owes
+      open_if {now} still is =
+          let was : state_of (map_seen w) way ≡ Asked number = was_asked (name_of c.seen way) number
+          (state_of (map_seen w) way) now (rw has_name real) (tied.agrees way) still is in
+          rw (was, has_name) (owed_asked way id number real)
 
-      open_if : 0 < id → state_of (map_seen w) way ≡ Asked number →
-          owed_at (keeper_of w a c) way ≡ Some (record { way = way; number = number; id = id })
-      open_if real is = ap (owed_for way (name_of c.seen way)) is ∙ ap (λ (n : ℕ). owed_for way n (Asked number)) has
-          ∙ owed_asked way id number real
-
-      pub fill_closing : (steps : ℕ) → 0 < id → Gains steps fills w w' reply.Done →
-          ClosesOne (record { way = way; number = number; id = id }) (keeper_of w a c) (keeper_of w' a c')
-      fill_closing steps real gains =
-          let go = went steps w w' fills reply.Done (rested_of w a c tied) gains near in
-          let same = λ (k : ℕ) (_ : k ≢ way). names k in let s : KeyState = state_of go.mid way in
-          let asked : s ≡ Asked number = fill_done number s (sym go.replied) in
-          let was : state_of (map_seen w) way ≡ Asked number
-          = was_asked (name_of c.seen way) number (state_of (map_seen w) way) s
-          (subst (λ (n : ℕ). 0 < n) (sym has) real) (tied.agrees way) (go.still way) asked in record {
-            before = open_if real was;
-            after = ap (owed_for way (name_of c'.seen way)) (go.at_key ∙ fill_puts number (tag_of id ∷ rows) s asked)
-                ∙ owed_none way (name_of c'.seen way) number (tag_of id ∷ rows);
-            others = went_else w a w' c c' fills reply.Done tied go same a;
+      pub fill_closing : {steps : ℕ} {w' : Caller} → Gains steps fills w w' reply.Done
+          → ClosesOne owes (keeper_of w a c) (keeper_of w' a c')
+      fill_closing gains =
+          let go = filled gains in
+          let asked : state_of go.mid way ≡ Asked number = fill_done number (state_of go.mid way) (sym go.replied) in
+          record {
+            before = open_if (go.still way) asked;
+            after = rw (go.at_key, fill_puts number (tag_of id ∷ rows) (state_of go.mid way) asked)
+                (owed_none way (name_of c'.seen way) number (tag_of id ∷ rows));
+            others = went_else c' tied go (λ k _. names k) a;
           }
-
-      pub fill_closes : 0 < id → FillsKey way number (tag_of id ∷ rows) w w' (Ok tt) →
-          FillsOwed (record { way = way; number = number; id = id }) rows (keeper_of w a c) (keeper_of w' a c')
-      fill_closes real h = record { finds = finds; fills = h; closes = fill_closing _ real h.gains }
 
       -- one that wasn't done, and found no upquery
-      fill_undone : (steps : ℕ) (answer : Reply) → answer ≢ reply.Done → Gains steps fills w w' answer →
-          (owed_at (keeper_of w a c) way ≢ Some (record { way = way; number = number; id = id })) ×
-          OwesSame (keeper_of w a c) (keeper_of w' a c')
-      fill_undone steps answer undone gains =
-          let go = went steps w w' fills answer (rested_of w a c tied) gains near in
-          let s : KeyState = state_of go.mid way in (
-            λ is. let tells = owed_tells way (name_of c.seen way) (state_of (map_seen w) way)
-                (record { way = way; number = number; id = id }) is in
-                let now : s ≡ Asked number
-                = still_asked number s (subst (λ (x : KeyState). IsStill x s) tells.3 (go.still way)) in
-                undone (go.replied ∙ done_by s now),
-            owes_after fills answer go
-                (ap (owed_for way (name_of c.seen way))
-                (fill_leaves number (tag_of id ∷ rows) s (λ done. undone (go.replied ∙ done)))),
+      refused : {steps : ℕ} {w' : Caller} {answer : Reply} (why : FillFault)
+          → FillsKey way number (tag_of id ∷ rows) w w' (Err why) → answer ≢ reply.Done
+          → Gains steps fills w w' answer
+          → IsTied (keeper_of w' a c')
+          × WasClosed (λ writer writer'. (why : FillFault)
+          × FillsKey way number (tag_of id ∷ rows) writer writer' (Err why)) owes (keeper_of w a c)
+          (keeper_of w' a c')
+      refused why h undone gains =
+          let go = filled gains in let s : KeyState = state_of go.mid way in (
+            fill_entry gains,
+            record {
+              closed = λ is. let tells = owed_tells way (name_of c.seen way) (state_of (map_seen w) way) owes is in
+                  let now : s ≡ Asked number
+                  = still_asked number s (subst (λ (x : KeyState). IsStill x s) tells.3 (go.still way)) in
+                  undone (go.replied ∙ ap (fill_reply number) now ∙ rw (eq-eqb number number refl) refl);
+              found = Some way;
+              finds = finds;
+              how = inr (refl, (why, h));
+              owes = owes_after go
+                  (ap (owed_for way (name_of c.seen way))
+                  (fill_leaves number (tag_of id ∷ rows) s (λ done. undone (go.replied ∙ done))));
+            },
           )
-        where
-          done_by : (s : KeyState) → s ≡ Asked number → fill_reply number s ≡ reply.Done
-          done_by s is = ap (fill_reply number) is ∙ rw (eq-eqb number number refl) refl
 
-      pub fill_refused : (why : FillFault) → ((counts : NoSlot) → why ≢ fill.NoSlot counts) →
-          FillsKey way number (tag_of id ∷ rows) w w' (Err why)
-          → (owed_at (keeper_of w a c) way ≢ Some (record { way = way; number = number; id = id })) ×
-          OwesSame (keeper_of w a c) (keeper_of w' a c')
-      fill_refused fill.NotAsked not h = fill_undone _ reply.NotAsked (λ e. absurd (cc (e))) h.0
-      fill_refused fill.Already not h = fill_undone _ reply.Already (λ e. absurd (cc (e))) h.0
-      fill_refused fill.Stale not h = fill_undone _ reply.Stale (λ e. absurd (cc (e))) h.0
-      fill_refused (fill.NoSlot counts) not h = absurd (not counts refl)
-
-      pub fill_lacks : (counts : NoSlot) → 0 < id
-          → FillsKey way number (tag_of id ∷ rows) w w' (Err (fill.NoSlot counts)) →
-          LacksForOwed (record { way = way; number = number; id = id }) rows (keeper_of w a c) (keeper_of w' a c')
-          counts
-      fill_lacks counts real h =
-          let stays = stayed _ w w' (rested_of w a c tied) h.grows in
-          let asked : state_of (map_seen w') way ≡ Asked number
-          = fill_done number (state_of (map_seen w') way) h.lacks.would_be_done in
-          record {
-            finds = finds;
-            lacks = h;
-            open_yet = open_if real
-                (was_asked (name_of c.seen way) number (state_of (map_seen w) way) (state_of (map_seen w') way)
-                (subst (λ (n : ℕ). 0 < n) (sym has) real) (tied.agrees way) (stays.still way) asked);
-            owes = stayed_owes w a w' c c' tied stays names a;
-          }
+      pub fill_left : {w' : Caller} (sent : Sent)
+          → sent ≡ record { table = record { map = w.table; directory = c.directory }; owed = owes }
+          → (r : Result (Unit {0}) FillFault) → FillsKey way number (tag_of id ∷ rows) w w' r
+          → IsTied (keeper_of w' a c') × FillsId owes rows (keeper_of w a c) (keeper_of w' a c') (fill_told sent r)
+      fill_left sent is (Ok done) h =
+          (fill_entry h.gains, record { finds = finds; fills = h; closes = fill_closing h.gains })
+      fill_left sent is (Err fill.NotAsked) h = refused fill.NotAsked h (λ e. absurd (cc (e))) h.0
+      fill_left sent is (Err fill.Already) h = refused fill.Already h (λ e. absurd (cc (e))) h.0
+      fill_left sent is (Err fill.Stale) h = refused fill.Stale h (λ e. absurd (cc (e))) h.0
+      fill_left {w'} sent is (Err (fill.NoSlot counts)) h =
+          let stays = stayed (rested_of tied) h.grows in
+          let left = unslotted h.grows in (
+            left.0,
+            (
+              is,
+              record {
+                finds = finds;
+                lacks = h;
+                open_yet = open_if (stays.still way)
+                    (fill_done number (state_of (map_seen w') way) h.lacks.would_be_done);
+                owes = left.1;
+              },
+            ),
+          )
 
   -- AN EVICTION AND A CANCEL THAT DO NOTHING
-  pub evict_nothing : EvictsKey way w w' evict.Nothing → Left
-  evict_nothing h = let go = went 1 w w' (Evict way) reply.Nothing (rested_of w a c tied) h.0 near in
-      untouched (Evict way) reply.Nothing go (go.rested tt) h.0.table (evict_leaves (state_of go.mid way) go.replied)
+  pub evict_nothing : {w' : Caller} → EvictsKey way w w' evict.Nothing → Left w'
+  evict_nothing h = let go = went (Evict way) (rested_of tied) h.0 (near_of tied finds) in
+      untouched go tt (evict_leaves (state_of go.mid way) go.replied)
 
-  cancel_entry : (answer : Reply) → answer ≢ reply.Cancelled → (gains : Gains 1 (Cancel way) w w' answer) → Left
-  cancel_entry answer undone gains = let go = went 1 w w' (Cancel way) answer (rested_of w a c tied) gains near in
-      untouched (Cancel way) answer go (go.rested tt) gains.table
-      (cancel_leaves (state_of go.mid way) (λ done. undone (go.replied ∙ done)))
+  cancelled_way : {steps : ℕ} {w' : Caller} {answer : Reply} → Gains steps (Cancel way) w w' answer
+      → Went w w' (Cancel way) answer
+  cancelled_way gains = went (Cancel way) (rested_of tied) gains (near_of tied finds)
 
-  pub cancel_nothing : CancelsKey way w w' cancel.Nothing
-      → Left × ((owed : Owed) → owed_at (keeper_of w a c) way ≢ Some owed)
-  cancel_nothing h =
-      let call : Call = Cancel way in let go = went 1 w w' call reply.Nothing (rested_of w a c tied) h.0 near in
-      let same = λ (k : ℕ) (_ : k ≢ way). names k in (
-        cancel_entry reply.Nothing (λ e. absurd (cc (e))) h.0,
-        λ owed is. none_some owed
-            (sym (cancel_unowed way (name_of c.seen way) (state_of go.mid way) go.replied)
-            ∙ mid_owes w a w' c c' call reply.Nothing tied go same ∙ is),
-      )
+  cancel_entry : {w' : Caller} {answer : Reply} → answer ≢ reply.Cancelled → Gains 1 (Cancel way) w w' answer → Left w'
+  cancel_entry undone gains = let go = cancelled_way gains in
+      untouched go tt (cancel_leaves (state_of go.mid way) (λ done. undone (go.replied ∙ done)))
+
+  pub cancel_nothing : {w' : Caller} → CancelsKey way w w' cancel.Nothing
+      → Left w' × ((owed : Owed) → owed_at (keeper_of w a c) way ≢ Some owed)
+  cancel_nothing h = let go = cancelled_way h.0 in (
+    cancel_entry (λ e. absurd (cc (e))) h.0,
+    λ owed is. absurd
+        (cc
+        (sym (cancel_unowed way (name_of c.seen way) (state_of go.mid way) go.replied) ∙ mid_owes tied go way ∙ is)),
+  )
 
   -- the upquery that a cancel met
-  met_owed : (number : ℕ) (answer : Reply) → 0 < id → answer ≢ reply.Nothing
-      → number_of (state_of (map_seen w) way) ≡ number →
-      Went w w' (Cancel way) answer
+  met_owed : {w' : Caller} {answer : Reply} (number : ℕ) → 0 < id → answer ≢ reply.Nothing
+      → number_of (state_of (map_seen w) way) ≡ number → Went w w' (Cancel way) answer
       → owed_at (keeper_of w a c) way ≡ Some (record { way = way; number = number; id = id })
-  met_owed number answer real met is go =
-      let s : KeyState = state_of go.mid way in
-      let asked : s ≡ Asked number = cancel_met s (λ e. met (go.replied ∙ e))
-      ∙ ap Asked (still_number (state_of (map_seen w) way) s (go.still way) ∙ is) in
-      let was
-      = was_asked (name_of c.seen way) number (state_of (map_seen w) way) s
-      (subst (λ (n : ℕ). 0 < n) (sym has) real)
-      (tied.agrees way) (go.still way) asked in
-      ap (owed_for way (name_of c.seen way)) was ∙ ap (λ (n : ℕ). owed_for way n (Asked number)) has
-      ∙ owed_asked way id number real
+  met_owed number real met is go =
+      let asked : state_of go.mid way ≡ Asked number = cancel_met (state_of go.mid way) (λ e. met (go.replied ∙ e))
+      ∙ ap Asked (still_number (go.still way) ∙ is) in
+      open_if real [] number (go.still way) asked
 
-  pub cancel_worn : (number : ℕ) → 0 < id → number_of (state_of (map_seen w) way) ≡ number
+  pub cancel_worn : {w' : Caller} (number : ℕ) → 0 < id → number_of (state_of (map_seen w) way) ≡ number
       → CancelsKey way w w' cancel.Worn
       → IsTied (keeper_of w' a c')
       × WornOwed (record { way = way; number = number; id = id }) (keeper_of w a c) (keeper_of w' a c')
-  cancel_worn number real is h =
-      let kept = cancel_entry reply.Worn (λ e. absurd (cc (e))) h.0 in
-      let go = went 1 w w' (Cancel way) reply.Worn (rested_of w a c tied) h.0 near in (
-        kept.0,
-        record {
-          finds = finds;
-          worn = h;
-          open_yet = met_owed number reply.Worn real (λ e. absurd (cc (e))) is go;
-          owes = kept.1;
-        },
-      )
+  cancel_worn number real is h = let kept = cancel_entry (λ e. absurd (cc (e))) h.0 in (
+    kept.0,
+    record {
+      finds = finds;
+      worn = h;
+      open_yet = met_owed number real (λ e. absurd (cc (e))) is (cancelled_way h.0);
+      owes = kept.1;
+    },
+  )
 
 -- CALLS AFTER WHICH THE NAME IS TAKEN
-module _ (w a w' : Caller) (c mid new : Token) (tied : IsTied (keeper_of w a c)) (id way : ℕ) (real : 0 < id)
+module _ {w a : Caller} {c mid new : Token} (tied : IsTied (keeper_of w a c)) (id way : ℕ)
     (finds : FindsWay id c mid (Some way)) (unnames : Unnames way mid new) where
-  inside : way < w.table.shape.keys
-  inside = near_of w a id way c mid tied finds
+  gone : (k : ℕ) → k ≢ way → name_of new.seen k ≡ name_of c.seen k
+  gone = left tied id way finds unnames
 
-  tied_off : (call : Call) (answer : Reply) (go : Went w w' call answer)
-      → ((k : ℕ) → k ≢ call_key call → name_of new.seen k ≡ name_of c.seen k) → name_of new.seen (call_key call) ≡ 0
-      → Rested w' → w'.table ≡ w.table → Agrees 0 (state_after go.mid.bound call (state_of go.mid (call_key call)))
+  tied_off : {w' : Caller} {call : Call} {answer : Reply} (go : Went w w' call answer) → call_key call ≡ way
+      → Rested w' → Agrees 0 (state_after go.mid.bound call (state_of go.mid (call_key call)))
       → IsTied (keeper_of w' a new)
-  tied_off call answer go others none rested table agrees =
-      let look = found_looks id c mid (Some way) finds in
-      retied w a w' a c new (unnaming way mid unnames.hints ++ looks look.0 c.number) tied rested table
-      (refl, tied.asks.1)
-      (grows_on c mid new (looks look.0 c.number) (unnaming way mid unnames.hints) look.1 unnames.grows)
-      (went_agrees w a w' c new call answer tied go others
-      (subst (λ (n : ℕ). Agrees n (state_of (map_seen w') (call_key call))) (sym none)
-      (subst (Agrees 0) (sym go.at_key) agrees)))
+  tied_off go here rested agrees =
+      let look = found_leaves id c mid (Some way) finds in
+      let none = ap (name_of new.seen) here ∙ taken tied id way finds unnames in
+      retied tied rested go.table (refl, tied.asks.1) (grows_on c mid new _ _ look.1 unnames.grows)
+      (went_agrees new tied go (rw here gone) (rw (none, go.at_key) agrees))
 
-  none : name_of new.seen way ≡ 0
-  none = taken w a c mid new tied id way finds unnames
+  unowed : (w' : Caller) → owed_for way (name_of new.seen way) (state_of (map_seen w') way) ≡ None
+  unowed w' = rw (taken tied id way finds unnames) refl
 
-  abbrev gone : (k : ℕ) → k ≢ way → name_of new.seen k ≡ name_of c.seen k
-  gone = left w a c mid new tied id way finds unnames
+  pub evicted_way : {w' : Caller} → EvictsKey way w w' evict.Evicted → Leaves (keeper_of w a c) (keeper_of w' a new)
+  evicted_way {w'} h = let go = went (Evict way) (rested_of tied) h.0 (near_of tied finds) in (
+    tied_off go refl (go.rested tt) (evict_agrees (state_of go.mid way)),
+    went_owes new tied go gone a
+        (unowed w' ∙ sym (evict_owed way (name_of c.seen way) (state_of go.mid way) go.replied) ∙ mid_owes tied go way),
+  )
 
-  unowed : owed_for way (name_of new.seen way) (state_of (map_seen w') way) ≡ None
-  unowed = ap (λ (n : ℕ). owed_for way n (state_of (map_seen w') way)) none
-
-  pub evicted_way : EvictsKey way w w' evict.Evicted
-      → IsTied (keeper_of w' a new) × OwesSame (keeper_of w a c) (keeper_of w' a new)
-  evicted_way h =
-      let gains = h.0 in
-      let call : Call = Evict way in
-      let go = went 2 w w' call reply.Evicted (rested_of w a c tied) gains inside in
-      let s : KeyState = state_of go.mid way in (
-        tied_off call reply.Evicted go gone none (go.rested tt) gains.table (evict_agrees s),
-        went_owes w a w' c new call reply.Evicted tied go gone a
-            (unowed ∙ sym (evict_owed way (name_of c.seen way) s go.replied)
-            ∙ mid_owes w a w' c new call reply.Evicted tied go gone),
-      )
-
-  pub withdrawn_way : (number : ℕ) → number_of (state_of (map_seen w) way) ≡ number
+  pub withdrawn_way : {w' : Caller} (number : ℕ) → 0 < id → number_of (state_of (map_seen w) way) ≡ number
       → CancelsKey way w w' cancel.Cancelled
       → IsTied (keeper_of w' a new)
       × WithdrawsOwed (record { way = way; number = number; id = id }) (keeper_of w a c) (keeper_of w' a new)
-  withdrawn_way number is h =
-      let gains = h.0 in
-      let call : Call = Cancel way in
-      let go = went 2 w w' call reply.Cancelled (rested_of w a c tied) gains inside in (
-        tied_off call reply.Cancelled go gone none (go.rested tt) gains.table
-            (cancel_agrees (state_of go.mid way) go.replied),
-        record {
-          mid = mid;
-          finds = finds;
-          cancels = h;
-          unnames = unnames;
-          closes = record {
-            before =
-                met_owed w a w' c mid tied id way finds number reply.Cancelled real (λ e. absurd (cc (e))) is go;
-            after = unowed;
-            others = went_else w a w' c new call reply.Cancelled tied go gone a;
-          };
-        },
-      )
+  withdrawn_way {w'} number real is h = let go = went (Cancel way) (rested_of tied) h.0 (near_of tied finds) in (
+    tied_off go refl (go.rested tt) (cancel_agrees (state_of go.mid way) go.replied),
+    record {
+      mid = mid;
+      finds = finds;
+      cancels = h;
+      unnames = unnames;
+      closes = record {
+        before = met_owed tied id way finds number real (λ e. absurd (cc (e))) is go;
+        after = unowed w';
+        others = went_else new tied go gone a;
+      };
+    },
+  )
