@@ -1,7 +1,6 @@
 -- The bytes of a word of hints, and the places that are picked out of them.
-use Rattle.std.proofs.Common.{◌+◌, ◌*◌, ◌≡◌, ℕ, zero, suc, ◌-◌, ◌/◌, ◌%◌, ◌^◌, ◌<◌, ◌≤◌, ◌==◌, cond, Bool}
-use Rattle.std.proofs.Common.{false}
-use Rattle.std.proofs.Common.{map, sym, ap, ◌∙◌, arith, bit_and, min}
+use Rattle.std.proofs.Common.{◌+◌, ◌*◌, ◌≡◌, ℕ, zero, suc, ◌-◌, ◌/◌, ◌%◌, ◌^◌, ◌<◌, ◌≤◌, ◌==◌, cond, Bool, false, map}
+use Rattle.std.proofs.Common.{sym, ap, ◌∙◌, arith, bit_and, min}
 use mathlib.Core.Logic.{dite}
 use native.Mathlib.Decide.{dec_le, ℕ_discrete}
 use lib.Lanes.{mask_l}

@@ -1,19 +1,19 @@
 -- Calls of a few steps: what each step gains adds up, and where a scan finds no name the id had no way at some moment.
 use Rattle.std.proofs.Common.{◌≡◌, ◌≢◌, ℕ, zero, suc, ◌+◌, ◌-◌, ◌*◌, ◌/◌, ◌%◌, ◌<◌, ◌≤◌, ◌⊎◌, ⊎_elim, inl, inr, List}
-use Rattle.std.proofs.Common.{[], ◌∷◌, ◌++◌, refl, sym, ap, ◌∙◌, subst, arith, append_assoc, length-append}
-use Rattle.std.proofs.Common.{Bool, true, false}
+use Rattle.std.proofs.Common.{[], ◌∷◌, ◌++◌, refl, sym, ap, ◌∙◌, subst, arith, append_assoc, length-append, Bool, true}
+use Rattle.std.proofs.Common.{false}
 use mathlib.Core.Logic.{dite}
 use native.Mathlib.Decide.{dec_le, ℕ_discrete}
 use Rattle.nr_ids.specs.declared.plan.Plan.{Plan}
 use Rattle.nr_ids.specs.Groups.{IsWayOf, group_at, group_of, group_of_way, places, second_of, way_at, way_in}
-use Rattle.nr_ids.specs.Events.{Event, looked, touched, own, looks, name_of, turn_of}
-use Rattle.nr_ids.specs.Events.{turned, mark_bit, IsLegal, IsAbsent, IsOpen, IsClosed}
+use Rattle.nr_ids.specs.Events.{Event, looked, touched, own, looks, name_of, turn_of, turned, mark_bit, IsLegal}
+use Rattle.nr_ids.specs.Events.{IsAbsent, IsOpen, IsClosed}
 use Rattle.nr_ids.specs.Looking.{WasAbsent, LackedName, PassedByClerk, group_for, way_for}
 use Rattle.nr_ids.specs.Answers.{WasOpen}
 use Rattle.nr_ids.specs.Marks.{ChoosesWay, LoadsMarks, TakesMark, TurnsMarks, load_of_marks}
 use Rattle.nr_ids.specs.Tokens.{Opened, Token, Grows, Newest, Within}
-use Rattle.nr_ids.proofs.Logs.{ClearsNothing, exact_names, looks_names}
-use Rattle.nr_ids.proofs.Logs.{named_inside, name_step, new_name, no_name, own_append, quiet_turn, same_name, was_odd}
+use Rattle.nr_ids.proofs.Logs.{ClearsNothing, exact_names, looks_names, named_inside, name_step, new_name, no_name}
+use Rattle.nr_ids.proofs.Logs.{own_append, quiet_turn, same_name, was_odd}
 
 pub grows_none : (old : Token) → IsLegal old.directory.plan old.seen → Grows [] old old
 grows_none old legal =
@@ -56,21 +56,20 @@ pub grows_next : (last : ℕ → List Event) (old mid new : Token) (first : List
 grows_next last old mid new first a b = subst (λ (by : ℕ). Grows (last by ++ first) old new) a.number
     (grows_on old mid new first (last mid.number) a b)
 
--- one look more
-pub looks_on : (old mid new : Token) (count : ℕ) → Grows (looks count old.number) old mid
-    → Grows (looked mid.number ∷ []) mid new → Grows (looks (count + 1) old.number) old new
-looks_on old mid new count a b = let more : suc count ≡ count + 1 = omega arith in
-    subst (λ (k : ℕ). Grows (looks k old.number) old new) more
-    (grows_next (λ by. looked by ∷ []) old mid new (looks count old.number) a b)
+-- what holds below a number and at it holds below the next
+pub up_to : (P : ℕ → Type 0) (count : ℕ) → ((at : ℕ) → at < count → P at) → P count → (at : ℕ) → at < suc count → P at
+up_to P count below here at near = dite (ℕ_discrete at count)
+    (λ (e : at ≡ count). subst P (sym e) here)
+    (λ ne. below at (omega (arith, near, ne)))
 
 cons_not_nil : (a : List Event) (x : Event) (b : List Event) → a ++ x ∷ b ≢ []
 cons_not_nil [] x b e = absurd (cc (e))
 cons_not_nil (y ∷ a) x b e = absurd (cc (e))
 
 -- a moment after a step of the call's
-pub within_between : (old mid new : Token) (act : Event) (acts since later moment : List Event)
+pub within_between : {old mid new : Token} {act : Event} {acts moment : List Event} (since later : List Event)
     → Grows (act ∷ acts) old mid → moment ≡ since ++ mid.seen → new.seen ≡ later ++ moment → Within old new moment
-within_between old mid new act acts since later moment grows from until = record {
+within_between {old = old} {act = act} {acts = acts} since later grows from until = record {
   since = since ++ grows.rest;
   from = from ∙ ap (λ (l : List Event). since ++ l) grows.seen ∙ sym (append_assoc since grows.rest old.seen);
   begun = λ none. cons_not_nil (own old.number since) act acts
@@ -78,16 +77,6 @@ within_between old mid new act acts since later moment grows from until = record
       ∙ sym (own_append old.number since grows.rest) ∙ none);
   later = later;
   until = until;
-}
-
-pub within_on : (old mid new : Token) (moment rest : List Event) → Within old mid moment → new.seen ≡ rest ++ mid.seen
-    → Within old new moment
-within_on old mid new moment rest within is = record {
-  since = within.since;
-  from = within.from;
-  begun = within.begun;
-  later = rest ++ within.later;
-  until = is ∙ ap (λ (l : List Event). rest ++ l) within.until ∙ sym (append_assoc rest within.later moment);
 }
 
 -- where a turn that was even has changed, a claim was open within the call
@@ -101,7 +90,7 @@ was_open id old mid new rest grows is closed changed =
     (λ same. changed (ap (λ (l : List Event). turn_of old.directory.plan l (group_for old id)) is ∙ same)) in
     record {
       moment = odd.0;
-      within = within_between old mid new _ _ odd.2 odd.1 odd.0 grows odd.4 (is ∙ odd.3);
+      within = within_between odd.2 odd.1 grows odd.4 (is ∙ odd.3);
       is_open = odd.5;
     }
 
@@ -115,10 +104,7 @@ module _ (plan : Plan) (id : ℕ) (real : 0 < id) where
       (λ (t : (i : ℕ) × (i < count) × (name_of log (way_at plan id i) ≡ id)). inl (t.0, omega (arith, t.1), t.2))
       (λ (t : (i : ℕ) → i < count → name_of log (way_at plan id i) ≢ id). dite
       (ℕ_discrete (name_of log (way_at plan id count)) id) (λ e. inl (count, omega arith, e))
-      (λ ne. inr
-      (λ i below. dite (ℕ_discrete i count)
-      (λ (e : i ≡ count). λ h. ne (ap (λ (k : ℕ). name_of log (way_at plan id k)) (sym e) ∙ h))
-      (λ other. t i (omega arith)))))
+      (λ ne. inr (up_to (λ i. name_of log (way_at plan id i) ≢ id) count t ne)))
       (search_ways log count)
 
   pub none_has : (log : List Event) → IsLegal plan log → ((i : ℕ) → i < places → name_of log (way_at plan id i) ≢ id)
@@ -155,9 +141,9 @@ ends_none [] b e = (refl, e)
 ends_none (x ∷ a) b e = absurd (cc (e))
 
 -- a moment of a call's later steps is one of the call
-pub within_since : (old mid new : Token) (acts moment : List Event) → Grows acts old mid → Within mid new moment
+pub within_since : {old mid new : Token} {acts moment : List Event} → Grows acts old mid → Within mid new moment
     → Within old new moment
-within_since old mid new acts moment grows within = record {
+within_since {old = old} {mid = mid} grows within = record {
   since = within.since ++ grows.rest;
   from =
       within.from ∙ ap (λ (l : List Event). within.since ++ l) grows.seen
@@ -225,19 +211,25 @@ clerk_turn old acts new group clerk grows quiet odd =
 
 pub clerk_on : (way : ℕ → ℕ) (name : ℕ) (old mid new : Token) (count : ℕ) → mid.number ≡ old.number
     → Grows (looked mid.number ∷ []) mid new → name_of new.seen (way count) ≢ name
-    → PassedByClerk way name old count mid → PassedByClerk way name old (count + 1) new
-clerk_on way name old mid new count same look other passed clerk at below = dite (ℕ_discrete at count)
-    (λ (e : at ≡ count). λ has. other (ap (λ (k : ℕ). name_of new.seen (way k)) (sym e) ∙ has))
-    (λ ne.
-    λ has. passed clerk at (omega arith)
+    → PassedByClerk way name old count mid → PassedByClerk way name old (suc count) new
+clerk_on way name old mid new count same look other passed clerk =
+    up_to (λ at. name_of new.seen (way at) ≢ name) count
+    (λ at near has. passed clerk at near
     (sym (clerk_looks mid 1 mid.number new (way at) (same ∙ clerk) look) ∙ has))
+    other
 
 -- what a name was not at a moment of a call it was not at a moment of a longer one
-pub lacked_later : (way id : ℕ) (old mid new : Token) (rest : List Event) → new.seen ≡ rest ++ mid.seen
+pub lacked_later : {way id : ℕ} {old mid new : Token} (rest : List Event) → new.seen ≡ rest ++ mid.seen
     → LackedName way id old mid → LackedName way id old new
-lacked_later way id old mid new rest is name = record {
+lacked_later rest is name = let within = name.within in record {
   moment = name.moment;
-  within = within_on old mid new name.moment rest name.within is;
+  within = record {
+    since = within.since;
+    from = within.from;
+    begun = within.begun;
+    later = rest ++ within.later;
+    until = is ∙ ap (λ (l : List Event). rest ++ l) within.until ∙ sym (append_assoc rest within.later name.moment);
+  };
   other = name.other;
 }
 
@@ -293,9 +285,9 @@ looks_both count (suc more) by =
     let k : suc (count + more) ≡ count + suc more = omega arith in
     ap (λ (l : List Event). looked by ∷ l) (looks_both count more by) ∙ ap (λ (n : ℕ). looks n by) k
 
-pub looks_after : (old mid new : Token) (count more : ℕ) → Grows (looks count old.number) old mid
+pub looks_after : {old mid new : Token} (count more : ℕ) → Grows (looks count old.number) old mid
     → Grows (looks more mid.number) mid new → Grows (looks (count + more) old.number) old new
-looks_after old mid new count more a b =
+looks_after {old = old} {mid = mid} {new = new} count more a b =
     subst (λ (l : List Event). Grows l old new)
     (looks_both count more old.number) (grows_next (looks more) old mid new (looks count old.number) a b)
 

@@ -1,13 +1,12 @@
 -- Hints: the clerk alone writes them, and a way that has an id's name has the id's hint.
-use Rattle.std.proofs.Common.{◌≡◌, ◌≢◌, ℕ, ◌+◌, ◌*◌, ◌/◌, ◌%◌, ◌<◌, ◌==◌, cond, List, [], ◌∷◌, ◌++◌}
-use Rattle.std.proofs.Common.{refl, sym, ap, ◌∙◌, arith}
+use Rattle.std.proofs.Common.{◌≡◌, ◌≢◌, ℕ, ◌+◌, ◌*◌, ◌/◌, ◌%◌, ◌<◌, ◌==◌, cond, List, [], ◌∷◌, ◌++◌, refl, sym, ap, ◌∙◌}
+use Rattle.std.proofs.Common.{arith}
 use mathlib.Core.Logic.{dite}
 use native.Mathlib.Decide.{ℕ_discrete}
 use Rattle.nr_ids.specs.declared.plan.Plan.{Plan}
 use Rattle.nr_ids.specs.Groups.{group_of_way, hint_of, way_in}
-use Rattle.nr_ids.specs.Events.{Event, Touch, named, unnamed, cleared, claimed, looked, touched, hinted, loaded, marked}
-use Rattle.nr_ids.specs.Events.{turned}
-use Rattle.nr_ids.specs.Events.{own, hint_at, hint_in, hints_after, hints_of, name_of, IsLegal, MayTouch}
+use Rattle.nr_ids.specs.Events.{Event, Touch, named, unnamed, touched, hinted, own, hint_at, hint_in, hints_after}
+use Rattle.nr_ids.specs.Events.{hints_of, name_of, IsLegal, MayTouch, maker}
 use Rattle.nr_ids.specs.Laws.{HintsTell}
 use Rattle.nr_ids.proofs.Logs.{cond_same, cond_else, with_or_without}
 
@@ -15,13 +14,6 @@ use Rattle.nr_ids.proofs.Logs.{cond_same, cond_else, with_or_without}
 pub exact_hints : (plan : Plan) (rest seen : List Event) (group : ℕ) → IsLegal plan (rest ++ seen)
     → hints_of (rest ++ seen) group ≡ hints_of (own 0 rest ++ seen) group
 exact_hints plan [] seen group legal = refl
-exact_hints plan (named way id ∷ rest) seen group legal = exact_hints plan rest seen group legal.1
-exact_hints plan (unnamed way ∷ rest) seen group legal = exact_hints plan rest seen group legal.1
-exact_hints plan (cleared other ∷ rest) seen group legal = exact_hints plan rest seen group legal.1
-exact_hints plan (claimed by id ∷ rest) seen group legal = exact_hints plan rest seen group legal.1
-    ∙ with_or_without (λ l. hints_of l group) (claimed by id) (own 0 rest) seen (by == 0) refl
-exact_hints plan (looked by ∷ rest) seen group legal = exact_hints plan rest seen group legal.1
-    ∙ with_or_without (λ l. hints_of l group) (looked by) (own 0 rest) seen (by == 0) refl
 exact_hints plan (touched by touch ∷ rest) seen group legal =
     by_touch touch legal.0 (exact_hints plan rest seen group legal.1)
   where
@@ -29,16 +21,14 @@ exact_hints plan (touched by touch ∷ rest) seen group legal =
         → hints_of (rest ++ seen) group ≡ hints_of (own 0 rest ++ seen) group
         → hints_after t group (hints_of (rest ++ seen) group)
         ≡ hints_of (cond (by == 0) (touched by t ∷ own 0 rest) (own 0 rest) ++ seen) group
-    by_touch (loaded place) may was = was
-        ∙ with_or_without (λ l. hints_of l group) (touched by (loaded place)) (own 0 rest) seen (by == 0) refl
-    by_touch (marked way) may was = was
-        ∙ with_or_without (λ l. hints_of l group) (touched by (marked way)) (own 0 rest) seen (by == 0) refl
-    by_touch (turned other bits) may was = was
-        ∙ with_or_without (λ l. hints_of l group) (touched by (turned other bits)) (own 0 rest) seen (by == 0) refl
     by_touch (hinted other hints) may was =
         ap (λ (n : ℕ). cond (other == group) hints n) was
         ∙ ap (λ (l : List Event). hints_of (l ++ seen) group)
         (sym (cond_same (touched by (hinted other hints) ∷ own 0 rest) (own 0 rest) by 0 may.0))
+    by_touch t may was =
+        was ∙ with_or_without (λ l. hints_of l group) (touched by t) (own 0 rest) seen (by == 0) refl
+exact_hints plan (event ∷ rest) seen group legal = exact_hints plan rest seen group legal.1
+    ∙ with_or_without (λ l. hints_of l group) event (own 0 rest) seen (maker event == 0) refl
 
 pub quiet_hints : (plan : Plan) (rest seen : List Event) (group : ℕ) → own 0 rest ≡ [] → IsLegal plan (rest ++ seen)
     → hints_of (rest ++ seen) group ≡ hints_of seen group
@@ -61,17 +51,11 @@ own_hint plan (unnamed other ∷ log) way id legal real at = dite (ℕ_discrete 
     (λ (e : other ≡ way).
     let none : 0 ≡ id = sym (cond_same 0 (name_of log way) other way e) ∙ at in absurd (omega arith))
     (λ ne. own_hint plan log way id legal.1 real (sym (cond_else 0 (name_of log way) other way ne) ∙ at))
-own_hint plan (cleared group ∷ log) way id legal real at = own_hint plan log way id legal.1 real at
-own_hint plan (claimed by i ∷ log) way id legal real at = own_hint plan log way id legal.1 real at
-own_hint plan (looked by ∷ log) way id legal real at = own_hint plan log way id legal.1 real at
 own_hint plan (touched by touch ∷ log) way id legal real at =
     by_touch touch legal.0 (own_hint plan log way id legal.1 real at)
   where
     by_touch : (t : Touch) → MayTouch plan log by t → hint_in log way ≡ hint_of plan id
         → hint_at (hints_after t (group_of_way way) (hints_of log (group_of_way way))) (way % 8) ≡ hint_of plan id
-    by_touch (loaded place) may was = was
-    by_touch (marked other) may was = was
-    by_touch (turned group bits) may was = was
     by_touch (hinted group hints) may was = dite (ℕ_discrete group (group_of_way way))
         (λ (e : group ≡ group_of_way way).
         let here : way_in group (way % 8) ≡ way = omega (arith, e) in
@@ -84,6 +68,8 @@ own_hint plan (touched by touch ∷ log) way id legal real at =
         ap (λ (n : ℕ). hint_at n (way % 8))
         (cond_else hints (hints_of log (group_of_way way)) group (group_of_way way) ne)
         ∙ was)
+    by_touch t may was = was
+own_hint plan (event ∷ log) way id legal real at = own_hint plan log way id legal.1 real at
 
 pub hints_tell : HintsTell
 hints_tell plan log way id legal real at = (own_hint plan log way id legal real at, hint_real plan id)

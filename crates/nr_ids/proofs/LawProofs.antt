@@ -5,13 +5,12 @@ use mathlib.Core.Logic.{dite}
 use native.Mathlib.Decide.{ℕ_discrete}
 use Rattle.nr_ids.specs.declared.plan.Plan.{Plan}
 use Rattle.nr_ids.specs.Groups.{group_of}
-use Rattle.nr_ids.specs.Events.{Event, named, unnamed, cleared, claimed, looked, touched, name_of, turn_of}
-use Rattle.nr_ids.specs.Events.{IsLegal, IsOpen}
+use Rattle.nr_ids.specs.Events.{Event, named, unnamed, cleared, claimed, name_of, turn_of, IsLegal, IsOpen}
 use Rattle.nr_ids.specs.Laws.{OneClaim, OneNaming, TurnCounts, FindsWhatItHeard, FindsWhatItKnew, Has, claims, closings}
 use Rattle.nr_ids.specs.Answers.{LooksUp}
 use Rattle.nr_ids.specs.Tokens.{Token, Within}
-use Rattle.nr_ids.proofs.Logs.{cond_same, cond_else, legal_end, named_inside, name_step, one_way, turn_step}
-use Rattle.nr_ids.proofs.Logs.{closes, new_name, no_name, opens, same_name, same_turn}
+use Rattle.nr_ids.proofs.Logs.{cond_same, cond_else, legal_end, named_inside, name_step, one_way, turn_step, closes}
+use Rattle.nr_ids.proofs.Logs.{new_name, no_name, opens, same_name, same_turn}
 use Rattle.nr_ids.proofs.Through.{looks_in_both, looks_up, looks_up_to}
 
 has_on : (event first : Event) (rest : List Event) → Has event rest → Has event (first ∷ rest)
@@ -62,8 +61,6 @@ one_naming plan rest log way first id legal = let before = legal_end plan rest (
 
 pub turn_counts : TurnCounts
 turn_counts plan [] group = refl
-turn_counts plan (named way id ∷ log) group = turn_counts plan log group
-turn_counts plan (unnamed way ∷ log) group = turn_counts plan log group
 turn_counts plan (cleared of ∷ log) group = let turn : ℕ = turn_of plan log group in
     let before = turn_counts plan log group in let closed : ℕ = closings group log in dite (ℕ_discrete of group)
     (λ (e : of ≡ group).
@@ -75,8 +72,7 @@ turn_counts plan (claimed by id ∷ log) group = let turn : ℕ = turn_of plan l
     (λ (e : group_of plan id ≡ group).
     omega (arith, before, cond_same (turn + 1) turn of group e, cond_same (granted + 1) granted of group e))
     (λ ne. omega (arith, before, cond_else (turn + 1) turn of group ne, cond_else (granted + 1) granted of group ne))
-turn_counts plan (looked by ∷ log) group = turn_counts plan log group
-turn_counts plan (touched by touch ∷ log) group = turn_counts plan log group
+turn_counts plan (event ∷ log) group = turn_counts plan log group
 
 has_before : (event : Event) (later since : List Event) → Has event since → Has event (later ++ since)
 has_before event [] since has = has

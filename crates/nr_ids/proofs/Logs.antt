@@ -1,13 +1,13 @@
 -- What legal events leave: an id has at most one way, turns never fall, and while a turn is even and the same no id of
 -- its group gets a way.
-use Rattle.std.proofs.Common.{◌≡◌, ◌≢◌, ℕ, zero, suc, ◌+◌, ◌%◌, ◌<◌, ◌≤◌, Bool, true, false}
-use Rattle.std.proofs.Common.{◌==◌, cond, eq-eqb, ne_eqb, List, [], ◌∷◌, ◌++◌, refl, sym, ap, ◌∙◌, subst, arith}
+use Rattle.std.proofs.Common.{◌≡◌, ◌≢◌, ℕ, zero, suc, ◌+◌, ◌%◌, ◌<◌, ◌≤◌, Bool, true, false, ◌==◌, cond, eq-eqb, ne_eqb}
+use Rattle.std.proofs.Common.{List, [], ◌∷◌, ◌++◌, refl, sym, ap, ◌∙◌, subst, arith}
 use mathlib.Core.Logic.{dite}
 use native.Mathlib.Decide.{ℕ_discrete}
 use Rattle.nr_ids.specs.declared.plan.Plan.{Plan}
 use Rattle.nr_ids.specs.Groups.{IsWayOf, group_of, ways}
-use Rattle.nr_ids.specs.Events.{Event, named, unnamed, cleared, claimed, looked, touched, maker, own, looks, name_of}
-use Rattle.nr_ids.specs.Events.{turn_of, May, MayName, IsLegal, IsOpen, IsClosed, last_turn}
+use Rattle.nr_ids.specs.Events.{Event, named, unnamed, cleared, claimed, maker, own, looks, name_of, turn_of, May}
+use Rattle.nr_ids.specs.Events.{MayName, IsLegal, IsOpen, IsClosed, last_turn}
 
 module _ {A : Type 0} (x y : A) where
   pub cond_same : (a b : ℕ) → a ≡ b → cond (a == b) x y ≡ x
@@ -50,13 +50,8 @@ pub exact_names : (rest seen : List Event) (way : ℕ) → name_of (rest ++ seen
 exact_names [] seen way = refl
 exact_names (named other id ∷ rest) seen way = ap (λ (n : ℕ). cond (other == way) id n) (exact_names rest seen way)
 exact_names (unnamed other ∷ rest) seen way = ap (λ (n : ℕ). cond (other == way) 0 n) (exact_names rest seen way)
-exact_names (cleared group ∷ rest) seen way = exact_names rest seen way
-exact_names (claimed by id ∷ rest) seen way = exact_names rest seen way
-    ∙ with_or_without (λ l. name_of l way) (claimed by id) (own 0 rest) seen (by == 0) refl
-exact_names (looked by ∷ rest) seen way = exact_names rest seen way
-    ∙ with_or_without (λ l. name_of l way) (looked by) (own 0 rest) seen (by == 0) refl
-exact_names (touched by touch ∷ rest) seen way = exact_names rest seen way
-    ∙ with_or_without (λ l. name_of l way) (touched by touch) (own 0 rest) seen (by == 0) refl
+exact_names (event ∷ rest) seen way = exact_names rest seen way
+    ∙ with_or_without (λ l. name_of l way) event (own 0 rest) seen (maker event == 0) refl
 
 pub quiet_names : (rest seen : List Event) (way : ℕ) → own 0 rest ≡ [] → name_of (rest ++ seen) way ≡ name_of seen way
 quiet_names rest seen way quiet = exact_names rest seen way ∙ ap (λ (l : List Event). name_of (l ++ seen) way) quiet
@@ -68,12 +63,8 @@ looks_names (suc count) by seen way = looks_names count by seen way
 
 -- none of these is a clearing
 abbrev pub IsNoClearing : Event → Type 0
-IsNoClearing (named way id) = Unit {0}
-IsNoClearing (unnamed way) = Unit {0}
 IsNoClearing (cleared group) = ⊥
-IsNoClearing (claimed by id) = Unit {0}
-IsNoClearing (looked by) = Unit {0}
-IsNoClearing (touched by touch) = Unit {0}
+IsNoClearing _ = Unit {0}
 
 abbrev pub ClearsNothing : List Event → Type 0
 ClearsNothing [] = Unit {0}
@@ -117,14 +108,9 @@ module _ (plan : Plan) where
   name_step (unnamed other) log way may = dite (ℕ_discrete other way)
       (λ (e : other ≡ way). no_name (ap unnamed e) (cond_same 0 (name_of log way) other way e))
       (λ ne. same_name (cond_else 0 (name_of log way) other way ne))
-  name_step (cleared group) log way may = same_name refl
-  name_step (claimed by id) log way may = same_name refl
-  name_step (looked by) log way may = same_name refl
-  name_step (touched by touch) log way may = same_name refl
+  name_step event log way may = same_name refl
 
   pub turn_step : (event : Event) (log : List Event) (group : ℕ) → TurnStep plan log group event
-  turn_step (named way id) log group = same_turn refl
-  turn_step (unnamed way) log group = same_turn refl
   turn_step (cleared of) log group = dite (ℕ_discrete of group)
       (λ (e : of ≡ group). closes (ap cleared e) (λ may. ap (λ (k : ℕ). turn_of plan log k % 2) (sym e) ∙ may.1)
       (cond_same (turn_of plan log group + 1) (turn_of plan log group) of group e))
@@ -137,8 +123,7 @@ module _ (plan : Plan) where
       ))
       (cond_same (turn_of plan log group + 1) (turn_of plan log group) (group_of plan id) group e))
       (λ ne. same_turn (cond_else (turn_of plan log group + 1) (turn_of plan log group) (group_of plan id) group ne))
-  turn_step (looked by) log group = same_turn refl
-  turn_step (touched by touch) log group = same_turn refl
+  turn_step event log group = same_turn refl
 
   -- a name stands at a place of its id
   pub named_inside : (log : List Event) (way id : ℕ) → IsLegal plan log → 0 < id → name_of log way ≡ id

@@ -1,6 +1,6 @@
 -- Use bits: what an or and an exclusive or make of them, and that a set one stays until the clerk turns it over.
-use Rattle.std.proofs.Common.{◌≡◌, ◌≢◌, ℕ, zero, suc, ◌+◌, ◌*◌, ◌/◌, ◌%◌, ◌^◌, ◌<◌, ◌≤◌, ◌⊎◌}
-use Rattle.std.proofs.Common.{zero-mul, List, [], ◌∷◌, ◌++◌, sym, ap, ◌∙◌, subst, arith, bit_and, bit_or, bit_xor}
+use Rattle.std.proofs.Common.{◌≡◌, ◌≢◌, ℕ, zero, suc, ◌+◌, ◌*◌, ◌/◌, ◌%◌, ◌^◌, ◌<◌, ◌≤◌, ◌⊎◌, zero-mul, List, [], ◌∷◌}
+use Rattle.std.proofs.Common.{◌++◌, sym, ap, ◌∙◌, subst, arith, bit_and, bit_or, bit_xor}
 use mathlib.Core.Logic.{dite}
 use native.Mathlib.Decide.{ℕ_discrete}
 use Rattle.std.specs.Int.{bit_at}
@@ -10,10 +10,8 @@ use Rattle.std.proofs.lemmas.Nat.{pow_below, pow_pos}
 use Rattle.std.proofs.Math.Nat.{mod-eq_of_lt}
 use Rattle.nr_ids.specs.declared.plan.Plan.{Plan}
 use Rattle.nr_ids.specs.Groups.{group_of_way}
-use Rattle.nr_ids.specs.Events.{Event, Touch, named, unnamed, cleared, claimed, looked, touched, hinted, loaded, marked}
-use Rattle.nr_ids.specs.Events.{turned}
-use Rattle.nr_ids.specs.Events.{maker, own, mark_bit, marks_after, marks_of, AreMarked, HasMark, IsLegal, IsMarked, May}
-use Rattle.nr_ids.specs.Events.{MayTouch}
+use Rattle.nr_ids.specs.Events.{Event, Touch, touched, marked, turned, maker, own, mark_bit, marks_after, marks_of}
+use Rattle.nr_ids.specs.Events.{AreMarked, HasMark, IsLegal, IsMarked, May, MayTouch}
 use Rattle.nr_ids.specs.Marks.{ChoosesPlace, begin_of, bits_from, place_after}
 use Rattle.nr_ids.proofs.Logs.{cond_same, cond_else, own_none}
 
@@ -66,7 +64,6 @@ quiet_mark plan (event ∷ rest) log group place quiet legal set =
     by_touch : (by : ℕ) (touch : Touch) → by ≢ 0 → MayTouch plan (rest ++ log) by touch
         → HasMark (marks_of (rest ++ log) group) place
         → HasMark (marks_after touch group (marks_of (rest ++ log) group)) place
-    by_touch by (loaded at) other may here = here
     by_touch by (marked way) other may here = let marks = marks_of (rest ++ log) group in
         dite (ℕ_discrete (group_of_way way) group)
         (λ (e : group_of_way way ≡ group).
@@ -75,16 +72,12 @@ quiet_mark plan (event ∷ rest) log group place quiet legal set =
         (λ ne. subst (λ (n : ℕ). HasMark n place)
         (sym (cond_else (bit_or marks (mark_bit way)) marks (way / 8) group ne)) here)
     by_touch by (turned of bits) other may here = absurd (other may.0)
-    by_touch by (hinted of hints) other may here = here
+    by_touch by touch other may here = here
 
     on : (e : Event) → maker e ≢ 0 → May plan (rest ++ log) e → HasMark (marks_of (rest ++ log) group) place
         → HasMark (marks_of (e ∷ rest ++ log) group) place
-    on (named way id) other may here = here
-    on (unnamed way) other may here = here
-    on (cleared of) other may here = here
-    on (claimed by id) other may here = here
-    on (looked by) other may here = here
     on (touched by touch) other may here = by_touch by touch other may here
+    on e other may here = here
 
 -- the bits that a choice turns over among the use bits are those of the places that it passed
 pub bits_from_only : (begin count place : ℕ) → bit_at (bits_from begin count) place ≡ 1
@@ -135,13 +128,6 @@ bits_on marks passed step is =
     let more : suc step ≡ step + 1 = omega arith in
     ap (bit_or passed) (shifted (place_after (begin_of marks) step) (omega arith))
     ∙ ap (λ (n : ℕ). bit_or n (2 ^ place_after (begin_of marks) step)) is ∙ ap (bits_from (begin_of marks)) more
-
-pub marked_on : (marks count : ℕ) → ((step : ℕ) → step < count → HasMark marks (place_after (begin_of marks) step))
-    → HasMark marks (place_after (begin_of marks) count)
-    → (step : ℕ) → step < count + 1 → HasMark marks (place_after (begin_of marks) step)
-marked_on marks count were is step near = dite (ℕ_discrete step count)
-    (λ (e : step ≡ count). subst (λ (k : ℕ). HasMark marks (place_after (begin_of marks) k)) (sym e) is)
-    (λ ne. were step (omega (arith, near, ne)))
 
 pub chosen_so : (marks place passed moved count : ℕ) → count ≤ 8 → place ≡ place_after (begin_of marks) count
     → ((step : ℕ) → step < count → HasMark marks (place_after (begin_of marks) step))

@@ -1,7 +1,6 @@
 -- Each step of a seat on the table may be made, and what it tells is what the seat's token gains.
 use Rattle.std.proofs.Common.{◌≡◌, ℕ, zero, suc, ◌+◌, ◌/◌, ◌%◌, ◌<◌, ◌==◌, cond, List, [], ◌∷◌, ◌++◌, length, get_or}
-use Rattle.std.proofs.Common.{set}
-use Rattle.std.proofs.Common.{refl, sym, ap, ◌∙◌, subst, arith, bit_or, bit_xor}
+use Rattle.std.proofs.Common.{set, refl, sym, ap, ◌∙◌, subst, arith, bit_or, bit_xor}
 use mathlib.Core.Option.{some, none, some-injective, some-ne-none}
 use lib.ListN.{get_elem?}
 use lib.Seq.{set-get_or}
@@ -15,14 +14,12 @@ use Rattle.atomic_table.proofs.Lists.{exchanged}
 use Rattle.nr_ids.specs.declared.plan.Plan.{Plan}
 use Rattle.nr_ids.specs.Groups.{group_of, group_of_way, places, way_in, ways, IsPlan}
 use Rattle.nr_ids.specs.Events.{Event, named, unnamed, cleared, claimed, looked, touched, hinted, loaded, marked}
-use Rattle.nr_ids.specs.Events.{turned}
-use Rattle.nr_ids.specs.Events.{maker, own, hint_at, hints_of, mark_bit, marks_of, name_of, turn_of, last_turn}
-use Rattle.nr_ids.specs.Events.{AreMarked, HasMark, KeepsHints, May, MayName}
-use Rattle.nr_ids.specs.Events.{MayClaim, IsLegal, IsOpen}
+use Rattle.nr_ids.specs.Events.{turned, maker, own, hint_at, hints_of, mark_bit, marks_of, name_of, turn_of, last_turn}
+use Rattle.nr_ids.specs.Events.{AreMarked, HasMark, KeepsHints, May, MayName, MayClaim, IsLegal, IsOpen}
 use Rattle.nr_ids.specs.Rule.{View, Shows, Fits, Kept, opener, counted, hints_place, marks_place, turn_place, total}
 use Rattle.nr_ids.specs.Plays.{Goes, has_looked_at_hints, has_looked_at_name, has_looked_at_turn, has_claimed}
-use Rattle.nr_ids.specs.Plays.{has_loaded}
-use Rattle.nr_ids.specs.Plays.{has_marked, has_named, has_unnamed, has_cleared, has_turned, has_hinted}
+use Rattle.nr_ids.specs.Plays.{has_loaded, has_marked, has_named, has_unnamed, has_cleared, has_turned, has_hinted}
+use Rattle.nr_ids.specs.Plays.{Then}
 use Rattle.nr_ids.specs.Scans.{Scanned}
 use Rattle.nr_ids.specs.Tokens.{Opened, Sits, Grows, WinsClaim, token}
 use Rattle.nr_ids.proofs.Logs.{ClearsNothing, own_this, quiet_names, quiet_turn}
@@ -53,9 +50,6 @@ stands table key plan now is about = let plan_is : plan ≡ now.plan = ap (λ (d
 
 module _ (table : TableId) (key : Plan) (now : Opened) (about : Stands table key now) (seat : Caller)
     (sits : Sits now seat) where
-  view : View
-  view = seat.me.0
-
   pub plan_is : seat.me.0.plan ≡ key
   plan_is = ap (λ (d : Opened). d.plan) sits.own ∙ sym about.key_is
 
@@ -81,14 +75,22 @@ module _ (table : TableId) (key : Plan) (now : Opened) (about : Stands table key
   does event state kept at by words shows may =
       moves key state kept seat.id seat.me.0 (after kept.log event) at event words sits.calls by shows may refl
 
-  -- a step of the seat's makes of its word f of what it was, where the event of it may happen
+  -- the seat may make of the word at that place f of what it was, and then this holds
+  abbrev pub Permits : ℕ → (ℕ → ℕ) → (ℕ → Me ℕ View → Type 0) → Type 0
+  Permits place f then =
+      (seat.table_id ≡ table) × (place < table.words) × Allows (Kept key) table.slots seat.id seat.me place f then
+
+  abbrev pub says : Then → ℕ → ℕ → ℕ → Me ℕ View → Type 0
+  says play place first = play (step table.slots place first 0 none) seat.me
+
+  -- where the event of it may happen
   steps : (event : Event) (place : ℕ) (f : ℕ → ℕ) (then : ℕ → Me ℕ View → Type 0) → place < total now.plan
       → maker event ≡ seat.me.0.number
       → ((state : State ℕ View) (kept : Kept key state) → get_elem? state.views seat.id ≡ some seat.me.0
       → May key kept.log event × Shows key (set state.words place (f (get_or state.words place 0))) (event ∷ kept.log)
       × (Goes event seat.me.0 (after kept.log event)
       → then (get_or state.words place 0) (after kept.log event, seat.me.1)))
-      → (seat.table_id ≡ table) × (place < table.words) × Allows (Kept key) table.slots seat.id seat.me place f then
+      → Permits place f then
   steps event place f then low by may = (
     own_table,
     subst (λ (n : ℕ). place < n) (sym about.wide) low,
@@ -111,15 +113,13 @@ module _ (table : TableId) (key : Plan) (now : Opened) (about : Stands table key
   same_words : (event : Event) (state : State ℕ View) (kept : Kept key state) (place : ℕ) → IsQuiet event
       → Shows key (set state.words place (get_or state.words place 0)) (event ∷ kept.log)
   same_words event state kept place quiet = let it = quiet state kept in
-      subst (λ (words : List ℕ). Shows key words (event ∷ kept.log)) (sym (set-get_or state.words place 0))
-      (shows_same key state.words kept.log kept.shows event it.1 it.2 it.3 it.4)
+      rw set-get_or (shows_same key state.words kept.log kept.shows event it.1 it.2 it.3 it.4)
 
   reads : (event : Event) (place : ℕ) (then : ℕ → Me ℕ View → Type 0) → place < total now.plan
       → maker event ≡ seat.me.0.number → IsQuiet event
       → ((state : State ℕ View) (kept : Kept key state) → Goes event seat.me.0 (after kept.log event)
       → then (get_or state.words place 0) (after kept.log event, seat.me.1))
-      → (seat.table_id ≡ table) × (place < table.words)
-      × Allows (Kept key) table.slots seat.id seat.me place (λ n. n) then
+      → Permits place (λ n. n) then
   reads event place then low by quiet tells = steps event place (λ n. n) then low by
       (λ state kept at. ((quiet state kept).0, same_words event state kept place quiet, tells state kept))
 
@@ -135,19 +135,14 @@ module _ (table : TableId) (key : Plan) (now : Opened) (about : Stands table key
   own_groups : seat.me.0.plan.groups ≡ now.plan.groups
   own_groups = ap (λ (d : Opened). d.plan.groups) sits.own
 
-  pub looks_at_name : (way : ℕ) → way < ways now.plan → (seat.table_id ≡ table) × (way < table.words)
-      × Allows (Kept key) table.slots seat.id seat.me way (λ n. n)
-      (has_looked_at_name (step table.slots way 0 0 none) seat.me)
-  looks_at_name way low =
-      reads look way (has_looked_at_name (step table.slots way 0 0 none) seat.me) (omega arith) refl look_is_quiet
+  pub looks_at_name : (way : ℕ) → way < ways now.plan
+      → Permits way (λ n. n) (says has_looked_at_name way 0)
+  looks_at_name way low = reads look way (says has_looked_at_name way 0) (omega arith) refl look_is_quiet
       (λ state kept goes. (goes, kept.shows.names way (omega (arith, low, groups))))
 
   pub looks_at_turn : (group place : ℕ) → group < now.plan.groups → place ≡ turn_place now.plan group
-      → (seat.table_id ≡ table) × (place < table.words)
-      × Allows (Kept key) table.slots seat.id seat.me place (λ n. n)
-      (has_looked_at_turn (step table.slots place 0 0 none) seat.me)
-  looks_at_turn group place low is =
-      reads look place (has_looked_at_turn (step table.slots place 0 0 none) seat.me) (omega arith) refl look_is_quiet
+      → Permits place (λ n. n) (says has_looked_at_turn place 0)
+  looks_at_turn group place low is = reads look place (says has_looked_at_turn place 0) (omega arith) refl look_is_quiet
       (λ state kept goes. (
         goes,
         λ other at_place. let there : place ≡ turn_place key other = omega (arith, at_place, groups, own_groups) in
@@ -157,11 +152,9 @@ module _ (table : TableId) (key : Plan) (now : Opened) (about : Stands table key
       ))
 
   pub looks_at_hints : (group place : ℕ) → group < now.plan.groups → place ≡ hints_place now.plan group
-      → (seat.table_id ≡ table) × (place < table.words)
-      × Allows (Kept key) table.slots seat.id seat.me place (λ n. n)
-      (has_looked_at_hints (step table.slots place 0 0 none) seat.me)
+      → Permits place (λ n. n) (says has_looked_at_hints place 0)
   looks_at_hints group place low is =
-      reads look place (has_looked_at_hints (step table.slots place 0 0 none) seat.me) (omega arith) refl look_is_quiet
+      reads look place (says has_looked_at_hints place 0) (omega arith) refl look_is_quiet
       (λ state kept goes. (
         goes,
         λ other at_place. let there : place ≡ hints_place key other = omega (arith, at_place, groups, own_groups) in
@@ -170,12 +163,10 @@ module _ (table : TableId) (key : Plan) (now : Opened) (about : Stands table key
       ))
 
   -- a load of any word, which of a group's marks tells what they are
-  pub loads_word : (place : ℕ) → place < total now.plan → (seat.table_id ≡ table) × (place < table.words)
-      × Allows (Kept key) table.slots seat.id seat.me place (λ n. n)
-      (has_loaded (step table.slots place 0 0 none) seat.me)
-  loads_word place low =
-      reads (touched seat.me.0.number (loaded place)) place (has_loaded (step table.slots place 0 0 none) seat.me) low
-      refl (λ state kept. (tt, λ _. refl, λ _. refl, λ _. refl, λ _. refl))
+  pub loads_word : (place : ℕ) → place < total now.plan
+      → Permits place (λ n. n) (says has_loaded place 0)
+  loads_word place low = reads (touched seat.me.0.number (loaded place)) place (says has_loaded place 0) low refl
+      (λ state kept. (tt, λ _. refl, λ _. refl, λ _. refl, λ _. refl))
       (λ state kept goes. (
         goes,
         λ group near at_place.
@@ -186,25 +177,23 @@ module _ (table : TableId) (key : Plan) (now : Opened) (about : Stands table key
 
   -- a way's use bit is set
   pub marks_way : (way place bit : ℕ) → way < ways now.plan → place ≡ marks_place now.plan (group_of_way way)
-      → bit ≡ mark_bit way → (seat.table_id ≡ table) × (place < table.words)
-      × Allows (Kept key) table.slots seat.id seat.me place (λ n. bit_or n bit)
-      (has_marked (step table.slots place bit 0 none) seat.me)
+      → bit ≡ mark_bit way
+      → Permits place (λ n. bit_or n bit) (says has_marked place bit)
   marks_way way place bit low is bit_is =
       let event = touched seat.me.0.number (marked way) in
       let group : ℕ = way / 8 in
-      let place' : place ≡ marks_place key group = omega (arith, is, groups) in
-      steps event place (λ n. bit_or n bit) (has_marked (step table.slots place bit 0 none) seat.me) (omega arith) refl
+      steps event place (λ n. bit_or n bit) (says has_marked place bit) (omega arith) refl
       (λ state kept at. (
         omega (arith, low, groups),
-        shows_marks key state.words kept.log kept.shows event group place (λ k. bit_or k bit) place'
-            (omega (arith, low, groups)) (λ _. refl) (λ _. refl) (λ _. refl)
+        shows_marks key state.words kept.log kept.shows event group place (λ k. bit_or k bit)
+            (omega (arith, is, groups)) (omega (arith, low, groups)) (λ _. refl) (λ _. refl) (λ _. refl)
             (λ other. ap
             (λ (b : ℕ). cond (group == other) (bit_or (marks_of kept.log other) b) (marks_of kept.log other))
             (sym bit_is)),
         λ goes other at_place other_bit.
-            let same : way ≡ other
-            = same_way way other (omega (arith, at_place, is, groups, own_groups)) (sym bit_is ∙ other_bit) in
-            subst (λ (w : ℕ). Goes (touched seat.me.0.number (marked w)) seat.me.0 (after kept.log event)) same goes,
+            let same : other ≡ way
+            = same_way other way (omega (arith, at_place, is, groups, own_groups)) (sym other_bit ∙ bit_is) in
+            rw same goes,
       ))
 
   -- what the clerk knows, the others leave
@@ -258,27 +247,21 @@ module _ (table : TableId) (key : Plan) (now : Opened) (about : Stands table key
 
   module _ (clerk : seat.me.0.number ≡ 0) where
     pub names_way : (way id : ℕ) → MayName now.plan seat.me.0.seen way id
-        → (seat.table_id ≡ table) × (way < table.words)
-        × Allows (Kept key) table.slots seat.id seat.me way (λ _. id)
-        (λ _. has_named (step table.slots way id 0 none) seat.me id)
+        → Permits way (λ _. id) (λ _. says has_named way id id)
     names_way way id may =
         let low = may.inside in
-        steps (named way id) way (λ _. id) (λ _. has_named (step table.slots way id 0 none) seat.me id) (omega arith)
-        (sym clerk)
+        steps (named way id) way (λ _. id) (λ _. says has_named way id id) (omega arith) (sym clerk)
         (λ state kept at. (
-          may_name clerk state kept at way id
-              (subst (λ (plan : Plan). MayName plan seat.me.0.seen way id) (sym about.key_is) may),
+          may_name clerk state kept at way id (rw about.key_is may),
           shows_name key state.words kept.log kept.shows (named way id) way id (omega (arith, low, groups)) (λ _. refl)
               (λ _. refl) (λ _. refl) (λ _. refl),
           λ goes. goes,
         ))
 
-    pub unnames_way : (way : ℕ) → way < ways now.plan → (seat.table_id ≡ table) × (way < table.words)
-        × Allows (Kept key) table.slots seat.id seat.me way (λ _. 0)
-        (λ _. has_unnamed (step table.slots way 0 0 none) seat.me 0)
+    pub unnames_way : (way : ℕ) → way < ways now.plan
+        → Permits way (λ _. 0) (λ _. says has_unnamed way 0 0)
     unnames_way way low = let near : way < ways key = omega (arith, low, groups) in
-        steps (unnamed way) way (λ _. 0) (λ _. has_unnamed (step table.slots way 0 0 none) seat.me 0) (omega arith)
-        (sym clerk)
+        steps (unnamed way) way (λ _. 0) (λ _. says has_unnamed way 0 0) (omega arith) (sym clerk)
         (λ state kept at. (
           near,
           shows_name key state.words kept.log kept.shows (unnamed way) way 0 near (λ _. refl) (λ _. refl) (λ _. refl)
@@ -287,77 +270,59 @@ module _ (table : TableId) (key : Plan) (now : Opened) (about : Stands table key
         ))
 
     pub clears_group : (group place was : ℕ) → group < now.plan.groups → place ≡ turn_place now.plan group
-        → turn_of now.plan seat.me.0.seen group ≡ was → was % 2 ≡ 1 → (seat.table_id ≡ table) × (place < table.words)
-        × Allows (Kept key) table.slots seat.id seat.me place (λ _. was + 1)
-        (λ _. has_cleared (step table.slots place (was + 1) 0 none) seat.me (was + 1))
+        → turn_of now.plan seat.me.0.seen group ≡ was → was % 2 ≡ 1
+        → Permits place (λ _. was + 1) (λ _. says has_cleared place (was + 1) (was + 1))
     clears_group group place was low is turn odd =
-        let turn' : turn_of key seat.me.0.seen group ≡ was
-        = ap (λ (plan : Plan). turn_of plan seat.me.0.seen group) about.key_is ∙ turn in
-        let place' : place ≡ turn_place key group = omega (arith, is, groups) in
+        let turn' : turn_of key seat.me.0.seen group ≡ was = rw about.key_is turn in
         let near : group < key.groups = omega (arith, low, groups) in
-        steps (cleared group) place (λ _. was + 1)
-        (λ _. has_cleared (step table.slots place (was + 1) 0 none) seat.me (was + 1)) (omega arith) (sym clerk)
+        steps (cleared group) place (λ _. was + 1) (λ _. says has_cleared place (was + 1) (was + 1)) (omega arith)
+        (sym clerk)
         (λ state kept at.
         let here : turn_of key kept.log group ≡ was
         = turn_known clerk state kept at group (ap (λ (k : ℕ). k % 2) turn' ∙ odd) ∙ turn' in (
           (near, ap (λ (k : ℕ). k % 2) here ∙ odd),
-          shows_turn key state.words kept.log kept.shows (cleared group) group place (was + 1) place' near
+          shows_turn key state.words kept.log kept.shows (cleared group) group place (was + 1)
+              (omega (arith, is, groups)) near
               (ap (λ (k : ℕ). k + 1) (sym here)) (λ _. refl) (λ _. refl) (λ _. refl) (λ _. refl),
-          λ goes other at_place.
-              let same : group ≡ other = omega (arith, is, at_place, own_groups) in
-              subst (λ (g : ℕ). Goes (cleared g) seat.me.0 (after kept.log (cleared group))) same goes,
+          λ goes other at_place. let same : other ≡ group = omega (arith, is, at_place, own_groups) in rw same goes,
         ))
 
     pub turns_group : (group place bits : ℕ) → group < now.plan.groups → place ≡ marks_place now.plan group
-        → AreMarked seat.me.0.seen group bits → (seat.table_id ≡ table) × (place < table.words)
-        × Allows (Kept key) table.slots seat.id seat.me place (λ n. bit_xor n bits)
-        (has_turned (step table.slots place bits 0 none) seat.me)
+        → AreMarked seat.me.0.seen group bits
+        → Permits place (λ n. bit_xor n bits) (says has_turned place bits)
     turns_group group place bits low is were =
         let event = touched seat.me.0.number (turned group bits) in
-        let place' : place ≡ marks_place key group = omega (arith, is, groups) in
         let near : group < key.groups = omega (arith, low, groups) in
-        steps event place (λ n. bit_xor n bits) (has_turned (step table.slots place bits 0 none) seat.me) (omega arith)
-        refl
+        steps event place (λ n. bit_xor n bits) (says has_turned place bits) (omega arith) refl
         (λ state kept at. (
           (clerk, near, set_known clerk state kept at group bits were),
-          shows_marks key state.words kept.log kept.shows event group place (λ k. bit_xor k bits) place' near
-              (λ _. refl) (λ _. refl) (λ _. refl) (λ _. refl),
-          λ goes other at_place.
-              let same : group ≡ other = omega (arith, is, at_place, own_groups) in
-              subst (λ (g : ℕ). Goes (touched seat.me.0.number (turned g bits)) seat.me.0 (after kept.log event)) same
-              goes,
+          shows_marks key state.words kept.log kept.shows event group place (λ k. bit_xor k bits)
+              (omega (arith, is, groups)) near (λ _. refl) (λ _. refl) (λ _. refl) (λ _. refl),
+          λ goes other at_place. let same : other ≡ group = omega (arith, is, at_place, own_groups) in rw same goes,
         ))
 
     pub writes_group : (group place hints : ℕ) → group < now.plan.groups → place ≡ hints_place now.plan group
-        → KeepsHints seat.me.0.seen group hints → (seat.table_id ≡ table) × (place < table.words)
-        × Allows (Kept key) table.slots seat.id seat.me place (λ _. hints)
-        (λ _. has_hinted (step table.slots place hints 0 none) seat.me hints)
+        → KeepsHints seat.me.0.seen group hints
+        → Permits place (λ _. hints) (λ _. says has_hinted place hints hints)
     writes_group group place hints low is keeps_them =
         let event = touched seat.me.0.number (hinted group hints) in
-        let place' : place ≡ hints_place key group = omega (arith, is, groups) in
         let near : group < key.groups = omega (arith, low, groups) in
-        steps event place (λ _. hints) (λ _. has_hinted (step table.slots place hints 0 none) seat.me hints)
-        (omega arith) refl
+        steps event place (λ _. hints) (λ _. says has_hinted place hints hints) (omega arith) refl
         (λ state kept at. (
           (clerk, near, kept_known clerk state kept at group hints keeps_them),
-          shows_hints key state.words kept.log kept.shows event group place hints place' near (λ _. refl) (λ _. refl)
-              (λ _. refl) (λ _. refl),
-          λ goes other at_place.
-              let same : group ≡ other = omega (arith, is, at_place, own_groups) in
-              subst (λ (g : ℕ). Goes (touched seat.me.0.number (hinted g hints)) seat.me.0 (after kept.log event)) same
-              goes,
+          shows_hints key state.words kept.log kept.shows event group place hints (omega (arith, is, groups)) near
+              (λ _. refl) (λ _. refl) (λ _. refl) (λ _. refl),
+          λ goes other at_place. let same : other ≡ group = omega (arith, is, at_place, own_groups) in rw same goes,
         ))
 
   pub claims_group : (group place id was : ℕ) → group ≡ group_of now.plan id → group < now.plan.groups
       → place ≡ turn_place now.plan group → 0 < id → was % 2 ≡ 0 → was < last_turn
       → Scanned now.plan seat.me.0.seen id was places
-      → (seat.table_id ≡ table) × (place < table.words)
-      × Allows (Kept key) table.slots seat.id seat.me place (λ n. either (n == was) (was + 1) n)
+      → Permits place (λ n. either (n == was) (was + 1) n)
       (has_claimed (step table.slots place was (was + 1) (some id)) seat.me)
   claims_group group place id was group_is low is real even early scan = let wide = about.wide in let same = groups in
-      let scan' : Scanned key seat.me.0.seen id was places
-      = subst (λ (plan : Plan). Scanned plan seat.me.0.seen id was places) (sym about.key_is) scan in
-      let of_id : group_of key id ≡ group = ap (λ (plan : Plan). group_of plan id) about.key_is ∙ sym group_is in
+      let scan' : Scanned key seat.me.0.seen id was places = rw about.key_is scan in
+      let of_id : group_of key id ≡ group = rw about.key_is (sym group_is) in
       let place' : place ≡ turn_place key group = omega arith in (
         own_table,
         omega arith,

@@ -1,7 +1,6 @@
 -- A step that adds one event keeps the rule, and so does one that adds none.
 use Rattle.std.proofs.Common.{◌≡◌, ◌≢◌, ℕ, zero, suc, ◌+◌, ◌<◌, ◌⊎◌, ⊎_elim, inl, inr, true, false, ◌==◌, cond, List}
-use Rattle.std.proofs.Common.{[]}
-use Rattle.std.proofs.Common.{◌∷◌, ◌++◌, length, get_or, set, refl, sym, ap, ◌∙◌, subst, arith, get_or-set_other}
+use Rattle.std.proofs.Common.{[], ◌∷◌, ◌++◌, length, get_or, set, refl, sym, ap, ◌∙◌, subst, arith, get_or-set_other}
 use Rattle.std.proofs.Common.{get_or-set_same}
 use mathlib.Core.Option.{some, some-injective, some-ne-none}
 use mathlib.Core.Logic.{dite}
@@ -10,7 +9,7 @@ use lib.ListN.{get_elem?}
 use Rattle.std.proofs.Math.ListN.{length-set}
 use Rattle.std.proofs.lemmas.List.{append-nil}
 use Rattle.atomic_table.specs.Table.{State, Splits, Joins}
-use Rattle.atomic_table.proofs.Lists.{at_set, at_snoc, set_else}
+use Rattle.atomic_table.proofs.Lists.{at_set, set_else}
 use Rattle.nr_ids.specs.declared.plan.Plan.{Plan}
 use Rattle.nr_ids.specs.Groups.{ways}
 use Rattle.nr_ids.specs.Events.{Event, hints_of, maker, marks_of, name_of, turn_of, May}
@@ -116,10 +115,42 @@ module _ (plan : Plan) (words : List ℕ) (log : List Event) (shows : Shows plan
         (λ e. omega arith) refl (shows.hints other near) ∙ sym (hints other);
   }
 
+-- where each view is a new one at its place or one that was there, what holds of both holds of each
+module _ (views : List View) (own : ℕ) (mine : View) (Old : ℕ → View → Type 0)
+    (split : (place : ℕ) (view : View) → get_elem? views place ≡ some view
+    → ((place ≡ own) × (mine ≡ view)) ⊎ Old place view) where
+  each_view : (P : ℕ → View → Type 0) → P own mine → ((place : ℕ) (view : View) → Old place view → P place view)
+      → (place : ℕ) (view : View) → get_elem? views place ≡ some view → P place view
+  each_view P new old place view there =
+      ⊎_elim
+      (λ (t : (place ≡ own) × (mine ≡ view)). subst (P place) t.1 (subst (λ (k : ℕ). P k mine) (sym t.0) new))
+      (old place view) (split place view there)
+
+  -- and where no number was the new one's, no two callers have one
+  once_each : ((i j : ℕ) (u v : View) → Old i u → Old j v → u.calls ≡ true → v.calls ≡ true → u.number ≡ v.number
+      → i ≡ j)
+      → ((j : ℕ) (u : View) → Old j u → u.calls ≡ true → mine.calls ≡ true → u.number ≢ mine.number)
+      → (i j : ℕ) (u v : View) → get_elem? views i ≡ some u → get_elem? views j ≡ some v → u.calls ≡ true
+      → v.calls ≡ true → u.number ≡ v.number → i ≡ j
+  once_each old new i j u v at_u at_v =
+      each_view (λ k w. w.calls ≡ true → v.calls ≡ true → w.number ≡ v.number → k ≡ j)
+      (each_view (λ k w. mine.calls ≡ true → w.calls ≡ true → mine.number ≡ w.number → own ≡ k) (λ _ _ _. refl)
+      (λ k w was calls its same. absurd (new k w was its calls (sym same))) j v at_v)
+      (λ k w was. each_view (λ l x. w.calls ≡ true → x.calls ≡ true → w.number ≡ x.number → k ≡ l)
+      (λ its calls same. absurd (new k w was its calls same)) (λ l x. old k l w x was) j v at_v)
+      i u at_u
+
 module _ (plan : Plan) (state : State ℕ View) (kept : Kept plan state) (id : ℕ) (view next : View)
     (at : get_elem? state.views id ≡ some view) where
   abbrev later : List View
   later = set state.views id next
+
+  abbrev Other : ℕ → View → Type 0
+  Other place other = (place ≢ id) × (get_elem? state.views place ≡ some other)
+
+  other_or_next : (place : ℕ) (other : View) → get_elem? later place ≡ some other
+      → ((place ≡ id) × (next ≡ other)) ⊎ Other place other
+  other_or_next place other there = at_set state.views id place next other there
 
   -- where it makes steps it is the caller that it was
   abbrev pub IsSameCaller : Type 0
@@ -127,23 +158,9 @@ module _ (plan : Plan) (state : State ℕ View) (kept : Kept plan state) (id : �
 
   pub once_so : IsSameCaller → (i j : ℕ) (u v : View) → get_elem? later i ≡ some u → get_elem? later j ≡ some v
       → u.calls ≡ true → v.calls ≡ true → u.number ≡ v.number → i ≡ j
-  once_so same i j u v at_u at_v calls_u calls_v twins = ⊎_elim
-      (λ (t : (i ≡ id) × (next ≡ u)).
-      let mine = same (ap (λ (w : View). w.calls) t.1 ∙ calls_u) in
-      let its : view.number ≡ u.number = sym mine.1 ∙ ap (λ (w : View). w.number) t.1 in
-      ⊎_elim
-      (λ (s : (j ≡ id) × (next ≡ v)). t.0 ∙ sym s.0)
-      (λ (s : (j ≢ id) × (get_elem? state.views j ≡ some v)). t.0
-      ∙ sym (kept.once j id v view s.1 at calls_v mine.0 (sym twins ∙ sym its)))
-      (at_set state.views id j next v at_v))
-      (λ (t : (i ≢ id) × (get_elem? state.views i ≡ some u)). ⊎_elim
-      (λ (s : (j ≡ id) × (next ≡ v)).
-      let mine = same (ap (λ (w : View). w.calls) s.1 ∙ calls_v) in
-      let its : v.number ≡ view.number = sym (ap (λ (w : View). w.number) s.1) ∙ mine.1 in
-      kept.once i id u view t.1 at calls_u mine.0 (twins ∙ its) ∙ sym s.0)
-      (λ (s : (j ≢ id) × (get_elem? state.views j ≡ some v)). kept.once i j u v t.1 s.1 calls_u calls_v twins)
-      (at_set state.views id j next v at_v))
-      (at_set state.views id i next u at_u)
+  once_so same = once_each later id next Other other_or_next (λ i j u v s t. kept.once i j u v s.1 t.1)
+      (λ j u t its calls twin. let mine = same calls in
+      t.0 (kept.once j id u view t.1 at its mine.0 (twin ∙ mine.1)))
 
   -- no event
   pub replaced : Fits plan kept.log kept.made next → IsSameCaller
@@ -154,9 +171,8 @@ module _ (plan : Plan) (state : State ℕ View) (kept : Kept plan state) (id : �
     legal = kept.legal;
     sizes = kept.sizes;
     made = kept.made;
-    fits = λ j u there. ⊎_elim (λ (t : (j ≡ id) × (next ≡ u)). subst (Fits plan kept.log kept.made) t.1 fits)
-        (λ (t : (j ≢ id) × (get_elem? state.views j ≡ some u)). kept.fits j u t.1)
-        (at_set state.views id j next u there);
+    fits = each_view later id next Other other_or_next (λ _. Fits plan kept.log kept.made) fits
+        (λ j u t. kept.fits j u t.1);
     once = once_so same;
     fresh = kept.fresh;
   }
@@ -188,10 +204,15 @@ module _ (plan : Plan) (state : State ℕ View) (kept : Kept plan state) (id : �
       legal = (may, kept.legal);
       sizes = kept.sizes;
       made = kept.made;
-      fits = λ j u there. ⊎_elim
-          (λ (t : (j ≡ id) × (next ≡ u)). subst (Fits plan (event ∷ kept.log) kept.made) (sym is ∙ t.1) fits_next)
-          (λ (t : (j ≢ id) × (get_elem? state.views j ≡ some u)). others_fit j u t.0 t.1)
-          (at_set state.views id j next u there);
+      fits = each_view later id next Other other_or_next (λ _. Fits plan (event ∷ kept.log) kept.made)
+          (rw is (record {
+            plan_is = mine.plan_is;
+            later = record { rest = []; is = refl; quiet = λ _. refl };
+            told = (event ∷ mine.told.0, ap (λ (l : List Event). event ∷ l) mine.told.1);
+            few = mine.few;
+            maker = mine.maker;
+          }))
+          (λ j u t. others_fit j u t.0 t.1);
       once = once_so (λ _. (calls, ap (λ (w : View). w.number) is));
       fresh = λ number above. own_other number event kept.log (λ e. let low = mine.few calls in absurd (omega arith))
           ∙ kept.fresh number above;
@@ -199,15 +220,6 @@ module _ (plan : Plan) (state : State ℕ View) (kept : Kept plan state) (id : �
       where
         mine : Fits plan kept.log kept.made view
         mine = kept.fits id view at
-
-        fits_next : Fits plan (event ∷ kept.log) kept.made (record (counted view) { seen = event ∷ kept.log })
-        fits_next = record {
-          plan_is = mine.plan_is;
-          later = record { rest = []; is = refl; quiet = λ _. refl };
-          told = (event ∷ mine.told.0, ap (λ (l : List Event). event ∷ l) mine.told.1);
-          few = mine.few;
-          maker = mine.maker;
-        }
 
 -- what a caller was told may be anything with which the events begin, and its steps are not looked at
 told_fits : (plan : Plan) (log : List Event) (made : ℕ) (view : View) (told : List Event) → Fits plan log made view
@@ -232,12 +244,12 @@ note_fits plan log made view silent seen told = let no : view.calls ≢ true = �
 }
 
 -- a token that makes no step yet, or none at all, stands beside those that there are
-snoc_at : {A : Type 0} (l : List A) (a b : A) (j : ℕ) → get_elem? (l ++ a ∷ []) j ≡ some b
-    → (get_elem? l j ≡ some b) ⊎ ((j ≡ length l) × (a ≡ b))
-snoc_at [] a b zero e = inr (refl, some-injective a b e)
-snoc_at [] a b (suc j) e = absurd (some-ne-none b (sym e))
-snoc_at (x ∷ xs) a b zero e = inl e
-snoc_at (x ∷ xs) a b (suc j) e = ⊎_elim (λ t. inl t) (λ t. inr (ap suc t.0, t.1)) (snoc_at xs a b j e)
+snoc_at : {A : Type 0} (l : List A) (a : A) (place : ℕ) (b : A) → get_elem? (l ++ a ∷ []) place ≡ some b
+    → ((place ≡ length l) × (a ≡ b)) ⊎ (get_elem? l place ≡ some b)
+snoc_at [] a zero b e = inl (refl, some-injective a b e)
+snoc_at [] a (suc place) b e = absurd (some-ne-none b (sym e))
+snoc_at (x ∷ xs) a zero b e = inr e
+snoc_at (x ∷ xs) a (suc place) b e = ⊎_elim (λ t. inl (ap suc t.0, t.1)) (λ t. inr t) (snoc_at xs a place b e)
 
 adds : (plan : Plan) (state : State ℕ View) (kept : Kept plan state) (view : View) → Fits plan kept.log kept.made view
     → ((j : ℕ) (u : View) → get_elem? state.views j ≡ some u → u.calls ≡ true → view.calls ≡ true
@@ -249,21 +261,11 @@ adds plan state kept view fits new = record {
   legal = kept.legal;
   sizes = kept.sizes;
   made = kept.made;
-  fits = λ j u there. ⊎_elim (λ (t : get_elem? state.views j ≡ some u). kept.fits j u t)
-      (λ (t : view ≡ u). subst (Fits plan kept.log kept.made) t fits) (at_snoc state.views view u j there);
-  once = λ i j u v at_u at_v calls_u calls_v same. ⊎_elim
-      (λ (t : get_elem? state.views i ≡ some u). ⊎_elim
-      (λ (s : get_elem? state.views j ≡ some v). kept.once i j u v t s calls_u calls_v same)
-      (λ (s : (j ≡ length state.views) × (view ≡ v)). absurd
-      (new i u t calls_u (ap (λ (w : View). w.calls) s.1 ∙ calls_v) (same ∙ sym (ap (λ (w : View). w.number) s.1))))
-      (snoc_at state.views view v j at_v))
-      (λ (t : (i ≡ length state.views) × (view ≡ u)). ⊎_elim
-      (λ (s : get_elem? state.views j ≡ some v). absurd
-      (new j v s calls_v (ap (λ (w : View). w.calls) t.1 ∙ calls_u)
-      (sym same ∙ sym (ap (λ (w : View). w.number) t.1))))
-      (λ (s : (j ≡ length state.views) × (view ≡ v)). t.0 ∙ sym s.0)
-      (snoc_at state.views view v j at_v))
-      (snoc_at state.views view u i at_u);
+  fits = each_view (state.views ++ view ∷ []) (length state.views) view
+      (λ j u. get_elem? state.views j ≡ some u) (snoc_at state.views view) (λ _. Fits plan kept.log kept.made) fits
+      kept.fits;
+  once = once_each (state.views ++ view ∷ []) (length state.views) view
+      (λ j u. get_elem? state.views j ≡ some u) (snoc_at state.views view) kept.once new;
   fresh = kept.fresh;
 }
 
@@ -277,36 +279,34 @@ seats_so plan id view calls clerk state kept at =
     let mine = kept.fits id view at in
     let made : view.made ≡ kept.made = mine.maker calls clerk in
     let next = with_reader view in
-    let raised : Kept plan (record { words = state.words; homes = state.homes; views = set state.views id next })
+    let views = set state.views id next in
+    let raised : Kept plan (record { words = state.words; homes = state.homes; views = views })
     = record {
       log = kept.log;
       shows = kept.shows;
       legal = kept.legal;
       sizes = kept.sizes;
       made = kept.made + 1;
-      fits = λ j u there. ⊎_elim
-          (λ (s : (j ≡ id) × (next ≡ u)). subst (Fits plan kept.log (kept.made + 1)) s.1
+      fits = each_view views id next (Other plan state kept id view next at)
+          (other_or_next plan state kept id view next at) (λ _. Fits plan kept.log (kept.made + 1))
           (record {
             plan_is = mine.plan_is;
             later = record { rest = mine.later.rest; is = mine.later.is; quiet = mine.later.quiet };
             told = mine.told;
             few = λ c. let low = mine.few c in omega arith;
             maker = λ _ _. ap (λ (k : ℕ). k + 1) made;
-          }))
-          (λ (s : (j ≢ id) × (get_elem? state.views j ≡ some u)). let fits = kept.fits j u s.1 in
-          record {
+          })
+          (λ j u s. let fits = kept.fits j u s.1 in record {
             plan_is = fits.plan_is;
             later = fits.later;
             told = fits.told;
             few = λ c. let low = fits.few c in omega arith;
             maker = λ c zero. absurd (s.0 (kept.once j id u view s.1 at c calls (zero ∙ sym clerk)));
-          })
-          (at_set state.views id j next u there);
+          });
       once = once_so plan state kept id view next at (λ _. (calls, refl));
       fresh = λ n above. kept.fresh n (omega arith);
     } in
-    adds plan (record { words = state.words; homes = state.homes; views = set state.views id next }) raised
-    (next_reader view)
+    adds plan (record { words = state.words; homes = state.homes; views = views }) raised (next_reader view)
     (record {
       plan_is = λ _. mine.plan_is calls;
       later =
@@ -319,11 +319,11 @@ seats_so plan id view calls clerk state kept at =
       few = λ _. omega arith;
       maker = λ _ zero. absurd (omega arith);
     })
-    (λ j u there c _ same. ⊎_elim
-    (λ (s : (j ≡ id) × (next ≡ u)).
-    let number : view.number ≡ u.number = ap (λ (w : View). w.number) s.1 in absurd (omega arith))
-    (λ (s : (j ≢ id) × (get_elem? state.views j ≡ some u)). let low = (kept.fits j u s.1).few c in absurd (omega arith))
-    (at_set state.views id j next u there))
+    (each_view views id next (Other plan state kept id view next at)
+    (other_or_next plan state kept id view next at)
+    (λ _ u. u.calls ≡ true → (next_reader view).calls ≡ true → u.number ≢ (next_reader view).number)
+    (λ _ _ same. absurd (omega arith))
+    (λ j u s c _ same. let low = (kept.fits j u s.1).few c in absurd (omega arith)))
 
 -- a token makes a note of events with which those of the rule begin
 note_made : (plan : Plan) (id : ℕ) (view : View) (seen : List Event) (state : State ℕ View) (kept : Kept plan state)

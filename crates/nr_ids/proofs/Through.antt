@@ -1,16 +1,13 @@
 -- Looks through groups: a way whose hint doesn't fit hadn't the name when the hints were looked at, and the others'
 -- names were looked at one by one.
-use Rattle.std.proofs.Common.{◌≡◌, ◌≢◌, ℕ, zero, suc, ◌+◌, ◌*◌, ◌%◌, ◌^◌, ◌<◌, ◌≤◌, ⊎_elim, inl, inr, List}
-use Rattle.std.proofs.Common.{[]}
-use Rattle.std.proofs.Common.{◌∷◌, ◌++◌, ◌==◌, cond, refl, sym, ap, ◌∙◌, subst, arith, append_assoc, Option, Some, None}
-use Rattle.std.proofs.Common.{◌↔◌, ◌-◌}
+use Rattle.std.proofs.Common.{◌≡◌, ◌≢◌, ℕ, zero, suc, ◌+◌, ◌*◌, ◌%◌, ◌^◌, ◌<◌, ◌≤◌, inl, inr, List, [], ◌∷◌, ◌++◌, ◌==◌}
+use Rattle.std.proofs.Common.{cond, refl, sym, ap, ◌∙◌, subst, arith, append_assoc, Option, Some, None, ◌↔◌, ◌-◌}
 use mathlib.Core.Logic.{dite}
 use native.Mathlib.Decide.{dec_le, ℕ_discrete}
 use Rattle.std.specs.Int.{bit_at}
-use Rattle.nr_ids.specs.Groups.{group_of_way, hint_of, way_in, ways}
+use Rattle.nr_ids.specs.Groups.{hint_of, way_in, ways}
 use Rattle.nr_ids.specs.Events.{Event, claimed, looked, looks, hint_at, hints_of, name_of, turn_of}
-use Rattle.nr_ids.specs.Looking.{FindsAt, FindsIn, IsFirst, LackedName, LooksIn, LooksInBoth, LooksUpTo}
-use Rattle.nr_ids.specs.Looking.{Missed}
+use Rattle.nr_ids.specs.Looking.{FindsAt, FindsIn, IsFirst, LackedName, LooksIn, LooksInBoth, LooksUpTo, Missed}
 use Rattle.nr_ids.specs.Looking.{PassedByClerk, PassesGroup, Scans, ScansGroup, fitting, group_for, second_for}
 use Rattle.nr_ids.specs.declared.requests.Requested.{Requested}
 use Rattle.nr_ids.specs.declared.requests.Requested.TheVariants as requested
@@ -18,9 +15,8 @@ use Rattle.nr_ids.specs.Answers.{FindsForClaim, FindsWay, LooksForClaim, LooksOn
 use Rattle.nr_ids.specs.Tokens.{Granted, Grows, Opened, Token, Within}
 use Rattle.nr_ids.proofs.Logs.{cond_same, cond_else}
 use Rattle.nr_ids.proofs.Hinted.{other_hint}
-use Rattle.nr_ids.proofs.Calls.{grows_next, absent_within, clerk_looks, clerk_on, each_place, lacked_later}
-use Rattle.nr_ids.proofs.Calls.{looks_after, looks_on, none_has, still_passed, was_open}
-use Rattle.nr_ids.proofs.Calls.{within_between, within_since}
+use Rattle.nr_ids.proofs.Calls.{grows_next, absent_within, clerk_looks, clerk_on, each_place, lacked_later, looks_after}
+use Rattle.nr_ids.proofs.Calls.{none_has, still_passed, was_open, within_between, within_since, up_to}
 
 -- so many first ways of a group were passed: those whose hint fits by a look at their names
 pub record Until (id group : ℕ) (old hinted new : Token) (count : ℕ) : Type 0 where
@@ -45,8 +41,7 @@ pub record SoFar (id group : ℕ) (old new : Token) (left : ℕ) : Type 0 where
 -- the end of a call whose first look was at hints
 within_here : (old hinted new : Token) (rest : List Event) → Grows (looks 1 old.number) old hinted
     → new.seen ≡ rest ++ hinted.seen → Within old new new.seen
-within_here old hinted new rest hints seen =
-    within_between old hinted new (looked old.number) [] rest [] new.seen hints seen refl
+within_here old hinted new rest hints seen = within_between rest [] hints seen refl
 
 module _ (id group : ℕ) (real : 0 < id) (old : Token) where
   abbrev hint : ℕ
@@ -63,23 +58,17 @@ module _ (id group : ℕ) (real : 0 < id) (old : Token) where
         (cond_else (fitting (hints_of hinted.seen group) hint count + 1)
         (fitting (hints_of hinted.seen group) hint count) (hint_at (hints_of hinted.seen group) count) hint other))
         until.names;
-    lacked = λ place low. dite (ℕ_discrete place count)
-        (λ (e : place ≡ count). subst (λ (k : ℕ). LackedName (way_in group k) id old new) (sym e)
-        (record {
-          moment = hinted.seen;
-          within =
-              within_between old hinted new (looked old.number) [] [] until.names.rest hinted.seen until.hints refl
-              until.names.seen;
-          other = lacks;
-        }))
-        (λ ne. until.lacked place (omega (arith, low, ne)));
-    exact = λ clerk place low. dite (ℕ_discrete place count)
-        (λ (e : place ≡ count). λ has. lacks
+    lacked = up_to (λ place. LackedName (way_in group place) id old new) count until.lacked (record {
+      moment = hinted.seen;
+      within = within_between [] until.names.rest until.hints refl until.names.seen;
+      other = lacks;
+    });
+    exact = λ clerk. up_to (λ place. name_of new.seen (way_in group place) ≢ id) count (until.exact clerk)
+        (λ has. lacks
         (sym
         (clerk_looks hinted (fitting (hints_of hinted.seen group) hint count) hinted.number new (way_in group count)
         (until.hints.number ∙ clerk) until.names)
-        ∙ ap (λ (k : ℕ). name_of new.seen (way_in group k)) (sym e) ∙ has))
-        (λ ne. until.exact clerk place (omega (arith, low, ne)));
+        ∙ has));
   }
     where
       lacks : name_of hinted.seen (way_in group count) ≢ id
@@ -143,7 +132,7 @@ module _ (id group : ℕ) (real : 0 < id) (old : Token) where
     looked_there =
         subst (λ (k : ℕ). Grows (looks k hinted.number) hinted new)
         (sym (cond_same (fitting hints hint at + 1) (fitting hints hint at) (hint_at hints at) hint fits_here))
-        (looks_on hinted mid new (fitting hints hint at) reached.names look)
+        (looks_after (fitting hints hint at) 1 reached.names look)
 
     last : Within old new new.seen
     last = within_here old hinted new looked_there.rest reached.hints looked_there.seen
@@ -176,14 +165,11 @@ module _ (id group : ℕ) (real : 0 < id) (old : Token) where
           until = record {
             hints = reached.hints;
             names = looked_there;
-            lacked = λ place below. dite (ℕ_discrete place at)
-                (λ (e : place ≡ at). subst (λ (k : ℕ). LackedName (way_in group k) id old new) (sym e)
-                (record { moment = new.seen; within = last; other = other }))
-                (λ ne. lacked_later (way_in group place) id old mid new look.rest look.seen
-                (reached.lacked place (omega (arith, below, ne))));
-            exact = subst (λ (k : ℕ). PassedByClerk (way_in group) id old k new) (omega arith)
-                (clerk_on (way_in group) id old mid new at (reached.names.number ∙ reached.hints.number) look other
-                reached.exact);
+            lacked = up_to (λ place. LackedName (way_in group place) id old new) at
+                (λ place below. lacked_later look.rest look.seen (reached.lacked place below))
+                (record { moment = new.seen; within = last; other = other });
+            exact = clerk_on (way_in group) id old mid new at (reached.names.number ∙ reached.hints.number) look other
+                reached.exact;
           };
           below = λ place before. dite (ℕ_discrete place at)
               (λ (e : place ≡ at). rest at place first ∙ cond_same 0 (bit_at left place) place at e)
@@ -220,40 +206,31 @@ module _ (id group : ℕ) (real : 0 < id) (old : Token) where
 abbrev pub SomeLooks : Token → Token → Type 0
 SomeLooks old new = (count : ℕ) × Grows (looks count old.number) old new
 
-pub looks_in : (id group among : ℕ) (old new : Token) → LooksIn id group among old new → SomeLooks old new
-looks_in id group among old new through =
+pub looks_in : {id group among : ℕ} {old new : Token} → LooksIn id group among old new → SomeLooks old new
+looks_in {id = id} {group = group} {among = among} {old = old} through =
     let more : ℕ = fitting (hints_of through.hinted.seen group) (hint_of old.directory.plan id) among in
-    (1 + more, looks_after old through.hinted new 1 more through.hints through.names)
+    (1 + more, looks_after 1 more through.hints through.names)
 
-looks_twice : (old mid new : Token) → SomeLooks old mid → SomeLooks mid new → SomeLooks old new
-looks_twice old mid new a b = (a.0 + b.0, looks_after old mid new a.0 b.0 a.1 b.1)
+looks_twice : {old mid new : Token} → SomeLooks old mid → SomeLooks mid new → SomeLooks old new
+looks_twice a b = (a.0 + b.0, looks_after a.0 b.0 a.1 b.1)
 
 pub looks_in_both : (id : ℕ) (old new : Token) → LooksInBoth id old new → SomeLooks old new
-looks_in_both id old new both =
-    looks_twice old both.mid new (looks_in id (group_for old id) 8 old both.mid both.first)
-    (looks_in id (second_for old id) 8 both.mid new both.second)
+looks_in_both id old new both = looks_twice (looks_in both.first) (looks_in both.second)
 
 pub looks_up_to : (way id : ℕ) (old new : Token) → LooksUpTo way id old new → SomeLooks old new
-looks_up_to way id old new to = ⊎_elim
-    (λ (first : (group_of_way way ≡ group_for old id) × LooksIn id (group_for old id) (way % 8 + 1) old new).
-    looks_in id (group_for old id) (way % 8 + 1) old new first.1)
-    (λ (second : (group_of_way way ≡ second_for old id)
-    × ((mid : Token) × LooksIn id (group_for old id) 8 old mid × LooksIn id (second_for old id) (way % 8 + 1) mid new)).
-    looks_twice old second.1.0 new (looks_in id (group_for old id) 8 old second.1.0 second.1.1)
-    (looks_in id (second_for old id) (way % 8 + 1) second.1.0 new second.1.2))
-    to
+looks_up_to way id old new (inl first) = looks_in first.1
+looks_up_to way id old new (inr second) = looks_twice (looks_in second.1.1) (looks_in second.1.2)
 
-pub looks_for_claim : (id : ℕ) (old new : Token) → LooksForClaim id old new → SomeLooks old new
-looks_for_claim id old new for_claim =
-    looks_twice old for_claim.turned new (1, for_claim.turn) (looks_in_both id for_claim.turned new for_claim.both)
+pub looks_for_claim : {id : ℕ} {old new : Token} → LooksForClaim id old new → SomeLooks old new
+looks_for_claim {id = id} {new = new} for_claim =
+    looks_twice (1, for_claim.turn) (looks_in_both id for_claim.turned new for_claim.both)
 
-pub finds_for_claim : (id : ℕ) (old new : Token) (way : ℕ) → FindsForClaim id old new way → SomeLooks old new
-finds_for_claim id old new way found =
-    looks_twice old found.turned new (1, found.turn) (looks_up_to way id found.turned new found.finds.looks)
+pub finds_for_claim : {id way : ℕ} {old new : Token} → FindsForClaim id old new way → SomeLooks old new
+finds_for_claim {id = id} {way = way} {new = new} found =
+    looks_twice (1, found.turn) (looks_up_to way id found.turned new found.finds.looks)
 
-pub looks_on_for : (id more : ℕ) (old new : Token) → LooksOn id more old new → SomeLooks old new
-looks_on_for id more old new on =
-    looks_twice old on.scanned new (looks_for_claim id old on.scanned on.looks_for) (more, on.others)
+pub looks_on_for : {id : ℕ} (more : ℕ) {old new : Token} → LooksOn id more old new → SomeLooks old new
+looks_on_for more on = looks_twice (looks_for_claim on.looks_for) (more, on.others)
 
 pub looks_up : (id : ℕ) (old new : Token) (found : Option ℕ) → LooksUp id old new found → SomeLooks old new
 looks_up id old new (Some way) finds = looks_up_to way id old new finds.looks
@@ -267,15 +244,15 @@ way_looks id old new None finds = looks_in_both id old new finds.0
 pub request_looks : (id : ℕ) (old new : Token) (answer : Requested)
     → ((claim : Granted) → answer ≢ requested.Granted claim) → Requests id old new answer → SomeLooks old new
 request_looks id old new (requested.Granted claim) none requests = absurd (none claim refl)
-request_looks id old new (requested.Named way) none requests = finds_for_claim id old new way requests
+request_looks id old new (requested.Named way) none requests = finds_for_claim requests
 request_looks id old new requested.Busy none requests = (1, requests.0)
-request_looks id old new requested.Outrun none requests = looks_on_for id 1 old new requests.0
+request_looks id old new requested.Outrun none requests = looks_on_for 1 requests.0
 request_looks id old new requested.Worn none requests = (1, requests.0)
 
 -- and of one that was granted a claim
 pub grant_looks : (id : ℕ) (old new : Token) → WinsAfter id old new
     → (count : ℕ) × Grows (claimed old.number id ∷ looks count old.number) old new
-grant_looks id old new won = let looked = looks_for_claim id old won.scanned won.looks_for in (
+grant_looks id old new won = let looked = looks_for_claim won.looks_for in (
   looked.0,
   grows_next (λ by. claimed by id ∷ []) old won.scanned new
       (looks looked.0 old.number) looked.1 won.wins.grows,
@@ -296,7 +273,7 @@ module _ (id first second : ℕ) (old mid new : Token) (first_is : first ≡ gro
   by_first = subst (λ (g : ℕ). LooksIn id g 8 old mid) first_is a.looks
 
   first_looks : SomeLooks old mid
-  first_looks = looks_in id first 8 old mid a.looks
+  first_looks = looks_in a.looks
 
   -- or in its second group
   found_second : (way : ℕ) → FindsIn id second mid new way → FindsAt id old new way
@@ -308,7 +285,7 @@ module _ (id first second : ℕ) (old mid new : Token) (first_is : first ≡ gro
     named = let grows = first_looks.1 in let named = found.named in record {
       inside = subst (λ (d : Opened). way < ways d.plan) grows.directory named.inside;
       moment = named.moment;
-      within = within_since old mid new _ named.moment grows named.within;
+      within = within_since grows named.within;
       had = named.had;
       exact = λ clerk. named.exact (grows.number ∙ clerk);
     };
@@ -317,9 +294,9 @@ module _ (id first second : ℕ) (old mid new : Token) (first_is : first ≡ gro
   -- or in neither
   missed_both : 0 < id → PassesGroup id second mid new → Missed id old new
   missed_both real b =
-      let second_looks = looks_in id second 8 mid new b.looks in
+      let second_looks = looks_in b.looks in
       let rest = second_looks.1 in
-      let grows = looks_after old mid new first_looks.0 second_looks.0 first_looks.1 rest in
+      let grows = looks_after first_looks.0 second_looks.0 first_looks.1 rest in
       let since = a.looks.names in
       let hinted = a.looks.hinted in
       let here : Within old new new.seen
@@ -328,10 +305,10 @@ module _ (id first second : ℕ) (old mid new : Token) (first_is : first ≡ gro
       ∙ sym (append_assoc rest.rest since.rest hinted.seen)) in
       let lacked
       = each_place id first second old (λ way. LackedName way id old new) first_is second_is
-      (λ at low. lacked_later (way_in first at) id old mid new rest.rest rest.seen (a.lacked at low))
+      (λ at low. lacked_later rest.rest rest.seen (a.lacked at low))
       (λ at low. let lack = b.lacked at low in record {
         moment = lack.moment;
-        within = within_since old mid new _ lack.moment first_looks.1 lack.within;
+        within = within_since first_looks.1 lack.within;
         other = lack.other;
       }) in
       record {

@@ -1,15 +1,13 @@
 -- A way's bit among its group's marks tells whether it was marked since its mark was taken last.
-use Rattle.std.proofs.Common.{◌≡◌, ◌≢◌, ℕ, ◌/◌, ◌%◌, ◌^◌, ◌==◌, cond, List, [], ◌∷◌, sym, ap, ◌∙◌, arith}
-use Rattle.std.proofs.Common.{bit_or, bit_xor}
+use Rattle.std.proofs.Common.{◌≡◌, ◌≢◌, ℕ, ◌/◌, ◌%◌, ◌^◌, ◌==◌, cond, List, [], ◌∷◌, sym, ap, ◌∙◌, arith, bit_or}
+use Rattle.std.proofs.Common.{bit_xor}
 use mathlib.Core.Logic.{dite}
 use native.Mathlib.Decide.{ℕ_discrete}
 use Rattle.std.specs.Int.{bit_at}
 use Rattle.std.proofs.lemmas.Nat.Bits.{bit_at-lt, bit_at-pow_other, bit_at-pow_same, bit_at-zero, bit_at_or, bit_at_xor}
 use Rattle.nr_ids.specs.declared.plan.Plan.{Plan}
 use Rattle.nr_ids.specs.Groups.{group_of_way}
-use Rattle.nr_ids.specs.Events.{Event, Touch, named, unnamed, cleared, claimed, looked, touched, hinted, loaded, marked}
-use Rattle.nr_ids.specs.Events.{turned}
-use Rattle.nr_ids.specs.Events.{mark_bit, marks_after, marks_of, MayTouch}
+use Rattle.nr_ids.specs.Events.{Event, Touch, touched, marked, turned, mark_bit, marks_after, marks_of, MayTouch}
 use Rattle.nr_ids.specs.Laws.{MarksTell, use_after, use_of}
 use Rattle.nr_ids.proofs.Logs.{cond_same, cond_else}
 
@@ -66,20 +64,15 @@ touch_tells : (plan : Plan) (log : List Event) (by : ℕ) (touch : Touch) (way :
     → bit_in (marks_of log (group_of_way way)) way ≡ use_of log way
     → bit_in (marks_after touch (group_of_way way) (marks_of log (group_of_way way))) way
     ≡ use_after touch way (use_of log way)
-touch_tells plan log by (loaded place) way may was = was
 touch_tells plan log by (marked other) way may was =
     marked_bit other way (marks_of log (group_of_way way)) (use_of log way) was
 touch_tells plan log by (turned group bits) way may was =
     turned_bit group bits way (marks_of log (group_of_way way)) (use_of log way)
     (λ e on. ap (λ (g : ℕ). bit_in (marks_of log g) way) (sym e) ∙ may.2 (way % 8) (omega arith) on) was
-touch_tells plan log by (hinted group hints) way may was = was
+touch_tells plan log by touch way may was = was
 
 pub marks_tell : MarksTell
 marks_tell plan [] way legal = bit_at-zero (way % 8)
-marks_tell plan (named other id ∷ log) way legal = marks_tell plan log way legal.1
-marks_tell plan (unnamed other ∷ log) way legal = marks_tell plan log way legal.1
-marks_tell plan (cleared group ∷ log) way legal = marks_tell plan log way legal.1
-marks_tell plan (claimed by id ∷ log) way legal = marks_tell plan log way legal.1
-marks_tell plan (looked by ∷ log) way legal = marks_tell plan log way legal.1
 marks_tell plan (touched by touch ∷ log) way legal =
     touch_tells plan log by touch way legal.0 (marks_tell plan log way legal.1)
+marks_tell plan (event ∷ log) way legal = marks_tell plan log way legal.1

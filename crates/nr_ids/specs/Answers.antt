@@ -5,8 +5,7 @@ use Rattle.nr_ids.specs.declared.admissions.Refused.TheVariants as refused
 use Rattle.nr_ids.specs.declared.requests.Requested.{Requested}
 use Rattle.nr_ids.specs.declared.requests.Requested.TheVariants as requested
 use Rattle.nr_ids.specs.Events.{Event, cleared, hinted, looked, named, touched, unnamed, hint_in, looks, name_of}
-use Rattle.nr_ids.specs.Events.{turn_of}
-use Rattle.nr_ids.specs.Events.{last_turn, IsAbsent, IsClosed, IsOpen}
+use Rattle.nr_ids.specs.Events.{turn_of, last_turn, IsAbsent, IsClosed, IsOpen}
 use Rattle.nr_ids.specs.Groups.{group_of_way}
 use Rattle.nr_ids.specs.Looking.{WasAbsent, FindsAt, IsFull, LooksInBoth, group_for}
 use Rattle.nr_ids.specs.Tokens.{Token, Grows, WinsClaim, HasName, Within}

@@ -1,13 +1,11 @@
 -- Laws of legal events, and of what tokens know.
 use Rattle.std.specs.Prelude.{◌≡◌, ◌≢◌, ℕ, ◌+◌, ◌*◌, ◌%◌, ◌<◌, ◌≤◌, ◌⊎◌, ◌==◌, cond, Contains, List, [], ◌∷◌, ◌++◌}
-use Rattle.std.specs.Prelude.{Option, Some}
-use Rattle.std.specs.Prelude.{bit_xor, length}
+use Rattle.std.specs.Prelude.{Option, Some, bit_xor, length}
 use Rattle.std.specs.Int.{bit_at}
 use Rattle.nr_ids.specs.declared.plan.Plan.{Plan}
 use Rattle.nr_ids.specs.Groups.{IsPlan, IsWayOf, group_of, group_of_way, hint_of, second_of, ways}
 use Rattle.nr_ids.specs.Events.{Event, Touch, named, unnamed, cleared, claimed, looked, touched, hinted, loaded, marked}
-use Rattle.nr_ids.specs.Events.{turned}
-use Rattle.nr_ids.specs.Events.{hint_in, marks_of, name_of, turn_of, IsLegal}
+use Rattle.nr_ids.specs.Events.{turned, hint_in, marks_of, name_of, turn_of, IsLegal}
 use Rattle.nr_ids.specs.Answers.{LooksUp}
 use Rattle.nr_ids.specs.Marks.{ChoosesPlace}
 use Rattle.nr_ids.specs.Rule.{BeginsWith}

@@ -1,7 +1,6 @@
 -- What a call says that looks at use bits, sets, takes or chooses by them, or loads ahead.
 use Rattle.std.specs.Prelude.{◌≡◌, ◌⊎◌, ◌↔◌, ℕ, zero, suc, ◌+◌, ◌*◌, ◌/◌, ◌%◌, ◌^◌, ◌<◌, ◌≤◌, Bool, true, false, List}
-use Rattle.std.specs.Prelude.{[]}
-use Rattle.std.specs.Prelude.{◌∷◌, ◌++◌, IsTrue, bit_or, bit_xor}
+use Rattle.std.specs.Prelude.{[], ◌∷◌, ◌++◌, IsTrue, bit_or, bit_xor}
 use Rattle.std.specs.Int.{bit_at}
 use Rattle.nr_ids.specs.declared.plan.Plan.{Plan}
 use Rattle.nr_ids.specs.Events.{Event, touched, loaded, marked, turned, mark_bit, marks_of, HasMark, IsMarked}

@@ -4,8 +4,7 @@ use mathlib.Core.Option.{Option, none, some}
 use Rattle.atomic_table.specs.Table.{Me, Step}
 use Rattle.nr_ids.specs.Groups.{group_of, group_of_way}
 use Rattle.nr_ids.specs.Events.{Event, own, named, unnamed, cleared, claimed, looked, touched, hinted, loaded, marked}
-use Rattle.nr_ids.specs.Events.{turned}
-use Rattle.nr_ids.specs.Events.{hints_of, mark_bit, marks_of, name_of, turn_of, IsLegal}
+use Rattle.nr_ids.specs.Events.{turned, hints_of, mark_bit, marks_of, name_of, turn_of, IsLegal}
 use Rattle.nr_ids.specs.Rule.{View, BeginsWith, counted, hints_place, marks_place, turn_place}
 
 abbrev pub Then : Type 1

@@ -1,12 +1,15 @@
 use Rattle.std.proofs.Common.{◌≡◌, ℕ, arith, inl, inr, refl, sym, ◌∙◌}
-use Rattle.nr_ids.proofs.MarkBits.{bits_on, chosen_so, marked_on, unmarked}
+use borrow.Author.Count.{below_more}
+use Rattle.nr_ids.specs.Events.{HasMark}
+use Rattle.nr_ids.proofs.MarkBits.{bits_on, chosen_so, unmarked}
 use Rattle.nr_ids.specs.Marks.{begin_of, place_after}
 use Rattle.nr_ids.proofs.marks.chosen.Goals as goal
 
 pub loop-step-preserved : goal.loop-step-preserved
 loop-step-preserved c = let was = c.loop-step.invariant in let low = c.loop-step-test.true in record {
   bits = bits_on c.args.marks c.loop-step.passed c.loop-step.step was.bits;
-  marked = marked_on c.args.marks c.loop-step.step was.marked (c.has_bit.ensures.0 c.if-not-has_bit.false);
+  marked = below_more (λ step. HasMark c.args.marks (place_after (begin_of c.args.marks) step)) c.loop-step.step
+      was.marked (c.has_bit.ensures.0 c.if-not-has_bit.false);
   few = omega (arith, low);
 }
 

@@ -1,40 +1,31 @@
-use Rattle.std.proofs.Common.{◌≡◌, rules, ◌%◌, ℕ, [], ◌∷◌, ap, arith, subst, ◌∙◌, Ok, Err, None, Some}
+use Rattle.std.proofs.Common.{◌≡◌, rules, subst, ◌∙◌, Ok, Err, None, Some}
 use Rattle.nr_ids.specs.declared.admissions.Refused.TheVariants as refused
 use Rattle.nr_ids.specs.Answers.{Admits}
-use Rattle.nr_ids.specs.Events.{IsOpen, MayName, cleared}
+use Rattle.nr_ids.specs.Events.{MayName, turn_of}
 use Rattle.nr_ids.specs.Looking.{group_for}
-use Rattle.nr_ids.specs.Tokens.{Grows, Opened, Token, token}
-use Rattle.nr_ids.specs.Events.{turn_of}
-use Rattle.nr_ids.specs.Groups.{hint_of}
-use Rattle.nr_ids.specs.Looking.{SetsHint}
-use Rattle.nr_ids.proofs.Admitting.{Hinting, admission, admitted_of_names, clerk_so, hints_way, looked_clerk}
-use Rattle.nr_ids.proofs.Admitting.{may_admit, scanned_clerk, still_open, whole}
+use Rattle.nr_ids.specs.Tokens.{Opened, Token, token}
+use Rattle.nr_ids.proofs.Admitting.{admission, admitted_of_names, clerk_so, hints_way, looked_clerk, may_admit}
+use Rattle.nr_ids.proofs.Admitting.{scanned_clerk, still_open, whole}
 use Rattle.nr_ids.proofs.directory.Directory.admit.Goals as goal
 
 pub invariant_of-clerk : goal.invariant_of-clerk
-invariant_of-clerk c =
-    let turn = c.look_at_turn-turn in
-    looked_clerk c.args.self.now 1 c.clerk.inside.seat turn.new.seat c.clerk.invariant turn.ensures.caller
-    turn.ensures.grows
+invariant_of-clerk c = let turn = c.look_at_turn-turn.ensures in looked_clerk 1 c.clerk.invariant turn.caller turn.grows
 
 pub invariant_of-clerk-in-Some : goal.invariant_of-clerk-in-Some
-invariant_of-clerk-in-Some c = let now = c.args.self.now in let turn = c.look_at_turn-turn in
-    scanned_clerk now c.args.id turn.new.seat c.scan.new.seat (Some c.in-Some.way)
-    (looked_clerk now 1 c.clerk.inside.seat turn.new.seat c.clerk.invariant turn.ensures.caller turn.ensures.grows)
+invariant_of-clerk-in-Some c = let turn = c.look_at_turn-turn.ensures in
+    scanned_clerk c.args.id (Some c.in-Some.way) (looked_clerk 1 c.clerk.invariant turn.caller turn.grows)
     c.scan.ensures.caller c.in-Some.ensures.scans
 
 pub room_for-requires-clause-hints : goal.room_for-requires-clause-hints
-room_for-requires-clause-hints c = let now = c.args.self.now in let turn = c.look_at_turn-turn in
-    (scanned_clerk now c.args.id turn.new.seat c.scan.new.seat None
-    (looked_clerk now 1 c.clerk.inside.seat turn.new.seat c.clerk.invariant turn.ensures.caller turn.ensures.grows)
-    c.scan.ensures.caller c.in_default.ensures.scans).2
+room_for-requires-clause-hints c = let turn = c.look_at_turn-turn.ensures in
+    (scanned_clerk c.args.id None (looked_clerk 1 c.clerk.invariant turn.caller turn.grows) c.scan.ensures.caller
+    c.in_default.ensures.scans).2
 
 pub invariant_of-clerk-in_default-room_for : goal.invariant_of-clerk-in_default-room_for
-invariant_of-clerk-in_default-room_for c = let now = c.args.self.now in let turn = c.look_at_turn-turn in
-    looked_clerk now 2 c.scan.new.seat c.room_for.new.seat
-    (scanned_clerk now c.args.id turn.new.seat c.scan.new.seat None
-    (looked_clerk now 1 c.clerk.inside.seat turn.new.seat c.clerk.invariant turn.ensures.caller turn.ensures.grows)
-    c.scan.ensures.caller c.in_default.ensures.scans)
+invariant_of-clerk-in_default-room_for c = let turn = c.look_at_turn-turn.ensures in
+    looked_clerk 2
+    (scanned_clerk c.args.id None (looked_clerk 1 c.clerk.invariant turn.caller turn.grows) c.scan.ensures.caller
+    c.in_default.ensures.scans)
     c.room_for.ensures.clerk c.in_default-room_for.ensures.rooms.0
 
 pub returns-in_default-room_for-clause-answer : goal.returns-in_default-room_for-clause-answer
@@ -56,85 +47,37 @@ returns-in_default-room_for-clause-answer c =
 
 pub name-requires-clause-may : goal.name-requires-clause-may
 name-requires-clause-may c =
+    let turn = c.look_at_turn-turn.ensures in
     let missed = c.in_default.ensures.scans in
-    let id = c.args.id in
-    let way = c.in-Some-room_for.way in
-    let turn = c.look_at_turn-turn.ensures.grows in
-    let old = token c.clerk.inside.seat in
-    let first = token c.look_at_turn-turn.new.seat in
-    let second = token c.scan.new.seat in
-    let third = token c.room_for.new.seat in
-    let fourth = token c.hint.new.seat in
-    let hint : SetsHint way (hint_of first.directory.plan id) third fourth = search rules in
-    let it : Hinting id way old first second third fourth
-    = hints_way c.requires.id c.clerk.invariant.1 turn missed c.in-Some-room_for.ensures.rooms hint in
-    let is : turn_of first.directory.plan first.seen (group_for first id) ≡ c.look_at_turn-turn.result = search rules in
-    let open_claim : IsOpen first.directory.plan first.seen (group_for first id)
-    = ap (λ (k : ℕ). k % 2) is ∙ omega (arith, c.if-turn-eq0.false) in
-    subst (λ (d : Opened). MayName d.plan fourth.seen way id) c.look_at_turn-turn.ensures.caller.own
-    (may_admit id way old first second third fourth it open_claim)
+    let it = hints_way c.requires.id c.clerk.invariant.1 turn.grows missed c.in-Some-room_for.ensures.rooms
+    (search rules) c.hint.ensures.hints in
+    subst (λ (d : Opened). MayName d.plan (token c.hint.new.seat).seen c.in-Some-room_for.way c.args.id)
+    turn.caller.own (may_admit it (search rules) c.if-turn-eq0.false)
 
 pub close-requires-clause-was : goal.close-requires-clause-was
 close-requires-clause-was c =
-    let id = c.args.id in
-    let way = c.in-Some-room_for.way in
-    let turn = c.look_at_turn-turn.ensures.grows in
-    let old = token c.clerk.inside.seat in
-    let first = token c.look_at_turn-turn.new.seat in
-    let second = token c.scan.new.seat in
-    let third = token c.room_for.new.seat in
-    let fourth = token c.hint.new.seat in
-    let hint : SetsHint way (hint_of first.directory.plan id) third fourth = search rules in
-    let it : Hinting id way old first second third fourth
-    = hints_way c.requires.id c.clerk.invariant.1 turn c.in_default.ensures.scans c.in-Some-room_for.ensures.rooms
-    hint in
-    let is : turn_of first.directory.plan first.seen (group_for first id) ≡ c.look_at_turn-turn.result = search rules in
-    let open_claim : IsOpen first.directory.plan first.seen (group_for first id)
-    = ap (λ (k : ℕ). k % 2) is ∙ omega (arith, c.if-turn-eq0.false) in
-    let fifth = token c.name.new.seat in
-    let still : turn_of first.directory.plan fifth.seen (group_for first id) ≡ c.look_at_turn-turn.result
-    = still_open id way old first second third fourth it open_claim fifth c.name.ensures.grows ∙ is in
+    let turn = c.look_at_turn-turn in
+    let first = token turn.new.seat in
+    let it = hints_way c.requires.id c.clerk.invariant.1 turn.ensures.grows c.in_default.ensures.scans
+    c.in-Some-room_for.ensures.rooms (search rules) c.hint.ensures.hints in
+    let still : turn_of first.directory.plan (token c.name.new.seat).seen (group_for first c.args.id) ≡ turn.result
+    = still_open it (search rules) c.if-turn-eq0.false c.name.ensures.grows in
     search rules
 
 pub invariant_of-clerk-2 : goal.invariant_of-clerk-2
 invariant_of-clerk-2 c =
-    let id = c.args.id in
-    let way = c.in-Some-room_for.way in
     let turn = c.look_at_turn-turn.ensures.grows in
-    let old = token c.clerk.inside.seat in
-    let first = token c.look_at_turn-turn.new.seat in
-    let second = token c.scan.new.seat in
-    let third = token c.room_for.new.seat in
-    let fourth = token c.hint.new.seat in
-    let hint : SetsHint way (hint_of first.directory.plan id) third fourth = search rules in
-    let it : Hinting id way old first second third fourth
-    = hints_way c.requires.id c.clerk.invariant.1 turn c.in_default.ensures.scans c.in-Some-room_for.ensures.rooms
-    hint in
-    let fifth = token c.name.new.seat in
-    let last = token c.close.new.seat in
-    let clears : Grows (cleared (group_for old id) ∷ []) fifth last = search rules in
-    clerk_so c.args.self.now c.look_at_turn-turn.new.seat c.close.new.seat _ c.close.ensures.clerk
-    (turn.number ∙ it.clerk)
-    (whole id way old first second third fourth it fifth last c.name.ensures.grows clears)
-    (admitted_of_names id way old first second third fourth it fifth last c.name.ensures.grows clears
-    c.clerk.invariant.2)
+    let it = hints_way c.requires.id c.clerk.invariant.1 turn c.in_default.ensures.scans
+    c.in-Some-room_for.ensures.rooms (search rules) c.hint.ensures.hints in
+    let named = c.name.ensures.grows in
+    let closed = c.close.ensures.grows in
+    clerk_so c.close.ensures.clerk
+    ((whole it named (search rules) closed).number ∙ turn.number ∙ c.clerk.invariant.1)
+    (admitted_of_names it named (search rules) closed c.clerk.invariant.2)
 
 pub returns-clause-answer : goal.returns-clause-answer
 returns-clause-answer c =
-    let id = c.args.id in
-    let way = c.in-Some-room_for.way in
-    let turn = c.look_at_turn-turn.ensures.grows in
-    let old = token c.clerk.inside.seat in
-    let first = token c.look_at_turn-turn.new.seat in
-    let second = token c.scan.new.seat in
-    let third = token c.room_for.new.seat in
-    let fourth = token c.hint.new.seat in
-    let hint : SetsHint way (hint_of first.directory.plan id) third fourth = search rules in
-    let it : Hinting id way old first second third fourth
-    = hints_way c.requires.id c.clerk.invariant.1 turn c.in_default.ensures.scans c.in-Some-room_for.ensures.rooms
-    hint in
-    let fifth = token c.name.new.seat in
-    let last = token c.close.new.seat in
-    let clears : Grows (cleared (group_for old id) ∷ []) fifth last = search rules in
-    subst (λ (t : Token). Admits id t last (Ok way)) c.clerk.view_is
-    (admission id way old first second third fourth it fifth last c.name.ensures.grows clears)
+    let it = hints_way c.requires.id c.clerk.invariant.1 c.look_at_turn-turn.ensures.grows
+    c.in_default.ensures.scans c.in-Some-room_for.ensures.rooms (search rules) c.hint.ensures.hints in
+    subst (λ (t : Token). Admits c.args.id t (token c.close.new.seat) (Ok c.in-Some-room_for.way)) c.clerk.view_is
+    (admission it c.name.ensures.grows (search rules) c.close.ensures.grows)

@@ -10,8 +10,6 @@ turn_marks-requires-clause-set c = λ place low on. subst (λ (n : ℕ). HasMark
     place low on)
 
 pub invariant_of-clerk : goal.invariant_of-clerk
-invariant_of-clerk c = let now = c.args.self.now in let looked = c.marks.new.seat in
-    still_clerk now looked c.turn_marks.new.seat _
-    (still_clerk now c.clerk.inside.seat looked _ c.clerk.invariant c.marks.ensures.caller c.marks.ensures.loads
-    (λ _. refl) (λ _. refl))
+invariant_of-clerk c =
+    still_clerk (still_clerk c.clerk.invariant c.marks.ensures.caller c.marks.ensures.loads (λ _. refl) (λ _. refl))
     c.turn_marks.ensures.clerk c.turn_marks.ensures.turns (λ _. refl) (λ _. refl)

@@ -19,13 +19,9 @@ returns-clause-answer c =
     c.look_at_turn-turn.ensures.grows c.close.ensures.grows))
 
 pub invariant_of-clerk : goal.invariant_of-clerk
-invariant_of-clerk c =
-    let turn = c.look_at_turn-turn in
-    looked_clerk c.args.self.now 1 c.clerk.inside.seat turn.new.seat c.clerk.invariant turn.ensures.caller
-    turn.ensures.grows
+invariant_of-clerk c = let turn = c.look_at_turn-turn.ensures in looked_clerk 1 c.clerk.invariant turn.caller turn.grows
 
 pub invariant_of-clerk-2 : goal.invariant_of-clerk-2
-invariant_of-clerk-2 c = let now = c.args.self.now in let turn = c.look_at_turn-turn in
-    still_clerk now turn.new.seat c.close.new.seat _
-    (looked_clerk now 1 c.clerk.inside.seat turn.new.seat c.clerk.invariant turn.ensures.caller turn.ensures.grows)
+invariant_of-clerk-2 c = let turn = c.look_at_turn-turn.ensures in
+    still_clerk (looked_clerk 1 c.clerk.invariant turn.caller turn.grows)
     c.close.ensures.clerk c.close.ensures.grows (λ _. refl) (λ _. refl)

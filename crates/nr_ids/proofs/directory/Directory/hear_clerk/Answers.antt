@@ -1,4 +1,4 @@
-use Rattle.std.proofs.Common.{◌≡◌, rules}
+use Rattle.std.proofs.Common.{◌≡◌, rules, ◌∙◌}
 use Rattle.nr_ids.specs.Looking.{HintsNames}
 use Rattle.nr_ids.specs.Tokens.{token}
 use Rattle.nr_ids.proofs.Admitting.{clerk_so, looks_of_names}
@@ -10,5 +10,4 @@ invariant_of-clerk c =
     let names : HintsNames (token took) = search rules in
     let number : (token took).number ≡ 0 = search rules in
     let grows = c.learn.ensures.grows in
-    clerk_so c.args.self.now took c.learn.new.seat _ c.learn.ensures.caller number grows
-    (looks_of_names 1 _ _ number grows names)
+    clerk_so c.learn.ensures.caller (grows.number ∙ number) (looks_of_names 1 number grows names)

@@ -5,8 +5,7 @@ use Rattle.nr_ids.proofs.directory.Directory.room_for.Goals as goal
 
 pub room_in-there-requires-clause-hints : goal.room_in-there-requires-clause-hints
 room_in-there-requires-clause-hints c =
-    looks_of_names 1 (token c.args.seat.now) (token c.room_in-here.new.seat) c.requires.number
-    c.room_in-here.ensures.room.grows c.requires.hints
+    looks_of_names 1 c.requires.number c.room_in-here.ensures.room.grows c.requires.hints
 
 pub returns-clause-rooms : goal.returns-clause-rooms
 returns-clause-rooms c =

@@ -10,13 +10,10 @@ turn_marks-requires-clause-set c =
     (c.has_mark.ensures.looks.tells.0 c.if-not-has_mark.false)
 
 pub invariant_of-clerk : goal.invariant_of-clerk
-invariant_of-clerk c =
-    still_clerk c.args.self.now c.clerk.inside.seat c.has_mark.new.seat _ c.clerk.invariant c.has_mark.ensures.caller
-    c.has_mark.ensures.looks.looks (λ _. refl) (λ _. refl)
+invariant_of-clerk c = let looked = c.has_mark.ensures in
+    still_clerk c.clerk.invariant looked.caller looked.looks.looks (λ _. refl) (λ _. refl)
 
 pub invariant_of-clerk-2 : goal.invariant_of-clerk-2
-invariant_of-clerk-2 c = let now = c.args.self.now in let looked = c.has_mark.new.seat in
-    still_clerk now looked c.turn_marks.new.seat _
-    (still_clerk now c.clerk.inside.seat looked _ c.clerk.invariant c.has_mark.ensures.caller
-    c.has_mark.ensures.looks.looks (λ _. refl) (λ _. refl))
+invariant_of-clerk-2 c = let looked = c.has_mark.ensures in
+    still_clerk (still_clerk c.clerk.invariant looked.caller looked.looks.looks (λ _. refl) (λ _. refl))
     c.turn_marks.ensures.clerk c.turn_marks.ensures.turns (λ _. refl) (λ _. refl)

@@ -1,4 +1,4 @@
-use Rattle.std.proofs.Common.{subst}
+use Rattle.std.proofs.Common.{subst, ◌∙◌}
 use Rattle.nr_ids.specs.Answers.{Unnames}
 use Rattle.nr_ids.specs.Tokens.{Token, token}
 use Rattle.nr_ids.proofs.Admitting.{clerk_so, unhinted, unnamed_of_names}
@@ -9,8 +9,8 @@ invariant_of-clerk c =
     let was = c.clerk.invariant in
     let takes = c.unname_way.ensures.grows in
     let hint = c.hint.ensures.hints in
-    clerk_so c.args.self.now c.clerk.inside.seat c.hint.new.seat _ c.hint.ensures.clerk was.1
-    (unhinted c.args.way _ _ _ was.1 takes hint) (unnamed_of_names c.args.way _ _ _ was.1 takes hint was.2)
+    clerk_so c.hint.ensures.clerk ((unhinted was.1 takes hint).number ∙ was.1)
+    (unnamed_of_names was.1 takes hint was.2)
 
 pub returns-clause-answer : goal.returns-clause-answer
 returns-clause-answer c =
@@ -19,6 +19,6 @@ returns-clause-answer c =
     subst (λ (t : Token). Unnames c.args.way t (token c.hint.new.seat)) c.clerk.view_is
     (record {
       hints = hint.hints;
-      grows = unhinted c.args.way _ _ _ was.1 c.unname_way.ensures.grows hint;
+      grows = unhinted was.1 c.unname_way.ensures.grows hint;
       unhinted = hint.set;
     })

@@ -3,5 +3,4 @@ use Rattle.nr_ids.proofs.directory.Directory.way_of.Goals as goal
 
 pub invariant_of-clerk : goal.invariant_of-clerk
 invariant_of-clerk c =
-    scanned_clerk c.args.self.now c.args.id c.clerk.inside.seat c.scan.new.seat c.scan.result c.clerk.invariant
-    c.scan.ensures.caller c.scan.ensures.scans
+    scanned_clerk c.args.id c.scan.result c.clerk.invariant c.scan.ensures.caller c.scan.ensures.scans
